@@ -4,8 +4,8 @@
 # give a report that memory stopped: each of its streams begins the whole one, and the events of its ends add up. All that a run
 # reserves comes before its first worker: once a run got as far as a thread or an event, no later one tells want of memory.
 #
-# Several workers begin at once in the program of checks (`kahn_crowd`) where it was built; `kahn` itself goes over to them in a
-# pipeline that is long enough.
+# Several workers begin at once in the program of checks (`kahn_crowd`) where it was built; `kahn` itself goes over to them where three
+# counts are long enough.
 #
 # Then the same with a run that is held between its parts (a word of the program of checks): whatever is refused in a part, the next
 # one goes on to the whole answer, and takes no more events for it. And with the program that is fed line by line: whatever is refused
@@ -138,7 +138,13 @@ begin integer channel X0, X1, X2; integer output channel W;
   count(X0, 65) par copy(X0, X1) par copy(X1, X2) par copy(X2, W)
 end
 P
-sed 's/65/20000/' copies.kahn > long.kahn
+cat > long.kahn <<'P'
+begin integer output channel X, Y, Z;
+  process count(integer out W; integer N);
+  begin integer I; while I < N do begin I := I + 1; if I > N - 100 then send I on W end end;
+  count(X, 20000) par count(Y, 20000) par count(Z, 20000)
+end
+P
 for workers in 1 2 8; do
   for quantum in 1 1000; do
     refuse_run "${crowd:-$kahn}" copies.kahn $workers $quantum

@@ -2,7 +2,7 @@
 # Runs a program with its first thread refused, then with its second, and so on. Each run whose thread was refused has to say so, with
 # its status and without a report, and each other run has to give the whole report.
 #
-# `kahn` starts threads only where there is work for several, and no more than run side by side: a long pipeline has it, and the
+# `kahn` starts threads only where there is work for several, and no more than run side by side: three long counts have it, and the
 # examples haven't. The program of checks whose workers all begin at once, where it was built, starts them for each example; and a held
 # run of it goes on in its next part to the whole report.
 source "$(dirname "${BASH_SOURCE[0]}")/common.sh"
@@ -47,15 +47,13 @@ refuse_held() {
 }
 
 cat > "$work/long.kahn" <<'P'
-begin integer channel X, Y; integer output channel W;
+begin integer output channel X, Y, Z;
   process count(integer out W; integer N);
-  begin integer I; while I < N do begin send I on W; I := I + 1 end end;
-  process copy(integer in U; integer out W);
-  begin repeat send wait(U) on W end;
-  count(X, 50000) par copy(X, Y) par copy(Y, W)
+  begin integer I; while I < N do I := I + 1; send I on W end;
+  count(X, 50000) par count(Y, 50000) par count(Z, 50000)
 end
 P
-"$kahn" --workers 1 "$work/long.kahn" > "$work/long.report" || fail "the long pipeline"
+"$kahn" --workers 1 "$work/long.kahn" > "$work/long.report" || fail "three long counts"
 # three instances, so three workers, where so many run side by side
 for workers in 1 2 3 16; do
   most=$(printf '%d\n' "$workers" 3 "$(nproc)" | sort -n | head -n 1)

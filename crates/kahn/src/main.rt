@@ -1,11 +1,10 @@
 //! Runs a network of processes and channels, and writes the report.
 #![tactic(auto)]
 
-use kahn_fault::Fault;
+use kahn_fault::{Fault, Texts, read_texts, tell};
 use kahn_line::{Options, read_line, tell_line, tell_no_memory, tell_words};
 use kahn_pool::{Config, Open, RunFault, Verdict};
 use kahn_report::{WorkFault, work};
-use kahn_texts::{Texts, read_texts, tell};
 use std::io::{BufWriter, Write};
 use std::process::ExitCode;
 use std::rt::Runtime;

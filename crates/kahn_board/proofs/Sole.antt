@@ -3,7 +3,7 @@ use Rattle.std.proofs.Common.{◌≡◌, ℕ, zero, suc, ◌+◌, ◌<◌, List,
 use Rattle.std.specs.Prelude.{slice_index_or, pos}
 use Rattle.std.proofs.lemmas.Bool.{eqb-true}
 use Rattle.kahn_streams.specs.Syntax as S
-use Rattle.kahn_streams.specs.Types.{Program}
+use Rattle.kahn_streams.specs.declared.tree.Program.{Program}
 use Rattle.kahn_streams.specs.Network.{Network, Instance, Actual, Reads, Writes, Hands, idle, is_written, network_of}
 use Rattle.kahn_board.specs.Wires.{wires, is_read, any_is, first_with}
 

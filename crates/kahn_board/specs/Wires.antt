@@ -1,6 +1,6 @@
 -- Believed. What the rule reads of a network.
 use Rattle.std.specs.Prelude.{ℕ, suc, List, [], ◌∷◌, length, Bool, true, false, ◌==◌, if◌then◌else◌, Option, None, Some}
-use Rattle.kahn_streams.specs.Types.{Program}
+use Rattle.kahn_streams.specs.declared.tree.Program.{Program}
 use Rattle.kahn_streams.specs.Network.{Network, Instance, Actual, Reads, Writes, Hands, is_written, network_of}
 
 -- how many instances and channels there are, and who reads and who writes each channel

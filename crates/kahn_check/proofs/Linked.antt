@@ -1,7 +1,17 @@
 -- What is wrong by the tables is what is wrong by the definition.
 use Rattle.std.proofs.Common.{◌≡◌, ℕ, suc, Bool, true, false, cond, ◌&&◌, List, [], ◌∷◌, ◌++◌, length, Option, None, Some, refl, ap, sym, ◌∙◌, subst, bytes_eq, append_assoc}
 use Rattle.std.specs.Map.{lookup}
-use Rattle.kahn_streams.specs.Types.{Span, Name, Kind, Role, Direction, Taking, Parameter, Argument, Instance, Program, Side}
+use Rattle.kahn_streams.specs.declared.span.Span.{Span}
+use Rattle.kahn_streams.specs.declared.tree.Name.{Name}
+use Rattle.kahn_streams.specs.declared.tree.Kind.{Kind}
+use Rattle.kahn_streams.specs.declared.tree.Role.{Role}
+use Rattle.kahn_streams.specs.declared.tree.Direction.{Direction}
+use Rattle.kahn_streams.specs.declared.tree.Taking.{Taking}
+use Rattle.kahn_streams.specs.declared.tree.Parameter.{Parameter}
+use Rattle.kahn_streams.specs.declared.tree.Argument.{Argument}
+use Rattle.kahn_streams.specs.declared.tree.Instance.{Instance}
+use Rattle.kahn_streams.specs.declared.tree.Program.{Program}
+use Rattle.kahn_streams.specs.declared.sides.Side.{Side}
 use Rattle.kahn_streams.specs.declared.tree.Role.TheVariants.{Inner, Input, Output}
 use Rattle.kahn_streams.specs.declared.tree.Direction.TheVariants.{In, Out}
 use Rattle.kahn_streams.specs.declared.tree.Taking.TheVariants as T

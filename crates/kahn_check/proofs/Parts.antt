@@ -1,7 +1,12 @@
 -- The parts of a program, put together, and the first fault of each.
 use Rattle.std.proofs.Common.{◌≡◌, ℕ, suc, ◌+◌, List, [], ◌∷◌, ◌++◌, map, refl, ap, sym, ◌∙◌, append_assoc, bytes_eq, length}
 use Rattle.std.specs.Map.{lookup}
-use Rattle.kahn_streams.specs.Types.{Name, Kind, Role, Declaration, Instance, Program}
+use Rattle.kahn_streams.specs.declared.tree.Name.{Name}
+use Rattle.kahn_streams.specs.declared.tree.Kind.{Kind}
+use Rattle.kahn_streams.specs.declared.tree.Role.{Role}
+use Rattle.kahn_streams.specs.declared.tree.Declaration.{Declaration}
+use Rattle.kahn_streams.specs.declared.tree.Instance.{Instance}
+use Rattle.kahn_streams.specs.declared.tree.Program.{Program}
 use Rattle.kahn_streams.specs.declared.tree.Declaration.TheVariants as D
 use Rattle.kahn_streams.specs.View.{bytes_of}
 use Rattle.kahn_streams.specs.Wiring.{entries, IsChannel, IsProcess, declared_channels, global, Handover, handed_by}

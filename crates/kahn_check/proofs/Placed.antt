@@ -1,6 +1,13 @@
 -- Arguments and instances in turn, by tables.
 use Rattle.std.proofs.Common.{◌≡◌, ℕ, suc, ◌+◌, ◌≤◌, ◌<◌, Bool, true, false, cond, inr, List, [], ◌∷◌, ◌++◌, map, length, Option, None, Some, refl, ap, sym, ◌∙◌, subst, append_assoc, arith, nat_eq}
-use Rattle.kahn_streams.specs.Types.{Kind, Role, Direction, Process, Parameter, Argument, Instance, Declaration}
+use Rattle.kahn_streams.specs.declared.tree.Kind.{Kind}
+use Rattle.kahn_streams.specs.declared.tree.Role.{Role}
+use Rattle.kahn_streams.specs.declared.tree.Direction.{Direction}
+use Rattle.kahn_streams.specs.declared.tree.Process.{Process}
+use Rattle.kahn_streams.specs.declared.tree.Parameter.{Parameter}
+use Rattle.kahn_streams.specs.declared.tree.Argument.{Argument}
+use Rattle.kahn_streams.specs.declared.tree.Instance.{Instance}
+use Rattle.kahn_streams.specs.declared.tree.Declaration.{Declaration}
 use Rattle.kahn_streams.specs.declared.tree.Direction.TheVariants.{In, Out}
 use Rattle.kahn_streams.specs.View.{bytes_of}
 use Rattle.kahn_check.specs.declared.fault.CheckFault.{CheckFault}

@@ -1,7 +1,7 @@
 -- Names in turn, each of which may stand for something already.
 use Rattle.std.proofs.Common.{◌≡◌, ℕ, List, [], ◌∷◌, ◌++◌, Option, None, Some, IsSome, Err, refl, ap, bytes_eq, append_assoc}
 use Rattle.std.specs.Map.{lookup}
-use Rattle.kahn_streams.specs.Types.{Name}
+use Rattle.kahn_streams.specs.declared.tree.Name.{Name}
 use Rattle.kahn_streams.specs.View.{bytes_of}
 use Rattle.kahn_check.specs.declared.fault.CheckFault.TheVariants.{DeclaredTwice}
 use Rattle.kahn_check.specs.Faults.{verdict, repeated, twice}

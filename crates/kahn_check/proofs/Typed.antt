@@ -3,7 +3,14 @@ use Rattle.std.proofs.Common.{◌≡◌, ℕ, suc, Bool, true, false, cond, List
 use Rattle.std.specs.Prelude.{slice_get}
 use Rattle.std.specs.Map.{lookup}
 use Rattle.kahn_streams.specs.Syntax as S
-use Rattle.kahn_streams.specs.Types.{Span, Kind, Direction, Taking, Form, Number, Variable, Wait, Negate', Not', Bracket', Level', Conditional', Row_of-Operand, end_of-Operand, more_of-Operand, Expression, Action, Empty, Assign, Send, Print, Block', If', While', Repeat', Row_of-Statement, end_of-Statement, more_of-Statement, Held-Action-If-2, None', Some', Statement}
+use Rattle.kahn_streams.specs.declared.span.Span.{Span}
+use Rattle.kahn_streams.specs.declared.tree.Kind.{Kind}
+use Rattle.kahn_streams.specs.declared.tree.Direction.{Direction}
+use Rattle.kahn_streams.specs.declared.tree.Taking.{Taking}
+use Rattle.kahn_streams.specs.declared.tree.Form.{Form, Number, Variable, Wait, Negate', Not', Bracket', Level', Conditional', Row_of-Operand, end_of-Operand, more_of-Operand}
+use Rattle.kahn_streams.specs.declared.tree.Expression.{Expression}
+use Rattle.kahn_streams.specs.declared.tree.Action.{Action, Empty, Assign, Send, Print, Block', If', While', Repeat', Row_of-Statement, end_of-Statement, more_of-Statement, Held-Action-If-2, None', Some'}
+use Rattle.kahn_streams.specs.declared.tree.Statement.{Statement}
 use Rattle.kahn_streams.specs.declared.tree.Kind.TheVariants.{Integer, Logical}
 use Rattle.kahn_streams.specs.declared.tree.Direction.TheVariants.{In, Out}
 use Rattle.kahn_streams.specs.declared.tree.Taking.TheVariants.{Channel, Value}

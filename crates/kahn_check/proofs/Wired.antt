@@ -4,7 +4,19 @@ use Rattle.std.proofs.Common.{◌≡◌, ℕ, suc, ◌+◌, ◌≤◌, ◌<◌, 
 use Rattle.std.proofs.lemmas.List.{append-nil, length-map}
 use Rattle.std.specs.List.{IsDistinct, AllByRecursion}
 use Rattle.std.specs.Map.{lookup}
-use Rattle.kahn_streams.specs.Types.{Span, Name, Kind, Role, Direction, Taking, Parameter, Process, Declaration, Argument, Instance, Program, Side}
+use Rattle.kahn_streams.specs.declared.span.Span.{Span}
+use Rattle.kahn_streams.specs.declared.tree.Name.{Name}
+use Rattle.kahn_streams.specs.declared.tree.Kind.{Kind}
+use Rattle.kahn_streams.specs.declared.tree.Role.{Role}
+use Rattle.kahn_streams.specs.declared.tree.Direction.{Direction}
+use Rattle.kahn_streams.specs.declared.tree.Taking.{Taking}
+use Rattle.kahn_streams.specs.declared.tree.Parameter.{Parameter}
+use Rattle.kahn_streams.specs.declared.tree.Process.{Process}
+use Rattle.kahn_streams.specs.declared.tree.Declaration.{Declaration}
+use Rattle.kahn_streams.specs.declared.tree.Argument.{Argument}
+use Rattle.kahn_streams.specs.declared.tree.Instance.{Instance}
+use Rattle.kahn_streams.specs.declared.tree.Program.{Program}
+use Rattle.kahn_streams.specs.declared.sides.Side.{Side}
 use Rattle.kahn_streams.specs.declared.tree.Kind.TheVariants as K
 use Rattle.kahn_streams.specs.declared.tree.Role.TheVariants.{Inner, Input, Output}
 use Rattle.kahn_streams.specs.declared.tree.Direction.TheVariants.{In, Out}

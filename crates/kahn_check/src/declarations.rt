@@ -3,7 +3,7 @@
 ghost use Rattle.std.specs.Prelude.{◌≡◌, ◌≤◌, ◌+◌, [], List, OnOk, length};
 ghost use Rattle.kahn_check.specs.Faults.{Checks, most_channels, channel_faults, declaration_faults};
 ghost use Rattle.kahn_check.specs.inner.Globals.{known, ArePlaced, HaveMore, IsTable};
-ghost use Rattle.kahn_streams.specs.Types.{Declaration};
+ghost use Rattle.kahn_streams.specs.declared.tree.Declaration.{Declaration};
 
 use crate::fault::CheckFault;
 use crate::globals::{Entry, Globals};

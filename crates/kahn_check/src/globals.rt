@@ -3,7 +3,7 @@
 ghost use Rattle.std.specs.Prelude.{◌≡◌, [], IfOk, OnOk, IfSome, List};
 ghost use Rattle.std.specs.Map.{lookup};
 ghost use Rattle.std.proofs.Common.{bytes_eq};
-ghost use Rattle.kahn_streams.specs.Types.{Declaration};
+ghost use Rattle.kahn_streams.specs.declared.tree.Declaration.{Declaration};
 ghost use Rattle.kahn_streams.specs.View.{bytes_of};
 ghost use Rattle.kahn_check.specs.Faults.{Declares};
 ghost use Rattle.kahn_check.specs.inner.Firsts.{kept_first};

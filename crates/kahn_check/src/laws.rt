@@ -1,6 +1,6 @@
 //! The laws of the definitions. Each function does nothing: its contract is the law.
 
-ghost use Rattle.kahn_streams.specs.Types.{Program};
+ghost use Rattle.kahn_streams.specs.declared.tree.Program.{Program};
 ghost use Rattle.std.specs.Prelude.{◌≡◌, ◌++◌, []};
 ghost use Rattle.kahn_check.specs.Parts.{parts, side_parts, faults_by_part, together};
 ghost use Rattle.kahn_check.specs.Faults.{verdict, faults};

@@ -12,7 +12,16 @@ pub use Rattle.kahn_streams.specs.Steps.{Follows, Sent, Step, Took, Turned, empt
 pub use Rattle.kahn_streams.specs.Tokens.{IsOf}
 pub use Rattle.kahn_streams.specs.Inputs.{Holds, Lists, inputs_of}
 pub use Rattle.kahn_streams.specs.declared.token.Token.{Token}
-pub use Rattle.kahn_streams.specs.Types.{Failure, Line, Value, Row_of-Statement, end_of-Statement, more_of-Statement, Argument, Bracket', Form, Level', Row_of-Operand, Variable, end_of-Operand, more_of-Operand, Operand, Operator, Program, Statement}
+pub use Rattle.kahn_streams.specs.declared.value.Failure.{Failure}
+pub use Rattle.kahn_streams.specs.declared.value.Line.{Line}
+pub use Rattle.kahn_streams.specs.declared.value.Value.{Value}
+pub use Rattle.kahn_streams.specs.declared.tree.Action.{Row_of-Statement, end_of-Statement, more_of-Statement}
+pub use Rattle.kahn_streams.specs.declared.tree.Argument.{Argument}
+pub use Rattle.kahn_streams.specs.declared.tree.Form.{Bracket', Form, Level', Row_of-Operand, Variable, end_of-Operand, more_of-Operand}
+pub use Rattle.kahn_streams.specs.declared.tree.Operand.{Operand}
+pub use Rattle.kahn_streams.specs.declared.tree.Operator.{Operator}
+pub use Rattle.kahn_streams.specs.declared.tree.Program.{Program}
+pub use Rattle.kahn_streams.specs.declared.tree.Statement.{Statement}
 pub use Rattle.kahn_streams.specs.declared.value.Line.TheVariants.{Channel, Print}
 pub use Rattle.kahn_streams.specs.declared.value.Value.TheVariants.{Integer, Logical}
 pub use Rattle.kahn_streams.specs.Syntax.{Expr, Number, Stmt}

@@ -3,7 +3,7 @@ use Rattle.std.proofs.Common.{arith, ◌≡◌, ◌≢◌, ℕ, zero, suc, ◌+�
 use Rattle.std.proofs.lemmas.List.{get_or-set_same}
 use Rattle.std.proofs.lemmas.Option.{same_Some, slice_get_read}
 use Rattle.kahn_code.proofs.Common.{Program, Input, Actual, Reads, Writes, Hands, network_of, instance_at, actual_at, role_at, IsWellWired, reads_listed, writes_listed, writes, Token, Channel, IsOf, Lists, Value, inputs_of}
-use Rattle.kahn_streams.specs.Types.{Role}
+use Rattle.kahn_streams.specs.declared.tree.Role.{Role}
 use Rattle.kahn_streams.specs.declared.tree.Role.TheVariants.{Inner, Output}
 use Rattle.kahn_streams.specs.Answers.{is_output}
 use Rattle.kahn_code.specs.Queues.{Waiting}

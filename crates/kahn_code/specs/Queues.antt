@@ -1,6 +1,6 @@
 -- Believed. What contracts see of the plain queue of a channel.
 use Rattle.std.specs.Prelude.{ℕ}
-use Rattle.kahn_streams.specs.Types.{Program}
+use Rattle.kahn_streams.specs.declared.tree.Program.{Program}
 use Rattle.kahn_streams.specs.Inputs.{Lists}
 
 -- the network, the input and the channel that its tokens are of; how many were taken; how many wait; for how many more

@@ -1,7 +1,7 @@
 //! What flat code means. The function does nothing: its contract is the law.
 
 ghost use Rattle.std.specs.Prelude.{◌≡◌, ℕ, List, length};
-ghost use Rattle.kahn_streams.specs.Types.{Value};
+ghost use Rattle.kahn_streams.specs.declared.value.Value.{Value};
 ghost use Rattle.kahn_streams.specs.Meaning.{Store, exec};
 ghost use Rattle.kahn_streams.specs.Script.{Tapes, play};
 ghost use Rattle.kahn_streams.specs.Syntax.{Stmt};

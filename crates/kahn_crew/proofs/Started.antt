@@ -4,7 +4,8 @@ use mathlib.Core.Option.{some, some-injective, some-ne-none}
 use lib.ListN.{get_elem?}
 use Rattle.std.proofs.lemmas.List.{append_assoc, append-nil, length-map, map-append, reverse-append, reverse-reverse}
 use Rattle.std.proofs.lemmas.Option.{slice_get_within}
-use Rattle.kahn_streams.specs.Types.{Program, Side}
+use Rattle.kahn_streams.specs.declared.tree.Program.{Program}
+use Rattle.kahn_streams.specs.declared.sides.Side.{Side}
 use Rattle.kahn_streams.specs.Network.{Writes, network_of, instance_at, actual_at, role_at, IsOnly, IsWriter}
 use Rattle.kahn_streams.specs.declared.tree.Role.TheVariants.{Inner, Input}
 use Rattle.kahn_streams.specs.Wiring.{IsWellWired, side_at}

@@ -1,6 +1,7 @@
 -- Who reads and who writes a channel, by the numbers of instances and parameters.
 use Rattle.std.proofs.Common.{arith, ◌≡◌, ℕ, ◌+◌, ◌<◌, ◌==◌, Bool, true, false, length, refl, sym, ap, ◌∙◌, subst, Option, Some, None, eqb-true, pos, if◌then◌else◌}
-use Rattle.kahn_streams.specs.Types.{Program, Side}
+use Rattle.kahn_streams.specs.declared.tree.Program.{Program}
+use Rattle.kahn_streams.specs.declared.sides.Side.{Side}
 use Rattle.kahn_streams.specs.Syntax.{Number}
 use Rattle.kahn_streams.specs.Network.{Network, Actual, Reads, Writes, Hands, Written, is_written, network_of, instance_at, actual_at, role_at, IsOnly, IsWriter}
 use Rattle.kahn_streams.specs.Wiring.{IsWellWired}

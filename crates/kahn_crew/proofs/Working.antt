@@ -1,6 +1,6 @@
 -- A worker in a turn.
 use Rattle.std.proofs.Common.{arith, ◌≡◌, ◌⊎◌, inl, inr, ⊎_elim, ℕ, ◌+◌, ◌-◌, ◌<◌, ◌≤◌, ◌^◌, List, length, refl, sym, ap, ◌∙◌, subst, Option, Some, None, slice_index, slice_set}
-use Rattle.kahn_streams.specs.Types.{Program}
+use Rattle.kahn_streams.specs.declared.tree.Program.{Program}
 use Rattle.kahn_streams.specs.Network.{network_of, instance_at, actual_at}
 use Rattle.kahn_streams.specs.Wiring.{IsWellWired}
 use Rattle.kahn_board.specs.Dealt.{belongs, wired}

@@ -7,11 +7,10 @@ mod parts;
 
 ghost use Rattle.std.specs.Prelude.{◌≤◌, IsTrue, length};
 
-use kahn_fault::Fault;
+use kahn_fault::{Fault, Texts, read_texts, tell};
 use kahn_line::{Options, read_line, tell_line, tell_no_memory, tell_words};
 use kahn_pool::{Config, Gate, RunFault, Verdict};
 use kahn_report::{WorkFault, work};
-use kahn_texts::{Texts, read_texts, tell};
 use parts::work_in_parts;
 use std::io::{BufWriter, Write};
 use std::process::ExitCode;

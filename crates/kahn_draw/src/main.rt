@@ -4,10 +4,9 @@
 mod drawing;
 
 use drawing::draw;
-use kahn_fault::Fault;
+use kahn_fault::{Fault, Texts, read_texts, tell};
 use kahn_line::{DrawOptions, read_draw_line, tell_line, tell_no_memory, tell_words};
 use kahn_pool::Verdict;
-use kahn_texts::{Texts, read_texts, tell};
 use std::io::Write;
 use std::process::ExitCode;
 use std::rt::Runtime;

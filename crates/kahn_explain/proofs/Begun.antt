@@ -1,7 +1,8 @@
 -- A column of a right answer is a history.
 use Rattle.std.proofs.Common.{◌≡◌, ℕ, List, sym, subst, ◌∙◌, Option}
 use Rattle.kahn_streams.specs.Network.{Network}
-use Rattle.kahn_streams.specs.Types.{Line, Value}
+use Rattle.kahn_streams.specs.declared.value.Line.{Line}
+use Rattle.kahn_streams.specs.declared.value.Value.{Value}
 use Rattle.kahn_streams.specs.Solution.{Inputs, IsPrefix, IsWhole, iterate}
 use Rattle.kahn_streams.specs.Answers.{HasStream, IsRight, values_of}
 use Rattle.kahn_streams.specs.declared.answer.Answer.{Answer}

@@ -10,7 +10,8 @@ use Rattle.std.proofs.Common.{max}
 use Rattle.kahn_streams.specs.Meaning.{Store}
 use Rattle.kahn_streams.specs.Syntax.{Number}
 use Rattle.kahn_streams.specs.Network.{Network, Source, Given, Written, Nobody, Hands, Instance, instance_at}
-use Rattle.kahn_streams.specs.Types.{Value, Line}
+use Rattle.kahn_streams.specs.declared.value.Value.{Value}
+use Rattle.kahn_streams.specs.declared.value.Line.{Line}
 use Rattle.kahn_streams.specs.declared.value.Line.TheVariants.{Channel}
 use Rattle.kahn_streams.specs.Script.{Outcome, Got, Dry, Fault, Cut, Reached, Tapes, play}
 use Rattle.kahn_streams.specs.Laws.{AreSame, IsSolution, KeepsTape}

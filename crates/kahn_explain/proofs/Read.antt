@@ -4,7 +4,9 @@ use Rattle.std.proofs.lemmas.List.{drop-map, length-map, take_all}
 use Rattle.std.specs.Slice.{IsItemAt}
 use Rattle.std.proofs.lemmas.Option.{get_or_from_slice_get, slice_get-get_or, slice_get-map, slice_get_within}
 use Rattle.kahn_streams.specs.View.{bytes_of}
-use Rattle.kahn_streams.specs.Types.{Instance, Program, Failure}
+use Rattle.kahn_streams.specs.declared.tree.Instance.{Instance}
+use Rattle.kahn_streams.specs.declared.tree.Program.{Program}
+use Rattle.kahn_streams.specs.declared.value.Failure.{Failure}
 use Rattle.kahn_streams.specs.Network.{channels_of, network_of, channel_names}
 use Rattle.kahn_chain.specs.Chain.{AreStandings}
 use Rattle.kahn_chain.specs.declared.standing.Standing.TheVariants as S

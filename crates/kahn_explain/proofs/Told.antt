@@ -1,7 +1,8 @@
 -- An explanation that was written as the last piece of a line.
 use Rattle.std.proofs.Common.{◌≡◌, ℕ, Bool, true, List, [], ◌++◌, Option, Result, Ok, Err, inl, inr, refl, string_bytes, subst, append-nil}
 use Rattle.std.specs.Io.KnownBytes.{Appends}
-use Rattle.kahn_streams.specs.Types.{Config, Program}
+use Rattle.kahn_streams.specs.declared.config.Config.{Config}
+use Rattle.kahn_streams.specs.declared.tree.Program.{Program}
 use Rattle.kahn_streams.specs.Inputs.{Lists, inputs_of}
 use Rattle.kahn_streams.specs.Answers.{IsRightRun}
 use Rattle.kahn_streams.specs.declared.answer.Answer.{Answer}

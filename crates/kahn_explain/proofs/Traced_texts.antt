@@ -1,6 +1,7 @@
 -- A table that was written as the one piece of a text, and what was told beside it.
 use Rattle.std.proofs.Common.{◌≡◌, ℕ, Bool, true, List, [], Option, Result, Ok, Err, inl, inr, refl, string_bytes}
-use Rattle.kahn_streams.specs.Types.{Config, Program}
+use Rattle.kahn_streams.specs.declared.config.Config.{Config}
+use Rattle.kahn_streams.specs.declared.tree.Program.{Program}
 use Rattle.kahn_pool.specs.declared.config.RunFault.TheVariants.{NoMemory}
 use Rattle.kahn_report.specs.Work.{IsChecked}
 use Rattle.kahn_report.specs.declared.working.WorkFault.{WorkFault}

@@ -3,7 +3,9 @@ use Rattle.std.proofs.Common.{◌≡◌, ◌∙◌, ℕ, ◌<◌, ◌==◌, true
 use Rattle.std.specs.Prelude.{MatchResult}
 use Rattle.std.specs.declared.alloc.Global.{Global}
 use Rattle.std.specs.declared.string.String.{String}
-use Rattle.kahn_streams.specs.Types.{Config, Program, Line}
+use Rattle.kahn_streams.specs.declared.config.Config.{Config}
+use Rattle.kahn_streams.specs.declared.tree.Program.{Program}
+use Rattle.kahn_streams.specs.declared.value.Line.{Line}
 use Rattle.kahn_streams.specs.declared.tree.Role.TheVariants.{Output}
 use Rattle.kahn_streams.specs.View.{place_of}
 use Rattle.kahn_streams.specs.Network.{network_of, role_at, channel_names}

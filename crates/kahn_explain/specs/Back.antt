@@ -2,7 +2,7 @@
 use Rattle.std.specs.Prelude.{◌≡◌, ℕ, ◌^◌, ◌<◌, List, Some, Ok, length, map, slice_get}
 use Rattle.std.specs.List.{AllByRecursion}
 use Rattle.kahn_streams.specs.View.{bytes_of}
-use Rattle.kahn_streams.specs.Types.{Program}
+use Rattle.kahn_streams.specs.declared.tree.Program.{Program}
 use Rattle.kahn_streams.specs.Network.{network_of, channel_names}
 use Rattle.kahn_streams.specs.Wiring.{IsWellWired}
 use Rattle.kahn_chain.specs.Chain.{AreStandings}

@@ -1,7 +1,8 @@
 -- Believed. What explaining does, from the bytes of the program text and of the input text to the bytes of the explanation.
 use Rattle.std.specs.Prelude.{◌≡◌, ◌⊎◌, ◌++◌, ℕ, Bool, true, List, [], Option, Some, None, Result, Ok, Err, codes, string_bytes}
 use Rattle.std.specs.Io.KnownBytes.{Appends}
-use Rattle.kahn_streams.specs.Types.{Config, Program}
+use Rattle.kahn_streams.specs.declared.config.Config.{Config}
+use Rattle.kahn_streams.specs.declared.tree.Program.{Program}
 use Rattle.kahn_streams.specs.Inputs.{Lists}
 use Rattle.kahn_pool.specs.Runs.{IsUnrun}
 use Rattle.kahn_streams.specs.declared.answer.Answer.{Answer}

@@ -1,6 +1,8 @@
 -- Believed. The histories of all channels of a network: which columns there are, and what their values are.
 use Rattle.std.specs.Prelude.{◌≡◌, ◌⊎◌, ℕ, zero, suc, List, [], ◌∷◌, ◌++◌, All, None, length, map}
-use Rattle.kahn_streams.specs.Types.{Config, Program, Line}
+use Rattle.kahn_streams.specs.declared.config.Config.{Config}
+use Rattle.kahn_streams.specs.declared.tree.Program.{Program}
+use Rattle.kahn_streams.specs.declared.value.Line.{Line}
 use Rattle.kahn_streams.specs.Network.{Network, network_of}
 use Rattle.kahn_streams.specs.declared.value.Line.TheVariants.{Channel}
 use Rattle.kahn_streams.specs.Solution.{Inputs, IsPrefix, IsWhole, iterate}

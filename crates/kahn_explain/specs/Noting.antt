@@ -1,7 +1,8 @@
 -- Believed. The notes on what is wrong with the network that a program text spells.
 use Rattle.std.specs.Prelude.{ℕ, zero, suc, List, [], ◌∷◌, ◌++◌, Option, Some, None, codes, decimal, drop, length, map, take}
 use Rattle.std.specs.List.{concat}
-use Rattle.kahn_streams.specs.Types.{Span, Program}
+use Rattle.kahn_streams.specs.declared.span.Span.{Span}
+use Rattle.kahn_streams.specs.declared.tree.Program.{Program}
 use Rattle.kahn_check.specs.declared.fault.CheckFault.{CheckFault}
 use Rattle.kahn_check.specs.declared.fault.CheckFault.TheVariants.{Unknown}
 use Rattle.kahn_fault.specs.Message.{check_span, check_words}

@@ -9,7 +9,8 @@ use Rattle.std.specs.List.{list_all}
 use Rattle.std.specs.Str.Lines.{lines}
 use Rattle.std.specs.Str.Parse.{digits_value}
 use Rattle.kahn_streams.specs.View.{bytes_of}
-use Rattle.kahn_streams.specs.Types.{Instance, Program}
+use Rattle.kahn_streams.specs.declared.tree.Instance.{Instance}
+use Rattle.kahn_streams.specs.declared.tree.Program.{Program}
 use Rattle.kahn_streams.specs.Network.{channel_names}
 use Rattle.kahn_streams.specs.declared.value.Failure.TheVariants.{Overflow, Division}
 use Rattle.kahn_graph.specs.Report.{end_heading, without}

@@ -1,7 +1,7 @@
 -- Believed. What is said of a report: why its run stopped, or why it isn't the report of a run of the program.
 use Rattle.std.specs.Prelude.{◌≡◌, ℕ, List, [], ◌∷◌, Option, Some, None, codes, string_bytes}
 use Rattle.std.specs.List.{concat}
-use Rattle.kahn_streams.specs.Types.{Program}
+use Rattle.kahn_streams.specs.declared.tree.Program.{Program}
 use Rattle.kahn_streams.specs.declared.answer.Answer.{Answer}
 use Rattle.kahn_explain.specs.Reading.{IsReportRead, IsReportUnread}
 use Rattle.kahn_explain.specs.Words.{IsExplained, who_text}

@@ -1,7 +1,9 @@
 -- Believed. The text of a table of histories, byte for byte: comma-separated values, a column for each line, a row for each place.
 use Rattle.std.specs.Prelude.{ℕ, zero, suc, ◌+◌, max, List, [], ◌∷◌, ◌++◌, Option, Some, None, codes, decimal, flat_map, length, slice_get}
 use Rattle.std.specs.List.{concat}
-use Rattle.kahn_streams.specs.Types.{Program, Line, Value}
+use Rattle.kahn_streams.specs.declared.tree.Program.{Program}
+use Rattle.kahn_streams.specs.declared.value.Line.{Line}
+use Rattle.kahn_streams.specs.declared.value.Value.{Value}
 use Rattle.kahn_streams.specs.declared.value.Line.TheVariants.{Channel, Print}
 use Rattle.kahn_report.specs.Report.{channel_name, process_name}
 use Rattle.kahn_write.specs.Written.{line_feed, value_text}

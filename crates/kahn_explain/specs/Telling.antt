@@ -3,7 +3,7 @@ use Rattle.std.specs.Prelude.{◌≡◌, ℕ, List, Option, Some, None, Result, 
 use Rattle.std.specs.declared.alloc.Global.{Global}
 use Rattle.std.specs.declared.string.String.{String}
 use Rattle.std.specs.Io.KnownBytes.{Appends}
-use Rattle.kahn_streams.specs.Types.{Program}
+use Rattle.kahn_streams.specs.declared.tree.Program.{Program}
 use Rattle.kahn_pool.specs.declared.config.RunFault.TheVariants.{NoMemory}
 use Rattle.kahn_report.specs.Work.{IsChecked, IsUnchecked}
 use Rattle.kahn_write.specs.Written.{AppendsFront}

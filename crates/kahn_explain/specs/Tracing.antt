@@ -1,7 +1,8 @@
 -- Believed. What tracing does, from the bytes of the program text and of the input text to those of a table and of what is told beside it.
 use Rattle.std.specs.Prelude.{◌≡◌, ◌⊎◌, ◌++◌, ℕ, Bool, List, [], Option, None, Result, Ok, Err, string_bytes}
 use Rattle.std.specs.Io.KnownBytes.{Appends}
-use Rattle.kahn_streams.specs.Types.{Config, Program}
+use Rattle.kahn_streams.specs.declared.config.Config.{Config}
+use Rattle.kahn_streams.specs.declared.tree.Program.{Program}
 use Rattle.kahn_streams.specs.Inputs.{Lists}
 use Rattle.kahn_pool.specs.Runs.{IsUnrun}
 use Rattle.kahn_streams.specs.declared.answer.Verdict.TheVariants.{Finished, Bound, Memory}

@@ -1,7 +1,11 @@
 -- Believed. What is said of a run that stopped: a line for each process that waits or has a fault, and how the run ended.
 use Rattle.std.specs.Prelude.{◌≡◌, ℕ, ◌+◌, ◌<◌, ◌==◌, List, [], ◌∷◌, ◌++◌, Bool, true, false, codes, decimal, if◌then◌else◌, flat_map, length, map, string_bytes, Option, Some, None, slice_index_or}
 use Rattle.std.specs.List.{concat, list_any}
-use Rattle.kahn_streams.specs.Types.{Span, Process, Program, Statement, Failure}
+use Rattle.kahn_streams.specs.declared.span.Span.{Span}
+use Rattle.kahn_streams.specs.declared.tree.Process.{Process}
+use Rattle.kahn_streams.specs.declared.tree.Program.{Program}
+use Rattle.kahn_streams.specs.declared.tree.Statement.{Statement}
+use Rattle.kahn_streams.specs.declared.value.Failure.{Failure}
 use Rattle.kahn_streams.specs.Network.{Source, Given, Written, Nobody, channel_source, network_of, process_of}
 use Rattle.kahn_streams.specs.Wiring.{IsWellWired}
 use Rattle.kahn_chain.specs.Chain.{AreCauses, AreStandings}

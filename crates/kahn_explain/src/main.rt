@@ -14,12 +14,11 @@ mod tracing;
 mod why;
 
 use explaining::{Came, explain, explain_report, status, trace};
-use kahn_fault::Fault;
+use kahn_fault::{Fault, Texts, read_texts, tell};
 use kahn_inputs::{file_words, reading_words, tell_reason};
 use kahn_line::{ExplainOptions, read_explain_line, tell_line, tell_no_memory, tell_words};
 use kahn_pool::Config;
 use kahn_report::{ReadFault, WorkFault};
-use kahn_texts::{Texts, read_texts, tell};
 use std::alloc::{AllocError, Global};
 use std::io::Write;
 use std::process::ExitCode;

@@ -1,7 +1,15 @@
 -- The spans of lexemes, expressions and statements lie in their text, and so do those of what is wrong with them.
 use Rattle.std.proofs.Common.{ℕ, ◌+◌, ◌≤◌, List, [], ◌∷◌, ◌++◌, length, inl, inr, sym, subst, arith, Bool, true, false, Option, None, Some}
 use Rattle.std.specs.Prelude.{⊤, IfSome, if◌then◌else◌}
-use Rattle.kahn_streams.specs.Types.{Span, Name, Kind, Direction, Taking, Form, Number, Variable, Wait, Negate', Not', Bracket', Level', Conditional', Row_of-Operand, end_of-Operand, more_of-Operand, Expression, Action, Empty, Assign, Send, Print, Block', If', While', Repeat', Row_of-Statement, end_of-Statement, more_of-Statement, Held-Action-If-2, None', Some', Statement}
+use Rattle.kahn_streams.specs.declared.span.Span.{Span}
+use Rattle.kahn_streams.specs.declared.tree.Name.{Name}
+use Rattle.kahn_streams.specs.declared.tree.Kind.{Kind}
+use Rattle.kahn_streams.specs.declared.tree.Direction.{Direction}
+use Rattle.kahn_streams.specs.declared.tree.Taking.{Taking}
+use Rattle.kahn_streams.specs.declared.tree.Form.{Form, Number, Variable, Wait, Negate', Not', Bracket', Level', Conditional', Row_of-Operand, end_of-Operand, more_of-Operand}
+use Rattle.kahn_streams.specs.declared.tree.Expression.{Expression}
+use Rattle.kahn_streams.specs.declared.tree.Action.{Action, Empty, Assign, Send, Print, Block', If', While', Repeat', Row_of-Statement, end_of-Statement, more_of-Statement, Held-Action-If-2, None', Some'}
+use Rattle.kahn_streams.specs.declared.tree.Statement.{Statement}
 use Rattle.kahn_streams.specs.declared.tree.Kind.TheVariants.{Integer, Logical}
 use Rattle.kahn_streams.specs.declared.tree.Direction.TheVariants.{In, Out}
 use Rattle.kahn_streams.specs.declared.tree.Taking.TheVariants as T

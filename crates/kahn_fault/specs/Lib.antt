@@ -1,3 +1,5 @@
 pub mod Message
 pub mod Places
 pub mod Status
+pub mod Telling
+pub mod Texts

@@ -1,6 +1,6 @@
 -- Believed. Where a program text is at fault.
 use Rattle.std.specs.Prelude.{ℕ, ◌≤◌, List, length, Option, None}
-use Rattle.kahn_streams.specs.Types.{Span}
+use Rattle.kahn_streams.specs.declared.span.Span.{Span}
 use Rattle.kahn_report.specs.declared.working.WorkFault.{WorkFault}
 use Rattle.kahn_report.specs.declared.working.WorkFault.TheVariants as work
 use Rattle.kahn_fault.specs.Message.{check_span, syntax_span}

@@ -1,13 +1,18 @@
-//! Why a run has no report: the line that tells it, and the status that the program ends with.
+//! The texts that a run is given, read from the files that the command line names; why it has no report, the line that tells it, and the
+//! status that the program ends with.
 #![tactic(auto)]
 
 mod fault;
 mod laws;
 mod message;
+mod telling;
+mod texts;
 
 pub use fault::{Fault, live_status, status};
 pub use laws::fault_lies;
 pub use message::{fault_line, line_counted};
+pub use telling::{Told, tell};
+pub use texts::{MOST_INPUT_BYTES, MOST_PROGRAM_BYTES, Texts, input_of, program_of, read_texts};
 
 // For the crates above.
 pub use message::{check_span, check_words, syntax_span, syntax_words};

@@ -4,7 +4,8 @@ use Rattle.std.proofs.lemmas.Bool.{cases_lt, eq-eqb, eqb-true}
 use Rattle.std.proofs.lemmas.List.{length-map}
 use Rattle.std.proofs.lemmas.Option.{slice_get-get_or, same_Some}
 use Rattle.std.specs.Option.{unwrap_or}
-use Rattle.kahn_streams.specs.Types.{Instance, Program}
+use Rattle.kahn_streams.specs.declared.tree.Instance.{Instance}
+use Rattle.kahn_streams.specs.declared.tree.Program.{Program}
 use Rattle.kahn_streams.specs.View.{bytes_of}
 use Rattle.kahn_streams.specs.Network.{Network, network_of, instance_from, process_of, channel_names}
 use Rattle.kahn_chain.specs.Chain.{AreStandings, AreRings, IsRingMark, LeadsOn}

@@ -4,7 +4,14 @@ use Rattle.std.proofs.lemmas.Bool.{cases_lt}
 use Rattle.std.proofs.lemmas.List.{length-map}
 use Rattle.std.specs.List.{suffix_len}
 use Rattle.std.specs.List.{concat}
-use Rattle.kahn_streams.specs.Types.{Argument, Kind, Name, Parameter, Process, Program, Role, Side}
+use Rattle.kahn_streams.specs.declared.tree.Argument.{Argument}
+use Rattle.kahn_streams.specs.declared.tree.Kind.{Kind}
+use Rattle.kahn_streams.specs.declared.tree.Name.{Name}
+use Rattle.kahn_streams.specs.declared.tree.Parameter.{Parameter}
+use Rattle.kahn_streams.specs.declared.tree.Process.{Process}
+use Rattle.kahn_streams.specs.declared.tree.Program.{Program}
+use Rattle.kahn_streams.specs.declared.tree.Role.{Role}
+use Rattle.kahn_streams.specs.declared.sides.Side.{Side}
 use Rattle.kahn_streams.specs.Place.{column_of, line_of}
 use Rattle.kahn_streams.specs.View.{Scope, bytes_of}
 use Rattle.kahn_streams.specs.Network.{Network, network_of, actuals_of, instance_at, instance_from, kind_at, process_of, role_at, IsOnly, IsReader, IsWithin, IsWriter, channel_names}

@@ -2,7 +2,7 @@
 use Rattle.std.proofs.Common.{◌≡◌, ◌∙◌, ℕ, suc, ◌+◌, ◌≤◌, true, false, Bool, List, ◌∷◌, None, Some, add-one, ap, drop, drop-cons, drop_of_length-le, if◌then◌else◌, length, slice_get, sym}
 use Rattle.std.proofs.lemmas.List.{length-map}
 use Rattle.std.proofs.lemmas.Option.{get_or_from_slice_get, slice_get_within}
-use Rattle.kahn_streams.specs.Types.{Program}
+use Rattle.kahn_streams.specs.declared.tree.Program.{Program}
 use Rattle.kahn_streams.specs.Network.{network_of, channels_of, channel_names}
 use Rattle.kahn_graph.specs.Stands.{begins_with, wait_pieces, told_wait}
 

@@ -1,7 +1,8 @@
 -- Believed. How the instances of a program stand, by the lines of a run's report.
 use Rattle.std.specs.Prelude.{◌≡◌, ℕ, ◌+◌, Bool, true, false, List, [], ◌∷◌, Option, None, Some, codes, if◌then◌else◌, is_some, option_map, slice_get}
 use Rattle.std.specs.Option.{unwrap_or}
-use Rattle.kahn_streams.specs.Types.{Instance, Program}
+use Rattle.kahn_streams.specs.declared.tree.Instance.{Instance}
+use Rattle.kahn_streams.specs.declared.tree.Program.{Program}
 use Rattle.kahn_streams.specs.View.{bytes_of}
 use Rattle.kahn_streams.specs.Network.{Network, channel_names}
 use Rattle.kahn_chain.specs.Chain.{LeadsOn}

@@ -1,7 +1,13 @@
 -- The operands of a level and the statements of a block, as lists; and no arguments.
 use Rattle.std.proofs.Common.{◌≡◌, ℕ, List, [], ◌∷◌, Option, None, refl, ap}
 use Rattle.std.specs.Option.{option_or}
-use Rattle.kahn_streams.specs.Types.{Span, Direction, Parameter, Kind, Row_of-Operand, end_of-Operand, more_of-Operand, Operand, Row_of-Statement, end_of-Statement, more_of-Statement}
+use Rattle.kahn_streams.specs.declared.span.Span.{Span}
+use Rattle.kahn_streams.specs.declared.tree.Direction.{Direction}
+use Rattle.kahn_streams.specs.declared.tree.Parameter.{Parameter}
+use Rattle.kahn_streams.specs.declared.tree.Kind.{Kind}
+use Rattle.kahn_streams.specs.declared.tree.Form.{Row_of-Operand, end_of-Operand, more_of-Operand}
+use Rattle.kahn_streams.specs.declared.tree.Operand.{Operand}
+use Rattle.kahn_streams.specs.declared.tree.Action.{Row_of-Statement, end_of-Statement, more_of-Statement}
 use Rattle.kahn_streams.specs.declared.tree.Form.TheBlock.{items-the_row-Operand}
 use Rattle.kahn_streams.specs.declared.tree.Action.TheBlock.{items-the_row-Statement}
 use Rattle.kahn_streams.specs.Wiring.{gives, Scope}

@@ -1,7 +1,7 @@
 -- The names in sight that are told.
 use Rattle.std.proofs.Common.{◌≡◌, ◌∙◌, ◌<◌, ◌++◌, ℕ, zero, suc, List, [], ◌∷◌, length, map, take, refl, sym, ap, append_assoc, arith}
 use Rattle.std.proofs.lemmas.List.{take_all}
-use Rattle.kahn_streams.specs.Types.{Name}
+use Rattle.kahn_streams.specs.declared.tree.Name.{Name}
 use Rattle.kahn_hints.specs.Sight.{listed_names, sight_lead, sight_words}
 
 -- fewer than five are all told

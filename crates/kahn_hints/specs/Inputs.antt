@@ -1,6 +1,9 @@
 -- Believed. What is said of a name in an input text that no input channel has.
 use Rattle.std.specs.Prelude.{◌==◌, ℕ, List, [], ◌++◌, Option, Some, None, codes, flat_map, if◌then◌else◌, length}
-use Rattle.kahn_streams.specs.Types.{Name, Role, Declaration, Program}
+use Rattle.kahn_streams.specs.declared.tree.Name.{Name}
+use Rattle.kahn_streams.specs.declared.tree.Role.{Role}
+use Rattle.kahn_streams.specs.declared.tree.Declaration.{Declaration}
+use Rattle.kahn_streams.specs.declared.tree.Program.{Program}
 use Rattle.kahn_streams.specs.declared.tree.Role.TheVariants.{Input, Output, Inner}
 use Rattle.kahn_streams.specs.declared.tree.Declaration.TheVariants as D
 use Rattle.kahn_hints.specs.Near.{nearest}

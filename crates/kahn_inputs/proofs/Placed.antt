@@ -3,7 +3,8 @@ use Rattle.std.proofs.Common.{◌≡◌, inl, inr, ◌⊎◌, ℕ, zero, suc, �
 use Rattle.std.specs.Prelude.{MatchOption}
 use Rattle.std.specs.declared.alloc.Global.{Global}
 use Rattle.std.specs.declared.string.String.{String}
-use Rattle.kahn_streams.specs.Types.{Program, InputFault}
+use Rattle.kahn_streams.specs.declared.tree.Program.{Program}
+use Rattle.kahn_streams.specs.declared.entries.InputFault.{InputFault}
 use Rattle.kahn_streams.specs.Inputs.{Entry, FailsFirst, asked_of_entry}
 use Rattle.kahn_report.specs.Inputs.{AreBlanks, AreEntries, HasHead, HasNoHead, HasNoValues, IsEntry, IsGood, content, text_lines, IsInputTextFault}
 use Rattle.kahn_report.specs.declared.input.TextFault.{TextFault}

@@ -3,7 +3,10 @@ use Rattle.std.specs.Prelude.{◌≡◌, ◌⊎◌, ◌+◌, ◌-◌, ℕ, List,
 use Rattle.std.specs.Str.{IsUtf8}
 use Rattle.std.specs.declared.alloc.Global.{Global}
 use Rattle.std.specs.declared.string.String.{String}
-use Rattle.kahn_streams.specs.Types.{Span, Kind, Program, InputFault}
+use Rattle.kahn_streams.specs.declared.span.Span.{Span}
+use Rattle.kahn_streams.specs.declared.tree.Kind.{Kind}
+use Rattle.kahn_streams.specs.declared.tree.Program.{Program}
+use Rattle.kahn_streams.specs.declared.entries.InputFault.{InputFault}
 use Rattle.kahn_streams.specs.declared.tree.Kind.TheVariants as KindOf
 use Rattle.kahn_streams.specs.Network.{kind_at, network_of}
 use Rattle.kahn_hints.specs.Inputs.{input_names, inputs_words, unknown_input}

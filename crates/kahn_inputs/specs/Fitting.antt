@@ -2,7 +2,9 @@
 use Rattle.std.specs.Prelude.{◌≡◌, ◌⊎◌, ◌+◌, ◌-◌, ◌<◌, ℕ, Bool, false, List, [], ◌∷◌, ◌++◌, All, Option, Some, None, drop, if◌then◌else◌, length, nat_lt, not, slice_get, slice_range}
 use Rattle.std.specs.List.{position_or_len, slice_split}
 use Rattle.std.specs.Char.{is_ascii_alphabetic}
-use Rattle.kahn_streams.specs.Types.{Span, Kind, Value}
+use Rattle.kahn_streams.specs.declared.span.Span.{Span}
+use Rattle.kahn_streams.specs.declared.tree.Kind.{Kind}
+use Rattle.kahn_streams.specs.declared.value.Value.{Value}
 use Rattle.kahn_streams.specs.Inputs.{kind_of_value}
 use Rattle.kahn_report.specs.Inputs.{IsValue, is_blank, is_word_byte, most_name_bytes}
 use Rattle.kahn_inputs.specs.declared.fitting.Class.{Class}

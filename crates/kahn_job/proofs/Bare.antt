@@ -1,7 +1,7 @@
 -- Jobs whose parameters have no ends yet.
 use Rattle.std.proofs.Common.{arith, ◌≡◌, inl, inr, ℕ, zero, suc, List, [], length, replicate, refl, sym, ap, ◌∙◌, subst, Option, slice_index_or}
 use Rattle.std.proofs.lemmas.List.{get_or_past}
-use Rattle.kahn_streams.specs.Types.{Program}
+use Rattle.kahn_streams.specs.declared.tree.Program.{Program}
 use Rattle.kahn_streams.specs.Network.{network_of, instance_at, idle}
 use Rattle.kahn_streams.specs.Inputs.{Lists}
 use Rattle.kahn_job.specs.inner.Ends.{End}

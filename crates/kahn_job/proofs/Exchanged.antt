@@ -1,7 +1,7 @@
 -- Ends of parameters that come and go.
 use Rattle.std.proofs.Common.{◌≡◌, ◌⊎◌, inl, inr, ℕ, ◌<◌, List, refl, sym, ap, ◌∙◌, subst, Some}
 use Rattle.std.proofs.lemmas.Option.{same_Some}
-use Rattle.kahn_streams.specs.Types.{Side}
+use Rattle.kahn_streams.specs.declared.sides.Side.{Side}
 use Rattle.kahn_streams.specs.Wiring.{side_at}
 use Rattle.kahn_streams.proofs.Sourced.{reads, writes}
 use Rattle.kahn_streams.specs.Inputs.{Lists}

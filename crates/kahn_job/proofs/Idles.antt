@@ -3,7 +3,7 @@ use Rattle.std.proofs.Common.{arith, ◌≡◌, ◌⊎◌, inl, inr, ℕ, zero, 
 use Rattle.std.proofs.lemmas.List.{get_or_past}
 use Rattle.std.proofs.lemmas.Option.{slice_get_within}
 use Rattle.std.proofs.lemmas.Option.{none-some, same_Some}
-use Rattle.kahn_streams.specs.Types.{Program}
+use Rattle.kahn_streams.specs.declared.tree.Program.{Program}
 use Rattle.kahn_streams.specs.Solution.{AreInputsExtended}
 use Rattle.kahn_streams.specs.Network.{Actual, Reads, Writes, Hands, network_of, instance_at, actual_at, idle}
 use Rattle.kahn_streams.specs.Wiring.{IsWellWired}

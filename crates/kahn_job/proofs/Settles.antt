@@ -1,7 +1,9 @@
 -- The ends of channels go on with an input that has grown, channel by channel.
 use Rattle.std.proofs.Common.{arith, ◌≡◌, ◌⊎◌, inl, inr, ⊎_elim, ℕ, ◌+◌, ◌<◌, ◌≤◌, Bool, true, false, List, length, refl, sym, ap, ◌∙◌, subst, None, Some, Result, Ok, Err, MatchResult}
 use Rattle.std.proofs.lemmas.Bool.{cases_eq}
-use Rattle.kahn_streams.specs.Types.{Program, Role, Side}
+use Rattle.kahn_streams.specs.declared.tree.Program.{Program}
+use Rattle.kahn_streams.specs.declared.tree.Role.{Role}
+use Rattle.kahn_streams.specs.declared.sides.Side.{Side}
 use Rattle.kahn_streams.specs.declared.tree.Role.TheVariants.{Inner, Input, Output}
 use Rattle.kahn_streams.specs.Network.{Network, Actual, Reads, Writes, Hands, network_of, instance_at, actual_at, role_at, IsWriter, IsReader, IsOnly, IsServed}
 use Rattle.kahn_streams.specs.inner.Sources.{IsFed}

@@ -2,7 +2,7 @@
 
 ghost use Rattle.std.specs.Prelude.{◌≡◌, ◌+◌, ◌<◌, length, Some, IfOk, OnOk};
 ghost use Rattle.kahn_streams.specs.Network.{network_of};
-ghost use Rattle.kahn_streams.specs.Types.{Side as SideOf};
+ghost use Rattle.kahn_streams.specs.declared.sides.Side.{Side as SideOf};
 ghost use Rattle.kahn_job.specs.inner.Idles.{cells_of, rows_of};
 ghost use Rattle.kahn_job.specs.inner.Lanes.{HasPlace};
 ghost use Rattle.kahn_job.specs.inner.Openings.{AreEndsOf, AreHanded, placed};

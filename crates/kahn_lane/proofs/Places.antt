@@ -1,6 +1,6 @@
 -- Tokens at consecutive places, and what they are of.
 use Rattle.std.proofs.Common.{◌≡◌, ◌<◌, ℕ, zero, suc, ◌+◌, ◌-◌, List, [], ◌∷◌, ◌++◌, length, slice_index_or, Option, Some, None, arith, ap, sym, ◌∙◌, subst}
-use Rattle.kahn_streams.specs.Types.{Program}
+use Rattle.kahn_streams.specs.declared.tree.Program.{Program}
 use Rattle.kahn_streams.specs.Inputs.{Lists}
 use Rattle.kahn_streams.specs.Tokens.{IsOf}
 use Rattle.kahn_streams.specs.declared.token.Token.{Token}

@@ -12,7 +12,7 @@ use Rattle.clap.specs.declared.parser.matches.ArgMatches.{ArgMatches}
 use Rattle.clap.specs.declared.parser.matches.Found.{Found}
 use Rattle.clap.proofs.WalkLemmas.{first_value-rows, one_text-rows, raw_values-rows}
 use Rattle.kahn_streams.specs.Answers.{IsInRange}
-use Rattle.kahn_streams.specs.Types.{Config}
+use Rattle.kahn_streams.specs.declared.config.Config.{Config}
 use Rattle.kahn_line.specs.Line.{number_or, IsSet}
 use Rattle.kahn_line.specs.Live.{live_app, live_text, IsLive}
 use Rattle.kahn_line.specs.Parts.{found_texts, parted, plain_parts, row_texts, set_line}

@@ -8,7 +8,7 @@ use Rattle.clap.specs.declared.error.kind.ErrorKind.TheVariants.{OutOfMemory}
 use Rattle.clap.specs.declared.builder.value_parser.ValueParser.TheVariants.{Unsigned}
 use Rattle.clap.specs.declared.parser.matches.Found.{Found}
 use Rattle.kahn_streams.specs.Answers.{IsInRange}
-use Rattle.kahn_streams.specs.Types.{Config}
+use Rattle.kahn_streams.specs.declared.config.Config.{Config}
 use Rattle.kahn_line.specs.declared.line.Options.{Options}
 use Rattle.kahn_line.specs.declared.line.LineFault.{LineFault}
 use Rattle.kahn_line.specs.declared.line.LineFault.TheVariants.{Refused, NoMemory}

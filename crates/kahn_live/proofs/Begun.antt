@@ -2,7 +2,9 @@
 use Rattle.std.proofs.Common.{arith, ◌≡◌, ◌∙◌, ◌⊎◌, inl, inr, ⊎_elim, ℕ, zero, suc, ◌+◌, pos, Bool, true, false, eqb-true, List, [], ◌∷◌, ◌++◌, append-nil, map, Some, if◌then◌else◌, refl, sym, ap, subst, slice_get, slice_index_or}
 use Rattle.std.proofs.lemmas.Option.{same_Some}
 use Rattle.kahn_streams.specs.Syntax.{Number}
-use Rattle.kahn_streams.specs.Types.{Role, Value, Line}
+use Rattle.kahn_streams.specs.declared.tree.Role.{Role}
+use Rattle.kahn_streams.specs.declared.value.Value.{Value}
+use Rattle.kahn_streams.specs.declared.value.Line.{Line}
 use Rattle.kahn_streams.specs.declared.tree.Role.TheVariants.{Input, Inner, Output}
 use Rattle.kahn_streams.specs.Network.{Network, Instance, Actual, Hands, Reads, Source, Given, Written, Nobody, Writes, actual_at, any_written, channel_source, first_writer, idle, instance_at, is_written, network_of, role_at, source_by}
 use Rattle.kahn_streams.specs.declared.value.Line.TheVariants.{Channel, Print}

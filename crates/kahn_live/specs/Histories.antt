@@ -1,7 +1,7 @@
 -- Believed. That what goes out of a session is right (this project's profile, over the solution of Kahn's paper).
 use Rattle.std.specs.Prelude.{◌≡◌, ℕ, List, [], map, Some, slice_get, slice_index_or}
 use Rattle.kahn_streams.specs.Network.{network_of}
-use Rattle.kahn_streams.specs.Types.{Line}
+use Rattle.kahn_streams.specs.declared.value.Line.{Line}
 use Rattle.kahn_streams.specs.Solution.{IsPrefix, IsWhole, iterate}
 use Rattle.kahn_streams.specs.Inputs.{inputs_of}
 use Rattle.kahn_pool.specs.Flows.{flow_lines}

@@ -2,7 +2,8 @@
 use Rattle.std.specs.Prelude.{◌≡◌, ◌⊎◌, ℕ, Bool, true, false, List, [], map, Option, None, Some, Result, Ok, Err, option_map, option_copied, is_some, string_bytes}
 use Rattle.std.specs.declared.alloc.Global.{Global}
 use Rattle.std.specs.declared.string.String.{String}
-use Rattle.kahn_streams.specs.Types.{Config, Program}
+use Rattle.kahn_streams.specs.declared.config.Config.{Config}
+use Rattle.kahn_streams.specs.declared.tree.Program.{Program}
 use Rattle.kahn_pool.specs.HeldRuns.{HeldRun}
 use Rattle.kahn_streams.specs.declared.answer.Verdict.{Verdict}
 use Rattle.kahn_streams.specs.declared.answer.Verdict.TheVariants.{Finished}

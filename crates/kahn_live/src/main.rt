@@ -9,8 +9,8 @@ mod stage;
 mod taking;
 mod telling;
 
+use kahn_fault::{read_texts, tell};
 use kahn_line::{LiveOptions, read_live_line, tell_line, tell_no_memory, tell_words};
-use kahn_texts::{read_texts, tell};
 use running::ran;
 use std::io::Write;
 use std::process::ExitCode;

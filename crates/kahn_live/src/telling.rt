@@ -3,14 +3,13 @@
 ghost use Rattle.std.specs.Prelude.{◌≡◌, false, not, true};
 ghost use Rattle.kahn_session.specs.Refusals.{refusal_text, waiting_text};
 ghost use Rattle.kahn_session.specs.Live.{HasVerdict};
-ghost use Rattle.kahn_texts.specs.Telling.{told_text};
+ghost use Rattle.kahn_fault.specs.Telling.{told_text};
 ghost use Rattle.kahn_live.specs.Course.{WasTold, telling_of};
 ghost use Rattle.kahn_live.specs.Running.{IsEndTold, untold};
 
-use kahn_fault::Fault;
+use kahn_fault::{Fault, tell};
 use kahn_pool::Verdict;
 use kahn_session::{Session, TakeFault, write_refusal, write_waiting};
-use kahn_texts::tell;
 use std::io::Write;
 
 /// A writer of faults, and whether a line was refused.

@@ -5,7 +5,7 @@ use Rattle.std.specs.Char.{is_control}
 use Rattle.std.specs.Str.Lines.{lines}
 use Rattle.unicode_width.specs.Width.{char_width}
 use Rattle.kahn_streams.specs.Place.{line_of, column_of}
-use Rattle.kahn_streams.specs.Types.{Span}
+use Rattle.kahn_streams.specs.declared.span.Span.{Span}
 use Rattle.kahn_marks.specs.declared.columns.Row.{Row}
 use Rattle.kahn_marks.specs.declared.columns.Row.TheVariants.{Source, Blanks, Carets}
 

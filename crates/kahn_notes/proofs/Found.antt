@@ -1,7 +1,7 @@
 -- A lexeme that is found is as the lexer makes it.
 use Rattle.std.proofs.Common.{ℕ, zero, suc, List, [], ◌∷◌, ◌++◌, Option, Some, None, IfSome, length, slice_get, sym, subst, IsUtf8}
 use Rattle.std.proofs.lemmas.Str.{IsCharBoundary-start}
-use Rattle.kahn_streams.specs.Types.{Span}
+use Rattle.kahn_streams.specs.declared.span.Span.{Span}
 use Rattle.kahn_syntax.specs.declared.fault.What.{What}
 use Rattle.kahn_syntax.specs.declared.fault.What.TheVariants.{More, Nothing, Other}
 use Rattle.kahn_syntax.specs.declared.lexeme.Lexeme.{Lexeme}

@@ -1,7 +1,7 @@
 -- Believed. Which comment holds the declaration of a name that isn't declared, as it goes on over the end of its line.
 use Rattle.std.specs.Prelude.{ℕ, Bool, true, false, ◌==◌, ◌&&◌, ◌||◌, not, List, [], ◌∷◌, Option, Some, None, codes, if◌then◌else◌}
 use Rattle.std.specs.List.{find, position}
-use Rattle.kahn_streams.specs.Types.{Span}
+use Rattle.kahn_streams.specs.declared.span.Span.{Span}
 use Rattle.kahn_wanted.specs.Swallowing.{has_word, is_of_word, is_space}
 use Rattle.kahn_notes.specs.Characters.{rest_at}
 use Rattle.kahn_notes.specs.Foreign.{letters_at}

@@ -21,7 +21,7 @@ use Rattle.kahn_code.proofs.Queued.{set_each, set_here}
 use Rattle.kahn_code.proofs.Readers.{joins_within, reads_once}
 use Rattle.kahn_pool.specs.inner.Gathered.{IsGiven, TookNoMore, TookAll, view_at, no_view}
 use Rattle.kahn_pool.specs.inner.Bench.{RunState, PausedAt, events_at}
-use Rattle.kahn_streams.specs.Types.{Value}
+use Rattle.kahn_streams.specs.declared.value.Value.{Value}
 use Rattle.kahn_pool.specs.inner.Workbench.{Table, IsLaid, IsSeated, sight_of}
 use Rattle.kahn_code.specs.declared.progress.Pause.{Pause}
 use Rattle.kahn_code.specs.declared.progress.Pause.TheVariants as pause

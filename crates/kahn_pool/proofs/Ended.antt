@@ -1,6 +1,7 @@
 -- The ends of tasks.
 use Rattle.std.proofs.Common.{arith, ◌≡◌, ◌⊎◌, inl, inr, ℕ, suc, ◌<◌, List, [], ◌∷◌, ◌++◌, length, refl, sym, ap, ◌∙◌, subst, Some, None, slice_get, length-append}
-use Rattle.kahn_streams.specs.Types.{Program, Side}
+use Rattle.kahn_streams.specs.declared.tree.Program.{Program}
+use Rattle.kahn_streams.specs.declared.sides.Side.{Side}
 use Rattle.kahn_streams.specs.Network.{Reads, Writes, network_of, instance_at, actual_at, IsWriter, IsReader, IsOnly}
 use Rattle.kahn_streams.specs.inner.Sources.{IsFed}
 use Rattle.kahn_streams.specs.Wiring.{IsWellWired, side_at}

@@ -1,7 +1,7 @@
 -- What longer tapes and one more event bring.
 use mathlib.Core.Path.{fun_ext}
 use Rattle.std.proofs.Common.{arith, ◌≡◌, ◌⊎◌, inl, inr, ℕ, suc, ◌+◌, List, [], ◌∷◌, ◌++◌, length, refl, sym, ap, ◌∙◌, subst, append-nil, le_refl}
-use Rattle.kahn_streams.specs.Types.{Value}
+use Rattle.kahn_streams.specs.declared.value.Value.{Value}
 use Rattle.kahn_streams.specs.Script.{Tapes, Script, Give, Fail, Waits, Sends, Turns, Rest, Outcome, Got, Dry, Fault, Cut, Reached, wait_at, play}
 use Rattle.kahn_streams.specs.Steps.{Step, empty, values_taken, since, and_then, halted, RanBy}
 use Rattle.kahn_streams.specs.Meaning.{Store}

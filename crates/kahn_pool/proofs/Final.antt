@@ -1,7 +1,7 @@
 -- The answer after the last round.
 use Rattle.std.proofs.Common.{arith, ◌≡◌, ◌⊎◌, inl, inr, ℕ, zero, suc, ◌+◌, List, [], ◌∷◌, ◌++◌, length, map, sum_by, take, refl, sym, ap, ◌∙◌, subst, Some, slice_get, Bool, true, false}
 use Rattle.std.proofs.lemmas.List.Sums.{sum_by-cons}
-use Rattle.kahn_streams.specs.Types.{Line}
+use Rattle.kahn_streams.specs.declared.value.Line.{Line}
 use Rattle.kahn_streams.specs.Solution.{source}
 use Rattle.kahn_code.specs.Cells.{View}
 use Rattle.kahn_streams.specs.declared.answer.Answer.{Answer}

@@ -4,7 +4,8 @@ use Rattle.std.proofs.lemmas.List.{length-append, length-map, map-append, take_a
 use Rattle.std.proofs.lemmas.List.Sums.{sum_by-cons}
 use Rattle.kahn_streams.specs.Network.{Source, Given, Written, Nobody, Writes, channel_source, network_of, instance_at, actual_at, role_at}
 use Rattle.kahn_streams.specs.declared.token.Token.{Token}
-use Rattle.kahn_streams.specs.Types.{Value, Line}
+use Rattle.kahn_streams.specs.declared.value.Value.{Value}
+use Rattle.kahn_streams.specs.declared.value.Line.{Line}
 use Rattle.kahn_streams.specs.declared.value.Line.TheVariants.{Channel, Print}
 use Rattle.kahn_streams.specs.Solution.{AreInputsExtended, source}
 use Rattle.kahn_streams.specs.Inputs.{Lists, inputs_of}

@@ -1,6 +1,8 @@
 -- Cells that have done no fewer events: their streams have grown.
 use Rattle.std.proofs.Common.{arith, ◌≡◌, ◌⊎◌, inl, inr, ℕ, zero, suc, ◌≤◌, List, [], ◌∷◌, length, map, refl, sym, ap, ◌∙◌, subst, Option, Some, slice_get, slice_index_or, true}
-use Rattle.kahn_streams.specs.Types.{Program, Value, Line}
+use Rattle.kahn_streams.specs.declared.tree.Program.{Program}
+use Rattle.kahn_streams.specs.declared.value.Value.{Value}
+use Rattle.kahn_streams.specs.declared.value.Line.{Line}
 use Rattle.kahn_streams.specs.Network.{Network, Source, Given, Written, Nobody, Writes, network_of, instance_at, actual_at}
 use Rattle.kahn_streams.specs.Wiring.{IsWellWired}
 use Rattle.kahn_streams.specs.declared.value.Line.TheVariants.{Channel, Print}

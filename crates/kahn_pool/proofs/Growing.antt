@@ -2,7 +2,8 @@
 use Rattle.std.proofs.Common.{◌≡◌, ◌⊎◌, inl, inr, ℕ, suc, ◌≤◌, max, [], map, sym, ap, subst, Option, true, pos}
 use Rattle.std.proofs.Math.Nat.{le-max_left, le-max_right}
 use Rattle.kahn_streams.specs.Syntax.{Number}
-use Rattle.kahn_streams.specs.Types.{Program, Line}
+use Rattle.kahn_streams.specs.declared.tree.Program.{Program}
+use Rattle.kahn_streams.specs.declared.value.Line.{Line}
 use Rattle.kahn_streams.specs.Network.{Network, Reads, Writes, Hands, network_of, instance_at, actual_at}
 use Rattle.kahn_streams.specs.Wiring.{IsWellWired}
 use Rattle.kahn_streams.specs.declared.value.Line.TheVariants.{Channel, Print}

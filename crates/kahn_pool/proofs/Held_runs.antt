@@ -2,7 +2,8 @@
 use Rattle.std.proofs.Common.{arith, ◌≡◌, ◌⊎◌, inl, inr, ℕ, zero, suc, ◌+◌, ◌<◌, ◌≤◌, ◌^◌, List, [], ◌∷◌, length, map, sum_by, refl, sym, ap, ◌∙◌, subst, Bool, Option, Some, None, Ok, Err, MatchResult, slice_get, slice_index_or}
 use Rattle.std.proofs.lemmas.List.{length-map}
 use Rattle.std.proofs.lemmas.List.Sums.{sum_by-cons}
-use Rattle.kahn_streams.specs.Types.{Program, Line}
+use Rattle.kahn_streams.specs.declared.tree.Program.{Program}
+use Rattle.kahn_streams.specs.declared.value.Line.{Line}
 use Rattle.kahn_streams.specs.Answers.{IsInRange, Settles, IsRight, stream_lines}
 use Rattle.kahn_streams.specs.Network.{Network, Source, Given, Written, Nobody, network_of}
 use Rattle.kahn_streams.specs.Wiring.{IsWellWired}

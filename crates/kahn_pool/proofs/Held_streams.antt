@@ -1,6 +1,7 @@
 -- The streams of a held run so far: what is lent of them, and that they are those of a right answer.
 use Rattle.std.proofs.Common.{arith, ◌≡◌, ℕ, ◌+◌, ◌<◌, length, slice_get, Some, Bool, true, List, [], map, sum_by, sym, ap, ◌∙◌, subst, Option, slice_index_or}
-use Rattle.kahn_streams.specs.Types.{Program, Line}
+use Rattle.kahn_streams.specs.declared.tree.Program.{Program}
+use Rattle.kahn_streams.specs.declared.value.Line.{Line}
 use Rattle.kahn_streams.specs.Network.{Network, Given, Written, Writes, channel_source, network_of, instance_at, actual_at}
 use Rattle.kahn_streams.specs.declared.token.Token.{Token}
 use Rattle.kahn_streams.specs.declared.value.Line.TheVariants.{Channel, Print}

@@ -1,7 +1,7 @@
 -- What the cells of jobs keep.
 use Rattle.std.proofs.Common.{◌≡◌, ℕ, ◌<◌, List, length, sym, ap, ◌∙◌, subst, Some, slice_get}
 use Rattle.std.proofs.lemmas.List.{length-map}
-use Rattle.kahn_streams.specs.Types.{Program}
+use Rattle.kahn_streams.specs.declared.tree.Program.{Program}
 use Rattle.kahn_streams.specs.Network.{network_of, instance_at}
 use Rattle.kahn_streams.specs.Inputs.{Lists}
 use Rattle.kahn_code.specs.declared.cell.Kept.{Kept}

@@ -4,7 +4,7 @@ use Rattle.std.proofs.Common.{arith, ◌≡◌, ◌⊎◌, inl, inr, ℕ, ◌+�
 use Rattle.std.proofs.lemmas.Option.{none-some}
 use Rattle.kahn_streams.proofs.By_number.{there}
 use Rattle.kahn_streams.specs.Network.{Network, Reads, instance_at, actual_at}
-use Rattle.kahn_streams.specs.Types.{Line}
+use Rattle.kahn_streams.specs.declared.value.Line.{Line}
 use Rattle.kahn_streams.specs.declared.value.Line.TheVariants.{Channel}
 use Rattle.kahn_streams.specs.Script as script
 use Rattle.kahn_streams.specs.Script.{Cut}

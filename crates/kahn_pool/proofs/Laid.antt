@@ -2,7 +2,7 @@
 use Rattle.std.proofs.Common.{arith, ◌≡◌, ℕ, zero, suc, ◌+◌, List, [], ◌∷◌, ◌++◌, length, map, replicate, sum_by, refl, sym, ap, ◌∙◌, Option, Some, slice_get, slice_index_or}
 use Rattle.std.proofs.lemmas.List.{map-append, replicate-append-replicate}
 use Rattle.std.proofs.lemmas.List.Sums.{sum_by-cons}
-use Rattle.kahn_streams.specs.Types.{Program}
+use Rattle.kahn_streams.specs.declared.tree.Program.{Program}
 use Rattle.kahn_streams.specs.Network.{Writes, network_of, instance_at, actual_at, role_at}
 use Rattle.kahn_streams.specs.Wiring.{IsWellWired}
 use Rattle.kahn_streams.proofs.Sourced.{writes}

@@ -1,7 +1,8 @@
 -- Lists whose values stand.
 use Rattle.std.proofs.Common.{arith, ◌≡◌, ◌⊎◌, inl, inr, ⊎_elim, subst, slice_set, ℕ, zero, suc, ◌+◌, ◌<◌, ◌≤◌, List, [], ◌∷◌, ◌++◌, length, map, refl, sym, ap, ◌∙◌, Some, slice_get, append-nil, le_of_suc-le-suc, not-suc-le-zero, length-append}
 use Rattle.std.proofs.lemmas.Bool.{cases_eq}
-use Rattle.kahn_streams.specs.Types.{Value, Line}
+use Rattle.kahn_streams.specs.declared.value.Value.{Value}
+use Rattle.kahn_streams.specs.declared.value.Line.{Line}
 use Rattle.kahn_streams.specs.Network.{Network}
 use Rattle.kahn_streams.specs.Solution.{Inputs, iterate, IsPrefix}
 use Rattle.kahn_streams.proofs.Proved.{prefix_get, one_value}

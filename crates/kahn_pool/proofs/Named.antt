@@ -1,6 +1,8 @@
 -- The lines of an answer: each is of the network, and none stands twice.
 use Rattle.std.proofs.Common.{arith, ◌≡◌, ◌⊎◌, inl, inr, ℕ, zero, suc, ◌+◌, ◌<◌, ◌||◌, Bool, true, false, if◌then◌else◌, List, [], ◌∷◌, ◌++◌, length, map, Option, Some, None, refl, sym, ap, ◌∙◌, subst, slice_get, slice_index_or}
-use Rattle.kahn_streams.specs.Types.{Kind, Role, Line}
+use Rattle.kahn_streams.specs.declared.tree.Kind.{Kind}
+use Rattle.kahn_streams.specs.declared.tree.Role.{Role}
+use Rattle.kahn_streams.specs.declared.value.Line.{Line}
 use Rattle.kahn_streams.specs.declared.tree.Kind.TheVariants.{Integer}
 use Rattle.kahn_streams.specs.declared.tree.Role.TheVariants.{Inner}
 use Rattle.kahn_streams.specs.Syntax.{prints_in}

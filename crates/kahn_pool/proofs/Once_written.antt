@@ -1,7 +1,9 @@
 -- What a run has of a line so far: the parameter that writes a channel is one, and an input channel with a stream is watched.
 use Rattle.std.proofs.Common.{◌≡◌, ℕ, zero, suc, ◌||◌, eqb-true, eq-eqb, Some, None, Bool, true, false, true≢false, List, [], ◌∷◌, map, refl, sym, ap, ◌∙◌, subst, Option, slice_index_or, pos, if◌then◌else◌}
 use Rattle.kahn_streams.specs.Syntax.{Number}
-use Rattle.kahn_streams.specs.Types.{Program, Value, Line}
+use Rattle.kahn_streams.specs.declared.tree.Program.{Program}
+use Rattle.kahn_streams.specs.declared.value.Value.{Value}
+use Rattle.kahn_streams.specs.declared.value.Line.{Line}
 use Rattle.kahn_streams.specs.declared.tree.Role.TheVariants.{Input}
 use Rattle.kahn_streams.specs.Network.{Network, Actual, Hands, Reads, Source, Given, Written, Nobody, Writes, network_of, instance_at, actual_at, is_written, role_at}
 use Rattle.kahn_streams.specs.Wiring.{IsWellWired}

@@ -2,7 +2,9 @@
 use Rattle.std.proofs.Common.{arith, ◌≡◌, ℕ, zero, suc, ◌<◌, Bool, true, false, if◌then◌else◌, List, [], ◌∷◌, ◌++◌, length, drop, map, Option, Some, refl, sym, ap, ◌∙◌, slice_get, slice_index_or, append_assoc, append-nil}
 use Rattle.kahn_streams.specs.declared.tree.Kind.TheVariants.{Integer}
 use Rattle.kahn_streams.specs.declared.tree.Role.TheVariants.{Inner}
-use Rattle.kahn_streams.specs.Types.{Declaration, Process, Line}
+use Rattle.kahn_streams.specs.declared.tree.Declaration.{Declaration}
+use Rattle.kahn_streams.specs.declared.tree.Process.{Process}
+use Rattle.kahn_streams.specs.declared.value.Line.{Line}
 use Rattle.kahn_streams.specs.declared.tree.Declaration.TheVariants as D
 use Rattle.kahn_streams.specs.Prints.{declaration_prints, process_prints}
 use Rattle.kahn_streams.specs.Syntax.{prints_in}

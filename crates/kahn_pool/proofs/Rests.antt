@@ -1,6 +1,8 @@
 -- What settled tasks whose ends have met say of the cells.
 use Rattle.std.proofs.Common.{arith, ◌≡◌, inl, inr, ℕ, zero, suc, ◌+◌, ◌<◌, ◌≤◌, List, [], length, map, refl, sym, ap, ◌∙◌, subst, Option, Some, slice_get, length-append}
-use Rattle.kahn_streams.specs.Types.{Program, Role, Value}
+use Rattle.kahn_streams.specs.declared.tree.Program.{Program}
+use Rattle.kahn_streams.specs.declared.tree.Role.{Role}
+use Rattle.kahn_streams.specs.declared.value.Value.{Value}
 use Rattle.kahn_streams.specs.declared.tree.Role.TheVariants.{Inner, Input}
 use Rattle.kahn_streams.specs.Network.{Network, Reads, Writes, Given, Written, network_of, instance_at, actual_at, role_at}
 use Rattle.kahn_streams.specs.inner.Sources.{IsFed as IsFedBy}

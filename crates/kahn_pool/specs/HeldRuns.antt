@@ -1,6 +1,10 @@
 -- Believed. A run that is held between its parts: what contracts see of it, and what its calls make of it (this project's profile).
 use Rattle.std.specs.Prelude.{◌≡◌, ◌⊎◌, ℕ, suc, ◌+◌, ◌<◌, ◌≤◌, ◌^◌, true, List, [], ◌∷◌, map, sum_by, Option, Some, None, slice_get, slice_index_or, if◌then◌else◌}
-use Rattle.kahn_streams.specs.Types.{Program, Value, Line, FeedFault, Config}
+use Rattle.kahn_streams.specs.declared.tree.Program.{Program}
+use Rattle.kahn_streams.specs.declared.value.Value.{Value}
+use Rattle.kahn_streams.specs.declared.value.Line.{Line}
+use Rattle.kahn_streams.specs.declared.feeds.FeedFault.{FeedFault}
+use Rattle.kahn_streams.specs.declared.config.Config.{Config}
 use Rattle.kahn_streams.specs.Network.{Actual, Source, Given, Written, Nobody, Writes, network_of, instance_at, actual_at, is_written}
 use Rattle.kahn_streams.specs.declared.token.Token.{Token}
 use Rattle.kahn_streams.specs.declared.value.Line.TheVariants.{Channel, Print}

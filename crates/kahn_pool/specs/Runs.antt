@@ -1,6 +1,7 @@
 -- Believed. Why a run is refused (this project's profile).
 use Rattle.std.specs.Prelude.{ℕ, ◌<◌, Option}
-use Rattle.kahn_streams.specs.Types.{Program, Config}
+use Rattle.kahn_streams.specs.declared.tree.Program.{Program}
+use Rattle.kahn_streams.specs.declared.config.Config.{Config}
 use Rattle.kahn_pool.specs.declared.config.RunFault.{RunFault}
 use Rattle.kahn_pool.specs.declared.config.RunFault.TheVariants as fault
 use Rattle.kahn_streams.specs.Answers.{IsAllowed, IsWatched, IsUndeclared}

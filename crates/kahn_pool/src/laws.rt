@@ -3,7 +3,8 @@
 ghost use Rattle.kahn_streams.specs.Network.{Network};
 ghost use Rattle.kahn_streams.specs.Wiring.{IsWellWired};
 ghost use Rattle.kahn_streams.specs.Solution.{HasSize, Inputs};
-ghost use Rattle.kahn_streams.specs.Types.{Line, Value};
+ghost use Rattle.kahn_streams.specs.declared.value.Line.{Line};
+ghost use Rattle.kahn_streams.specs.declared.value.Value.{Value};
 ghost use Rattle.kahn_code.specs.Cells.{StoodBy, View};
 ghost use Rattle.kahn_pool.specs.inner.Gathered.{IsGathered, Stood};
 ghost use Rattle.kahn_streams.specs.Answers.{AreBegun, Settles, AreOne, IsRight};

@@ -2,7 +2,7 @@
 use Rattle.std.proofs.Common.{◌≡◌, ℕ, ◌+◌, ◌<◌, List, ◌∷◌, ◌++◌, length, drop, get_or, ap, sym, ◌∙◌, append_assoc, add-one, drop-cons}
 use Rattle.kahn_report.specs.Report.{end_text, ends_text}
 use Rattle.kahn_streams.specs.declared.answer.End.{End}
-use Rattle.kahn_streams.specs.Types.{Program}
+use Rattle.kahn_streams.specs.declared.tree.Program.{Program}
 
 -- the line of the end at i, and those that follow
 pub ends_split : (program : Program) (ends : List End) (i : ℕ) (d : End) → i < length ends

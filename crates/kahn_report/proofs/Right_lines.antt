@@ -2,7 +2,10 @@
 use Rattle.std.proofs.Common.{◌≡◌, ◌+◌, ◌≤◌, ◌||◌, ℕ, zero, suc, Bool, true, false, if◌then◌else◌, Option, List, [], ◌∷◌, ◌++◌, length, map, All, arith, subst, sym}
 use Rattle.std.proofs.lemmas.List.{length-map}
 use Rattle.std.specs.List.{AllByRecursion}
-use Rattle.kahn_streams.specs.Types.{Kind, Role, Program, Line}
+use Rattle.kahn_streams.specs.declared.tree.Kind.{Kind}
+use Rattle.kahn_streams.specs.declared.tree.Role.{Role}
+use Rattle.kahn_streams.specs.declared.tree.Program.{Program}
+use Rattle.kahn_streams.specs.declared.value.Line.{Line}
 use Rattle.kahn_streams.specs.Syntax.{prints_in}
 use Rattle.kahn_streams.specs.Network.{Instance, network_of, channels_of}
 use Rattle.kahn_streams.specs.declared.value.Line.TheVariants.{Channel, Print}

@@ -7,7 +7,8 @@ use Rattle.std.specs.Char.{to_ascii_lowercase}
 use Rattle.std.specs.List.{slice_split}
 use Rattle.std.specs.Str.{str_eq_ignore_ascii_case, str_to_ascii_lowercase}
 use Rattle.std.specs.Str.Parse.{AllDigits}
-use Rattle.kahn_streams.specs.Types.{Program, Value}
+use Rattle.kahn_streams.specs.declared.tree.Program.{Program}
+use Rattle.kahn_streams.specs.declared.value.Value.{Value}
 use Rattle.kahn_streams.specs.View.{Scope, place_of}
 use Rattle.kahn_streams.specs.Network.{channel_names}
 use Rattle.kahn_streams.proofs.Handed.{bytes_true}

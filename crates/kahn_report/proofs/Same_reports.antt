@@ -6,7 +6,10 @@ use Rattle.std.specs.Io.KnownBytes.{Appends}
 use Rattle.std.specs.List.{concat}
 use Rattle.std.specs.declared.string.String.{String}
 use Rattle.std.specs.declared.alloc.Global.{Global}
-use Rattle.kahn_streams.specs.Types.{Program, Value, Line, Config}
+use Rattle.kahn_streams.specs.declared.tree.Program.{Program}
+use Rattle.kahn_streams.specs.declared.value.Value.{Value}
+use Rattle.kahn_streams.specs.declared.value.Line.{Line}
+use Rattle.kahn_streams.specs.declared.config.Config.{Config}
 use Rattle.kahn_streams.specs.View.{Scope, place_of}
 use Rattle.kahn_streams.specs.Network.{Network, network_of, channel_names}
 use Rattle.kahn_streams.specs.Wiring.{IsWellWired}

@@ -4,7 +4,9 @@ use Rattle.kahn_streams.specs.declared.tree.Kind.TheVariants as kind
 use Rattle.kahn_streams.specs.declared.tree.Role.TheVariants as role
 use Rattle.kahn_streams.specs.declared.tree.Direction.TheVariants as direction
 use Rattle.kahn_streams.specs.declared.tree.Taking.TheVariants as taking
-use Rattle.kahn_streams.specs.Types.{Kind, Taking, Program}
+use Rattle.kahn_streams.specs.declared.tree.Kind.{Kind}
+use Rattle.kahn_streams.specs.declared.tree.Taking.{Taking}
+use Rattle.kahn_streams.specs.declared.tree.Program.{Program}
 use Rattle.kahn_streams.specs.Network.{network_of}
 use Rattle.kahn_syntax.specs.Spans.{program_of}
 use Rattle.kahn_syntax.specs.declared.lexeme.Keyword.TheVariants as keyword

@@ -1,6 +1,7 @@
 -- Faults of the entries and of the input, as faults of the text.
 use Rattle.std.proofs.Common.{◌≡◌, ◌⊎◌, inl, inr, ℕ, List}
-use Rattle.kahn_streams.specs.Types.{Program, InputFault}
+use Rattle.kahn_streams.specs.declared.tree.Program.{Program}
+use Rattle.kahn_streams.specs.declared.entries.InputFault.{InputFault}
 use Rattle.kahn_streams.specs.declared.entries.InputFault.TheVariants.{UnknownName, NotAnInput, GivenTwice, WrongKind, TooMany, NoMemory}
 use Rattle.kahn_streams.specs.Inputs.{Entry, IsFirstRefused}
 use Rattle.kahn_report.specs.declared.input.TextFault.{TextFault}

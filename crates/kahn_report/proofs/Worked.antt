@@ -1,6 +1,7 @@
 -- What each part of the work says of the whole.
 use Rattle.std.proofs.Common.{ℕ, List, Option, Err, inl, inr, refl}
-use Rattle.kahn_streams.specs.Types.{Program, Config}
+use Rattle.kahn_streams.specs.declared.tree.Program.{Program}
+use Rattle.kahn_streams.specs.declared.config.Config.{Config}
 use Rattle.kahn_report.specs.declared.working.WorkFault.{WorkFault}
 use Rattle.kahn_report.specs.declared.working.WorkFault.TheVariants.{Syntax, Check, Text, Run, Write}
 use Rattle.kahn_report.specs.Work.{IsChecked, IsUnchecked, IsUnanswered, IsWorked}

@@ -1,7 +1,9 @@
 -- Believed. The report text of an answer of a network: a function of the program and the answer, line by line. Each line ends
 -- with a line feed and has no blank at its end. First the names in a network, by number, counted from 0.
 use Rattle.std.specs.Prelude.{ℕ, List, [], length, map, slice_index_or, ◌+◌, ◌<◌, ◌∷◌, ◌++◌, codes, decimal, flat_map, All}
-use Rattle.kahn_streams.specs.Types.{Declaration, Program, Line}
+use Rattle.kahn_streams.specs.declared.tree.Declaration.{Declaration}
+use Rattle.kahn_streams.specs.declared.tree.Program.{Program}
+use Rattle.kahn_streams.specs.declared.value.Line.{Line}
 use Rattle.kahn_streams.specs.View.{bytes_of}
 use Rattle.kahn_streams.specs.Network.{channels_of}
 use Rattle.std.specs.List.{concat}

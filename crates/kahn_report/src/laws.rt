@@ -1,7 +1,8 @@
 //! Laws of reports. Each function does nothing: its contract is the law.
 
 ghost use Rattle.kahn_report.specs.Work.{IsOneReport};
-ghost use Rattle.kahn_streams.specs.Types.{Config, Program};
+ghost use Rattle.kahn_streams.specs.declared.config.Config.{Config};
+ghost use Rattle.kahn_streams.specs.declared.tree.Program.{Program};
 ghost use Rattle.kahn_streams.specs.Network.{network_of};
 ghost use Rattle.kahn_syntax.specs.Texts.{IsProgram};
 ghost use Rattle.kahn_streams.specs.Sample.{sample_network};

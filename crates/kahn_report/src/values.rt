@@ -2,7 +2,7 @@
 
 ghost use Rattle.std.specs.Prelude.{◌≡◌, ℤ, MatchOption, MatchResult};
 ghost use Rattle.kahn_report.specs.Inputs.{AreNoValues, AreValues, IsValue};
-ghost use Rattle.kahn_streams.specs.Types.{Value};
+ghost use Rattle.kahn_streams.specs.declared.value.Value.{Value};
 ghost use Rattle.kahn_streams.specs.declared.value.Value.TheVariants.{Integer};
 
 use kahn_streams::Value;

@@ -7,21 +7,30 @@ use std::alloc::{AllocError, Global};
 use std::sync::atomic::{AtomicU64, Ordering};
 use std::test::Fail;
 
-// A chain of three copies after a count to this number.
-fn chain(alloc: Global, number: u64) -> Result<String, AllocError> {
-    format!(in alloc;
+// A chain of so many copies after a count to this number, with channels X0 and so on between.
+fn chain(alloc: Global, copies: u64, number: u64) -> Result<String, AllocError> {
+    let mut text = String::from_str(alloc, "begin integer channel X0")?;
+    for channel in 1..copies {
+        text.push_str(&format!(in alloc; ", X{channel}")?)?;
+    }
+    text.push_str(&format!(in alloc;
         "\
-begin integer channel X0, X1, X2; integer output channel W;
+; integer output channel W;
   process count(integer out W; integer N);
   begin integer I;
     while I < N do begin send I on W; I := I + 1 end
   end;
   process copy(integer in U; integer out W);
   begin repeat send wait(U) on W end;
-  count(X0, {number}) par copy(X0, X1) par copy(X1, X2) par copy(X2, W)
-end
-"
-    )
+  count(X0, {number})"
+    )?)?;
+    for copy in 1..copies {
+        let from = copy - 1;
+        text.push_str(&format!(in alloc; " par copy(X{from}, X{copy})")?)?;
+    }
+    let last = copies - 1;
+    text.push_str(&format!(in alloc; " par copy(X{last}, W)\nend\n")?)?;
+    Ok(text)
 }
 
 // The numbers below this one, and the given ends.
@@ -58,10 +67,23 @@ end 4 copy: waits on X2 after 300001
 finished 1100004
 ";
 
+static BY_EIGHT: &str = "
+end 1 count: ended after 40001
+end 2 copy: waits on X0 after 60001
+end 3 copy: waits on X1 after 60001
+end 4 copy: waits on X2 after 60001
+end 5 copy: waits on X3 after 60001
+end 6 copy: waits on X4 after 60001
+end 7 copy: waits on X5 after 60001
+end 8 copy: waits on X6 after 60001
+end 9 copy: waits on X7 after 60001
+finished 520009
+";
+
 #[test]
 fn a_chain_of_copies(rt: HostRuntime) -> Result<(), Fail> {
     for (number, ends) in [(64, SHORT), (65, SEGMENT_AND_ONE), (100_000, LONG)] {
-        let program = chain(rt.alloc(), number)?;
+        let program = chain(rt.alloc(), 3, number)?;
         let report = counted(rt.alloc(), number, ends)?;
         let config = config(rt.alloc(), 8, 1, 2_000_000, None)?;
         let (verdict, written) = reported(&rt, rt.alloc(), program.as_str(), "", config, &Through)?;
@@ -87,18 +109,20 @@ impl Gate for Tally {
     }
 }
 
-// At an open gate workers come where there is much to do in long visits for several, and nowhere else. The report is the same.
+// At an open gate workers come where there is much to do in long visits for many, and nowhere else: three copies hand one another all
+// that they do. The report is the same.
 #[test]
 fn workers_come_where_there_is_work_for_them(rt: HostRuntime) -> Result<(), Fail> {
     let rows = [
-        (64, 4, 1000, SHORT, false),
-        (100_000, 1, 1000, LONG, false),
-        (100_000, 4, 1000, LONG, true),
-        (100_000, 16, 1_000_000, LONG, true),
-        (100_000, 4, 7, LONG, false),
+        (3, 64, 4, 1000, SHORT, false),
+        (3, 100_000, 4, 1000, LONG, false),
+        (8, 20_000, 1, 1000, BY_EIGHT, false),
+        (8, 20_000, 4, 1000, BY_EIGHT, true),
+        (8, 20_000, 16, 1_000_000, BY_EIGHT, true),
+        (8, 20_000, 4, 7, BY_EIGHT, false),
     ];
-    for (number, workers, quantum, ends, come) in rows {
-        let program = chain(rt.alloc(), number)?;
+    for (copies, number, workers, quantum, ends, come) in rows {
+        let program = chain(rt.alloc(), copies, number)?;
         let report = counted(rt.alloc(), number, ends)?;
         let config = config(rt.alloc(), workers, quantum, 2_000_000, None)?;
         let gate = Tally {
@@ -106,11 +130,14 @@ fn workers_come_where_there_is_work_for_them(rt: HostRuntime) -> Result<(), Fail
         };
         let (verdict, written) = reported(&rt, rt.alloc(), program.as_str(), "", config, &gate)?;
         assert_eq!(rt; verdict, Verdict::Finished);
-        assert!(rt; written.as_str() == report.as_str(), "{number} {quantum}");
+        assert!(rt;
+            written.as_str() == report.as_str(),
+            "{copies} {number} {quantum}"
+        );
         assert_eq!(rt;
             gate.entries.load(Ordering::SeqCst) > 0,
             come,
-            "{workers} {quantum}"
+            "{copies} {workers} {quantum}"
         );
     }
     Ok(())

@@ -2,7 +2,9 @@
 use Rattle.std.proofs.Common.{arith, ◌≡◌, ◌∙◌, ℕ, zero, suc, ◌+◌, ◌<◌, ◌≤◌, List, [], ◌∷◌, ◌++◌, length, map, drop, get_or, add-one, append_assoc, refl, sym, ap, subst, Some}
 use Rattle.std.specs.Prelude.{slice_get, slice_index_or}
 use Rattle.std.specs.List.{AllByRecursion}
-use Rattle.kahn_streams.specs.Types.{Program, Line, Value}
+use Rattle.kahn_streams.specs.declared.tree.Program.{Program}
+use Rattle.kahn_streams.specs.declared.value.Line.{Line}
+use Rattle.kahn_streams.specs.declared.value.Value.{Value}
 use Rattle.kahn_streams.specs.declared.token.Token.{Token}
 use Rattle.kahn_streams.specs.Tokens.{token_value}
 use Rattle.kahn_pool.specs.HeldRuns.{HeldRun, so_far}

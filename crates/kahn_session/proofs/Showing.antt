@@ -3,7 +3,9 @@ use Rattle.std.proofs.Common.{arith, ◌≡◌, ◌∙◌, ◌⊎◌, inl, inr, 
 use Rattle.std.specs.Prelude.{slice_get, slice_index_or}
 use Rattle.std.proofs.lemmas.Option.{same_Some}
 use Rattle.kahn_streams.specs.Network.{network_of}
-use Rattle.kahn_streams.specs.Types.{Value, Line, Program}
+use Rattle.kahn_streams.specs.declared.value.Value.{Value}
+use Rattle.kahn_streams.specs.declared.value.Line.{Line}
+use Rattle.kahn_streams.specs.declared.tree.Program.{Program}
 use Rattle.kahn_pool.specs.HeldRuns.{GoesOn, HeldRun, so_far}
 use Rattle.kahn_pool.specs.Flows.{AreNew, Flowing, flow_lines}
 use Rattle.kahn_streams.specs.Tokens.{token_value}

@@ -5,7 +5,7 @@ use Rattle.std.proofs.Math.Nat.{min-le_left, min-le_right}
 use Rattle.kahn_pool.specs.HeldRuns.{HasResumed, HeldRun, Seen, seen_at, seen_events}
 use Rattle.kahn_pool.specs.Flows.{Flowing, IsUnpoured}
 use Rattle.kahn_streams.specs.Inputs.{Entry}
-use Rattle.kahn_streams.specs.Types.{FeedFault}
+use Rattle.kahn_streams.specs.declared.feeds.FeedFault.{FeedFault}
 use Rattle.kahn_streams.specs.declared.feeds.FeedFault.TheVariants.{NoMemory, NotAnInput, TooMany, UnknownName, WrongKind}
 use Rattle.kahn_session.specs.Pace.{Pace, events_of, most_bound, part_bound}
 

@@ -2,7 +2,7 @@
 use Rattle.std.proofs.Common.{◌≡◌, ◌∙◌, inl, inr, ℕ, ◌+◌, Bool, List, sum_by, Option, refl, sym, ap, subst}
 use Rattle.std.specs.Prelude.{min}
 use Rattle.kahn_streams.specs.Wiring.{IsWellWired}
-use Rattle.kahn_streams.specs.Types.{Value}
+use Rattle.kahn_streams.specs.declared.value.Value.{Value}
 use Rattle.kahn_pool.specs.HeldRuns.{GoesOn, HeldRun, IsRightSoFar, Seen, seen_events}
 use Rattle.kahn_pool.specs.Flows.{Flowing, flow_lines}
 use Rattle.kahn_streams.specs.declared.answer.End.{End}

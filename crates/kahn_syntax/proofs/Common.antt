@@ -16,7 +16,7 @@ pub use Rattle.kahn_streams.specs.declared.tree.Action.{items-the_row-Statement,
 pub use Rattle.kahn_streams.specs.declared.tree.Action.TheBlock.{hidden-the_row-Statement-0}
 pub use Rattle.kahn_streams.specs.declared.tree.Form.{items-the_row-Operand, items_hidden-the_row-Operand-0}
 pub use Rattle.kahn_streams.specs.declared.tree.Form.TheBlock.{hidden-the_row-Operand-0}
-pub use Rattle.kahn_streams.specs.Types.{OneVariable as Variable}
+pub use Rattle.kahn_streams.specs.declared.tree.Variable.{Variable}
 pub use Rattle.std.proofs.Common.{Bool, Err, Global, IfNone, List, None, Ok, Option, Result, Some, Vec, [], add-one, ap, append_assoc, arith, bytes_eq, cond, drop, false, find, get_or, inl, inr, length, length-append, length-drop, length-take, lit<, lit≤, map, max, neg_ℤ, pos, refl, rules, subst, suc, sym, take, true, true≢false, vec_len, w64, zero, ℕ, ℤ, ⊎_elim, ◌*◌, ◌++◌, ◌+◌, ◌-◌, ◌<◌, ◌==◌, ◌∙◌, ◌∷◌, ◌≡◌, ◌≢◌, ◌≤◌, ◌⊎◌}
 pub use Rattle.std.proofs.Math.Seq.{drop-cons}
 pub use Rattle.std.proofs.lemmas.Bool.Decides.{nat_tests}

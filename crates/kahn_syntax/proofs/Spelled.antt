@@ -1,6 +1,7 @@
 -- What a tree spells follows from what its parts take.
 use Rattle.kahn_syntax.proofs.Common.{◌≡◌, ℕ, ◌≤◌, List, [], ◌∷◌, ◌++◌, map, inl, inr, refl, ap, subst, ◌∙◌, arith, AreAny, Further, Grouped, group, all_members, IsGroup, AreGroups, map-append, Form, Negate', Not', Bracket', Level', Conditional', Row_of-Operand, end_of-Operand, more_of-Operand, Action, Empty, Assign, Block', If', While', Repeat', Row_of-Statement, end_of-Statement, more_of-Statement, Held-Action-If-2, None', Some', Statement, Name, Kind, Role, Taking, Parameter, OneVariable, Declaration, Argument, Instance, Program, names_words, further_names_words, parameter, channels, process, DeclarationTree, kind_terminal, role_words, taking_words, group_words, further_groups_words, groups_words, Parameters, togethers_words, Variables, SpellsDeclaration, Declarations, Argues, Arguments, Instantiates, Instances, MaybeSemicolon, Spells, declarations_nesting, StandsFirst, IsFormed, AreSound, RoleSpans, DirectionSpans, taking_kind, GroupSpans, GroupsSpan, ParametersSpan, TogethersSpan, VariablesSpan, DeclarationSpans, DeclarationsSpan, ArgumentSpans, ArgumentsSpan, InstanceSpans, InstancesSpan, MayPart, ProgramSpans, Takes, NamesSpan, FormSpans, OperandRowSpans, ActionSpans, OtherSpans, StatementRowSpans, FurtherRowSpans, StatementsSpan, NameSpans, StatementSpans, Lexeme, Terminal, terminals, word, sign, name, StatementTree, truth_terminal, operator_terminal, expression_words, operands_words, statement_words, statements_words, further_words, name_of, form_of, operands_row, expression_of, action_of, statements_row, chosen_of, statement_of, statements_of, declaration_of, argument_of, instance_of, program_of, Becomes, Begin, Channel, Close, Comma, Do, Else, End, If, In, Input, Minus, NotWord, On, Open, Out, Output, Par, Print, Process, Repeat, Semicolon, Send, Then, Wait, While}
-use Rattle.kahn_streams.specs.Types.{Number, Logical, Variable, Wait, Send, Print}
+use Rattle.kahn_streams.specs.declared.tree.Form.{Number, Logical, Variable, Wait}
+use Rattle.kahn_streams.specs.declared.tree.Action.{Send, Print}
 use Rattle.kahn_streams.specs.declared.tree.Role.TheVariants as role
 use Rattle.kahn_streams.specs.declared.tree.Taking.TheVariants as taking
 use Rattle.kahn_streams.specs.declared.tree.Direction.TheVariants as direction

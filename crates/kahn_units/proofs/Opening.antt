@@ -1,6 +1,6 @@
 -- A cell and plain queues at their openings.
 use Rattle.std.proofs.Common.{arith, ◌≡◌, ℕ, ◌<◌, length, replicate, refl, sym, ap, ◌∙◌, subst, slice_index_or}
-use Rattle.kahn_streams.specs.Types.{Program}
+use Rattle.kahn_streams.specs.declared.tree.Program.{Program}
 use Rattle.kahn_streams.specs.Network.{Writes, network_of, instance_at, actual_at, role_at}
 use Rattle.kahn_streams.specs.Wiring.{IsWellWired}
 use Rattle.kahn_streams.proofs.Sourced.{writes}

@@ -5,7 +5,7 @@ use Rattle.kahn_syntax.specs.declared.lexeme.Sign.{Sign}
 use Rattle.kahn_syntax.specs.declared.lexeme.Sign.TheVariants as mark
 use Rattle.kahn_syntax.specs.declared.lexeme.Class.{Class}
 use Rattle.kahn_syntax.specs.declared.lexeme.Class.TheVariants as class
-use Rattle.kahn_streams.specs.Types.{Span}
+use Rattle.kahn_streams.specs.declared.span.Span.{Span}
 use Rattle.kahn_syntax.specs.Lexemes.{Terminal, number, name, terminal, sign_terminal}
 use Rattle.kahn_syntax.specs.Programs.{program, MaybeSemicolon, nesting}
 use Rattle.kahn_syntax.specs.Texts.{Begins}

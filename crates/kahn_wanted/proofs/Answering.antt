@@ -1,7 +1,7 @@
 -- What the parser's answer says of a list of lexemes whose last one may be at fault.
 use Rattle.std.proofs.Common.{◌≡◌, List, [], ◌∷◌, ◌++◌, ℕ, refl, sym, ap, subst, ◌∙◌, arith, append_assoc, Bool, true, false, true≢false}
 use Rattle.std.proofs.lemmas.List.{append-nil}
-use Rattle.kahn_streams.specs.Types.{Span}
+use Rattle.kahn_streams.specs.declared.span.Span.{Span}
 use Rattle.kahn_syntax.specs.declared.lexeme.Lexeme.{Lexeme}
 use Rattle.kahn_syntax.specs.declared.fault.SyntaxFault.TheVariants.{Expected, TooDeep}
 use Rattle.kahn_syntax.specs.declared.fault.What.{What}

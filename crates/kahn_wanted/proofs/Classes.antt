@@ -10,7 +10,7 @@ use Rattle.kahn_syntax.specs.declared.lexeme.Keyword.TheVariants as keyword
 use Rattle.kahn_syntax.specs.declared.lexeme.Sign.{Sign}
 use Rattle.kahn_syntax.specs.declared.lexeme.Sign.TheVariants as mark
 use Rattle.kahn_syntax.specs.declared.lexeme.Lexeme.{Lexeme}
-use Rattle.kahn_streams.specs.Types.{Span}
+use Rattle.kahn_streams.specs.declared.span.Span.{Span}
 use Rattle.kahn_syntax.specs.Lexemes.{terminal, terminals, sign_terminal, IsUnsigned, IsProper, AreProper}
 use Rattle.kahn_wanted.specs.declared.asked.TheConstants.{CLASSES}
 use Rattle.kahn_wanted.specs.declared.groups.Group.{Group}

@@ -4,7 +4,7 @@ use Rattle.std.proofs.lemmas.List.{drop_more}
 use Rattle.kahn_syntax.specs.Lexemes.{IsBlank, IsComment, Gap, no_gap, then_blank, then_comment, Lexed, IsLexemeAt}
 use Rattle.kahn_syntax.specs.declared.lexeme.Lexeme.{Lexeme}
 use Rattle.kahn_syntax.proofs.OneList.{comment_dark, comment_grows, same_comment}
-use Rattle.kahn_streams.specs.Types.{Span}
+use Rattle.kahn_streams.specs.declared.span.Span.{Span}
 use Rattle.kahn_wanted.specs.Comments.{AreComments, behind_a_blank, behind_a_lexeme, behind_a_comment, at_the_end, span_of}
 use Rattle.kahn_wanted.specs.inner.Passing.{Passed}
 

@@ -4,7 +4,7 @@ use Rattle.std.specs.List.{list_all, list_any}
 use Rattle.std.specs.Str.{IsCharBoundary}
 use Rattle.kahn_syntax.specs.Lexemes.{IsBlank, IsComment, IsLexemeAt}
 use Rattle.kahn_syntax.specs.declared.lexeme.Lexeme.{Lexeme}
-use Rattle.kahn_streams.specs.Types.{Span}
+use Rattle.kahn_streams.specs.declared.span.Span.{Span}
 use Rattle.kahn_wanted.specs.Swallowing.{Swallows, is_space}
 
 abbrev pub span_of : ℕ → ℕ → Span

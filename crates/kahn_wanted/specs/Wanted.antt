@@ -1,6 +1,6 @@
 -- Believed. Which lexemes may stand at a place of a text.
 use Rattle.std.specs.Prelude.{◌≡◌, ◌↔◌, ℕ, List, [], ◌∷◌, ◌++◌, pos, Some, None, Contains, flat_map}
-use Rattle.kahn_streams.specs.Types.{Span}
+use Rattle.kahn_streams.specs.declared.span.Span.{Span}
 use Rattle.kahn_syntax.specs.declared.lexeme.Class.{Class}
 use Rattle.kahn_syntax.specs.declared.lexeme.Class.TheVariants as class
 use Rattle.kahn_syntax.specs.declared.lexeme.Keyword.{Keyword}

@@ -4,7 +4,9 @@ use Rattle.std.proofs.Common.{◌≡◌, ◌∙◌, ℕ, zero, suc, ◌&&◌, Bo
 use Rattle.std.proofs.lemmas.Option.{none-some, same_Some}
 use Rattle.std.specs.Prelude.{int_div, int_rem}
 use Rattle.kahn_streams.specs.Syntax.{Expr, Literal, Variable, Wait, Negate, Not, Binary, Conditional, Stmt, If, While}
-use Rattle.kahn_streams.specs.Types.{Operator, Value, Failure}
+use Rattle.kahn_streams.specs.declared.tree.Operator.{Operator}
+use Rattle.kahn_streams.specs.declared.value.Value.{Value}
+use Rattle.kahn_streams.specs.declared.value.Failure.{Failure}
 use Rattle.kahn_streams.specs.declared.tree.Operator.TheVariants.{Divide, Remainder}
 use Rattle.kahn_streams.specs.declared.value.Value.TheVariants.{Logical}
 use Rattle.kahn_streams.specs.declared.value.Failure.TheVariants.{Division}

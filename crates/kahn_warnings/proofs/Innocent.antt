@@ -5,7 +5,9 @@ use Rattle.std.proofs.Common.{Less as Before, Equal as Same, Greater as Behind}
 use Rattle.std.specs.Ordering.{is_eq}
 use Rattle.std.proofs.Math.Nat.{div-le_self, div-lt_self}
 use Rattle.std.specs.Prelude.{cond, int_lt, unsigned_abs}
-use Rattle.kahn_streams.specs.Types.{Operator, Value, Failure}
+use Rattle.kahn_streams.specs.declared.tree.Operator.{Operator}
+use Rattle.kahn_streams.specs.declared.value.Value.{Value}
+use Rattle.kahn_streams.specs.declared.value.Failure.{Failure}
 use Rattle.kahn_streams.specs.declared.tree.Operator.TheVariants.{Or, And, Equal, Unequal, Less, AtMost, Greater, AtLeast, Add, Subtract, Multiply, Divide, Remainder}
 use Rattle.kahn_streams.specs.declared.value.Value.TheVariants.{Integer, Logical}
 use Rattle.kahn_streams.specs.declared.value.Failure.TheVariants.{Overflow, Division}

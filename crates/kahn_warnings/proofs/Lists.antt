@@ -2,7 +2,10 @@
 use Rattle.std.proofs.Common.{◌≡◌, ◌||◌, ◌++◌, ◌∙◌, Bool, true, false, List, [], ◌∷◌, refl, ap, flat_map}
 use Rattle.kahn_streams.specs.Syntax.{Expr, Stmt}
 use Rattle.kahn_streams.specs.View.{Scope, body_of, expr_of, expression_of, level_of, row_of, statement_of, stmt_of}
-use Rattle.kahn_streams.specs.Types.{Row_of-Operand, end_of-Operand, more_of-Operand, Operand, Action, Row_of-Statement, end_of-Statement, more_of-Statement, Statement}
+use Rattle.kahn_streams.specs.declared.tree.Form.{Row_of-Operand, end_of-Operand, more_of-Operand}
+use Rattle.kahn_streams.specs.declared.tree.Operand.{Operand}
+use Rattle.kahn_streams.specs.declared.tree.Action.{Action, Row_of-Statement, end_of-Statement, more_of-Statement}
+use Rattle.kahn_streams.specs.declared.tree.Statement.{Statement}
 use Rattle.kahn_streams.specs.declared.tree.Form.TheBlock.{items-the_row-Operand}
 use Rattle.kahn_streams.specs.declared.tree.Action.TheBlock.{items-the_row-Statement}
 use Rattle.kahn_warnings.specs.Loops.{is_seen, never_ends}

@@ -1,7 +1,13 @@
 -- The operands of a level and the statements of a block, one after another, for the places of a fault.
 use Rattle.std.proofs.Common.{◌≡◌, ◌++◌, List, [], ◌∷◌, Option, refl, ap, flat_map}
 use Rattle.kahn_streams.specs.View.{expr_of, expression_of}
-use Rattle.kahn_streams.specs.Types.{Span, Row_of-Operand, end_of-Operand, more_of-Operand, Operand, Row_of-Statement, end_of-Statement, more_of-Statement, Statement, Value, Failure}
+use Rattle.kahn_streams.specs.declared.span.Span.{Span}
+use Rattle.kahn_streams.specs.declared.tree.Form.{Row_of-Operand, end_of-Operand, more_of-Operand}
+use Rattle.kahn_streams.specs.declared.tree.Operand.{Operand}
+use Rattle.kahn_streams.specs.declared.tree.Action.{Row_of-Statement, end_of-Statement, more_of-Statement}
+use Rattle.kahn_streams.specs.declared.tree.Statement.{Statement}
+use Rattle.kahn_streams.specs.declared.value.Value.{Value}
+use Rattle.kahn_streams.specs.declared.value.Failure.{Failure}
 use Rattle.kahn_streams.specs.declared.tree.Form.TheBlock.{items-the_row-Operand}
 use Rattle.kahn_streams.specs.declared.tree.Action.TheBlock.{items-the_row-Statement}
 use Rattle.kahn_warnings.specs.Constants.{combined, constant_of}

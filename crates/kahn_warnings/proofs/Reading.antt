@@ -1,7 +1,7 @@
 -- Comments that are gone through, one after another.
 use Rattle.std.proofs.Common.{◌≡◌, ℕ, ◌+◌, ◌≤◌, ◌<◌, Bool, true, false, List, [], ◌∷◌, ◌++◌, append-nil, append_assoc, ap, drop, get_or, length, slice_get, Some, subst, sym, ◌∙◌}
 use Rattle.std.proofs.lemmas.List.{drop_all, drop_more}
-use Rattle.kahn_streams.specs.Types.{Span}
+use Rattle.kahn_streams.specs.declared.span.Span.{Span}
 use Rattle.kahn_wanted.proofs.Suspects.{within}
 use Rattle.kahn_wanted.specs.Comments.{AreComments}
 use Rattle.kahn_wanted.specs.Swallowing.{Swallows}

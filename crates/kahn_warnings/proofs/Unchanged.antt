@@ -4,7 +4,8 @@ use Rattle.std.proofs.Common.{arith, ◌≡◌, ◌∙◌, ℕ, zero, suc, ◌||
 use Rattle.std.proofs.lemmas.List.{get_or-set_other}
 use Rattle.std.proofs.lemmas.Option.{none-some, same_Some}
 use Rattle.kahn_streams.specs.Syntax.{Expr, Literal, Variable, Wait, Negate, Not, Binary, Conditional, Stmt, Skip, Assign, Send, Print, Seq, If, While, Repeat}
-use Rattle.kahn_streams.specs.Types.{Value, Failure}
+use Rattle.kahn_streams.specs.declared.value.Value.{Value}
+use Rattle.kahn_streams.specs.declared.value.Failure.{Failure}
 use Rattle.kahn_streams.specs.declared.value.Value.TheVariants.{Integer, Logical}
 use Rattle.kahn_streams.specs.Arithmetic.{apply, number, ranged, truth}
 use Rattle.kahn_streams.specs.Meaning.{Store, constant, eval, exec, read, script_of, settle, turns_of, value_of}

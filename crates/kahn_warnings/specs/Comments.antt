@@ -1,6 +1,6 @@
 -- Believed. Comments that go on over a line's end, and have the beginning of a statement behind that.
 use Rattle.std.specs.Prelude.{ℕ, false, List, [], ◌∷◌}
-use Rattle.kahn_streams.specs.Types.{Span}
+use Rattle.kahn_streams.specs.declared.span.Span.{Span}
 use Rattle.kahn_wanted.specs.Comments.{AreComments}
 use Rattle.kahn_wanted.specs.Swallowing.{Swallows}
 use Rattle.kahn_warnings.specs.declared.warning.Warning.{Warning}

@@ -1,7 +1,7 @@
 -- Believed. Statements that never end, and loops that nobody sees.
 use Rattle.std.specs.Prelude.{◌≡◌, ℕ, Bool, true, false, ◌||◌, ◌&&◌, []}
 use Rattle.kahn_streams.specs.Syntax.{Expr, Stmt, Skip, Assign, Send, Print, Seq, If, While, Repeat}
-use Rattle.kahn_streams.specs.Types.{Value}
+use Rattle.kahn_streams.specs.declared.value.Value.{Value}
 use Rattle.kahn_streams.specs.Arithmetic.{truth}
 use Rattle.kahn_streams.specs.Meaning.{Store, eval, exec}
 use Rattle.kahn_streams.specs.Script.{Got, Tapes, at_once}

@@ -1,6 +1,7 @@
 -- Believed. How warnings are told.
 use Rattle.std.specs.Prelude.{◌≡◌, ℕ, ◌-◌, List, [], ◌++◌, codes, flat_map}
-use Rattle.kahn_streams.specs.Types.{Span, Program}
+use Rattle.kahn_streams.specs.declared.span.Span.{Span}
+use Rattle.kahn_streams.specs.declared.tree.Program.{Program}
 use Rattle.kahn_marks.specs.Marks.{marked_too, marked_warning}
 use Rattle.kahn_warnings.specs.Warnings.{AreWarnings}
 use Rattle.kahn_warnings.specs.declared.warning.Warning.{Warning}

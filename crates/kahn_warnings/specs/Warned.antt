@@ -1,6 +1,6 @@
 -- Believed. A warning of a part of the text.
 use Rattle.std.specs.Prelude.{List, [], ◌∷◌, Option, Some, None}
-use Rattle.kahn_streams.specs.Types.{Span}
+use Rattle.kahn_streams.specs.declared.span.Span.{Span}
 use Rattle.kahn_warnings.specs.declared.warning.Warning.{Warning}
 use Rattle.kahn_warnings.specs.declared.warning.WarningKind.{WarningKind}
 

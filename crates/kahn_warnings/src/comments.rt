@@ -1,7 +1,7 @@
 //! Comments that go on over a line's end, and have the beginning of a statement behind that.
 
 ghost use Rattle.std.specs.Prelude.{◌≤◌, List, ◌∷◌, IfOk, length};
-ghost use Rattle.kahn_streams.specs.Types.{Span};
+ghost use Rattle.kahn_streams.specs.declared.span.Span.{Span};
 ghost use Rattle.kahn_wanted.specs.inner.Passing.{EndWithin};
 ghost use Rattle.kahn_warnings.specs.Comments.{AreCommentWarnings, CommentWarnings};
 ghost use Rattle.kahn_warnings.specs.inner.Reading.{WarnsOn};

@@ -1,6 +1,7 @@
 -- Believed. How the work is set up for one thread.
 use Rattle.std.specs.Prelude.{ℕ, List, None}
-use Rattle.kahn_streams.specs.Types.{Program, Config}
+use Rattle.kahn_streams.specs.declared.tree.Program.{Program}
+use Rattle.kahn_streams.specs.declared.config.Config.{Config}
 use Rattle.kahn_streams.specs.declared.answer.Answer.{Answer}
 use Rattle.kahn_streams.specs.Answers.{IsRightRun}
 use Rattle.kahn_report.specs.Inputs.{StandsFor}

@@ -9,7 +9,7 @@ use Rattle.kahn_fault.specs.Status.{status_of}
 use Rattle.kahn_write.specs.declared.bytes.WriteFault.{WriteFault}
 use Rattle.kahn_report.specs.Work.{IsWorked}
 use Rattle.kahn_write.specs.Written.{Writes}
-use Rattle.kahn_texts.specs.Telling.{told_text}
+use Rattle.kahn_fault.specs.Telling.{told_text}
 use Rattle.kahn_web.specs.Alone.{alone}
 
 -- what the work by one thread did, or which text is no UTF-8, after which nothing was written

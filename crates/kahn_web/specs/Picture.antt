@@ -1,7 +1,7 @@
 -- Believed. What the page is given as the picture of a network.
 use Rattle.std.specs.Prelude.{◌≡◌, ℕ, ◌⊎◌, List}
 use Rattle.std.specs.Str.Lines.{lines}
-use Rattle.kahn_streams.specs.Types.{Program}
+use Rattle.kahn_streams.specs.declared.tree.Program.{Program}
 use Rattle.kahn_graph.specs.Graph.{IsPicture}
 use Rattle.kahn_report.specs.Work.{IsChecked}
 use Rattle.kahn_web.specs.Page.{IsPut}

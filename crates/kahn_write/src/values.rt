@@ -2,7 +2,7 @@
 
 ghost use Rattle.std.specs.Prelude.{◌≡◌, ℕ, List, ◌+◌, ◌*◌, ◌≤◌, length, drop, ◌++◌, flat_map};
 ghost use Rattle.std.specs.Fmt.{signed_decimal};
-ghost use Rattle.kahn_streams.specs.Types.{Value as ValueView};
+ghost use Rattle.kahn_streams.specs.declared.value.Value.{Value as ValueView};
 ghost use Rattle.kahn_write.specs.Written.{value_text, Writes};
 
 use crate::bytes::{WriteFault, put};

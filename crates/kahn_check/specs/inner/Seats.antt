@@ -1,7 +1,7 @@
 -- Inner. What the instances of a program make of it.
 use Rattle.std.specs.Prelude.{◌≡◌, ℕ, List, [], map}
 use Rattle.kahn_streams.specs.declared.tree.Direction.TheVariants.{In, Out}
-use Rattle.kahn_streams.specs.Types.{Program}
+use Rattle.kahn_streams.specs.declared.tree.Program.{Program}
 use Rattle.kahn_streams.specs.View.{bytes_of}
 use Rattle.kahn_streams.specs.Network.{process_of}
 use Rattle.kahn_streams.specs.Wires.{process_at}

@@ -4,7 +4,9 @@ use Rattle.std.proofs.Common.{bytes_eq}
 use Rattle.std.specs.Map.{lookup}
 use Rattle.std.specs.declared.alloc.Global.{Global}
 use Rattle.std.specs.declared.vec.Vec.{Vec}
-use Rattle.kahn_streams.specs.Types.{Name, Kind, Role}
+use Rattle.kahn_streams.specs.declared.tree.Name.{Name}
+use Rattle.kahn_streams.specs.declared.tree.Kind.{Kind}
+use Rattle.kahn_streams.specs.declared.tree.Role.{Role}
 use Rattle.kahn_streams.specs.View.{bytes_of}
 use Rattle.kahn_check.specs.Faults.{Checks}
 use Rattle.kahn_check.specs.declared.fault.CheckFault.{CheckFault}

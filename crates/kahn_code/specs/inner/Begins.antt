@@ -1,6 +1,6 @@
 -- Inner. Of which inputs the tokens are that wait in a queue.
 use Rattle.std.specs.Prelude.{◌≡◌, List, [], ◌∷◌}
-use Rattle.kahn_streams.specs.Types.{Program}
+use Rattle.kahn_streams.specs.declared.tree.Program.{Program}
 use Rattle.kahn_streams.specs.declared.token.Token.{Token}
 use Rattle.kahn_streams.specs.Solution.{AreInputsExtended}
 use Rattle.kahn_streams.specs.Inputs.{Lists, inputs_of}

@@ -1,6 +1,6 @@
 -- Inner. A run before its next events.
 use Rattle.std.specs.Prelude.{◌≡◌, ℕ, ◌+◌, ◌^◌, ◌<◌, false, List, length, Option, Some, slice_get, slice_index}
-use Rattle.kahn_streams.specs.Types.{Program}
+use Rattle.kahn_streams.specs.declared.tree.Program.{Program}
 use Rattle.kahn_streams.specs.declared.tree.Role.TheVariants as role
 use Rattle.kahn_streams.specs.Network.{Writes, network_of, instance_at, actual_at, role_at}
 use Rattle.kahn_streams.specs.Inputs.{Lists, inputs_of}

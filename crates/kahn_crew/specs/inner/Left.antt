@@ -1,6 +1,6 @@
 -- Inner. How the tasks of a run stand once all workers have left.
 use Rattle.std.specs.Prelude.{◌≡◌, ◌⊎◌, ℕ, ◌+◌, Bool, true, List, length, sum_by, Option, Some, slice_get}
-use Rattle.kahn_streams.specs.Types.{Program}
+use Rattle.kahn_streams.specs.declared.tree.Program.{Program}
 use Rattle.kahn_streams.specs.declared.tree.Role.TheVariants.{Input}
 use Rattle.kahn_streams.specs.Network.{Reads, Writes, network_of, role_at}
 use Rattle.kahn_streams.specs.Inputs.{Lists, inputs_of}

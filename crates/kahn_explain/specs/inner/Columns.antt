@@ -2,7 +2,9 @@
 use Rattle.std.specs.Prelude.{◌≡◌, ℕ, List, [], ◌∷◌, ◌++◌, All, Bool, true, false, Some, flat_map, length, map, string_bytes}
 use Rattle.std.specs.declared.alloc.Global.{Global}
 use Rattle.std.specs.declared.string.String.{String}
-use Rattle.kahn_streams.specs.Types.{Config, Program, Line}
+use Rattle.kahn_streams.specs.declared.config.Config.{Config}
+use Rattle.kahn_streams.specs.declared.tree.Program.{Program}
+use Rattle.kahn_streams.specs.declared.value.Line.{Line}
 use Rattle.kahn_streams.specs.Network.{network_of}
 use Rattle.kahn_streams.specs.declared.value.Line.TheVariants.{Channel, Print}
 use Rattle.kahn_streams.specs.Inputs.{Lists, inputs_of}

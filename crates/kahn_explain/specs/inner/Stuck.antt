@@ -1,7 +1,7 @@
 -- Inner. Instances whose chains of waits lead to a ring, or to one that has ended or faulted.
 use Rattle.std.specs.Prelude.{◌≡◌, ℕ, Bool, true, Some}
 use Rattle.kahn_streams.specs.Network.{Network, Reads, Written, actual_at, instance_at, channel_source}
-use Rattle.kahn_streams.specs.Types.{Line}
+use Rattle.kahn_streams.specs.declared.value.Line.{Line}
 use Rattle.kahn_streams.specs.Script.{Dry, Cut}
 use Rattle.kahn_streams.specs.Solution.{AreInputsExtended, Histories, Inputs, Ending, HasEnd, IsPrefix, ending, exec_at, iterate, out, source}
 

@@ -1,6 +1,6 @@
 -- Inner. What contracts see of an input channel that a parameter reads.
 use Rattle.std.specs.Prelude.{ℕ}
-use Rattle.kahn_streams.specs.Types.{Program}
+use Rattle.kahn_streams.specs.declared.tree.Program.{Program}
 use Rattle.kahn_streams.specs.Inputs.{Lists}
 
 -- the network and the input, the channel, and the place of the next token

@@ -1,6 +1,7 @@
 -- Inner. Jobs before their first event.
 use Rattle.std.specs.Prelude.{◌≡◌, ℕ, ◌<◌, true, List, [], length, replicate, Option, None, Some, slice_get, slice_set, slice_index_or}
-use Rattle.kahn_streams.specs.Types.{Program, Side}
+use Rattle.kahn_streams.specs.declared.tree.Program.{Program}
+use Rattle.kahn_streams.specs.declared.sides.Side.{Side}
 use Rattle.kahn_streams.specs.declared.tree.Role.TheVariants.{Inner, Input, Output}
 use Rattle.kahn_streams.specs.Network.{network_of, instance_at, actual_at, role_at}
 use Rattle.kahn_streams.specs.Inputs.{Lists}

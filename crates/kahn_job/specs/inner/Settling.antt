@@ -1,6 +1,7 @@
 -- Inner. The ends of channels go on with an input that has grown.
 use Rattle.std.specs.Prelude.{◌≡◌, ◌⊎◌, ℕ, ◌≤◌, true, false, List, [], length, None, Some, slice_index_or, Result, MatchResult}
-use Rattle.kahn_streams.specs.Types.{Program, Side}
+use Rattle.kahn_streams.specs.declared.tree.Program.{Program}
+use Rattle.kahn_streams.specs.declared.sides.Side.{Side}
 use Rattle.kahn_streams.specs.declared.tree.Role.TheVariants.{Input}
 use Rattle.kahn_streams.specs.Wiring.{side_at}
 use Rattle.kahn_streams.specs.Network.{Actual, Reads, Writes, Hands, network_of, instance_at, actual_at, role_at}

@@ -17,7 +17,7 @@ use Rattle.kahn_streams.specs.Answers.{stream_line}
 use Rattle.kahn_streams.specs.declared.answer.Stream.{Stream}
 use Rattle.kahn_pool.specs.declared.rounds.Round.{Round}
 use Rattle.kahn_streams.specs.declared.answer.Verdict.TheVariants.{Finished, Bound, Memory}
-use Rattle.kahn_streams.specs.Types.{Line}
+use Rattle.kahn_streams.specs.declared.value.Line.{Line}
 
 pub record RunState : Type 0 where
   pub network : Network

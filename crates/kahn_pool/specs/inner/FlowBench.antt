@@ -1,6 +1,8 @@
 -- Inner. A flow over a bench: what contracts see of it, and what its type keeps.
 use Rattle.std.specs.Prelude.{◌≡◌, ℕ, ◌+◌, ◌-◌, ◌<◌, ◌≤◌, ◌^◌, Bool, List, [], ◌++◌, length, map, take, Option, Some, slice_index_or}
-use Rattle.kahn_streams.specs.Types.{Program, Line, Value}
+use Rattle.kahn_streams.specs.declared.tree.Program.{Program}
+use Rattle.kahn_streams.specs.declared.value.Line.{Line}
+use Rattle.kahn_streams.specs.declared.value.Value.{Value}
 use Rattle.kahn_streams.specs.declared.tree.Role.TheVariants.{Input}
 use Rattle.kahn_streams.specs.Network.{Source, Given, Written, Nobody, network_of, instance_at, role_at}
 use Rattle.kahn_streams.specs.declared.value.Line.TheVariants.{Channel, Print}

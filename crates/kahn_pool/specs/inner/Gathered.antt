@@ -1,6 +1,6 @@
 -- Inner. Cells at rest, and the answer that is put together from them.
 use Rattle.std.specs.Prelude.{◌≡◌, ◌⊎◌, ℕ, ◌<◌, ◌≤◌, List, [], length, map, sum_by, Option, Some, slice_get, slice_index_or, true}
-use Rattle.kahn_streams.specs.Types.{Line}
+use Rattle.kahn_streams.specs.declared.value.Line.{Line}
 use Rattle.kahn_streams.specs.declared.value.Line.TheVariants.{Channel, Print}
 use Rattle.kahn_streams.specs.Script as script
 use Rattle.kahn_streams.specs.Script.{Dry, Cut}

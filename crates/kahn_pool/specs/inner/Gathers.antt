@@ -1,6 +1,6 @@
 -- Inner. The room for an answer.
 use Rattle.std.specs.Prelude.{◌≡◌, ℕ, ◌≤◌, [], length, Option, vec_capacity}
-use Rattle.kahn_streams.specs.Types.{Program}
+use Rattle.kahn_streams.specs.declared.tree.Program.{Program}
 use Rattle.kahn_streams.specs.Network.{network_of}
 use Rattle.kahn_streams.specs.Inputs.{Lists}
 use Rattle.kahn_pool.specs.inner.Workbench.{AreStreamsReady}

@@ -1,6 +1,6 @@
 -- Inner. The jobs of a held run.
 use Rattle.std.specs.Prelude.{◌≡◌, ℕ, ◌+◌, ◌<◌, ◌≤◌, ◌^◌, Bool, List, [], length, map, sum_by, Option, Some, None, Err, MatchResult, slice_get, vec_capacity}
-use Rattle.kahn_streams.specs.Types.{Program}
+use Rattle.kahn_streams.specs.declared.tree.Program.{Program}
 use Rattle.kahn_streams.specs.Network.{network_of}
 use Rattle.kahn_streams.specs.Solution.{AreInputsExtended}
 use Rattle.kahn_streams.specs.Inputs.{Lists, inputs_of}

@@ -1,6 +1,7 @@
 -- Inner. What is new on the streams of a run.
 use Rattle.std.specs.Prelude.{◌≡◌, ℕ, List, [], ◌∷◌, ◌++◌, drop, length, map, Some, slice_get, slice_index_or}
-use Rattle.kahn_streams.specs.Types.{Value, Line}
+use Rattle.kahn_streams.specs.declared.value.Value.{Value}
+use Rattle.kahn_streams.specs.declared.value.Line.{Line}
 use Rattle.kahn_pool.specs.HeldRuns.{HeldRun, so_far}
 use Rattle.kahn_pool.specs.Flows.{Flowing, flow_lines}
 

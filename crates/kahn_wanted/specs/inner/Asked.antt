@@ -1,6 +1,6 @@
 -- Inner. What the parser's answer says of lexemes whose last one may be at fault.
 use Rattle.std.specs.Prelude.{◌≡◌, ◌↔◌, List, [], ◌∷◌, ◌++◌, Bool, true, false, ℕ, Contains}
-use Rattle.kahn_streams.specs.Types.{Span}
+use Rattle.kahn_streams.specs.declared.span.Span.{Span}
 use Rattle.kahn_syntax.specs.declared.lexeme.Class.{Class}
 use Rattle.kahn_syntax.specs.declared.lexeme.Lexeme.{Lexeme}
 use Rattle.kahn_syntax.specs.declared.fault.What.{What}

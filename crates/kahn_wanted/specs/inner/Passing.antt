@@ -1,6 +1,6 @@
 -- Inner. The comments of a text while it is read, from the left.
 use Rattle.std.specs.Prelude.{◌≡◌, ◌≤◌, ℕ, List, ◌++◌, Some, length, slice_get}
-use Rattle.kahn_streams.specs.Types.{Span}
+use Rattle.kahn_streams.specs.declared.span.Span.{Span}
 use Rattle.kahn_wanted.specs.Comments.{AreComments}
 
 -- whoever finds the comments from byte b on has with these all from byte a on

@@ -1,6 +1,6 @@
 -- Inner. The warnings of comments while these are gone through.
 use Rattle.std.specs.Prelude.{ℕ, List, ◌++◌}
-use Rattle.kahn_streams.specs.Types.{Span}
+use Rattle.kahn_streams.specs.declared.span.Span.{Span}
 use Rattle.kahn_warnings.specs.Comments.{CommentWarnings}
 use Rattle.kahn_warnings.specs.declared.warning.Warning.{Warning}
 

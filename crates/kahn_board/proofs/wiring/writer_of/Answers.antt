@@ -1,5 +1,5 @@
 use Rattle.std.proofs.Common.{◌<◌, ℕ, sym, ap, subst}
-use Rattle.kahn_streams.specs.Types.{Side}
+use Rattle.kahn_streams.specs.declared.sides.Side.{Side}
 use Rattle.kahn_board.proofs.Limits.{counts_are}
 use Rattle.kahn_board.proofs.Sole.{sole_writer, no_writer}
 use Rattle.kahn_board.proofs.wiring.writer_of.Goals as goal

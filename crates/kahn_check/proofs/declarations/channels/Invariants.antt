@@ -1,5 +1,5 @@
 use Rattle.std.proofs.Common.{◌≡◌, ◌≤◌, ◌+◌, ◌++◌, List, drop}
-use Rattle.kahn_streams.specs.Types.{Declaration}
+use Rattle.kahn_streams.specs.declared.tree.Declaration.{Declaration}
 use Rattle.kahn_check.specs.inner.Globals.{known, ArePlaced}
 use Rattle.kahn_streams.specs.Wiring.{entries}
 use Rattle.kahn_check.specs.Faults.{most_channels, channel_faults}

@@ -1,5 +1,5 @@
 use Rattle.std.proofs.Common.{◌≡◌, ◌++◌, true, [], inl, refl, string_bytes, subst}
-use Rattle.kahn_streams.specs.Types.{Program}
+use Rattle.kahn_streams.specs.declared.tree.Program.{Program}
 use Rattle.kahn_warnings.specs.Telling.{AreWarningNotes}
 use Rattle.kahn_explain.proofs.Told.{both_broke_off, both_out, explains, refused, run_answer, unanswered, warned_of}
 use Rattle.kahn_explain.proofs.explaining.explain.Goals as goal

@@ -1,5 +1,5 @@
 use Rattle.std.proofs.Common.{◌≡◌, ◌++◌, true, [], inr, refl, string_bytes, subst}
-use Rattle.kahn_streams.specs.Types.{Program}
+use Rattle.kahn_streams.specs.declared.tree.Program.{Program}
 use Rattle.kahn_warnings.specs.Telling.{AreWarningNotes}
 use Rattle.kahn_explain.proofs.Reports.{refused_report, told_report, warned_report}
 use Rattle.kahn_explain.proofs.Told.{both_broke_off, both_out}

@@ -1,5 +1,5 @@
 use Rattle.std.proofs.Common.{◌≡◌, ◌∙◌, true, [], All, ap, inl, inr, refl, string_bytes, subst, sym}
-use Rattle.kahn_streams.specs.Types.{Program}
+use Rattle.kahn_streams.specs.declared.tree.Program.{Program}
 use Rattle.kahn_report.specs.Report.{IsLine}
 use Rattle.kahn_explain.specs.Histories.{unwatched}
 use Rattle.kahn_warnings.specs.Telling.{AreWarningNotes}

@@ -1,6 +1,6 @@
 use Rattle.std.proofs.Common.{◌≡◌, ◌++◌, Bor, map, string_bytes}
 use Rattle.std.proofs.lemmas.Result.{IfOk-weaker}
-use Rattle.kahn_streams.specs.Types.{Name}
+use Rattle.kahn_streams.specs.declared.tree.Name.{Name}
 use Rattle.kahn_hints.specs.Sight.{listed_names, sight_words}
 use Rattle.kahn_hints.proofs.Sights.{sight_joined}
 use Rattle.kahn_hints.proofs.sight.add_sight.Goals as goal

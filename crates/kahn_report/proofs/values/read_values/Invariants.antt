@@ -1,7 +1,7 @@
 -- The values so far are those of the parts so far.
 use Rattle.std.proofs.Common.{List, ◌++◌, length, drop}
 use Rattle.std.specs.List.{slice_split}
-use Rattle.kahn_streams.specs.Types.{Value}
+use Rattle.kahn_streams.specs.declared.value.Value.{Value}
 use Rattle.kahn_report.specs.Inputs.{SpellsValues, is_blank}
 use Rattle.kahn_report.proofs.values.read_values.Given as goal
 

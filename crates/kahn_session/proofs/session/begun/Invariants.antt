@@ -1,7 +1,8 @@
 -- The streams so far have.
 use Rattle.std.proofs.Common.{◌≡◌, ◌<◌, ◌++◌, ℕ, List, [], Some}
 use Rattle.std.specs.Prelude.{slice_get, slice_index_or}
-use Rattle.kahn_streams.specs.Types.{Line, Value}
+use Rattle.kahn_streams.specs.declared.value.Line.{Line}
+use Rattle.kahn_streams.specs.declared.value.Value.{Value}
 use Rattle.kahn_pool.specs.HeldRuns.{so_far}
 use Rattle.kahn_session.proofs.session.begun.Given as goal
 

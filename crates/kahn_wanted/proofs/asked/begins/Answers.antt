@@ -1,6 +1,6 @@
 use Rattle.std.proofs.Common.{List, Result, Ok, subst, sym, true, ◌≡◌}
 use Rattle.std.specs.Prelude.{IfOk}
-use Rattle.kahn_streams.specs.Types.{Program}
+use Rattle.kahn_streams.specs.declared.tree.Program.{Program}
 use Rattle.kahn_syntax.specs.declared.fault.SyntaxFault.{SyntaxFault}
 use Rattle.kahn_syntax.specs.Spans.{program_of}
 use Rattle.kahn_syntax.specs.Programs.{Spells}

@@ -1,6 +1,6 @@
 -- None of those from here on has.
 use Rattle.std.proofs.Common.{◌≡◌, ℕ, ◌≤◌, Some, length, slice_get}
-use Rattle.kahn_streams.specs.Types.{Span}
+use Rattle.kahn_streams.specs.declared.span.Span.{Span}
 use Rattle.kahn_wanted.specs.Comments.{IsSuspect}
 use Rattle.kahn_wanted.proofs.comments.last_suspect.Given as goal
 

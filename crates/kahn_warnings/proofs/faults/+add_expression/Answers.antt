@@ -2,7 +2,7 @@ use Rattle.std.proofs.Common.{rules, arith, ◌≡◌, ◌++◌, ◌∙◌, [], 
 use Rattle.std.proofs.lemmas.Grind.{common_steps}
 use Rattle.kahn_streams.specs.View.{expression_of}
 use Rattle.kahn_streams.specs.declared.tree.Form.TheViews.{the_lemmas}
-use Rattle.kahn_streams.specs.Types.{Value}
+use Rattle.kahn_streams.specs.declared.value.Value.{Value}
 use Rattle.kahn_warnings.specs.Constants.{constant_of}
 use Rattle.kahn_warnings.specs.Faults.{form_places}
 use Rattle.kahn_warnings.proofs.Placing.{level_placed, operands_placed}

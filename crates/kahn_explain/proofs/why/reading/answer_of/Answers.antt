@@ -1,5 +1,5 @@
 use Rattle.std.proofs.Common.{◌≡◌, ◌∙◌, Ok, ap, length, subst}
-use Rattle.kahn_streams.specs.Types.{Program}
+use Rattle.kahn_streams.specs.declared.tree.Program.{Program}
 use Rattle.kahn_explain.specs.Reading.{ends_told, said_lines}
 use Rattle.kahn_explain.proofs.Read.{last_lent}
 use Rattle.kahn_explain.proofs.why.reading.answer_of.Goals as goal

@@ -1,5 +1,5 @@
 use Rattle.std.proofs.Common.{◌≡◌, ◌∙◌, ◌+◌, ◌-◌, ap, length}
-use Rattle.kahn_streams.specs.Types.{Program}
+use Rattle.kahn_streams.specs.declared.tree.Program.{Program}
 use Rattle.kahn_explain.specs.Reading.{said_lines}
 use Rattle.kahn_explain.proofs.Read.{dropped, whole_drop}
 use Rattle.kahn_explain.proofs.why.reading.last_lines.Goals as goal

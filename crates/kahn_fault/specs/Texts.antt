@@ -6,7 +6,7 @@ use Rattle.kahn_report.specs.Inputs.{most_input_bytes}
 use Rattle.kahn_report.specs.Reading.{IsReadFault}
 use Rattle.kahn_fault.specs.declared.fault.Fault.{Fault}
 use Rattle.kahn_fault.specs.declared.fault.Fault.TheVariants.{Open, Program, InputText, Work}
-use Rattle.kahn_texts.specs.declared.texts.Texts.{Texts}
+use Rattle.kahn_fault.specs.declared.texts.Texts.{Texts}
 
 -- the most bytes of a program text
 abbrev pub most_program_bytes : ℕ

@@ -3,9 +3,10 @@
 ghost use Rattle.std.specs.Prelude.{◌≡◌};
 ghost use Rattle.kahn_fault.specs.Status.{status_of};
 ghost use Rattle.kahn_write.specs.Written.{Writes};
-ghost use Rattle.kahn_texts.specs.Telling.{told_text};
+ghost use Rattle.kahn_fault.specs.Telling.{told_text};
 
-use kahn_fault::{Fault, fault_line, status};
+use crate::fault::{Fault, status};
+use crate::message::fault_line;
 use kahn_pool::Verdict;
 use kahn_report::WriteFault;
 use std::io::Write;

@@ -3,9 +3,9 @@
 ghost use Rattle.std.specs.Prelude.{◌≡◌, ◌≤◌, IfOk, MatchResult, None, [], length, string_bytes};
 ghost use Rattle.kahn_report.specs.Reading.{GivesAll};
 ghost use Rattle.kahn_report.specs.Inputs.{most_input_bytes};
-ghost use Rattle.kahn_texts.specs.Texts.{most_program_bytes, AreWithin, IsOfProgram, IsOfInput, IsOfTexts, StandsForProgram, StandsForInput};
+ghost use Rattle.kahn_fault.specs.Texts.{most_program_bytes, AreWithin, IsOfProgram, IsOfInput, IsOfTexts, StandsForProgram, StandsForInput};
 
-use kahn_fault::Fault;
+use crate::fault::Fault;
 use kahn_report::read_text;
 use std::alloc::Global;
 use std::fs;
