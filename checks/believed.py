@@ -65,11 +65,12 @@ def definitions(text):
         if not line.strip() or re.match(r"\s*(--|(abbrev )?mutual$|module _)|(pub )?(use|mod) ", line):
             continue
         found, indent = DEFINED.match(line), len(line) - len(line.lstrip())
-        part = re.match(r"\s*(?:pub )?([\w'-]+) :", line)
+        parts_of = re.match(r"\s*(?:pub )?((?:[\w'-]+ )+):", line)
         if found and not (block and indent > deep):
             name, deep, block = found.group(2), indent, bool(found.group(1))
-        elif block and indent > deep and part:
-            inside.setdefault(part.group(1), name)
+        elif block and indent > deep and parts_of:
+            for part in parts_of.group(1).split():
+                inside.setdefault(part, name)
         if name:
             held.setdefault(name, []).append(line)
     return held, inside

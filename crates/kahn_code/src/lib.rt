@@ -14,6 +14,7 @@ mod listing;
 mod machine;
 mod opening;
 mod past;
+mod place;
 mod plain;
 mod ports;
 mod pouring;

@@ -33,8 +33,8 @@ use Rattle.kahn_syntax.specs.Lexemes as terminal
 use Rattle.kahn_syntax.specs.declared.lexeme.Keyword.TheVariants as keyword
 use Rattle.kahn_syntax.specs.declared.lexeme.Sign.TheVariants as mark
 use Rattle.kahn_syntax.specs.Texts.{IsFault, IsNothing, IsOther, IsTooDeep, StandsAt, IsProgram, IsTextFault}
-use Rattle.kahn_syntax.specs.Spans.{NamesSpan, GroupsSpan, TogethersSpan, parameter_with, variable_with, RoleSpans, DirectionSpans, DeclarationsSpan, ArgumentSpans, ArgumentsSpan, InstanceSpans, InstancesSpan, ProcessSpans, Takes, NameSpans, GroupSpans}
-use Rattle.kahn_syntax.specs.Programs.{Further, Grouped, group, all_members}
+use Rattle.kahn_syntax.specs.Spans.{lexemes, parameter_with, variable_with, DeclarationSpans, ArgumentSpans, InstanceSpans, InstancesSpan, ProcessSpans, Takes, NameSpans}
+use Rattle.kahn_syntax.specs.Programs.{Between, Ended, Further, Grouped, group, all_members, role_words, taking_words, SomeNames, ParameterGroup, TakesAll, VariableGroup}
 use Rattle.kahn_check.specs.declared.fault.CheckFault.{CheckFault}
 use Rattle.kahn_check.specs.declared.fault.CheckFault.TheVariants as checked
 use Rattle.kahn_check.specs.Faults.{wrong, too_many, repeated, twice, process_faults, channel_faults, declaration_faults, overtaken, misplaced, argument_faults, arguments_faults, miscounted, made_faults, instance_faults, missing, side_faults, sides_faults, faults, most_channels, most_instances, verdict}
@@ -65,7 +65,7 @@ further_names text (n ∷ ns) xs r (a, b, comma, name, k) all =
     let j = further_names text ns b r k i.1 in
     (j.0, (i.0, j.1))
 
-names_in : (text : List ℕ) (ns : List Name) (xs r : List Lexeme) → NamesSpan text ns xs r → AllIn text xs → AllIn text r × AreNames text ns
+names_in : (text : List ℕ) (ns : List Name) (xs r : List Lexeme) → SomeNames (lexemes text) ns xs r → AllIn text xs → AllIn text r × AreNames text ns
 names_in text [] xs r h all = absurd h
 names_in text (n ∷ ns) xs r (a, name, k) all =
     let i = named text n xs a name all in
@@ -100,41 +100,41 @@ together_named : (text : List ℕ) (t : Kind) (ns : List Name) (gs : List OneVar
 together_named text t [] gs h k = k
 together_named text t (n ∷ ns) gs (l, h) k = (l, together_named text t ns gs h k)
 
-direction_past : (text : List ℕ) (t : Taking) (xs r : List Lexeme) → DirectionSpans text t xs r → AllIn text xs → AllIn text r
-direction_past text (T.Channel In k) xs r h all = past text _ xs r h all
-direction_past text (T.Channel Out k) xs r h all = past text _ xs r h all
-direction_past text (T.Value k) xs r e all = subst (AllIn text) e all
+all_past : (text : List ℕ) (ks : List Terminal) (xs r : List Lexeme) → TakesAll (lexemes text) ks xs r → AllIn text xs → AllIn text r
+all_past text [] xs r e all = subst (AllIn text) e all
+all_past text (k ∷ ks) xs r (a, h, further) all = all_past text ks a r further (past text k xs a h all)
 
-further_groups : (text : List ℕ) (gs : List (Grouped Taking Name)) (xs r : List Lexeme) → Further (Takes text (terminal.sign mark.Semicolon)) (GroupSpans text) gs xs r → AllIn text xs →
+further_groups : (text : List ℕ) (gs : List (Grouped Taking Name)) (xs r : List Lexeme) → Further (Takes text (terminal.sign mark.Semicolon)) (ParameterGroup (lexemes text)) gs xs r → AllIn text xs →
     AllIn text r × AreNamed text (map as_local (all_members parameter_with gs))
 further_groups text [] xs r e all = (subst (AllIn text) e all, tt)
-further_groups text (group t ns ∷ gs) xs r (a, b, semicolon, (c, d, kind, direction, names), k) all =
-    let i = names_in text ns d b names (direction_past text t c d direction (past text _ a c kind (past text _ xs a semicolon all))) in
+further_groups text (group t ns ∷ gs) xs r (a, b, semicolon, (c, taken, names), k) all =
+    let i = names_in text ns c b names (all_past text (taking_words t []) a c taken (past text _ xs a semicolon all)) in
     let j = further_groups text gs b r k i.0 in
     (j.0, group_named text t ns (all_members parameter_with gs) i.1 j.1)
 
-groups_in : (text : List ℕ) (gs : List (Grouped Taking Name)) (xs r : List Lexeme) → GroupsSpan text gs xs r → AllIn text xs →
+groups_in : (text : List ℕ) (gs : List (Grouped Taking Name)) (xs r : List Lexeme) → Between (Takes text (terminal.sign mark.Semicolon)) (ParameterGroup (lexemes text)) gs xs r → AllIn text xs →
     AllIn text r × AreNamed text (map as_local (all_members parameter_with gs))
 groups_in text [] xs r e all = (subst (AllIn text) e all, tt)
-groups_in text (group t ns ∷ gs) xs r (a, (c, d, kind, direction, names), k) all =
-    let i = names_in text ns d a names (direction_past text t c d direction (past text _ xs c kind all)) in
+groups_in text (group t ns ∷ gs) xs r (a, (c, taken, names), k) all =
+    let i = names_in text ns c a names (all_past text (taking_words t []) xs c taken all) in
     let j = further_groups text gs a r k i.0 in
     (j.0, group_named text t ns (all_members parameter_with gs) i.1 j.1)
 
-togethers_in : (text : List ℕ) (ts : List (Grouped Kind Name)) (xs r : List Lexeme) → TogethersSpan text ts xs r → AllIn text xs →
+togethers_in : (text : List ℕ) (ts : List (Grouped Kind Name)) (xs r : List Lexeme) → Ended (Takes text (terminal.sign mark.Semicolon)) (VariableGroup (lexemes text)) ts xs r → AllIn text xs →
     AllIn text r × AreNamed text (map as_value (all_members variable_with ts))
 togethers_in text [] xs r e all = (subst (AllIn text) e all, tt)
-togethers_in text (group t ns ∷ ts) xs r (a, (c, d, kind, names, semicolon), k) all =
-    let i = names_in text ns c d names (past text _ xs c kind all) in
-    let j = togethers_in text ts a r k (past text _ d a semicolon i.0) in
+togethers_in text (group t ns ∷ ts) xs r (a, b, (c, kind, names), semicolon, k) all =
+    let i = names_in text ns c a names (past text _ xs c kind all) in
+    let j = togethers_in text ts b r k (past text _ a b semicolon i.0) in
     (j.0, together_named text t ns (all_members variable_with ts) i.1 j.1)
 
 process_in : (text : List ℕ) (p : Process) (xs r : List Lexeme) → ProcessSpans text p xs r → AllIn text xs →
     AllIn text r × LiesIn text p.name.span × ArePlaces text (process_faults p)
-process_in text p xs r (a, b, c, d, e, begins, name, (f, g, h, o, opened, parameters, closed, parted, begun), variables, statements, ended) all =
+process_in text p xs r (a, b, c, d, e, begins, name, (f, g, opened, parameters, closed), variables, (statements, some, formed), ended) all =
     let i = named text p.name a b name (past text _ xs a begins all) in
     let j = groups_in text parameters.0 f g parameters.2 (past text _ b f opened i.1) in
-    let k = togethers_in text variables.0 c d variables.2 (past text _ o c begun (past text _ h o parted (past text _ g h closed j.0))) in
+    let head = terminal.sign mark.Close ∷ terminal.sign mark.Semicolon ∷ terminal.word keyword.Begin ∷ [] in
+    let k = togethers_in text variables.0 c d variables.2 (all_past text head g c closed j.0) in
     let l = body_in text p.statements.items d e statements k.0 in
     let locals = named_both text (map as_local p.parameters.items) (map as_value p.variables.items)
     (subst (λ ps. AreNamed text (map as_local ps)) (sym parameters.1) j.1) (subst (λ vs. AreNamed text (map as_value vs)) (sym variables.1) k.1) in
@@ -155,16 +155,11 @@ channels_named : (text : List ℕ) (kind : Kind) (r : Role) (ns : List Name) (re
 channels_named text kind r [] rest h k = k
 channels_named text kind r (n ∷ ns) rest (l, h) k = (l, channels_named text kind r ns rest h k)
 
-role_past : (text : List ℕ) (o : Role) (xs r : List Lexeme) → RoleSpans text o xs r → AllIn text xs → AllIn text r
-role_past text role.Inner xs r e all = subst (AllIn text) e all
-role_past text role.Input xs r h all = past text _ xs r h all
-role_past text role.Output xs r h all = past text _ xs r h all
-
-declarations_in : (text : List ℕ) (ds : List Declaration) (xs r : List Lexeme) → DeclarationsSpan text ds xs r → AllIn text xs →
+declarations_in : (text : List ℕ) (ds : List Declaration) (xs r : List Lexeme) → Ended (Takes text (terminal.sign mark.Semicolon)) (DeclarationSpans text) ds xs r → AllIn text xs →
     AllIn text r × ((known : List (List ℕ × Global)) (n : ℕ) → ArePlaces text (declaration_faults known n ds)) × AreNamed text (declared_channels ds)
 declarations_in text [] xs r e all = (subst (AllIn text) e all, (λ known n. tt), tt)
 declarations_in text (D.Channels kind o ns ∷ ds) xs r (a, b, (c, d, e, k, role', word, names), semicolon, h) all =
-    let i = names_in text ns.items e a names (past text _ d e word (role_past text o c d role' (past text _ xs c k all))) in
+    let i = names_in text ns.items e a names (past text _ d e word (all_past text (role_words o []) c d role' (past text _ xs c k all))) in
     let j = declarations_in text ds b r h (past text _ a b semicolon i.0) in (
       j.0,
       (λ known n. both text (channel_faults known n kind o ns.items) _ (channels_in text known n kind o ns.items i.1)
@@ -207,7 +202,7 @@ further_arguments text (y ∷ ys) xs r (a, b, comma, h, k) all =
     let j = further_arguments text ys b r k i.0 in
     (j.0, (i.1, j.1))
 
-arguments_in : (text : List ℕ) (ys : List Argument) (xs r : List Lexeme) → ArgumentsSpan text ys xs r → AllIn text xs → AllIn text r × AreArguments text ys
+arguments_in : (text : List ℕ) (ys : List Argument) (xs r : List Lexeme) → Between (Takes text (terminal.sign mark.Comma)) (ArgumentSpans text) ys xs r → AllIn text xs → AllIn text r × AreArguments text ys
 arguments_in text [] xs r e all = (subst (AllIn text) e all, tt)
 arguments_in text (y ∷ ys) xs r (a, h, k) all =
     let i = argument_in text y xs a h all in
@@ -306,7 +301,7 @@ sides_in text t (c ∷ cs) (l, h) = both text (side_faults t c.0 c.1.1) _ (side_
 -- ---- the whole program
 
 pub program_in : (text : List ℕ) (t : Program) → IsProgram text t → ArePlaces text (faults t)
-program_in text t (xs, lexemes, spelled, (a, b, c, d, e, begin, declarations, instances, part, end, parted)) =
+program_in text t (xs, lexemes, (a, b, c, d, e, begin, declarations, instances, part, end, parted)) =
     let i = declarations_in text t.declarations.items a b declarations (past text _ xs a begin (lexed_in text 0 (length text) xs lexemes.1)) in
     let j = instances_in text t.instances.items b c instances i.0 in
     both text (declaration_faults [] 0 t.declarations.items) _ (i.1 [] 0)
@@ -320,12 +315,12 @@ longest_in text at h = (omega (arith, form_on text at.from at.to h.form, h.insid
 
 lexical_in : (text : List ℕ) (e : SyntaxFault) → IsLexFault text e → IsSyntaxPlace text e
 lexical_in text syntax.TooLong h = tt
-lexical_in text (syntax.BadCharacter at) (reached, (character, blank, form)) = (character.1.0, character.2.0)
-lexical_in text (syntax.NumberTooLarge at) (reached, (longest, run, large)) = longest_in text at longest
-lexical_in text (syntax.CommentOpen at) (reached, (longest, word, open')) = longest_in text at longest
-lexical_in text (syntax.NameTooLong at) (reached, (longest, word, long)) = longest_in text at longest
-lexical_in text (syntax.Expected at w) h = absurd h
-lexical_in text (syntax.TooDeep at) h = absurd h
+lexical_in text (syntax.BadCharacter at) (a, reached, (same, (character, blank, form))) = (character.1.0, character.2.0)
+lexical_in text (syntax.NumberTooLarge at) (a, reached, (same, (longest, run, large))) = longest_in text at longest
+lexical_in text (syntax.CommentOpen at) (a, reached, (same, (longest, word, open'))) = longest_in text at longest
+lexical_in text (syntax.NameTooLong at) (a, reached, (same, (longest, word, long))) = longest_in text at longest
+lexical_in text (syntax.Expected at w) h = absurd h.2
+lexical_in text (syntax.TooDeep at) h = absurd h.2
 lexical_in text syntax.NoMemory h = tt
 
 stands_in : (text : List ℕ) (xs : List Lexeme) (at : Span) (P : List Terminal → Terminal → Type 0) → StandsAt text xs at P → AllIn text xs → LiesIn text at

@@ -21,7 +21,7 @@ use Rattle.kahn_streams.specs.View.{Scope, place_of, expr_of, level_of, stmt_of,
 use Rattle.kahn_streams.specs.Network.{Actual, Reads, Writes, Hands, Instance, Network, idle, channels_of, process_of, actual_of, actuals_of, instance_from, network_of}
 use Rattle.kahn_syntax.specs.Trees.{ExpressionTree, number, truth, variable, wait, negation, denial, bracket, level, conditional, OperandTrees, no_operand, operand, StatementTree, empty, assign, send, print, block, if_then, if_else, while_do, repeat, StatementTrees, no_statement, statement}
 use Rattle.kahn_syntax.specs.Programs as whole
-use Rattle.kahn_syntax.specs.Programs.{ParameterTree, VariableTree, DeclarationTree, ArgumentTree, InstanceTree, ProgramTree}
+use Rattle.kahn_syntax.specs.Programs.{DeclarationTree, ArgumentTree, InstanceTree, ProgramTree}
 use Rattle.kahn_syntax.specs.Spans.{name_of, form_of, operands_row, action_of, statements_row, statements_of, parameter_of, variable_of, declaration_of, argument_of, instance_of, program_of}
 
 -- ---- expressions and statements of a tree
@@ -97,14 +97,14 @@ same_body names (s ∷ ss) = rw (same_stmt names s.action, same_body names ss) r
 
 -- ---- the network of a tree
 
-abbrev parameter_name : ParameterTree → List ℕ
-parameter_name (whole.parameter t n) = n
+abbrev parameter_name : Taking × List ℕ → List ℕ
+parameter_name (t, n) = n
 
-abbrev variable_name : VariableTree → List ℕ
-variable_name (whole.variable k n) = n
+abbrev variable_name : Kind × List ℕ → List ℕ
+variable_name (k, n) = n
 
-abbrev variable_kind : VariableTree → Kind
-variable_kind (whole.variable k n) = k
+abbrev variable_kind : Kind × List ℕ → Kind
+variable_kind (k, n) = k
 
 abbrev actual_in : Scope → Taking → ArgumentTree → Actual
 actual_in channels (taking.Channel In k) (whole.channel n) = Reads (place_of channels n)
@@ -113,12 +113,12 @@ actual_in channels (taking.Value k) (whole.channel n) = Hands (S.Number (pos 0))
 actual_in channels w (whole.number z) = Hands (S.Number z)
 actual_in channels w (whole.truth b) = Hands (S.Truth b)
 
-abbrev actuals_in : Scope → List ParameterTree → List ArgumentTree → List Actual
+abbrev actuals_in : Scope → List (Taking × List ℕ) → List ArgumentTree → List Actual
 actuals_in channels [] xs = []
 actuals_in channels (q ∷ qs) [] = []
-actuals_in channels (whole.parameter t n ∷ qs) (x ∷ xs) = actual_in channels t x ∷ actuals_in channels qs xs
+actuals_in channels ((t, n) ∷ qs) (x ∷ xs) = actual_in channels t x ∷ actuals_in channels qs xs
 
-abbrev process_in : Scope → List ParameterTree → List VariableTree → StatementTrees → List ArgumentTree → Instance
+abbrev process_in : Scope → List (Taking × List ℕ) → List (Kind × List ℕ) → StatementTrees → List ArgumentTree → Instance
 process_in channels ps vs ss xs = record {
   actuals = actuals_in channels ps xs;
   variables = map variable_kind vs;

@@ -22,6 +22,7 @@ use Rattle.kahn_syntax.specs.Lexemes.{terminals}
 use Rattle.kahn_syntax.specs.Texts.{IsProgram}
 use Rattle.kahn_syntax.proofs.OneTree.{one_tree}
 use Rattle.kahn_syntax.proofs.OneList.{same_lexemes}
+use Rattle.kahn_syntax.proofs.Spelled.{program_spelled}
 use Rattle.kahn_streams.specs.Solution.{Inputs}
 use Rattle.kahn_streams.specs.Inputs.{inputs_of}
 use Rattle.kahn_streams.specs.declared.value.Line.TheVariants.{Channel, Print}
@@ -47,7 +48,8 @@ use Rattle.kahn_report.proofs.Same_inputs.{one_list, one_input}
 one_program : (text : List ℕ) (t u : Program) → IsProgram text t → IsProgram text u → program_of t ≡ program_of u
 one_program text t u h g =
     let same : g.0 ≡ h.0 = same_lexemes text 0 (length text) g.0 h.0 g.1.1 h.1.1 in
-    one_tree (program_of t) (program_of u) (terminals text h.0) h.2 (subst (λ (l : List Lexeme). Spells (program_of u) (terminals text l)) same g.2)
+    one_tree (program_of t) (program_of u) (terminals text h.0) (program_spelled text t h.0 h.2)
+    (subst (λ (l : List Lexeme). Spells (program_of u) (terminals text l)) same (program_spelled text u g.0 g.2))
 
 -- ---- the channel that is watched
 

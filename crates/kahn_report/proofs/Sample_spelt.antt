@@ -4,8 +4,6 @@ use Rattle.kahn_streams.specs.declared.tree.Kind.TheVariants as kind
 use Rattle.kahn_streams.specs.declared.tree.Role.TheVariants as role
 use Rattle.kahn_streams.specs.declared.tree.Direction.TheVariants as direction
 use Rattle.kahn_streams.specs.declared.tree.Taking.TheVariants as taking
-use Rattle.kahn_streams.specs.declared.tree.Kind.{Kind}
-use Rattle.kahn_streams.specs.declared.tree.Taking.{Taking}
 use Rattle.kahn_streams.specs.declared.tree.Program.{Program}
 use Rattle.kahn_streams.specs.Network.{network_of}
 use Rattle.kahn_syntax.specs.Spans.{program_of}
@@ -13,11 +11,12 @@ use Rattle.kahn_syntax.specs.declared.lexeme.Keyword.TheVariants as keyword
 use Rattle.kahn_syntax.specs.declared.lexeme.Sign.TheVariants as mark
 use Rattle.kahn_syntax.specs.Lexemes.{Terminal, word, sign, name, number, terminals}
 use Rattle.kahn_syntax.specs.Texts.{IsProgram}
-use Rattle.kahn_syntax.specs.Trees.{truth, variable, wait, denial, bracket, conditional, empty, assign, send, print, block, if_else, repeat, StatementTrees, no_statement, statement, statements_words, AreSome, FormedStatements}
+use Rattle.kahn_syntax.specs.Trees.{truth, variable, wait, denial, bracket, conditional, empty, assign, send, print, block, if_else, repeat, StatementTrees, no_statement, statement}
 use Rattle.kahn_syntax.specs.Programs as whole
-use Rattle.kahn_syntax.specs.Programs.{DeclarationTree, InstanceTree, ProgramTree, ArgumentTree, groups_words, togethers_words, Spells, SpellsDeclaration, Argues, Instantiates, Instances, names_words, Grouped, group, all_members, AreGroups}
+use Rattle.kahn_syntax.specs.Programs.{DeclarationTree, InstanceTree, ProgramTree, ArgumentTree, Spells, SpellsDeclaration, Argues, Instantiates, SomeNames, SomeBetween, StandsFirst, group, spelling}
 use Rattle.kahn_syntax.proofs.OneTree.{one_tree}
 use Rattle.kahn_syntax.proofs.OneList.{same_lexemes}
+use Rattle.kahn_syntax.proofs.Spelled.{program_spelled}
 use Rattle.kahn_streams.specs.Sample.{sample_network}
 use Rattle.kahn_report.specs.SampleText.{sample_words, f_words, g_words, h_words, main_words, IsSampleText}
 use Rattle.kahn_report.proofs.Same_programs.{network_in, same_network}
@@ -31,27 +30,27 @@ begun turn = statement (assign (codes "B") (truth true)) (statement (repeat (blo
 abbrev f_tree : DeclarationTree
 f_tree =
     whole.process (codes "f")
-    (whole.parameter (taking.Channel direction.In kind.Integer) (codes "U") ∷ whole.parameter (taking.Channel direction.In kind.Integer) (codes "V")
-    ∷ whole.parameter (taking.Channel direction.Out kind.Integer) (codes "W") ∷ [])
-    (whole.variable kind.Integer (codes "I") ∷ whole.variable kind.Logical (codes "B") ∷ [])
+    ((taking.Channel direction.In kind.Integer, codes "U") ∷ (taking.Channel direction.In kind.Integer, codes "V")
+    ∷ (taking.Channel direction.Out kind.Integer, codes "W") ∷ [])
+    ((kind.Integer, codes "I") ∷ (kind.Logical, codes "B") ∷ [])
     (begun (statement (assign (codes "I") (conditional (variable (codes "B")) (wait (codes "U")) (wait (codes "V"))))
     (statement (print (bracket (variable (codes "I")))) (statement (send (variable (codes "I")) (codes "W")) last_turn))))
 
 abbrev g_tree : DeclarationTree
 g_tree =
     whole.process (codes "g")
-    (whole.parameter (taking.Channel direction.In kind.Integer) (codes "U") ∷ whole.parameter (taking.Channel direction.Out kind.Integer) (codes "V")
-    ∷ whole.parameter (taking.Channel direction.Out kind.Integer) (codes "W") ∷ [])
-    (whole.variable kind.Integer (codes "I") ∷ whole.variable kind.Logical (codes "B") ∷ [])
+    ((taking.Channel direction.In kind.Integer, codes "U") ∷ (taking.Channel direction.Out kind.Integer, codes "V")
+    ∷ (taking.Channel direction.Out kind.Integer, codes "W") ∷ [])
+    ((kind.Integer, codes "I") ∷ (kind.Logical, codes "B") ∷ [])
     (begun (statement (assign (codes "I") (wait (codes "U")))
     (statement (if_else (variable (codes "B")) (send (variable (codes "I")) (codes "V")) (send (variable (codes "I")) (codes "W"))) last_turn)))
 
 abbrev h_tree : DeclarationTree
 h_tree =
     whole.process (codes "h")
-    (whole.parameter (taking.Channel direction.In kind.Integer) (codes "U") ∷ whole.parameter (taking.Channel direction.Out kind.Integer) (codes "V")
-    ∷ whole.parameter (taking.Value kind.Integer) (codes "INIT") ∷ [])
-    (whole.variable kind.Integer (codes "I") ∷ [])
+    ((taking.Channel direction.In kind.Integer, codes "U") ∷ (taking.Channel direction.Out kind.Integer, codes "V")
+    ∷ (taking.Value kind.Integer, codes "INIT") ∷ [])
+    ((kind.Integer, codes "I") ∷ [])
     (statement (send (variable (codes "INIT")) (codes "V"))
     (statement (repeat (block (statement (assign (codes "I") (wait (codes "U"))) (statement (send (variable (codes "I")) (codes "V")) (statement empty no_statement)))))
     (statement empty no_statement)))
@@ -76,72 +75,93 @@ sample_is = refl
 
 -- ---- the tree spells the words
 
-process_spelled : (n : List ℕ) (gs : List (Grouped Taking (List ℕ))) (ts : List (Grouped Kind (List ℕ))) (body : StatementTrees) (r : List Terminal) → AreGroups gs → AreGroups ts → AreSome body → FormedStatements body →
-    SpellsDeclaration (whole.process n (all_members whole.parameter gs) (all_members whole.variable ts) body)
-    (word keyword.Process ∷ name n ∷ sign mark.Open ∷ groups_words gs (sign mark.Close ∷ sign mark.Semicolon ∷ word keyword.Begin ∷ togethers_words ts (statements_words body (word keyword.End ∷ r)))) r
-process_spelled n gs ts body r groups togethers some formed = (
-  groups_words gs (sign mark.Close ∷ sign mark.Semicolon ∷ word keyword.Begin ∷ togethers_words ts (statements_words body (word keyword.End ∷ r))),
-  togethers_words ts (statements_words body (word keyword.End ∷ r)),
+f_spelled : (r : List Terminal) → SpellsDeclaration f_tree (f_words r) (sign mark.Semicolon ∷ r)
+f_spelled r = (
+  _,
+  _,
+  _,
+  _,
+  _,
   refl,
-  (gs, groups, refl, refl),
-  (ts, togethers, refl, refl),
-  some,
-  formed,
+  refl,
+  (
+    _,
+    _,
+    refl,
+    (
+      group (taking.Channel direction.In kind.Integer) (codes "U" ∷ codes "V" ∷ []) ∷ group (taking.Channel direction.Out kind.Integer) (codes "W" ∷ []) ∷ [],
+      refl,
+      (_, (_, (_, refl, (_, refl, refl)), (_, refl, (_, _, refl, refl, refl))), (_, _, refl, (_, (_, refl, (_, refl, refl)), (_, refl, refl)), refl)),
+    ),
+    (_, refl, (_, refl, (_, refl, refl))),
+  ),
+  (group kind.Integer (codes "I" ∷ []) ∷ group kind.Logical (codes "B" ∷ []) ∷ [], refl, (_, _, (_, refl, (_, refl, refl)), refl, (_, _, (_, refl, (_, refl, refl)), refl, refl))),
+  (refl, tt, (tt, ((tt, ((tt, tt, tt), (tt, (tt, ((omega arith, tt), (tt, tt)))))), (tt, tt)))),
+  refl,
 )
 
-f_spelled : (r : List Terminal) → SpellsDeclaration f_tree (f_words r) (sign mark.Semicolon ∷ r)
-f_spelled r =
-    process_spelled (codes "f")
-    (group (taking.Channel direction.In kind.Integer) (codes "U" ∷ codes "V" ∷ []) ∷ group (taking.Channel direction.Out kind.Integer) (codes "W" ∷ []) ∷ [])
-    (group kind.Integer (codes "I" ∷ []) ∷ group kind.Logical (codes "B" ∷ []) ∷ [])
-    (begun (statement (assign (codes "I") (conditional (variable (codes "B")) (wait (codes "U")) (wait (codes "V"))))
-    (statement (print (bracket (variable (codes "I")))) (statement (send (variable (codes "I")) (codes "W")) last_turn))))
-    (sign mark.Semicolon ∷ r) (tt, (tt, tt)) (tt, (tt, tt)) tt
-    (tt, ((tt, ((tt, tt, tt), (tt, (tt, ((omega arith, tt), (tt, tt)))))), (tt, tt)))
-
 g_spelled : (r : List Terminal) → SpellsDeclaration g_tree (g_words r) (sign mark.Semicolon ∷ r)
-g_spelled r =
-    process_spelled (codes "g")
-    (group (taking.Channel direction.In kind.Integer) (codes "U" ∷ []) ∷ group (taking.Channel direction.Out kind.Integer) (codes "V" ∷ codes "W" ∷ []) ∷ [])
-    (group kind.Integer (codes "I" ∷ []) ∷ group kind.Logical (codes "B" ∷ []) ∷ [])
-    (begun (statement (assign (codes "I") (wait (codes "U")))
-    (statement (if_else (variable (codes "B")) (send (variable (codes "I")) (codes "V")) (send (variable (codes "I")) (codes "W"))) last_turn)))
-    (sign mark.Semicolon ∷ r) (tt, (tt, tt)) (tt, (tt, tt)) tt
-    (tt, ((tt, (tt, ((tt, tt, tt, tt), ((omega arith, tt), (tt, tt))))), (tt, tt)))
+g_spelled r = (
+  _,
+  _,
+  _,
+  _,
+  _,
+  refl,
+  refl,
+  (
+    _,
+    _,
+    refl,
+    (
+      group (taking.Channel direction.In kind.Integer) (codes "U" ∷ []) ∷ group (taking.Channel direction.Out kind.Integer) (codes "V" ∷ codes "W" ∷ []) ∷ [],
+      refl,
+      (_, (_, (_, refl, (_, refl, refl)), (_, refl, refl)), (_, _, refl, (_, (_, refl, (_, refl, refl)), (_, refl, (_, _, refl, refl, refl))), refl)),
+    ),
+    (_, refl, (_, refl, (_, refl, refl))),
+  ),
+  (group kind.Integer (codes "I" ∷ []) ∷ group kind.Logical (codes "B" ∷ []) ∷ [], refl, (_, _, (_, refl, (_, refl, refl)), refl, (_, _, (_, refl, (_, refl, refl)), refl, refl))),
+  (refl, tt, (tt, ((tt, (tt, ((tt, tt, tt, tt), ((omega arith, tt), (tt, tt))))), (tt, tt)))),
+  refl,
+)
 
 h_spelled : (r : List Terminal) → SpellsDeclaration h_tree (h_words r) (sign mark.Semicolon ∷ r)
-h_spelled r =
-    process_spelled (codes "h")
-    (group (taking.Channel direction.In kind.Integer) (codes "U" ∷ []) ∷ group (taking.Channel direction.Out kind.Integer) (codes "V" ∷ []) ∷ group (taking.Value kind.Integer) (codes "INIT" ∷ []) ∷ [])
-    (group kind.Integer (codes "I" ∷ []) ∷ [])
-    (statement (send (variable (codes "INIT")) (codes "V"))
-    (statement (repeat (block (statement (assign (codes "I") (wait (codes "U"))) (statement (send (variable (codes "I")) (codes "V")) (statement empty no_statement)))))
-    (statement empty no_statement)))
-    (sign mark.Semicolon ∷ r) (tt, (tt, (tt, tt))) (tt, tt) tt
-    (tt, ((tt, (tt, (tt, (tt, tt)))), (tt, tt)))
+h_spelled r = (
+  _,
+  _,
+  _,
+  _,
+  _,
+  refl,
+  refl,
+  (
+    _,
+    _,
+    refl,
+    (
+      group (taking.Channel direction.In kind.Integer) (codes "U" ∷ []) ∷ group (taking.Channel direction.Out kind.Integer) (codes "V" ∷ []) ∷ group (taking.Value kind.Integer) (codes "INIT" ∷ []) ∷ [],
+      refl,
+      (
+        _,
+        (_, (_, refl, (_, refl, refl)), (_, refl, refl)),
+        (_, _, refl, (_, (_, refl, (_, refl, refl)), (_, refl, refl)), (_, _, refl, (_, (_, refl, refl), (_, refl, refl)), refl)),
+      ),
+    ),
+    (_, refl, (_, refl, (_, refl, refl))),
+  ),
+  (group kind.Integer (codes "I" ∷ []) ∷ [], refl, (_, _, (_, refl, (_, refl, refl)), refl, refl)),
+  (refl, tt, (tt, ((tt, (tt, (tt, (tt, tt)))), (tt, tt)))),
+  refl,
+)
 
 -- an instance with three arguments
 three : (n : List ℕ) (a b c : ArgumentTree) (r : List Terminal) (x y z : Terminal) → Argues a (x ∷ sign mark.Comma ∷ y ∷ sign mark.Comma ∷ z ∷ sign mark.Close ∷ r) (sign mark.Comma ∷ y ∷ sign mark.Comma ∷ z ∷ sign mark.Close ∷ r) →
     Argues b (y ∷ sign mark.Comma ∷ z ∷ sign mark.Close ∷ r) (sign mark.Comma ∷ z ∷ sign mark.Close ∷ r) → Argues c (z ∷ sign mark.Close ∷ r) (sign mark.Close ∷ r) →
     Instantiates (whole.instance n (a ∷ b ∷ c ∷ [])) (name n ∷ sign mark.Open ∷ x ∷ sign mark.Comma ∷ y ∷ sign mark.Comma ∷ z ∷ sign mark.Close ∷ r) r
-three n a b c r x y z first second third = (
-  x ∷ sign mark.Comma ∷ y ∷ sign mark.Comma ∷ z ∷ sign mark.Close ∷ r,
-  refl,
-  (
-    sign mark.Comma ∷ y ∷ sign mark.Comma ∷ z ∷ sign mark.Close ∷ r,
-    first,
-    (
-      y ∷ sign mark.Comma ∷ z ∷ sign mark.Close ∷ r,
-      sign mark.Comma ∷ z ∷ sign mark.Close ∷ r,
-      refl,
-      second,
-      (z ∷ sign mark.Close ∷ r, sign mark.Close ∷ r, refl, third, refl),
-    ),
-  ),
-)
+three n a b c r x y z first second third = (_, _, _, refl, refl, (_, first, (_, _, refl, second, (_, _, refl, third, refl))), refl)
 
 -- the instances
-main_spelled : (r : List Terminal) → Instances (instances_in sample_tree) (main_words r) r
+main_spelled : (r : List Terminal) → SomeBetween (StandsFirst (word keyword.Par)) Instantiates (instances_in sample_tree) (main_words r) r
 main_spelled r =
     let last = name (codes "h") ∷ sign mark.Open ∷ name (codes "T2") ∷ sign mark.Comma ∷ name (codes "Z") ∷ sign mark.Comma ∷ number (pos 1) ∷ sign mark.Close ∷ r in
     let third = name (codes "h") ∷ sign mark.Open ∷ name (codes "T1") ∷ sign mark.Comma ∷ name (codes "Y") ∷ sign mark.Comma ∷ number (pos 0) ∷ sign mark.Close ∷ word keyword.Par ∷ last in
@@ -171,13 +191,15 @@ sample_spelled =
     let h = h_words b in
     let g = g_words h in
     let f = f_words g in
-    let a : List Terminal = word keyword.Integer ∷ word keyword.Channel ∷ names_words (codes "X" ∷ codes "Y" ∷ codes "Z" ∷ codes "T1" ∷ codes "T2" ∷ []) (sign mark.Semicolon ∷ f) in
-    (a, b, d, d, e, refl, (f, (tt, refl), (g, f_spelled g, (h, g_spelled h, (b, h_spelled b, refl)))), main_spelled d, inr refl, refl, inl refl)
+    let names : SomeNames spelling (codes "X" ∷ codes "Y" ∷ codes "Z" ∷ codes "T1" ∷ codes "T2" ∷ [])
+    (name (codes "X") ∷ sign mark.Comma ∷ name (codes "Y") ∷ sign mark.Comma ∷ name (codes "Z") ∷ sign mark.Comma ∷ name (codes "T1") ∷ sign mark.Comma ∷ name (codes "T2") ∷ sign mark.Semicolon ∷ f)
+    (sign mark.Semicolon ∷ f) = (_, refl, (_, _, refl, refl, (_, _, refl, refl, (_, _, refl, refl, (_, _, refl, refl, refl))))) in
+    (_, b, d, d, e, refl, (_, f, (_, _, _, refl, refl, refl, names), refl, (_, g, f_spelled g, refl, (_, h, g_spelled h, refl, (_, b, h_spelled b, refl, refl)))), main_spelled d, inr refl, refl, inl refl)
 
 -- every program of the sample text has its network
 pub sample_text : (text : List ℕ) (t : Program) → IsSampleText text → IsProgram text t → network_of t ≡ sample_network
 sample_text text t s h =
     let same : s.0 ≡ h.0 = same_lexemes text 0 (length text) s.0 h.0 s.1.1 h.1.1 in
     let words : terminals text h.0 ≡ sample_words = ap (terminals text) (sym same) ∙ s.2 in
-    let tree : program_of t ≡ sample_tree = one_tree (program_of t) sample_tree sample_words (subst (Spells (program_of t)) words h.2) sample_spelled in
+    let tree : program_of t ≡ sample_tree = one_tree (program_of t) sample_tree sample_words (subst (Spells (program_of t)) words (program_spelled text t h.0 h.2)) sample_spelled in
     same_network t ∙ ap network_in tree ∙ sample_is

@@ -1,17 +1,16 @@
 -- What most proofs cite of the crates below and of specs/, passed on from one place.
-pub use Rattle.kahn_syntax.specs.Spans.{action_of, argument_of, chosen_of, declaration_of, expression_of, form_of, instance_of, name_of, operands_of, operands_row, program_of, statement_of, statements_of, statements_row, Placed, ActionSpans, ArgumentSpans, ArgumentsSpan, Covers, DeclarationSpans, DeclarationsSpan, DirectionSpans, ExpressionSpans, FormSpans, FurtherRowSpans, GroupSpans, GroupsSpan, InstanceSpans, InstancesSpan, IsPast, MayPart, NameSpans, NamesSpan, OperandRowSpans, OperandsSpan, OtherSpans, ParametersSpan, ProgramSpans, RoleSpans, StatementRowSpans, StatementSpans, StatementsSpan, Takes, TogetherSpans, TogethersSpan, VariablesSpan, taking_kind, parameter_with, variable_with}
+pub use Rattle.kahn_syntax.specs.Spans.{lexemes, action_of, argument_of, chosen_of, declaration_of, expression_of, form_of, instance_of, name_of, operands_row, program_of, statement_of, statements_of, statements_row, Placed, ActionSpans, ArgumentSpans, Covers, DeclarationSpans, ExpressionSpans, FormSpans, FurtherRowSpans, InstanceSpans, InstancesSpan, IsPast, NameSpans, OperandRowSpans, OtherSpans, ProgramSpans, StatementRowSpans, StatementSpans, StatementsSpan, Takes, parameter_with, variable_with}
 pub use Rattle.kahn_syntax.specs.Texts.{Begins, BeginsWithin, IsFault, IsNothing, IsOther, IsTooDeep, IsSentence, StandsAt, IsProgram, IsTextFault}
-pub use Rattle.kahn_syntax.specs.Lexemes.{Closes, Gap, HasBytes, HasForm, IsBadCharacter, IsBlank, IsComment, IsCommentWord, IsDigit, IsLargeNumber, IsLetter, IsLexFault, IsLongName, IsLongest, IsOfClass, IsOpenComment, IsReached, IsRun, IsSign, IsSlice, IsSpelled, IsWord, IsWordByte, Lexed, IsLexemeAt, bytes_of_sign, largest_number, letters_of, most_bytes, no_gap, then_blank, then_comment, AreProper, First, IsProper, IsUnsigned, Terminal, name, sign, terminal, terminals, word, AreLexemes}
-pub use Rattle.kahn_syntax.specs.Programs.{AreAny, AreGroups, Between, Further, Grouped, IsGroup, SomeBetween, all_members, group, members_of, Argues, ArgumentTree, Arguments, DeclarationTree, Declarations, SpellsDeclaration, InstanceTree, Instances, Instantiates, MaybeSemicolon, ParameterTree, Parameters, ProgramTree, Spells, StandsFirst, VariableTree, Variables, channel, channels, declaration_nesting, declarations_nesting, further_groups_words, further_names_words, group_words, groups_words, instance, kind_terminal, names_words, nesting, parameter, process, program, role_words, taking_words, togethers_words}
+pub use Rattle.kahn_syntax.specs.Lexemes.{Closes, Gap, HasBytes, HasForm, IsFaultAt, IsBlank, IsComment, IsCommentWord, IsDigit, IsLetter, IsLexFault, IsLongest, IsOfClass, IsReached, IsRun, IsSign, IsSlice, IsSpelled, IsWord, IsWordByte, Lexed, IsLexemeAt, bytes_of_sign, largest_number, letters_of, most_bytes, no_gap, then_blank, then_comment, AreProper, First, IsProper, IsUnsigned, Terminal, name, sign, terminal, terminals, word, AreLexemes}
+pub use Rattle.kahn_syntax.specs.Programs.{ChannelGroup, Head, OneProcess, SomeNames, ParameterGroup, Reading, TakesAll, VariableGroup, spelling, Between, Ended, Further, May, Grouped, SomeBetween, all_members, group, members_of, Argues, ArgumentTree, DeclarationTree, SpellsDeclaration, InstanceTree, Instantiates, Parameters, ProgramTree, Spells, StandsFirst, Variables, channel, channels, declaration_nesting, declarations_nesting, instance, kind_terminal, nesting, process, program, role_words, taking_words}
 pub use Rattle.kahn_syntax.specs.Names.{Action, Argument, Assign, BadCharacter, Block', Bracket', Class, CommentOpen, Conditional', Declaration, Empty, Expected, Expression, Form, Held-Action-If-2, If', Instance, Keyword, Kind, Level, Level', Lexeme, More, Name, NameTooLong, Negate', None', Not', Nothing, NumberTooLarge, OneVariable, Operand, Operator, Or, Other, Parameter, Program, Refused, Repeat', Role, Row_of-Operand, Row_of-Statement, Sign, Some', Span, Statement, Stop, Sum, SyntaxFault, Taking, Term, TooDeep, TooLong, While', end_of-Operand, end_of-Statement, more_of-Operand, more_of-Statement}
 pub use Rattle.kahn_syntax.specs.Trees.{AreSome, ExpressionTree, Formed, FormedOperands, FormedStatement, FormedStatements, IsOneOperand, IsSimple, OperandTrees, StatementTree, StatementTrees, assign, block, bracket, conditional, denial, empty, expression_nesting, expression_words, further_words, if_else, if_then, level, negation, no_operand, no_statement, number, operand, operands_nesting, operands_words, operator_terminal, print, rank, repeat, send, statement, statement_nesting, statement_words, statements_nesting, statements_words, truth, truth_terminal, variable, wait, while_do}
 pub use Rattle.kahn_syntax.specs.declared.lexeme.Class.TheVariants.{Name as NameClass, Number, Sign as SignClass, Word}
 pub use Rattle.kahn_syntax.specs.declared.lexeme.Keyword.TheVariants.{And, Begin, Channel, Div, Do, Else, End, False, If, In, Input, Integer, Logical, Mod, On, Out, Output, Par, Print, Process, Repeat, Send, Then, True, Wait, While, Not as NotWord, Or as OrWord}
 pub use Rattle.kahn_syntax.specs.declared.lexeme.Sign.TheVariants.{AtLeast, AtMost, Becomes, Close, Comma, Equal, Greater, Less, Minus, Not, Open, Plus, Semicolon, Times, Unequal}
 pub use Rattle.kahn_syntax.specs.declared.parser.cursor.Stop.TheVariants.{NoMemory}
-pub use Rattle.kahn_syntax.specs.inner.Items.{IsFaultAt}
-pub use Rattle.kahn_syntax.specs.inner.Machine.{ArgumentPart, ArgumentsPart, ArgumentsTail, DeclarationPart, DeclarationsPart, ElseTail, ExpressionPart, Fate, GroupPart, GroupsPart, GroupsTail, InstancePart, InstancesTail, LastTail, LevelPart, NamesTail, OperatorsPart, Part, ProcessPart, ProgramPart, Refuses, RolePart, Rule, SimplePart, StatementPart, StatementsTail, TakingPart, Token, TokenPart, TooFar, VariablesPart, Whole, a_kind, a_name, a_number, a_sign, a_word, an_operator, argument_rules, class_of, declaration_rules, denial_rules, either, enters, expression_rules, factor_rules, fate, followed, group_rules, leads, levels, may_end, onward, opened_by, operand_rules, operator_rules, or_rules, other_rules, process_rules, relation_rules, rules_of, simple_rules, starts, step, accepts, Rung, ands, at, denials, factors, operator_of, ors, rank_or, relations, rung_of, sums, terms, tighter, whole}
-pub use Rattle.kahn_syntax.specs.inner.Reads.{AreSound, ExpressionBefore, ExpressionRead, FitsLevel, Halts, IsAbsent, IsFormed, StopsAs, Moves, Reads, StatementRead, Stops, head_parts, level_or_first}
+pub use Rattle.kahn_syntax.specs.inner.Machine.{ArgumentPart, ArgumentsPart, ArgumentsTail, DeclarationPart, DeclarationsPart, ElseTail, ExpressionPart, Fate, GroupPart, GroupsPart, GroupsTail, InstancePart, InstancesTail, LastTail, LevelPart, NamesTail, OperatorsPart, Part, ProcessPart, ProgramPart, Refuses, RolePart, Rule, SimplePart, StatementPart, StatementsTail, TakingPart, Token, TokenPart, TooFar, VariablesPart, Whole, a_kind, a_name, a_number, a_sign, a_word, an_operator, argument_rules, class_of, declaration_rules, denial_rules, either, enters, expression_rules, factor_rules, fate, followed, group_rules, head_parts, leads, levels, may_end, onward, opened_by, operand_rules, operator_rules, or_rules, other_rules, process_rules, relation_rules, rules_of, simple_rules, starts, step, accepts, Rung, ands, at, denials, factors, operator_of, ors, rank_or, relations, rung_of, sums, terms, tighter, whole}
+pub use Rattle.kahn_syntax.specs.inner.Reads.{ExpressionBefore, ExpressionRead, FitsLevel, Halts, IsAbsent, StopsAs, Moves, Reads, StatementRead, Stops}
 pub use Rattle.kahn_streams.specs.declared.tree.Action.{items-the_row-Statement, items_hidden-the_row-Statement-0}
 pub use Rattle.kahn_streams.specs.declared.tree.Action.TheBlock.{hidden-the_row-Statement-0}
 pub use Rattle.kahn_streams.specs.declared.tree.Form.{items-the_row-Operand, items_hidden-the_row-Operand-0}
@@ -31,3 +30,18 @@ pub use Rattle.std.specs.Char.{to_ascii_lowercase}
 pub use Rattle.std.specs.Int.{IsInRange}
 pub use Rattle.std.specs.Prelude.{All, FitsSigned, IfOk, IsCharBoundary, IsUtf8, MatchResult, codes, nat_le, slice_range}
 pub use Rattle.std.specs.Str.Parse.{ParsesSigned, digits_value}
+
+-- the node of a level, or the first operand alone where there is no other
+abbrev pub level_or_first : ExpressionTree → OperandTrees → ExpressionTree
+level_or_first e no_operand = e
+level_or_first e (operand o f os) = level e (operand o f os)
+
+-- operators with their right operands that were read
+abbrev pub operands_of : List Operand → OperandTrees
+operands_of [] = no_operand
+operands_of (o ∷ os) = operand o.operator (expression_of o.expression) (operands_of os)
+
+abbrev pub OperandsSpan : List ℕ → List Operand → List Lexeme → List Lexeme → Type 0
+OperandsSpan text [] xs r = xs ≡ r
+OperandsSpan text (o ∷ os) xs r = (a b : List Lexeme) × Takes text (operator_terminal o.operator) xs a × ExpressionSpans text o.expression a b
+    × OperandsSpan text os b r

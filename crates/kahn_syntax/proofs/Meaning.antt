@@ -1,5 +1,5 @@
 -- What the fate of a list says of trees.
-use Rattle.kahn_syntax.proofs.Common.{◌≡◌, ℕ, ◌+◌, ◌≤◌, ◌<◌, List, [], ◌∷◌, ◌++◌, length, Bool, true, false, refl, sym, ap, ◌∙◌, subst, arith, ⊎_elim, append_assoc, Lexeme, Span, Stop, Refused, TooDeep, NoMemory, Terminal, terminal, terminals, ProgramTree, program, Spells, MaybeSemicolon, nesting, IsSentence, Begins, BeginsWithin, IsNothing, IsOther, IsTooDeep, StandsAt, Placed, ProgramPart, Fate, Refuses, TooFar, fate, Halts}
+use Rattle.kahn_syntax.proofs.Common.{◌≡◌, ℕ, ◌+◌, ◌≤◌, ◌<◌, List, [], ◌∷◌, ◌++◌, length, Bool, true, false, refl, sym, ap, ◌∙◌, subst, arith, ⊎_elim, append_assoc, Lexeme, Span, Stop, Refused, TooDeep, NoMemory, Semicolon, Terminal, sign, terminal, terminals, ProgramTree, program, Spells, May, StandsFirst, nesting, IsSentence, Begins, BeginsWithin, IsNothing, IsOther, IsTooDeep, StandsAt, Placed, ProgramPart, Fate, Refuses, TooFar, fate, Halts}
 use Rattle.kahn_syntax.proofs.WholePrograms.{whole_program}
 use Rattle.kahn_syntax.proofs.Viable.{Fits}
 use Rattle.kahn_syntax.proofs.Reached.{Stuck, stuck_at, short_at, Deep, deep_at, refuses_left, far_left, whole_refuses, whole_far, le_or}
@@ -14,7 +14,7 @@ terminals_length text (x ∷ xs) = omega (arith, terminals_length text xs)
 
 tree_of : (m : ℕ) (ks : List Terminal) → Fits m (ProgramPart ∷ []) ks → (t : ProgramTree) × (Spells t ks) × (nesting t ≤ m)
 tree_of m ks (ds, is, a, b, c, d, e, r, p, q, i, s, v, w, n, h) =
-    (program ds is, (a, b, c, d, e, p, q, i, s, v, subst (MaybeSemicolon e) h w), omega (arith, n))
+    (program ds is, (a, b, c, d, e, p, q, i, s, v, subst (May (StandsFirst (sign Semicolon)) e) h w), omega (arith, n))
 
 begins_of : (m : ℕ) (ks : List Terminal) → ((c : List Terminal) × Fits m (ProgramPart ∷ []) (ks ++ c)) → Begins ks
 begins_of m ks (c, h) = let t = tree_of m (ks ++ c) h in (t.0, c, t.1)

@@ -170,7 +170,7 @@ pub opened : (text : List ℕ) (d : ℕ) (g f : Rung) (i : List Lexeme) → at g
 opened text d g f i b m (Ok x) e rest h =
     record {
       spans = h.spans;
-      fits = (omega (arith, b, h.fits.0), h.fits.1);
+      formed = (omega (arith, b, h.formed.0), h.formed.1);
       nesting = h.nesting;
       shorter = h.shorter;
       proper = h.proper;
@@ -199,8 +199,7 @@ pub opened_simple : (text : List ℕ) (d : ℕ) (i : List Lexeme) → Moves text
 opened_simple text d i m (Ok x) s rest h =
     record {
       spans = h.spans;
-      formed = h.formed;
-      simple = tt;
+      formed = (h.formed.0, λ e. absurd cc);
       nesting = h.nesting;
       shorter = h.shorter;
       proper = h.proper;

@@ -1,5 +1,7 @@
 -- A text has one fault, want of memory aside.
-use Rattle.kahn_syntax.proofs.Common.{◌≡◌, ℕ, ◌<◌, ◌⊎◌, List, [], ◌∷◌, ◌++◌, length, inl, inr, refl, sym, ap, subst, ◌∙◌, arith, append_assoc, append-nil, Span, Lexeme, SyntaxFault, TooLong, BadCharacter, NumberTooLarge, CommentOpen, NameTooLong, Expected, More, Nothing, Other, IsLongest, IsBadCharacter, IsLargeNumber, IsOpenComment, IsLongName, IsReached, IsLexFault, most_bytes, IsFaultAt, Terminal, terminal, terminals, Spells, Begins, BeginsWithin, IsNothing, IsOther, IsTooDeep, IsFault, AreLexemes, IsTextFault}
+use Rattle.kahn_syntax.specs.Lexemes.{IsCharacter}
+use Rattle.std.specs.Prelude.{slice_index}
+use Rattle.kahn_syntax.proofs.Common.{◌+◌, ◌≤◌, IsBlank, IsRun, IsWord, IsCommentWord, HasForm, largest_number, digits_value, slice_range, ◌≡◌, ℕ, ◌<◌, ◌⊎◌, List, [], ◌∷◌, ◌++◌, length, inl, inr, refl, sym, ap, subst, ◌∙◌, arith, append_assoc, append-nil, Span, Lexeme, SyntaxFault, TooLong, BadCharacter, NumberTooLarge, CommentOpen, NameTooLong, Expected, More, Nothing, Other, IsLongest, IsReached, IsLexFault, most_bytes, IsFaultAt, Terminal, terminal, terminals, Spells, Begins, BeginsWithin, IsNothing, IsOther, IsTooDeep, IsFault, AreLexemes, IsTextFault}
 use Rattle.kahn_syntax.specs.declared.fault.SyntaxFault.TheVariants.{TooDeep, NoMemory}
 use Rattle.kahn_syntax.proofs.Meaning.{terminals_append}
 use Rattle.kahn_syntax.proofs.NoList.{no_list, fault_inside, long_comment}
@@ -13,6 +15,19 @@ Agree e f = (e ≡ NoMemory) ⊎ (f ≡ NoMemory) ⊎ (e ≡ f)
 
 same_span : (a : Span) (b : Span) → a.from ≡ b.from → a.to ≡ b.to → a ≡ b
 same_span a b e f = λ i. record { from = e i; to = f i }
+
+-- the parts of a fault at its own place
+abbrev IsBadCharacter : List ℕ → Span → Type 0
+IsBadCharacter text at = IsCharacter text at × ¬ (IsBlank (slice_index text at.from)) × ((n : ℕ) → n ≤ length text → ¬ (HasForm text at.from n))
+
+abbrev IsLargeNumber : List ℕ → Span → Type 0
+IsLargeNumber text at = IsLongest text at.from at.to × IsRun text at.from at.to × (largest_number < digits_value 10 (slice_range text at.from at.to))
+
+abbrev IsOpenComment : List ℕ → Span → Type 0
+IsOpenComment text at = IsLongest text at.from at.to × IsCommentWord text at.from at.to × ((i : ℕ) → at.to ≤ i → i < length text → ¬ (slice_index text i ≡ 59))
+
+abbrev IsLongName : List ℕ → Span → Type 0
+IsLongName text at = IsLongest text at.from at.to × IsWord text at.from at.to × (at.from + 64 < at.to)
 
 -- one character of the text ends at one place
 same_character : (text : List ℕ) (a : Span) (b : Span) → a.from ≡ b.from → IsBadCharacter text a → IsBadCharacter text b → a ≡ b
@@ -83,12 +98,8 @@ data LexFault (text : List ℕ) (e : SyntaxFault) : Type 0 where
 
 lex_fault : (text : List ℕ) (e : SyntaxFault) → IsLexFault text e → LexFault text e
 lex_fault text TooLong h = too_long refl h
-lex_fault text (BadCharacter at) (r, h) = reached at.from r (refl, h)
-lex_fault text (NumberTooLarge at) (r, h) = reached at.from r (refl, h)
-lex_fault text (CommentOpen at) (r, h) = reached at.from r (refl, h)
-lex_fault text (NameTooLong at) (r, h) = reached at.from r (refl, h)
 lex_fault text NoMemory h = no_memory refl
-lex_fault text _ h = absurd h
+lex_fault text e (a, r, h) = reached a r h
 
 same_reached : (text : List ℕ) (a b : ℕ) (e f : SyntaxFault) → IsReached text a → IsFaultAt text a e → IsReached text b → IsFaultAt text b f → e ≡ f
 same_reached text a b e f r h s k = go (order a b)

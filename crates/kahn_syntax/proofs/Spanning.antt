@@ -1,6 +1,6 @@
 -- Parts of a tree that are read one after another, and the lexemes that they take.
 use Rattle.std.proofs.Common.{append-nil}
-use Rattle.kahn_syntax.proofs.Common.{◌≡◌, ℕ, List, [], ◌∷◌, ◌++◌, length, refl, sym, ap, ◌∙◌, subst, append_assoc, arith, get_or, take, drop, ◌-◌, ◌≤◌, Further, Between, SomeBetween, Grouped, group, members_of, all_members, Lexeme, Name, Operand, Statement, Kind, Taking, Parameter, Variable, Declaration, Argument, Terminal, terminal, terminals, sign, name, operator_terminal, kind_terminal, name_of, IsPast, Takes, Covers, NameSpans, ExpressionSpans, OperandsSpan, StatementSpans, GroupSpans, GroupsSpan, ParametersSpan, taking_kind, DirectionSpans, TogetherSpans, TogethersSpan, VariablesSpan, DeclarationSpans, DeclarationsSpan, ArgumentSpans, parameter_with, variable_with, NamesSpan, Comma, Semicolon}
+use Rattle.kahn_syntax.proofs.Common.{lexemes, SomeNames, ParameterGroup, VariableGroup, Parameters, Variables, ◌≡◌, ℕ, List, [], ◌∷◌, ◌++◌, length, refl, sym, ap, ◌∙◌, subst, append_assoc, arith, get_or, take, drop, ◌-◌, ◌≤◌, Further, Between, Ended, SomeBetween, Grouped, group, members_of, all_members, Lexeme, Name, Operand, Statement, Kind, Taking, Parameter, Variable, Declaration, Argument, Terminal, terminal, terminals, sign, name, operator_terminal, kind_terminal, name_of, IsPast, Takes, Covers, NameSpans, ExpressionSpans, OperandsSpan, StatementSpans, DeclarationSpans, ArgumentSpans, parameter_with, variable_with, Comma, Semicolon}
 use Rattle.kahn_syntax.proofs.Lists.{next_list}
 
 -- one lexeme has its own span
@@ -59,10 +59,6 @@ SomeStatements text ss xs r = SomeBetween (Takes text (sign Semicolon)) (Stateme
 abbrev pub SomeArgumentsSpan : List ℕ → List Argument → List Lexeme → List Lexeme → Type 0
 SomeArgumentsSpan text us xs r = SomeBetween (Takes text (sign Comma)) (ArgumentSpans text) us xs r
 
-pub group_spans : (text : List ℕ) (t : Taking) (k : Kind) (ns : List Name) (xs a b r : List Lexeme) → taking_kind t ≡ k → Takes text (kind_terminal k) xs a →
-    DirectionSpans text t a b → NamesSpan text ns b r → GroupSpans text (group t ns) xs r
-group_spans text t k ns xs a b r e p d n = (a, b, subst (λ y. Takes text (kind_terminal y) xs a) (sym e) p, d, n)
-
 all_members_more : {A N M : Type 0} (make : A → N → M) (gs : List (Grouped A N)) (g : Grouped A N) → all_members make (gs ++ g ∷ []) ≡ all_members make gs ++ members_of make g
 all_members_more make [] g = append-nil (members_of make g)
 all_members_more make (u ∷ gs) g =
@@ -70,42 +66,38 @@ all_members_more make (u ∷ gs) g =
 
 -- one group or more
 abbrev pub SomeParametersSpan : List ℕ → List Parameter → List Lexeme → List Lexeme → Type 0
-SomeParametersSpan text ps xs r = (g : Grouped Taking Name) × (gs : List (Grouped Taking Name)) × (ps ≡ all_members parameter_with (g ∷ gs)) × GroupsSpan text (g ∷ gs) xs r
+SomeParametersSpan text ps xs r = (g : Grouped Taking Name) × (gs : List (Grouped Taking Name)) × (ps ≡ all_members parameter_with (g ∷ gs)) × Between (Takes text (sign Semicolon)) (ParameterGroup (lexemes text)) (g ∷ gs) xs r
 
-pub some_are_parameters : (text : List ℕ) (ps : List Parameter) (xs r : List Lexeme) → SomeParametersSpan text ps xs r → ParametersSpan text ps xs r
+pub some_are_parameters : (text : List ℕ) (ps : List Parameter) (xs r : List Lexeme) → SomeParametersSpan text ps xs r → Parameters (lexemes text) parameter_with ps xs r
 some_are_parameters text ps xs r (g, gs, e, p) = (g ∷ gs, e, p)
 
-pub parameters_first : (text : List ℕ) (ps : List Parameter) (g : Grouped Taking Name) (xs r : List Lexeme) → ps ≡ members_of parameter_with g → GroupSpans text g xs r → SomeParametersSpan text ps xs r
+pub parameters_first : (text : List ℕ) (ps : List Parameter) (g : Grouped Taking Name) (xs r : List Lexeme) → ps ≡ members_of parameter_with g → ParameterGroup (lexemes text) g xs r → SomeParametersSpan text ps xs r
 parameters_first text ps g xs r e p = (g, [], e ∙ sym (append-nil (members_of parameter_with g)), (r, p, refl))
 
 pub parameters_next : (text : List ℕ) (ps qs : List Parameter) (g : Grouped Taking Name) (xs m k r : List Lexeme) → qs ≡ ps ++ members_of parameter_with g → SomeParametersSpan text ps xs m →
-    Takes text (sign Semicolon) m k → GroupSpans text g k r → SomeParametersSpan text qs xs r
+    Takes text (sign Semicolon) m k → ParameterGroup (lexemes text) g k r → SomeParametersSpan text qs xs r
 parameters_next text ps qs g xs m k r q (f, gs, e, (a, p', h)) t p = (
   f,
   gs ++ g ∷ [],
   q ∙ ap (λ x. x ++ members_of parameter_with g) e ∙ append_assoc (members_of parameter_with f) (all_members parameter_with gs) (members_of parameter_with g)
       ∙ ap (λ x. members_of parameter_with f ++ x) (sym (all_members_more parameter_with gs g)),
-  (a, p', further_more (Takes text (sign Semicolon)) (GroupSpans text) gs g a m k r h t p),
+  (a, p', further_more (Takes text (sign Semicolon)) (ParameterGroup (lexemes text)) gs g a m k r h t p),
 )
 
-togethers_more : (text : List ℕ) (ts : List (Grouped Kind Name)) (t : Grouped Kind Name) (xs m r : List Lexeme) → TogethersSpan text ts xs m → TogetherSpans text t m r →
-    TogethersSpan text (ts ++ t ∷ []) xs r
-togethers_more text [] t xs m r h p = (r, subst (λ y. TogetherSpans text t y r) (sym h) p, refl)
-togethers_more text (u ∷ ts) t xs m r (a, p', h) p = (a, p', togethers_more text ts t a m r h p)
+ended_more : {K X : Type 0} (T : List K → List K → Type 0) (P : X → List K → List K → Type 0) (us : List X) (x : X) (xs m k r : List K) → Ended T P us xs m →
+    P x m k → T k r → Ended T P (us ++ x ∷ []) xs r
+ended_more T P [] x xs m k r h p t = (k, r, subst (λ y. P x y k) (sym h) p, t, refl)
+ended_more T P (u ∷ us) x xs m k r (a, b, p', t', h) p t = (a, b, p', t', ended_more T P us x b m k r h p t)
 
 pub variables_next : (text : List ℕ) (vs ws : List Variable) (k : Kind) (ns : List Name) (xs m a b r : List Lexeme) → ws ≡ vs ++ members_of variable_with (group k ns) →
-    VariablesSpan text vs xs m → Takes text (kind_terminal k) m a → NamesSpan text ns a b → Takes text (sign Semicolon) b r → VariablesSpan text ws xs r
+    Variables (lexemes text) variable_with vs xs m → Takes text (kind_terminal k) m a → SomeNames (lexemes text) ns a b → Takes text (sign Semicolon) b r → Variables (lexemes text) variable_with ws xs r
 variables_next text vs ws k ns xs m a b r q (ts, e, h) p n t = (
   ts ++ group k ns ∷ [],
   q ∙ ap (λ x. x ++ members_of variable_with (group k ns)) e ∙ sym (all_members_more variable_with ts (group k ns)),
-  togethers_more text ts (group k ns) xs m r h (a, b, p, n, t),
+  ended_more (Takes text (sign Semicolon)) (VariableGroup (lexemes text)) ts (group k ns) xs m b r h (a, p, n) t,
 )
 
-declarations_more : (text : List ℕ) (ds : List Declaration) (d : Declaration) (xs m k r : List Lexeme) → DeclarationsSpan text ds xs m →
-    DeclarationSpans text d m k → Takes text (sign Semicolon) k r → DeclarationsSpan text (ds ++ d ∷ []) xs r
-declarations_more text [] d xs m k r h p t = (k, r, subst (λ y. DeclarationSpans text d y k) (sym h) p, t, refl)
-declarations_more text (u ∷ ds) d xs m k r (a, b, p', t', h) p t = (a, b, p', t', declarations_more text ds d b m k r h p t)
-
-pub declarations_next : (text : List ℕ) (ds ds' : List Declaration) (d : Declaration) (xs m k r : List Lexeme) → ds' ≡ ds ++ d ∷ [] → DeclarationsSpan text ds xs m →
-    DeclarationSpans text d m k → Takes text (sign Semicolon) k r → DeclarationsSpan text ds' xs r
-declarations_next text ds ds' d xs m k r e h p t = subst (λ ys. DeclarationsSpan text ys xs r) (sym e) (declarations_more text ds d xs m k r h p t)
+pub declarations_next : (text : List ℕ) (ds ds' : List Declaration) (d : Declaration) (xs m k r : List Lexeme) → ds' ≡ ds ++ d ∷ [] → Ended (Takes text (sign Semicolon)) (DeclarationSpans text) ds xs m →
+    DeclarationSpans text d m k → Takes text (sign Semicolon) k r → Ended (Takes text (sign Semicolon)) (DeclarationSpans text) ds' xs r
+declarations_next text ds ds' d xs m k r e h p t =
+    subst (λ ys. Ended (Takes text (sign Semicolon)) (DeclarationSpans text) ys xs r) (sym e) (ended_more (Takes text (sign Semicolon)) (DeclarationSpans text) ds d xs m k r h p t)

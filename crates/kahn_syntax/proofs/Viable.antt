@@ -1,5 +1,5 @@
 -- What is open can be completed, and what is read is the beginning of trees for it.
-use Rattle.kahn_syntax.proofs.Common.{◌<◌, ◌≡◌, ℕ, ◌+◌, ◌≤◌, ◌==◌, ℤ, pos, List, [], ◌∷◌, Bool, true, false, cond, Option, Some, None, refl, sym, ap, ◌∙◌, subst, arith, ⊎_elim, ◌⊎◌, inl, inr, true≢false, Further, Grouped, group, all_members, IsGroup, AreGroups, nat_tests, Kind, Role, Taking, Operator, Terminal, word, sign, name, ExpressionTree, number, truth, variable, wait, negation, denial, bracket, conditional, OperandTrees, no_operand, operand, StatementTree, empty, assign, send, print, block, if_then, if_else, while_do, repeat, StatementTrees, no_statement, statement, operator_terminal, rank, expression_words, operands_words, statement_words, further_words, expression_nesting, operands_nesting, statement_nesting, statements_nesting, FormedOperands, FormedStatement, FormedStatements, IsSimple, DeclarationTree, channels, process, ArgumentTree, channel, InstanceTree, instance, kind_terminal, role_words, taking_words, further_names_words, group_words, groups_words, further_groups_words, togethers_words, SpellsDeclaration, Declarations, Argues, Arguments, Instantiates, Instances, MaybeSemicolon, declaration_nesting, declarations_nesting, StandsFirst, level_or_first, Rung, whole, ors, ands, denials, relations, sums, terms, factors, at, tighter, operator_of, Token, accepts, NamesTail, StatementsTail, GroupsTail, ArgumentsTail, InstancesTail, ElseTail, LastTail, Part, ProgramPart, DeclarationsPart, DeclarationPart, ProcessPart, RolePart, GroupsPart, GroupPart, TakingPart, VariablesPart, StatementPart, SimplePart, ExpressionPart, OperatorsPart, InstancePart, ArgumentsPart, ArgumentPart, TokenPart, LevelPart, levels, may_end, step, opened_by, enters, followed, rules_of, Rule, process_rules, declaration_rules, group_rules, simple_rules, other_rules, argument_rules, factor_rules, operand_rules, relation_rules, denial_rules, or_rules, expression_rules, operator_rules, either, an_operator, rank_or, letters_of, bytes_of_sign, bytes_eq, truth_terminal, append_assoc, Keyword, Sign, ◌++◌, a_sign, a_word, a_name, a_number, And, AtLeast, AtMost, Becomes, Begin, Channel, Close, Comma, Div, Do, Else, End, Equal, False, Greater, If, Integer, Less, Logical, Minus, Mod, NotWord, On, Open, OrWord, Par, Plus, Print, Process, Repeat, Semicolon, Send, Then, Times, True, Unequal, Wait, While}
+use Rattle.kahn_syntax.proofs.Common.{SomeBetween, Between, Ended, ParameterGroup, VariableGroup, TakesAll, spelling, ◌<◌, ◌≡◌, ℕ, ◌+◌, ◌≤◌, ◌==◌, ℤ, pos, List, [], ◌∷◌, Bool, true, false, cond, Option, Some, None, refl, sym, ap, ◌∙◌, subst, arith, ⊎_elim, ◌⊎◌, inl, inr, true≢false, Further, Grouped, group, all_members, nat_tests, Kind, Role, Taking, Operator, Terminal, word, sign, name, ExpressionTree, number, truth, variable, wait, negation, denial, bracket, conditional, OperandTrees, no_operand, operand, StatementTree, empty, assign, send, print, block, if_then, if_else, while_do, repeat, StatementTrees, no_statement, statement, operator_terminal, rank, expression_words, operands_words, statement_words, further_words, expression_nesting, operands_nesting, statement_nesting, statements_nesting, FormedOperands, FormedStatement, FormedStatements, IsSimple, DeclarationTree, channels, process, ArgumentTree, channel, InstanceTree, instance, kind_terminal, role_words, taking_words, SpellsDeclaration, Argues, Instantiates, May, declaration_nesting, declarations_nesting, StandsFirst, level_or_first, Rung, whole, ors, ands, denials, relations, sums, terms, factors, at, tighter, operator_of, Token, accepts, NamesTail, StatementsTail, GroupsTail, ArgumentsTail, InstancesTail, ElseTail, LastTail, Part, ProgramPart, DeclarationsPart, DeclarationPart, ProcessPart, RolePart, GroupsPart, GroupPart, TakingPart, VariablesPart, StatementPart, SimplePart, ExpressionPart, OperatorsPart, InstancePart, ArgumentsPart, ArgumentPart, TokenPart, LevelPart, levels, may_end, step, opened_by, enters, followed, rules_of, Rule, process_rules, declaration_rules, group_rules, simple_rules, other_rules, argument_rules, factor_rules, operand_rules, relation_rules, denial_rules, or_rules, expression_rules, operator_rules, either, an_operator, rank_or, letters_of, bytes_of_sign, bytes_eq, truth_terminal, append_assoc, Keyword, Sign, ◌++◌, a_sign, a_word, a_name, a_number, And, AtLeast, AtMost, Becomes, Begin, Close, Comma, Div, Do, Else, End, Equal, False, Greater, If, Integer, Less, Logical, Minus, Mod, NotWord, On, Open, OrWord, Par, Plus, Print, Repeat, Semicolon, Send, Then, Times, True, Unequal, Wait, While}
 use Rattle.std.specs.Prelude.{◌||◌}
 use Rattle.std.specs.Prelude.{neg_ℤ}
 use Rattle.kahn_streams.specs.declared.tree.Kind.TheVariants as kind
@@ -53,30 +53,30 @@ Operands g l m os ks r = (ks ≡ operands_words os r) × FormedOperands (at g) o
 abbrev pub Fits : ℕ → List Part → Lists
 Fits m [] ks = ks ≡ []
 Fits m (ProgramPart ∷ s) ks = (ds : List DeclarationTree) × (is : List InstanceTree) × (a : List Terminal) × (b : List Terminal) × (c : List Terminal) × (d : List Terminal) × (e : List Terminal)
-    × (r : List Terminal) × (ks ≡ word Begin ∷ a) × Declarations ds a b × Instances is b c × MaybeSemicolon c d × (d ≡ word End ∷ e) × MaybeSemicolon e r
+    × (r : List Terminal) × (ks ≡ word Begin ∷ a) × Ended (StandsFirst (sign Semicolon)) SpellsDeclaration ds a b × SomeBetween (StandsFirst (word Par)) Instantiates is b c × May (StandsFirst (sign Semicolon)) c d × (d ≡ word End ∷ e) × May (StandsFirst (sign Semicolon)) e r
     × (levels s + declarations_nesting ds ≤ m) × Fits m s r
-Fits m (DeclarationsPart ∷ s) ks = Via (List DeclarationTree) (λ ds x r. Declarations ds x r × (levels s + declarations_nesting ds ≤ m)) (Fits m s) ks
+Fits m (DeclarationsPart ∷ s) ks = Via (List DeclarationTree) (λ ds x r. Ended (StandsFirst (sign Semicolon)) SpellsDeclaration ds x r × (levels s + declarations_nesting ds ≤ m)) (Fits m s) ks
 Fits m (DeclarationPart ∷ s) ks = Via DeclarationTree (λ d x r. SpellsDeclaration d x r × (levels s + declaration_nesting d ≤ m)) (Fits m s) ks
 Fits m (ProcessPart ∷ s) ks = Via DeclarationTree (λ d x r. SpellsDeclaration d x r × (levels s + declaration_nesting d ≤ m)) (Fits m s) ks
-Fits m (RolePart ∷ s) ks = Via Role (λ o x r. x ≡ role_words o r) (Fits m s) ks
-Fits m (GroupsPart ∷ s) ks = Via (List (Grouped Taking (List ℕ))) (λ gs x r. AreGroups gs × (x ≡ groups_words gs r)) (Fits m s) ks
-Fits m (GroupPart ∷ s) ks = Via (Grouped Taking (List ℕ)) (λ g x r. IsGroup g × (x ≡ group_words g r)) (Fits m s) ks
-Fits m (TakingPart ∷ s) ks = Via (Kind → Taking) (λ f x r. (k : Kind) → kind_terminal k ∷ x ≡ taking_words (f k) r) (Fits m s) ks
-Fits m (VariablesPart ∷ s) ks = Via (List (Grouped Kind (List ℕ))) (λ ts x r. AreGroups ts × (x ≡ togethers_words ts r)) (Fits m s) ks
+Fits m (RolePart ∷ s) ks = Via Role (λ o x r. TakesAll spelling (role_words o []) x r) (Fits m s) ks
+Fits m (GroupsPart ∷ s) ks = Via (List (Grouped Taking (List ℕ))) (Between (StandsFirst (sign Semicolon)) (ParameterGroup spelling)) (Fits m s) ks
+Fits m (GroupPart ∷ s) ks = Via (Grouped Taking (List ℕ)) (ParameterGroup spelling) (Fits m s) ks
+Fits m (TakingPart ∷ s) ks = Via (Kind → Taking) (λ f x r. (k : Kind) (xs : List Terminal) → xs ≡ kind_terminal k ∷ x → TakesAll spelling (taking_words (f k) []) xs r) (Fits m s) ks
+Fits m (VariablesPart ∷ s) ks = Via (List (Grouped Kind (List ℕ))) (Ended (StandsFirst (sign Semicolon)) (VariableGroup spelling)) (Fits m s) ks
 Fits m (StatementPart ∷ s) ks = Via StatementTree (Statement (levels s) m) (Fits m s) ks
 Fits m (SimplePart ∷ s) ks = Via StatementTree (Simple (levels s) m) (Fits m s) ks
 Fits m (ExpressionPart l ∷ s) ks = Via ExpressionTree (Expression l (levels s) m) (Fits m s) ks
 Fits m (OperatorsPart l ∷ s) ks = Via OperandTrees (Operands l (levels s) m) (Fits m s) ks
 Fits m (InstancePart ∷ s) ks = Via InstanceTree Instantiates (Fits m s) ks
-Fits m (ArgumentsPart ∷ s) ks = Via (List ArgumentTree) (λ xs x r. Arguments xs x (sign Close ∷ r)) (Fits m s) ks
+Fits m (ArgumentsPart ∷ s) ks = Via (List ArgumentTree) (λ xs x r. Between (StandsFirst (sign Comma)) Argues xs x (sign Close ∷ r)) (Fits m s) ks
 Fits m (ArgumentPart ∷ s) ks = Via ArgumentTree Argues (Fits m s) ks
-Fits m (NamesTail ∷ s) ks = Via (List (List ℕ)) (λ ns x r. x ≡ further_names_words ns r) (Fits m s) ks
+Fits m (NamesTail ∷ s) ks = Via (List (List ℕ)) (Further (StandsFirst (sign Comma)) spelling.named) (Fits m s) ks
 Fits m (StatementsTail ∷ s) ks = Via StatementTrees (FurtherStatements (levels s) m) (Fits m s) ks
-Fits m (GroupsTail ∷ s) ks = Via (List (Grouped Taking (List ℕ))) (λ gs x r. AreGroups gs × (x ≡ further_groups_words gs r)) (Fits m s) ks
+Fits m (GroupsTail ∷ s) ks = Via (List (Grouped Taking (List ℕ))) (Further (StandsFirst (sign Semicolon)) (ParameterGroup spelling)) (Fits m s) ks
 Fits m (ArgumentsTail ∷ s) ks = Via (List ArgumentTree) (Further (StandsFirst (sign Comma)) Argues) (Fits m s) ks
 Fits m (InstancesTail ∷ s) ks = Via (List InstanceTree) (Further (StandsFirst (word Par)) Instantiates) (Fits m s) ks
 Fits m (ElseTail ∷ s) ks = Fits m s ks ⊎ Via StatementTree (λ t x r. (x ≡ word Else ∷ statement_words t r) × FormedStatement t × (levels s + statement_nesting t ≤ m)) (Fits m s) ks
-Fits m (LastTail ∷ s) ks = (r : List Terminal) × MaybeSemicolon ks r × Fits m s r
+Fits m (LastTail ∷ s) ks = (r : List Terminal) × May (StandsFirst (sign Semicolon)) ks r × Fits m s r
 Fits m (TokenPart t ∷ s) ks = One t (Fits m s) ks
 Fits m (LevelPart ∷ s) ks = Fits m s ks
 
@@ -84,15 +84,15 @@ Fits m (LevelPart ∷ s) ks = Fits m s ks
 skip : (p : Part) (m : ℕ) (s : List Part) (ks : List Terminal) → (rules_of p).0 ≡ true → levels s ≤ m → Fits m s ks → Fits m (p ∷ s) ks
 skip DeclarationsPart m s ks n b h = ([], ks, (refl, omega (arith, b)), h)
 skip RolePart m s ks n b h = (role.Inner, ks, refl, h)
-skip GroupsPart m s ks n b h = ([], ks, (tt, refl), h)
-skip TakingPart m s ks n b h = (taking.Value, ks, (λ k. refl), h)
-skip VariablesPart m s ks n b h = ([], ks, (tt, refl), h)
+skip GroupsPart m s ks n b h = ([], ks, refl, h)
+skip TakingPart m s ks n b h = (taking.Value, ks, (λ k xs e. (ks, e, refl)), h)
+skip VariablesPart m s ks n b h = ([], ks, refl, h)
 skip StatementPart m s ks n b h = (empty, ks, (refl, tt, omega (arith, b)), h)
 skip SimplePart m s ks n b h = (empty, ks, (refl, tt, tt, omega (arith, b)), h)
 skip (OperatorsPart l) m s ks n b h = (no_operand, ks, (refl, tt, (λ e. tt), omega (arith, b)), h)
 skip NamesTail m s ks n b h = ([], ks, refl, h)
 skip StatementsTail m s ks n b h = (no_statement, ks, (refl, tt, omega (arith, b)), h)
-skip GroupsTail m s ks n b h = ([], ks, (tt, refl), h)
+skip GroupsTail m s ks n b h = ([], ks, refl, h)
 skip ArgumentsTail m s ks n b h = ([], ks, refl, h)
 skip InstancesTail m s ks n b h = ([], ks, refl, h)
 skip ElseTail m s ks n b h = inl h
@@ -295,21 +295,10 @@ statement_makes m s =
 
 process_makes : (m : ℕ) (s : List Part) → Makes m ProcessPart s process_rules
 process_makes m s = (
-  λ ks (r0, p0, (n, r, p, (r1, p1, (gs, r2, (ag, p2), (r3, p3, (r4, p4, (r5, p5, (ts, r6, (tg, p6), (t, r7, (p7, f, c), (ss, r8, (p8, g, d), (r9, p9, h))))))))))). (
-    process n (all_members tree.parameter gs) (all_members tree.variable ts) (statement t ss),
+  λ ks (r0, p0, (n, r, p, (r1, p1, (gs, r2, p2, (r3, p3, (r4, p4, (r5, p5, (ts, r6, p6, (t, r7, (p7, f, c), (ss, r8, (p8, g, d), (r9, p9, h))))))))))). (
+    process n (all_members (λ t x. (t, x)) gs) (all_members (λ k x. (k, x)) ts) (statement t ss),
     r9,
-    (
-      (
-        r1,
-        r5,
-        p0 ∙ ap (λ x. word Process ∷ x) (p ∙ ap (λ x. name n ∷ x) p1),
-        (gs, ag, refl, p2 ∙ ap (groups_words gs) (p3 ∙ ap (λ x. sign Close ∷ x) (p4 ∙ ap (λ x. sign Semicolon ∷ x) p5))),
-        (ts, tg, refl, p6 ∙ ap (togethers_words ts) (p7 ∙ ap (statement_words t) (p8 ∙ ap (further_words ss) p9))),
-        tt,
-        (f, g),
-      ),
-      omega (arith, c, d),
-    ),
+    ((r0, r, r5, r6, r8, p0, p, (r1, r2, p1, (gs, refl, p2), (r3, p3, (r4, p4, (r5, p5, refl)))), (ts, refl, p6), (p7 ∙ ap (statement_words t) p8, tt, (f, g)), p9), omega (arith, c, d)),
     h,
   ),
   tt,
@@ -320,7 +309,7 @@ declaration_makes m s b = (
   λ ks (r0, e, (o, r, p, (r1, p1, (n, r2, p2, (ns, r3, p3, h))))). let k = kind_one ks r0 e in (
     channels k.0 o (n ∷ ns),
     r3,
-    ((tt, k.1 ∙ ap (λ x. kind_terminal k.0 ∷ x) (p ∙ ap (role_words o) (p1 ∙ ap (λ x. word Channel ∷ x) (p2 ∙ ap (λ x. name n ∷ x) p3)))), omega (arith, b)),
+    ((r0, r, r1, k.1, p, p1, (r2, p2, p3)), omega (arith, b)),
     h,
   ),
   process_makes m s,
@@ -329,14 +318,14 @@ declaration_makes m s b = (
 group_makes : (m : ℕ) (s : List Part) → Makes m GroupPart s group_rules
 group_makes m s =
     made (λ ks (r0, e, (f, r, g, (n, r1, p1, (ns, r2, p2, h)))). let k = kind_one ks r0 e in
-    (group (f k.0) (n ∷ ns), r2, (tt, k.1 ∙ (ap (λ x. kind_terminal k.0 ∷ x) refl ∙ g k.0) ∙ ap (taking_words (f k.0)) (p1 ∙ ap (λ x. name n ∷ x) p2)), h)) tt
+    (group (f k.0) (n ∷ ns), r2, (r, g k.0 ks k.1, (r1, p1, p2)), h)) tt
 
 variables_make : (m : ℕ) (s : List Part) → Makes m VariablesPart s (rules_of VariablesPart).1
 variables_make m s = (
-  λ ks (r0, e, (n, r, p, (ns, r1, p1, (r2, p2, (ts, r3, (a, p3), h))))). let k = kind_one ks r0 e in (
+  λ ks (r0, e, (n, r, p, (ns, r1, p1, (r2, p2, (ts, r3, p3, h))))). let k = kind_one ks r0 e in (
     group k.0 (n ∷ ns) ∷ ts,
     r3,
-    ((tt, a), k.1 ∙ ap (λ x. kind_terminal k.0 ∷ x) (p ∙ ap (λ x. name n ∷ x) (p1 ∙ ap (further_names_words ns) (p2 ∙ ap (λ x. sign Semicolon ∷ x) p3)))),
+    (r1, r2, (r0, k.1, (r, p, p1)), p2, p3),
     h,
   ),
   tt,
@@ -347,43 +336,43 @@ argument_makes m s =
     made (λ ks (n, r, p, h). (channel n, r, p, h))
     (made (λ ks (z, r, p, h). (tree.number z, r, inl p, h))
     (made (λ ks (r, e, h). let v = truth_one ks r e in (tree.truth v.0, r, v.1, h))
-    ((λ ks (r, p, (z, r1, p1, h)). (tree.number (neg_ℤ z), r1, inr (z, refl, p ∙ ap (λ x. sign Minus ∷ x) p1), h), tt))))
+    ((λ ks (r, p, (z, r1, p1, h)). (tree.number (neg_ℤ z), r1, inr (z, r, refl, p, p1), h), tt))))
 
 makes : (p : Part) (m : ℕ) (s : List Part) → levels s ≤ m → Makes m p s (rules_of p).1
 makes ProgramPart m s b =
     made (λ ks (r0, p0, (ds, r, (q, c), (i, r1, q1, (is, r2, q2, (r3, q3, (r4, p4, (r5, q5, h))))))). (ds, i ∷ is, r0, r, r2, r3, r4, r5, p0, q, (r1, q1, q2), q3, p4, q5, c, h)) tt
 makes DeclarationsPart m s b =
     made_followed m DeclarationsPart DeclarationPart (TokenPart (a_sign Semicolon) ∷ DeclarationsPart ∷ []) s declaration_rules
-    (λ ks (d, r, (p, c), (r1, p1, (ds, r2, (q, e), h))). (d ∷ ds, r2, ((r1, subst (SpellsDeclaration d ks) p1 p, q), omega (arith, c, e)), h))
+    (λ ks (d, r, (p, c), (r1, p1, (ds, r2, (q, e), h))). (d ∷ ds, r2, ((r, r1, p, p1, q), omega (arith, c, e)), h))
     (declaration_makes m (TokenPart (a_sign Semicolon) ∷ DeclarationsPart ∷ s) b)
 makes DeclarationPart m s b = declaration_makes m s b
 makes ProcessPart m s b = process_makes m s
-makes RolePart m s b = (λ ks (r, e, h). ⊎_elim (λ p. (role.Input, r, p, h)) (λ p. (role.Output, r, p, h)) e, tt)
+makes RolePart m s b = (λ ks (r, e, h). ⊎_elim (λ p. (role.Input, r, (r, p, refl), h)) (λ p. (role.Output, r, (r, p, refl), h)) e, tt)
 makes GroupsPart m s b =
-    made_followed m GroupsPart GroupPart (GroupsTail ∷ []) s group_rules (λ ks (g, r, (a, p), (gs, r1, (c, p1), h)). (g ∷ gs, r1, ((a, c), p ∙ ap (group_words g) p1), h))
+    made_followed m GroupsPart GroupPart (GroupsTail ∷ []) s group_rules (λ ks (g, r, p, (gs, r1, p1, h)). (g ∷ gs, r1, (r, p, p1), h))
     (group_makes m (GroupsTail ∷ s))
 makes GroupPart m s b = group_makes m s
 makes TakingPart m s b =
     made (λ ks (r, e, h).
-    ⊎_elim (λ p. (taking.Channel direction.In, r, (λ k. ap (λ x. kind_terminal k ∷ x) p), h)) (λ p. (taking.Channel direction.Out, r, (λ k. ap (λ x. kind_terminal k ∷ x) p), h)) e) tt
+    ⊎_elim (λ p. (taking.Channel direction.In, r, (λ k xs e. (ks, e, (r, p, refl))), h)) (λ p. (taking.Channel direction.Out, r, (λ k xs e. (ks, e, (r, p, refl))), h)) e) tt
 makes VariablesPart m s b = variables_make m s
 makes StatementPart m s b = statement_makes m s
 makes SimplePart m s b = simple_makes m s
 makes (ExpressionPart l) m s b = expression_makes l m s b
 makes (OperatorsPart l) m s b = operators_make l m s
-makes InstancePart m s b = (λ ks (n, r, p, (r1, p1, (xs, r2, q, h))). (instance n xs, r2, (r1, p ∙ ap (λ x. name n ∷ x) p1, q), h), tt)
+makes InstancePart m s b = (λ ks (n, r, p, (r1, p1, (xs, r2, q, h))). (instance n xs, r2, (r, r1, sign Close ∷ r2, p, p1, q, refl), h), tt)
 makes ArgumentsPart m s b =
     made (λ ks (r, p, h). ([], r, p, h))
     (made_followed m ArgumentsPart ArgumentPart (ArgumentsTail ∷ TokenPart (a_sign Close) ∷ []) s argument_rules
     (λ ks (a, r, p, (xs, r1, q, (r2, p2, h))). (a ∷ xs, r2, (r, p, subst (Further (StandsFirst (sign Comma)) Argues xs r) p2 q), h))
     (argument_makes m (ArgumentsTail ∷ TokenPart (a_sign Close) ∷ s)))
 makes ArgumentPart m s b = argument_makes m s
-makes NamesTail m s b = (λ ks (r, p, (n, r1, p1, (ns, r2, p2, h))). (n ∷ ns, r2, p ∙ ap (λ x. sign Comma ∷ x) (p1 ∙ ap (λ x. name n ∷ x) p2), h), tt)
+makes NamesTail m s b = (λ ks (r, p, (n, r1, p1, (ns, r2, p2, h))). (n ∷ ns, r2, (r, r1, p, p1, p2), h), tt)
 makes StatementsTail m s b =
     made (λ ks (r, p, (t, r1, (p1, f, c), (ss, r2, (p2, g, d), h))).
     (statement t ss, r2, (p ∙ ap (λ x. sign Semicolon ∷ x) (p1 ∙ ap (statement_words t) p2), (f, g), omega (arith, c, d)), h)) tt
 makes GroupsTail m s b =
-    made (λ ks (r, p, (g, r1, (a, p1), (gs, r2, (c, p2), h))). (g ∷ gs, r2, ((a, c), p ∙ ap (λ x. sign Semicolon ∷ x) (p1 ∙ ap (group_words g) p2)), h)) tt
+    made (λ ks (r, p, (g, r1, p1, (gs, r2, p2, h))). (g ∷ gs, r2, (r, r1, p, p1, p2), h)) tt
 makes ArgumentsTail m s b = (λ ks (r, p, (a, r1, p1, (xs, r2, q, h))). (a ∷ xs, r2, (r, r1, p, p1, q), h), tt)
 makes InstancesTail m s b = (λ ks (r, p, (i, r1, p1, (is, r2, q, h))). (i ∷ is, r2, (r, r1, p, p1, q), h), tt)
 makes ElseTail m s b = (λ ks (r, p, (t, r1, (p1, f, c), h)). inr (t, r1, (p ∙ ap (λ x. word Else ∷ x) p1, f, c), h), tt)
@@ -436,18 +425,18 @@ abbrev least_process : DeclarationTree
 least_process = process [] [] [] (statement empty no_statement)
 
 least_declares : (r : List Terminal) → (ks : List Terminal) × SpellsDeclaration least_process ks r
-least_declares r = (_, (_, _, refl, ([], tt, refl, refl), ([], tt, refl, refl), tt, (tt, tt)))
+least_declares r = (_, (_, _, _, _, _, refl, refl, (_, _, refl, ([], refl, refl), (_, refl, (_, refl, (_, refl, refl)))), ([], refl, refl), (refl, tt, (tt, tt)), refl))
 
 -- what is open can always be completed
 pub fits_some : (m : ℕ) (s : List Part) → levels s ≤ m → (ks : List Terminal) × Fits m s ks
 fits_some m [] b = ([], refl)
 fits_some m (ProgramPart ∷ s) b =
-    let h = fits_some m s b in (_, ([], instance [] [] ∷ [], _, _, _, _, _, h.0, refl, refl, (_, (_, refl, refl), refl), inr refl, refl, inr refl, omega (arith, b), h.1))
-fits_some m (DeclarationPart ∷ s) b = let h = fits_some m s b in (_, (channels kind.Integer role.Inner ([] ∷ []), h.0, ((tt, refl), omega (arith, b)), h.1))
+    let h = fits_some m s b in (_, ([], instance [] [] ∷ [], _, _, _, _, _, h.0, refl, refl, (_, (_, _, _, refl, refl, refl, refl), refl), inr refl, refl, inr refl, omega (arith, b), h.1))
+fits_some m (DeclarationPart ∷ s) b = let h = fits_some m s b in (_, (channels kind.Integer role.Inner ([] ∷ []), h.0, ((_, _, _, refl, refl, refl, (_, refl, refl)), omega (arith, b)), h.1))
 fits_some m (ProcessPart ∷ s) b = let h = fits_some m s b in let d = least_declares h.0 in (d.0, (least_process, h.0, (d.1, omega (arith, b)), h.1))
-fits_some m (GroupPart ∷ s) b = let h = fits_some m s b in (_, (group (taking.Value kind.Integer) ([] ∷ []), h.0, (tt, refl), h.1))
+fits_some m (GroupPart ∷ s) b = let h = fits_some m s b in (_, (group (taking.Value kind.Integer) ([] ∷ []), h.0, (_, (_, refl, refl), (_, refl, refl)), h.1))
 fits_some m (ExpressionPart l ∷ s) b = let h = fits_some m s b in (_, (number (pos 0), h.0, (refl, (at_most l, tt), omega (arith, b)), h.1))
-fits_some m (InstancePart ∷ s) b = let h = fits_some m s b in (_, (instance [] [], h.0, (_, refl, refl), h.1))
+fits_some m (InstancePart ∷ s) b = let h = fits_some m s b in (_, (instance [] [], h.0, (_, _, _, refl, refl, refl, refl), h.1))
 fits_some m (ArgumentsPart ∷ s) b = let h = fits_some m s b in (_, ([], h.0, refl, h.1))
 fits_some m (ArgumentPart ∷ s) b = let h = fits_some m s b in (_, (channel [], h.0, refl, h.1))
 fits_some m (TokenPart t ∷ s) b = some_token t (Fits m s) (fits_some m s b)

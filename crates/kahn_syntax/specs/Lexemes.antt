@@ -23,14 +23,6 @@ IsLetter b = ((65 ≤ b) × (b ≤ 90)) ⊎ ((97 ≤ b) × (b ≤ 122))
 abbrev pub IsWordByte : ℕ → Type 0
 IsWordByte b = IsLetter b ⊎ IsDigit b ⊎ (b ≡ 95)
 
--- the bytes from a to b are a word: it begins with a letter
-abbrev pub IsWord : List ℕ → ℕ → ℕ → Type 0
-IsWord text a b = (a < b) × IsLetter (slice_index text a) × ((i : ℕ) → a < i → i < b → IsWordByte (slice_index text i))
-
--- the bytes from a to b are a run of digits
-abbrev pub IsRun : List ℕ → ℕ → ℕ → Type 0
-IsRun text a b = (a < b) × ((i : ℕ) → a ≤ i → i < b → IsDigit (slice_index text i))
-
 -- the bytes of a sign; U+00AC takes two
 abbrev pub bytes_of_sign : Sign → List ℕ
 bytes_of_sign mark.Becomes = codes ":="
@@ -48,25 +40,6 @@ bytes_of_sign mark.AtMost = codes "<="
 bytes_of_sign mark.Greater = codes ">"
 bytes_of_sign mark.AtLeast = codes ">="
 bytes_of_sign mark.Not = 0xC2 ∷ 0xAC ∷ []
-
--- the bytes from a to b are these
-abbrev pub HasBytes : List ℕ → ℕ → ℕ → List ℕ → Type 0
-HasBytes text a b [] = a ≡ b
-HasBytes text a b (c ∷ cs) = (slice_index text a ≡ c) × HasBytes text (a + 1) b cs
-
--- the bytes from a to b are the sign
-abbrev pub IsSign : List ℕ → Sign → ℕ → ℕ → Type 0
-IsSign text s a b = HasBytes text a b (bytes_of_sign s)
-
--- the bytes from a to b have a form
-abbrev pub HasForm : List ℕ → ℕ → ℕ → Type 0
-HasForm text a b = IsWord text a b ⊎ IsRun text a b ⊎ ((s : Sign) × IsSign text s a b)
-
--- they have a form, and nothing longer from a has one
-pub record IsLongest (text : List ℕ) (a b : ℕ) : Type 0 where
-  pub inside : b ≤ length text
-  pub form : HasForm text a b
-  pub longest : (n : ℕ) → b < n → n ≤ length text → HasForm text a n → ⊥
 
 -- the letters of a keyword, in lower case
 abbrev pub letters_of : Keyword → List ℕ
@@ -107,94 +80,108 @@ IsSpelled letters bytes = str_to_ascii_lowercase bytes ≡ letters
 abbrev pub largest_number : ℕ
 largest_number = 9223372036854775807
 
--- the word `comment`, in any letter case
-abbrev pub IsCommentWord : List ℕ → ℕ → ℕ → Type 0
-IsCommentWord text a b = IsWord text a b × IsSpelled (codes "comment") (slice_range text a b)
-
--- the bytes from a to b are a lexeme of this class: a keyword; any other word of at most 64 bytes but `comment`; a run of
--- digits with its value, up to the largest number; a sign
-abbrev pub IsOfClass : List ℕ → Class → ℕ → ℕ → Type 0
-IsOfClass text (class.Word k) a b = IsWord text a b × IsSpelled (letters_of k) (slice_range text a b)
-IsOfClass text class.Name a b = IsWord text a b × (b ≤ a + 64) × ¬ (IsSpelled (codes "comment") (slice_range text a b))
-    × ((k : Keyword) → ¬ (IsSpelled (letters_of k) (slice_range text a b)))
-IsOfClass text (class.Number n) a b = IsRun text a b × (n ≡ pos (digits_value 10 (slice_range text a b)))
-    × (digits_value 10 (slice_range text a b) ≤ largest_number)
-IsOfClass text (class.Sign s) a b = IsSign text s a b
-
--- a lexeme of the text, where it stands
-pub record IsLexemeAt (text : List ℕ) (x : Lexeme) : Type 0 where
-  pub longest : IsLongest text x.span.from x.span.to
-  pub class : IsOfClass text x.what x.span.from x.span.to
-
--- a lexeme's bytes are a part of the text, and may be cut out of it
-abbrev pub IsSlice : List ℕ → Lexeme → Type 0
-IsSlice text x = (x.span.from < x.span.to) × (x.span.to ≤ length text)
-    × IsCharBoundary text x.span.from × IsCharBoundary text x.span.to
-
--- the first semicolon from a on is the byte before b
-abbrev pub Closes : List ℕ → ℕ → ℕ → Type 0
-Closes text a b = (e : ℕ) × (b ≡ e + 1) × (a ≤ e) × (e < length text) × (slice_index text e ≡ 59)
-    × ((i : ℕ) → a ≤ i → i < e → ¬ (slice_index text i ≡ 59))
-
--- a comment: the word, which is the longest there, then all through the next semicolon
-abbrev pub IsComment : List ℕ → ℕ → ℕ → Type 0
-IsComment text a b = (m : ℕ) × IsLongest text a m × IsCommentWord text a m × Closes text m b
-
--- blanks and comments alone stand from a to b
-pub data Gap (text : List ℕ) (a : ℕ) : ℕ → Type 0 where
-  no_gap : Gap text a a
-  then_blank : {b : ℕ} → Gap text a b → IsBlank (slice_index text b) → Gap text a (b + 1)
-  then_comment : {b c : ℕ} → Gap text a b → IsComment text b c → Gap text a c
-
--- these are the lexemes of the text from a to b: each stands there, and only blanks and comments stand between
-abbrev pub Lexed : List ℕ → ℕ → ℕ → List Lexeme → Type 0
-Lexed text a b [] = Gap text a b
-Lexed text a b (x ∷ xs) = Gap text a x.span.from × IsLexemeAt text x × Lexed text x.span.to b xs
-
 -- the most bytes that a text may have
 abbrev pub most_bytes : ℕ
 most_bytes = 1048576
 
--- the text isn't too long, and up to a it is lexemes, blanks and comments: a fault at a is the first
-abbrev pub IsReached : List ℕ → ℕ → Type 0
-IsReached text a = (length text ≤ most_bytes) × ((xs : List Lexeme) × Lexed text 0 a xs)
+module _ (text : List ℕ) where
+  -- the bytes from a to b are a word: it begins with a letter
+  abbrev pub IsWord : ℕ → ℕ → Type 0
+  IsWord a b = (a < b) × IsLetter (slice_index text a) × ((i : ℕ) → a < i → i < b → IsWordByte (slice_index text i))
 
--- one character of the text: it may be cut before and behind, and not within
-abbrev pub IsCharacter : List ℕ → Span → Type 0
-IsCharacter text at = (at.from < at.to) × IsCharBoundary text at.from × IsCharBoundary text at.to × ((i : ℕ) → at.from < i → i < at.to → ¬ (IsCharBoundary text i))
+  -- the bytes from a to b are a run of digits
+  abbrev pub IsRun : ℕ → ℕ → Type 0
+  IsRun a b = (a < b) × ((i : ℕ) → a ≤ i → i < b → IsDigit (slice_index text i))
 
--- a character that isn't blank and where no form begins, as a `:` without `=` after it
-abbrev pub IsBadCharacter : List ℕ → Span → Type 0
-IsBadCharacter text at = IsCharacter text at × ¬ (IsBlank (slice_index text at.from))
-    × ((n : ℕ) → n ≤ length text → ¬ (HasForm text at.from n))
+  -- the bytes from a to b are these
+  abbrev pub HasBytes : ℕ → ℕ → List ℕ → Type 0
+  HasBytes a b [] = a ≡ b
+  HasBytes a b (c ∷ cs) = (slice_index text a ≡ c) × HasBytes (a + 1) b cs
 
--- a run of digits above the largest number
-abbrev pub IsLargeNumber : List ℕ → Span → Type 0
-IsLargeNumber text at = IsLongest text at.from at.to × IsRun text at.from at.to
-    × (largest_number < digits_value 10 (slice_range text at.from at.to))
+  -- the bytes from a to b are the sign
+  abbrev pub IsSign : Sign → ℕ → ℕ → Type 0
+  IsSign s a b = HasBytes a b (bytes_of_sign s)
 
--- the word `comment` with no semicolon after it
-abbrev pub IsOpenComment : List ℕ → Span → Type 0
-IsOpenComment text at = IsLongest text at.from at.to × IsCommentWord text at.from at.to
-    × ((i : ℕ) → at.to ≤ i → i < length text → ¬ (slice_index text i ≡ 59))
+  -- the bytes from a to b have a form
+  abbrev pub HasForm : ℕ → ℕ → Type 0
+  HasForm a b = IsWord a b ⊎ IsRun a b ⊎ ((s : Sign) × IsSign s a b)
 
--- a word of more than 64 bytes
-abbrev pub IsLongName : List ℕ → Span → Type 0
-IsLongName text at = IsLongest text at.from at.to × IsWord text at.from at.to × (at.from + 64 < at.to)
+  -- they have a form, and nothing longer from a has one
+  pub record IsLongest (a b : ℕ) : Type 0 where
+    pub inside : b ≤ length text
+    pub form : HasForm a b
+    pub longest : (n : ℕ) → b < n → n ≤ length text → HasForm a n → ⊥
 
--- the first fault of a text's lexemes: a text that is too long has no other, and memory may be wanted at any place
-abbrev pub IsLexFault : List ℕ → SyntaxFault → Type 0
-IsLexFault text TooLong = most_bytes < length text
-IsLexFault text (BadCharacter at) = IsReached text at.from × IsBadCharacter text at
-IsLexFault text (NumberTooLarge at) = IsReached text at.from × IsLargeNumber text at
-IsLexFault text (CommentOpen at) = IsReached text at.from × IsOpenComment text at
-IsLexFault text (NameTooLong at) = IsReached text at.from × IsLongName text at
-IsLexFault text NoMemory = length text ≤ most_bytes
-IsLexFault text _ = ⊥
+  -- the word `comment`, in any letter case
+  abbrev pub IsCommentWord : ℕ → ℕ → Type 0
+  IsCommentWord a b = IsWord a b × IsSpelled (codes "comment") (slice_range text a b)
 
--- these are the lexemes of the text, which is within its limit
-abbrev pub AreLexemes : List ℕ → List Lexeme → Type 0
-AreLexemes text xs = (length text ≤ most_bytes) × Lexed text 0 (length text) xs
+  -- the bytes from a to b are a lexeme of this class: a keyword; any other word of at most 64 bytes but `comment`; a run of
+  -- digits with its value, up to the largest number; a sign
+  abbrev pub IsOfClass : Class → ℕ → ℕ → Type 0
+  IsOfClass (class.Word k) a b = IsWord a b × IsSpelled (letters_of k) (slice_range text a b)
+  IsOfClass class.Name a b = IsWord a b × (b ≤ a + 64) × ¬ (IsSpelled (codes "comment") (slice_range text a b))
+      × ((k : Keyword) → ¬ (IsSpelled (letters_of k) (slice_range text a b)))
+  IsOfClass (class.Number n) a b = IsRun a b × (n ≡ pos (digits_value 10 (slice_range text a b))) × (digits_value 10 (slice_range text a b) ≤ largest_number)
+  IsOfClass (class.Sign s) a b = IsSign s a b
+
+  -- a lexeme of the text, where it stands
+  pub record IsLexemeAt (x : Lexeme) : Type 0 where
+    pub longest : IsLongest x.span.from x.span.to
+    pub class : IsOfClass x.what x.span.from x.span.to
+
+  -- a lexeme's bytes are a part of the text, and may be cut out of it
+  abbrev pub IsSlice : Lexeme → Type 0
+  IsSlice x = (x.span.from < x.span.to) × (x.span.to ≤ length text) × IsCharBoundary text x.span.from × IsCharBoundary text x.span.to
+
+  -- the first semicolon from a on is the byte before b
+  abbrev pub Closes : ℕ → ℕ → Type 0
+  Closes a b = (e : ℕ) × (b ≡ e + 1) × (a ≤ e) × (e < length text) × (slice_index text e ≡ 59) × ((i : ℕ) → a ≤ i → i < e → ¬ (slice_index text i ≡ 59))
+
+  -- a comment: the word, which is the longest there, then all through the next semicolon
+  abbrev pub IsComment : ℕ → ℕ → Type 0
+  IsComment a b = (m : ℕ) × IsLongest a m × IsCommentWord a m × Closes m b
+
+  -- blanks and comments alone stand from a to b
+  pub data Gap (a : ℕ) : ℕ → Type 0 where
+    no_gap : Gap a a
+    then_blank : {b : ℕ} → Gap a b → IsBlank (slice_index text b) → Gap a (b + 1)
+    then_comment : {b c : ℕ} → Gap a b → IsComment b c → Gap a c
+
+  -- these are the lexemes of the text from a to b: each stands there, and only blanks and comments stand between
+  abbrev pub Lexed : ℕ → ℕ → List Lexeme → Type 0
+  Lexed a b [] = Gap a b
+  Lexed a b (x ∷ xs) = Gap a x.span.from × IsLexemeAt x × Lexed x.span.to b xs
+
+  -- the text isn't too long, and up to a it is lexemes, blanks and comments: a fault at a is the first
+  abbrev pub IsReached : ℕ → Type 0
+  IsReached a = (length text ≤ most_bytes) × ((xs : List Lexeme) × Lexed 0 a xs)
+
+  -- one character of the text: it may be cut before and behind, and not within
+  abbrev pub IsCharacter : Span → Type 0
+  IsCharacter at = (at.from < at.to) × IsCharBoundary text at.from × IsCharBoundary text at.to × ((i : ℕ) → at.from < i → i < at.to → ¬ (IsCharBoundary text i))
+
+  -- at this place is the fault of a lexeme, whatever stands before: a character that isn't blank and where no form begins, as a `:`
+  -- without `=` after it; a run of digits above the largest number; the word `comment` with no semicolon after it; a word of more than 64 bytes
+  abbrev pub IsFaultAt : ℕ → SyntaxFault → Type 0
+  IsFaultAt a (BadCharacter at) = (at.from ≡ a) × (IsCharacter at × ¬ (IsBlank (slice_index text at.from))
+      × ((n : ℕ) → n ≤ length text → ¬ (HasForm at.from n)))
+  IsFaultAt a (NumberTooLarge at) = (at.from ≡ a) × (IsLongest at.from at.to × IsRun at.from at.to
+      × (largest_number < digits_value 10 (slice_range text at.from at.to)))
+  IsFaultAt a (CommentOpen at) = (at.from ≡ a) × (IsLongest at.from at.to × IsCommentWord at.from at.to
+      × ((i : ℕ) → at.to ≤ i → i < length text → ¬ (slice_index text i ≡ 59)))
+  IsFaultAt a (NameTooLong at) = (at.from ≡ a) × (IsLongest at.from at.to × IsWord at.from at.to × (at.from + 64 < at.to))
+  IsFaultAt a _ = ⊥
+
+  -- the first fault of a text's lexemes: a text that is too long has no other, and memory may be wanted at any place
+  abbrev pub IsLexFault : SyntaxFault → Type 0
+  IsLexFault TooLong = most_bytes < length text
+  IsLexFault NoMemory = length text ≤ most_bytes
+  IsLexFault e = (a : ℕ) × IsReached a × IsFaultAt a e
+
+  -- these are the lexemes of the text, which is within its limit
+  abbrev pub AreLexemes : List Lexeme → Type 0
+  AreLexemes xs = (length text ≤ most_bytes) × Lexed 0 (length text) xs
 
 -- a keyword, a sign, a number with its value, or a name with its bytes
 pub data Terminal : Type 0 where

@@ -4,7 +4,7 @@ use Rattle.kahn_syntax.specs.Names.{Lexeme, Span, SyntaxFault, Expected, More, N
 use Rattle.kahn_syntax.specs.declared.fault.SyntaxFault.TheVariants as fault
 use Rattle.kahn_syntax.specs.Lexemes.{Terminal, terminal, terminals, AreLexemes, IsLexFault}
 use Rattle.kahn_syntax.specs.Programs.{ProgramTree, Spells, nesting}
-use Rattle.kahn_syntax.specs.Spans.{program_of, ProgramSpans}
+use Rattle.kahn_syntax.specs.Spans.{ProgramSpans}
 
 -- some tree spells it
 abbrev pub IsSentence : List Terminal → Type 0
@@ -50,9 +50,9 @@ IsFault text lexemes (fault.TooDeep span) = StandsAt text lexemes span IsTooDeep
 IsFault text lexemes fault.NoMemory = Unit {0}
 IsFault text lexemes _ = ⊥
 
--- The text's lexemes are spelled by the program, whose parts have their spans over them.
+-- The program is read from the lexemes of the text, over which its parts have their spans; that these spell its tree follows.
 abbrev pub IsProgram : List ℕ → Program → Type 0
-IsProgram text p = (xs : List Lexeme) × AreLexemes text xs × Spells (program_of p) (terminals text xs) × ProgramSpans text p xs
+IsProgram text p = (xs : List Lexeme) × AreLexemes text xs × ProgramSpans text p xs
 
 -- a fault of a lexeme, or one of the grammar
 abbrev pub IsTextFault : List ℕ → SyntaxFault → Type 0

@@ -11,11 +11,8 @@ mutual
   pub data ExpressionTree : Type 0 where
     number : ℤ → ExpressionTree
     truth : Bool → ExpressionTree
-    variable : List ℕ → ExpressionTree
-    wait : List ℕ → ExpressionTree
-    negation : ExpressionTree → ExpressionTree
-    denial : ExpressionTree → ExpressionTree
-    bracket : ExpressionTree → ExpressionTree
+    variable wait : List ℕ → ExpressionTree
+    negation denial bracket : ExpressionTree → ExpressionTree
     -- the operators of one level: the first operand, and the further ones
     level : ExpressionTree → OperandTrees → ExpressionTree
     conditional : ExpressionTree → ExpressionTree → ExpressionTree → ExpressionTree
@@ -32,9 +29,8 @@ mutual
     send : ExpressionTree → List ℕ → StatementTree
     print : ExpressionTree → StatementTree
     block : StatementTrees → StatementTree
-    if_then : ExpressionTree → StatementTree → StatementTree
+    if_then while_do : ExpressionTree → StatementTree → StatementTree
     if_else : ExpressionTree → StatementTree → StatementTree → StatementTree
-    while_do : ExpressionTree → StatementTree → StatementTree
     repeat : StatementTree → StatementTree
 
   pub data StatementTrees : Type 0 where

@@ -6,8 +6,8 @@ use Rattle.kahn_syntax.specs.declared.lexeme.Sign.TheVariants as mark
 use Rattle.kahn_syntax.specs.declared.lexeme.Class.{Class}
 use Rattle.kahn_syntax.specs.declared.lexeme.Class.TheVariants as class
 use Rattle.kahn_streams.specs.declared.span.Span.{Span}
-use Rattle.kahn_syntax.specs.Lexemes.{Terminal, number, name, terminal, sign_terminal}
-use Rattle.kahn_syntax.specs.Programs.{program, MaybeSemicolon, nesting}
+use Rattle.kahn_syntax.specs.Lexemes.{Terminal, number, name, sign, terminal, sign_terminal}
+use Rattle.kahn_syntax.specs.Programs.{program, May, StandsFirst, nesting}
 use Rattle.kahn_syntax.specs.Texts.{Begins}
 use Rattle.kahn_syntax.specs.inner.Machine.{Token, a_name, accepts, Part, ProgramPart, Rule, rules_of, enters, opened_by, levels, may_end, step, Whole, Refuses, TooFar, fate, onward}
 use Rattle.kahn_syntax.proofs.Viable.{Fits, fits_some, further}
@@ -76,7 +76,7 @@ some_begins ks t e =
     spelled r.0 q.0 q.1
   where
     spelled : (m : ℕ) (c : List Terminal) → Fits m (ProgramPart ∷ []) (ks ++ c) → Begins ks
-    spelled m c (ds, is, a, b, d, e, f, r, p, q, i, s, v, w, n, h) = (program ds is, c, (a, b, d, e, f, p, q, i, s, v, subst (MaybeSemicolon f) h w))
+    spelled m c (ds, is, a, b, d, e, f, r, p, q, i, s, v, w, n, h) = (program ds is, c, (a, b, d, e, f, p, q, i, s, v, subst (May (StandsFirst (sign mark.Semicolon)) f) h w))
 
 -- what is read to its end goes on all the way
 abbrev IsSome : Option (List Part) → Type 0

@@ -8,7 +8,7 @@ use Rattle.kahn_syntax.specs.declared.lexeme.Lexeme.{Lexeme}
 use Rattle.kahn_syntax.specs.declared.fault.SyntaxFault.TheVariants.{Expected}
 use Rattle.kahn_syntax.specs.declared.fault.What.{What}
 use Rattle.kahn_syntax.specs.declared.fault.What.TheVariants.{More, Nothing, Other}
-use Rattle.kahn_syntax.specs.Lexemes.{terminals, AreProper, AreLexemes}
+use Rattle.kahn_syntax.specs.Lexemes.{terminals, AreProper, AreLexemes, IsLexFault}
 use Rattle.kahn_syntax.specs.Programs.{Spells}
 use Rattle.kahn_syntax.specs.Texts.{BeginsWithin, IsFault, IsTextFault}
 use Rattle.kahn_syntax.proofs.Meaning.{terminals_append}
@@ -44,7 +44,7 @@ below_all text xs span n (before, x, after, e, is, within) first most =
 -- the fault of a text is that of its lexemes
 pub of_lexemes : (text : List ℕ) (ys : List Lexeme) (span : Span) (what : What) → AreLexemes text ys → IsTextFault text (Expected span what) → IsFault text ys (Expected span what)
 of_lexemes text ys span what a h =
-    ⊎_elim (λ (f : ⊥). absurd f) (λ r. subst (λ l. IsFault text l (Expected span what)) (same_lexemes text 0 (length text) r.0 ys r.1.1 a.1) r.2) h
+    ⊎_elim (λ (f : IsLexFault text (Expected span what)). absurd f.2) (λ r. subst (λ l. IsFault text l (Expected span what)) (same_lexemes text 0 (length text) r.0 ys r.1.1 a.1) r.2) h
 
 pub at_end : (text : List ℕ) (ys : List Lexeme) (span : Span) → IsFault text ys (Expected span More) → BeginsWithin (terminals text ys)
 at_end text ys span h = h.2

@@ -5,8 +5,9 @@ use Rattle.kahn_streams.specs.declared.tree.Program.{Program}
 use Rattle.kahn_syntax.specs.declared.fault.SyntaxFault.{SyntaxFault}
 use Rattle.kahn_syntax.specs.declared.fault.SyntaxFault.TheVariants as fault
 use Rattle.kahn_syntax.specs.Spans.{program_of}
-use Rattle.kahn_syntax.specs.Lexemes.{Terminal}
-use Rattle.kahn_syntax.specs.Programs.{ProgramTree, program, MaybeSemicolon, Spells, nesting}
+use Rattle.kahn_syntax.specs.declared.lexeme.Sign.TheVariants as mark
+use Rattle.kahn_syntax.specs.Lexemes.{Terminal, sign}
+use Rattle.kahn_syntax.specs.Programs.{ProgramTree, program, May, StandsFirst, Spells, nesting}
 use Rattle.kahn_syntax.specs.Texts.{IsWholeWithin}
 use Rattle.kahn_syntax.specs.inner.Machine.{Part, ProgramPart, levels, may_end, step, Whole, Refuses, TooFar, fate, onward}
 use Rattle.kahn_syntax.proofs.Reached.{go_far, go_none, le_or, whole_far, whole_refuses}
@@ -47,7 +48,7 @@ fate_same m (b ∷ before) after k l s h = on (λ t. fate_same m before after k 
         ∙ ap (λ n. cond (nat_le (levels t) m) (fate m t (before ++ l ∷ after)) (TooFar (n + 1))) (same_length before after k l)
 
 within : (ks : List Terminal) → Fits 64 (ProgramPart ∷ []) ks → IsWholeWithin ks
-within ks (ds, is, a, b, d, e, f, r, p, q, i, s, v, w, n, h) = (program ds is, (a, b, d, e, f, p, q, i, s, v, subst (MaybeSemicolon f) h w), omega (arith, n))
+within ks (ds, is, a, b, d, e, f, r, p, q, i, s, v, w, n, h) = (program ds is, (a, b, d, e, f, p, q, i, s, v, subst (May (StandsFirst (sign mark.Semicolon)) f) h w), omega (arith, n))
 
 alike_whole : (before after : List Terminal) (k l : Terminal) → Alike k l → IsWholeWithin (before ++ k ∷ after) → IsWholeWithin (before ++ l ∷ after)
 alike_whole before after k l a (t, h, small) =

@@ -1,10 +1,10 @@
 -- Inner. What the lexer meets at one place of a text.
 use Rattle.std.specs.Prelude.{◌≡◌, ℕ, List}
-use Rattle.kahn_syntax.specs.Names.{Item, SyntaxFault, BadCharacter, NumberTooLarge, CommentOpen, NameTooLong}
+use Rattle.kahn_syntax.specs.Names.{Item}
 use Rattle.kahn_syntax.specs.declared.lexer.Item.TheVariants as item
 use Rattle.kahn_syntax.specs.declared.lexer.forms.Form.{Form}
 use Rattle.kahn_syntax.specs.declared.lexer.forms.Form.TheVariants as form
-use Rattle.kahn_syntax.specs.Lexemes.{IsWord, IsRun, IsSign, IsLexemeAt, IsComment, IsBadCharacter, IsLargeNumber, IsOpenComment, IsLongName}
+use Rattle.kahn_syntax.specs.Lexemes.{IsWord, IsRun, IsSign, IsLexemeAt, IsComment}
 
 -- the place after a form
 abbrev pub form_end : Form → ℕ
@@ -22,11 +22,3 @@ IsOfForm text (form.Sign s to) a = IsSign text s a to
 abbrev pub IsItem : List ℕ → ℕ → Item → Type 0
 IsItem text a (item.Lexeme x) = (x.span.from ≡ a) × IsLexemeAt text x
 IsItem text a (item.Comment b) = IsComment text a b
-
--- the fault stands at a, whatever stands before
-abbrev pub IsFaultAt : List ℕ → ℕ → SyntaxFault → Type 0
-IsFaultAt text a (BadCharacter at) = (at.from ≡ a) × IsBadCharacter text at
-IsFaultAt text a (NumberTooLarge at) = (at.from ≡ a) × IsLargeNumber text at
-IsFaultAt text a (CommentOpen at) = (at.from ≡ a) × IsOpenComment text at
-IsFaultAt text a (NameTooLong at) = (at.from ≡ a) × IsLongName text at
-IsFaultAt text a _ = ⊥

@@ -32,14 +32,7 @@ rank_or (Some o) = rank o
 
 -- the levels of the grammar
 pub data Rung : Type 0 where
-  whole : Rung
-  ors : Rung
-  ands : Rung
-  denials : Rung
-  relations : Rung
-  sums : Rung
-  terms : Rung
-  factors : Rung
+  whole ors ands denials relations sums terms factors : Rung
 
 abbrev pub at : Rung → ℕ
 at whole = 0
@@ -74,8 +67,7 @@ pub data Token : Type 0 where
   a_word : Keyword → Token
   either : Keyword → Keyword → Token
   a_sign : Sign → Token
-  a_number : Token
-  a_name : Token
+  a_number a_name : Token
   an_operator : Operator → Token
 
 abbrev pub accepts : Token → Terminal → Bool
@@ -103,31 +95,12 @@ class_of _ = None
 
 -- what is open: a part that must be read, or one of which nothing may be there
 pub data Part : Type 0 where
-  ProgramPart : Part
-  DeclarationsPart : Part
-  DeclarationPart : Part
-  ProcessPart : Part
-  RolePart : Part
-  GroupsPart : Part
-  GroupPart : Part
-  TakingPart : Part
-  VariablesPart : Part
-  StatementPart : Part
-  SimplePart : Part
-  ExpressionPart : Rung → Part
-  -- operators of one level with their operands
-  OperatorsPart : Rung → Part
-  InstancePart : Part
-  ArgumentsPart : Part
-  ArgumentPart : Part
+  ProgramPart DeclarationsPart DeclarationPart ProcessPart RolePart GroupsPart GroupPart TakingPart VariablesPart : Part
+  StatementPart SimplePart InstancePart ArgumentsPart ArgumentPart : Part
+  -- an expression of a level, and operators of one level with their operands
+  ExpressionPart OperatorsPart : Rung → Part
   -- what may go on, or not
-  NamesTail : Part
-  StatementsTail : Part
-  GroupsTail : Part
-  ArgumentsTail : Part
-  InstancesTail : Part
-  ElseTail : Part
-  LastTail : Part
+  NamesTail StatementsTail GroupsTail ArgumentsTail InstancesTail ElseTail LastTail : Part
   TokenPart : Token → Part
   -- the end of a level of nesting: nothing
   LevelPart : Part
@@ -144,12 +117,13 @@ followed after ((t, ps) ∷ rest) = (t, ps ++ after) ∷ followed after rest
 abbrev pub a_kind : Token
 a_kind = either keyword.Integer keyword.Logical
 
+-- the head of a process behind its name
+abbrev pub head_parts : List Part
+head_parts = TokenPart (a_sign mark.Open) ∷ GroupsPart ∷ TokenPart (a_sign mark.Close) ∷ TokenPart (a_sign mark.Semicolon) ∷ TokenPart (a_word keyword.Begin) ∷ []
+
 abbrev pub process_rules : List Rule
-process_rules = (
-  a_word keyword.Process,
-  TokenPart a_name ∷ TokenPart (a_sign mark.Open) ∷ GroupsPart ∷ TokenPart (a_sign mark.Close) ∷ TokenPart (a_sign mark.Semicolon) ∷ TokenPart (a_word keyword.Begin)
-      ∷ VariablesPart ∷ StatementPart ∷ StatementsTail ∷ TokenPart (a_word keyword.End) ∷ [],
-) ∷ []
+process_rules =
+    (a_word keyword.Process, TokenPart a_name ∷ head_parts ++ (VariablesPart ∷ StatementPart ∷ StatementsTail ∷ TokenPart (a_word keyword.End) ∷ [])) ∷ []
 
 abbrev pub declaration_rules : List Rule
 declaration_rules = (a_kind, RolePart ∷ TokenPart (a_word keyword.Channel) ∷ TokenPart a_name ∷ NamesTail ∷ []) ∷ process_rules

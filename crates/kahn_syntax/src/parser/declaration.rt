@@ -5,10 +5,10 @@ ghost use Rattle.kahn_syntax.specs.declared.lexeme.Keyword.TheVariants as keywor
 ghost use Rattle.kahn_syntax.specs.declared.lexeme.Sign.TheVariants as mark;
 ghost use Rattle.kahn_syntax.specs.declared.parser.cursor.Stop.TheVariants.{NoMemory};
 ghost use Rattle.kahn_syntax.specs.Lexemes.{terminals, AreProper};
-ghost use Rattle.kahn_syntax.specs.Programs.{kind_terminal, Parameters, Variables, Declarations, group};
-ghost use Rattle.kahn_syntax.specs.Spans.{process_of, declaration_of, IsPast, DeclarationSpans, RoleSpans, ProcessSpans, HeadSpans, ParametersSpan, GroupSpans, DirectionSpans, VariablesSpan, taking_kind, parameter_with, variable_with};
-ghost use Rattle.kahn_syntax.specs.inner.Machine.{DeclarationsPart, DeclarationPart, ProcessPart, RolePart, GroupsPart, GroupPart, TakingPart, VariablesPart, a_kind, leads, starts, declaration_rules};
-ghost use Rattle.kahn_syntax.specs.inner.Reads.{Reads, IsFormed, head_parts, ParsesPart, SoundDeclarationsSpan};
+ghost use Rattle.kahn_syntax.specs.Programs.{kind_terminal, role_words, taking_words, TakesAll, Head, Parameters, ParameterGroup, Variables, group};
+ghost use Rattle.kahn_syntax.specs.Spans.{process_of, declaration_of, lexemes, IsPast, Takes, DeclarationSpans, ProcessSpans, parameter_with, variable_with};
+ghost use Rattle.kahn_syntax.specs.inner.Machine.{DeclarationsPart, DeclarationPart, ProcessPart, RolePart, GroupsPart, GroupPart, TakingPart, VariablesPart, a_kind, leads, starts, head_parts, declaration_rules};
+ghost use Rattle.kahn_syntax.specs.inner.Reads.{Reads, IsShallow, ParsesPart, DeclarationsSpan};
 
 use crate::lexeme::{Class, Keyword, Lexeme, Sign};
 use crate::parser::cursor::{Read, Stop, expect, next, past};
@@ -41,7 +41,7 @@ pub fn read_declarations<'t>(
     input: &'t [Lexeme],
 ) -> Read<'t, Vec<Declaration>>
     requires proper { AreProper text.now input.now }
-    ensures { ParsesPart result text.now (DeclarationsPart ∷ []) (λ r. SoundDeclarationsSpan text.now r.0.items) input.now (λ r. r.1.now) }
+    ensures { ParsesPart result text.now (DeclarationsPart ∷ []) (λ r. DeclarationsSpan text.now r.0.items) input.now (λ r. r.1.now) }
 {
     let mut declarations = Vec::new(alloc);
     let mut rest = input;
@@ -70,7 +70,7 @@ fn begins_declaration(input: &[Lexeme]) -> bool
 // A declaration.
 fn read_declaration<'t>(alloc: Global, text: &str, input: &'t [Lexeme]) -> Read<'t, Declaration>
     requires proper { AreProper text.now input.now }
-    ensures { ParsesPart result text.now (DeclarationPart ∷ []) (λ r xs l. IsFormed (declaration_of r.0) × DeclarationSpans text.now r.0 xs l) input.now (λ r. r.1.now) }
+    ensures { ParsesPart result text.now (DeclarationPart ∷ []) (λ r xs l. IsShallow (declaration_of r.0) × DeclarationSpans text.now r.0 xs l) input.now (λ r. r.1.now) }
 {
     match next_kind(input) {
         Some((kind, rest)) => {
@@ -88,7 +88,7 @@ fn read_declaration<'t>(alloc: Global, text: &str, input: &'t [Lexeme]) -> Read<
 
 // The role that stands before `channel`, where one stands.
 fn read_role(input: &[Lexeme]) -> (Role, &[Lexeme])
-    ensures spans { (text : List ℕ) → RoleSpans text result.0 input.now result.1.now }
+    ensures spans { (text : List ℕ) → TakesAll (lexemes text) (role_words result.0 []) input.now result.1.now }
     ensures proper { (text : List ℕ) → AreProper text input.now → AreProper text result.1.now }
     ensures reads { (text : List ℕ) → Reads text 0 (RolePart ∷ []) input.now result.1.now }
     ensures shorter { length result.1.now ≤ length input.now }
@@ -103,7 +103,7 @@ fn read_role(input: &[Lexeme]) -> (Role, &[Lexeme])
 // A process with its body.
 fn read_process<'t>(alloc: Global, text: &str, input: &'t [Lexeme]) -> Read<'t, Process>
     requires proper { AreProper text.now input.now }
-    ensures { ParsesPart result text.now (ProcessPart ∷ []) (λ r xs l. IsFormed (process_of r.0) × ProcessSpans text.now r.0 xs l) input.now (λ r. r.1.now) }
+    ensures { ParsesPart result text.now (ProcessPart ∷ []) (λ r xs l. IsShallow (process_of r.0) × ProcessSpans text.now r.0 xs l) input.now (λ r. r.1.now) }
 {
     let rest = expect(input, Class::Word(Keyword::Process))?;
     let (name, rest) = read_name(alloc, text, rest)?;
@@ -123,7 +123,7 @@ fn read_process<'t>(alloc: Global, text: &str, input: &'t [Lexeme]) -> Read<'t, 
 // The parameters of a process in their brackets, and what stands between them and its body.
 fn read_head<'t>(alloc: Global, text: &str, input: &'t [Lexeme]) -> Read<'t, Vec<Parameter>>
     requires proper { AreProper text.now input.now }
-    ensures { ParsesPart result text.now head_parts (λ r. HeadSpans text.now r.0.items) input.now (λ r. r.1.now) }
+    ensures { ParsesPart result text.now head_parts (λ r. Head (lexemes text.now) parameter_with r.0.items) input.now (λ r. r.1.now) }
 {
     let rest = expect(input, Class::Sign(Sign::Open))?;
     let (parameters, rest) = read_parameters(alloc, text, rest)?;
@@ -136,7 +136,7 @@ fn read_head<'t>(alloc: Global, text: &str, input: &'t [Lexeme]) -> Read<'t, Vec
 // The groups of parameters, with semicolons between: none or more.
 fn read_parameters<'t>(alloc: Global, text: &str, input: &'t [Lexeme]) -> Read<'t, Vec<Parameter>>
     requires proper { AreProper text.now input.now }
-    ensures { ParsesPart result text.now (GroupsPart ∷ []) (λ r. ParametersSpan text.now r.0.items) input.now (λ r. r.1.now) }
+    ensures { ParsesPart result text.now (GroupsPart ∷ []) (λ r. Parameters (lexemes text.now) parameter_with r.0.items) input.now (λ r. r.1.now) }
 {
     let mut parameters = Vec::new(alloc);
     if next_kind(input).is_none() {
@@ -163,7 +163,7 @@ struct Group {
 // A group of parameters.
 fn read_group<'t>(alloc: Global, text: &str, input: &'t [Lexeme]) -> Read<'t, Group>
     requires proper { AreProper text.now input.now }
-    ensures { ParsesPart result text.now (GroupPart ∷ []) (λ r. GroupSpans text.now (group r.0.taking r.0.names.items)) input.now (λ r. r.1.now) }
+    ensures { ParsesPart result text.now (GroupPart ∷ []) (λ r. ParameterGroup (lexemes text.now) (group r.0.taking r.0.names.items)) input.now (λ r. r.1.now) }
 {
     let Some((kind, rest)) = next_kind(input) else {
         return Err(Stop::Refused(false, input.len()));
@@ -175,8 +175,7 @@ fn read_group<'t>(alloc: Global, text: &str, input: &'t [Lexeme]) -> Read<'t, Gr
 
 // What the parameters of a group of this kind take.
 fn read_taking(kind: Kind, input: &[Lexeme]) -> (Taking, &[Lexeme])
-    ensures spans { (text : List ℕ) → DirectionSpans text result.0 input.now result.1.now }
-    ensures kind { taking_kind result.0 ≡ kind }
+    ensures spans { (text : List ℕ) (xs : _) → Takes text (kind_terminal kind) xs input.now → TakesAll (lexemes text) (taking_words result.0 []) xs result.1.now }
     ensures proper { (text : List ℕ) → AreProper text input.now → AreProper text result.1.now }
     ensures reads { (text : List ℕ) → Reads text 0 (TakingPart ∷ []) input.now result.1.now }
     ensures shorter { length result.1.now ≤ length input.now }
@@ -206,7 +205,7 @@ fn add_parameters(
 // The variables of a body: none or more.
 fn read_variables<'t>(alloc: Global, text: &str, input: &'t [Lexeme]) -> Read<'t, Vec<Variable>>
     requires proper { AreProper text.now input.now }
-    ensures { ParsesPart result text.now (VariablesPart ∷ []) (λ r. VariablesSpan text.now r.0.items) input.now (λ r. r.1.now) }
+    ensures { ParsesPart result text.now (VariablesPart ∷ []) (λ r. Variables (lexemes text.now) variable_with r.0.items) input.now (λ r. r.1.now) }
 {
     let mut variables = Vec::new(alloc);
     let mut rest = input;

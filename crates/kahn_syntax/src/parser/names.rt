@@ -4,7 +4,8 @@ ghost use Rattle.std.specs.Prelude.{◌≡◌, ◌+◌, ◌<◌, [], ◌∷◌, 
 ghost use Rattle.kahn_syntax.specs.declared.parser.cursor.Stop.TheVariants.{Refused, NoMemory};
 ghost use Rattle.kahn_syntax.specs.Lexemes.{name, terminals, AreProper};
 ghost use Rattle.kahn_syntax.specs.inner.Machine.{leads, TokenPart, NamesTail, a_name};
-ghost use Rattle.kahn_syntax.specs.Spans.{name_of, NameSpans, NamesSpan};
+ghost use Rattle.kahn_syntax.specs.Spans.{name_of, lexemes, NameSpans};
+ghost use Rattle.kahn_syntax.specs.Programs.{SomeNames};
 ghost use Rattle.kahn_syntax.specs.inner.Reads.{ParsesPart};
 
 use crate::lexeme::{Class, Lexeme, Sign};
@@ -45,7 +46,7 @@ pub fn read_name<'t>(alloc: Global, text: &str, input: &'t [Lexeme]) -> Read<'t,
 /// One name or more, with commas between.
 pub fn read_names<'t>(alloc: Global, text: &str, input: &'t [Lexeme]) -> Read<'t, Vec<Name>>
     requires proper { AreProper text.now input.now }
-    ensures { ParsesPart result text.now (TokenPart a_name ∷ NamesTail ∷ []) (λ r. NamesSpan text.now r.0.items) input.now (λ r. r.1.now) }
+    ensures { ParsesPart result text.now (TokenPart a_name ∷ NamesTail ∷ []) (λ r. SomeNames (lexemes text.now) r.0.items) input.now (λ r. r.1.now) }
 {
     let mut names = Vec::new(alloc);
     let mut rest = input;

@@ -7,10 +7,10 @@ ghost use Rattle.kahn_syntax.specs.Lexemes.{Terminal, terminals, AreProper, sign
 ghost use Rattle.kahn_syntax.specs.inner.Machine.{leads, InstancePart, ArgumentsPart, ArgumentPart, InstancesTail, LastTail, a_number};
 ghost use Rattle.kahn_syntax.specs.Texts.{IsFault};
 ghost use Rattle.kahn_syntax.specs.declared.fault.SyntaxFault.TheVariants as SyntaxFault;
-ghost use Rattle.kahn_syntax.specs.Programs.{ProgramTree, Spells, nesting, Instances};
-ghost use Rattle.kahn_syntax.specs.Spans.{declaration_of, program_of, IsPast, MayPart, ArgumentSpans, InstanceSpans, InstancesSpan, ProgramSpans};
+ghost use Rattle.kahn_syntax.specs.Programs.{ProgramTree, Spells, nesting, May};
+ghost use Rattle.kahn_syntax.specs.Spans.{program_of, IsPast, Takes, ArgumentSpans, InstanceSpans, InstancesSpan, ProgramSpans};
 ghost use Rattle.kahn_syntax.specs.declared.lexeme.Lexeme.{Lexeme};
-ghost use Rattle.kahn_syntax.specs.inner.Reads.{Reads, Halts, AreSound, ClosedArgumentsSpan, ParsesPart};
+ghost use Rattle.kahn_syntax.specs.inner.Reads.{Reads, Halts, ClosedArgumentsSpan, ParsesPart};
 
 use crate::fault::{SyntaxFault, What};
 use crate::lexeme::{Class, Keyword, Lexeme, Sign};
@@ -71,7 +71,7 @@ fn fault_of(text: &str, lexemes: &[Lexeme], stop: Stop) -> SyntaxFault
 // A whole program.
 fn read_program(alloc: Global, text: &str, lexemes: &[Lexeme]) -> Result<Program, Stop>
     requires proper { AreProper text.now lexemes.now }
-    ensures read { IfOk result (λ p. AreSound (map declaration_of p.declarations.items) × ProgramSpans text.now p lexemes.now) }
+    ensures read { IfOk result (λ p. (nesting (program_of p) ≤ 64) × ProgramSpans text.now p lexemes.now) }
     ensures halts { IfErr result (λ e. Halts (terminals text.now lexemes.now) e) }
 {
     let rest = expect(lexemes, Class::Word(Keyword::Begin))?;
@@ -91,7 +91,7 @@ fn read_program(alloc: Global, text: &str, lexemes: &[Lexeme]) -> Result<Program
 
 // The lexemes after a semicolon, where one stands first.
 fn past_semicolon(input: &[Lexeme]) -> &[Lexeme]
-    ensures spans { (text : List ℕ) → MayPart text input.now result.now }
+    ensures spans { (text : List ℕ) → May (Takes text (sign mark.Semicolon)) input.now result.now }
     ensures shorter { length result.now ≤ length input.now }
     ensures proper { (text : List ℕ) → AreProper text input.now → AreProper text result.now }
     ensures reads { (text : List ℕ) → Reads text 0 (LastTail ∷ []) input.now result.now }

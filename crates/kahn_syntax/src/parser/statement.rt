@@ -1,12 +1,12 @@
 //! Statements.
 
-ghost use Rattle.std.specs.Prelude.{◌≡◌, ◌≤◌, ◌+◌, true, length};
+ghost use Rattle.std.specs.Prelude.{◌≡◌, ◌≤◌, ◌+◌, [], ◌∷◌, true, length, MatchResult};
 ghost use Rattle.kahn_syntax.specs.declared.lexeme.Keyword.TheVariants as keyword;
 ghost use Rattle.kahn_syntax.specs.declared.lexeme.Class.TheVariants as class;
 ghost use Rattle.kahn_syntax.specs.Lexemes.{terminals, First, AreProper};
 ghost use Rattle.kahn_syntax.specs.Spans.{IsPast};
-ghost use Rattle.kahn_syntax.specs.inner.Reads.{ParsesStatement, ParsesStatements};
-ghost use Rattle.kahn_syntax.specs.inner.Machine.{leads, StatementPart, SimplePart, a_name};
+ghost use Rattle.kahn_syntax.specs.inner.Reads.{ParsesStatement, BodyRead, Stops};
+ghost use Rattle.kahn_syntax.specs.inner.Machine.{leads, StatementPart, SimplePart, StatementsTail, a_name};
 
 use crate::lexeme::{Class, Keyword, Lexeme, Sign};
 use crate::parser::cursor::{Read, deeper, expect, next, past, reach};
@@ -25,7 +25,7 @@ pub fn read_statements<'t>(
 ) -> Read<'t, Vec<Statement>>
     requires depth { depth ≤ 64 }
     requires proper { AreProper text.now input.now }
-    ensures { ParsesStatements result text.now depth (λ r. r.0.items) input.now (λ r. r.1.now) }
+    ensures { MatchResult result (λ r. BodyRead text.now depth r.0.items input.now r.1.now) (Stops text.now depth (StatementPart ∷ StatementsTail ∷ []) input.now) }
 {
     let mut statements = Vec::new(alloc);
     let mut rest = input;

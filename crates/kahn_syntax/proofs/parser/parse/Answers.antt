@@ -1,4 +1,4 @@
-use Rattle.kahn_syntax.proofs.Parsing.{AreLexemes, AreProper, Err, IfErr-weaker, IfOk, IsFault, IsProgram, IsTextFault, Lexeme, List, Ok, Program, ProgramSpans, ProgramTree, Result, Spells, SyntaxFault, inr, length, lexed_proper, nesting, program_of, same_lexemes, subst, sym, terminals, ℕ, ◌≡◌, ◌≤◌}
+use Rattle.kahn_syntax.proofs.Parsing.{AreLexemes, AreProper, Err, IfErr-weaker, IfOk, IsFault, IsProgram, IsTextFault, Lexeme, List, Ok, Program, ProgramSpans, ProgramTree, Result, Spells, SyntaxFault, inr, length, lexed_proper, nesting, same_lexemes, subst, sym, terminals, ℕ, ◌≡◌, ◌≤◌}
 use Rattle.kahn_syntax.specs.declared.fault.SyntaxFault.TheVariants.{NoMemory}
 use Rattle.kahn_syntax.proofs.parser.parse.Goals as goal
 
@@ -30,12 +30,11 @@ returns-in-Ok-clause-fault c =
 pub returns-in-Err-clause-found : goal.returns-in-Err-clause-found
 returns-in-Err-clause-found c = λ xs t a s l. c.in-Err.ensures.only xs a.0 a.1
 
-both : (text : List ℕ) (xs : List Lexeme) (r : Result Program SyntaxFault) → AreLexemes text xs → IfOk r (λ p. Spells (program_of p) (terminals text xs)) →
-    IfOk r (λ p. ProgramSpans text p xs) → IfOk r (IsProgram text)
-both text xs (Ok p) l s h = (xs, l, s, h)
-both text xs (Err e) l s h = tt
+both : (text : List ℕ) (xs : List Lexeme) (r : Result Program SyntaxFault) → AreLexemes text xs → IfOk r (λ p. ProgramSpans text p xs) → IfOk r (IsProgram text)
+both text xs (Ok p) l h = (xs, l, h)
+both text xs (Err e) l h = tt
 
 pub returns-in-Ok-clause-spells : goal.returns-in-Ok-clause-spells
 returns-in-Ok-clause-spells c =
     both c.args.text.now c.deref.result.now c.parse_lexemes.result (subst (AreLexemes c.args.text.now) (sym c.deref.ensures.value) c.in-Ok.ensures.lexed)
-    c.parse_lexemes.ensures.spells c.parse_lexemes.ensures.spans
+    c.parse_lexemes.ensures.spans

@@ -68,4 +68,4 @@ invariant_of-self g c =
     let t = c.self.inside.network.value in
     let lists = c.self.inside.input.value in
     let seat = seat_after (g.P.Ports.seat c.args.ports.now) (g.P.Ports.seat c.run.new.ports) c.args.self.now.told c.self.inside.progress c.run.new.self t lists (ap (λ v. v.told) c.self.view_is) c.requires.ports c.run.ensures.ports.0 c.run.ensures.names.0 in
-    standing_after (g.P.Ports.seat c.run.new.ports) c.run.new.self t lists c.body-body.result.now (g.P.Ports.next c.run.new.ports) seat c.run.ensures.sits (subst (λ p. p < length (network_of t).instances) (sym c.run.ensures.names.0) c.self.invariant.here)
+    standing_after (g.P.Ports.seat c.run.new.ports) c.run.new.self t lists c.body-body.result.now (g.P.Ports.next c.run.new.ports) seat c.run.ensures.sits (subst (λ p. p < length (network_of t).instances) (sym c.run.ensures.names.0) c.self.invariant.here) c.run.ensures.place

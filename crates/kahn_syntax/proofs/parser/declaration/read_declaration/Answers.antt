@@ -20,7 +20,7 @@ pub returns-in_ok-names-in-Some : goal.returns-in_ok-names-in-Some
 returns-in_ok-names-in-Some c =
     record {
       spans = let T = c.args.text.now in (
-        tt,
+        omega arith,
         (
           c.in-Some.rest.now,
           c.read_role-role.result.1.now,

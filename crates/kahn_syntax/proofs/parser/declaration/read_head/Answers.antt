@@ -1,4 +1,4 @@
-use Rattle.kahn_syntax.proofs.Parsing.{◌∷◌, Begin, Close, GroupsPart, Open, Semicolon, SignClass, Word, a_sign, a_word, arith, call, call_stops, drop, err_from_is_err_and, expected, head_parts, one_lexeme, refl, sign, then, then_stops, unexpected, word, []}
+use Rattle.kahn_syntax.proofs.Parsing.{TakesAll, lexemes, ◌∷◌, Begin, Close, GroupsPart, Open, Semicolon, SignClass, Word, a_sign, a_word, arith, call, call_stops, drop, err_from_is_err_and, expected, head_parts, one_lexeme, refl, sign, then, then_stops, unexpected, word, []}
 use Rattle.kahn_syntax.proofs.parser.declaration.read_head.Goals as goal
 
 pub returns-in_err-rest : goal.returns-in_err-rest
@@ -51,17 +51,17 @@ returns c =
     let m2 = then m1 (call T 0 0 (GroupsPart ∷ []) (drop 2 head_parts) c.in_ok-rest.rest.now c.in_ok-parameters.rest.now (λ s l. l) c.in_ok-parameters.ensures.reads) in
     let m3 = then m2 (expected T 0 (a_sign Close) (drop 3 head_parts) (SignClass Close) c.in_ok-parameters.rest.now c.in_ok-rest-2.rest.now (λ s l. omega (arith, l)) refl c.in_ok-rest-2.ensures.first) in
     let m4 = then m3 (expected T 0 (a_sign Semicolon) (drop 4 head_parts) (SignClass Semicolon) c.in_ok-rest-2.rest.now c.in_ok-rest-3.rest.now (λ s l. omega (arith, l)) refl c.in_ok-rest-3.ensures.first) in
+    let ended : TakesAll (lexemes T) (word Begin ∷ []) c.in_ok-rest-3.rest.now c.in_ok-rest-4.rest.now =
+    (c.in_ok-rest-4.rest.now, one_lexeme T (word Begin) c.in_ok-rest-3.rest.now c.in_ok-rest-4.rest.now c.in_ok-rest-4.ensures.passed (c.in_ok-rest-4.ensures.first.1 T), refl) in
+    let begun : TakesAll (lexemes T) (sign Semicolon ∷ word Begin ∷ []) c.in_ok-rest-2.rest.now c.in_ok-rest-4.rest.now =
+    (c.in_ok-rest-3.rest.now, one_lexeme T (sign Semicolon) c.in_ok-rest-2.rest.now c.in_ok-rest-3.rest.now c.in_ok-rest-3.ensures.passed (c.in_ok-rest-3.ensures.first.1 T), ended) in
     record {
       spans = (
         c.in_ok-rest.rest.now,
         c.in_ok-parameters.rest.now,
-        c.in_ok-rest-2.rest.now,
-        c.in_ok-rest-3.rest.now,
         one_lexeme T (sign Open) i c.in_ok-rest.rest.now c.in_ok-rest.ensures.passed (c.in_ok-rest.ensures.first.1 T),
         c.in_ok-parameters.ensures.spans,
-        one_lexeme T (sign Close) c.in_ok-parameters.rest.now c.in_ok-rest-2.rest.now c.in_ok-rest-2.ensures.passed (c.in_ok-rest-2.ensures.first.1 T),
-        one_lexeme T (sign Semicolon) c.in_ok-rest-2.rest.now c.in_ok-rest-3.rest.now c.in_ok-rest-3.ensures.passed (c.in_ok-rest-3.ensures.first.1 T),
-        one_lexeme T (word Begin) c.in_ok-rest-3.rest.now c.in_ok-rest-4.rest.now c.in_ok-rest-4.ensures.passed (c.in_ok-rest-4.ensures.first.1 T),
+        (c.in_ok-rest-2.rest.now, one_lexeme T (sign Close) c.in_ok-parameters.rest.now c.in_ok-rest-2.rest.now c.in_ok-rest-2.ensures.passed (c.in_ok-rest-2.ensures.first.1 T), begun),
       );
       shorter = omega (arith, c.in_ok-rest.ensures.shorter, c.in_ok-parameters.ensures.shorter, c.in_ok-rest-2.ensures.shorter, c.in_ok-rest-3.ensures.shorter, c.in_ok-rest-4.ensures.shorter);
       proper = c.in_ok-rest-4.ensures.proper T (c.in_ok-rest-3.ensures.proper T (c.in_ok-rest-2.ensures.proper T c.in_ok-parameters.ensures.proper));

@@ -57,7 +57,7 @@ returns c =
     let m4 = then m3 (call T 0 0 (StatementPart ∷ StatementsTail ∷ []) (drop 9 process_parts) c.in_ok-variables.rest.now c.in_ok-statements.rest.now (λ s l. l) c.in_ok-statements.ensures.reads) in
     record {
       spans = (
-        (c.in_ok-statements.ensures.some, c.in_ok-statements.ensures.formed, omega (arith, c.in_ok-statements.ensures.nesting)),
+        omega (arith, c.in_ok-statements.ensures.nesting),
         (
           c.in_ok-rest.rest.now,
           c.in_ok-name.rest.now,
@@ -68,7 +68,7 @@ returns c =
           c.in_ok-name.ensures.spans,
           c.in_ok-parameters.ensures.spans,
           c.in_ok-variables.ensures.spans,
-          c.in_ok-statements.ensures.spans,
+          (c.in_ok-statements.ensures.spans, c.in_ok-statements.ensures.formed.0, c.in_ok-statements.ensures.formed.1),
           one_lexeme T (word End) c.in_ok-statements.rest.now c.in_ok-rest-2.rest.now c.in_ok-rest-2.ensures.passed (c.in_ok-rest-2.ensures.first.1 T),
         ),
       );

@@ -2,10 +2,13 @@ use Rattle.kahn_syntax.proofs.Parsing.{TakingPart, arith, false, nothing, one, r
 use Rattle.kahn_syntax.proofs.parser.declaration.read_taking.Goals as goal
 
 pub returns-in-Some-Word-In-default-clause-spans : goal.returns-in-Some-Word-In-default-clause-spans
-returns-in-Some-Word-In-default-clause-spans c = λ T. (one_lexeme T (word In) c.args.input.now c.in-Some-Word-In-default.rest.now c.in-Some-Word-In-default.ensures.passed ((first_of _ (Word In) c.args.input.now c.in-Some-Word-In-default.rest.now (c.in-Some-Word-In-default.field-0-0-is ∙ ap Word c.in-Some-Word-In-default.field-0-0-0-is) c.in-Some-Word-In-default.ensures.first.0).1 T))
+returns-in-Some-Word-In-default-clause-spans c = λ T xs t. (c.args.input.now, t, (c.in-Some-Word-In-default.rest.now, one_lexeme T (word In) c.args.input.now c.in-Some-Word-In-default.rest.now c.in-Some-Word-In-default.ensures.passed ((first_of _ (Word In) c.args.input.now c.in-Some-Word-In-default.rest.now (c.in-Some-Word-In-default.field-0-0-is ∙ ap Word c.in-Some-Word-In-default.field-0-0-0-is) c.in-Some-Word-In-default.ensures.first.0).1 T), refl))
 
 pub returns-in-Some-Word-Out-default-clause-spans : goal.returns-in-Some-Word-Out-default-clause-spans
-returns-in-Some-Word-Out-default-clause-spans c = λ T. (one_lexeme T (word Out) c.args.input.now c.in-Some-Word-Out-default.rest.now c.in-Some-Word-Out-default.ensures.passed ((first_of _ (Word Out) c.args.input.now c.in-Some-Word-Out-default.rest.now (c.in-Some-Word-Out-default.field-0-0-is ∙ ap Word c.in-Some-Word-Out-default.field-0-0-0-is) c.in-Some-Word-Out-default.ensures.first.0).1 T))
+returns-in-Some-Word-Out-default-clause-spans c = λ T xs t. (c.args.input.now, t, (c.in-Some-Word-Out-default.rest.now, one_lexeme T (word Out) c.args.input.now c.in-Some-Word-Out-default.rest.now c.in-Some-Word-Out-default.ensures.passed ((first_of _ (Word Out) c.args.input.now c.in-Some-Word-Out-default.rest.now (c.in-Some-Word-Out-default.field-0-0-is ∙ ap Word c.in-Some-Word-Out-default.field-0-0-0-is) c.in-Some-Word-Out-default.ensures.first.0).1 T), refl))
+
+pub returns-in_default-clause-spans : goal.returns-in_default-clause-spans
+returns-in_default-clause-spans c = λ T xs t. (c.args.input.now, t, refl)
 
 pub returns-in-Some-Word-In-default-clause-reads : goal.returns-in-Some-Word-In-default-clause-reads
 returns-in-Some-Word-In-default-clause-reads c = λ T. one T 0 TakingPart [] [] (word In) c.args.input.now c.in-Some-Word-In-default.rest.now (λ s l. omega (arith, l)) (λ s. refl) ((first_of _ (Word In) c.args.input.now c.in-Some-Word-In-default.rest.now (c.in-Some-Word-In-default.field-0-0-is ∙ ap Word c.in-Some-Word-In-default.field-0-0-0-is) c.in-Some-Word-In-default.ensures.first.0).1 T)

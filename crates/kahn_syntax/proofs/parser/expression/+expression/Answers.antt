@@ -30,7 +30,7 @@ read_level-operands-preserved t c =
     let v = subst (λ e. ExpressionRead c.args.text.now c.args.depth (tighter (rung_of c.args.level)) e c.in-Some.after.now c.in_ok-expression.left.now) (sym c.into_inner.ensures) c.in_ok-expression.ensures in
     record {
       spans = (c.operands.invariant.spans.0, c.operands.invariant.spans.1, operands_next c.args.text.now _ _ _ _ c.operands.rest.now c.in-Some.after.now c.in_ok-expression.left.now c.in_ok-push.ensures.items c.operands.invariant.spans.2 (one_lexeme c.args.text.now (operator_terminal c.in-Some.operator) c.operands.rest.now c.in-Some.after.now c.in-Some.ensures.passed (c.in-Some.ensures.first c.args.text.now)) v.spans);
-      formed = formed_next c.args.level _ _ _ c.in_ok-push.ensures.items c.operands.invariant.formed c.in-Some.ensures.ranked v.fits;
+      formed = formed_next c.args.level _ _ _ c.in_ok-push.ensures.items c.operands.invariant.formed c.in-Some.ensures.ranked v.formed;
       nesting = operands_nesting_next _ (expression_of c.in_ok-first.first.value) _ _ _ c.in_ok-push.ensures.items c.operands.invariant.nesting v.nesting;
       shorter = omega (arith, c.in-Some.ensures.shorter, v.shorter, c.operands.invariant.shorter);
       proper = v.proper;
@@ -152,10 +152,12 @@ read_expression-returns-in_default t c =
 pub read_before-returns : goal.read_before-returns
 read_before-returns t c =
     let T = c.args.text.now in record {
-      between = c.in_ok-expression.rest.now;
-      spans = c.in_ok-expression.ensures.spans;
-      takes = one_lexeme T (word c.args.last) c.in_ok-expression.rest.now c.in_ok-rest.rest.now c.in_ok-rest.ensures.passed (c.in_ok-rest.ensures.first.1 T);
-      fits = c.in_ok-expression.ensures.fits;
+      spans = (
+        c.in_ok-expression.rest.now,
+        c.in_ok-expression.ensures.spans,
+        one_lexeme T (word c.args.last) c.in_ok-expression.rest.now c.in_ok-rest.rest.now c.in_ok-rest.ensures.passed (c.in_ok-rest.ensures.first.1 T),
+      );
+      formed = c.in_ok-expression.ensures.formed;
       nesting = c.in_ok-expression.ensures.nesting;
       shorter = omega (arith, c.in_ok-expression.ensures.shorter, c.in_ok-rest.ensures.shorter);
       proper = c.in_ok-rest.ensures.proper T c.in_ok-expression.ensures.proper;
@@ -175,7 +177,7 @@ pub read_relation-returns-in_default : goal.read_relation-returns-in_default
 read_relation-returns-in_default t c =
     record {
       spans = c.in_ok-left.ensures.spans;
-      fits = (omega (arith, c.in_ok-left.ensures.fits.0), c.in_ok-left.ensures.fits.1);
+      formed = (omega (arith, c.in_ok-left.ensures.formed.0), c.in_ok-left.ensures.formed.1);
       nesting = c.in_ok-left.ensures.nesting;
       shorter = c.in_ok-left.ensures.shorter;
       proper = c.in_ok-left.ensures.proper;
@@ -219,19 +221,19 @@ read_expression-returns t c =
         h,
         (
           c.in-Some.rest.now,
-          c.in_ok-test.ensures.between,
+          c.in_ok-test.ensures.spans.0,
           c.in_ok-test.rest.now,
-          c.in_ok-yes.ensures.between,
+          c.in_ok-yes.ensures.spans.0,
           c.in_ok-yes.rest.now,
           one_lexeme T (word If) c.args.input.now c.in-Some.rest.now c.in-Some.ensures.passed (c.in-Some.ensures.first.1 T),
-          c.in_ok-test.ensures.spans,
-          c.in_ok-test.ensures.takes,
-          c.in_ok-yes.ensures.spans,
-          c.in_ok-yes.ensures.takes,
+          c.in_ok-test.ensures.spans.1,
+          c.in_ok-test.ensures.spans.2,
+          c.in_ok-yes.ensures.spans.1,
+          c.in_ok-yes.ensures.spans.2,
           c.in_ok-no.ensures.spans,
         ),
       );
-      fits = (omega arith, (c.in_ok-test.ensures.fits.1, c.in_ok-yes.ensures.fits.1, c.in_ok-no.ensures.fits.1));
+      formed = (omega arith, (c.in_ok-test.ensures.formed.1, c.in_ok-yes.ensures.formed.1, c.in_ok-no.ensures.formed.1));
       nesting = omega (arith, c.in_ok-inner.ensures.deeper.0, c.in_ok-test.ensures.nesting, c.in_ok-yes.ensures.nesting, c.in_ok-no.ensures.nesting);
       shorter = omega (arith, c.in-Some.ensures.shorter, c.in_ok-test.ensures.shorter, c.in_ok-yes.ensures.shorter, c.in_ok-no.ensures.shorter);
       proper = c.in_ok-no.ensures.proper;
@@ -252,7 +254,7 @@ read_denial-returns t c =
     let T = c.args.text.now in
     made T c.args.depth denials _ c.args.input.now c.in_ok-operand.rest.now (λ at h. record {
       spans = (h, (c.in-Some.rest.now, one_lexeme T (word NotWord) c.args.input.now c.in-Some.rest.now c.in-Some.ensures.passed (c.in-Some.ensures.first T), c.in_ok-operand.ensures.spans));
-      fits = (omega arith, c.in_ok-operand.ensures.fits);
+      formed = (omega arith, c.in_ok-operand.ensures.formed);
       nesting = omega (arith, c.in_ok-inner.ensures.deeper.0, c.in_ok-operand.ensures.nesting);
       shorter = omega (arith, c.in-Some.ensures.shorter, c.in_ok-operand.ensures.shorter);
       proper = c.in_ok-operand.ensures.proper;
@@ -269,7 +271,7 @@ read_relation-returns t c =
         c.in_ok-form.ensures.spans T c.args.input.now c.in_ok-left.rest.now c.in-Some.after.now c.in_ok-right.rest.now c.in_ok-left.ensures.spans
             (one_lexeme T (operator_terminal c.in-Some.operator) c.in_ok-left.rest.now c.in-Some.after.now c.in-Some.ensures.passed (c.in-Some.ensures.first T)) c.in_ok-right.ensures.spans,
       );
-      fits = subst (FitsLevel 4) (sym c.in_ok-form.ensures.built) (compared_fits c.in-Some.operator _ _ c.in-Some.ensures.ranked c.in_ok-left.ensures.fits c.in_ok-right.ensures.fits);
+      formed = subst (FitsLevel 4) (sym c.in_ok-form.ensures.built) (compared_fits c.in-Some.operator _ _ c.in-Some.ensures.ranked c.in_ok-left.ensures.formed c.in_ok-right.ensures.formed);
       nesting = omega (arith, ap expression_nesting c.in_ok-form.ensures.built, c.in_ok-left.ensures.nesting, c.in_ok-right.ensures.nesting);
       shorter = omega (arith, c.in-Some.ensures.shorter, c.in_ok-left.ensures.shorter, c.in_ok-right.ensures.shorter);
       proper = c.in_ok-right.ensures.proper;
@@ -284,7 +286,7 @@ read_level-returns-then-is_empty t c =
     let i = c.operands.invariant in
     record {
       spans = subst (ExpressionSpans T c.in_ok-first.first.value c.args.input.now) (no_operands T c.operands.further.items i.spans.0 c.operands.rest.now none i.spans.2) i.spans.1;
-      fits = level_fits c.args.level _ no_operand c.in_ok-first.ensures.fits tt;
+      formed = level_fits c.args.level _ no_operand c.in_ok-first.ensures.formed tt;
       nesting = c.in_ok-first.ensures.nesting;
       shorter = i.shorter;
       proper = i.proper;
@@ -302,7 +304,7 @@ read_level-returns t c =
     (λ e. let t : c.is_empty.result ≡ true = c.is_empty.ensures ∙ ap (λ n. n == 0) (l ∙ ap length e) in cc (t, c.if-is_empty.false)) in
     made T c.args.depth (rung_of c.args.level) _ c.args.input.now c.operands.rest.now (λ span h. record {
       spans = (h, (i.spans.0, i.spans.1, operands_row_spans T further i.spans.0 c.operands.rest.now i.spans.2));
-      fits = subst (FitsLevel (at (rung_of c.args.level))) (sym m) (level_fits c.args.level _ _ c.in_ok-first.ensures.fits i.formed);
+      formed = subst (FitsLevel (at (rung_of c.args.level))) (sym m) (level_fits c.args.level _ _ c.in_ok-first.ensures.formed i.formed);
       nesting = omega (arith, ap expression_nesting m, joined_nesting (expression_of first) (operands_of further.items), i.nesting);
       shorter = i.shorter;
       proper = i.proper;
@@ -319,7 +321,7 @@ read_factor-returns-in-Some-Number-default t c =
         subst (λ z. Takes T (number z) c.args.input.now c.in-Some-Number-default.rest.now) (sym (to_z-of_z w64 c.in-Some-Number-default.number (number_fits c.in-Some-Number-default.number u.0 u.1 u.2)))
             (one_lexeme T (number c.in-Some-Number-default.number) c.args.input.now c.in-Some-Number-default.rest.now c.in-Some-Number-default.ensures.passed ((first_of _ (Number c.in-Some-Number-default.number) c.args.input.now c.in-Some-Number-default.rest.now c.in-Some-Number-default.field-0-0-is c.in-Some-Number-default.ensures.first.0).1 T)),
       );
-      fits = (omega arith, tt);
+      formed = (omega arith, tt);
       nesting = omega (arith, c.requires.1.1.0);
       shorter = omega (arith, c.in-Some-Number-default.ensures.first.1);
       proper = c.in-Some-Number-default.ensures.proper T c.requires.1.1.1;
@@ -332,7 +334,7 @@ read_factor-returns-in-Some-Word-True-default t c =
     let T = c.args.text.now in
     made T c.args.depth factors _ c.args.input.now c.in-Some-Word-True-default.rest.now (λ at h. record {
       spans = (h, (one_lexeme T (word True) c.args.input.now c.in-Some-Word-True-default.rest.now c.in-Some-Word-True-default.ensures.passed ((first_of _ (Word True) c.args.input.now c.in-Some-Word-True-default.rest.now (c.in-Some-Word-True-default.field-0-0-is ∙ ap Word c.in-Some-Word-True-default.field-0-0-0-is) c.in-Some-Word-True-default.ensures.first.0).1 T)));
-      fits = (omega arith, tt);
+      formed = (omega arith, tt);
       nesting = omega (arith, c.requires.1.1.0);
       shorter = omega (arith, c.in-Some-Word-True-default.ensures.first.1);
       proper = c.in-Some-Word-True-default.ensures.proper T c.requires.1.1.1;
@@ -345,7 +347,7 @@ read_factor-returns-in-Some-Word-False-default t c =
     let T = c.args.text.now in
     made T c.args.depth factors _ c.args.input.now c.in-Some-Word-False-default.rest.now (λ at h. record {
       spans = (h, (one_lexeme T (word False) c.args.input.now c.in-Some-Word-False-default.rest.now c.in-Some-Word-False-default.ensures.passed ((first_of _ (Word False) c.args.input.now c.in-Some-Word-False-default.rest.now (c.in-Some-Word-False-default.field-0-0-is ∙ ap Word c.in-Some-Word-False-default.field-0-0-0-is) c.in-Some-Word-False-default.ensures.first.0).1 T)));
-      fits = (omega arith, tt);
+      formed = (omega arith, tt);
       nesting = omega (arith, c.requires.1.1.0);
       shorter = omega (arith, c.in-Some-Word-False-default.ensures.first.1);
       proper = c.in-Some-Word-False-default.ensures.proper T c.requires.1.1.1;
@@ -358,7 +360,7 @@ read_factor-returns-in_ok-operand-in-Some-Sign-Minus-default t c =
     let T = c.args.text.now in
     made T c.args.depth factors _ c.args.input.now c.in_ok-operand-in-Some-Sign-Minus-default.rest.now (λ at h. record {
       spans = (h, (c.in-Some-Sign-Minus-default.rest.now, (one_lexeme T (sign Minus) c.args.input.now c.in-Some-Sign-Minus-default.rest.now c.in-Some-Sign-Minus-default.ensures.passed ((first_of _ (SignClass Minus) c.args.input.now c.in-Some-Sign-Minus-default.rest.now (c.in-Some-Sign-Minus-default.field-0-0-is ∙ ap SignClass c.in-Some-Sign-Minus-default.field-0-0-0-is) c.in-Some-Sign-Minus-default.ensures.first.0).1 T)), c.in_ok-operand-in-Some-Sign-Minus-default.ensures.spans));
-      fits = (omega arith, c.in_ok-operand-in-Some-Sign-Minus-default.ensures.fits);
+      formed = (omega arith, c.in_ok-operand-in-Some-Sign-Minus-default.ensures.formed);
       nesting = omega (arith, c.in_ok-inner-in-Some-Sign-Minus-default.ensures.deeper.0, c.in_ok-operand-in-Some-Sign-Minus-default.ensures.nesting);
       shorter = omega (arith, c.in-Some-Sign-Minus-default.ensures.first.1, c.in_ok-operand-in-Some-Sign-Minus-default.ensures.shorter);
       proper = c.in_ok-operand-in-Some-Sign-Minus-default.ensures.proper;
@@ -371,7 +373,7 @@ read_factor-returns-in_ok-rest-in-Some-Sign-Open-default t c =
     let T = c.args.text.now in
     made T c.args.depth factors _ c.args.input.now c.in_ok-rest-in-Some-Sign-Open-default.rest.now (λ at h. record {
       spans = (h, (c.in-Some-Sign-Open-default.rest.now, c.in_ok-inside-in-Some-Sign-Open-default.rest.now, (one_lexeme T (sign Open) c.args.input.now c.in-Some-Sign-Open-default.rest.now c.in-Some-Sign-Open-default.ensures.passed ((first_of _ (SignClass Open) c.args.input.now c.in-Some-Sign-Open-default.rest.now (c.in-Some-Sign-Open-default.field-0-0-is ∙ ap SignClass c.in-Some-Sign-Open-default.field-0-0-0-is) c.in-Some-Sign-Open-default.ensures.first.0).1 T)), c.in_ok-inside-in-Some-Sign-Open-default.ensures.spans, (one_lexeme T (sign Close) c.in_ok-inside-in-Some-Sign-Open-default.rest.now c.in_ok-rest-in-Some-Sign-Open-default.rest.now c.in_ok-rest-in-Some-Sign-Open-default.ensures.passed (c.in_ok-rest-in-Some-Sign-Open-default.ensures.first.1 T))));
-      fits = (omega arith, c.in_ok-inside-in-Some-Sign-Open-default.ensures.fits.1);
+      formed = (omega arith, c.in_ok-inside-in-Some-Sign-Open-default.ensures.formed.1);
       nesting = omega (arith, c.in_ok-inner-in-Some-Sign-Open-default.ensures.deeper.0, c.in_ok-inside-in-Some-Sign-Open-default.ensures.nesting);
       shorter = omega (arith, c.in-Some-Sign-Open-default.ensures.first.1, c.in_ok-inside-in-Some-Sign-Open-default.ensures.shorter, c.in_ok-rest-in-Some-Sign-Open-default.ensures.shorter);
       proper = c.in_ok-rest-in-Some-Sign-Open-default.ensures.proper c.args.text.now c.in_ok-inside-in-Some-Sign-Open-default.ensures.proper;
@@ -384,7 +386,7 @@ read_factor-returns-in_ok-name-in-Some-Name-default t c =
     let T = c.args.text.now in
     made T c.args.depth factors _ c.args.input.now c.in_ok-name-in-Some-Name-default.rest.now (λ at h. record {
       spans = (h, c.in_ok-name-in-Some-Name-default.ensures.spans);
-      fits = (omega arith, tt);
+      formed = (omega arith, tt);
       nesting = omega (arith, c.requires.1.1.0);
       shorter = omega (arith, c.in_ok-name-in-Some-Name-default.ensures.shorter);
       proper = c.in_ok-name-in-Some-Name-default.ensures.proper;

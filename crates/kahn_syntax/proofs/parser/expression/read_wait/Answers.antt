@@ -32,7 +32,7 @@ returns c = λ d b.
           one_lexeme T (sign Close) c.in_ok-name.rest.now c.in_ok-rest-2.rest.now c.in_ok-rest-2.ensures.passed (c.in_ok-rest-2.ensures.first.1 T),
         ),
       );
-      fits = (omega arith, tt);
+      formed = (omega arith, tt);
       nesting = omega (arith, b);
       shorter = omega (arith, c.requires.follows, c.in_ok-rest.ensures.shorter, c.in_ok-name.ensures.shorter, c.in_ok-rest-2.ensures.shorter);
       proper = c.in_ok-rest-2.ensures.proper c.args.text.now c.in_ok-name.ensures.proper;

@@ -1,4 +1,4 @@
-use Rattle.kahn_syntax.proofs.Parsing.{Comma, NameSpans, NamesSpan, NamesTail, SignClass, Takes, TokenPart, a_name, a_sign, arith, err_from_is_err_and, last_member, name, name_of, next_member, no_name, one_lexeme, refl, sign, some_more, subst, sym, then_stops, token, [], ◌++◌, ◌∷◌}
+use Rattle.kahn_syntax.proofs.Parsing.{SomeNames, lexemes, Comma, NameSpans, NamesTail, SignClass, Takes, TokenPart, a_name, a_sign, arith, err_from_is_err_and, last_member, name, name_of, next_member, no_name, one_lexeme, refl, sign, some_more, subst, sym, then_stops, token, [], ◌++◌, ◌∷◌}
 use Rattle.kahn_syntax.proofs.parser.names.read_names.Goals as goal
 
 pub returns-in_err-name : goal.returns-in_err-name
@@ -11,7 +11,7 @@ returns-in_err-name c =
 pub names-init : goal.names-init
 names-init c =
     record {
-      spans = λ n r p. subst (λ ns. NamesSpan c.args.text.now (ns ++ n ∷ []) c.args.input.now r) (sym c.new-names.ensures.items) (r, p, refl);
+      spans = λ n r p. subst (λ ns. SomeNames (lexemes c.args.text.now) (ns ++ n ∷ []) c.args.input.now r) (sym c.new-names.ensures.items) (r, p, refl);
       shorter = omega arith;
       proper = c.requires.proper;
       reads = record { fates = λ s l. refl };
@@ -23,7 +23,7 @@ names-preserved c =
     let a = c.in_ok-name.after.now in
     let j = c.in-Some.further.now in
     record {
-      spans = λ n r p. some_more (Takes T (sign Comma)) (NameSpans T) _ n i a j r (subst (λ ns. NamesSpan T ns i a) (sym c.in_ok-push.ensures.items) (c.names.invariant.spans c.in_ok-name.name a c.in_ok-name.ensures.spans))
+      spans = λ n r p. some_more (Takes T (sign Comma)) (NameSpans T) _ n i a j r (subst (λ ns. SomeNames (lexemes T) ns i a) (sym c.in_ok-push.ensures.items) (c.names.invariant.spans c.in_ok-name.name a c.in_ok-name.ensures.spans))
           (one_lexeme T (sign Comma) a j c.in-Some.ensures.passed (c.in-Some.ensures.first.1 T)) p;
       shorter = omega (arith, c.in-Some.ensures.shorter, c.in_ok-name.ensures.shorter, c.names.invariant.shorter);
       proper = c.in-Some.ensures.proper T c.in_ok-name.ensures.proper;
@@ -34,7 +34,7 @@ pub returns-in_default : goal.returns-in_default
 returns-in_default c =
     let T = c.args.text.now in let i = c.args.input.now in
     let a = c.in_ok-name.after.now in
-    let s = subst (λ ns. NamesSpan T ns i a) (sym c.in_ok-push.ensures.items) (c.names.invariant.spans c.in_ok-name.name a c.in_ok-name.ensures.spans) in
+    let s = subst (λ ns. SomeNames (lexemes T) ns i a) (sym c.in_ok-push.ensures.items) (c.names.invariant.spans c.in_ok-name.name a c.in_ok-name.ensures.spans) in
     record {
       spans = s;
       shorter = omega (arith, c.in_ok-name.ensures.shorter, c.names.invariant.shorter);

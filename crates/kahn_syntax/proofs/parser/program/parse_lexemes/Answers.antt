@@ -1,16 +1,16 @@
-use Rattle.kahn_syntax.proofs.Parsing.{one_tree, program_spelled, sound_nesting}
+use Rattle.kahn_syntax.proofs.Parsing.{one_tree, program_spelled}
 use Rattle.kahn_syntax.specs.Lexemes.{terminals}
 use Rattle.kahn_syntax.proofs.parser.program.parse_lexemes.Goals as goal
 
 pub returns-in-Ok-clause-spells : goal.returns-in-Ok-clause-spells
-returns-in-Ok-clause-spells c = program_spelled c.args.text.now c.in-Ok.program c.args.lexemes.now c.in-Ok.ensures.read.0 c.in-Ok.ensures.read.1
+returns-in-Ok-clause-spells c = program_spelled c.args.text.now c.in-Ok.program c.args.lexemes.now c.in-Ok.ensures.read.1
 
 pub returns-in-Ok-clause-spans : goal.returns-in-Ok-clause-spans
 returns-in-Ok-clause-spans c = c.in-Ok.ensures.read.1
 
 pub returns-in-Ok-clause-nesting : goal.returns-in-Ok-clause-nesting
-returns-in-Ok-clause-nesting c = sound_nesting _ c.in-Ok.ensures.read.0
+returns-in-Ok-clause-nesting c = c.in-Ok.ensures.read.0
 
 pub returns-in-Ok-clause-only : goal.returns-in-Ok-clause-only
 returns-in-Ok-clause-only c = λ t p.
-    one_tree t _ (terminals c.args.text.now c.args.lexemes.now) p (program_spelled c.args.text.now c.in-Ok.program c.args.lexemes.now c.in-Ok.ensures.read.0 c.in-Ok.ensures.read.1)
+    one_tree t _ (terminals c.args.text.now c.args.lexemes.now) p (program_spelled c.args.text.now c.in-Ok.program c.args.lexemes.now c.in-Ok.ensures.read.1)

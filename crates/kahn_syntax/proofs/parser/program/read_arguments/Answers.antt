@@ -1,4 +1,4 @@
-use Rattle.kahn_syntax.proofs.Parsing.{ArgumentPart, ArgumentSpans, ArgumentsPart, ArgumentsSpan, ArgumentsTail, Close, Comma, SignClass, SomeArgumentsSpan, Takes, TokenPart, a_sign, arith, call_stops, err_from_is_err_and, expected, last_member, next_member, one, one_lexeme, opens_arguments, refl, sign, some_between, some_more, subst, sym, then, then_stops, unexpected, [], ◌++◌, ◌∷◌}
+use Rattle.kahn_syntax.proofs.Parsing.{Between, ArgumentPart, ArgumentSpans, ArgumentsPart, ArgumentsTail, Close, Comma, SignClass, SomeArgumentsSpan, Takes, TokenPart, a_sign, arith, call_stops, err_from_is_err_and, expected, last_member, next_member, one, one_lexeme, opens_arguments, refl, sign, some_between, some_more, subst, sym, then, then_stops, unexpected, [], ◌++◌, ◌∷◌}
 use Rattle.kahn_syntax.proofs.parser.program.read_arguments.Goals as goal
 
 pub returns-in_err-argument : goal.returns-in_err-argument
@@ -46,7 +46,7 @@ pub returns-in-Some : goal.returns-in-Some
 returns-in-Some c =
     record {
       spans = let T = c.args.text.now in
-          (c.args.input.now, subst (λ us. ArgumentsSpan T us c.args.input.now c.args.input.now) (sym c.new-arguments.ensures.items) refl, (one_lexeme T (sign Close) c.args.input.now c.in-Some.rest.now c.in-Some.ensures.passed (c.in-Some.ensures.first.1 T)));
+          (c.args.input.now, subst (λ us. Between (Takes T (sign Comma)) (ArgumentSpans T) us c.args.input.now c.args.input.now) (sym c.new-arguments.ensures.items) refl, (one_lexeme T (sign Close) c.args.input.now c.in-Some.rest.now c.in-Some.ensures.passed (c.in-Some.ensures.first.1 T)));
       shorter = omega (arith, c.in-Some.ensures.shorter);
       proper = c.in-Some.ensures.proper c.args.text.now c.requires.proper;
       reads = (one c.args.text.now 0 (ArgumentsPart) ([]) ([]) (sign Close) c.args.input.now c.in-Some.rest.now (λ s l. omega (arith, l)) (λ s. refl) (c.in-Some.ensures.first.1 c.args.text.now));

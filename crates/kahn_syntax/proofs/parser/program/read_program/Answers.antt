@@ -1,4 +1,4 @@
-use Rattle.kahn_syntax.proofs.Parsing.{Begin, DeclarationsPart, End, InstancePart, InstancesTail, LastTail, MayPart, ProgramPart, TokenPart, Word, a_word, arith, call, call_stops, err_from_is_err_and, expected, halts, length, no_program, none_left, one, one_lexeme, refl, rules, subst, then, then_stops, unexpected, whole_end, word, [], ◌∙◌, ◌∷◌, ◌≡◌, ◌≢◌}
+use Rattle.kahn_syntax.proofs.Parsing.{Begin, DeclarationsPart, End, InstancePart, InstancesTail, LastTail, May, ProgramPart, Semicolon, Takes, TokenPart, Word, a_word, arith, call, call_stops, err_from_is_err_and, expected, halts, length, no_program, none_left, one, one_lexeme, refl, rules, sign, subst, then, then_stops, unexpected, whole_end, word, [], ◌∙◌, ◌∷◌, ◌≡◌, ◌≢◌}
 use Rattle.kahn_syntax.proofs.parser.program.read_program.Goals as goal
 
 pub returns-in_err-rest-clause-halts : goal.returns-in_err-rest-clause-halts
@@ -39,7 +39,7 @@ returns-then-is_empty-clause-read c = (
         c.in_ok-instances.ensures.spans,
         c.past_semicolon.ensures.spans T,
         (one_lexeme T (word End) c.past_semicolon.result.now c.in_ok-rest-2.rest.now c.in_ok-rest-2.ensures.passed (c.in_ok-rest-2.ensures.first.1 T)),
-        subst (MayPart T c.in_ok-rest-2.rest.now) (none_left c.past_semicolon-rest.result.now a) (c.past_semicolon-rest.ensures.spans T),
+        subst (May (Takes T (sign Semicolon)) c.in_ok-rest-2.rest.now) (none_left c.past_semicolon-rest.result.now a) (c.past_semicolon-rest.ensures.spans T),
       )
       ),
 )

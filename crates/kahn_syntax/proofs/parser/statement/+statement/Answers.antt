@@ -131,16 +131,15 @@ read_statement-returns-in_ok-turn-in-Some-Word-While-default t c =
         c.reach.ensures,
         (
           c.in-Some-Word-While-default.rest.now,
-          c.in_ok-test-in-Some-Word-While-default.ensures.between,
+          c.in_ok-test-in-Some-Word-While-default.ensures.spans.0,
           c.in_ok-test-in-Some-Word-While-default.rest.now,
           (one_lexeme T (word While) c.args.input.now c.in-Some-Word-While-default.rest.now c.in-Some-Word-While-default.ensures.passed ((first_of _ (Word While) c.args.input.now c.in-Some-Word-While-default.rest.now (c.in-Some-Word-While-default.field-0-0-is ∙ ap Word c.in-Some-Word-While-default.field-0-0-0-is) c.in-Some-Word-While-default.ensures.first.0).1 T)),
-          subst (λ y. ExpressionSpans T y c.in-Some-Word-While-default.rest.now c.in_ok-test-in-Some-Word-While-default.ensures.between) (sym c.into_inner.ensures) c.in_ok-test-in-Some-Word-While-default.ensures.spans,
-          c.in_ok-test-in-Some-Word-While-default.ensures.takes,
+          subst (λ y. ExpressionSpans T y c.in-Some-Word-While-default.rest.now c.in_ok-test-in-Some-Word-While-default.ensures.spans.0) (sym c.into_inner.ensures) c.in_ok-test-in-Some-Word-While-default.ensures.spans.1,
+          c.in_ok-test-in-Some-Word-While-default.ensures.spans.2,
           c.in_ok-turn-in-Some-Word-While-default.ensures.spans,
         ),
       );
-      formed = (subst (λ y. Formed (expression_of y)) (sym c.into_inner.ensures) c.in_ok-test-in-Some-Word-While-default.ensures.fits.1, c.in_ok-turn-in-Some-Word-While-default.ensures.formed);
-      simple = tt;
+      formed = ((subst (λ y. Formed (expression_of y)) (sym c.into_inner.ensures) c.in_ok-test-in-Some-Word-While-default.ensures.formed.1, c.in_ok-turn-in-Some-Word-While-default.ensures.formed.0), λ e. absurd cc);
       nesting = omega (arith, ap (λ y. expression_nesting (expression_of y)) c.into_inner.ensures, c.in_ok-inner-in-Some-Word-While-default.ensures.deeper.0, c.in_ok-test-in-Some-Word-While-default.ensures.nesting, c.in_ok-turn-in-Some-Word-While-default.ensures.nesting);
       shorter = omega (arith, c.in-Some-Word-While-default.ensures.first.1, c.in_ok-test-in-Some-Word-While-default.ensures.shorter, c.in_ok-turn-in-Some-Word-While-default.ensures.shorter);
       proper = c.in_ok-turn-in-Some-Word-While-default.ensures.proper;
@@ -160,8 +159,7 @@ read_statement-returns-in_ok-turn-in-Some-Word-Repeat-default t c =
     record {
       spans = let T = c.args.text.now in
           (c.reach-in-Some-Word-Repeat-default.ensures, (c.in-Some-Word-Repeat-default.rest.now, (one_lexeme T (word Repeat) c.args.input.now c.in-Some-Word-Repeat-default.rest.now c.in-Some-Word-Repeat-default.ensures.passed ((first_of _ (Word Repeat) c.args.input.now c.in-Some-Word-Repeat-default.rest.now (c.in-Some-Word-Repeat-default.field-0-0-is ∙ ap Word c.in-Some-Word-Repeat-default.field-0-0-0-is) c.in-Some-Word-Repeat-default.ensures.first.0).1 T)), c.in_ok-turn-in-Some-Word-Repeat-default.ensures.spans));
-      formed = c.in_ok-turn-in-Some-Word-Repeat-default.ensures.formed;
-      simple = tt;
+      formed = (c.in_ok-turn-in-Some-Word-Repeat-default.ensures.formed.0, λ e. absurd cc);
       nesting = omega (arith, c.in_ok-inner-in-Some-Word-Repeat-default.ensures.deeper.0, c.in_ok-turn-in-Some-Word-Repeat-default.ensures.nesting);
       shorter = omega (arith, c.in-Some-Word-Repeat-default.ensures.first.1, c.in_ok-turn-in-Some-Word-Repeat-default.ensures.shorter);
       proper = c.in_ok-turn-in-Some-Word-Repeat-default.ensures.proper;
@@ -180,19 +178,21 @@ read_if-returns-in_default t c =
         c.reach.ensures,
         (
           c.args.rest.now,
-          c.in_ok-test.ensures.between,
+          c.in_ok-test.ensures.spans.0,
           c.in_ok-test.rest.now,
           c.in_ok-yes.rest.now,
           one_lexeme T (word If) c.args.input.now c.args.rest.now c.requires.1.1.1.1.1.1 (c.requires.1.1.0.1 T),
-          subst (λ y. ExpressionSpans T y c.args.rest.now c.in_ok-test.ensures.between) (sym c.into_inner.ensures) c.in_ok-test.ensures.spans,
-          c.in_ok-test.ensures.takes,
+          subst (λ y. ExpressionSpans T y c.args.rest.now c.in_ok-test.ensures.spans.0) (sym c.into_inner.ensures) c.in_ok-test.ensures.spans.1,
+          c.in_ok-test.ensures.spans.2,
           (subst (λ y. StatementSpans T y c.in_ok-test.rest.now c.in_ok-yes.rest.now) (sym c.in_ok-branch.ensures.ok) c.in_ok-yes.ensures.spans),
           refl,
         ),
       );
-      formed = let y = subst (λ y. IsSimple (statement_of y) × FormedStatement (statement_of y)) (sym c.in_ok-branch.ensures.ok) (c.in_ok-yes.ensures.simple, c.in_ok-yes.ensures.formed) in
-          (subst (λ e. Formed (expression_of e)) (sym c.into_inner.ensures) c.in_ok-test.ensures.fits.1, y.0, y.1);
-      simple = tt;
+      formed = (
+        let y = subst (λ y. IsSimple (statement_of y) × FormedStatement (statement_of y)) (sym c.in_ok-branch.ensures.ok) (c.in_ok-yes.ensures.formed.1 refl, c.in_ok-yes.ensures.formed.0) in
+            (subst (λ e. Formed (expression_of e)) (sym c.into_inner.ensures) c.in_ok-test.ensures.formed.1, y.0, y.1),
+        λ e. absurd cc,
+      );
       nesting = omega (arith, ap (λ y. expression_nesting (expression_of y)) c.into_inner.ensures, ap (λ y. statement_nesting (statement_of y)) c.in_ok-branch.ensures.ok, c.in_ok-inner.ensures.deeper.0, c.in_ok-test.ensures.nesting, c.in_ok-yes.ensures.nesting);
       shorter = omega (arith, c.requires.1.1.1.0, c.in_ok-test.ensures.shorter, c.in_ok-yes.ensures.shorter);
       proper = c.in_ok-yes.ensures.proper;
@@ -213,19 +213,21 @@ read_if-returns t c =
         c.reach-2.ensures,
         (
           c.args.rest.now,
-          c.in_ok-test.ensures.between,
+          c.in_ok-test.ensures.spans.0,
           c.in_ok-test.rest.now,
           c.in_ok-yes.rest.now,
           one_lexeme T (word If) c.args.input.now c.args.rest.now c.requires.1.1.1.1.1.1 (c.requires.1.1.0.1 T),
-          subst (λ y. ExpressionSpans T y c.args.rest.now c.in_ok-test.ensures.between) (sym c.into_inner-2.ensures) c.in_ok-test.ensures.spans,
-          c.in_ok-test.ensures.takes,
+          subst (λ y. ExpressionSpans T y c.args.rest.now c.in_ok-test.ensures.spans.0) (sym c.into_inner-2.ensures) c.in_ok-test.ensures.spans.1,
+          c.in_ok-test.ensures.spans.2,
           (subst (λ y. StatementSpans T y c.in_ok-test.rest.now c.in_ok-yes.rest.now) (sym c.in_ok-branch.ensures.ok) c.in_ok-yes.ensures.spans),
           (c.in-Some.after.now, one_lexeme T (word Else) c.in_ok-yes.rest.now c.in-Some.after.now c.in-Some.ensures.passed (c.in-Some.ensures.first.1 T), c.in_ok-no.ensures.spans),
         ),
       );
-      formed = let y = subst (λ y. IsSimple (statement_of y) × FormedStatement (statement_of y)) (sym c.in_ok-branch.ensures.ok) (c.in_ok-yes.ensures.simple, c.in_ok-yes.ensures.formed) in
-          (subst (λ e. Formed (expression_of e)) (sym c.into_inner-2.ensures) c.in_ok-test.ensures.fits.1, y.0, y.1, c.in_ok-no.ensures.formed);
-      simple = tt;
+      formed = (
+        let y = subst (λ y. IsSimple (statement_of y) × FormedStatement (statement_of y)) (sym c.in_ok-branch.ensures.ok) (c.in_ok-yes.ensures.formed.1 refl, c.in_ok-yes.ensures.formed.0) in
+            (subst (λ e. Formed (expression_of e)) (sym c.into_inner-2.ensures) c.in_ok-test.ensures.formed.1, y.0, y.1, c.in_ok-no.ensures.formed.0),
+        λ e. absurd cc,
+      );
       nesting = omega (arith, ap (λ y. expression_nesting (expression_of y)) c.into_inner-2.ensures, ap (λ y. statement_nesting (statement_of y)) c.in_ok-branch.ensures.ok, c.in_ok-inner.ensures.deeper.0, c.in_ok-test.ensures.nesting, c.in_ok-yes.ensures.nesting, c.in_ok-no.ensures.nesting);
       shorter = omega (arith, c.requires.1.1.1.0, c.in_ok-test.ensures.shorter, c.in_ok-yes.ensures.shorter, c.in-Some.ensures.shorter, c.in_ok-no.ensures.shorter);
       proper = c.in_ok-no.ensures.proper;
@@ -257,8 +259,7 @@ read_simple-returns-in_ok-value-in-Some-Word-Print-default t c =
     record {
       spans = let T = c.args.text.now in
           (c.reach.ensures, (c.in-Some-Word-Print-default.rest.now, (one_lexeme T (word Print) c.args.input.now c.in-Some-Word-Print-default.rest.now c.in-Some-Word-Print-default.ensures.passed ((first_of _ (Word Print) c.args.input.now c.in-Some-Word-Print-default.rest.now (c.in-Some-Word-Print-default.field-0-0-is ∙ ap Word c.in-Some-Word-Print-default.field-0-0-0-is) c.in-Some-Word-Print-default.ensures.first.0).1 T)), v.spans));
-      formed = v.fits.1;
-      simple = tt;
+      formed = (v.formed.1, λ e. tt);
       nesting = v.nesting;
       shorter = omega (arith, c.in-Some-Word-Print-default.ensures.first.1, v.shorter);
       proper = v.proper;
@@ -278,8 +279,7 @@ read_simple-returns-in_ok-rest-in-Some-Word-Begin-default t c =
           (one_lexeme T (word End) c.in_ok-statements-in-Some-Word-Begin-default.rest.now c.in_ok-rest-in-Some-Word-Begin-default.rest.now c.in_ok-rest-in-Some-Word-Begin-default.ensures.passed (c.in_ok-rest-in-Some-Word-Begin-default.ensures.first.1 T)),
         ),
       );
-      formed = subst FormedStatement (sym (ap block (statements_made c.in_ok-statements-in-Some-Word-Begin-default.statements))) (c.in_ok-statements-in-Some-Word-Begin-default.ensures.some, c.in_ok-statements-in-Some-Word-Begin-default.ensures.formed);
-      simple = subst IsSimple (sym (ap block (statements_made c.in_ok-statements-in-Some-Word-Begin-default.statements))) tt;
+      formed = (subst FormedStatement (sym (ap block (statements_made c.in_ok-statements-in-Some-Word-Begin-default.statements))) (c.in_ok-statements-in-Some-Word-Begin-default.ensures.formed.0, c.in_ok-statements-in-Some-Word-Begin-default.ensures.formed.1), λ e. subst IsSimple (sym (ap block (statements_made c.in_ok-statements-in-Some-Word-Begin-default.statements))) tt);
       nesting = omega (arith, ap statement_nesting (ap block (statements_made c.in_ok-statements-in-Some-Word-Begin-default.statements)), c.in_ok-inner-in-Some-Word-Begin-default.ensures.deeper.0, c.in_ok-statements-in-Some-Word-Begin-default.ensures.nesting);
       shorter = omega (arith, c.in-Some-Word-Begin-default.ensures.first.1, c.in_ok-statements-in-Some-Word-Begin-default.ensures.shorter, c.in_ok-rest-in-Some-Word-Begin-default.ensures.shorter);
       proper = c.in_ok-rest-in-Some-Word-Begin-default.ensures.proper c.args.text.now c.in_ok-statements-in-Some-Word-Begin-default.ensures.proper;
@@ -290,8 +290,7 @@ pub read_simple-returns-in_default : goal.read_simple-returns-in_default
 read_simple-returns-in_default t c =
     record {
       spans = (refl, refl);
-      formed = tt;
-      simple = tt;
+      formed = (tt, λ e. tt);
       nesting = omega (arith, c.requires.1.1.0);
       shorter = omega arith;
       proper = c.requires.1.1.1;
@@ -327,7 +326,7 @@ read_statements-statements-preserved t c =
     record {
       spans = λ s r p. some_more (Takes T (sign Semicolon)) (StatementSpans T) _ s i a j r (subst (λ ss. SomeStatements T ss i a) (sym c.in_ok-push.ensures.items) (c.statements.invariant.spans c.in_ok-statement.statement a c.in_ok-statement.ensures.spans))
           (one_lexeme T (sign Semicolon) a j c.in-Some.ensures.passed (c.in-Some.ensures.first.1 T)) p;
-      formed = formed_statements_next _ _ _ c.in_ok-push.ensures.items c.statements.invariant.formed c.in_ok-statement.ensures.formed;
+      formed = formed_statements_next _ _ _ c.in_ok-push.ensures.items c.statements.invariant.formed c.in_ok-statement.ensures.formed.0;
       nesting = nesting_next _ _ _ _ c.in_ok-push.ensures.items c.statements.invariant.nesting c.in_ok-statement.ensures.nesting;
       shorter = omega (arith, c.in-Some.ensures.shorter, c.in_ok-statement.ensures.shorter, c.statements.invariant.shorter);
       proper = c.in-Some.ensures.proper T c.in_ok-statement.ensures.proper;
@@ -341,8 +340,7 @@ read_statements-returns-in_default t c =
     let s = some_between (Takes T (sign Semicolon)) (StatementSpans T) _ i a (subst (λ ss. SomeStatements T ss i a) (sym c.in_ok-push.ensures.items) (c.statements.invariant.spans c.in_ok-statement.statement a c.in_ok-statement.ensures.spans)) in
     record {
       spans = s;
-      formed = formed_statements_next _ _ _ c.in_ok-push.ensures.items c.statements.invariant.formed c.in_ok-statement.ensures.formed;
-      some = some_next _ _ _ c.in_ok-push.ensures.items;
+      formed = (some_next _ _ _ c.in_ok-push.ensures.items, formed_statements_next _ _ _ c.in_ok-push.ensures.items c.statements.invariant.formed c.in_ok-statement.ensures.formed.0);
       nesting = nesting_next _ _ _ _ c.in_ok-push.ensures.items c.statements.invariant.nesting c.in_ok-statement.ensures.nesting;
       shorter = omega (arith, c.in_ok-statement.ensures.shorter, c.statements.invariant.shorter);
       proper = c.in_ok-statement.ensures.proper;

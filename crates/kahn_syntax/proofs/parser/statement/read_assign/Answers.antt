@@ -22,8 +22,7 @@ returns c =
     record {
       spans = let T = c.args.text.now in
           (c.reach.ensures, (c.in_ok-name.rest.now, c.in_ok-rest.rest.now, c.in_ok-name.ensures.spans, (one_lexeme T (sign Becomes) c.in_ok-name.rest.now c.in_ok-rest.rest.now c.in_ok-rest.ensures.passed (c.in_ok-rest.ensures.first.1 T)), v.spans));
-      formed = v.fits.1;
-      simple = tt;
+      formed = (v.formed.1, λ e. tt);
       nesting = v.nesting;
       shorter = omega (arith, c.in_ok-name.ensures.shorter, c.in_ok-rest.ensures.shorter, v.shorter);
       proper = v.proper;

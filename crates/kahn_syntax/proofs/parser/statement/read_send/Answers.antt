@@ -25,16 +25,15 @@ returns c =
         c.reach.ensures,
         (
           c.args.rest.now,
-          v.between,
+          v.spans.0,
           c.in_ok-value.rest.now,
           one_lexeme T (word Send) c.args.input.now c.args.rest.now c.requires.passed (c.requires.first.1 T),
-          v.spans,
-          v.takes,
+          v.spans.1,
+          v.spans.2,
           c.in_ok-name.ensures.spans,
         ),
       );
-      formed = v.fits.1;
-      simple = tt;
+      formed = (v.formed.1, λ e. tt);
       nesting = v.nesting;
       shorter = omega (arith, c.requires.follows, v.shorter, c.in_ok-name.ensures.shorter);
       proper = c.in_ok-name.ensures.proper;
