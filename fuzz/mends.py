@@ -90,7 +90,7 @@ def mends(text, lexemes, at):
 
 
 def told(changes, lexemes, at):
-    """The first three: leaving out the `;` before an `else` first, no operator in the place of a name, and no `print` for a `wait`."""
+    """The first three: leaving out the `;` before an `else` alone, no operator in the place of a name, and no `print` for a `wait`."""
     last = lexemes[at - 1][:2] if at > 0 else None
     found = lexemes[at][:2] if at < len(lexemes) else None
     name = {"before": last, "here": found}
@@ -104,7 +104,7 @@ def told(changes, lexemes, at):
         return change[1] in OPERATORS and (name.get(change[0]) or ("",))[0] == "name"
 
     left = [change for change in changes if not is_never(change)]
-    return [change[2] for change in sorted(left, key=lambda change: not is_first(change))[:3]]
+    return [change[2] for change in ([change for change in left if is_first(change)] or left)[:3]]
 
 
 def listed(parts):
@@ -148,17 +148,23 @@ def bare(text, lexemes):
     return out
 
 
+def still_open(text, lexemes):
+    """That blocks are open behind lexemes, without that of the program."""
+    items = unclosed(text, lexemes)[1:]
+    return f"no `end` so far for {listed(items[-3:])}" if items else None
+
+
 def blocks(text, lexemes, at, is_mended):
-    """What is said of blocks: of statements without one at an `end`, of open ones where a declaration, an instance or the end stands."""
+    """What is said of blocks: of statements without one at an `end`, of open ones where a declaration or the end stands."""
     behind = lexemes[:at]
     if at == len(lexemes):
         items, lead = unclosed(text, behind), "no `end` so far for "
     elif lexemes[at][:2] == ("word", "end"):
         items, lead = bare(text, behind), "no `begin` stands behind "
+    elif lexemes[at][:2] in (("word", "process"), ("word", "integer"), ("word", "logical")) and not is_mended:
+        return still_open(text, behind)
     else:
-        starts = lexemes[at][:2] in (("word", "process"), ("word", "integer"), ("word", "logical"))
-        handed = lexemes[at][:2] == ("sign", "(") and at > 0 and lexemes[at - 1][0] == "name"
-        items, lead = unclosed(text, behind)[1:] if not is_mended and (starts or handed) else [], "no `end` so far for "
+        return None
     return lead + listed(items[-3:]) if items else None
 
 
@@ -173,6 +179,7 @@ FOREIGN = {
         ("for until loop", "a loop is `while E do S`, or `repeat S`, which has no end"),
         ("break exit", "a loop ends where the test of its `while` is false"),
         ("return yield", "a process has no result: `send E on C` gives a value to another one"),
+        ("elif elsif elseif", "it is two words: `else if`"),
         ("int bool boolean var real float", "the kinds are `integer` and `logical`; one stands before its names"),
     ) for word in words.split()
 }
@@ -185,37 +192,101 @@ def foreign(lexemes, at):
     return next((FOREIGN[x[1].lower()] for x in before + found if x[0] == "name" and x[1].lower() in FOREIGN), None)
 
 
-def advice(lexemes, at):
-    """What is said of habits of other languages, by what stands before and what may stand there."""
-    if foreign(lexemes, at):
-        return foreign(lexemes, at)
-    if at == len(lexemes):
-        return None
-    lead, (what, found) = lexemes[at - 1][1] if at and lexemes[at - 1][0] in ("word", "sign") else None, lexemes[at][:2]
+ARGUMENTS = "an instance hands over channels and literals, by their places: `P(A, -1, true)`"
+LATE = "channels and processes are declared before all instances"
+WHEREVER = {
+    word: said for words, said in (
+        ("in out", "`in` and `out` are no names: each stands behind a kind, `integer in U; integer out W`"),
+        ("input output", "`input` and `output` are no names: each stands behind a kind, `integer input channel C`"),
+    ) for word in words.split()
+}
+BEHIND = {
+    ("=", "="): "equal is one `=`",
+    ("=", "<"): "at most is `<=`",
+    ("=", ">"): "at least is `>=`",
+    ("*", "*"): "there is no power: `X * X`",
+    (":=", "<"): "a value is taken by `wait(C)`",
+    ("(", "*"): "a comment goes from `comment` to `;`",
+}
+
+
+def behind(lead, found):
+    """What is said of a lexeme by what stands before it alone."""
     begins = lead in ("begin", "do", "else", "repeat", ";")
-    if what not in ("word", "sign"):
-        return None
+    if lead == "wait":
+        return "brackets stand round the channel: `wait(C)`"
     if lead == "then" and found in ("if", "while", "repeat"):
         return f"{'an' if found == 'if' else 'a'} `{found}` behind `then` stands between `begin` and `end`"
     if found == "wait" and (begins or lead == "then"):
         return "`wait(C)` is a value: a statement takes one by `X := wait(C)`"
-    if (begins and found == "(") or (lead == "(" and found == "*"):
+    if begins and found == "(":
         return "a comment goes from `comment` to `;`"
-    if lead == found == "=":
-        return "equal is one `=`"
-    if (lead, found) == (":=", "<"):
-        return "a value is taken by `wait(C)`"
-    if found in (":=", "=") and may_stand(lexemes, at, ("sign", ",")):
-        return "a variable begins as 0 or `false`; a statement assigns to it, `X := E`"
+    return BEHIND.get((lead, found))
+
+
+def called(stands):
+    """What is said of a `(` behind a name."""
+    if stands(":="):
+        return "a body calls nothing and starts nothing: instances stand behind all processes"
+    if stands("*"):
+        return "a body calls nothing: there are no functions, and a value is taken by `wait(C)`"
+    return ARGUMENTS if stands(",") and stands(")") else None
+
+
+def declared(found, stands):
+    """What is said of a declaration where none may stand."""
+    if found != "process" and stands("while"):
+        return "variables are declared right behind the first `begin` of a process, channels outside of processes"
+    return LATE if stands("par") or (stands("end") and not stands(";")) else None
+
+
+def advice(lexemes, at):
+    """What is said of habits of other languages, by what stands before and what may stand there."""
+    if foreign(lexemes, at):
+        return foreign(lexemes, at)
+
+    def stands(word):
+        return may_stand(lexemes, at, ("word" if word.isalpha() else "sign", word))
+
+    lead = lexemes[at - 1][1] if at and lexemes[at - 1][0] in ("word", "sign") else None
+    what, found = lexemes[at][:2] if at < len(lexemes) else (None, None)
+    if what not in ("word", "sign"):
+        found = None
+    if behind(lead, found):
+        return behind(lead, found)
+    if found == "(" and at and lexemes[at - 1][0] == "name":
+        return called(stands)
+    if found == "if" and may_stand(lexemes, at, ("number", 0)) and not stands("not"):
+        return "an `if` among operators stands in brackets"
+    if found in ("integer", "logical", "process"):
+        return declared(found, stands)
+    if found in WHEREVER:
+        return WHEREVER[found]
+    if found in (":=", "=") and stands(","):
+        return ARGUMENTS if stands(")") else "a variable begins as 0 or `false`; a statement assigns to it, `X := E`"
+    if found == ":=" and stands("(") and not may_stand(lexemes, at, ("number", 0)):
+        return "an instance is `P(A, B)`: its brackets hand over the channels; statements stand in processes alone"
     if found == ":=":
         return "equal is `=`; `:=` assigns to a name, in a statement of its own"
-    if found == "," and may_stand(lexemes, at, ("sign", ")")):
+    if found == "," and stands(")"):
         return "one value or one channel stands between these brackets; `send E on C` sends a value"
-    if found in (";", "end", "else") and may_stand(lexemes, at, ("word", "on")):
+    if (what, found) in OPERATORS and stands(","):
+        return ARGUMENTS if stands(")") else None
+    if found in (";", "end", "else") and stands("on"):
         return "`on` and a channel stand behind the value: `send E on C`"
-    if found in (";", "end", "else", "<", "*", "+", "-") and may_stand(lexemes, at, ("sign", ":=")):
+    if (found in (";", "end", "else") or (what, found) in OPERATORS and found != "=") and stands(":="):
         return "a statement that begins with a name assigns to it, `X := E`; `send E on C` sends a value"
     return None
+
+
+def lines_of(text, lexemes, at, changes):
+    """All that is said below the carets: advice, with the open blocks where an instance may have begun, or else changes and blocks."""
+    words, last = advice(lexemes, at), comment(text, lexemes, at)
+    if words:
+        is_start = lexemes[at:at + 1] and lexemes[at][:2] == ("sign", "(") and may_stand(lexemes, at, ("sign", ":="))
+        return [line for line in (words, still_open(text, lexemes[:at]) if is_start else None, last) if line]
+    mended = line_of(changes, told(changes, lexemes, at))
+    return [line for line in (mended, blocks(text, lexemes, at, mended is not None), last) if line]
 
 
 CODE = re.compile(rb":=|(?<![A-Za-z0-9_])wait[ \t\r\n]*\(|^[ \t\r]*(?:send|begin|end)(?![A-Za-z0-9_])", re.I | re.M)
@@ -253,9 +324,7 @@ def one(program, room, seed):
     """(None, how many changes there are), or (what differs, the text's path)."""
     text, lexemes, at = broken(random.Random(seed))
     changes = mends(text, lexemes, at)
-    mended = line_of(changes, told(changes, lexemes, at))
-    lines = (mended, advice(lexemes, at), blocks(text, lexemes, at, mended is not None), comment(text, lexemes, at))
-    wanted = [line for line in lines if line]
+    wanted = lines_of(text, lexemes, at, changes)
     path = f"{room}/{seed}.kahn"
     with open(path, "wb") as it:
         it.write(text)

@@ -101,22 +101,3 @@ module _ (N : Network) (ss : List Standing) where
 
   pub no_ring_mark : (p : ℕ) → Halts N ss p → IsRingMark N ss p false
   no_ring_mark p h = λ r. h r.0 r.1 r.2
-
--- the marks of the first n instances
-pub record AreFirstMarks (N : Network) (ss : List Standing) (n : ℕ) (marks : List Bool) : Type 0 where
-  pub count : length marks ≡ n
-  pub rings : (p : ℕ) (mark : Bool) → slice_get marks p ≡ Some mark → IsRingMark N ss p mark
-
-last : (P : ℕ → Bool → Type 0) (ys : List Bool) (x y : Bool) (k p : ℕ) → P (k + length ys) x → slice_get (ys ++ (x ∷ [])) p ≡ Some y
-    → ((slice_get ys p ≡ Some y) ⊎ P (k + p) y)
-last P [] x y k zero h e = inr (subst (P (k + 0)) same h)
-  where
-    same : x ≡ y
-    same = cc
-last P [] x y k (suc p) h e = absurd cc
-last P (z ∷ ys) x y k zero h e = inl e
-last P (z ∷ ys) x y k (suc p) h e =
-    elim (last P ys x y (suc k) p (subst (λ n. P n x) (omega arith) h) e) [
-      | inl a ↦ inl a
-      | inr b ↦ inr (subst (λ n. P n y) (omega arith) b)
-    ]

@@ -1,7 +1,7 @@
 //! How the instances of a network stand, and why one goes no further.
 
 /// How an instance stands.
-#[derive(Clone, Copy, Debug, PartialEq, Eq)]
+#[derive(Clone, Copy)]
 pub enum Standing {
     /// It has ended.
     Ended,
@@ -14,7 +14,7 @@ pub enum Standing {
 }
 
 /// Why an instance goes no further.
-#[derive(Clone, Copy, Debug, PartialEq, Eq)]
+#[derive(Clone, Copy)]
 pub enum Cause {
     /// This instance waits on this channel, whose values come from outside.
     Input(usize, usize),

@@ -1,6 +1,7 @@
 -- Believed. What more is told of a fault of a network.
-use Rattle.std.specs.Prelude.{ℕ, Bool, List, [], ◌∷◌, ◌++◌, Option, Some, None, codes, decimal, if◌then◌else◌, is_some, length}
+use Rattle.std.specs.Prelude.{ℕ, Bool, true, false, List, [], ◌∷◌, ◌++◌, Option, Some, None, codes, decimal, if◌then◌else◌, is_some, length}
 use Rattle.std.specs.List.{concat, find}
+use Rattle.std.specs.Option.{option_or}
 use Rattle.kahn_streams.specs.View.{bytes_of}
 use Rattle.kahn_streams.specs.declared.span.Span.{Span}
 use Rattle.kahn_streams.specs.declared.tree.Name.{Name}
@@ -22,9 +23,8 @@ use Rattle.kahn_hints.specs.declared.names.Sort.{Sort}
 use Rattle.kahn_hints.specs.declared.names.Sort.TheVariants as sort
 use Rattle.kahn_hints.specs.declared.uses.Use.{Use}
 use Rattle.kahn_hints.specs.declared.uses.Use.TheVariants as use_as
-use Rattle.kahn_hints.specs.Names.{program_names}
-use Rattle.kahn_hints.specs.Places.{called_first, channel_kind, names_seen, passed, process_called, process_declaring, process_using, role_called, word_at}
-use Rattle.kahn_hints.specs.Sight.{unknown_words}
+use Rattle.kahn_hints.specs.Places.{asked_name, called_first, channel_kind, names_seen, passed, process_called, process_declaring, process_using, role_called, word_at}
+use Rattle.kahn_hints.specs.Sight.{next_words, unknown_words}
 use Rattle.kahn_hints.specs.Uses.{body_use, instances_use, same_span}
 
 -- what is said of another place
@@ -37,6 +37,7 @@ reason_words reason.WrittenFirst = codes "handed over here first, to be written"
 reason_words reason.ReadFirst = codes "handed over here first, to be read"
 reason_words reason.Input = codes "declared here as an input, which is written from outside"
 reason_words reason.Output = codes "declared here as an output, which is read from outside"
+reason_words reason.Parameter = codes "its parameter is declared here"
 
 -- the use of what stands at a place: in the body of a process, or in the instances
 abbrev pub use_of_place : Program → Span → Option Process → Option Use
@@ -63,26 +64,29 @@ abbrev pub place_as : Reason → Option Name → Option (Span × Reason)
 place_as r None = None
 place_as r (Some n) = Some (n.span, r)
 
+-- of the first of the names of a process, or of the program, of a sort and with these letters
+abbrev pub place_in : Reason → Option Sort → Program → Option Process → List ℕ → Option (Span × Reason)
+place_in r asked t p word = place_as r (called_first word (names_seen asked t p))
+
 -- the first of the names in sight at a place with the letters that stand there
 abbrev pub declared_here : List ℕ → Program → Span → Option (Span × Reason)
-declared_here text t at = place_as reason.Declared (called_first (word_at text at) (names_seen None t (process_using t at)))
+declared_here text t at = place_in reason.Declared None t (process_using t at) (word_at text at)
+
+-- that, or else the parameter that takes what stands there
+abbrev pub wanted_here : List ℕ → Program → Span → Option (Span × Reason)
+wanted_here text t at = option_or (declared_here text t at) (place_as reason.Parameter (asked_name t at))
 
 -- the first of the names of the program with those letters, where it may not stand: any in a body, a channel's where a process is meant
-abbrev pub outside_sort : Option Process → Option Sort
-outside_sort (Some p) = None
-outside_sort None = Some sort.Channel
-
-abbrev pub outside_reason : Option Process → Reason
-outside_reason (Some p) = reason.Outside
-outside_reason None = reason.NoProcess
+abbrev pub place_outside : Program → List ℕ → Option Process → Option (Span × Reason)
+place_outside t word (Some p) = place_in reason.Outside None t None word
+place_outside t word None = place_in reason.NoProcess (Some sort.Channel) t None word
 
 abbrev pub declared_outside : List ℕ → Program → Span → Option (Span × Reason)
-declared_outside text t at =
-    place_as (outside_reason (process_using t at)) (called_first (word_at text at) (program_names (outside_sort (process_using t at)) t))
+declared_outside text t at = place_outside t (word_at text at) (process_using t at)
 
 -- the first of the names that are declared beside the one at a place, with the same letters
 abbrev pub declared_first : List ℕ → Program → Span → Option (Span × Reason)
-declared_first text t at = place_as reason.DeclaredFirst (called_first (word_at text at) (names_seen None t (process_declaring t at)))
+declared_first text t at = place_in reason.DeclaredFirst None t (process_declaring t at) (word_at text at)
 
 abbrev pub first_reason : Direction → Reason
 first_reason Out = reason.WrittenFirst
@@ -94,7 +98,7 @@ closed_reason In = reason.Output
 
 -- where a channel is declared that no instance may write or read
 abbrev pub declared_role : Program → Direction → List ℕ → Option (Span × Reason)
-declared_role t d word = place_as (closed_reason d) (called_first word (program_names (Some sort.Channel) t))
+declared_role t d word = place_in (closed_reason d) (Some sort.Channel) t None word
 
 -- where it is handed over before, or else its declaration
 abbrev pub before_or_declared : Option Name → Program → Direction → List ℕ → Span → Option (Span × Reason)
@@ -109,7 +113,7 @@ abbrev pub second_place : List ℕ → Program → CheckFault → Option (Span �
 second_place text t (checked.DeclaredTwice at) = declared_first text t at
 second_place text t (checked.WrongKind at) = declared_here text t at
 second_place text t (checked.WrongCount at) = declared_here text t at
-second_place text t (checked.ChannelExpected at) = declared_here text t at
+second_place text t (checked.ChannelExpected at) = wanted_here text t at
 second_place text t (checked.ValueExpected at) = declared_here text t at
 second_place text t (checked.WrongDirection at) = declared_here text t at
 second_place text t (checked.TwoWriters at) = taken_before text t Out at
@@ -189,14 +193,34 @@ value_words _ handed = []
 abbrev pub valued_at : List ℕ → Program → Span → List ℕ
 valued_at text t at = value_words (use_at t at) (handed_words (is_some (channel_kind t (word_at text at))) (is_some (process_called t (word_at text at))))
 
+-- how the next value is taken, where a parameter to be read stands for one
+abbrev pub next_of : Option Name → List ℕ
+next_of (Some n) = next_words n
+next_of None = []
+
+abbrev pub next_if : Option Use → Option Name → List ℕ
+next_if (Some (use_as.Expression k)) n = next_of n
+next_if _ n = []
+
+abbrev pub next_there : List ℕ → Program → Span → List ℕ
+next_there text t at = next_if (use_at t at) (called_first (word_at text at) (names_seen (Some sort.Source) t (process_using t at)))
+
+abbrev pub value_tail : List ℕ → Program → Span → List ℕ
+value_tail text t at = valued_at text t at ++ next_there text t at
+
 -- the direction, and a name that has it
 abbrev pub direction_at : List ℕ → Program → Span → List ℕ
 direction_at text t at = direction_words (use_at t at) ++ meant_at text t at
 
--- what to do about a channel of that role without a writer, or without a reader: an input has its writer outside, an output its reader
-abbrev pub unwritten_words : Option Role → List ℕ
-unwritten_words (Some Inner) = codes "; hand it to an `out` parameter, or declare it `input` where its values come from outside"
-unwritten_words _ = codes "; hand it to an `out` parameter"
+-- what to do about a channel of that role without a writer, which is read or not, or without a reader: an input has its writer outside, an
+-- output its reader
+abbrev pub unwritten_words : Option Role → Bool → List ℕ
+unwritten_words (Some Inner) true = codes "; hand it to an `out` parameter, or declare it `input` where its values come from outside"
+unwritten_words (Some Inner) false = codes "; it is handed to no process: leave its declaration out"
+unwritten_words _ _ = codes "; hand it to an `out` parameter"
+
+abbrev pub unwritten_at : List ℕ → Program → Span → List ℕ
+unwritten_at text t at = unwritten_words (role_called t (word_at text at)) (is_some (passed t In (word_at text at)))
 
 abbrev pub unread_words : Option Role → List ℕ
 unread_words (Some Inner) = codes "; hand it to an `in` parameter, or declare it `output` where its values are to be reported"
@@ -208,11 +232,11 @@ tail_of text t (checked.WrongCount at) = count_words t (named_instance t at)
 tail_of text t (checked.WrongKind at) = kind_words (found_kind text t at)
 tail_of text t (checked.WrongDirection at) = direction_at text t at
 tail_of text t (checked.ChannelExpected at) = channel_words (use_at t at)
-tail_of text t (checked.ValueExpected at) = valued_at text t at
+tail_of text t (checked.ValueExpected at) = value_tail text t at
 tail_of text t (checked.DeclaredTwice at) = []
 tail_of text t (checked.TwoWriters at) = []
 tail_of text t (checked.TwoReaders at) = []
-tail_of text t (checked.NoWriter at) = unwritten_words (role_called t (word_at text at))
+tail_of text t (checked.NoWriter at) = unwritten_at text t at
 tail_of text t (checked.NoReader at) = unread_words (role_called t (word_at text at))
 tail_of text t (checked.TooMany at) = []
 tail_of text t checked.NoMemory = []

@@ -22,7 +22,7 @@ use Rattle.kahn_streams.specs.declared.tree.Argument.TheVariants as A
 use Rattle.kahn_streams.specs.Wiring.{processes_of, same_direction}
 use Rattle.kahn_hints.specs.declared.names.Sort.{Sort}
 use Rattle.kahn_hints.specs.Names.{process_names, program_names}
-use Rattle.kahn_hints.specs.Uses.{body_use, same_span}
+use Rattle.kahn_hints.specs.Uses.{argument_use, body_use, same_span}
 
 -- the letters at a place of a text; none where it isn't within the text
 abbrev pub word_at : List ℕ → Span → List ℕ
@@ -103,3 +103,24 @@ passed_among t d word (i ∷ is) = option_or (passed_by t d word i) (passed_amon
 
 abbrev pub passed : Program → Direction → List ℕ → Option Name
 passed t d word = passed_among t d word t.instances.items
+
+-- the name of the parameter whose argument stands at a place
+abbrev pub asked_behind : Span → List Parameter → List Argument → Option Name
+asked_behind at qs [] = None
+asked_behind at [] (x ∷ xs) = None
+asked_behind at (q ∷ qs) (x ∷ xs) = if is_some (argument_use at x) then Some q.name else asked_behind at qs xs
+
+-- of an instance, and of all
+abbrev pub asked_if : Span → Option Process → Instance → Option Name
+asked_if at None i = None
+asked_if at (Some p) i = asked_behind at p.parameters.items i.arguments.items
+
+abbrev pub asked_of : Program → Span → Instance → Option Name
+asked_of t at i = asked_if at (process_called t (bytes_of i.process)) i
+
+abbrev pub asked_among : Program → Span → List Instance → Option Name
+asked_among t at [] = None
+asked_among t at (i ∷ is) = option_or (asked_of t at i) (asked_among t at is)
+
+abbrev pub asked_name : Program → Span → Option Name
+asked_name t at = asked_among t at t.instances.items

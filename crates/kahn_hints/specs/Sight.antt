@@ -1,10 +1,10 @@
 -- Believed. What is said of a name that isn't declared.
-use Rattle.std.specs.Prelude.{◌==◌, ℕ, List, [], ◌∷◌, ◌++◌, Option, Some, None, codes, if◌then◌else◌, length, take}
+use Rattle.std.specs.Prelude.{◌==◌, ℕ, List, [], ◌∷◌, ◌++◌, Option, Some, None, codes, if◌then◌else◌, is_some, length, take}
 use Rattle.std.specs.List.{concat}
 use Rattle.kahn_streams.specs.View.{bytes_of}
 use Rattle.kahn_streams.specs.declared.tree.Name.{Name}
 use Rattle.kahn_hints.specs.Near.{nearest}
-use Rattle.kahn_hints.specs.Places.{is_called}
+use Rattle.kahn_hints.specs.Places.{called_first, is_called}
 
 abbrev pub name_words : Name → List ℕ
 name_words n = concat (codes "`" ∷ bytes_of n ∷ codes "`" ∷ [])
@@ -13,13 +13,9 @@ name_words n = concat (codes "`" ∷ bytes_of n ∷ codes "`" ∷ [])
 abbrev pub meant_words : Name → List ℕ
 meant_words n = concat (codes "; did you mean `" ∷ bytes_of n ∷ codes "`?" ∷ [])
 
-abbrev pub near_words : Option Name → List ℕ
-near_words None = []
-near_words (Some n) = meant_words n
-
--- a name that has other letters
-abbrev pub other_than : List ℕ → Name → Option Name
-other_than word n = if is_called word n then None else Some n
+-- how the next value of a channel is taken
+abbrev pub next_words : Name → List ℕ
+next_words n = concat (codes "; its next value is `wait(" ∷ bytes_of n ∷ codes ")`" ∷ [])
 
 -- what stands behind a name where so many are left
 abbrev pub after_name : ℕ → List ℕ
@@ -29,6 +25,14 @@ abbrev pub listed_names : List Name → List ℕ
 listed_names [] = []
 listed_names (n ∷ ns) = name_words n ++ (after_name (length ns) ++ listed_names ns)
 
+-- names, and behind them those of others whose letters none before has
+abbrev pub once : List Name → Name → List Name
+once names n = if is_some (called_first (bytes_of n) names) then names else names ++ n ∷ []
+
+abbrev pub each_once : List Name → List Name → List Name
+each_once names [] = names
+each_once names (n ∷ ns) = each_once (once names n) ns
+
 -- the first five of those in sight
 abbrev pub sight_lead : ℕ → List ℕ
 sight_lead n = if n == 0 then [] else codes "; in sight: "
@@ -36,10 +40,11 @@ sight_lead n = if n == 0 then [] else codes "; in sight: "
 abbrev pub sight_words : List Name → List ℕ
 sight_words names = sight_lead (length names) ++ listed_names (take 5 names)
 
--- of those in sight that may stand there the nearest is told, unless it is the name itself, declared a second time; or else the first
+-- of those in sight that may stand there the nearest is told, unless it is the name itself, declared a second time; or else the first,
+-- each once
 abbrev pub told_or_sight : List ℕ → List Name → Option Name → List ℕ
-told_or_sight word names (Some n) = near_words (other_than word n)
-told_or_sight word names None = sight_words names
+told_or_sight word names (Some n) = if is_called word n then [] else meant_words n
+told_or_sight word names None = sight_words (each_once [] names)
 
 abbrev pub unknown_words : List ℕ → List Name → List ℕ
 unknown_words word names = told_or_sight word names (nearest word names)

@@ -2,19 +2,23 @@
 
 ghost use Rattle.std.specs.Prelude.{◌≡◌, ◌++◌, IfOk, option_map, string_bytes};
 ghost use Rattle.std.specs.List.{find};
-ghost use Rattle.kahn_hints.specs.Hints.{asked_sort, channel_words, check_note, closed_reason, count_words, counted_words, declared_first, declared_here, declared_outside, declared_role, direction_at, direction_words, first_reason, found_kind, handed_words, kind_words, meant_at, named_instance, other_words, outside_reason, outside_sort, second_place, second_text, reason_words, taken_before, tail_of, unknown_at, unread_words, unwritten_words, use_at, valued_at, value_words};
+ghost use Rattle.kahn_hints.specs.Hints.{asked_sort, check_note, closed_reason, count_words, counted_words, declared_first, declared_here, declared_outside, direction_at, first_reason, found_kind, meant_at, named_instance, next_there, place_in, second_place, second_text, reason_words, taken_before, tail_of, unknown_at, unwritten_at, use_at, value_tail, valued_at, wanted_here};
 
-use crate::names::{Sort, program_names};
+use crate::names::Sort;
 use crate::places::{
-    called_first, channel_kind, names_seen, passed, process_called, process_declaring,
+    asked_name, called_first, channel_kind, names_seen, passed, process_called, process_declaring,
     process_using, role_called, word_at,
 };
-use crate::sight::add_unknown;
+use crate::said::{
+    channel_words, direction_words, handed_words, kind_words, other_words, unread_words,
+    unwritten_words,
+};
+use crate::sight::{add_next, add_unknown};
 use crate::uses::{Use, body_use, instances_use, same_span};
 use itoa::Buffer;
 use kahn_check::CheckFault;
 use kahn_marks::{add, marked, marked_too};
-use kahn_streams::{Direction, Instance, Kind, NoMemory, Process, Program, Role, Span};
+use kahn_streams::{Direction, Instance, Kind, NoMemory, Process, Program, Span};
 use std::alloc::{AllocError, Global};
 
 /// Why another place is told beside that of a fault.
@@ -36,6 +40,8 @@ pub(crate) enum Reason {
     Input,
     /// The same, as an output.
     Output,
+    /// The parameter is declared there that takes what is at fault.
+    Parameter,
 }
 
 /// What is said of another place.
@@ -51,6 +57,7 @@ fn reason_words(reason: Reason) -> &'static str
         Reason::ReadFirst => "handed over here first, to be read",
         Reason::Input => "declared here as an input, which is written from outside",
         Reason::Output => "declared here as an output, which is read from outside",
+        Reason::Parameter => "its parameter is declared here",
     }
 }
 
@@ -79,6 +86,26 @@ fn asked_sort(found: Option<Use>) -> Option<Sort>
     }
 }
 
+/// The first of the names of a process, or of the program where there is none, that is of the sort that is asked for and has these
+/// letters; and why its place is told.
+fn placed(
+    alloc: Global,
+    program: &Program,
+    process: Option<&Process>,
+    asked: Option<Sort>,
+    word: &[u8],
+    reason: Reason,
+) -> Result<Option<(Span, Reason)>, AllocError>
+    ensures { IfOk result (λ place. place ≡ place_in reason asked program.now (option_map (λ p. p.now) process.entry) word.now) }
+{
+    let names = names_seen(alloc, program, process, asked)?;
+    let place = match called_first(word, &names) {
+        Some(name) => Some((name.span, reason)),
+        None => None,
+    };
+    Ok(place)
+}
+
 /// The first of the names in sight at a place with the letters that stand there.
 fn declared_here(
     alloc: Global,
@@ -88,31 +115,32 @@ fn declared_here(
 ) -> Result<Option<(Span, Reason)>, AllocError>
     ensures { IfOk result (λ place. place ≡ declared_here text.now program.now at) }
 {
-    let names = names_seen(alloc, program, process_using(program, at), None)?;
-    let place = match called_first(word_at(text, at), &names) {
-        Some(name) => Some((name.span, Reason::Declared)),
-        None => None,
-    };
-    Ok(place)
+    let process = process_using(program, at);
+    placed(
+        alloc,
+        program,
+        process,
+        None,
+        word_at(text, at),
+        Reason::Declared,
+    )
 }
 
-/// The sort of the names of the program that may not stand in a body, or before the arguments of an instance.
-fn outside_sort(process: Option<&Process>) -> Option<Sort>
-    ensures { result ≡ outside_sort (option_map (λ p. p.now) process.entry) }
+/// The same, or else the parameter that takes what stands there.
+fn wanted_here(
+    alloc: Global,
+    text: &str,
+    program: &Program,
+    at: Span,
+) -> Result<Option<(Span, Reason)>, AllocError>
+    ensures { IfOk result (λ place. place ≡ wanted_here text.now program.now at) }
 {
-    match process {
-        Some(_) => None,
-        None => Some(Sort::Channel),
+    if let Some(place) = declared_here(alloc, text, program, at)? {
+        return Ok(Some(place));
     }
-}
-
-/// Why the place is told where a name is declared that may not stand at another one: in a body, or in the instances.
-fn outside_reason(process: Option<&Process>) -> Reason
-    ensures { result ≡ outside_reason (option_map (λ p. p.now) process.entry) }
-{
-    match process {
-        Some(_) => Reason::Outside,
-        None => Reason::NoProcess,
+    match asked_name(program, at) {
+        Some(name) => Ok(Some((name.span, Reason::Parameter))),
+        None => Ok(None),
     }
 }
 
@@ -125,13 +153,18 @@ fn declared_outside(
 ) -> Result<Option<(Span, Reason)>, AllocError>
     ensures { IfOk result (λ place. place ≡ declared_outside text.now program.now at) }
 {
-    let process = process_using(program, at);
-    let names = program_names(alloc, program, outside_sort(process))?;
-    let place = match called_first(word_at(text, at), &names) {
-        Some(name) => Some((name.span, outside_reason(process))),
-        None => None,
-    };
-    Ok(place)
+    let word = word_at(text, at);
+    match process_using(program, at) {
+        Some(_) => placed(alloc, program, None, None, word, Reason::Outside),
+        None => placed(
+            alloc,
+            program,
+            None,
+            Some(Sort::Channel),
+            word,
+            Reason::NoProcess,
+        ),
+    }
 }
 
 /// The first of the names that are declared beside the one at a place, with the same letters.
@@ -143,12 +176,15 @@ fn declared_first(
 ) -> Result<Option<(Span, Reason)>, AllocError>
     ensures { IfOk result (λ place. place ≡ declared_first text.now program.now at) }
 {
-    let names = names_seen(alloc, program, process_declaring(program, at), None)?;
-    let place = match called_first(word_at(text, at), &names) {
-        Some(name) => Some((name.span, Reason::DeclaredFirst)),
-        None => None,
-    };
-    Ok(place)
+    let process = process_declaring(program, at);
+    placed(
+        alloc,
+        program,
+        process,
+        None,
+        word_at(text, at),
+        Reason::DeclaredFirst,
+    )
 }
 
 /// Why the place is told where a channel is handed over first.
@@ -171,23 +207,6 @@ fn closed_reason(direction: Direction) -> Reason
     }
 }
 
-/// Where a channel is declared that no instance may write or read.
-fn declared_role(
-    alloc: Global,
-    program: &Program,
-    direction: Direction,
-    word: &[u8],
-) -> Result<Option<(Span, Reason)>, AllocError>
-    ensures { IfOk result (λ place. place ≡ declared_role program.now direction word.now) }
-{
-    let names = program_names(alloc, program, Some(Sort::Channel))?;
-    let place = match called_first(word, &names) {
-        Some(name) => Some((name.span, closed_reason(direction))),
-        None => None,
-    };
-    Ok(place)
-}
-
 /// Where a channel is handed over first in a direction, before the place; or where it is declared, where nothing hands it over
 /// before.
 fn taken_before(
@@ -205,7 +224,8 @@ fn taken_before(
             return Ok(Some((name.span, first_reason(direction))));
         }
     }
-    declared_role(alloc, program, direction, word)
+    let reason = closed_reason(direction);
+    placed(alloc, program, None, Some(Sort::Channel), word, reason)
 }
 
 /// Another place that has to do with a fault, and why.
@@ -221,7 +241,7 @@ fn second_place(
         CheckFault::DeclaredTwice(at) => declared_first(alloc, text, program, at),
         CheckFault::WrongKind(at) => declared_here(alloc, text, program, at),
         CheckFault::WrongCount(at) => declared_here(alloc, text, program, at),
-        CheckFault::ChannelExpected(at) => declared_here(alloc, text, program, at),
+        CheckFault::ChannelExpected(at) => wanted_here(alloc, text, program, at),
         CheckFault::ValueExpected(at) => declared_here(alloc, text, program, at),
         CheckFault::WrongDirection(at) => declared_here(alloc, text, program, at),
         CheckFault::TwoWriters(at) => taken_before(alloc, text, program, Direction::Out, at),
@@ -246,17 +266,7 @@ fn add_meant(
 {
     let asked = asked_sort(use_at(program, at));
     let names = names_seen(alloc, program, process_using(program, at), asked)?;
-    add_unknown(words, word_at(text, at), &names)
-}
-
-/// As what a name is declared that should be that of a process.
-fn other_words(found: Option<Use>, kind: Option<Kind>) -> &'static str
-    ensures { result.now ≡ other_words found kind }
-{
-    match (found, kind) {
-        (Some(Use::Process), Some(_)) => " as a process, but as a channel",
-        _ => "",
-    }
+    add_unknown(words, alloc, word_at(text, at), &names)
 }
 
 /// Adds what is said of a name at a place that isn't declared.
@@ -321,76 +331,64 @@ fn found_kind(text: &str, program: &Program, at: Span) -> Option<Kind>
     }
 }
 
-/// The kind that is wanted and the one that is found.
-fn kind_words(found: Option<Kind>) -> &'static str
-    ensures { result.now ≡ kind_words found }
-{
-    match found {
-        Some(Kind::Integer) => ": wanted logical, found integer",
-        Some(Kind::Logical) => ": wanted integer, found logical",
-        None => "",
-    }
-}
-
-/// The direction that is wanted and the one that is found.
-fn direction_words(found: Option<Use>) -> &'static str
-    ensures { result.now ≡ direction_words found }
-{
-    match found {
-        Some(Use::Waited) => ": wanted `in`, found `out`",
-        Some(Use::Sent) => ": wanted `out`, found `in`",
-        _ => "",
-    }
-}
-
-/// What is found where a channel is wanted.
-fn channel_words(found: Option<Use>) -> &'static str
-    ensures { result.now ≡ channel_words found }
-{
-    match found {
-        Some(Use::Handed) => ", found a process",
-        Some(Use::Waited) => ", found a value",
-        Some(Use::Sent) => ", found a value",
-        Some(Use::Expression(_)) => ", found a value",
-        _ => "",
-    }
-}
-
-/// What is found where a value is wanted.
-fn value_words(found: Option<Use>, handed: &'static str) -> &'static str
-    ensures { result.now ≡ value_words found handed.now }
-{
-    match found {
-        Some(Use::Expression(_)) => ", found a channel",
-        Some(Use::Assigned) => ", found a channel",
-        Some(Use::Handed) => handed,
-        _ => "",
-    }
-}
-
-/// What is found where a value is wanted, where a name is handed over: a channel, a process, or neither.
-fn handed_words(channel: bool, process: bool) -> &'static str
-    ensures { result.now ≡ handed_words channel process }
-{
-    if channel {
-        ", found a channel"
-    } else if process {
-        ", found a process"
-    } else {
-        ", found a name"
-    }
-}
-
 /// What is found at a place where a value is wanted.
 fn valued_at(text: &str, program: &Program, at: Span) -> &'static str
     ensures { result.now ≡ valued_at text.now program.now at }
 {
+    match use_at(program, at) {
+        Some(Use::Expression(_)) => ", found a channel",
+        Some(Use::Assigned) => ", found a channel",
+        Some(Use::Handed) => {
+            let word = word_at(text, at);
+            let channel = channel_kind(program, word).is_some();
+            handed_words(channel, process_called(program, word).is_some())
+        }
+        _ => "",
+    }
+}
+
+/// Adds how the next value of a channel is taken, where a parameter to be read stands for a value.
+fn add_next_at(
+    words: &mut String,
+    alloc: Global,
+    text: &str,
+    program: &Program,
+    at: Span,
+) -> Result<(), AllocError>
+    ensures { IfOk result (λ _. string_bytes words.new ≡ string_bytes words.old ++ next_there text.now program.now at) }
+{
+    let Some(Use::Expression(_)) = use_at(program, at) else {
+        return Ok(());
+    };
+    let process = process_using(program, at);
+    let names = names_seen(alloc, program, process, Some(Sort::Source))?;
+    match called_first(word_at(text, at), &names) {
+        Some(name) => add_next(words, name),
+        None => Ok(()),
+    }
+}
+
+/// Adds what is found where a value is wanted, and how one is taken.
+fn add_valued(
+    words: &mut String,
+    alloc: Global,
+    text: &str,
+    program: &Program,
+    at: Span,
+) -> Result<(), AllocError>
+    ensures { IfOk result (λ _. string_bytes words.new ≡ string_bytes words.old ++ value_tail text.now program.now at) }
+{
+    words.push_str(valued_at(text, program, at))?;
+    add_next_at(words, alloc, text, program, at)
+}
+
+/// What to do about a channel without a writer.
+fn unwritten_at(text: &str, program: &Program, at: Span) -> &'static str
+    ensures { result.now ≡ unwritten_at text.now program.now at }
+{
     let word = word_at(text, at);
-    let handed = handed_words(
-        channel_kind(program, word).is_some(),
-        process_called(program, word).is_some(),
-    );
-    value_words(use_at(program, at), handed)
+    let read = passed(program, Direction::In, word).is_some();
+    unwritten_words(role_called(program, word), read)
 }
 
 /// Adds which direction is wanted, which is found, and which name was perhaps meant.
@@ -405,28 +403,6 @@ fn add_direction(
 {
     words.push_str(direction_words(use_at(program, at)))?;
     add_meant(words, alloc, text, program, at)
-}
-
-/// What to do about a channel without a writer.
-fn unwritten_words(role: Option<Role>) -> &'static str
-    ensures { result.now ≡ unwritten_words role }
-{
-    match role {
-        Some(Role::Inner) =>
-            "; hand it to an `out` parameter, or declare it `input` where its values come from outside",
-        _ => "; hand it to an `out` parameter",
-    }
-}
-
-/// What to do about a channel without a reader.
-fn unread_words(role: Option<Role>) -> &'static str
-    ensures { result.now ≡ unread_words role }
-{
-    match role {
-        Some(Role::Inner) =>
-            "; hand it to an `in` parameter, or declare it `output` where its values are to be reported",
-        _ => "; hand it to an `in` parameter",
-    }
 }
 
 /// Adds what is told behind the words of a fault: the nearest name, what is wanted and what is found, or what to do.
@@ -445,13 +421,11 @@ fn add_tail(
         CheckFault::WrongKind(at) => words.push_str(kind_words(found_kind(text, program, at))),
         CheckFault::WrongDirection(at) => add_direction(words, alloc, text, program, at),
         CheckFault::ChannelExpected(at) => words.push_str(channel_words(use_at(program, at))),
-        CheckFault::ValueExpected(at) => words.push_str(valued_at(text, program, at)),
+        CheckFault::ValueExpected(at) => add_valued(words, alloc, text, program, at),
         CheckFault::DeclaredTwice(_) => Ok(()),
         CheckFault::TwoWriters(_) => Ok(()),
         CheckFault::TwoReaders(_) => Ok(()),
-        CheckFault::NoWriter(at) => {
-            words.push_str(unwritten_words(role_called(program, word_at(text, at))))
-        }
+        CheckFault::NoWriter(at) => words.push_str(unwritten_at(text, program, at)),
         CheckFault::NoReader(at) => {
             words.push_str(unread_words(role_called(program, word_at(text, at))))
         }
@@ -490,10 +464,10 @@ pub fn check_note(
 ) -> Result<String, NoMemory>
     ensures { IfOk result (λ note. string_bytes note ≡ check_note path.now text.now program.now fault span words.now) }
 {
+    let place = second_place(alloc, text, program, fault)?;
     let mut said = String::from_str(alloc, words)?;
     add_tail(&mut said, alloc, text, program, fault)?;
     let mut note = marked(alloc, path, text, span, said.as_str())?;
-    let place = second_place(alloc, text, program, fault)?;
     add_place(&mut note, alloc, path, text, place)?;
     Ok(note)
 }

@@ -1,19 +1,12 @@
 //! The kinds of names and of expressions.
 
 ghost use Rattle.std.specs.Prelude.{◌≡◌};
-ghost use Rattle.std.proofs.Common.{bytes_eq};
 ghost use Rattle.kahn_streams.specs.View.{bytes_of};
 ghost use Rattle.kahn_streams.specs.Wiring.{gives, scope_of};
 ghost use Rattle.kahn_check.specs.Faults.{find, kind_in, kind_of};
 
+use crate::places::is_called;
 use kahn_streams::{Expression, Form, Kind, Name, Operator, Process, Taking};
-
-/// Whether two words have the same letters.
-pub(crate) fn same_bytes(first: &[u8], second: &[u8]) -> bool
-    ensures { result ≡ bytes_eq first.now second.now }
-{
-    first == second
-}
 
 /// What a name stands for in a process: the first of its parameters and variables that is called so.
 pub(crate) fn taking_of(process: &Process, name: &Name) -> Option<Taking>
@@ -21,12 +14,12 @@ pub(crate) fn taking_of(process: &Process, name: &Name) -> Option<Taking>
 {
     let word = name.text.as_bytes();
     for parameter in &process.parameters {
-        if same_bytes(word, parameter.name.text.as_bytes()) {
+        if is_called(word, &parameter.name) {
             return Some(parameter.taking);
         }
     }
     for variable in &process.variables {
-        if same_bytes(word, variable.name.text.as_bytes()) {
+        if is_called(word, &variable.name) {
             return Some(Taking::Value(variable.kind));
         }
     }

@@ -8,6 +8,7 @@ mod kinds;
 mod names;
 mod near;
 mod places;
+mod said;
 mod sight;
 mod uses;
 

@@ -1,9 +1,9 @@
 //! The names of a process and of a program, by what they stand for.
 
 ghost use Rattle.std.specs.Prelude.{◌≡◌, ◌++◌, ◌==◌, IfOk, map};
-ghost use Rattle.kahn_hints.specs.Names.{globals_of, is_sort, kept, kept_parameter, kept_variable, program_names, process_names, taking_sort};
+ghost use Rattle.kahn_hints.specs.Names.{globals_of, is_sort, kept, program_names, process_names, taking_sort};
 
-use kahn_streams::{Declaration, Direction, Name, Parameter, Process, Program, Taking, Variable};
+use kahn_streams::{Declaration, Direction, Name, Process, Program, Taking};
 use std::alloc::{AllocError, Global};
 
 /// What a name stands for.
@@ -62,29 +62,6 @@ fn keep<'p>(
     Ok(())
 }
 
-/// Adds the name of a parameter.
-fn keep_parameter<'p>(
-    names: &mut Vec<&'p Name>,
-    asked: Option<Sort>,
-    parameter: &'p Parameter,
-) -> Result<(), AllocError>
-    ensures { IfOk result (λ _. map (λ n. n.now) names.new.items ≡ map (λ n. n.now) names.old.items ++ kept_parameter asked parameter.now) }
-{
-    let sort = taking_sort(parameter.taking);
-    keep(names, asked, sort, &parameter.name)
-}
-
-/// Adds the name of a variable.
-fn keep_variable<'p>(
-    names: &mut Vec<&'p Name>,
-    asked: Option<Sort>,
-    variable: &'p Variable,
-) -> Result<(), AllocError>
-    ensures { IfOk result (λ _. map (λ n. n.now) names.new.items ≡ map (λ n. n.now) names.old.items ++ kept_variable asked variable.now) }
-{
-    keep(names, asked, Sort::Value, &variable.name)
-}
-
 /// The names that a process declares, of the sort that is asked for: its parameters first and then its variables.
 pub(crate) fn process_names<'p>(
     alloc: Global,
@@ -95,10 +72,11 @@ pub(crate) fn process_names<'p>(
 {
     let mut names = Vec::new(alloc);
     for parameter in &process.parameters {
-        keep_parameter(&mut names, asked, parameter)?;
+        let sort = taking_sort(parameter.taking);
+        keep(&mut names, asked, sort, &parameter.name)?;
     }
     for variable in &process.variables {
-        keep_variable(&mut names, asked, variable)?;
+        keep(&mut names, asked, Sort::Value, &variable.name)?;
     }
     Ok(names)
 }

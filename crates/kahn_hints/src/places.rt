@@ -3,11 +3,10 @@
 ghost use Rattle.std.specs.Prelude.{◌≡◌, IfOk, map, option_map};
 ghost use Rattle.std.specs.List.{find, list_any};
 ghost use Rattle.kahn_streams.specs.Wiring.{processes_of, same_direction};
-ghost use Rattle.kahn_hints.specs.Places.{called_first, channel_kind, declares, is_called, names_seen, passed, passed_by, passed_if, passed_in, process_called, process_declaring, process_using, has_use, role_called, word_at};
+ghost use Rattle.kahn_hints.specs.Places.{asked_of, asked_behind, asked_name, called_first, channel_kind, declares, is_called, names_seen, passed, passed_by, passed_if, passed_in, process_called, process_declaring, process_using, role_called, word_at};
 
-use crate::kinds::same_bytes;
 use crate::names::{Sort, process_names, program_names};
-use crate::uses::{body_use, same_span};
+use crate::uses::{argument_use, body_use, same_span};
 use kahn_streams::{
     Argument, Declaration, Direction, Instance, Kind, Name, Parameter, Process, Program, Role,
     Span, Taking,
@@ -28,7 +27,7 @@ pub(crate) fn word_at(text: &str, at: Span) -> &[u8]
 pub(crate) fn is_called(word: &[u8], name: &Name) -> bool
     ensures { result ≡ is_called word.now name.now }
 {
-    same_bytes(word, name.text.as_bytes())
+    word == name.text.as_bytes()
 }
 
 /// The first of the names with these letters.
@@ -88,20 +87,13 @@ pub(crate) fn process_declaring(program: &Program, at: Span) -> Option<&Process>
     None
 }
 
-/// Whether the body of a process has a part at this place.
-fn has_use(at: Span, process: &Process) -> bool
-    ensures { result ≡ has_use at process.now }
-{
-    body_use(process, at).is_some()
-}
-
 /// The process whose body has a part at this place.
 pub(crate) fn process_using(program: &Program, at: Span) -> Option<&Process>
     ensures { option_map (λ p. p.now) result ≡ process_using program.now at }
 {
     for declaration in &program.declarations {
         if let Declaration::Process(process) = declaration {
-            if has_use(at, process) {
+            if body_use(process, at).is_some() {
                 return Some(process);
             }
         }
@@ -241,6 +233,47 @@ pub(crate) fn passed<'p>(
 {
     for instance in &program.instances {
         if let Some(name) = passed_by(program, direction, word, instance) {
+            return Some(name);
+        }
+    }
+    None
+}
+
+/// The name of the parameter whose argument stands at a place.
+fn asked_behind<'p>(
+    at: Span,
+    parameters: &'p [Parameter],
+    arguments: &[Argument],
+) -> Option<&'p Name>
+    ensures { option_map (λ n. n.now) result ≡ asked_behind at parameters.now arguments.now }
+{
+    for (number, argument) in arguments.iter().enumerate() {
+        let Some(parameter) = parameters.get(number) else {
+            return None;
+        };
+        if argument_use(at, argument).is_some() {
+            return Some(&parameter.name);
+        }
+    }
+    None
+}
+
+/// The same of an instance.
+fn asked_of<'p>(program: &'p Program, at: Span, instance: &Instance) -> Option<&'p Name>
+    ensures { option_map (λ n. n.now) result ≡ asked_of program.now at instance.now }
+{
+    match process_called(program, instance.process.text.as_bytes()) {
+        Some(process) => asked_behind(at, &process.parameters, &instance.arguments),
+        None => None,
+    }
+}
+
+/// The same of all instances.
+pub(crate) fn asked_name(program: &Program, at: Span) -> Option<&Name>
+    ensures { option_map (λ n. n.now) result ≡ asked_name program.now at }
+{
+    for instance in &program.instances {
+        if let Some(name) = asked_of(program, at, instance) {
             return Some(name);
         }
     }

@@ -1,11 +1,11 @@
 //! How the characters of a source line are shown, and what stands below them.
 
-ghost use Rattle.std.specs.Prelude.{◌≡◌, ◌++◌, ◌<◌, IfOk, chars, flat_map, string_bytes};
+ghost use Rattle.std.specs.Prelude.{◌≡◌, ◌++◌, ◌<◌, IfOk, string_bytes};
 ghost use Rattle.kahn_marks.specs.declared.columns.Row.{Row};
-ghost use Rattle.kahn_marks.specs.Marks.{columns, is_near, piece_of, with_places, shown_character};
+ghost use Rattle.kahn_marks.specs.Marks.{columns, is_near, piece_of, row_of, shown_character};
 
 use crate::pieces::add_repeated;
-use std::alloc::{AllocError, Global};
+use std::alloc::AllocError;
 use unicode_width::UnicodeWidthChar;
 
 /// How many bytes before and behind a place are shown of its line.
@@ -80,19 +80,18 @@ fn add_piece(
     }
 }
 
-/// A row of a source line.
-pub(crate) fn row_of(
-    alloc: Global,
+/// Adds a row of a source line.
+pub(crate) fn add_row(
+    text: &mut String,
     line: &str,
     row: Row,
     from: usize,
     bytes: usize,
-) -> Result<String, AllocError>
-    ensures { IfOk result (λ text. string_bytes text ≡ flat_map (λ p. piece_of row from bytes p.0 p.1) (with_places 0 (chars line.now))) }
+) -> Result<(), AllocError>
+    ensures { IfOk result (λ _. string_bytes text.new ≡ string_bytes text.old ++ row_of row line.now from bytes) }
 {
-    let mut text = String::new(alloc);
     for (at, character) in line.char_indices() {
-        add_piece(&mut text, row, from, bytes, at, character)?;
+        add_piece(text, row, from, bytes, at, character)?;
     }
-    Ok(text)
+    Ok(())
 }

@@ -4,7 +4,7 @@ ghost use Rattle.std.specs.Prelude.{◌≡◌, ◌-◌, ◌++◌, IfOk, map, sli
 ghost use Rattle.std.specs.Str.Lines.{lines};
 ghost use Rattle.kahn_marks.specs.Marks.{carets_of, heading, line_at, marked, marked_as, marked_too, marked_warning, rows_text};
 
-use crate::columns::{Row, row_of};
+use crate::columns::{Row, add_row};
 use crate::pieces::{add, add_repeated};
 use itoa::Buffer;
 use kahn_streams::Span;
@@ -29,7 +29,8 @@ fn line_at(alloc: Global, text: &str, number: usize) -> Result<&str, AllocError>
 fn carets(alloc: Global, line: &str, from: usize, bytes: usize) -> Result<String, AllocError>
     ensures { IfOk result (λ text. string_bytes text ≡ carets_of line.now from bytes) }
 {
-    let mut text = row_of(alloc, line, Row::Carets, from, bytes)?;
+    let mut text = String::new(alloc);
+    add_row(&mut text, line, Row::Carets, from, bytes)?;
     if text.is_empty() {
         text.push_str("^")?;
     }
@@ -47,12 +48,14 @@ fn add_rows(
 ) -> Result<(), AllocError>
     ensures { IfOk result (λ _. string_bytes note.new ≡ string_bytes note.old ++ rows_text line.now number.now from bytes) }
 {
-    let source = row_of(alloc, line, Row::Source, from, bytes)?;
-    let blanks = row_of(alloc, line, Row::Blanks, from, bytes)?;
-    let carets = carets(alloc, line, from, bytes)?;
-    add(note, &[" ", number, " | ", source.as_str(), "\n "])?;
+    add(note, &[" ", number, " | "])?;
+    add_row(note, line, Row::Source, from, bytes)?;
+    note.push_str("\n ")?;
     add_repeated(note, " ", number.len())?;
-    add(note, &[" | ", blanks.as_str(), carets.as_str(), "\n"])
+    note.push_str(" | ")?;
+    add_row(note, line, Row::Blanks, from, bytes)?;
+    let carets = carets(alloc, line, from, bytes)?;
+    add(note, &[carets.as_str(), "\n"])
 }
 
 /// Adds the heading of a note.
@@ -88,9 +91,9 @@ fn marked_as(
     let mut first = Buffer::new();
     let mut second = Buffer::new();
     let number = first.format(line);
+    let source = line_at(alloc, text, line - 1)?;
     let mut note = String::new(alloc);
     add_heading(&mut note, path, number, second.format(column), sort, words)?;
-    let source = line_at(alloc, text, line - 1)?;
     let bytes = span.to.saturating_sub(from);
     add_rows(&mut note, alloc, source, number, column - 1, bytes)?;
     Ok(note)

@@ -9,7 +9,10 @@ use Rattle.kahn_syntax.specs.declared.lexeme.Sign.TheVariants as sign
 use Rattle.kahn_syntax.specs.declared.lexeme.Lexeme.{Lexeme}
 use Rattle.kahn_wanted.specs.declared.blocks.Block.{Block}
 use Rattle.kahn_wanted.specs.declared.blocks.Blocks.{Blocks}
-use Rattle.kahn_notes.specs.Order.{is_name}
+use Rattle.kahn_wanted.specs.declared.found.Unexpected.{Unexpected}
+use Rattle.kahn_wanted.specs.declared.groups.Wanted.{Wanted}
+use Rattle.kahn_notes.specs.declared.advice.Needed.TheVariants.{Becomes}
+use Rattle.kahn_notes.specs.Advice.{awaits}
 use Rattle.kahn_notes.specs.Words.{any_words, separator}
 
 -- ---- places
@@ -77,18 +80,17 @@ abbrev pub is_closing : Option Lexeme → Bool
 is_closing (Some x) = is_end_class x.what
 is_closing None = false
 
--- what stands outside of bodies alone: a declaration, and a `(` behind the name of a process
-abbrev pub is_outer_class : Option Lexeme → Class → Bool
-is_outer_class before (class.Word word.Process) = true
-is_outer_class before (class.Word word.Integer) = true
-is_outer_class before (class.Word word.Logical) = true
-is_outer_class before (class.Sign sign.Open) = is_name before
-is_outer_class before _ = false
+-- what stands outside of bodies alone: a declaration
+abbrev pub is_outer_class : Class → Bool
+is_outer_class (class.Word word.Process) = true
+is_outer_class (class.Word word.Integer) = true
+is_outer_class (class.Word word.Logical) = true
+is_outer_class _ = false
 
 -- at these and at the end of the text: of open blocks
-abbrev pub is_outside : Option Lexeme → Option Lexeme → Bool
-is_outside before (Some x) = is_outer_class before x.what
-is_outside before None = true
+abbrev pub is_outside : Option Lexeme → Bool
+is_outside (Some x) = is_outer_class x.what
+is_outside None = true
 
 -- at the end of the text always, else where no change is told that mends the text
 abbrev pub is_told : Option Lexeme → Bool → Bool
@@ -104,5 +106,19 @@ open_told None bs = bs
 abbrev pub blocks_words : List ℕ → Option Lexeme → Bool → Blocks → Option (List ℕ)
 blocks_words text found mended b =
     if is_closing found then bare_words text b.bare.items
-    else if is_told found mended && is_outside b.before found then open_words text (open_told found b.unclosed.items)
+    else if is_told found mended && is_outside found then open_words text (open_told found b.unclosed.items)
     else None
+
+-- a `(` behind the name that begins a statement: an instance, where an `end` was forgotten
+abbrev pub is_open_class : Class → Bool
+is_open_class (class.Sign sign.Open) = true
+is_open_class _ = false
+
+abbrev pub is_started : Option Lexeme → Wanted → Bool
+is_started (Some x) w = is_open_class x.what && awaits Becomes w
+is_started None w = false
+
+-- what is said of blocks beside advice: there of open ones, where no change mends the text
+abbrev pub open_beside : List ℕ → Unexpected → Bool → Blocks → Option (List ℕ)
+open_beside text u mended b =
+    if is_started u.found u.wanted && not mended then open_words text (open_told u.found b.unclosed.items) else None

@@ -1,5 +1,5 @@
 -- Believed. What the language has in the place of characters that it hasn't, by the bytes of these in UTF-8.
-use Rattle.std.specs.Prelude.{ℕ, ◌-◌, ◌==◌, List, [], codes, drop, if◌then◌else◌, length, nat_le, nat_lt, slice_get, unwrap_or}
+use Rattle.std.specs.Prelude.{ℕ, ◌-◌, ◌==◌, ◌&&◌, List, [], codes, drop, if◌then◌else◌, length, nat_le, nat_lt, slice_get, unwrap_or}
 use Rattle.std.specs.Char.{is_ascii_digit}
 use Rattle.kahn_syntax.specs.declared.fault.SyntaxFault.{SyntaxFault}
 use Rattle.kahn_syntax.specs.declared.fault.SyntaxFault.TheVariants.{BadCharacter}
@@ -17,7 +17,7 @@ byte_help b =
     else if b == 91 then codes "; there are no arrays"
     else if b == 123 then codes "; a block goes from `begin` to `end`"
     else if b == 38 then codes "; it is the word `and`"
-    else if b == 124 then codes "; it is the word `or`"
+    else if b == 124 then codes "; it is the word `or`, and between instances `par`"
     else if b == 126 then codes "; it is the word `not`"
     else if b == 63 then codes "; a choice is `if .. then .. else ..`"
     else if b == 58 then codes "; `:` stands before `=` alone, and a kind before its names"
@@ -27,13 +27,7 @@ byte_help b =
 abbrev pub point_help : ℕ → List ℕ
 point_help before = if is_ascii_digit before then codes "; numbers are whole" else codes "; no `.` stands in a name or behind the last `end`"
 
--- of U+0080 to U+00BF, by the last byte
-abbrev pub blank_help : ℕ → List ℕ
-blank_help b =
-    if b == 0xA0 then codes "; a no-break space (U+00A0) isn't a blank here"
-    else []
-
--- of U+2000 to U+203F
+-- of U+2000 to U+203F, by the last byte
 abbrev pub space_help : ℕ → List ℕ
 space_help b =
     if b == 0x83 then codes "; an em space (U+2003) isn't a blank here"
@@ -43,12 +37,6 @@ space_help b =
     else if b == 0x99 then codes "; there are no texts"
     else if b == 0x9C then codes "; there are no texts"
     else if b == 0x9D then codes "; there are no texts"
-    else []
-
--- of U+2200 to U+223F
-abbrev pub minus_help : ℕ → List ℕ
-minus_help b =
-    if b == 0x92 then codes "; minus is `-`"
     else []
 
 -- of U+2240 to U+227F
@@ -63,28 +51,24 @@ order_help b =
 abbrev pub sign_help : ℕ → ℕ → List ℕ
 sign_help b c =
     if b == 0x80 then space_help c
-    else if b == 0x88 then minus_help c
+    else if b == 0x88 then (if c == 0x92 then codes "; minus is `-`" else [])
     else if b == 0x89 then order_help c
     else []
 
--- of U+FEC0 to U+FEFF, by the last byte
-abbrev pub order_mark_help : ℕ → List ℕ
-order_mark_help b =
-    if b == 0xBF then codes "; a byte order mark (U+FEFF) isn't a blank here: save the text without one"
-    else []
+-- of U+00C0 to U+00FF, by the last byte
+abbrev pub letter_help : ℕ → List ℕ
+letter_help b =
+    if b == 0x97 then codes "; a product is `*`"
+    else if b == 0xB7 then codes "; a quotient is `div`"
+    else codes "; a name has ASCII letters, digits and `_`"
 
--- of U+F000 to U+FFFF
-abbrev pub mark_help : ℕ → ℕ → List ℕ
-mark_help b c =
-    if b == 0xBB then order_mark_help c
-    else []
-
--- of any other character
+-- of any other character, by the bytes: among them U+00A0 and U+FEFF
 abbrev pub other_help : ℕ → ℕ → ℕ → List ℕ
 other_help a b c =
-    if a == 0xC2 then blank_help b
+    if a == 0xC2 then (if b == 0xA0 then codes "; a no-break space (U+00A0) isn't a blank here" else [])
+    else if a == 0xC3 then letter_help b
     else if a == 0xE2 then sign_help b c
-    else if a == 0xEF then mark_help b c
+    else if a == 0xEF then (if b == 0xBB && c == 0xBF then codes "; a byte order mark (U+FEFF) isn't a blank here: save the text without one" else [])
     else codes "; a name has ASCII letters, digits and `_`"
 
 -- a byte of a text, or 0 behind its end

@@ -1,5 +1,5 @@
 -- Believed. Words of other languages, and what this one has in their place.
-use Rattle.std.specs.Prelude.{ℕ, Bool, true, false, ◌&&◌, ◌||◌, List, [], Option, Some, None, codes, if◌then◌else◌, length, nat_le, slice_range}
+use Rattle.std.specs.Prelude.{ℕ, Bool, true, false, ◌||◌, List, [], Option, Some, None, codes, if◌then◌else◌}
 use Rattle.std.specs.Option.{option_or}
 use Rattle.std.specs.Str.{str_eq_ignore_ascii_case}
 use Rattle.kahn_streams.specs.declared.span.Span.{Span}
@@ -7,6 +7,7 @@ use Rattle.kahn_syntax.specs.declared.lexeme.Class.{Class}
 use Rattle.kahn_syntax.specs.declared.lexeme.Class.TheVariants as class
 use Rattle.kahn_syntax.specs.declared.lexeme.Sign.TheVariants as sign
 use Rattle.kahn_syntax.specs.declared.lexeme.Lexeme.{Lexeme}
+use Rattle.kahn_wanted.specs.Blocks.{bytes_between}
 use Rattle.kahn_wanted.specs.declared.groups.Wanted.{Wanted}
 use Rattle.kahn_notes.specs.Advice.{advice}
 
@@ -19,6 +20,9 @@ is_exit_word w = str_eq_ignore_ascii_case w (codes "break") || str_eq_ignore_asc
 abbrev pub is_result_word : List ℕ → Bool
 is_result_word w = str_eq_ignore_ascii_case w (codes "return") || str_eq_ignore_ascii_case w (codes "yield")
 
+abbrev pub is_branch_word : List ℕ → Bool
+is_branch_word w = (str_eq_ignore_ascii_case w (codes "elif") || str_eq_ignore_ascii_case w (codes "elsif")) || str_eq_ignore_ascii_case w (codes "elseif")
+
 abbrev pub is_kind_word : List ℕ → Bool
 is_kind_word w =
     ((((str_eq_ignore_ascii_case w (codes "int") || str_eq_ignore_ascii_case w (codes "bool")) || str_eq_ignore_ascii_case w (codes "boolean"))
@@ -29,15 +33,13 @@ foreign_words w =
     if is_loop_word w then Some (codes "a loop is `while E do S`, or `repeat S`, which has no end")
     else if is_exit_word w then Some (codes "a loop ends where the test of its `while` is false")
     else if is_result_word w then Some (codes "a process has no result: `send E on C` gives a value to another one")
+    else if is_branch_word w then Some (codes "it is two words: `else if`")
     else if is_kind_word w then Some (codes "the kinds are `integer` and `logical`; one stands before its names")
     else None
 
 -- the letters of a name
-abbrev pub letters_at : List ℕ → Span → List ℕ
-letters_at text at = if nat_le at.from at.to && nat_le at.to (length text) then slice_range text at.from at.to else []
-
 abbrev pub name_in_class : List ℕ → Class → Span → List ℕ
-name_in_class text class.Name at = letters_at text at
+name_in_class text class.Name at = bytes_between text at.from at.to
 name_in_class text _ at = []
 
 abbrev pub spelled_name : List ℕ → Option Lexeme → List ℕ

@@ -1,5 +1,5 @@
 -- Believed. What is said of a place where a text goes wrong: what stands there, what may stand there, and what mends it.
-use Rattle.std.specs.Prelude.{◌≡◌, ◌==◌, ◌&&◌, ℕ, List, [], ◌∷◌, ◌++◌, ◌-◌, Option, Some, None, codes, decimal, if◌then◌else◌, is_some, length, map, min, nat_le, nat_lt, option_map, slice_range, string_bytes, take}
+use Rattle.std.specs.Prelude.{◌≡◌, ◌==◌, ◌&&◌, ℕ, Bool, false, List, [], ◌∷◌, ◌++◌, ◌-◌, Option, Some, None, codes, decimal, if◌then◌else◌, is_some, length, map, min, nat_le, nat_lt, option_map, slice_range, string_bytes, take}
 use Rattle.std.specs.Fmt.{signed_decimal}
 use Rattle.std.specs.List.{concat}
 use Rattle.std.specs.declared.alloc.Global.{Global}
@@ -27,7 +27,7 @@ use Rattle.kahn_wanted.specs.Mends.{AreMendsOf}
 use Rattle.kahn_wanted.specs.Wanted.{IsUnexpected}
 use Rattle.kahn_marks.specs.Marks.{marked, times_over}
 use Rattle.kahn_notes.specs.Foreign.{advised}
-use Rattle.kahn_notes.specs.Blocked.{at_words, blocks_words, line_there}
+use Rattle.kahn_notes.specs.Blocked.{at_words, blocks_words, line_there, open_beside}
 use Rattle.kahn_notes.specs.Order.{ranked}
 use Rattle.kahn_notes.specs.Words.{any_words, keyword_words, separator, sign_words}
 
@@ -137,11 +137,23 @@ abbrev pub changes_words : List ℕ → Option Lexeme → Option Mends → Optio
 changes_words text found (Some m) = mends_words text found m
 changes_words text found None = None
 
--- what stands below a note on what was found
+-- what stands below a note on what was found: advice, or else the changes and the blocks
+abbrev pub mended_text : List ℕ → Span → Unexpected → Option Mends → Blocks → List ℕ
+mended_text text span u m b =
+    remark_or_none text span (changes_words text u.found m)
+    ++ remark_or_none text span (blocks_words text u.found (is_some (changes_words text u.found m)) b)
+
+-- whether there are changes that mend the text, told or not
+abbrev pub is_mended : Option Mends → Bool
+is_mended (Some m) = nat_lt 0 (length m.changes.items)
+is_mended None = false
+
+abbrev pub advised_text : List ℕ → Span → Unexpected → Option Mends → Blocks → Option (List ℕ) → List ℕ
+advised_text text span u m b (Some words) = remark text span words ++ remark_or_none text span (open_beside text u (is_mended m) b)
+advised_text text span u m b None = mended_text text span u m b
+
 abbrev pub help_text : List ℕ → Span → Unexpected → Option Mends → Blocks → List ℕ
-help_text text span u m b =
-    remark_or_none text span (changes_words text u.found m) ++ (remark_or_none text span (advised text b.before u.found u.wanted)
-    ++ remark_or_none text span (blocks_words text u.found (is_some (changes_words text u.found m)) b))
+help_text text span u m b = advised_text text span u m b (advised text b.before u.found u.wanted)
 
 -- what is said of a comment before it
 abbrev pub comment_verb : List ℕ → Span → List ℕ

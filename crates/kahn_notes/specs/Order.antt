@@ -1,6 +1,6 @@
--- Believed. Which changes that mend a text are told, and in which order: leaving out the `;` before an `else` first, and an operator in
+-- Believed. Which changes that mend a text are told: leaving out the `;` before an `else` alone, where that is one, and an operator in
 -- the place of a name and `print` for a `wait` never, since they are seldom meant.
-use Rattle.std.specs.Prelude.{Bool, true, false, ◌&&◌, List, ◌++◌, Option, Some, None, if◌then◌else◌}
+use Rattle.std.specs.Prelude.{Bool, true, false, ◌&&◌, List, [], ◌∷◌, Option, Some, None, if◌then◌else◌}
 use Rattle.std.specs.List.{filter}
 use Rattle.kahn_syntax.specs.declared.lexeme.Class.{Class}
 use Rattle.kahn_syntax.specs.declared.lexeme.Class.TheVariants as class
@@ -86,5 +86,10 @@ change_rank before found _ _ = Then
 abbrev pub of_rank : Rank → Option Lexeme → Option Lexeme → List Change → List Change
 of_rank r before found cs = filter (λ c. same_rank r (change_rank before found c.spot c.put)) cs
 
+-- those of the second list where the first has none
+abbrev pub likeliest : List Change → List Change → List Change
+likeliest [] cs = cs
+likeliest (b ∷ bs) cs = b ∷ bs
+
 abbrev pub ranked : Option Lexeme → Option Lexeme → List Change → List Change
-ranked before found cs = of_rank First before found cs ++ of_rank Then before found cs
+ranked before found cs = likeliest (of_rank First before found cs) (of_rank Then before found cs)

@@ -2,15 +2,15 @@
 
 ghost use Rattle.std.specs.Prelude.{◌≡◌, ◌++◌, IfOk, map, option_map, string_bytes};
 ghost use Rattle.kahn_streams.specs.Place.{line_of, column_of};
-ghost use Rattle.kahn_notes.specs.Blocked.{at_words, bare_item, bare_words, begin_words, block_item, blocks_words, column_there, is_closing, is_outside, is_told, last_few, line_there, listed_bare, listed_blocks, open_told, open_words};
+ghost use Rattle.kahn_notes.specs.Blocked.{at_words, bare_item, bare_words, begin_words, block_item, blocks_words, column_there, is_closing, is_outside, is_started, is_told, last_few, line_there, listed_bare, listed_blocks, open_told, open_words, open_beside};
 
+use crate::advice::{Needed, awaits};
 use crate::listing::separator;
-use crate::order::is_name;
 use crate::words::class_words;
 use itoa::Buffer;
 use kahn_marks::add;
 use kahn_syntax::{Class, Keyword, Lexeme, Sign, Span};
-use kahn_wanted::{Block, Blocks};
+use kahn_wanted::{Block, Blocks, Unexpected, Wanted};
 use std::alloc::{AllocError, Global};
 
 /// How many are told: the last ones.
@@ -92,18 +92,11 @@ fn add_heads(words: &mut String, text: &str, heads: &[Lexeme]) -> Result<(), All
     Ok(())
 }
 
-/// The last ones of blocks.
-fn last_blocks(blocks: &[Block]) -> &[Block]
-    ensures { result.now ≡ last_few blocks.now }
+/// The last ones.
+fn last_few<T>(items: &[T]) -> &[T]
+    ensures { result.now ≡ last_few items.now }
 {
-    &blocks[blocks.len().saturating_sub(FEW)..]
-}
-
-/// The last ones of lexemes.
-fn last_heads(heads: &[Lexeme]) -> &[Lexeme]
-    ensures { result.now ≡ last_few heads.now }
-{
-    &heads[heads.len().saturating_sub(FEW)..]
+    &items[items.len().saturating_sub(FEW)..]
 }
 
 /// What is said of blocks that no `end` has closed, where there are some.
@@ -114,7 +107,7 @@ fn open_words(alloc: Global, text: &str, blocks: &[Block]) -> Result<Option<Stri
         return Ok(None);
     }
     let mut words = String::from_str(alloc, "no `end` so far for ")?;
-    add_blocks(&mut words, text, last_blocks(blocks))?;
+    add_blocks(&mut words, text, last_few(blocks))?;
     Ok(Some(words))
 }
 
@@ -126,7 +119,7 @@ fn bare_words(alloc: Global, text: &str, heads: &[Lexeme]) -> Result<Option<Stri
         return Ok(None);
     }
     let mut words = String::from_str(alloc, "no `begin` stands behind ")?;
-    add_heads(&mut words, text, last_heads(heads))?;
+    add_heads(&mut words, text, last_few(heads))?;
     Ok(Some(words))
 }
 
@@ -140,17 +133,15 @@ fn is_closing(found: Option<Lexeme>) -> bool
     }
 }
 
-/// Whether what was found behind a lexeme stands outside of bodies alone: the end of the text, a declaration, or the arguments of
-/// an instance.
-fn is_outside(before: Option<Lexeme>, found: Option<Lexeme>) -> bool
-    ensures { result ≡ is_outside before found }
+/// Whether what was found stands outside of bodies alone: the end of the text, or a declaration.
+fn is_outside(found: Option<Lexeme>) -> bool
+    ensures { result ≡ is_outside found }
 {
     match found {
         Some(lexeme) => match lexeme.what {
             Class::Word(Keyword::Process) => true,
             Class::Word(Keyword::Integer) => true,
             Class::Word(Keyword::Logical) => true,
-            Class::Sign(Sign::Open) => is_name(before),
             _ => false,
         },
         None => true,
@@ -191,7 +182,36 @@ pub(crate) fn blocks_words(
     if is_closing(found) {
         return bare_words(alloc, text, &blocks.bare);
     }
-    if is_told(found, mended) && is_outside(blocks.before, found) {
+    if is_told(found, mended) && is_outside(found) {
+        return open_words(alloc, text, open_told(found, &blocks.unclosed));
+    }
+    Ok(None)
+}
+
+/// Whether it is a `(` behind the name that begins a statement.
+fn is_started(found: Option<Lexeme>, wanted: &Wanted) -> bool
+    ensures { result ≡ is_started found wanted.now }
+{
+    match found {
+        Some(lexeme) => {
+            matches!(lexeme.what, Class::Sign(Sign::Open)) && awaits(Needed::Becomes, wanted)
+        }
+        None => false,
+    }
+}
+
+/// What is said of blocks beside advice on what was found: of open ones, where an instance may have begun and no change mends the text.
+pub(crate) fn open_beside(
+    alloc: Global,
+    text: &str,
+    unexpected: &Unexpected,
+    mended: bool,
+    blocks: &Blocks,
+) -> Result<Option<String>, AllocError>
+    ensures { IfOk result (λ words. option_map string_bytes words ≡ open_beside text.now unexpected.now mended blocks.now) }
+{
+    let found = unexpected.found;
+    if is_started(found, &unexpected.wanted) && !mended {
         return open_words(alloc, text, open_told(found, &blocks.unclosed));
     }
     Ok(None)

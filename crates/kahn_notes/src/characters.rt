@@ -1,7 +1,7 @@
 //! What the language has in the place of characters that it hasn't.
 
 ghost use Rattle.std.specs.Prelude.{◌≡◌};
-ghost use Rattle.kahn_notes.specs.Characters.{byte_at, byte_help, character_help, order_help, other_help, place_help, point_help, rest_at, sign_help, space_help, blank_help, mark_help, minus_help, order_mark_help};
+ghost use Rattle.kahn_notes.specs.Characters.{byte_at, byte_help, character_help, letter_help, order_help, other_help, place_help, point_help, rest_at, space_help};
 
 use kahn_syntax::SyntaxFault;
 
@@ -20,7 +20,7 @@ fn byte_help(byte: u8) -> &'static str
         b'[' => "; there are no arrays",
         b'{' => "; a block goes from `begin` to `end`",
         b'&' => "; it is the word `and`",
-        b'|' => "; it is the word `or`",
+        b'|' => "; it is the word `or`, and between instances `par`",
         b'~' => "; it is the word `not`",
         b'?' => "; a choice is `if .. then .. else ..`",
         b':' => "; `:` stands before `=` alone, and a kind before its names",
@@ -36,16 +36,6 @@ fn point_help(before: u8) -> &'static str
         "; numbers are whole"
     } else {
         "; no `.` stands in a name or behind the last `end`"
-    }
-}
-
-/// Of U+0080 to U+00BF, by the last byte.
-fn blank_help(last: u8) -> &'static str
-    ensures { result.now ≡ blank_help last }
-{
-    match last {
-        0xA0 => "; a no-break space (U+00A0) isn't a blank here",
-        _ => "",
     }
 }
 
@@ -77,45 +67,14 @@ fn order_help(last: u8) -> &'static str
     }
 }
 
-/// Of U+2000 to U+2FFF, by the other bytes.
-fn sign_help(second: u8, last: u8) -> &'static str
-    ensures { result.now ≡ sign_help second last }
-{
-    match second {
-        0x80 => space_help(last),
-        0x88 => minus_help(last),
-        0x89 => order_help(last),
-        _ => "",
-    }
-}
-
-/// Of U+2200 to U+223F, by the last byte.
-fn minus_help(last: u8) -> &'static str
-    ensures { result.now ≡ minus_help last }
+/// Of U+00C0 to U+00FF, by the last byte.
+fn letter_help(last: u8) -> &'static str
+    ensures { result.now ≡ letter_help last }
 {
     match last {
-        0x92 => "; minus is `-`",
-        _ => "",
-    }
-}
-
-/// Of U+F000 to U+FFFF, by the other bytes.
-fn mark_help(second: u8, last: u8) -> &'static str
-    ensures { result.now ≡ mark_help second last }
-{
-    match second {
-        0xBB => order_mark_help(last),
-        _ => "",
-    }
-}
-
-/// Of U+FEC0 to U+FEFF, by the last byte.
-fn order_mark_help(last: u8) -> &'static str
-    ensures { result.now ≡ order_mark_help last }
-{
-    match last {
-        0xBF => "; a byte order mark (U+FEFF) isn't a blank here: save the text without one",
-        _ => "",
+        0x97 => "; a product is `*`",
+        0xB7 => "; a quotient is `div`",
+        _ => "; a name has ASCII letters, digits and `_`",
     }
 }
 
@@ -124,9 +83,23 @@ fn other_help(first: u8, second: u8, last: u8) -> &'static str
     ensures { result.now ≡ other_help first second last }
 {
     match first {
-        0xC2 => blank_help(second),
-        0xE2 => sign_help(second, last),
-        0xEF => mark_help(second, last),
+        0xC2 => match second {
+            0xA0 => "; a no-break space (U+00A0) isn't a blank here",
+            _ => "",
+        },
+        0xC3 => letter_help(second),
+        0xE2 => match (second, last) {
+            (0x80, _) => space_help(last),
+            (0x88, 0x92) => "; minus is `-`",
+            (0x89, _) => order_help(last),
+            _ => "",
+        },
+        0xEF => match (second, last) {
+            (0xBB, 0xBF) => {
+                "; a byte order mark (U+FEFF) isn't a blank here: save the text without one"
+            }
+            _ => "",
+        },
         _ => "; a name has ASCII letters, digits and `_`",
     }
 }
@@ -142,7 +115,7 @@ fn byte_at(bytes: &[u8], at: usize) -> u8
 }
 
 /// What stands from a byte of a text on.
-pub(crate) fn rest_at(bytes: &[u8], at: usize) -> &[u8]
+fn rest_at(bytes: &[u8], at: usize) -> &[u8]
     ensures { result.now ≡ rest_at bytes.now at }
 {
     if at <= bytes.len() { &bytes[at..] } else { &[] }

@@ -1,11 +1,11 @@
 //! Words of other languages, and what this one has in their place.
 
 ghost use Rattle.std.specs.Prelude.{◌≡◌, option_map};
-ghost use Rattle.kahn_notes.specs.Foreign.{advised, foreign, foreign_words, is_exit_word, is_kind_word, is_loop_word, is_result_word, letters_at, name_before, spelled_name};
+ghost use Rattle.kahn_notes.specs.Foreign.{advised, foreign, foreign_words, is_branch_word, is_exit_word, is_kind_word, is_loop_word, is_result_word, name_before, spelled_name};
 
 use crate::advice::advice;
-use kahn_syntax::{Class, Lexeme, Sign, Span};
-use kahn_wanted::Wanted;
+use kahn_syntax::{Class, Lexeme, Sign};
+use kahn_wanted::{Wanted, bytes_between};
 
 /// Whether it is one for a loop.
 fn is_loop_word(word: &[u8]) -> bool
@@ -30,6 +30,15 @@ fn is_result_word(word: &[u8]) -> bool
     word.eq_ignore_ascii_case(b"return") || word.eq_ignore_ascii_case(b"yield")
 }
 
+/// Whether it is one for a further test of an `if`.
+fn is_branch_word(word: &[u8]) -> bool
+    ensures { result ≡ is_branch_word word.now }
+{
+    word.eq_ignore_ascii_case(b"elif")
+        || word.eq_ignore_ascii_case(b"elsif")
+        || word.eq_ignore_ascii_case(b"elseif")
+}
+
 /// Whether it is one for a kind, or stands before a variable.
 fn is_kind_word(word: &[u8]) -> bool
     ensures { result ≡ is_kind_word word.now }
@@ -52,20 +61,12 @@ fn foreign_words(word: &[u8]) -> Option<&'static str>
         Some("a loop ends where the test of its `while` is false")
     } else if is_result_word(word) {
         Some("a process has no result: `send E on C` gives a value to another one")
+    } else if is_branch_word(word) {
+        Some("it is two words: `else if`")
     } else if is_kind_word(word) {
         Some("the kinds are `integer` and `logical`; one stands before its names")
     } else {
         None
-    }
-}
-
-/// The bytes of a part of a text; none where it isn't within the text.
-pub(crate) fn letters_at(text: &str, at: Span) -> &[u8]
-    ensures { result.now ≡ letters_at text.now at }
-{
-    match text.as_bytes().get(at.from..at.to) {
-        Some(word) => word,
-        None => &[],
     }
 }
 
@@ -77,7 +78,7 @@ fn spelled_name(text: &str, lexeme: Option<Lexeme>) -> &[u8]
         return &[];
     };
     match lexeme.what {
-        Class::Name => letters_at(text, lexeme.span),
+        Class::Name => bytes_between(text, lexeme.span.from, lexeme.span.to),
         Class::Word(_) | Class::Number(_) | Class::Sign(_) => &[],
     }
 }

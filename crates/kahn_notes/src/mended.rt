@@ -2,10 +2,10 @@
 
 ghost use Rattle.std.specs.Prelude.{◌≡◌, ◌++◌, IfOk, IfSome, None, Some, is_some, length, map, option_map, string_bytes, take};
 ghost use Rattle.kahn_wanted.specs.declared.changes.Spot.TheVariants.{Before};
-ghost use Rattle.kahn_notes.specs.Blocked.{blocks_words};
-ghost use Rattle.kahn_notes.specs.Notes.{MayFind, article, change_lead, change_words, changes_words, help_text, last_words, lead_words, listed, mends_words, number_words, put_words, remark, remark_or_none, some_words};
+ghost use Rattle.kahn_notes.specs.Blocked.{blocks_words, open_beside};
+ghost use Rattle.kahn_notes.specs.Notes.{MayFind, article, change_lead, change_words, changes_words, help_text, is_mended, last_words, lead_words, listed, mended_text, mends_words, number_words, put_words, remark, remark_or_none, some_words};
 
-use crate::blocked::blocks_words;
+use crate::blocked::{blocks_words, open_beside};
 use crate::foreign::advised;
 use crate::listing::separator;
 use crate::order::ranked;
@@ -42,7 +42,7 @@ fn add_last(words: &mut String, text: &str, last: Option<Lexeme>) -> Result<(), 
 {
     match last {
         Some(lexeme) => {
-            add(words, &[article(lexeme.what)])?;
+            words.push_str(article(lexeme.what))?;
             add_lexeme(words, text, lexeme)
         }
         None => Ok(()),
@@ -88,7 +88,7 @@ fn add_change(
         (Spot::Between, Some(class)) => add(words, &[class_words(class), " before it"]),
         (Spot::Here, Some(class)) => add(words, &[class_words(class), " in its place"]),
         (Spot::Before, Some(class)) => add_in_place(words, text, last, class),
-        (Spot::Here, None) => add(words, &["leaving it out"]),
+        (Spot::Here, None) => words.push_str("leaving it out"),
         (Spot::Before, None) => add_left_out(words, text, last),
         (Spot::Between, None) => Ok(()),
     }
@@ -216,24 +216,9 @@ pub(crate) fn add_remark(
     let (line, _) = Span { from, to: from }.place(text);
     let mut buffer = Buffer::new();
     let number = buffer.format(line);
-    add(note, &[" "])?;
+    note.push_str(" ")?;
     add_repeated(note, " ", number.len())?;
     add(note, &[" = ", words, "\n"])
-}
-
-/// Adds a line below the carets under a part, where there is one.
-fn add_remark_or_none(
-    note: &mut String,
-    text: &str,
-    span: Span,
-    words: Option<&'static str>,
-) -> Result<(), AllocError>
-    ensures { IfOk result (λ _. string_bytes note.new ≡ string_bytes note.old ++ remark_or_none text.now span (option_map (λ w. w.now) words.entry)) }
-{
-    match words {
-        Some(words) => add_remark(note, text, span, words),
-        None => Ok(()),
-    }
 }
 
 /// Adds what is said of blocks.
@@ -254,30 +239,8 @@ fn add_blocks_remark(
     }
 }
 
-/// Adds what is said of the changes, where something is, and tells whether it is.
-fn add_mends(
-    note: &mut String,
-    alloc: Global,
-    text: &str,
-    span: Span,
-    found: Option<Lexeme>,
-    mends: &Mends,
-) -> Result<bool, AllocError>
-    requires { MayFind text.now mends.now.before }
-    ensures told { IfOk result (λ told. told ≡ is_some (mends_words text.now found mends.now)) }
-    ensures text { IfOk result (λ _. string_bytes note.new ≡ string_bytes note.old ++ remark_or_none text.now span (mends_words text.now found mends.now)) }
-{
-    match mends_words(alloc, text, found, mends)? {
-        Some(words) => {
-            add_remark(note, text, span, words.as_str())?;
-            Ok(true)
-        }
-        None => Ok(false),
-    }
-}
-
 /// Adds what is said of the changes, where they were looked for, and tells whether something is.
-fn add_mends_or_none(
+fn add_mends(
     note: &mut String,
     alloc: Global,
     text: &str,
@@ -289,13 +252,65 @@ fn add_mends_or_none(
     ensures told { IfOk result (λ told. told ≡ is_some (changes_words text.now found mends.now)) }
     ensures text { IfOk result (λ _. string_bytes note.new ≡ string_bytes note.old ++ remark_or_none text.now span (changes_words text.now found mends.now)) }
 {
-    match mends {
-        Some(mends) => add_mends(note, alloc, text, span, found, mends),
+    let Some(mends) = mends else {
+        return Ok(false);
+    };
+    match mends_words(alloc, text, found, mends)? {
+        Some(words) => {
+            add_remark(note, text, span, words.as_str())?;
+            Ok(true)
+        }
         None => Ok(false),
     }
 }
 
-/// Adds what is said of the changes and of the blocks, and advice on what was found, where something is.
+/// Adds what is said of the changes and of the blocks.
+fn add_mended(
+    note: &mut String,
+    alloc: Global,
+    text: &str,
+    span: Span,
+    unexpected: &Unexpected,
+    mends: &Option<Mends>,
+    blocks: &Blocks,
+) -> Result<(), AllocError>
+    requires { IfSome mends.now (λ m. MayFind text.now m.before) }
+    ensures { IfOk result (λ _. string_bytes note.new ≡ string_bytes note.old ++ mended_text text.now span unexpected.now mends.now blocks.now) }
+{
+    let found = unexpected.found;
+    let mended = add_mends(note, alloc, text, span, found, mends)?;
+    add_blocks_remark(note, alloc, text, span, found, mended, blocks)
+}
+
+/// Whether there are changes that mend the text.
+fn is_mended(mends: &Option<Mends>) -> bool
+    ensures { result ≡ is_mended mends.now }
+{
+    match mends {
+        Some(mends) => !mends.changes.is_empty(),
+        None => false,
+    }
+}
+
+/// Adds what is said of blocks beside advice on a place.
+fn add_started(
+    note: &mut String,
+    alloc: Global,
+    text: &str,
+    span: Span,
+    place: &Unexpected,
+    mended: bool,
+    blocks: &Blocks,
+) -> Result<(), AllocError>
+    ensures { IfOk result (λ _. string_bytes note.new ≡ string_bytes note.old ++ remark_or_none text.now span (open_beside text.now place.now mended blocks.now)) }
+{
+    match open_beside(alloc, text, place, mended, blocks)? {
+        Some(words) => add_remark(note, text, span, words.as_str()),
+        None => Ok(()),
+    }
+}
+
+/// Adds advice on what was found, or else what is said of the changes and of the blocks.
 pub(crate) fn add_help(
     note: &mut String,
     alloc: Global,
@@ -308,9 +323,19 @@ pub(crate) fn add_help(
     requires { IfSome mends.now (λ m. MayFind text.now m.before) }
     ensures { IfOk result (λ _. string_bytes note.new ≡ string_bytes note.old ++ help_text text.now span unexpected.now mends.now blocks.now) }
 {
-    let found = unexpected.found;
-    let mended = add_mends_or_none(note, alloc, text, span, found, mends)?;
-    let words = advised(text, blocks.before, found, &unexpected.wanted);
-    add_remark_or_none(note, text, span, words)?;
-    add_blocks_remark(note, alloc, text, span, found, mended, blocks)
+    match advised(text, blocks.before, unexpected.found, &unexpected.wanted) {
+        Some(words) => {
+            add_remark(note, text, span, words)?;
+            add_started(
+                note,
+                alloc,
+                text,
+                span,
+                unexpected,
+                is_mended(mends),
+                blocks,
+            )
+        }
+        None => add_mended(note, alloc, text, span, unexpected, mends, blocks),
+    }
 }

@@ -1,6 +1,6 @@
-//! Which changes are told, and in which order.
+//! Which changes are told.
 
-ghost use Rattle.std.specs.Prelude.{◌≡◌, ◌++◌, IfOk, take};
+ghost use Rattle.std.specs.Prelude.{◌≡◌, ◌++◌, IfOk};
 ghost use Rattle.kahn_notes.specs.Order.{is_else, is_name, is_operator_class, is_print, is_semicolon, finds_wait, of_rank, change_rank, ranked, same_rank};
 
 use kahn_syntax::{Class, Keyword, Lexeme, Sign};
@@ -10,9 +10,9 @@ use std::alloc::{AllocError, Global};
 /// How likely a change is meant.
 #[derive(Clone, Copy)]
 pub(crate) enum Rank {
-    /// It is told first.
+    /// It is told alone.
     First,
-    /// It is told then.
+    /// It is told where no such one is there.
     Then,
     /// It isn't told.
     Never,
@@ -78,7 +78,7 @@ fn is_print(class: Class) -> bool
 }
 
 /// Whether it is an operator.
-fn is_operator_class(class: Class) -> bool
+pub(crate) fn is_operator_class(class: Class) -> bool
     ensures { result ≡ is_operator_class class }
 {
     match class {
@@ -131,7 +131,7 @@ fn add_ranked(
     Ok(())
 }
 
-/// The changes that may be told beside a lexeme that was found, those first that are most likely meant.
+/// The changes that may be told beside a lexeme that was found: those alone that are most likely meant, where there are such.
 pub(crate) fn ranked(
     alloc: Global,
     before: Option<Lexeme>,
@@ -142,6 +142,9 @@ pub(crate) fn ranked(
 {
     let mut list = Vec::new(alloc);
     add_ranked(&mut list, Rank::First, before, found, changes)?;
+    if !list.is_empty() {
+        return Ok(list);
+    }
     add_ranked(&mut list, Rank::Then, before, found, changes)?;
     Ok(list)
 }

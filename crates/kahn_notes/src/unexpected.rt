@@ -32,7 +32,7 @@ pub(crate) fn add_lexeme(note: &mut String, text: &str, lexeme: Lexeme) -> Resul
             let mut buffer = Buffer::new();
             add(note, &["the number ", buffer.format(number)])
         }
-        Class::Sign(sign) => add(note, &[sign_words(sign)]),
+        Class::Sign(sign) => note.push_str(sign_words(sign)),
     }
 }
 
@@ -43,7 +43,7 @@ fn add_found(note: &mut String, text: &str, found: Option<Lexeme>) -> Result<(),
 {
     match found {
         Some(lexeme) => add_lexeme(note, text, lexeme),
-        None => add(note, &["the end of the text"]),
+        None => note.push_str("the end of the text"),
     }
 }
 
@@ -57,21 +57,20 @@ fn words_of(
     requires { MayFind text.now unexpected.now.found }
     ensures { IfOk result (λ words. string_bytes words ≡ unexpected_words text.now what unexpected.now) }
 {
-    let pieces = pieces_of(alloc, &unexpected.wanted, what)?;
-    let mut words = String::new(alloc);
-    add(&mut words, &["found "])?;
+    let mut words = String::from_str(alloc, "found ")?;
     add_found(&mut words, text, unexpected.found)?;
-    add(&mut words, &[", where "])?;
+    words.push_str(", where ")?;
+    let pieces = pieces_of(alloc, &unexpected.wanted, what)?;
     add_listed(&mut words, &pieces)?;
-    add(&mut words, &[" may stand"])?;
+    words.push_str(" may stand")?;
     Ok(words)
 }
 
-/// A note on a place where a text goes wrong: what stands there, what may stand there, and the changes of one lexeme there with
-/// which the text is a program, where there are one to seven and the text has at most 8,192 lexemes: three at most, the one first
-/// that is most likely meant, and none that puts an operator in the place of a name, or `print` before a `wait`; what the language has
-/// where a habit of others is found; which blocks are open, or which statements have none; and which comment before the place ends
-/// there or swallowed something. It refuses only where memory was refused.
+/// A note on a place where a text goes wrong: what stands there and what may stand there; what the language has where a habit of others
+/// is found, or else the changes of one lexeme there with which the text is a program, where there are one to seven and the text has
+/// at most 8,192 lexemes: three at most, leaving out the `;` before an `else` alone, and none that puts an operator in the place of a
+/// name, or `print` before a `wait`; which blocks are open, or which statements have none; and which comment before the place ends there
+/// or swallowed something. It refuses only where memory was refused.
 pub fn unexpected_note(
     alloc: Global,
     path: &str,
@@ -82,13 +81,14 @@ pub fn unexpected_note(
     requires { IsTextFault text.now (Expected span what) }
     ensures { IfOk result (IsNote path.now text.now span what) }
 {
+    let comment = comment_before(alloc, text, span.from)?;
     let unexpected = wanted_at(alloc, text, span, what)?;
-    let mends = mends_at(alloc, text, span, what)?;
-    let blocks = blocks_at(alloc, text, span, what)?;
     let words = words_of(alloc, text, what, &unexpected)?;
     let mut note = marked(alloc, path, text, span, words.as_str())?;
+    drop(words);
+    let mends = mends_at(alloc, text, span, what)?;
+    let blocks = blocks_at(alloc, text, span, what)?;
     add_help(&mut note, alloc, text, span, &unexpected, &mends, &blocks)?;
-    let comment = comment_before(alloc, text, span.from)?;
     add_comment(&mut note, alloc, text, span, comment)?;
     Ok(note)
 }

@@ -58,10 +58,13 @@ abbrev pub bare_next : List ℕ → List Lexeme → Option Lexeme → Lexeme →
 bare_next text bare None x = bare
 bare_next text bare (Some head) x = if is_bare text head x then bare ++ (head ∷ []) else bare
 
+abbrev pub bare_after : List ℕ → List Lexeme → Option Lexeme → Lexeme → List Lexeme
+bare_after text bare last x = if is_process x.what then [] else bare_next text bare last x
+
 -- what leads to such statements in lexemes, behind the last `process`
 abbrev pub bare_behind : List ℕ → List Lexeme → Option Lexeme → List Lexeme → List Lexeme
 bare_behind text bare last [] = bare
-bare_behind text bare last (x ∷ xs) = bare_behind text (if is_process x.what then [] else bare_next text bare last x) (Some x) xs
+bare_behind text bare last (x ∷ xs) = bare_behind text (bare_after text bare last x) (Some x) xs
 
 -- ---- at a place
 

@@ -4,7 +4,7 @@ ghost use Rattle.std.specs.Prelude.{◌≡◌, ◌≤◌, ◌==◌, IfOk, None, 
 ghost use Rattle.std.specs.List.{list_any};
 ghost use Rattle.kahn_syntax.specs.declared.fault.SyntaxFault.TheVariants.{Expected};
 ghost use Rattle.kahn_syntax.specs.Texts.{IsFault, IsTextFault};
-ghost use Rattle.kahn_wanted.specs.Blocks.{AreBlocks, AreBlocksAt, AreBlocksOf, bare_behind, bare_next, bytes_between, is_bare, is_begin, is_process, leads_on, open_behind, blocks_after, without_last};
+ghost use Rattle.kahn_wanted.specs.Blocks.{AreBlocks, AreBlocksAt, AreBlocksOf, bare_after, bare_behind, bytes_between, is_bare, is_begin, is_process, leads_on, open_behind, blocks_after, without_last};
 
 use crate::changes::lexeme_before;
 use crate::mended::place_of;
@@ -107,8 +107,8 @@ fn is_process(class: Class) -> bool
     }
 }
 
-/// What stands from one place of a text to another.
-fn bytes_between(text: &str, from: usize, to: usize) -> &[u8]
+/// What stands from one place of a text to another; nothing where that isn't within the text.
+pub fn bytes_between(text: &str, from: usize, to: usize) -> &[u8]
     ensures { result.now ≡ bytes_between text.now from to }
 {
     match text.as_bytes().get(from..to) {
@@ -121,7 +121,12 @@ fn bytes_between(text: &str, from: usize, to: usize) -> &[u8]
 pub(crate) fn is_broken(bytes: &[u8]) -> bool
     ensures { result ≡ list_any (λ b. b == 10) bytes.now }
 {
-    bytes.iter().any(|byte| *byte == b'\n')
+    for byte in bytes {
+        if *byte == b'\n' {
+            return true;
+        }
+    }
+    false
 }
 
 /// Whether the statement behind a lexeme begins with another one on a later line, and is no block.
@@ -132,15 +137,19 @@ fn is_bare(text: &str, head: Lexeme, lexeme: Lexeme) -> bool
     leads_on(head.what) && !is_begin(lexeme.what) && line
 }
 
-/// Adds the lexeme before another one, where such a statement begins there.
+/// Adds the lexeme before another one, where such a statement begins there; a `process` takes all away.
 fn add_bare(
     bare: &mut Vec<Lexeme>,
     text: &str,
     before: Option<Lexeme>,
     lexeme: Lexeme,
 ) -> Result<(), AllocError>
-    ensures { IfOk result (λ _. bare.new.items ≡ bare_next text.now bare.old.items before lexeme) }
+    ensures { IfOk result (λ _. bare.new.items ≡ bare_after text.now bare.old.items before lexeme) }
 {
+    if is_process(lexeme.what) {
+        bare.clear();
+        return Ok(());
+    }
     match before {
         Some(head) => {
             if is_bare(text, head, lexeme) {
@@ -159,11 +168,7 @@ fn bare_behind(alloc: Global, text: &str, lexemes: &[Lexeme]) -> Result<Vec<Lexe
     let mut bare = Vec::new(alloc);
     let mut before = None;
     for lexeme in lexemes {
-        if is_process(lexeme.what) {
-            bare.clear();
-        } else {
-            add_bare(&mut bare, text, before, *lexeme)?;
-        }
+        add_bare(&mut bare, text, before, *lexeme)?;
         before = Some(*lexeme);
     }
     Ok(bare)

@@ -17,3 +17,7 @@ pub use found::{Unexpected, wanted_at};
 pub use groups::{Group, Wanted};
 pub use mended::{Mends, mends_at};
 pub use swallowing::swallows;
+
+// For the crates above.
+pub use blocks::bytes_between;
+pub use swallowing::{has_word, is_blank, is_of_word};

@@ -5,7 +5,7 @@ ghost use Rattle.kahn_syntax.specs.Lexemes.{IsBlank};
 ghost use Rattle.kahn_wanted.specs.Swallowing.{Swallows, begins_line, has_bytes, has_call, has_word, is_block_word_at, is_of_word, is_part_at, is_space, is_statement_at, opens};
 
 /// Whether it is a space, a tab, a CR or an LF.
-pub(crate) fn is_blank(b: u8) -> bool
+pub fn is_blank(b: u8) -> bool
     ensures blank { IsTrue result ↔ IsBlank b }
     ensures space { result ≡ is_space b }
 {
@@ -13,14 +13,14 @@ pub(crate) fn is_blank(b: u8) -> bool
 }
 
 /// Whether it is a letter, a digit or `_`.
-fn is_of_word(b: u8) -> bool
+pub fn is_of_word(b: u8) -> bool
     ensures { result ≡ is_of_word b }
 {
     b.is_ascii_alphanumeric() || b == b'_'
 }
 
 /// Whether a text begins with a word, in any letter case, and no letter, digit or `_` goes on behind it.
-fn has_word(word: &[u8], text: &[u8]) -> bool
+pub fn has_word(word: &[u8], text: &[u8]) -> bool
     ensures { result ≡ has_word word.now text.now }
 {
     match (word.split_first(), text.split_first()) {

@@ -9,7 +9,7 @@ use Rattle.kahn_streams.specs.declared.value.Failure.{Failure}
 use Rattle.kahn_streams.specs.declared.value.Value.TheVariants.{Integer, Logical}
 use Rattle.kahn_streams.specs.Arithmetic.{apply, number, ranged, truth}
 use Rattle.kahn_streams.specs.Meaning.{Store, constant, eval, exec, read, script_of, settle, turns_of, value_of}
-use Rattle.kahn_streams.specs.Script.{Cut, Dry, Fail, Fault, Give, Got, Outcome, Parameter, Printer, Reached, Script, Sends, Tapes, Turns, Waits, at_once, play}
+use Rattle.kahn_streams.specs.Script.{Cut, Dry, Fault, Give, Got, Outcome, Parameter, Printer, Script, Sends, Tapes, Turns, at_once, play}
 use Rattle.kahn_warnings.specs.Loops.{IsUnchanged}
 use Rattle.kahn_warnings.specs.Uses.{is_assigned_in, is_named, waits_in}
 

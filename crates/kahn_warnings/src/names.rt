@@ -2,34 +2,19 @@
 
 ghost use Rattle.std.specs.Prelude.{◌≡◌, ◌++◌, IfOk};
 ghost use Rattle.std.specs.List.{list_any};
-ghost use Rattle.kahn_warnings.specs.Warnings.{is_of, name_warnings, names_warnings, parameter_warnings, process_warnings, unread_kind, variable_warnings};
-ghost use Rattle.kahn_warnings.specs.Warned.{warned};
+ghost use Rattle.kahn_warnings.specs.Warnings.{is_of, name_warnings, names_warnings, process_warnings, unread_kind};
 
 use crate::uses::{assigns, uses};
 use crate::warning::{Warning, WarningKind};
-use kahn_streams::{Instance, Name, Process, Span};
+use kahn_streams::{Instance, Name, Process};
 use std::alloc::AllocError;
-
-/// A warning of a part of the text.
-pub(crate) fn warned(kind: WarningKind, span: Span) -> Warning
-    ensures { result ≡ warned kind span }
-{
-    Warning { kind, span }
-}
-
-/// Whether an instance is of a process.
-fn is_of(process: &Process, instance: &Instance) -> bool
-    ensures { result ≡ is_of process.now instance.now }
-{
-    instance.process.text.as_bytes() == process.name.text.as_bytes()
-}
 
 /// Whether one of the instances is of a process.
 fn has_instance(instances: &[Instance], process: &Process) -> bool
     ensures { result ≡ list_any (is_of process.now) instances.now }
 {
     for instance in instances {
-        if is_of(process, instance) {
+        if instance.process.text.as_bytes() == process.name.text.as_bytes() {
             return true;
         }
     }
@@ -45,7 +30,10 @@ pub(crate) fn add_process(
     ensures { IfOk result (λ _. warnings.new.items ≡ warnings.old.items ++ process_warnings instances.now process.now) }
 {
     if !has_instance(instances, process) {
-        warnings.push(warned(WarningKind::NoInstance, process.name.span))?;
+        warnings.push(Warning {
+            kind: WarningKind::NoInstance,
+            span: process.name.span,
+        })?;
     }
     Ok(())
 }
@@ -67,36 +55,23 @@ fn add_name(warnings: &mut Vec<Warning>, process: &Process, name: &Name) -> Resu
 {
     let letters = name.text.as_bytes();
     if !uses(process, letters) {
-        let kind = unread_kind(assigns(process, letters));
-        warnings.push(warned(kind, name.span))?;
+        warnings.push(Warning {
+            kind: unread_kind(assigns(process, letters)),
+            span: name.span,
+        })?;
     }
     Ok(())
 }
 
-/// Adds those of the parameters of a process.
-fn add_parameters(warnings: &mut Vec<Warning>, process: &Process) -> Result<(), AllocError>
-    ensures { IfOk result (λ _. warnings.new.items ≡ warnings.old.items ++ parameter_warnings process.now) }
+/// Adds those of the parameters of a process, and then those of its variables.
+pub(crate) fn add_names(warnings: &mut Vec<Warning>, process: &Process) -> Result<(), AllocError>
+    ensures { IfOk result (λ _. warnings.new.items ≡ warnings.old.items ++ names_warnings process.now) }
 {
     for parameter in &process.parameters {
         add_name(warnings, process, &parameter.name)?;
     }
-    Ok(())
-}
-
-/// Adds those of its variables.
-fn add_variables(warnings: &mut Vec<Warning>, process: &Process) -> Result<(), AllocError>
-    ensures { IfOk result (λ _. warnings.new.items ≡ warnings.old.items ++ variable_warnings process.now) }
-{
     for variable in &process.variables {
         add_name(warnings, process, &variable.name)?;
     }
     Ok(())
-}
-
-/// Adds those of both.
-pub(crate) fn add_names(warnings: &mut Vec<Warning>, process: &Process) -> Result<(), AllocError>
-    ensures { IfOk result (λ _. warnings.new.items ≡ warnings.old.items ++ names_warnings process.now) }
-{
-    add_parameters(warnings, process)?;
-    add_variables(warnings, process)
 }

@@ -8,7 +8,7 @@ ghost use Rattle.kahn_warnings.specs.Warned.{warned_where};
 use crate::comments::comment_warnings;
 use crate::constants::{constant_of, is_true};
 use crate::loops::{is_seen, never_ends};
-use crate::names::{add_names, add_process, warned};
+use crate::names::{add_names, add_process};
 use crate::surely::add_constants;
 use crate::warning::{Warning, WarningKind};
 use kahn_streams::{Action, Declaration, Expression, Instance, NoMemory, Program, Span, Statement};
@@ -23,7 +23,7 @@ fn add_where(
     ensures { IfOk result (λ _. warnings.new.items ≡ warnings.old.items ++ warned_where kind place) }
 {
     if let Some(span) = place {
-        warnings.push(warned(kind, span))?;
+        warnings.push(Warning { kind, span })?;
     }
     Ok(())
 }

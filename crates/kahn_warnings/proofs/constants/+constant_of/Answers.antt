@@ -1,7 +1,11 @@
-use Rattle.std.proofs.Common.{rules}
+use Rattle.std.proofs.Common.{arith, rules}
+use Rattle.std.proofs.lemmas.Grind.{common_steps}
 use Rattle.kahn_streams.specs.declared.tree.Form.TheViews.{the_lemmas}
 use Rattle.kahn_warnings.proofs.Folding.{level_folds}
 use Rattle.kahn_warnings.proofs.constants.+constant_of.Goals as goal
 
 pub loop-operand-init : goal.loop-operand-init
 loop-operand-init t c names = search (rules, the_lemmas, level_folds)
+
+pub loop-operand-preserved : goal.loop-operand-preserved
+loop-operand-preserved t c names = grind (arith, common_steps, c.loop-operand.invariant names, c.combined-left.ensures, c.constant_of-in-loop-operand.ensures names)

@@ -32,3 +32,16 @@ returns-after-loop-operand t c =
     let ss = c.deref-operand-items.result.now in
     let none : drop c.loop-operand.operand-index ss ≡ [] = grind (arith, common_steps) in
     sym (append-nil places) ∙ ap (λ rest. places ++ operands_placed k c.loop-operand.left rest) (sym none) ∙ c.loop-operand.invariant
+
+pub loop-operand-preserved : goal.loop-operand-preserved
+loop-operand-preserved t c =
+    grind (
+      arith,
+      common_steps,
+      c.loop-operand.invariant,
+      c.in_ok-add_expression-in-Level-2.ensures,
+      c.in_ok-add_where-in-Level.ensures,
+      c.operator_can-can.ensures,
+      c.combined-left.ensures,
+      c.constant_of-right.ensures [],
+    )

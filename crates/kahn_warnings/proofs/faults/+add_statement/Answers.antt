@@ -14,3 +14,6 @@ returns-after-loop-inner t c =
     let whole : action_places k c.args.statement.now.action ≡ flat_map (placed_in k) xs = search (rules, the_lemmas, row_placed) in
     let all : take c.loop-inner.inner-index ss ≡ ss = grind (arith, common_steps) in
     c.loop-inner.invariant ∙ ap (λ l. old ++ flat_map (placed_in k) l) (all ∙ c.deref-inner-items.ensures.value) ∙ ap (λ places. old ++ places) (sym whole)
+
+pub loop-inner-preserved : goal.loop-inner-preserved
+loop-inner-preserved t c = grind (arith, common_steps, c.loop-inner.invariant, c.in_ok-add_statement-in-Block.ensures)

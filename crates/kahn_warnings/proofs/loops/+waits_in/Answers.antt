@@ -1,4 +1,5 @@
-use Rattle.std.proofs.Common.{rules}
+use Rattle.std.proofs.Common.{arith, rules}
+use Rattle.std.proofs.lemmas.Grind.{common_steps}
 use Rattle.kahn_streams.specs.declared.tree.Form.TheViews.{the_lemmas}
 use Rattle.kahn_warnings.proofs.Lists.{level_waits}
 use Rattle.kahn_warnings.proofs.loops.+waits_in.Goals as goal
@@ -8,3 +9,6 @@ loop-operand-init t c names = search (rules, the_lemmas, level_waits)
 
 pub returns-then-waits_in : goal.returns-then-waits_in
 returns-then-waits_in t c names = search (rules, the_lemmas, level_waits)
+
+pub loop-operand-preserved : goal.loop-operand-preserved
+loop-operand-preserved t c names = grind (arith, common_steps, c.loop-operand.invariant names, c.waits_in-in-loop-operand.ensures names, c.if-waits_in-2.false)

@@ -22,3 +22,6 @@ returns-after-loop-inner t c =
     ∙ ap (λ o. (old ++ flat_map each xs) ++ warned_where Unreached o) last
     ∙ append_assoc old (flat_map each xs) (warned_where Unreached (first_unreached xs)) ∙ ap (λ l. old ++ l) (sym whole))
     c.add_where.ensures
+
+pub loop-inner-preserved : goal.loop-inner-preserved
+loop-inner-preserved t c = grind (arith, common_steps, c.loop-inner.invariant, c.in_ok-add_statement-in-Block.ensures)

@@ -13,3 +13,6 @@ returns-after-loop-inner t c =
     let whole : constant_warnings c.args.statement.now.action ≡ flat_map constants_in xs = search (rules, the_lemmas, row_warned) in
     let all : take c.loop-inner.inner-index ss ≡ ss = grind (arith, common_steps) in
     c.loop-inner.invariant ∙ ap (λ l. old ++ flat_map constants_in l) (all ∙ c.deref-inner-items.ensures.value) ∙ ap (λ ws. old ++ ws) (sym whole)
+
+pub loop-inner-preserved : goal.loop-inner-preserved
+loop-inner-preserved t c = grind (arith, common_steps, c.loop-inner.invariant, c.in_ok-add_constants-in-Block.ensures)

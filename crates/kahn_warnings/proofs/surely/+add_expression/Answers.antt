@@ -27,3 +27,16 @@ returns-after-loop-operand t c =
     let ss = c.deref-operand-items.result.now in
     let none : drop c.loop-operand.operand-index ss ≡ [] = grind (arith, common_steps) in
     sym (append-nil ws) ∙ ap (λ rest. ws ++ operands_warned c.loop-operand.left rest) (sym none) ∙ c.loop-operand.invariant
+
+pub loop-operand-preserved : goal.loop-operand-preserved
+loop-operand-preserved t c =
+    grind (
+      arith,
+      common_steps,
+      c.loop-operand.invariant,
+      c.in_ok-add_expression-in-Level-2.ensures,
+      c.in_ok-add_fault-in-Level.ensures,
+      c.sure_fault-failure.ensures,
+      c.combined-left.ensures,
+      c.constant_of-right.ensures [],
+    )

@@ -1,4 +1,5 @@
-use Rattle.std.proofs.Common.{rules}
+use Rattle.std.proofs.Common.{arith, rules}
+use Rattle.std.proofs.lemmas.Grind.{common_steps}
 use Rattle.kahn_streams.specs.declared.tree.Form.TheViews.{the_lemmas}
 use Rattle.kahn_warnings.proofs.Lists.{row_varies}
 use Rattle.kahn_warnings.proofs.uses.+varies_by.Goals as goal
@@ -8,3 +9,6 @@ loop-operand-init t c = search (rules, the_lemmas, row_varies)
 
 pub returns-then-varies_by : goal.returns-then-varies_by
 returns-then-varies_by t c = search (rules, the_lemmas, row_varies)
+
+pub loop-operand-preserved : goal.loop-operand-preserved
+loop-operand-preserved t c = grind (arith, common_steps, c.loop-operand.invariant, c.varies_by-in-loop-operand.ensures, c.if-varies_by-2.false)

@@ -1,0 +1,89 @@
+//! The words behind those of a fault: what is wanted, what is found, and what to do.
+
+ghost use Rattle.std.specs.Prelude.{◌≡◌};
+ghost use Rattle.kahn_hints.specs.Hints.{channel_words, direction_words, handed_words, kind_words, other_words, unread_words, unwritten_words};
+
+use crate::uses::Use;
+use kahn_streams::{Kind, Role};
+
+/// As what a name is declared that should be that of a process.
+pub(crate) fn other_words(found: Option<Use>, kind: Option<Kind>) -> &'static str
+    ensures { result.now ≡ other_words found kind }
+{
+    match (found, kind) {
+        (Some(Use::Process), Some(_)) => " as a process, but as a channel",
+        _ => "",
+    }
+}
+
+/// The kind that is wanted and the one that is found.
+pub(crate) fn kind_words(found: Option<Kind>) -> &'static str
+    ensures { result.now ≡ kind_words found }
+{
+    match found {
+        Some(Kind::Integer) => ": wanted logical, found integer",
+        Some(Kind::Logical) => ": wanted integer, found logical",
+        None => "",
+    }
+}
+
+/// The direction that is wanted and the one that is found.
+pub(crate) fn direction_words(found: Option<Use>) -> &'static str
+    ensures { result.now ≡ direction_words found }
+{
+    match found {
+        Some(Use::Waited) => ": wanted `in`, found `out`",
+        Some(Use::Sent) => ": wanted `out`, found `in`",
+        _ => "",
+    }
+}
+
+/// What is found where a channel is wanted.
+pub(crate) fn channel_words(found: Option<Use>) -> &'static str
+    ensures { result.now ≡ channel_words found }
+{
+    match found {
+        Some(Use::Handed) => ", found a process",
+        Some(Use::Waited) => ", found a value",
+        Some(Use::Sent) => ", found a value",
+        Some(Use::Expression(_)) => ", found a value",
+        _ => "",
+    }
+}
+
+/// What is found where a value is wanted, where a name is handed over: a channel, a process, or neither.
+pub(crate) fn handed_words(channel: bool, process: bool) -> &'static str
+    ensures { result.now ≡ handed_words channel process }
+{
+    if channel {
+        ", found a channel"
+    } else if process {
+        ", found a process"
+    } else {
+        ", found a name"
+    }
+}
+
+/// What to do about a channel without a writer, which is read or not.
+pub(crate) fn unwritten_words(role: Option<Role>, read: bool) -> &'static str
+    ensures { result.now ≡ unwritten_words role read }
+{
+    match (role, read) {
+        (Some(Role::Inner), true) => {
+            "; hand it to an `out` parameter, or declare it `input` where its values come from outside"
+        }
+        (Some(Role::Inner), false) => "; it is handed to no process: leave its declaration out",
+        _ => "; hand it to an `out` parameter",
+    }
+}
+
+/// What to do about a channel without a reader.
+pub(crate) fn unread_words(role: Option<Role>) -> &'static str
+    ensures { result.now ≡ unread_words role }
+{
+    match role {
+        Some(Role::Inner) =>
+            "; hand it to an `in` parameter, or declare it `output` where its values are to be reported",
+        _ => "; hand it to an `in` parameter",
+    }
+}

@@ -1,0 +1,8 @@
+-- It is none of those so far.
+use Rattle.std.proofs.Common.{◌≡◌, drop}
+use Rattle.std.specs.List.{list_any}
+use Rattle.kahn_notes.specs.Advice.{awaits, is_needed}
+use Rattle.kahn_notes.proofs.advice.awaits.Given as goal
+
+abbrev pub invariant-loop-class : goal.invariant-loop-class
+invariant-loop-class l = list_any (is_needed l.needed) (drop l.class-index l.wanted.others.items) ≡ awaits l.needed l.wanted

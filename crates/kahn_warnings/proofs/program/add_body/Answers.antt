@@ -1,0 +1,6 @@
+use Rattle.std.proofs.Common.{arith}
+use Rattle.std.proofs.lemmas.Grind.{common_steps}
+use Rattle.kahn_warnings.proofs.program.add_body.Goals as goal
+
+pub loop-statement-preserved : goal.loop-statement-preserved
+loop-statement-preserved c = grind (arith, common_steps, c.loop-statement.invariant, c.in_ok-add_statement.ensures)
