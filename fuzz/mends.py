@@ -280,10 +280,10 @@ def advice(lexemes, at):
 
 
 def lines_of(text, lexemes, at, changes):
-    """All that is said below the carets: advice, with the open blocks where an instance may have begun, or else changes and blocks."""
+    """All that is said below the carets: advice, or else changes and blocks; of advice open blocks where an `end` may be missing."""
     words, last = advice(lexemes, at), comment(text, lexemes, at)
     if words:
-        is_start = lexemes[at:at + 1] and lexemes[at][:2] == ("sign", "(") and may_stand(lexemes, at, ("sign", ":="))
+        is_start = not changes and [x[:2] for x in lexemes[at:at + 1]] == [("sign", "(")] and may_stand(lexemes, at, ("sign", ":="))
         return [line for line in (words, still_open(text, lexemes[:at]) if is_start else None, last) if line]
     mended = line_of(changes, told(changes, lexemes, at))
     return [line for line in (mended, blocks(text, lexemes, at, mended is not None), last) if line]
