@@ -141,7 +141,7 @@ P
 cat > long.kahn <<'P'
 begin integer output channel X, Y, Z;
   process count(integer out W; integer N);
-  begin integer I; while I < N do begin I := I + 1; if I > N - 100 then send I on W end end;
+  begin integer I; while I < N do begin I := I + 1; send I on W end end;
   count(X, 20000) par count(Y, 20000) par count(Z, 20000)
 end
 P
