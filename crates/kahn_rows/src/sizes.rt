@@ -24,11 +24,11 @@ fn chain(alloc: Global, copies: u64, number: u64) -> Result<String, AllocError> 
   begin repeat send wait(U) on W end;
   count(X0, {number})"
     )?)?;
+    let mut last = 0;
     for copy in 1..copies {
-        let from = copy - 1;
-        text.push_str(&format!(in alloc; " par copy(X{from}, X{copy})")?)?;
+        text.push_str(&format!(in alloc; " par copy(X{last}, X{copy})")?)?;
+        last = copy;
     }
-    let last = copies - 1;
     text.push_str(&format!(in alloc; " par copy(X{last}, W)\nend\n")?)?;
     Ok(text)
 }
