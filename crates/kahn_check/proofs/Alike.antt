@@ -20,9 +20,9 @@ use Rattle.kahn_streams.specs.declared.tree.Argument.TheVariants as A
 use Rattle.kahn_streams.specs.declared.tree.Declaration.TheVariants as D
 use Rattle.kahn_streams.specs.View.{bytes_of}
 use Rattle.kahn_streams.specs.Wiring.{entries, Global, IsChannel, IsProcess, handed, handed_in, parameters_of, side_at, same_direction, Handover}
-use Rattle.kahn_check.specs.Faults.{verdict, IsMet, most_channels, most_instances, too_many, repeated, process_faults, misplaced, miscounted, missing}
-use Rattle.kahn_check.specs.declared.fault.CheckFault.{CheckFault}
-use Rattle.kahn_check.specs.declared.fault.CheckFault.TheVariants.{NoWriter, NoReader, TooMany}
+use Rattle.kahn_streams.specs.Faults.{verdict, IsMet, most_channels, most_instances, too_many, repeated, process_faults, misplaced, miscounted, missing}
+use Rattle.kahn_streams.specs.declared.fault.CheckFault.{CheckFault}
+use Rattle.kahn_streams.specs.declared.fault.CheckFault.TheVariants.{NoWriter, NoReader, TooMany}
 use Rattle.kahn_check.specs.Parts.{channel_parts, declaration_parts}
 use Rattle.kahn_check.specs.inner.Firsts.{StandAlike, kept_first, kept_as, AreAsMany, HaveKept, got_first, seat_faults, seats_parts, sides_parts}
 use Rattle.kahn_check.specs.inner.Tables.{Ends, HaveGot, held, taken, place_faults, places_faults, made_in, meant, handed_to, side_in}

@@ -7,9 +7,9 @@ use Rattle.kahn_streams.specs.declared.tree.Role.{Role}
 use Rattle.kahn_streams.specs.declared.tree.Process.{Process}
 use Rattle.kahn_streams.specs.declared.tree.Declaration.{Declaration}
 use Rattle.kahn_streams.specs.View.{bytes_of}
-use Rattle.kahn_check.specs.declared.fault.CheckFault.{CheckFault}
-use Rattle.kahn_check.specs.declared.fault.CheckFault.TheVariants.{DeclaredTwice, TooMany}
-use Rattle.kahn_check.specs.Faults.{verdict, IsMet, most_channels, repeated, channel_faults, process_faults, declaration_faults}
+use Rattle.kahn_streams.specs.declared.fault.CheckFault.{CheckFault}
+use Rattle.kahn_streams.specs.declared.fault.CheckFault.TheVariants.{DeclaredTwice, TooMany}
+use Rattle.kahn_streams.specs.Faults.{verdict, IsMet, most_channels, repeated, channel_faults, process_faults, declaration_faults}
 use Rattle.kahn_streams.specs.Wiring
 use Rattle.kahn_streams.specs.Wiring.{entries, declared_of, IsChannel, IsProcess}
 use Rattle.kahn_streams.proofs.Handed.{Table, as_channels}

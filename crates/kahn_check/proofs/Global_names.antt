@@ -7,8 +7,8 @@ use Rattle.kahn_streams.specs.declared.tree.Process.{Process}
 use Rattle.kahn_streams.specs.declared.tree.Declaration.{Declaration}
 use Rattle.kahn_streams.specs.declared.span.Span.{Span}
 use Rattle.kahn_streams.specs.declared.tree.Declaration.TheVariants as D
-use Rattle.kahn_check.specs.declared.fault.CheckFault.{CheckFault}
-use Rattle.kahn_check.specs.declared.fault.CheckFault.TheVariants.{NoMemory, DeclaredTwice}
+use Rattle.kahn_streams.specs.declared.fault.CheckFault.{CheckFault}
+use Rattle.kahn_streams.specs.declared.fault.CheckFault.TheVariants.{NoMemory, DeclaredTwice}
 use Rattle.kahn_check.specs.declared.globals.Entry.{Entry}
 use Rattle.kahn_streams.specs.Wires.{the_process, process_at}
 use Rattle.kahn_streams.specs.Wiring.{Global}

@@ -13,8 +13,8 @@ use Rattle.kahn_streams.specs.declared.tree.Program.{Program}
 use Rattle.kahn_streams.specs.declared.tree.Direction.TheVariants.{In, Out}
 use Rattle.kahn_streams.specs.declared.tree.Declaration.TheVariants as D
 use Rattle.kahn_streams.specs.View.{bytes_of}
-use Rattle.kahn_check.specs.declared.fault.CheckFault.{CheckFault}
-use Rattle.kahn_check.specs.Faults.{IsMet}
+use Rattle.kahn_streams.specs.declared.fault.CheckFault.{CheckFault}
+use Rattle.kahn_streams.specs.Faults.{IsMet}
 use Rattle.kahn_check.specs.inner.Tables.{Ends, taken, handed_all, side_in, sides_in}
 use Rattle.kahn_check.specs.inner.Wires.{as_lines, line_in, lines_in}
 use Rattle.kahn_streams.specs.Wires.{Line, first, line_of, lines_of}

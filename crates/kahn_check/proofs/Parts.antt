@@ -10,8 +10,8 @@ use Rattle.kahn_streams.specs.declared.tree.Program.{Program}
 use Rattle.kahn_streams.specs.declared.tree.Declaration.TheVariants as D
 use Rattle.kahn_streams.specs.View.{bytes_of}
 use Rattle.kahn_streams.specs.Wiring.{entries, IsChannel, IsProcess, declared_channels, global, Handover, handed_by}
-use Rattle.kahn_check.specs.declared.fault.CheckFault.{CheckFault}
-use Rattle.kahn_check.specs.Faults.{verdict, most_channels, most_instances, too_many, repeated, process_faults, made_faults, channel_faults, declaration_faults, instance_faults, side_faults, sides_faults, faults}
+use Rattle.kahn_streams.specs.declared.fault.CheckFault.{CheckFault}
+use Rattle.kahn_streams.specs.Faults.{verdict, most_channels, most_instances, too_many, repeated, process_faults, made_faults, channel_faults, declaration_faults, instance_faults, side_faults, sides_faults, faults}
 use Rattle.kahn_check.specs.Parts.{channel_parts, declaration_parts, instance_parts, parts, side_parts, together, firsts, unless_empty, faults_by_part, first_alone}
 use Rattle.kahn_streams.proofs.Handed.{Table, as_channels}
 

@@ -21,9 +21,9 @@ use Rattle.std.specs.declared.vec.Vec.{Vec}
 use Rattle.std.specs.declared.alloc.Global.{Global}
 use Rattle.kahn_streams.specs.Wiring
 use Rattle.kahn_streams.specs.Wiring.{entries, IsChannel, IsProcess, declared_of, declared_channels, handed, handed_in, handed_from, parameters_of, side_at, Handover, global, handed_by}
-use Rattle.kahn_check.specs.declared.fault.CheckFault.{CheckFault}
-use Rattle.kahn_check.specs.declared.fault.CheckFault.TheVariants.{NoMemory, Unknown}
-use Rattle.kahn_check.specs.Faults.{verdict, IsMet, most_channels, most_instances, too_many, repeated, process_faults, miscounted, made_faults, side_faults}
+use Rattle.kahn_streams.specs.declared.fault.CheckFault.{CheckFault}
+use Rattle.kahn_streams.specs.declared.fault.CheckFault.TheVariants.{NoMemory, Unknown}
+use Rattle.kahn_streams.specs.Faults.{verdict, IsMet, most_channels, most_instances, too_many, repeated, process_faults, miscounted, made_faults, side_faults}
 use Rattle.kahn_check.specs.Parts.{channel_parts, declaration_parts, instance_parts, parts, side_parts, firsts, first_alone, faults_by_part, unless_empty}
 use Rattle.kahn_check.specs.inner.Firsts.{StandAlike, kept_first, AreAsMany, HaveKept, HasTold, HaveToldNames, first_fault, fault_alone, first_then, name_faults, HasAdded, HasAddedFirst, seat_faults, seats_parts, sides_parts}
 use Rattle.kahn_check.specs.inner.Tables.{Ends, taken, place_faults, places_faults, made_in, meant, handed_to, handed_all, side_in}

@@ -3,8 +3,8 @@ use Rattle.std.proofs.Common.{◌≡◌, ℕ, List, [], ◌∷◌, ◌++◌, Opt
 use Rattle.std.specs.Map.{lookup}
 use Rattle.kahn_streams.specs.declared.tree.Name.{Name}
 use Rattle.kahn_streams.specs.View.{bytes_of}
-use Rattle.kahn_check.specs.declared.fault.CheckFault.TheVariants.{DeclaredTwice}
-use Rattle.kahn_check.specs.Faults.{verdict, repeated, twice}
+use Rattle.kahn_streams.specs.declared.fault.CheckFault.TheVariants.{DeclaredTwice}
+use Rattle.kahn_streams.specs.Faults.{verdict, repeated, twice}
 use Rattle.kahn_streams.specs.Wiring.{entries}
 
 pub twice_new : {A : Type 0} (known : List (List ℕ × A)) (e : Name × A) (es : List (Name × A)) → lookup (bytes_eq (bytes_of e.0)) known ≡ None →

@@ -17,7 +17,7 @@ use Rattle.kahn_streams.specs.declared.tree.Taking.TheVariants.{Channel, Value}
 use Rattle.kahn_streams.specs.declared.tree.Form as F
 use Rattle.kahn_streams.specs.View.{bytes_of, place_of, expr_of, level_of, expression_of, stmt_of, row_of, else_of, body_of}
 use Rattle.kahn_streams.specs.Wiring.{takes, gives, IsTaken, HasKind, Agrees, Scope}
-use Rattle.kahn_check.specs.Faults.{find, wrong, misread, misused, kind_in, level_kind, kind_of, wrong_first, wrong_second, spanning, faults_in, level_faults, faults_as, faults_of, row_faults, else_faults, body_faults}
+use Rattle.kahn_streams.specs.Faults.{find, wrong, misread, misused, kind_in, level_kind, kind_of, wrong_first, wrong_second, spanning, faults_in, level_faults, faults_as, faults_of, row_faults, else_faults, body_faults}
 
 abbrev pub names : Scope → List (List ℕ)
 names s = map (λ e. e.0) s

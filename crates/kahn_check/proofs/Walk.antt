@@ -12,8 +12,8 @@ use Rattle.kahn_streams.specs.declared.tree.Action.{Row_of-Statement, end_of-Sta
 use Rattle.kahn_streams.specs.declared.tree.Form.TheBlock.{items-the_row-Operand}
 use Rattle.kahn_streams.specs.declared.tree.Action.TheBlock.{items-the_row-Statement}
 use Rattle.kahn_streams.specs.Wiring.{takes, gives, Scope}
-use Rattle.kahn_check.specs.declared.fault.CheckFault.{CheckFault}
-use Rattle.kahn_check.specs.Faults.{verdict, wrong_first, wrong_second, spanning, faults_in, kind_of, level_faults, level_kind, row_faults, body_faults, faults_of}
+use Rattle.kahn_streams.specs.declared.fault.CheckFault.{CheckFault}
+use Rattle.kahn_streams.specs.Faults.{verdict, wrong_first, wrong_second, spanning, faults_in, kind_of, level_faults, level_kind, row_faults, body_faults, faults_of}
 
 pub find_named : {A X : Type 0} (x : List ℕ) (es : List (String A × X)) →
     lookup (λ k. bytes_eq x (string_bytes k)) es ≡ lookup (bytes_eq x) (map (λ e. (string_bytes e.0, e.1)) es)

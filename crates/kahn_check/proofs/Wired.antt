@@ -24,8 +24,8 @@ use Rattle.kahn_streams.specs.declared.tree.Taking.TheVariants as T
 use Rattle.kahn_streams.specs.declared.tree.Declaration.TheVariants as D
 use Rattle.kahn_streams.specs.declared.tree.Argument.TheVariants as A
 use Rattle.kahn_streams.specs.View.{bytes_of}
-use Rattle.kahn_check.specs.declared.fault.CheckFault.{CheckFault}
-use Rattle.kahn_check.specs.Faults.{wrong, most_channels, most_instances, too_many, repeated, twice, process_faults, channel_faults, declaration_faults, overtaken, misplaced, argument_faults, arguments_faults, miscounted, made_faults, instance_faults, missing, side_faults, sides_faults, faults}
+use Rattle.kahn_streams.specs.declared.fault.CheckFault.{CheckFault}
+use Rattle.kahn_streams.specs.Faults.{wrong, most_channels, most_instances, too_many, repeated, twice, process_faults, channel_faults, declaration_faults, overtaken, misplaced, argument_faults, arguments_faults, miscounted, made_faults, instance_faults, missing, side_faults, sides_faults, faults}
 use Rattle.kahn_streams.specs.Wiring.{locals_of, scope_of, entries, Global, IsChannel, IsProcess, declared_of, declared_channels, processes_of, global, Handover, handed, handed_in, handed_by, handed_from, parameters_of, same_direction, ends, writers, readers, IsOne, IsWired, Fits, AllFit, IsMade, IsSound, IsWellWired, side_at, is_closed}
 use Rattle.kahn_check.proofs.Typed.{nil_left, nil_right, both, agrees_body, kind_known}
 
@@ -73,7 +73,7 @@ once known (e ∷ es) h =
 below : (limit n : ℕ) (at : Span) → too_many limit n at ≡ [] → n < limit
 below limit n at h = by (nat_lt n limit) refl h
   where
-    by : (b : Bool) → nat_lt n limit ≡ b → cond b [] (Rattle.kahn_check.specs.declared.fault.CheckFault.TheVariants.TooMany at ∷ []) ≡ [] → n < limit
+    by : (b : Bool) → nat_lt n limit ≡ b → cond b [] (Rattle.kahn_streams.specs.declared.fault.CheckFault.TheVariants.TooMany at ∷ []) ≡ [] → n < limit
     by true e i = grind (arith, e)
     by false e i = cc
 
@@ -175,7 +175,7 @@ all_fit t before i q (p ∷ ps) (x ∷ xs) e h =
 counted : (n m : ℕ) (at : Span) → miscounted n m at ≡ [] → n ≡ m
 counted n m at h = by (nat_eq n m) refl h
   where
-    by : (b : Bool) → nat_eq n m ≡ b → cond b [] (Rattle.kahn_check.specs.declared.fault.CheckFault.TheVariants.WrongCount at ∷ []) ≡ [] → n ≡ m
+    by : (b : Bool) → nat_eq n m ≡ b → cond b [] (Rattle.kahn_streams.specs.declared.fault.CheckFault.TheVariants.WrongCount at ∷ []) ≡ [] → n ≡ m
     by true e i = grind (arith, e)
     by false e i = cc
 
@@ -226,7 +226,7 @@ someone (e ∷ g ∷ es) f h a = absurd a
 pub wired : (t : Program) (n : Name) (kind : Kind) (role : Role) → side_faults t n role ≡ [] → lookup (bytes_eq (bytes_of n)) (entries (declared_of t.declarations.items)) ≡ Some (IsChannel kind role) →
     ((d : Direction) (c : List ℕ) → IsFair (entries (declared_of t.declarations.items)) d c (handed_from t 0 t.instances.items)) → IsWired t (n, (kind, role))
 wired t n kind Inner h is fair =
-    let w = missing (writers t (bytes_of n)) (Rattle.kahn_check.specs.declared.fault.CheckFault.TheVariants.NoWriter n.span) in
+    let w = missing (writers t (bytes_of n)) (Rattle.kahn_streams.specs.declared.fault.CheckFault.TheVariants.NoWriter n.span) in
     (someone (writers t (bytes_of n)) _ (nil_left w _ h) (fair Out (bytes_of n)).0, someone (readers t (bytes_of n)) _ (nil_right w _ h) (fair In (bytes_of n)).0)
 wired t n kind Input h is fair = ((fair Out (bytes_of n)).1 kind Input is refl, someone (readers t (bytes_of n)) _ h (fair In (bytes_of n)).0)
 wired t n kind Output h is fair = (someone (writers t (bytes_of n)) _ h (fair Out (bytes_of n)).0, (fair In (bytes_of n)).1 kind Output is refl)

@@ -11,8 +11,8 @@ use Rattle.kahn_streams.specs.declared.tree.Program.{Program}
 use Rattle.kahn_streams.specs.declared.tree.Declaration.TheVariants as D
 use Rattle.kahn_streams.specs.View.{bytes_of}
 use Rattle.kahn_streams.specs.Wiring.{entries, Global, IsChannel, IsProcess, declared_channels, global, Handover, handed_by}
-use Rattle.kahn_check.specs.declared.fault.CheckFault.{CheckFault}
-use Rattle.kahn_check.specs.Faults.{most_channels, most_instances, too_many, repeated, process_faults, made_faults, side_faults}
+use Rattle.kahn_streams.specs.declared.fault.CheckFault.{CheckFault}
+use Rattle.kahn_streams.specs.Faults.{most_channels, most_instances, too_many, repeated, process_faults, made_faults, side_faults}
 
 -- ---- the faults of each part, in the order of the walk
 

@@ -2,17 +2,16 @@
 
 ghost use Rattle.std.specs.Prelude.{◌≡◌, IfOk};
 ghost use Rattle.kahn_streams.specs.declared.tree.Direction.TheVariants.{In, Out};
-ghost use Rattle.kahn_check.specs.Faults.{verdict, second as second_of};
+ghost use Rattle.kahn_streams.specs.Faults.{verdict, second as second_of};
 ghost use Rattle.kahn_check.specs.inner.Firsts.{got_first};
 ghost use Rattle.kahn_check.specs.inner.Globals.{known};
 ghost use Rattle.kahn_check.specs.inner.Tables.{misplaced_in, place_faults, HandsOver};
 ghost use Rattle.kahn_streams.specs.Wiring.{handed, is_closed};
 
 use crate::expression::agree;
-use crate::fault::CheckFault;
 use crate::globals::{Entry, Globals};
 use crate::names::Sides;
-use kahn_streams::{Argument, Direction, Kind, Name, NoMemory, Role, Side, Taking};
+use kahn_streams::{Argument, CheckFault, Direction, Kind, Name, NoMemory, Role, Side, Taking};
 
 /// Whether no instance may stand at that side of the channel.
 pub fn closed(direction: Direction, role: Role) -> bool

@@ -1,14 +1,13 @@
 //! The declarations of a program, in text order.
 
 ghost use Rattle.std.specs.Prelude.{◌≡◌, ◌≤◌, ◌+◌, [], List, OnOk, length};
-ghost use Rattle.kahn_check.specs.Faults.{Checks, most_channels, channel_faults, declaration_faults};
+ghost use Rattle.kahn_streams.specs.Faults.{Checks, most_channels, channel_faults, declaration_faults};
 ghost use Rattle.kahn_check.specs.inner.Globals.{known, ArePlaced, HaveMore, IsTable};
 ghost use Rattle.kahn_streams.specs.declared.tree.Declaration.{Declaration};
 
-use crate::fault::CheckFault;
 use crate::globals::{Entry, Globals};
 use crate::process::check_process;
-use kahn_streams::{Declaration, Kind, Name, Program, Role};
+use kahn_streams::{CheckFault, Declaration, Kind, Name, Program, Role};
 use std::alloc::Global;
 
 /// The most channels of a program.

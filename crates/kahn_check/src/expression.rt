@@ -1,13 +1,12 @@
 //! The kinds of expressions.
 
 ghost use Rattle.std.specs.Prelude.{◌≡◌, Option, Some, None};
-ghost use Rattle.kahn_check.specs.Faults.{verdict, wrong, wrong_first, wrong_second, misread, misused, kind_in, find, faults_in, kind_of, faults_as};
+ghost use Rattle.kahn_streams.specs.Faults.{verdict, wrong, wrong_first, wrong_second, misread, misused, kind_in, find, faults_in, kind_of, faults_as};
 ghost use Rattle.kahn_streams.specs.Wiring.{takes, gives};
 ghost use Rattle.kahn_streams.specs.View.{bytes_of};
 
-use crate::fault::CheckFault;
 use crate::names::Scope;
-use kahn_streams::{Direction, Expression, Form, Kind, Name, Operator, Span, Taking};
+use kahn_streams::{CheckFault, Direction, Expression, Form, Kind, Name, Operator, Span, Taking};
 
 /// The kind that an operator takes. The operands of `=` and `<>` are of any one kind.
 pub fn operand_kind(operator: Operator) -> Option<Kind>

@@ -5,13 +5,12 @@ ghost use Rattle.std.specs.Map.{lookup};
 ghost use Rattle.std.proofs.Common.{bytes_eq};
 ghost use Rattle.kahn_streams.specs.declared.tree.Declaration.{Declaration};
 ghost use Rattle.kahn_streams.specs.View.{bytes_of};
-ghost use Rattle.kahn_check.specs.Faults.{Declares};
+ghost use Rattle.kahn_streams.specs.Faults.{Declares};
 ghost use Rattle.kahn_check.specs.inner.Firsts.{kept_first};
 ghost use Rattle.kahn_check.specs.inner.Globals.{known, global_of, option_global, ArePlaced, IsPlaced};
 
-use crate::fault::CheckFault;
 use crate::names::Names;
-use kahn_streams::{Kind, Name, NoMemory, Process, Role};
+use kahn_streams::{CheckFault, Kind, Name, NoMemory, Process, Role};
 use std::alloc::Global;
 
 /// What a name stands for: a channel, or a process with the number of its declaration.

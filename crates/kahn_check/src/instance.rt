@@ -1,16 +1,15 @@
 //! The instances of a program, in text order.
 
 ghost use Rattle.std.specs.Prelude.{◌≡◌, [], MatchResult, length};
-ghost use Rattle.kahn_check.specs.Faults.{Checks, IsMet};
+ghost use Rattle.kahn_streams.specs.Faults.{Checks, IsMet};
 ghost use Rattle.kahn_check.specs.inner.Globals.{known, IsTable};
 ghost use Rattle.kahn_check.specs.inner.Seats.{AreSeated};
 ghost use Rattle.kahn_check.specs.inner.Tables.{HandsAll, seats_faults};
 
 use crate::argument::place;
-use crate::fault::CheckFault;
 use crate::globals::{Entry, Globals};
 use crate::names::Sides;
-use kahn_streams::{Argument, Parameter, Program, Side};
+use kahn_streams::{Argument, CheckFault, Parameter, Program, Side};
 use std::alloc::Global;
 
 /// The most instances of a program.

@@ -3,7 +3,7 @@
 ghost use Rattle.kahn_streams.specs.declared.tree.Program.{Program};
 ghost use Rattle.std.specs.Prelude.{◌≡◌, ◌++◌, []};
 ghost use Rattle.kahn_check.specs.Parts.{parts, side_parts, faults_by_part, together};
-ghost use Rattle.kahn_check.specs.Faults.{verdict, faults};
+ghost use Rattle.kahn_streams.specs.Faults.{verdict, faults};
 ghost use Rattle.kahn_streams.specs.Wiring.{IsWellWired};
 
 /// A program is well wired exactly where the walk finds no fault.

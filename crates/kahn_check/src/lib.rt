@@ -5,7 +5,6 @@
 mod argument;
 mod declarations;
 mod expression;
-mod fault;
 mod globals;
 mod instance;
 mod laws;
@@ -16,8 +15,7 @@ mod process;
 mod statement;
 mod wires;
 
-pub use fault::CheckFault;
-pub use kahn_streams::{Channel, Network, NetworkInstance, Side};
+pub use kahn_streams::{Channel, CheckFault, Network, NetworkInstance, Side};
 pub use laws::{exact, part_by_part};
 pub use network::check;
 pub use part::every;

@@ -4,12 +4,11 @@ ghost use Rattle.std.specs.Prelude.{◌≡◌, ◌++◌, ◌∷◌, [], IfOk, Ma
 ghost use Rattle.std.specs.Map.{lookup};
 ghost use Rattle.std.proofs.Common.{bytes_eq};
 ghost use Rattle.kahn_streams.specs.View.{bytes_of};
-ghost use Rattle.kahn_check.specs.Faults.{Declares};
+ghost use Rattle.kahn_streams.specs.Faults.{Declares};
 ghost use Rattle.kahn_check.specs.inner.Firsts.{kept_first};
 
-use crate::fault::CheckFault;
 use indexmap::IndexMap;
-use kahn_streams::{Name, NoMemory, Side, Taking};
+use kahn_streams::{CheckFault, Name, NoMemory, Side, Taking};
 use std::alloc::Global;
 use std::hash::{BuildHasherDefault, DefaultHasher};
 use std::marker::Model;

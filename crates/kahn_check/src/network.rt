@@ -1,14 +1,13 @@
 //! The check of a program.
 
 ghost use Rattle.std.specs.Prelude.{◌≡◌, MatchResult};
-ghost use Rattle.kahn_check.specs.Faults.{IsMet, faults};
+ghost use Rattle.kahn_streams.specs.Faults.{IsMet, faults};
 ghost use Rattle.kahn_streams.specs.Wiring.{IsWellWired};
 
 use crate::declarations::declarations;
-use crate::fault::CheckFault;
 use crate::instance::instances;
 use crate::wires::all_wires;
-use kahn_streams::{Network, Program, kept};
+use kahn_streams::{CheckFault, Network, Program, kept};
 use std::alloc::Global;
 
 /// The network of a program, or the first thing that is wrong with it, in this order: the declarations

@@ -6,7 +6,7 @@ ghost use Rattle.std.proofs.Common.{bytes_eq};
 ghost use Rattle.kahn_streams.specs.View.{bytes_of};
 ghost use Rattle.kahn_streams.specs.Wiring.{declared_channels, declared_of, entries, handed, handed_in};
 ghost use Rattle.kahn_check.specs.Parts.{declaration_parts, faults_by_part};
-ghost use Rattle.kahn_check.specs.Faults.{miscounted, most_channels, most_instances, process_faults, repeated, too_many};
+ghost use Rattle.kahn_streams.specs.Faults.{miscounted, most_channels, most_instances, process_faults, repeated, too_many};
 ghost use Rattle.kahn_check.specs.inner.Firsts.{AreAsMany, HasAdded, HasAddedFirst, HasTold, HaveKept, HaveToldNames, StandAlike, fault_alone, first_fault, first_then, name_faults, seat_faults, seats_parts, sides_parts};
 ghost use Rattle.kahn_check.specs.inner.Globals.{known};
 ghost use Rattle.kahn_check.specs.inner.Tables.{handed_all, handed_to, place_faults, places_faults};
@@ -14,15 +14,14 @@ ghost use Rattle.kahn_check.specs.inner.Wires.{as_lines};
 
 use crate::argument::{fits, keep};
 use crate::declarations::MOST_CHANNELS;
-use crate::fault::CheckFault;
 use crate::globals::{Entry, Globals};
 use crate::instance::MOST_INSTANCES;
 use crate::names::Sides;
 use crate::process::check_process;
 use crate::wires::side;
 use kahn_streams::{
-    Argument, Declaration, Instance, Kind, Name, NoMemory, Parameter, Process, Program, Role, Side,
-    Taking,
+    Argument, CheckFault, Declaration, Instance, Kind, Name, NoMemory, Parameter, Process, Program,
+    Role, Side, Taking,
 };
 use std::alloc::Global;
 

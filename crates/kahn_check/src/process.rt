@@ -1,13 +1,12 @@
 //! Whether a process is sound: its names, and then its statements.
 
 ghost use Rattle.std.specs.Prelude.{◌≡◌, [], MatchResult};
-ghost use Rattle.kahn_check.specs.Faults.{Checks, IsMet, twice, process_faults};
+ghost use Rattle.kahn_streams.specs.Faults.{Checks, IsMet, twice, process_faults};
 ghost use Rattle.kahn_streams.specs.Wiring.{locals_of, scope_of};
 
-use crate::fault::CheckFault;
 use crate::names::Scope;
 use crate::statement::body;
-use kahn_streams::{Process, Taking};
+use kahn_streams::{CheckFault, Process, Taking};
 use std::alloc::Global;
 
 /// The names of a process, its parameters first and then its variables.

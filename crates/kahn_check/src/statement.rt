@@ -1,12 +1,11 @@
 //! Whether the statements of a body agree with their names.
 
 ghost use Rattle.std.specs.Prelude.{◌≡◌};
-ghost use Rattle.kahn_check.specs.Faults.{verdict, faults_of, body_faults};
+ghost use Rattle.kahn_streams.specs.Faults.{verdict, faults_of, body_faults};
 
 use crate::expression::{agree, channel, expect, kind, variable};
-use crate::fault::CheckFault;
 use crate::names::Scope;
-use kahn_streams::{Action, Direction, Kind, Statement};
+use kahn_streams::{Action, CheckFault, Direction, Kind, Statement};
 
 /// The first thing that is wrong in a statement.
 #[tactic(auto, using(crate::proofs::Walk::verdict_ok, crate::proofs::Walk::verdict_err, crate::proofs::Walk::verdict_none, crate::proofs::Walk::verdict_same))]

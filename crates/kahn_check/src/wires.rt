@@ -1,15 +1,14 @@
 //! The declared channels, each with the writer and the reader that its role asks for.
 
 ghost use Rattle.std.specs.Prelude.{◌≡◌};
-ghost use Rattle.kahn_check.specs.Faults.{verdict, Checks};
+ghost use Rattle.kahn_streams.specs.Faults.{verdict, Checks};
 ghost use Rattle.kahn_check.specs.inner.Tables.{side_in};
 ghost use Rattle.kahn_check.specs.inner.Wires.{AreWiresOf, HaveWires, as_lines, line_in};
 ghost use Rattle.kahn_streams.specs.Wires.{shown};
 ghost use Rattle.kahn_streams.specs.Wiring.{declared_channels};
 
-use crate::fault::CheckFault;
 use crate::names::Sides;
-use kahn_streams::{Declaration, Kind, Name, Role, Wire};
+use kahn_streams::{CheckFault, Declaration, Kind, Name, Role, Wire};
 use std::alloc::Global;
 
 /// Whether the sides of a channel that must be taken are taken.

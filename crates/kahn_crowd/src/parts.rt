@@ -1,7 +1,7 @@
 //! A run that is held between its parts: what memory or a thread was refused for goes on by a further call.
 
 ghost use Rattle.std.specs.Prelude.{IsTrue};
-ghost use Rattle.kahn_report.specs.Report.{HasItsLines, IsLine};
+ghost use Rattle.kahn_report.specs.Formats.{HasItsLines, IsLine};
 
 use kahn_pool::{Answer, Config, Gate, Held, HeldFault, RunFault, Verdict};
 use kahn_report::{WorkFault, checked, read_input, write_report};

@@ -9,7 +9,7 @@ use Rattle.std.specs.declared.vec.Vec.{Vec}
 use Rattle.std.specs.declared.alloc.Global.{Global}
 use Rattle.kahn_streams.specs.View.{bytes_of}
 use Rattle.kahn_streams.specs.Network.{channels_of}
-use Rattle.kahn_report.specs.Report.{declared_names}
+use Rattle.kahn_report.specs.Formats.{declared_names}
 
 abbrev pub Row : Type 0
 Row = List ℕ × (Kind × Role)

@@ -1,6 +1,6 @@
 -- The lines of the ends, one after another.
 use Rattle.std.proofs.Common.{◌≡◌, ℕ, ◌+◌, ◌<◌, List, ◌∷◌, ◌++◌, length, drop, get_or, ap, sym, ◌∙◌, append_assoc, add-one, drop-cons}
-use Rattle.kahn_report.specs.Report.{end_text, ends_text}
+use Rattle.kahn_report.specs.Formats.{end_text, ends_text}
 use Rattle.kahn_streams.specs.declared.answer.End.{End}
 use Rattle.kahn_streams.specs.declared.tree.Program.{Program}
 

@@ -5,8 +5,8 @@ use Rattle.kahn_streams.specs.declared.tree.Program.{Program}
 use Rattle.kahn_streams.specs.declared.value.Line.{Line}
 use Rattle.kahn_streams.specs.declared.token.Token.{Token}
 use Rattle.kahn_streams.specs.Tokens.{token_value}
-use Rattle.kahn_write.specs.Written.{line_feed, plain_line, spaced_text}
-use Rattle.kahn_report.specs.Report.{line_head, tokens_text}
+use Rattle.kahn_streams.specs.Written.{line_feed, plain_line, spaced_text}
+use Rattle.kahn_report.specs.Formats.{line_head, tokens_text}
 use Rattle.kahn_report.specs.News.{more_text, plain_text}
 
 -- the line of tokens is that of their values

@@ -1,6 +1,6 @@
 -- The parts of a line, one after another.
 use Rattle.std.proofs.Common.{◌≡◌, ℕ, ◌+◌, ◌<◌, List, [], ◌∷◌, ◌++◌, length, drop, get_or, ap, sym, ◌∙◌, subst, add-one, drop-cons, arith, append_assoc, append-nil, drop_of_length-le, ◌≤◌}
-use Rattle.kahn_report.specs.Inputs.{IsValue, SpellsValues}
+use Rattle.kahn_report.specs.Formats.{IsValue, SpellsValues}
 use Rattle.kahn_streams.specs.declared.value.Value.{Value}
 
 -- the parts from k on, the first of which is the word

@@ -12,7 +12,7 @@ use Rattle.kahn_streams.specs.declared.value.Line.TheVariants.{Channel, Print}
 use Rattle.kahn_streams.specs.declared.answer.Stream.{Stream}
 use Rattle.kahn_streams.specs.declared.answer.Answer.{Answer}
 use Rattle.kahn_streams.specs.Answers.{is_output, is_watched, channel_lines, print_lines, stream_lines, stream_line}
-use Rattle.kahn_report.specs.Report.{channel_count, instance_count, IsLine, HasItsLines}
+use Rattle.kahn_report.specs.Formats.{channel_count, instance_count, IsLine, HasItsLines}
 
 each_if : (P : Line → Type 0) (b : Bool) (x : Line) (r : List Line) → P x → AllByRecursion P r → AllByRecursion P (if b then x ∷ r else r)
 each_if P true x r p h = (p, h)

@@ -14,7 +14,7 @@ use Rattle.kahn_streams.specs.Network.{channel_names}
 use Rattle.kahn_streams.proofs.Handed.{bytes_true}
 use Rattle.kahn_streams.specs.declared.value.Value.TheVariants.{Integer, Logical}
 use Rattle.kahn_streams.specs.Inputs.{Entry, IsInputOf, list_for, Lists, inputs_of}
-use Rattle.kahn_report.specs.Inputs.{IsName, AreBlanks, IsValue, SpellsValues, AreValues, IsEntry, AreEntries, is_blank, content}
+use Rattle.kahn_report.specs.Formats.{IsName, AreBlanks, IsValue, SpellsValues, AreValues, IsEntry, AreEntries, is_blank, content}
 use Rattle.kahn_report.proofs.Scanned.{scanned, same_tail}
 use Rattle.kahn_report.proofs.Words.{letter_dark}
 

@@ -16,10 +16,8 @@ use Rattle.kahn_streams.specs.Wiring.{IsWellWired}
 use Rattle.kahn_streams.proofs.Handed.{bytes_self}
 use Rattle.kahn_streams.proofs.By_number.{distinct_channels, number_test}
 use Rattle.kahn_syntax.specs.declared.lexeme.Lexeme.{Lexeme}
-use Rattle.kahn_syntax.specs.Spans.{program_of}
-use Rattle.kahn_syntax.specs.Programs.{Spells}
-use Rattle.kahn_syntax.specs.Lexemes.{terminals}
-use Rattle.kahn_syntax.specs.Texts.{IsProgram}
+use Rattle.kahn_syntax.specs.Texts.{program_tree, terminals, IsProgram}
+use Rattle.kahn_syntax.specs.Grammar.{Spells}
 use Rattle.kahn_syntax.proofs.OneTree.{one_tree}
 use Rattle.kahn_syntax.proofs.OneList.{same_lexemes}
 use Rattle.kahn_syntax.proofs.Spelled.{program_spelled}
@@ -35,21 +33,20 @@ use Rattle.kahn_streams.specs.declared.answer.Stream.{Stream}
 use Rattle.kahn_streams.specs.declared.answer.Verdict.TheVariants.{Finished}
 use Rattle.kahn_streams.specs.Answers.{AreOne, IsRight, stream_line, values_of, IsWatched}
 use Rattle.kahn_pool.proofs.Unique.{finished_is_one}
-use Rattle.kahn_report.specs.Report as name
-use Rattle.kahn_report.specs.Inputs.{text_lines}
-use Rattle.kahn_write.specs.Written.{line_feed, spaced_text}
-use Rattle.kahn_report.specs.Report.{line_head, stream_text, outcome_word, waited_name, end_words, end_text, ends_text, verdict_text, last_text, report_text}
+use Rattle.kahn_report.specs.Formats as name
+use Rattle.kahn_report.specs.Formats.{text_lines, line_head, stream_text, outcome_word, waited_name, end_words, end_text, ends_text, verdict_text, last_text, report_text}
+use Rattle.kahn_streams.specs.Written.{line_feed, spaced_text}
 use Rattle.kahn_report.specs.Work.{IsOneReport, watched_name}
 use Rattle.kahn_report.proofs.Same_programs.{one_network, one_channels, one_processes}
 use Rattle.kahn_report.proofs.Same_inputs.{one_list, one_input}
 
 -- ---- one text is one program
 
-one_program : (text : List ℕ) (t u : Program) → IsProgram text t → IsProgram text u → program_of t ≡ program_of u
+one_program : (text : List ℕ) (t u : Program) → IsProgram text t → IsProgram text u → program_tree t ≡ program_tree u
 one_program text t u h g =
     let same : g.0 ≡ h.0 = same_lexemes text 0 (length text) g.0 h.0 g.1.1 h.1.1 in
-    one_tree (program_of t) (program_of u) (terminals text h.0) (program_spelled text t h.0 h.2)
-    (subst (λ (l : List Lexeme). Spells (program_of u) (terminals text l)) same (program_spelled text u g.0 g.2))
+    one_tree (program_tree t) (program_tree u) (terminals text h.0) (program_spelled text t h.0 h.2)
+    (subst (λ (l : List Lexeme). Spells (program_tree u) (terminals text l)) same (program_spelled text u g.0 g.2))
 
 -- ---- the channel that is watched
 
@@ -141,7 +138,7 @@ one_answer N M I J n m watch other a b network input watched r s f g =
 
 pub one_report : (program input : List ℕ) (config other : Config) → IsOneReport program input config other
 one_report program input config other old new newer watched (t, i, a, (checked, stands, run), verdict, gone) (u, j, b, (rechecked, restands, rerun), reverdict, regone) =
-    let tree : program_of t ≡ program_of u = one_program program t u checked.0.0 rechecked.0.0 in
+    let tree : program_tree t ≡ program_tree u = one_program program t u checked.0.0 rechecked.0.0 in
     let channels : channel_names t ≡ channel_names u = one_channels t u tree in
     let entries = one_list (text_lines input) stands.0 restands.0 stands.1.1 restands.1.1 in
     let lists : inputs_of i ≡ inputs_of j = one_input t u stands.0 restands.0 i j channels entries stands.2 restands.2 in

@@ -6,14 +6,11 @@ use Rattle.kahn_streams.specs.declared.tree.Direction.TheVariants as direction
 use Rattle.kahn_streams.specs.declared.tree.Taking.TheVariants as taking
 use Rattle.kahn_streams.specs.declared.tree.Program.{Program}
 use Rattle.kahn_streams.specs.Network.{network_of}
-use Rattle.kahn_syntax.specs.Spans.{program_of}
+use Rattle.kahn_syntax.specs.Texts.{program_tree, terminals, IsProgram}
 use Rattle.kahn_syntax.specs.declared.lexeme.Keyword.TheVariants as keyword
 use Rattle.kahn_syntax.specs.declared.lexeme.Sign.TheVariants as mark
-use Rattle.kahn_syntax.specs.Lexemes.{Terminal, word, sign, name, number, terminals}
-use Rattle.kahn_syntax.specs.Texts.{IsProgram}
-use Rattle.kahn_syntax.specs.Trees.{truth, variable, wait, denial, bracket, conditional, empty, assign, send, print, block, if_else, repeat, StatementTrees, no_statement, statement}
-use Rattle.kahn_syntax.specs.Programs as whole
-use Rattle.kahn_syntax.specs.Programs.{DeclarationTree, InstanceTree, ProgramTree, ArgumentTree, Spells, SpellsDeclaration, Argues, Instantiates, SomeNames, SomeBetween, StandsFirst, group, spelling}
+use Rattle.kahn_syntax.specs.Grammar.{Terminal, word, sign, name, numeral, truth, variable, wait, denial, bracket, conditional, empty, assign, send, print, block, if_else, repeat, StatementTrees, no_statement, statement, DeclarationTree, InstanceTree, ProgramTree, ArgumentTree, Spells, SpellsDeclaration, Argues, Instantiates, SomeNames, SomeBetween, StandsFirst, group, spelling}
+use Rattle.kahn_syntax.specs.Grammar as whole
 use Rattle.kahn_syntax.proofs.OneTree.{one_tree}
 use Rattle.kahn_syntax.proofs.OneList.{same_lexemes}
 use Rattle.kahn_syntax.proofs.Spelled.{program_spelled}
@@ -63,8 +60,8 @@ sample_tree =
     whole.program (lines_tree ∷ f_tree ∷ g_tree ∷ h_tree ∷ [])
     (whole.instance (codes "f") (whole.channel (codes "Y") ∷ whole.channel (codes "Z") ∷ whole.channel (codes "X") ∷ [])
     ∷ whole.instance (codes "g") (whole.channel (codes "X") ∷ whole.channel (codes "T1") ∷ whole.channel (codes "T2") ∷ [])
-    ∷ whole.instance (codes "h") (whole.channel (codes "T1") ∷ whole.channel (codes "Y") ∷ whole.number (pos 0) ∷ [])
-    ∷ whole.instance (codes "h") (whole.channel (codes "T2") ∷ whole.channel (codes "Z") ∷ whole.number (pos 1) ∷ []) ∷ [])
+    ∷ whole.instance (codes "h") (whole.channel (codes "T1") ∷ whole.channel (codes "Y") ∷ whole.number_argument (pos 0) ∷ [])
+    ∷ whole.instance (codes "h") (whole.channel (codes "T2") ∷ whole.channel (codes "Z") ∷ whole.number_argument (pos 1) ∷ []) ∷ [])
 
 abbrev instances_in : ProgramTree → List InstanceTree
 instances_in (whole.program ds is) = is
@@ -163,8 +160,8 @@ three n a b c r x y z first second third = (_, _, _, refl, refl, (_, first, (_, 
 -- the instances
 main_spelled : (r : List Terminal) → SomeBetween (StandsFirst (word keyword.Par)) Instantiates (instances_in sample_tree) (main_words r) r
 main_spelled r =
-    let last = name (codes "h") ∷ sign mark.Open ∷ name (codes "T2") ∷ sign mark.Comma ∷ name (codes "Z") ∷ sign mark.Comma ∷ number (pos 1) ∷ sign mark.Close ∷ r in
-    let third = name (codes "h") ∷ sign mark.Open ∷ name (codes "T1") ∷ sign mark.Comma ∷ name (codes "Y") ∷ sign mark.Comma ∷ number (pos 0) ∷ sign mark.Close ∷ word keyword.Par ∷ last in
+    let last = name (codes "h") ∷ sign mark.Open ∷ name (codes "T2") ∷ sign mark.Comma ∷ name (codes "Z") ∷ sign mark.Comma ∷ numeral (pos 1) ∷ sign mark.Close ∷ r in
+    let third = name (codes "h") ∷ sign mark.Open ∷ name (codes "T1") ∷ sign mark.Comma ∷ name (codes "Y") ∷ sign mark.Comma ∷ numeral (pos 0) ∷ sign mark.Close ∷ word keyword.Par ∷ last in
     let second = name (codes "g") ∷ sign mark.Open ∷ name (codes "X") ∷ sign mark.Comma ∷ name (codes "T1") ∷ sign mark.Comma ∷ name (codes "T2") ∷ sign mark.Close ∷ word keyword.Par ∷ third in (
       word keyword.Par ∷ second,
       three (codes "f") (whole.channel (codes "Y")) (whole.channel (codes "Z")) (whole.channel (codes "X")) (word keyword.Par ∷ second) (name (codes "Y")) (name (codes "Z")) (name (codes "X")) refl refl refl,
@@ -177,8 +174,8 @@ main_spelled r =
           third,
           word keyword.Par ∷ last,
           refl,
-          three (codes "h") (whole.channel (codes "T1")) (whole.channel (codes "Y")) (whole.number (pos 0)) (word keyword.Par ∷ last) (name (codes "T1")) (name (codes "Y")) (number (pos 0)) refl refl (inl refl),
-          (last, r, refl, three (codes "h") (whole.channel (codes "T2")) (whole.channel (codes "Z")) (whole.number (pos 1)) r (name (codes "T2")) (name (codes "Z")) (number (pos 1)) refl refl (inl refl), refl),
+          three (codes "h") (whole.channel (codes "T1")) (whole.channel (codes "Y")) (whole.number_argument (pos 0)) (word keyword.Par ∷ last) (name (codes "T1")) (name (codes "Y")) (numeral (pos 0)) refl refl (inl refl),
+          (last, r, refl, three (codes "h") (whole.channel (codes "T2")) (whole.channel (codes "Z")) (whole.number_argument (pos 1)) r (name (codes "T2")) (name (codes "Z")) (numeral (pos 1)) refl refl (inl refl), refl),
         ),
       ),
     )
@@ -201,5 +198,5 @@ pub sample_text : (text : List ℕ) (t : Program) → IsSampleText text → IsPr
 sample_text text t s h =
     let same : s.0 ≡ h.0 = same_lexemes text 0 (length text) s.0 h.0 s.1.1 h.1.1 in
     let words : terminals text h.0 ≡ sample_words = ap (terminals text) (sym same) ∙ s.2 in
-    let tree : program_of t ≡ sample_tree = one_tree (program_of t) sample_tree sample_words (subst (Spells (program_of t)) words (program_spelled text t h.0 h.2)) sample_spelled in
+    let tree : program_tree t ≡ sample_tree = one_tree (program_tree t) sample_tree sample_words (subst (Spells (program_tree t)) words (program_spelled text t h.0 h.2)) sample_spelled in
     same_network t ∙ ap network_in tree ∙ sample_is

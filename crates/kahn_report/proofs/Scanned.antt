@@ -6,7 +6,7 @@ use Rattle.std.proofs.lemmas.Bool.Decides.{leb_tells}
 use Rattle.std.proofs.lemmas.Bool.{lt-ltb}
 use Rattle.std.proofs.lemmas.List.Sums.{prefix_len-le-length}
 use Rattle.std.proofs.Math.Seq.{take-append_seam, drop-append_seam}
-use Rattle.kahn_report.specs.Inputs.{HasHead, IsName, AreBlanks, is_blank, is_word_byte}
+use Rattle.kahn_report.specs.Formats.{HasHead, IsName, AreBlanks, is_blank, is_word_byte}
 use Rattle.kahn_report.proofs.Words.{letter_dark, blank_apart}
 
 -- the place of the first byte that fails a test

@@ -6,7 +6,7 @@ use Rattle.kahn_streams.specs.declared.entries.InputFault.TheVariants.{UnknownNa
 use Rattle.kahn_streams.specs.Inputs.{Entry, IsFirstRefused}
 use Rattle.kahn_report.specs.declared.input.TextFault.{TextFault}
 use Rattle.kahn_report.specs.declared.input.TextFault.TheVariants as text_fault
-use Rattle.kahn_report.specs.Inputs.{IsInputText, IsEntriesFault, IsInputTextFault, told_of_input}
+use Rattle.kahn_report.specs.Formats.{IsInputText, IsEntriesFault, IsInputTextFault, told_of_input}
 
 pub entries_told : (t : Program) (text : List ℕ) (fault : TextFault) → IsEntriesFault text fault → IsInputTextFault t text fault
 entries_told t text (text_fault.BadLine n) h = h

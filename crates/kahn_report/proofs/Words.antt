@@ -9,7 +9,7 @@ use Rattle.std.proofs.lemmas.Str.{IsUtf8-from_ascii}
 use Rattle.std.proofs.lemmas.Str.Ascii.{IsAscii-nil, IsAscii-cons}
 use Rattle.std.proofs.lemmas.Fmt.{IsAscii-from_digits}
 use Rattle.kahn_streams.specs.declared.value.Value.TheVariants.{Integer}
-use Rattle.kahn_report.specs.Inputs.{IsValue, IsName, is_blank, is_word_byte}
+use Rattle.kahn_report.specs.Formats.{IsValue, IsName, is_blank, is_word_byte}
 
 signed : (b : ℕ) (bs : List ℕ) (m p : Bool) → (b == 45) ≡ m → (b == 43) ≡ p → b ≢ 43 → AllDigits 10 (cond m bs (drop (cond p 1 0) (b ∷ bs))) → IsAscii (b ∷ bs)
 signed b bs true p e f first digits =

@@ -1,6 +1,5 @@
-pub mod Report
+pub mod Formats
 pub mod News
 pub mod Reading
-pub mod Inputs
 pub mod Work
 pub mod SampleText

@@ -5,8 +5,8 @@ use Rattle.kahn_streams.specs.declared.value.Value.{Value}
 use Rattle.kahn_streams.specs.declared.value.Line.{Line}
 use Rattle.kahn_streams.specs.declared.answer.End.{End}
 use Rattle.kahn_streams.specs.declared.answer.Verdict.{Verdict}
-use Rattle.kahn_write.specs.Written.{line_feed, plain_line, spaced_text}
-use Rattle.kahn_report.specs.Report.{line_head, ends_text, last_line}
+use Rattle.kahn_streams.specs.Written.{line_feed, plain_line, spaced_text}
+use Rattle.kahn_report.specs.Formats.{line_head, ends_text, last_line}
 
 -- the line of a stream that has these values more, and nothing where there are none
 abbrev pub more_text : Program → Line → List Value → List ℕ

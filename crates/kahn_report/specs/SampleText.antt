@@ -3,7 +3,8 @@ use Rattle.std.specs.Prelude.{◌≡◌, ℕ, List, [], ◌∷◌, codes, pos}
 use Rattle.kahn_syntax.specs.declared.lexeme.Keyword.TheVariants as keyword
 use Rattle.kahn_syntax.specs.declared.lexeme.Sign.TheVariants as mark
 use Rattle.kahn_syntax.specs.declared.lexeme.Lexeme.{Lexeme}
-use Rattle.kahn_syntax.specs.Lexemes.{Terminal, word, sign, number, name, terminals, AreLexemes}
+use Rattle.kahn_syntax.specs.Grammar.{Terminal, word, sign, numeral, name}
+use Rattle.kahn_syntax.specs.Texts.{terminals, AreLexemes}
 
 abbrev pub comma : Terminal
 comma = sign mark.Comma
@@ -69,8 +70,8 @@ abbrev pub main_words : List Terminal → List Terminal
 main_words r =
     name (codes "f") ∷ sign mark.Open ∷ name (codes "Y") ∷ comma ∷ name (codes "Z") ∷ comma ∷ name (codes "X") ∷ sign mark.Close
     ∷ word keyword.Par ∷ name (codes "g") ∷ sign mark.Open ∷ name (codes "X") ∷ comma ∷ name (codes "T1") ∷ comma ∷ name (codes "T2") ∷ sign mark.Close
-    ∷ word keyword.Par ∷ name (codes "h") ∷ sign mark.Open ∷ name (codes "T1") ∷ comma ∷ name (codes "Y") ∷ comma ∷ number (pos 0) ∷ sign mark.Close
-    ∷ word keyword.Par ∷ name (codes "h") ∷ sign mark.Open ∷ name (codes "T2") ∷ comma ∷ name (codes "Z") ∷ comma ∷ number (pos 1) ∷ sign mark.Close ∷ r
+    ∷ word keyword.Par ∷ name (codes "h") ∷ sign mark.Open ∷ name (codes "T1") ∷ comma ∷ name (codes "Y") ∷ comma ∷ numeral (pos 0) ∷ sign mark.Close
+    ∷ word keyword.Par ∷ name (codes "h") ∷ sign mark.Open ∷ name (codes "T2") ∷ comma ∷ name (codes "Z") ∷ comma ∷ numeral (pos 1) ∷ sign mark.Close ∷ r
 
 -- begin integer channel X, Y, Z, T1, T2; the three processes; the main body; end;
 abbrev pub sample_words : List Terminal

@@ -5,27 +5,24 @@ use Rattle.std.specs.declared.alloc.Global.{Global}
 use Rattle.std.specs.Io.KnownBytes.{Appends}
 use Rattle.kahn_streams.specs.declared.tree.Program.{Program}
 use Rattle.kahn_streams.specs.declared.config.Config.{Config}
-use Rattle.kahn_syntax.specs.Spans.{program_of}
-use Rattle.kahn_syntax.specs.Programs.{nesting}
-use Rattle.kahn_syntax.specs.Texts.{IsProgram, IsTextFault as IsSyntaxFault}
+use Rattle.kahn_syntax.specs.Texts.{program_tree, IsProgram, IsTextFault as IsSyntaxFault}
+use Rattle.kahn_syntax.specs.Grammar.{nesting}
 use Rattle.kahn_streams.specs.Network.{network_of}
-use Rattle.kahn_check.specs.Faults.{faults, IsMet}
+use Rattle.kahn_streams.specs.Faults.{faults, IsMet}
 use Rattle.kahn_streams.specs.Wiring.{IsWellWired}
 use Rattle.kahn_streams.specs.Inputs.{Lists, inputs_of}
 use Rattle.kahn_streams.specs.declared.answer.Answer.{Answer}
 use Rattle.kahn_streams.specs.declared.answer.Verdict.{Verdict}
 use Rattle.kahn_streams.specs.declared.answer.Verdict.TheVariants.{Finished}
-use Rattle.kahn_streams.specs.Answers.{Settles, IsRightRun}
-use Rattle.kahn_pool.specs.Runs.{IsUnrun}
+use Rattle.kahn_streams.specs.Answers.{Settles, IsRightRun, IsUnrun}
 use Rattle.kahn_report.specs.declared.working.WorkFault.{WorkFault}
 use Rattle.kahn_report.specs.declared.working.WorkFault.TheVariants.{Syntax, Check, Text, Run, Write}
-use Rattle.kahn_report.specs.Inputs.{StandsFor, IsInputTextFault}
-use Rattle.kahn_report.specs.Report.{report_text}
-use Rattle.kahn_write.specs.Written.{AppendsFront}
+use Rattle.kahn_report.specs.Formats.{StandsFor, IsInputTextFault, report_text}
+use Rattle.kahn_streams.specs.Written.{AppendsFront}
 
 -- the text spells this program, whose nesting is within its limit
 abbrev pub IsParsed : List ℕ → Program → Type 0
-IsParsed text t = IsProgram text t × (nesting (program_of t) ≤ 64)
+IsParsed text t = IsProgram text t × (nesting (program_tree t) ≤ 64)
 
 -- the text spells this program, which is well wired
 abbrev pub IsChecked : List ℕ → Program → Type 0

@@ -1,7 +1,7 @@
 //! The entries of an input text, line by line.
 
 ghost use Rattle.std.specs.Prelude.{◌≡◌, ◌↔◌, IsTrue, List, MatchResult, MatchOption, map};
-ghost use Rattle.kahn_report.specs.Inputs.{AreBlanks, IsEntry, IsLineFault, IsEntriesFault, IsInputText, IsReadLine, content as content_of};
+ghost use Rattle.kahn_report.specs.Formats.{AreBlanks, IsEntry, IsLineFault, IsEntriesFault, IsInputText, IsReadLine, content as content_of};
 ghost use Rattle.kahn_streams.specs.Inputs.{entry_of};
 
 use crate::heads::{head_of, is_blank};

@@ -3,7 +3,7 @@
 ghost use Rattle.std.specs.Prelude.{◌≡◌, ◌≤◌, length, ◌≢◌, ◌∷◌, ℕ, List, MatchOption, take, drop, not, IsTrue, ◌↔◌, All, true};
 ghost use Rattle.std.specs.List.{position, position_or_len};
 ghost use Rattle.std.specs.Str.{IsUtf8};
-ghost use Rattle.kahn_report.specs.Inputs.{IsHead, IsHeadless, IsName, is_blank as blank, is_word_byte as word_byte};
+ghost use Rattle.kahn_report.specs.Formats.{IsHead, IsHeadless, IsName, is_blank as blank, is_word_byte as word_byte};
 
 use std::str;
 

@@ -3,7 +3,7 @@
 ghost use Rattle.std.specs.Prelude.{IfOk, MatchResult};
 ghost use Rattle.kahn_streams.specs.Network.{network_of};
 ghost use Rattle.kahn_streams.specs.Inputs.{IsInputFor};
-ghost use Rattle.kahn_report.specs.Inputs.{IsInputTextFault, StandsFor};
+ghost use Rattle.kahn_report.specs.Formats.{IsInputTextFault, StandsFor};
 
 use crate::entries::read_entries;
 use kahn_streams::{Input, InputFault, Network};
@@ -33,7 +33,7 @@ pub enum TextFault {
 
 impl From<InputFault> for TextFault {
     ghost use Rattle.std.specs.Prelude.{◌≡◌};
-    ghost use Rattle.kahn_report.specs.Inputs.{told_of_input};
+    ghost use Rattle.kahn_report.specs.Formats.{told_of_input};
 
     ghost from_gives = { λ fault told. told ≡ told_of_input fault };
 

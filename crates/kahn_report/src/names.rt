@@ -1,7 +1,7 @@
 //! The names of a network's channels and processes.
 
 ghost use Rattle.std.specs.Prelude.{◌≡◌};
-ghost use Rattle.kahn_report.specs.Report.{channel_name, process_name};
+ghost use Rattle.kahn_report.specs.Formats.{channel_name, process_name};
 
 use kahn_streams::{Declaration, Network};
 

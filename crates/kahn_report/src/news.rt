@@ -2,9 +2,9 @@
 
 ghost use Rattle.std.specs.Prelude.{◌≡◌, ◌+◌, ◌<◌, ◌≤◌, length, map};
 ghost use Rattle.kahn_streams.specs.Tokens.{token_value};
-ghost use Rattle.kahn_report.specs.Report.{IsLine};
+ghost use Rattle.kahn_report.specs.Formats.{IsLine};
 ghost use Rattle.kahn_report.specs.News.{more_text, closing_text};
-ghost use Rattle.kahn_write.specs.Written.{Writes};
+ghost use Rattle.kahn_streams.specs.Written.{Writes};
 
 use crate::write::{put_ends, put_last, put_tokens};
 use kahn_pool::{End, Verdict};

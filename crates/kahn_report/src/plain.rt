@@ -3,7 +3,7 @@
 ghost use Rattle.std.specs.Prelude.{◌≡◌, ◌<◌, map};
 ghost use Rattle.kahn_streams.specs.Tokens.{token_value};
 ghost use Rattle.kahn_report.specs.News.{plain_text};
-ghost use Rattle.kahn_write.specs.Written.{Writes};
+ghost use Rattle.kahn_streams.specs.Written.{Writes};
 
 use kahn_streams::{Carried, Steps};
 use kahn_write::{Lined, WriteFault, put_values};

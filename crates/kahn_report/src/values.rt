@@ -1,7 +1,7 @@
 //! The values of an entry, after its colon.
 
 ghost use Rattle.std.specs.Prelude.{◌≡◌, ℤ, MatchOption, MatchResult};
-ghost use Rattle.kahn_report.specs.Inputs.{AreNoValues, AreValues, IsValue};
+ghost use Rattle.kahn_report.specs.Formats.{AreNoValues, AreValues, IsValue};
 ghost use Rattle.kahn_streams.specs.declared.value.Value.{Value};
 ghost use Rattle.kahn_streams.specs.declared.value.Value.TheVariants.{Integer};
 

@@ -1,8 +1,8 @@
 //! The report text, written piece by piece.
 
 ghost use Rattle.std.specs.Prelude.{◌≡◌, ◌+◌, ◌<◌, ◌≤◌, length, flat_map, All};
-ghost use Rattle.kahn_write.specs.Written.{Writes};
-ghost use Rattle.kahn_report.specs.Report.{report_text, line_head, tokens_text, stream_text, outcome_word, waited_name, end_words, end_text, ends_text, last_line, IsLine, HasItsLines};
+ghost use Rattle.kahn_streams.specs.Written.{Writes};
+ghost use Rattle.kahn_report.specs.Formats.{report_text, line_head, tokens_text, stream_text, outcome_word, waited_name, end_words, end_text, ends_text, last_line, IsLine, HasItsLines};
 
 use crate::names::{channel_name, process_name};
 use itoa::Buffer;

@@ -19,6 +19,8 @@ use Rattle.kahn_streams.specs.declared.answer.Outcome.{Outcome}
 use Rattle.kahn_streams.specs.declared.answer.Outcome.TheVariants.{Ended, Waits, Faulted, More}
 use Rattle.kahn_streams.specs.declared.tree.Role.TheVariants as role
 use Rattle.kahn_streams.specs.Inputs.{inputs_of, Lists}
+use Rattle.kahn_streams.specs.declared.fault.RunFault.{RunFault}
+use Rattle.kahn_streams.specs.declared.fault.RunFault.TheVariants as fault
 use Rattle.std.specs.declared.string.String.{String}
 use Rattle.std.specs.declared.alloc.Global.{Global}
 
@@ -178,3 +180,12 @@ IsUndeclared t (Some name) = (c : ℕ) → IsNamed t c name → ⊥
 abbrev pub IsRightRun : Program → Lists → Config → Answer → Type 0
 IsRightRun t lists config a =
     IsAllowed config × ((watch : Option ℕ) × IsWatched t config.watch watch × IsRight (network_of t) (inputs_of lists) config.bound watch a)
+
+-- why there is none: first the numbers, then the watched channel, then want of memory, or of a thread for one of several
+-- workers; none stalls
+abbrev pub IsUnrun : Program → Config → RunFault → Type 0
+IsUnrun t config fault.BadConfig = IsAllowed config → ⊥
+IsUnrun t config fault.UnknownWatch = IsAllowed config × IsUndeclared t config.watch
+IsUnrun t config fault.NoMemory = IsAllowed config × ((watch : Option ℕ) × IsWatched t config.watch watch)
+IsUnrun t config fault.NoThread = IsAllowed config × (1 < config.workers) × ((watch : Option ℕ) × IsWatched t config.watch watch)
+IsUnrun t config fault.Stalled = ⊥

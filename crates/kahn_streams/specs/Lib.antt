@@ -3,6 +3,8 @@ pub mod Inputs
 pub mod Answers
 pub mod Network
 pub mod Wiring
+pub mod Faults
+pub mod Written
 pub mod Made
 pub mod Wires
 pub mod Place

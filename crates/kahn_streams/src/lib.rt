@@ -8,6 +8,7 @@ mod answer;
 mod carried;
 mod config;
 mod entries;
+mod fault;
 mod feeds;
 mod input;
 mod laws;
@@ -26,6 +27,7 @@ mod word;
 
 pub use carried::Carried;
 pub use entries::InputFault;
+pub use fault::{CheckFault, RunFault};
 pub use feeds::FeedFault;
 pub use input::Input;
 pub use laws::{

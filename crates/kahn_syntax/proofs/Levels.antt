@@ -1,5 +1,5 @@
 -- Operators of one level with their operands, read one after another.
-use Rattle.kahn_syntax.proofs.Common.{◌≡◌, ℕ, ◌+◌, ◌≤◌, ◌<◌, ◌≢◌, max, List, [], ◌∷◌, ◌++◌, refl, sym, ap, ◌∙◌, subst, arith, Operand, Level, Or, Sum, Term, Operator, Terminal, at, tighter, rung_of, ExpressionTree, level, OperandTrees, no_operand, operand, expression_words, operands_words, expression_nesting, operands_nesting, rank, FormedOperands, expression_of, operands_of, FitsLevel, level_or_first}
+use Rattle.kahn_syntax.proofs.Common.{◌≡◌, ℕ, ◌+◌, ◌≤◌, ◌<◌, ◌≢◌, max, List, [], ◌∷◌, ◌++◌, refl, sym, ap, ◌∙◌, subst, arith, Operand, Level, Or, Sum, Term, Operator, Terminal, at, tighter, rung_of, ExpressionTree, level, OperandTrees, no_operand, operand, expression_words, operands_words, expression_nesting, operands_nesting, rank, FormedOperands, expression_tree, operands_of, FitsLevel, level_or_first}
 use Rattle.kahn_syntax.specs.declared.parser.operator.Level.TheVariants.{And}
 
 -- how many functions are called below an operand of this level before a lexeme is read
@@ -9,20 +9,20 @@ height And = 7
 height Sum = 3
 height Term = 1
 
-operands_nesting_more : (os : List Operand) (o : Operand) (m : ℕ) → operands_nesting (operands_of os) ≤ m → expression_nesting (expression_of o.expression) ≤ m →
+operands_nesting_more : (os : List Operand) (o : Operand) (m : ℕ) → operands_nesting (operands_of os) ≤ m → expression_nesting (expression_tree o.expression) ≤ m →
     operands_nesting (operands_of (os ++ o ∷ [])) ≤ m
 operands_nesting_more [] o m a b = omega arith
 operands_nesting_more (u ∷ os) o m a b = omega (arith, operands_nesting_more os o m (omega arith) b)
 
 pub operands_nesting_next : (d : ℕ) (first : ExpressionTree) (os os' : List Operand) (o : Operand) → os' ≡ os ++ o ∷ [] →
-    d + max (expression_nesting first) (operands_nesting (operands_of os)) ≤ 64 → d + expression_nesting (expression_of o.expression) ≤ 64 →
+    d + max (expression_nesting first) (operands_nesting (operands_of os)) ≤ 64 → d + expression_nesting (expression_tree o.expression) ≤ 64 →
     d + max (expression_nesting first) (operands_nesting (operands_of os')) ≤ 64
 operands_nesting_next d first os os' o e a b =
-    let m = max (operands_nesting (operands_of os)) (expression_nesting (expression_of o.expression)) in
+    let m = max (operands_nesting (operands_of os)) (expression_nesting (expression_tree o.expression)) in
     let c = operands_nesting_more os o m (omega arith) (omega arith) in
     omega (arith, c, ap (λ x. operands_nesting (operands_of x)) e)
 
-formed_more : (n : ℕ) (os : List Operand) (o : Operand) → FormedOperands n (operands_of os) → rank o.operator ≡ n → FitsLevel (n + 1) (expression_of o.expression) →
+formed_more : (n : ℕ) (os : List Operand) (o : Operand) → FormedOperands n (operands_of os) → rank o.operator ≡ n → FitsLevel (n + 1) (expression_tree o.expression) →
     FormedOperands n (operands_of (os ++ o ∷ []))
 formed_more n [] o h r f = (r, omega (arith, f.0), f.1, tt)
 formed_more n (u ∷ os) o h r f = (h.0, h.1, h.2, formed_more n os o h.3 r f)
@@ -32,7 +32,7 @@ tight Or e f = f
 tight _ e f = f
 
 pub formed_next : (v : Level) (os os' : List Operand) (o : Operand) → os' ≡ os ++ o ∷ [] → FormedOperands (at (rung_of v)) (operands_of os) → rank o.operator ≡ at (rung_of v) →
-    FitsLevel (at (tighter (rung_of v))) (expression_of o.expression) → FormedOperands (at (rung_of v)) (operands_of os')
+    FitsLevel (at (tighter (rung_of v))) (expression_tree o.expression) → FormedOperands (at (rung_of v)) (operands_of os')
 formed_next v os os' o e h r f = rw e (formed_more (at (rung_of v)) os o h r (tight v _ f))
 
 joined_some : (e : ExpressionTree) (os : List Operand) → os ≢ [] → level e (operands_of os) ≡ level_or_first e (operands_of os)

@@ -1,5 +1,5 @@
 -- A text has one fault, want of memory aside.
-use Rattle.kahn_syntax.specs.Lexemes.{IsCharacter}
+use Rattle.kahn_syntax.specs.Texts.{IsCharacter}
 use Rattle.std.specs.Prelude.{slice_index}
 use Rattle.kahn_syntax.proofs.Common.{◌+◌, ◌≤◌, IsBlank, IsRun, IsWord, IsCommentWord, HasForm, largest_number, digits_value, slice_range, ◌≡◌, ℕ, ◌<◌, ◌⊎◌, List, [], ◌∷◌, ◌++◌, length, inl, inr, refl, sym, ap, subst, ◌∙◌, arith, append_assoc, append-nil, Span, Lexeme, SyntaxFault, TooLong, BadCharacter, NumberTooLarge, CommentOpen, NameTooLong, Expected, More, Nothing, Other, IsLongest, IsReached, IsLexFault, most_bytes, IsFaultAt, Terminal, terminal, terminals, Spells, Begins, BeginsWithin, IsNothing, IsOther, IsTooDeep, IsFault, AreLexemes, IsTextFault}
 use Rattle.kahn_syntax.specs.declared.fault.SyntaxFault.TheVariants.{TooDeep, NoMemory}

@@ -4,7 +4,7 @@ use Rattle.kahn_streams.specs.declared.tree.Kind.TheVariants as kind
 use Rattle.kahn_streams.specs.declared.tree.Role.TheVariants as role
 use Rattle.kahn_streams.specs.declared.tree.Direction.TheVariants as direction
 use Rattle.kahn_streams.specs.declared.tree.Taking.TheVariants as taking
-use Rattle.kahn_syntax.specs.Programs.{number, truth}
+use Rattle.kahn_syntax.specs.Grammar.{number_argument, truth_argument}
 use Rattle.kahn_syntax.proofs.Unique.{tail_is}
 use Rattle.kahn_syntax.proofs.Blocks.{same_statements}
 
@@ -202,23 +202,23 @@ same_declarations (d ∷ ds) (c ∷ cs) ks r q x y (a, m, p, g, e) (a', m', p', 
 
 same_argues : (a b : ArgumentTree) (ks r q : List Terminal) → Argues a ks r → Argues b ks q → (a ≡ b) × (r ≡ q)
 same_argues (channel n) (channel m) ks r q e f = (cc, cc)
-same_argues (truth true) (truth true) ks r q e f = (refl, cc)
-same_argues (truth false) (truth false) ks r q e f = (refl, cc)
-same_argues (number z) (number w) ks r q e f =
+same_argues (truth_argument true) (truth_argument true) ks r q e f = (refl, cc)
+same_argues (truth_argument false) (truth_argument false) ks r q e f = (refl, cc)
+same_argues (number_argument z) (number_argument w) ks r q e f =
     ⊎_elim (λ g. ⊎_elim (λ h. (cc, cc)) (λ (j, b, p, h, k). absurd cc) f) (λ (i, a, o, g, l). ⊎_elim (λ h. absurd cc) (λ (j, b, p, h, k). (cc, cc)) f) e
-same_argues (number z) (truth true) ks r q e f = ⊎_elim (λ g. absurd cc) (λ (i, a, p, g, h). absurd cc) e
-same_argues (number z) _ ks r q e f = ⊎_elim (λ g. absurd cc) (λ (i, a, p, g, h). absurd cc) e
-same_argues (truth true) (number z) ks r q e f = ⊎_elim (λ g. absurd cc) (λ (i, a, p, g, h). absurd cc) f
-same_argues _ (number z) ks r q e f = ⊎_elim (λ g. absurd cc) (λ (i, a, p, g, h). absurd cc) f
-same_argues _ (truth true) ks r q e f = absurd cc
-same_argues (truth true) _ ks r q e f = absurd cc
+same_argues (number_argument z) (truth_argument true) ks r q e f = ⊎_elim (λ g. absurd cc) (λ (i, a, p, g, h). absurd cc) e
+same_argues (number_argument z) _ ks r q e f = ⊎_elim (λ g. absurd cc) (λ (i, a, p, g, h). absurd cc) e
+same_argues (truth_argument true) (number_argument z) ks r q e f = ⊎_elim (λ g. absurd cc) (λ (i, a, p, g, h). absurd cc) f
+same_argues _ (number_argument z) ks r q e f = ⊎_elim (λ g. absurd cc) (λ (i, a, p, g, h). absurd cc) f
+same_argues _ (truth_argument true) ks r q e f = absurd cc
+same_argues (truth_argument true) _ ks r q e f = absurd cc
 same_argues _ _ ks r q e f = absurd cc
 
 not_close : (a : ArgumentTree) (ks r x : List Terminal) → Argues a ks r → ks ≡ sign Close ∷ x → ⊥
 not_close (channel n) ks r x e p = cc
-not_close (truth true) ks r x e p = cc
-not_close (truth false) ks r x e p = cc
-not_close (number z) ks r x e p = ⊎_elim (λ g. absurd cc) (λ (i, b, o, g, h). absurd cc) e
+not_close (truth_argument true) ks r x e p = cc
+not_close (truth_argument false) ks r x e p = cc
+not_close (number_argument z) ks r x e p = ⊎_elim (λ g. absurd cc) (λ (i, b, o, g, h). absurd cc) e
 
 same_arguments : (xs ys : List ArgumentTree) (ks r q : List Terminal) → Between (StandsFirst (sign Comma)) Argues xs ks (sign Close ∷ r) → Between (StandsFirst (sign Comma)) Argues ys ks (sign Close ∷ q) → (xs ≡ ys) × (r ≡ q)
 same_arguments [] [] ks r q e f = (refl, cc)

@@ -1,5 +1,5 @@
 -- What the proofs of the parser's functions cite, passed on from one place.
-pub use Rattle.kahn_syntax.proofs.Common.{declarations_nesting, TakesAll, ParameterGroup, Between, DeclarationSpans, Ended, SomeNames, Parameters, Variables, lexemes, block, Formed, AreLexemes, AreProper, Argument, ArgumentPart, ArgumentSpans, ArgumentsPart, ArgumentsTail, Becomes, Begin, Channel, Close, Comma, Covers, DeclarationPart, DeclarationsPart, Do, Else, ElseTail, End, Err, ExpressionBefore, ExpressionPart, ExpressionRead, ExpressionSpans, False, FitsLevel, FitsSigned, FormedOperands, FormedStatement, FormedStatements, GroupPart, Grouped, GroupsPart, GroupsTail, Halts, If, IfErr-weaker, IfNone, IfOk, In, Input, Instance, InstancePart, InstanceSpans, InstancesSpan, InstancesTail, IsFault, IsProgram, IsSimple, IsTextFault, IsUnsigned, LastTail, LevelPart, Lexeme, List, May, Minus, Moves, Name, NameClass, NameSpans, NamesTail, None, NotWord, Number, Ok, On, Open, OperandsSpan, OperatorsPart, Option, Out, Output, Par, Print, Process, ProcessPart, Program, ProgramPart, ProgramSpans, ProgramTree, Refused, Repeat, Result, RolePart, Semicolon, Send, SignClass, SimplePart, Some, Spells, Statement, StatementPart, StatementRead, StatementSpans, StatementsTail, SyntaxFault, Takes, Taking, TakingPart, Then, TokenPart, True, VariablesPart, Wait, While, Word, a_kind, a_name, a_number, a_sign, a_word, ap, argument_rules, arith, at, common_steps, declaration_of, declaration_rules, denials, drop, drop_more, err_from_is_err_and, expression_nesting, expression_of, factor_rules, factors, false, form_of, get_or, group, head_parts, hidden-the_row-Operand-0, inl, inr, kind_terminal, leads, length, length-drop, level, map, max, members_of, name, name_of, neg_ℤ, nesting, no_operand, operands_nesting, operands_of, operands_row, operator_terminal, ors, other_rules, parameter_with, program_of, refl, relations, rules, rung_of, sign, simple_rules, starts, statement_nesting, statement_of, statements_nesting, statements_of, subst, sums, sym, take, take-append-drop, accepts, terminals, tighter, to_z-of_z, true, variable_with, vec_len, w64, whole, word, ℕ, [], ◌*◌, ◌++◌, ◌+◌, ◌-◌, ◌<◌, ◌∙◌, ◌∷◌, ◌≡◌, ◌≢◌, ◌≤◌, rules_of}
+pub use Rattle.kahn_syntax.proofs.Common.{declarations_nesting, TakesAll, ParameterGroup, Between, DeclarationSpans, Ended, SomeNames, Parameters, Variables, lexemes, block, Formed, AreLexemes, AreProper, Argument, ArgumentPart, ArgumentSpans, ArgumentsPart, ArgumentsTail, Becomes, Begin, Channel, Close, Comma, Covers, DeclarationPart, DeclarationsPart, Do, Else, ElseTail, End, Err, ExpressionBefore, ExpressionPart, ExpressionRead, ExpressionSpans, False, FitsLevel, FitsSigned, FormedOperands, FormedStatement, FormedStatements, GroupPart, Grouped, GroupsPart, GroupsTail, Halts, If, IfErr-weaker, IfNone, IfOk, In, Input, Instance, InstancePart, InstanceSpans, InstancesSpan, InstancesTail, IsFault, IsProgram, IsSimple, IsTextFault, IsUnsigned, LastTail, LevelPart, Lexeme, List, May, Minus, Moves, Name, NameClass, NameSpans, NamesTail, None, NotWord, Number, Ok, On, Open, OperandsSpan, OperatorsPart, Option, Out, Output, Par, Print, Process, ProcessPart, Program, ProgramPart, ProgramSpans, ProgramTree, Refused, Repeat, Result, RolePart, Semicolon, Send, SignClass, SimplePart, Some, Spells, Statement, StatementPart, StatementRead, StatementSpans, StatementsTail, SyntaxFault, Takes, Taking, TakingPart, Then, TokenPart, True, VariablesPart, Wait, While, Word, a_kind, a_name, a_number, a_sign, a_word, ap, argument_rules, arith, at, common_steps, declaration_tree, declaration_rules, denials, drop, drop_more, err_from_is_err_and, expression_nesting, expression_tree, factor_rules, factors, false, form_tree, get_or, group, head_parts, hidden-the_row-Operand-0, inl, inr, kind_terminal, leads, length, length-drop, level, map, max, members_of, name, name_of, neg_ℤ, nesting, no_operand, operands_nesting, operands_of, operands_row, operator_terminal, ors, other_rules, parameter_with, program_tree, refl, relations, rules, rung_of, sign, simple_rules, starts, statement_nesting, statement_tree, statements_nesting, statement_trees, subst, sums, sym, take, take-append-drop, accepts, terminals, tighter, to_z-of_z, true, variable_with, vec_len, w64, whole, word, ℕ, [], ◌*◌, ◌++◌, ◌+◌, ◌-◌, ◌<◌, ◌∙◌, ◌∷◌, ◌≡◌, ◌≢◌, ◌≤◌, rules_of}
 pub use Rattle.kahn_syntax.proofs.Levels.{compared_fits, formed_next, height, joined_made, joined_nesting, level_fits, operands_nesting_next}
 pub use Rattle.kahn_syntax.proofs.Lists.{first_of, next_made, next_passed, next_proper, next_unsigned}
 pub use Rattle.kahn_syntax.proofs.Meaning.{deep_left, deep_memory, halts_memory, is_more, is_nothing, is_other, is_too_deep, refused_left, refused_memory}

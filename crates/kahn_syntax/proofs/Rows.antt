@@ -1,19 +1,19 @@
 -- Rows inside of trees, and the lists that they are.
-use Rattle.kahn_syntax.proofs.Common.{◌≡◌, ℕ, List, refl, sym, subst, ap, ◌∙◌, Vec, Global, Row_of-Operand, end_of-Operand, more_of-Operand, items-the_row-Operand, items_hidden-the_row-Operand-0, hidden-the_row-Operand-0, Operand, Row_of-Statement, end_of-Statement, more_of-Statement, items-the_row-Statement, items_hidden-the_row-Statement-0, hidden-the_row-Statement-0, Statement, operand, statement, Lexeme, OperandRowSpans, OperandsSpan, StatementRowSpans, FurtherRowSpans, StatementsSpan, Takes, StatementSpans, Further, sign, form_of, operands_row, operands_of, action_of, statements_row, statements_of, Semicolon}
+use Rattle.kahn_syntax.proofs.Common.{◌≡◌, ℕ, List, refl, sym, subst, ap, ◌∙◌, Vec, Global, Row_of-Operand, end_of-Operand, more_of-Operand, items-the_row-Operand, items_hidden-the_row-Operand-0, hidden-the_row-Operand-0, Operand, Row_of-Statement, end_of-Statement, more_of-Statement, items-the_row-Statement, items_hidden-the_row-Statement-0, hidden-the_row-Statement-0, Statement, operand, statement, Lexeme, OperandRowSpans, OperandsSpan, StatementRowSpans, FurtherRowSpans, StatementsSpan, Takes, StatementSpans, Further, sign, form_tree, operands_row, operands_of, action_tree, statements_row, statement_trees, Semicolon}
 
 operands_shown : (n : _) (row : Row_of-Operand n) → operands_row row ≡ operands_of (items-the_row-Operand n row)
 operands_shown n end_of-Operand = refl
-operands_shown n (more_of-Operand o at e rest) = ap (operand o (form_of e)) (operands_shown _ rest)
+operands_shown n (more_of-Operand o at e rest) = ap (operand o (form_tree e)) (operands_shown _ rest)
 
 pub operands_made : (rest : Vec Operand Global) → operands_row (hidden-the_row-Operand-0 rest) ≡ operands_of rest.items
 operands_made rest = operands_shown _ (hidden-the_row-Operand-0 rest) ∙ ap operands_of (items_hidden-the_row-Operand-0 rest)
 
-statements_shown : (n : _) (row : Row_of-Statement n) → statements_row row ≡ statements_of (items-the_row-Statement n row)
+statements_shown : (n : _) (row : Row_of-Statement n) → statements_row row ≡ statement_trees (items-the_row-Statement n row)
 statements_shown n end_of-Statement = refl
-statements_shown n (more_of-Statement at a rest) = ap (statement (action_of a)) (statements_shown _ rest)
+statements_shown n (more_of-Statement at a rest) = ap (statement (action_tree a)) (statements_shown _ rest)
 
-pub statements_made : (rest : Vec Statement Global) → statements_row (hidden-the_row-Statement-0 rest) ≡ statements_of rest.items
-statements_made rest = statements_shown _ (hidden-the_row-Statement-0 rest) ∙ ap statements_of (items_hidden-the_row-Statement-0 rest)
+pub statements_made : (rest : Vec Statement Global) → statements_row (hidden-the_row-Statement-0 rest) ≡ statement_trees rest.items
+statements_made rest = statements_shown _ (hidden-the_row-Statement-0 rest) ∙ ap statement_trees (items_hidden-the_row-Statement-0 rest)
 
 operands_spans_shown : (text : List ℕ) (n : _) (row : Row_of-Operand n) (xs r : List Lexeme) → OperandsSpan text (items-the_row-Operand n row) xs r → OperandRowSpans text row xs r
 operands_spans_shown text n end_of-Operand xs r h = h

@@ -1,19 +1,19 @@
 -- What a tree spells follows from what its parts take.
-use Rattle.kahn_syntax.proofs.Common.{declaration_nesting, lexemes, spelling, SomeBetween, SomeNames, ParameterGroup, VariableGroup, parameter_with, variable_with, ◌≡◌, ℕ, ◌≤◌, List, [], ◌∷◌, ◌++◌, map, inl, inr, refl, ap, ◌∙◌, arith, Further, Grouped, group, all_members, map-append, Form, Negate', Not', Bracket', Level', Conditional', Row_of-Operand, end_of-Operand, more_of-Operand, Action, Empty, Assign, Block', If', While', Repeat', Row_of-Statement, end_of-Statement, more_of-Statement, Held-Action-If-2, None', Some', Statement, Name, Kind, Taking, Parameter, OneVariable, Declaration, Argument, Instance, Program, kind_terminal, role_words, taking_words, Parameters, Variables, SpellsDeclaration, Argues, Instantiates, May, Spells, declarations_nesting, StandsFirst, Between, Ended, TakesAll, DeclarationSpans, ArgumentSpans, InstanceSpans, InstancesSpan, ProgramSpans, Takes, FormSpans, OperandRowSpans, ActionSpans, OtherSpans, StatementRowSpans, FurtherRowSpans, StatementsSpan, NameSpans, StatementSpans, Lexeme, Terminal, terminals, word, sign, name, StatementTree, truth_terminal, operator_terminal, expression_words, operands_words, statement_words, statements_words, further_words, name_of, form_of, operands_row, expression_of, action_of, statements_row, chosen_of, statement_of, statements_of, declaration_of, argument_of, instance_of, program_of, Becomes, Begin, Channel, Close, Comma, Do, Else, End, If, Minus, NotWord, On, Open, Par, Print, Process, Repeat, Semicolon, Send, Then, Wait, While}
+use Rattle.kahn_syntax.proofs.Common.{declaration_nesting, lexemes, spelling, SomeBetween, SomeNames, ParameterGroup, VariableGroup, parameter_with, variable_with, ◌≡◌, ℕ, ◌≤◌, List, [], ◌∷◌, ◌++◌, map, inl, inr, refl, ap, ◌∙◌, arith, Further, Grouped, group, all_members, map-append, Form, Negate', Not', Bracket', Level', Conditional', Row_of-Operand, end_of-Operand, more_of-Operand, Action, Empty, Assign, Block', If', While', Repeat', Row_of-Statement, end_of-Statement, more_of-Statement, Held-Action-If-2, None', Some', Statement, Name, Kind, Taking, Parameter, OneVariable, Declaration, Argument, Instance, Program, kind_terminal, role_words, taking_words, Parameters, Variables, SpellsDeclaration, Argues, Instantiates, May, Spells, declarations_nesting, StandsFirst, Between, Ended, TakesAll, DeclarationSpans, ArgumentSpans, InstanceSpans, InstancesSpan, ProgramSpans, Takes, FormSpans, OperandRowSpans, ActionSpans, OtherSpans, StatementRowSpans, FurtherRowSpans, StatementsSpan, NameSpans, StatementSpans, Lexeme, Terminal, terminals, word, sign, name, StatementTree, truth_terminal, operator_terminal, expression_words, operands_words, statement_words, statements_words, further_words, name_of, form_tree, operands_row, expression_tree, action_tree, statements_row, chosen_of, statement_tree, statement_trees, declaration_tree, argument_tree, instance_tree, program_tree, Becomes, Begin, Channel, Close, Comma, Do, Else, End, If, Minus, NotWord, On, Open, Par, Print, Process, Repeat, Semicolon, Send, Then, Wait, While}
 use Rattle.kahn_streams.specs.declared.tree.Form.{Number, Logical, Variable, Wait}
 use Rattle.kahn_streams.specs.declared.tree.Action.{Send, Print}
 use Rattle.kahn_streams.specs.declared.tree.Declaration.TheVariants as declared
 use Rattle.kahn_streams.specs.declared.tree.Argument.TheVariants as argued
-use Rattle.kahn_syntax.specs.Lexemes as terminal
-use Rattle.kahn_syntax.specs.Spans.{parameter_of, variable_of}
+use Rattle.kahn_syntax.specs.Grammar as terminal
+use Rattle.kahn_syntax.specs.Texts.{parameter_of, variable_of}
 
 -- one terminal, and what follows it
 pub taken : (text : List ℕ) (k : Terminal) (xs a : List Lexeme) (r : List Terminal) → Takes text k xs a → terminals text a ≡ r → terminals text xs ≡ k ∷ r
 taken text k xs a r (x, e, h) f = ap (terminals text) e ∙ ap (λ j. j ∷ terminals text a) h ∙ ap (λ w. k ∷ w) f
 
 mutual
-  pub form_spelled : (text : List ℕ) (f : Form) (xs r : List Lexeme) → FormSpans text f xs r → terminals text xs ≡ expression_words (form_of f) (terminals text r)
-  form_spelled text (Number z) xs r h = taken text (terminal.number z) xs r _ h refl
+  pub form_spelled : (text : List ℕ) (f : Form) (xs r : List Lexeme) → FormSpans text f xs r → terminals text xs ≡ expression_words (form_tree f) (terminals text r)
+  form_spelled text (Number z) xs r h = taken text (terminal.numeral z) xs r _ h refl
   form_spelled text (Logical b) xs r h = taken text (truth_terminal b) xs r _ h refl
   form_spelled text (Variable n) xs r h = taken text (name (name_of n)) xs r _ h.0 refl
   form_spelled text (Wait n) xs r (a, b, c, t, u, v, w) =
@@ -22,40 +22,40 @@ mutual
   form_spelled text (Negate' p at e) xs r (a, t, h) = taken text (sign Minus) xs a _ t (form_spelled text e a r h.1)
   form_spelled text (Not' p at e) xs r (a, t, h) = taken text (word NotWord) xs a _ t (form_spelled text e a r h.1)
   form_spelled text (Bracket' p at e) xs r (a, b, t, h, u) =
-      taken text (sign Open) xs a _ t (form_spelled text e a b h.1 ∙ ap (expression_words (form_of e)) (taken text (sign Close) b r _ u refl))
+      taken text (sign Open) xs a _ t (form_spelled text e a b h.1 ∙ ap (expression_words (form_tree e)) (taken text (sign Close) b r _ u refl))
   form_spelled text (Level' p at e shape row) xs r (a, h, g) =
-      form_spelled text e xs a h.1 ∙ ap (expression_words (form_of e)) (operands_spelled text row a r g)
+      form_spelled text e xs a h.1 ∙ ap (expression_words (form_tree e)) (operands_spelled text row a r g)
   form_spelled text (Conditional' p at t q at' e s at'' f) xs r (a, b, c, d, g, i, j, k, l, m, n) =
       taken text (word If) xs a _ i
       (form_spelled text t a b j.1
-      ∙ ap (expression_words (form_of t)) (taken text (word Then) b c _ k
-      (form_spelled text e c d l.1 ∙ ap (expression_words (form_of e)) (taken text (word Else) d g _ m (form_spelled text f g r n.1)))))
+      ∙ ap (expression_words (form_tree t)) (taken text (word Then) b c _ k
+      (form_spelled text e c d l.1 ∙ ap (expression_words (form_tree e)) (taken text (word Else) d g _ m (form_spelled text f g r n.1)))))
 
   operands_spelled : {m : _} → (text : List ℕ) (row : Row_of-Operand m) (xs r : List Lexeme) → OperandRowSpans text row xs r →
       terminals text xs ≡ operands_words (operands_row row) (terminals text r)
   operands_spelled text end_of-Operand xs r h = ap (terminals text) h
   operands_spelled text (more_of-Operand o at e rest) xs r (a, b, t, h, g) =
-      taken text (operator_terminal o) xs a _ t (form_spelled text e a b h.1 ∙ ap (expression_words (form_of e)) (operands_spelled text rest b r g))
+      taken text (operator_terminal o) xs a _ t (form_spelled text e a b h.1 ∙ ap (expression_words (form_tree e)) (operands_spelled text rest b r g))
 
 mutual
-  pub action_spelled : (text : List ℕ) (s : Action) (xs r : List Lexeme) → ActionSpans text s xs r → terminals text xs ≡ statement_words (action_of s) (terminals text r)
+  pub action_spelled : (text : List ℕ) (s : Action) (xs r : List Lexeme) → ActionSpans text s xs r → terminals text xs ≡ statement_words (action_tree s) (terminals text r)
   action_spelled text Empty xs r h = ap (terminals text) h
   action_spelled text (Assign n e) xs r (a, b, t, u, h) =
       taken text (name (name_of n)) xs a _ t.0 (taken text (sign Becomes) a b _ u (form_spelled text e.form b r h.1))
   action_spelled text (Send e n) xs r (a, b, c, t, h, u, v) =
       taken text (word Send) xs a _ t
-      (form_spelled text e.form a b h.1 ∙ ap (expression_words (expression_of e)) (taken text (word On) b c _ u (taken text (name (name_of n)) c r _ v.0 refl)))
+      (form_spelled text e.form a b h.1 ∙ ap (expression_words (expression_tree e)) (taken text (word On) b c _ u (taken text (name (name_of n)) c r _ v.0 refl)))
   action_spelled text (Print e) xs r (a, t, h) = taken text (word Print) xs a _ t (form_spelled text e.form a r h.1)
   action_spelled text (Block' shape row) xs r (a, b, t, h, u) =
       taken text (word Begin) xs a _ t (row_spelled text row a b h ∙ ap (statements_words (statements_row row)) (taken text (word End) b r _ u refl))
   action_spelled text (If' e p at s other) xs r (a, b, c, d, t, h, u, g, o) =
       taken text (word If) xs a _ t
       (form_spelled text e.form a b h.1
-      ∙ ap (expression_words (expression_of e)) (taken text (word Then) b c _ u (action_spelled text s c d g.1)))
-      ∙ other_spelled text (expression_of e) (action_of s) other d r o
+      ∙ ap (expression_words (expression_tree e)) (taken text (word Then) b c _ u (action_spelled text s c d g.1)))
+      ∙ other_spelled text (expression_tree e) (action_tree s) other d r o
   action_spelled text (While' e p at s) xs r (a, b, c, t, h, u, g) =
       taken text (word While) xs a _ t
-      (form_spelled text e.form a b h.1 ∙ ap (expression_words (expression_of e)) (taken text (word Do) b c _ u (action_spelled text s c r g.1)))
+      (form_spelled text e.form a b h.1 ∙ ap (expression_words (expression_tree e)) (taken text (word Do) b c _ u (action_spelled text s c r g.1)))
   action_spelled text (Repeat' p at s) xs r (a, t, g) = taken text (word Repeat) xs a _ t (action_spelled text s a r g.1)
 
   -- a conditional statement from its `then` on
@@ -69,25 +69,25 @@ mutual
       terminals text xs ≡ statements_words (statements_row row) (terminals text r)
   row_spelled text end_of-Statement xs r h = ap (terminals text) h
   row_spelled text (more_of-Statement at s rest) xs r (a, h, g) =
-      action_spelled text s xs a h.1 ∙ ap (statement_words (action_of s)) (further_spelled text rest a r g)
+      action_spelled text s xs a h.1 ∙ ap (statement_words (action_tree s)) (further_spelled text rest a r g)
 
   further_spelled : {m : _} → (text : List ℕ) (row : Row_of-Statement m) (xs r : List Lexeme) → FurtherRowSpans text row xs r →
       terminals text xs ≡ further_words (statements_row row) (terminals text r)
   further_spelled text end_of-Statement xs r h = ap (terminals text) h
   further_spelled text (more_of-Statement at s rest) xs r (a, b, t, h, g) =
-      taken text (sign Semicolon) xs a _ t (action_spelled text s a b h.1 ∙ ap (statement_words (action_of s)) (further_spelled text rest b r g))
+      taken text (sign Semicolon) xs a _ t (action_spelled text s a b h.1 ∙ ap (statement_words (action_tree s)) (further_spelled text rest b r g))
 
 further_statements_spelled : (text : List ℕ) (ss : List Statement) (xs r : List Lexeme) → Further (Takes text (sign Semicolon)) (StatementSpans text) ss xs r →
-    terminals text xs ≡ further_words (statements_of ss) (terminals text r)
+    terminals text xs ≡ further_words (statement_trees ss) (terminals text r)
 further_statements_spelled text [] xs r h = ap (terminals text) h
 further_statements_spelled text (s ∷ ss) xs r (a, b, t, h, g) =
-    taken text (sign Semicolon) xs a _ t (action_spelled text s.action a b h.1 ∙ ap (statement_words (statement_of s)) (further_statements_spelled text ss b r g))
+    taken text (sign Semicolon) xs a _ t (action_spelled text s.action a b h.1 ∙ ap (statement_words (statement_tree s)) (further_statements_spelled text ss b r g))
 
 pub statements_spelled : (text : List ℕ) (ss : List Statement) (xs r : List Lexeme) → StatementsSpan text ss xs r →
-    terminals text xs ≡ statements_words (statements_of ss) (terminals text r)
+    terminals text xs ≡ statements_words (statement_trees ss) (terminals text r)
 statements_spelled text [] xs r h = ap (terminals text) h
 statements_spelled text (s ∷ ss) xs r (a, h, g) =
-    action_spelled text s.action xs a h.1 ∙ ap (statement_words (statement_of s)) (further_statements_spelled text ss a r g)
+    action_spelled text s.action xs a h.1 ∙ ap (statement_words (statement_tree s)) (further_statements_spelled text ss a r g)
 
 -- ---- parts with the same between them, or after each
 
@@ -162,7 +162,7 @@ variables_spelled text vs xs r (gs, e, h) = (
 )
 
 declaration_spelled : (text : List ℕ) (d : Declaration) (xs r : List Lexeme) → DeclarationSpans text d xs r →
-    SpellsDeclaration (declaration_of d) (terminals text xs) (terminals text r)
+    SpellsDeclaration (declaration_tree d) (terminals text xs) (terminals text r)
 declaration_spelled text (declared.Channels k o ns) xs r (a, b, c, t, p, u, n) =
     let all = takes_all_spelled text (role_words o []) a b p in
     (terminals text a, terminals text b, terminals text c, taken text (kind_terminal k) xs a _ t refl, all, taken text (word Channel) b c _ u refl, names_spelled text ns.items c r n)
@@ -180,32 +180,32 @@ declaration_spelled text (declared.Process p) xs r (a, b, c, d, e, begins, calle
   taken text (word End) e r _ ended refl,
 )
 
-argument_spelled : (text : List ℕ) (x : Argument) (xs r : List Lexeme) → ArgumentSpans text x xs r → Argues (argument_of x) (terminals text xs) (terminals text r)
+argument_spelled : (text : List ℕ) (x : Argument) (xs r : List Lexeme) → ArgumentSpans text x xs r → Argues (argument_tree x) (terminals text xs) (terminals text r)
 argument_spelled text (argued.Channel n) xs r h = taken text (name (name_of n)) xs r _ h.0 refl
-argument_spelled text (argued.Number z at) xs r (c, inl t) = inl (taken text (terminal.number z) xs r _ t refl)
+argument_spelled text (argued.Number z at) xs r (c, inl t) = inl (taken text (terminal.numeral z) xs r _ t refl)
 argument_spelled text (argued.Number z at) xs r (c, inr (n, a, e, t, u)) =
-    inr (n, terminals text a, e, taken text (sign Minus) xs a _ t refl, taken text (terminal.number n) a r _ u refl)
+    inr (n, terminals text a, e, taken text (sign Minus) xs a _ t refl, taken text (terminal.numeral n) a r _ u refl)
 argument_spelled text (argued.Logical b at) xs r h = taken text (truth_terminal b) xs r _ h.1 refl
 
-instance_spelled : (text : List ℕ) (i : Instance) (xs r : List Lexeme) → InstanceSpans text i xs r → Instantiates (instance_of i) (terminals text xs) (terminals text r)
+instance_spelled : (text : List ℕ) (i : Instance) (xs r : List Lexeme) → InstanceSpans text i xs r → Instantiates (instance_tree i) (terminals text xs) (terminals text r)
 instance_spelled text i xs r (a, b, c, n, o, p, q) = (
   terminals text a,
   terminals text b,
   terminals text c,
   taken text (name (name_of i.process)) xs a _ n.0 refl,
   taken text (sign Open) a b _ o refl,
-  between_spelled text (sign Comma) (ArgumentSpans text) Argues argument_of (argument_spelled text) i.arguments.items b c p,
+  between_spelled text (sign Comma) (ArgumentSpans text) Argues argument_tree (argument_spelled text) i.arguments.items b c p,
   taken text (sign Close) c r _ q refl,
 )
 
-instances_spelled : (text : List ℕ) (is : List Instance) (xs r : List Lexeme) → InstancesSpan text is xs r → SomeBetween (StandsFirst (word Par)) Instantiates (map instance_of is) (terminals text xs) (terminals text r)
-instances_spelled text is xs r h = some_spelled text (word Par) (InstanceSpans text) Instantiates instance_of (instance_spelled text) is xs r h
+instances_spelled : (text : List ℕ) (is : List Instance) (xs r : List Lexeme) → InstancesSpan text is xs r → SomeBetween (StandsFirst (word Par)) Instantiates (map instance_tree is) (terminals text xs) (terminals text r)
+instances_spelled text is xs r h = some_spelled text (word Par) (InstanceSpans text) Instantiates instance_tree (instance_spelled text) is xs r h
 
 part_spelled : (text : List ℕ) (xs r : List Lexeme) → May (Takes text (sign Semicolon)) xs r → May (StandsFirst (sign Semicolon)) (terminals text xs) (terminals text r)
 part_spelled text xs r (inl t) = inl (taken text (sign Semicolon) xs r _ t refl)
 part_spelled text xs r (inr e) = inr (ap (terminals text) e)
 
-pub program_spelled : (text : List ℕ) (p : Program) (xs : List Lexeme) → ProgramSpans text p xs → Spells (program_of p) (terminals text xs)
+pub program_spelled : (text : List ℕ) (p : Program) (xs : List Lexeme) → ProgramSpans text p xs → Spells (program_tree p) (terminals text xs)
 program_spelled text p xs (a, b, c, d, e, t, f, g, h, u, v) = (
   terminals text a,
   terminals text b,
@@ -213,14 +213,14 @@ program_spelled text p xs (a, b, c, d, e, t, f, g, h, u, v) = (
   terminals text d,
   terminals text e,
   taken text (word Begin) xs a _ t refl,
-  ended_spelled text (sign Semicolon) (DeclarationSpans text) SpellsDeclaration declaration_of (declaration_spelled text) p.declarations.items a b f,
+  ended_spelled text (sign Semicolon) (DeclarationSpans text) SpellsDeclaration declaration_tree (declaration_spelled text) p.declarations.items a b f,
   instances_spelled text p.instances.items b c g,
   part_spelled text c d h,
   taken text (word End) d e _ u refl,
   part_spelled text e [] v,
 )
 
-pub nesting_more : (ds : List Declaration) (d : Declaration) → declarations_nesting (map declaration_of ds) ≤ 64 → declaration_nesting (declaration_of d) ≤ 64 →
-    declarations_nesting (map declaration_of (ds ++ d ∷ [])) ≤ 64
+pub nesting_more : (ds : List Declaration) (d : Declaration) → declarations_nesting (map declaration_tree ds) ≤ 64 → declaration_nesting (declaration_tree d) ≤ 64 →
+    declarations_nesting (map declaration_tree (ds ++ d ∷ [])) ≤ 64
 nesting_more [] d s t = omega (arith, t)
 nesting_more (e ∷ ds) d s t = omega (arith, s, nesting_more ds d (omega (arith, s)) t)

@@ -1,14 +1,12 @@
 -- What is open can be completed, and what is read is the beginning of trees for it.
 use Rattle.kahn_syntax.proofs.Common.{SomeBetween, Between, Ended, ParameterGroup, VariableGroup, TakesAll, spelling, ◌<◌, ◌≡◌, ℕ, ◌+◌, ◌≤◌, ◌==◌, ℤ, pos, List, [], ◌∷◌, Bool, true, false, cond, Option, Some, None, refl, sym, ap, ◌∙◌, subst, arith, ⊎_elim, ◌⊎◌, inl, inr, true≢false, Further, Grouped, group, all_members, nat_tests, Kind, Role, Taking, Operator, Terminal, word, sign, name, ExpressionTree, number, truth, variable, wait, negation, denial, bracket, conditional, OperandTrees, no_operand, operand, StatementTree, empty, assign, send, print, block, if_then, if_else, while_do, repeat, StatementTrees, no_statement, statement, operator_terminal, rank, expression_words, operands_words, statement_words, further_words, expression_nesting, operands_nesting, statement_nesting, statements_nesting, FormedOperands, FormedStatement, FormedStatements, IsSimple, DeclarationTree, channels, process, ArgumentTree, channel, InstanceTree, instance, kind_terminal, role_words, taking_words, SpellsDeclaration, Argues, Instantiates, May, declaration_nesting, declarations_nesting, StandsFirst, level_or_first, Rung, whole, ors, ands, denials, relations, sums, terms, factors, at, tighter, operator_of, Token, accepts, NamesTail, StatementsTail, GroupsTail, ArgumentsTail, InstancesTail, ElseTail, LastTail, Part, ProgramPart, DeclarationsPart, DeclarationPart, ProcessPart, RolePart, GroupsPart, GroupPart, TakingPart, VariablesPart, StatementPart, SimplePart, ExpressionPart, OperatorsPart, InstancePart, ArgumentsPart, ArgumentPart, TokenPart, LevelPart, levels, may_end, step, opened_by, enters, followed, rules_of, Rule, process_rules, declaration_rules, group_rules, simple_rules, other_rules, argument_rules, factor_rules, operand_rules, relation_rules, denial_rules, or_rules, expression_rules, operator_rules, either, an_operator, rank_or, letters_of, bytes_of_sign, bytes_eq, truth_terminal, append_assoc, Keyword, Sign, ◌++◌, a_sign, a_word, a_name, a_number, And, AtLeast, AtMost, Becomes, Begin, Close, Comma, Div, Do, Else, End, Equal, False, Greater, If, Integer, Less, Logical, Minus, Mod, NotWord, On, Open, OrWord, Par, Plus, Print, Repeat, Semicolon, Send, Then, Times, True, Unequal, Wait, While}
-use Rattle.std.specs.Prelude.{◌||◌}
-use Rattle.std.specs.Prelude.{neg_ℤ}
+use Rattle.std.specs.Prelude.{◌||◌, neg_ℤ}
 use Rattle.kahn_streams.specs.declared.tree.Kind.TheVariants as kind
 use Rattle.kahn_streams.specs.declared.tree.Role.TheVariants as role
 use Rattle.kahn_streams.specs.declared.tree.Direction.TheVariants as direction
 use Rattle.kahn_streams.specs.declared.tree.Taking.TheVariants as taking
 use Rattle.kahn_streams.specs.declared.tree.Operator.TheVariants as operator
-use Rattle.kahn_syntax.specs.Lexemes as terminal
-use Rattle.kahn_syntax.specs.Programs as tree
+use Rattle.kahn_syntax.specs.Grammar as grammar
 use Rattle.kahn_syntax.specs.inner.Reads as reads
 use Rattle.kahn_syntax.proofs.Levels.{joined_words, joined_nesting}
 use Rattle.kahn_syntax.proofs.Unique.{IsNoneOrOne, rank_within}
@@ -23,7 +21,7 @@ Lists = List Terminal → Type 0
 -- the token, then what comes after
 abbrev pub One : Token → Lists → Lists
 One a_name Next ks = (n : List ℕ) × (r : List Terminal) × (ks ≡ name n ∷ r) × Next r
-One a_number Next ks = (z : ℤ) × (r : List Terminal) × (ks ≡ terminal.number z ∷ r) × Next r
+One a_number Next ks = (z : ℤ) × (r : List Terminal) × (ks ≡ grammar.numeral z ∷ r) × Next r
 One (a_word w) Next ks = (r : List Terminal) × (ks ≡ word w ∷ r) × Next r
 One (either v w) Next ks = (r : List Terminal) × ((ks ≡ word v ∷ r) ⊎ (ks ≡ word w ∷ r)) × Next r
 One (a_sign g) Next ks = (r : List Terminal) × (ks ≡ sign g ∷ r) × Next r
@@ -130,7 +128,7 @@ test_same a b e = grind (arith, nat_tests)
 
 takes_one : (t : Token) (k : Terminal) (Next : Lists) (ks : List Terminal) → accepts t k ≡ true → Next ks → One t Next (k ∷ ks)
 takes_one a_name (name n) Next ks e h = (n, ks, refl, h)
-takes_one a_number (terminal.number z) Next ks e h = (z, ks, refl, h)
+takes_one a_number (grammar.numeral z) Next ks e h = (z, ks, refl, h)
 takes_one (a_word v) (word w) Next ks e h = (ks, ap (λ x. word x ∷ ks) (sym (word_same v w e)), h)
 takes_one (either u v) (word w) Next ks e h = by (bytes_eq (letters_of u) (letters_of w)) refl e
   where
@@ -334,9 +332,9 @@ variables_make m s = (
 argument_makes : (m : ℕ) (s : List Part) → Makes m ArgumentPart s argument_rules
 argument_makes m s =
     made (λ ks (n, r, p, h). (channel n, r, p, h))
-    (made (λ ks (z, r, p, h). (tree.number z, r, inl p, h))
-    (made (λ ks (r, e, h). let v = truth_one ks r e in (tree.truth v.0, r, v.1, h))
-    ((λ ks (r, p, (z, r1, p1, h)). (tree.number (neg_ℤ z), r1, inr (z, r, refl, p, p1), h), tt))))
+    (made (λ ks (z, r, p, h). (grammar.number_argument z, r, inl p, h))
+    (made (λ ks (r, e, h). let v = truth_one ks r e in (grammar.truth_argument v.0, r, v.1, h))
+    ((λ ks (r, p, (z, r1, p1, h)). (grammar.number_argument (neg_ℤ z), r1, inr (z, r, refl, p, p1), h), tt))))
 
 makes : (p : Part) (m : ℕ) (s : List Part) → levels s ≤ m → Makes m p s (rules_of p).1
 makes ProgramPart m s b =

@@ -1,6 +1,6 @@
 -- A list that a tree spells is read whole: expressions.
 use Rattle.kahn_syntax.proofs.Common.{◌≡◌, ◌≢◌, ℕ, zero, suc, ◌+◌, ◌*◌, ◌≤◌, ◌<◌, List, ◌∷◌, true, false, refl, sym, ap, ◌∙◌, subst, arith, Terminal, word, sign, name, ExpressionTree, number, truth, variable, wait, negation, denial, bracket, level, conditional, OperandTrees, no_operand, operand, expression_words, operands_words, expression_nesting, operands_nesting, Formed, FormedOperands, FitsLevel, Rung, whole, ors, denials, relations, sums, factors, at, tighter, Part, ExpressionPart, OperatorsPart, TokenPart, LevelPart, levels, fate, a_sign, a_name, a_word, Close, Else, False, If, Minus, NotWord, Open, Then, True, Wait}
-use Rattle.kahn_syntax.specs.Lexemes as terminal
+use Rattle.kahn_syntax.specs.Grammar as terminal
 use Rattle.kahn_syntax.proofs.Levels.{joined_words}
 use Rattle.kahn_syntax.proofs.Unique.{Ends, ends_more, ends_operand, size, sizes, above, stop, split, IsNoneOrOne, Whole, is_if, is_tighter, Denial, is_not, is_relation, level_low, no_if, no_not}
 use Rattle.kahn_syntax.proofs.Unique as unique
@@ -72,7 +72,7 @@ whole_chain k l known c t m s r z f e n =
 
 whole_factor : (k : ℕ) → Known k → (t : ExpressionTree) (m : ℕ) (s : List Part) (r : List Terminal) → 8 * size t + 0 < k + 1 → FitsLevel 7 t → Ends 7 r →
     levels s + expression_nesting t ≤ m → fate m (ExpressionPart factors ∷ s) (expression_words t r) ≡ fate m s r
-whole_factor k known (number z) m s r b f e n = go m (ExpressionPart factors ∷ s) s (terminal.number z) r refl (omega (arith, n))
+whole_factor k known (number z) m s r b f e n = go m (ExpressionPart factors ∷ s) s (terminal.numeral z) r refl (omega (arith, n))
 whole_factor k known (truth true) m s r b f e n = go m (ExpressionPart factors ∷ s) s (word True) r refl (omega (arith, n))
 whole_factor k known (truth false) m s r b f e n = go m (ExpressionPart factors ∷ s) s (word False) r refl (omega (arith, n))
 whole_factor k known (variable x) m s r b f e n = go m (ExpressionPart factors ∷ s) s (name x) r refl (omega (arith, n))

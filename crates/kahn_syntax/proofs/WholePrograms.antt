@@ -4,8 +4,8 @@ use Rattle.kahn_streams.specs.declared.tree.Kind.TheVariants as kind
 use Rattle.kahn_streams.specs.declared.tree.Role.TheVariants as role
 use Rattle.kahn_streams.specs.declared.tree.Direction.TheVariants as direction
 use Rattle.kahn_streams.specs.declared.tree.Taking.TheVariants as taking
-use Rattle.kahn_syntax.specs.Lexemes as terminal
-use Rattle.kahn_syntax.specs.Programs.{number, truth}
+use Rattle.kahn_syntax.specs.Grammar as terminal
+use Rattle.kahn_syntax.specs.Grammar.{number_argument, truth_argument}
 use Rattle.kahn_syntax.proofs.OneTree.{statements_start, Named, named_instances, no_par_end, no_comma, took, further_first, in_pair, process_words}
 use Rattle.kahn_syntax.proofs.Steps.{go, take_token, skip_tail}
 use Rattle.kahn_syntax.proofs.WholeStatements.{whole_statements}
@@ -128,13 +128,13 @@ whole_declarations (d ∷ ds) m s ks r h (y, x, p, g, q) b =
 
 pub whole_argues : (a : ArgumentTree) (m : ℕ) (s : List Part) (ks r : List Terminal) → Argues a ks r → levels s ≤ m → fate m (ArgumentPart ∷ s) ks ≡ fate m s r
 whole_argues (channel n) m s ks r e b = ap (fate m (ArgumentPart ∷ s)) e ∙ go m (ArgumentPart ∷ s) s (name n) r refl b
-whole_argues (truth true) m s ks r e b = ap (fate m (ArgumentPart ∷ s)) e ∙ go m (ArgumentPart ∷ s) s (word True) r refl b
-whole_argues (truth false) m s ks r e b = ap (fate m (ArgumentPart ∷ s)) e ∙ go m (ArgumentPart ∷ s) s (word False) r refl b
-whole_argues (number z) m s ks r e b =
+whole_argues (truth_argument true) m s ks r e b = ap (fate m (ArgumentPart ∷ s)) e ∙ go m (ArgumentPart ∷ s) s (word True) r refl b
+whole_argues (truth_argument false) m s ks r e b = ap (fate m (ArgumentPart ∷ s)) e ∙ go m (ArgumentPart ∷ s) s (word False) r refl b
+whole_argues (number_argument z) m s ks r e b =
     ⊎_elim
-    (λ p. ap (fate m (ArgumentPart ∷ s)) p ∙ go m (ArgumentPart ∷ s) s (terminal.number z) r refl b)
-    (λ (n, x, q, p, e). ap (fate m (ArgumentPart ∷ s)) (p ∙ ap (λ j. sign Minus ∷ j) e) ∙ (go m (ArgumentPart ∷ s) (TokenPart a_number ∷ s) (sign Minus) (terminal.number n ∷ r) refl b
-    ∙ take_token a_number m s (terminal.number n) r refl b))
+    (λ p. ap (fate m (ArgumentPart ∷ s)) p ∙ go m (ArgumentPart ∷ s) s (terminal.numeral z) r refl b)
+    (λ (n, x, q, p, e). ap (fate m (ArgumentPart ∷ s)) (p ∙ ap (λ j. sign Minus ∷ j) e) ∙ (go m (ArgumentPart ∷ s) (TokenPart a_number ∷ s) (sign Minus) (terminal.numeral n ∷ r) refl b
+    ∙ take_token a_number m s (terminal.numeral n) r refl b))
     e
 
 -- the first argument, and the others
@@ -143,9 +143,9 @@ arguments_then s = ArgumentPart ∷ ArgumentsTail ∷ TokenPart (a_sign Close) �
 
 open_arguments : (a : ArgumentTree) (m : ℕ) (s : List Part) (ks r : List Terminal) → Argues a ks r → fate m (ArgumentsPart ∷ s) ks ≡ fate m (arguments_then s) ks
 open_arguments (channel n) m s ks r e = rw e refl
-open_arguments (truth true) m s ks r e = rw e refl
-open_arguments (truth false) m s ks r e = rw e refl
-open_arguments (number z) m s ks r e = ⊎_elim (λ p. rw p refl) (λ (n, x, q, p, e). rw p refl) e
+open_arguments (truth_argument true) m s ks r e = rw e refl
+open_arguments (truth_argument false) m s ks r e = rw e refl
+open_arguments (number_argument z) m s ks r e = ⊎_elim (λ p. rw p refl) (λ (n, x, q, p, e). rw p refl) e
 
 whole_arguments : (xs : List ArgumentTree) (m : ℕ) (s : List Part) (ks r : List Terminal) → Between (StandsFirst (sign Comma)) Argues xs ks (sign Close ∷ r) → levels s ≤ m →
     fate m (ArgumentsPart ∷ s) ks ≡ fate m s r

@@ -8,5 +8,4 @@ pub use Rattle.kahn_syntax.specs.declared.parser.operator.Level.{Level, TheVaria
 pub use Rattle.kahn_streams.specs.declared.span.Span.{Span}
 pub use Rattle.kahn_streams.specs.declared.tree.Action.{Action, Assign, Block', Empty, Held-Action-If-2, If', None', Print, Repeat', Row_of-Statement, Send, Some', While', end_of-Statement, more_of-Statement}
 pub use Rattle.kahn_streams.specs.declared.tree.Form.{Bracket', Conditional', Form, Level', Logical, Negate', Not', Number, Row_of-Operand, Variable, Wait, end_of-Operand, more_of-Operand}
-pub use Rattle.kahn_streams.specs.declared.tree.{Argument.Argument, Declaration.Declaration, Expression.Expression, Instance.Instance, Kind.Kind, Name.Name, Operand.Operand, Operator.Operator}
-pub use Rattle.kahn_streams.specs.declared.tree.{Parameter.Parameter, Process.Process, Program.Program, Role.Role, Statement.Statement, Taking.Taking, Variable.Variable as OneVariable}
+pub use Rattle.kahn_streams.specs.declared.tree.{Argument.Argument, Declaration.Declaration, Expression.Expression, Instance.Instance, Kind.Kind, Name.Name, Operand.Operand, Operator.Operator, Parameter.Parameter, Process.Process, Program.Program, Role.Role, Statement.Statement, Taking.Taking, Variable.Variable as OneVariable}

@@ -2,7 +2,7 @@
 
 ghost use Rattle.std.specs.Prelude.{◌≡◌, IfSome, IfNone};
 ghost use Rattle.kahn_syntax.specs.declared.lexeme.Keyword.{Keyword};
-ghost use Rattle.kahn_syntax.specs.Lexemes.{letters_of, IsSpelled};
+ghost use Rattle.kahn_syntax.specs.Texts.{letters_of, IsSpelled};
 
 use crate::lexeme::Keyword;
 

@@ -6,10 +6,8 @@ ghost use Rattle.std.specs.Prelude.{◌≡◌, ◌≤◌, ◌⊎◌, ℕ, List, 
 ghost use Rattle.kahn_syntax.specs.declared.fault.SyntaxFault.{SyntaxFault};
 ghost use Rattle.kahn_syntax.specs.declared.fault.SyntaxFault.TheVariants.{NoMemory};
 ghost use Rattle.kahn_syntax.specs.declared.lexeme.Lexeme.{Lexeme};
-ghost use Rattle.kahn_syntax.specs.Lexemes.{terminals, AreLexemes};
-ghost use Rattle.kahn_syntax.specs.Spans.{program_of};
-ghost use Rattle.kahn_syntax.specs.Programs.{ProgramTree, Spells, nesting};
-ghost use Rattle.kahn_syntax.specs.Texts.{IsProgram, IsTextFault};
+ghost use Rattle.kahn_syntax.specs.Texts.{terminals, AreLexemes, program_tree, IsProgram, IsTextFault};
+ghost use Rattle.kahn_syntax.specs.Grammar.{ProgramTree, Spells, nesting};
 
 mod build;
 mod cursor;
@@ -30,7 +28,7 @@ use std::alloc::Global;
 pub fn parse(alloc: Global, text: &str) -> Result<Program, SyntaxFault>
     // The lexemes spell it, and each name, statement and expression has the span from its first to its last lexeme.
     ensures spells { IfOk result (IsProgram text.now) }
-    ensures nesting { IfOk result (λ p. nesting (program_of p) ≤ 64) }
+    ensures nesting { IfOk result (λ p. nesting (program_tree p) ≤ 64) }
     // A text that is a program within the limits is refused for want of memory alone.
     ensures found { IfErr result (λ e. (xs : List Lexeme) (t : ProgramTree) → AreLexemes text.now xs → Spells t (terminals text.now xs) → nesting t ≤ 64 → e ≡ NoMemory) }
     ensures fault { IfErr result (IsTextFault text.now) }

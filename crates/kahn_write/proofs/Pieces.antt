@@ -6,7 +6,7 @@ use Rattle.std.proofs.lemmas.List.Folds.{length-flat_map-take}
 use Rattle.std.proofs.lemmas.List.{take_rest}
 use Rattle.std.specs.Io.KnownBytes.{Appends, Keeps}
 use Rattle.std.proofs.KnownBytes.{Appends-nil, Appends-trans, Appends-kept}
-use Rattle.kahn_write.specs.Written.{AppendsFront, Writes}
+use Rattle.kahn_streams.specs.Written.{AppendsFront, Writes}
 
 -- a fault in the text's first piece
 pub stops : (a b : Option (List ℕ)) (t u : List ℕ) → AppendsFront a b t → AppendsFront a b (t ++ u)

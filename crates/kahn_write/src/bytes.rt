@@ -2,7 +2,7 @@
 
 ghost use Rattle.std.specs.Prelude.{◌≡◌, ◌+◌, ◌<◌, ◌≤◌, length, flat_map};
 ghost use Rattle.std.specs.Io.KnownBytes.{Keeps};
-ghost use Rattle.kahn_write.specs.Written.{Writes};
+ghost use Rattle.kahn_streams.specs.Written.{Writes};
 
 use kahn_streams::Steps;
 use std::io::Write;

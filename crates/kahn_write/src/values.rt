@@ -3,7 +3,7 @@
 ghost use Rattle.std.specs.Prelude.{◌≡◌, ℕ, List, ◌+◌, ◌*◌, ◌≤◌, length, drop, ◌++◌, flat_map};
 ghost use Rattle.std.specs.Fmt.{signed_decimal};
 ghost use Rattle.kahn_streams.specs.declared.value.Value.{Value as ValueView};
-ghost use Rattle.kahn_write.specs.Written.{value_text, Writes};
+ghost use Rattle.kahn_streams.specs.Written.{value_text, Writes};
 
 use crate::bytes::{WriteFault, put};
 use itoa::write_digits;
@@ -75,7 +75,7 @@ pub trait Layout {
 pub struct Spaced;
 
 impl Layout for Spaced {
-    ghost use Rattle.kahn_write.specs.Written.{spaced_text};
+    ghost use Rattle.kahn_streams.specs.Written.{spaced_text};
 
     ghost text = { spaced_text };
 
@@ -90,7 +90,7 @@ impl Layout for Spaced {
 pub struct Lined;
 
 impl Layout for Lined {
-    ghost use Rattle.kahn_write.specs.Written.{plain_line};
+    ghost use Rattle.kahn_streams.specs.Written.{plain_line};
 
     ghost text = { plain_line };
 

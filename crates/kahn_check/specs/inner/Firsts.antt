@@ -11,9 +11,9 @@ use Rattle.kahn_streams.specs.declared.tree.Instance.{Instance}
 use Rattle.kahn_streams.specs.declared.tree.Direction.TheVariants.{In, Out}
 use Rattle.kahn_streams.specs.View.{bytes_of}
 use Rattle.kahn_streams.specs.Wiring.{Global, Handover, IsChannel, declared_of, entries, same_direction}
-use Rattle.kahn_check.specs.declared.fault.CheckFault.{CheckFault}
+use Rattle.kahn_streams.specs.declared.fault.CheckFault.{CheckFault}
 use Rattle.kahn_check.specs.Parts.{channel_parts, declaration_parts, first_alone, firsts}
-use Rattle.kahn_check.specs.Faults.{most_channels, most_instances, repeated, too_many}
+use Rattle.kahn_streams.specs.Faults.{most_channels, most_instances, repeated, too_many}
 use Rattle.kahn_check.specs.inner.Tables.{Ends, handed_to, made_in, meant, side_in, taken}
 
 -- ---- tables

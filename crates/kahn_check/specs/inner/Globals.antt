@@ -8,7 +8,7 @@ use Rattle.kahn_streams.specs.declared.tree.Role.{Role}
 use Rattle.kahn_check.specs.declared.globals.Entry.{Entry}
 use Rattle.kahn_check.specs.declared.globals.Entry.TheVariants as E
 use Rattle.kahn_check.specs.declared.globals.Globals.{Globals}
-use Rattle.kahn_check.specs.Faults.{most_channels}
+use Rattle.kahn_streams.specs.Faults.{most_channels}
 use Rattle.kahn_streams.specs.Wires.{process_at}
 use Rattle.kahn_streams.specs.Wiring.{Global, IsChannel, IsProcess, declared_of, entries}
 

@@ -17,10 +17,10 @@ use Rattle.kahn_streams.specs.declared.tree.Direction.TheVariants.{In, Out}
 use Rattle.kahn_streams.specs.declared.tree.Taking.TheVariants as T
 use Rattle.kahn_streams.specs.declared.tree.Argument.TheVariants as A
 use Rattle.kahn_streams.specs.View.{bytes_of}
-use Rattle.kahn_check.specs.Faults.{Checks, wrong, most_instances, misplaced, too_many, miscounted, missing}
+use Rattle.kahn_streams.specs.Faults.{Checks, wrong, most_instances, misplaced, too_many, miscounted, missing}
 use Rattle.kahn_streams.specs.Wiring.{Global, IsChannel, IsProcess, Handover, handed, handed_in, parameters_of, same_direction, side_at}
-use Rattle.kahn_check.specs.declared.fault.CheckFault.{CheckFault}
-use Rattle.kahn_check.specs.declared.fault.CheckFault.TheVariants.{Unknown, ChannelExpected, ValueExpected, NoWriter, NoReader}
+use Rattle.kahn_streams.specs.declared.fault.CheckFault.{CheckFault}
+use Rattle.kahn_streams.specs.declared.fault.CheckFault.TheVariants.{Unknown, ChannelExpected, ValueExpected, NoWriter, NoReader}
 
 -- by a channel's name, the end that has this side of it
 abbrev pub Ends : Type 0

@@ -8,8 +8,8 @@ use Rattle.kahn_streams.specs.declared.tree.Name.{Name}
 use Rattle.kahn_streams.specs.declared.tree.Kind.{Kind}
 use Rattle.kahn_streams.specs.declared.tree.Role.{Role}
 use Rattle.kahn_streams.specs.View.{bytes_of}
-use Rattle.kahn_check.specs.Faults.{Checks}
-use Rattle.kahn_check.specs.declared.fault.CheckFault.{CheckFault}
+use Rattle.kahn_streams.specs.Faults.{Checks}
+use Rattle.kahn_streams.specs.declared.fault.CheckFault.{CheckFault}
 use Rattle.kahn_check.specs.inner.Tables.{Ends, sides_in}
 use Rattle.kahn_streams.specs.Wires.{Line, shown}
 use Rattle.kahn_streams.specs.declared.wires.Wire.{Wire}

@@ -4,7 +4,7 @@ use Rattle.kahn_syntax.specs.Names.{Item}
 use Rattle.kahn_syntax.specs.declared.lexer.Item.TheVariants as item
 use Rattle.kahn_syntax.specs.declared.lexer.forms.Form.{Form}
 use Rattle.kahn_syntax.specs.declared.lexer.forms.Form.TheVariants as form
-use Rattle.kahn_syntax.specs.Lexemes.{IsWord, IsRun, IsSign, IsLexemeAt, IsComment}
+use Rattle.kahn_syntax.specs.Texts.{IsWord, IsRun, IsSign, IsLexemeAt, IsComment}
 
 -- the place after a form
 abbrev pub form_end : Form → ℕ

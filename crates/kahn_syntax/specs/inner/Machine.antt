@@ -6,8 +6,8 @@ use Rattle.kahn_syntax.specs.declared.lexeme.Keyword.TheVariants as keyword
 use Rattle.kahn_syntax.specs.declared.lexeme.Sign.TheVariants as mark
 use Rattle.kahn_syntax.specs.declared.lexeme.Class.TheVariants as class
 use Rattle.kahn_streams.specs.declared.tree.Operator.TheVariants as operator
-use Rattle.kahn_syntax.specs.Lexemes.{letters_of, bytes_of_sign, Terminal, word, sign, name, number}
-use Rattle.kahn_syntax.specs.Trees.{rank}
+use Rattle.kahn_syntax.specs.Grammar.{Terminal, word, sign, name, numeral, rank}
+use Rattle.kahn_syntax.specs.Texts.{letters_of, bytes_of_sign}
 
 -- the operator that a terminal is, where it is one
 abbrev pub operator_of : Terminal → Option Operator
@@ -74,7 +74,7 @@ abbrev pub accepts : Token → Terminal → Bool
 accepts (a_word v) (word w) = bytes_eq (letters_of v) (letters_of w)
 accepts (either u v) (word w) = bytes_eq (letters_of u) (letters_of w) || bytes_eq (letters_of v) (letters_of w)
 accepts (a_sign s) (sign t) = bytes_eq (bytes_of_sign s) (bytes_of_sign t)
-accepts a_number (number z) = true
+accepts a_number (numeral z) = true
 accepts a_name (name n) = true
 accepts (an_operator o) k = rank_or (operator_of k) == rank o
 accepts _ _ = false

@@ -3,11 +3,9 @@ use Rattle.std.specs.Prelude.{◌≡◌, ℕ, List, [], ◌∷◌, ◌++◌, ◌
 use Rattle.kahn_syntax.specs.Names.{Expression, Form, Operator, Statement, Stop, Refused, TooDeep, Class, Lexeme, Keyword, Argument, Declaration}
 use Rattle.kahn_syntax.specs.declared.parser.cursor.Stop.TheVariants.{NoMemory}
 use Rattle.kahn_syntax.specs.declared.lexeme.Sign.TheVariants as mark
-use Rattle.kahn_syntax.specs.Programs.{Between, Ended, DeclarationTree, declaration_nesting, declarations_nesting}
-use Rattle.kahn_syntax.specs.Lexemes.{Terminal, word, sign, terminals, AreProper}
+use Rattle.kahn_syntax.specs.Grammar.{Between, Ended, DeclarationTree, declaration_nesting, declarations_nesting, Terminal, word, sign, operator_terminal, ExpressionTree, binds, Formed, expression_nesting, FormedStatement, FormedStatements, IsSimple, AreSome, statement_nesting, statements_nesting}
+use Rattle.kahn_syntax.specs.Texts.{terminals, AreProper, declaration_tree, expression_tree, statement_tree, statement_trees, FormSpans, Takes, ArgumentSpans, DeclarationSpans, ExpressionSpans, StatementSpans, StatementsSpan}
 use Rattle.kahn_syntax.specs.inner.Machine.{Rung, whole, at, Token, class_of, leads, Part, ProgramPart, ExpressionPart, StatementPart, SimplePart, StatementsTail, TokenPart, levels, Fate, Refuses, TooFar, fate, a_word}
-use Rattle.kahn_syntax.specs.Spans.{declaration_of, expression_of, statement_of, statements_of, FormSpans, Takes, ArgumentSpans, DeclarationSpans, ExpressionSpans, StatementSpans, StatementsSpan}
-use Rattle.kahn_syntax.specs.Trees.{operator_terminal, ExpressionTree, binds, Formed, expression_nesting, FormedStatement, FormedStatements, IsSimple, AreSome, statement_nesting, statements_nesting}
 
 -- an expression that may stand at this level
 abbrev pub FitsLevel : ℕ → ExpressionTree → Type 0
@@ -51,24 +49,24 @@ pub record TreeRead (text : List ℕ) (depth least : ℕ) (parts : List Part) (S
 -- an expression of this level of the grammar
 abbrev pub ExpressionRead : List ℕ → ℕ → Rung → Expression → List Lexeme → List Lexeme → Type 0
 ExpressionRead text depth g e input rest =
-    TreeRead text depth 1 (ExpressionPart g ∷ []) (ExpressionSpans text e) (FitsLevel (at g) (expression_of e)) (expression_nesting (expression_of e)) input rest
+    TreeRead text depth 1 (ExpressionPart g ∷ []) (ExpressionSpans text e) (FitsLevel (at g) (expression_tree e)) (expression_nesting (expression_tree e)) input rest
 
 -- any expression and the keyword after it
 abbrev pub ExpressionBefore : List ℕ → ℕ → Keyword → Expression → List Lexeme → List Lexeme → Type 0
 ExpressionBefore text depth last e input rest =
     TreeRead text depth 1 (ExpressionPart whole ∷ TokenPart (a_word last) ∷ []) (λ xs r. (a : List Lexeme) × ExpressionSpans text e xs a × Takes text (word last) a r)
-    (FitsLevel 0 (expression_of e)) (expression_nesting (expression_of e)) input rest
+    (FitsLevel 0 (expression_tree e)) (expression_nesting (expression_tree e)) input rest
 
 -- a statement that may stand for this part: `else` may follow a simple one
 abbrev pub StatementRead : List ℕ → ℕ → Part → Statement → List Lexeme → List Lexeme → Type 0
 StatementRead text depth p s input rest =
-    TreeRead text depth 0 (p ∷ []) (StatementSpans text s) (FormedStatement (statement_of s) × (p ≡ SimplePart → IsSimple (statement_of s))) (statement_nesting (statement_of s)) input rest
+    TreeRead text depth 0 (p ∷ []) (StatementSpans text s) (FormedStatement (statement_tree s) × (p ≡ SimplePart → IsSimple (statement_tree s))) (statement_nesting (statement_tree s)) input rest
 
 -- the statements of a body or of a block: one or more, with semicolons between
 abbrev pub BodyRead : List ℕ → ℕ → List Statement → List Lexeme → List Lexeme → Type 0
 BodyRead text depth ss input rest =
-    TreeRead text depth 0 (StatementPart ∷ StatementsTail ∷ []) (StatementsSpan text ss) (AreSome (statements_of ss) × FormedStatements (statements_of ss))
-    (statements_nesting (statements_of ss)) input rest
+    TreeRead text depth 0 (StatementPart ∷ StatementsTail ∷ []) (StatementsSpan text ss) (AreSome (statement_trees ss) × FormedStatements (statement_trees ss))
+    (statements_nesting (statement_trees ss)) input rest
 
 -- Where no level is open, a part is read from the input to the rest, and its spans are over the lexemes between.
 pub record PartRead (text : List ℕ) (parts : List Part) (S : List Lexeme → List Lexeme → Type 0) (input rest : List Lexeme) : Type 0 where
@@ -83,7 +81,7 @@ IsShallow d = declaration_nesting d ≤ 64
 
 -- declarations within it
 abbrev pub DeclarationsSpan : List ℕ → List Declaration → List Lexeme → List Lexeme → Type 0
-DeclarationsSpan text ds xs r = (declarations_nesting (map declaration_of ds) ≤ 64) × Ended (Takes text (sign mark.Semicolon)) (DeclarationSpans text) ds xs r
+DeclarationsSpan text ds xs r = (declarations_nesting (map declaration_tree ds) ≤ 64) × Ended (Takes text (sign mark.Semicolon)) (DeclarationSpans text) ds xs r
 
 -- arguments and the bracket behind them
 abbrev pub ClosedArgumentsSpan : List ℕ → List Argument → List Lexeme → List Lexeme → Type 0

@@ -2,7 +2,7 @@
 
 ghost use Rattle.std.specs.Prelude.{◌≡◌, ℕ, ◌+◌, ◌≤◌, ◌<◌, ◌↔◌, ◌∷◌, [], IsTrue, length, slice_index, IfSome, IfNone};
 ghost use Rattle.kahn_syntax.specs.declared.lexeme.Sign.{Sign};
-ghost use Rattle.kahn_syntax.specs.Lexemes.{IsBlank, IsDigit, IsLetter, IsWordByte, IsSign, IsLongest, HasForm, Closes, bytes_of_sign};
+ghost use Rattle.kahn_syntax.specs.Texts.{IsBlank, IsDigit, IsLetter, IsWordByte, IsSign, IsLongest, HasForm, Closes, bytes_of_sign};
 ghost use Rattle.kahn_syntax.specs.inner.Items.{IsOfForm, form_end};
 
 use crate::lexeme::Sign;

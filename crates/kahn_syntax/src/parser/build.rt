@@ -2,8 +2,8 @@
 
 ghost use Rattle.std.specs.Prelude.{◌≡◌, ◌<◌, length, IfOk, IfErr, MatchResult};
 ghost use Rattle.kahn_syntax.specs.declared.parser.cursor.Stop.TheVariants.{NoMemory};
-ghost use Rattle.kahn_syntax.specs.Spans.{expression_of, form_of, Covers};
-ghost use Rattle.kahn_syntax.specs.Trees as tree;
+ghost use Rattle.kahn_syntax.specs.Texts.{expression_tree, form_tree, Covers};
+ghost use Rattle.kahn_syntax.specs.Grammar as tree;
 ghost use Rattle.kahn_syntax.specs.inner.Reads.{SpansOperation};
 
 use crate::lexeme::Lexeme;
@@ -33,7 +33,7 @@ pub fn compared(
     operator: Operator,
     right: Box<Expression>,
 ) -> Result<Form, Stop>
-    ensures built { IfOk result (λ f. form_of f ≡ tree.level (expression_of left.value) (tree.operand operator (expression_of right.value) tree.no_operand)) }
+    ensures built { IfOk result (λ f. form_tree f ≡ tree.level (expression_tree left.value) (tree.operand operator (expression_tree right.value) tree.no_operand)) }
     ensures spans { IfOk result (SpansOperation left.value operator right.value) }
     ensures stop { IfErr result (λ e. e ≡ NoMemory) }
 {

@@ -1,8 +1,7 @@
 //! The lexemes that are still to be read, and why reading stops.
 
 ghost use Rattle.std.specs.Prelude.{◌≡◌, ℕ, ◌≤◌, ◌<◌, ◌+◌, List, [], false, length, IfOk, IfErr, IfSome, IfNone, MatchOption};
-ghost use Rattle.kahn_syntax.specs.Lexemes.{First, AreProper, IsUnsigned};
-ghost use Rattle.kahn_syntax.specs.Spans.{Placed, IsPast, Covers};
+ghost use Rattle.kahn_syntax.specs.Texts.{First, AreProper, IsUnsigned, Placed, IsPast, Covers};
 ghost use Rattle.kahn_syntax.specs.inner.Reads.{IsAbsent};
 ghost use Rattle.kahn_syntax.specs.declared.parser.cursor.Stop.TheVariants.{Refused, TooDeep, NoMemory};
 

@@ -4,9 +4,8 @@ ghost use Rattle.std.specs.Prelude.{◌≡◌, ◌≤◌, ◌<◌, ◌+◌, ◌+
 ghost use Rattle.kahn_syntax.specs.declared.lexeme.Keyword.TheVariants as keyword;
 ghost use Rattle.kahn_syntax.specs.declared.lexeme.Sign.TheVariants as mark;
 ghost use Rattle.kahn_syntax.specs.declared.parser.cursor.Stop.TheVariants.{NoMemory};
-ghost use Rattle.kahn_syntax.specs.Lexemes.{terminals, AreProper};
-ghost use Rattle.kahn_syntax.specs.Programs.{kind_terminal, role_words, taking_words, TakesAll, Head, Parameters, ParameterGroup, Variables, group};
-ghost use Rattle.kahn_syntax.specs.Spans.{process_of, declaration_of, lexemes, IsPast, Takes, DeclarationSpans, ProcessSpans, parameter_with, variable_with};
+ghost use Rattle.kahn_syntax.specs.Texts.{terminals, AreProper, process_tree, declaration_tree, lexemes, IsPast, Takes, DeclarationSpans, ProcessSpans, parameter_with, variable_with};
+ghost use Rattle.kahn_syntax.specs.Grammar.{kind_terminal, role_words, taking_words, TakesAll, Head, Parameters, ParameterGroup, Variables, group};
 ghost use Rattle.kahn_syntax.specs.inner.Machine.{DeclarationsPart, DeclarationPart, ProcessPart, RolePart, GroupsPart, GroupPart, TakingPart, VariablesPart, a_kind, leads, starts, head_parts, declaration_rules};
 ghost use Rattle.kahn_syntax.specs.inner.Reads.{Reads, IsShallow, ParsesPart, DeclarationsSpan};
 
@@ -70,7 +69,7 @@ fn begins_declaration(input: &[Lexeme]) -> bool
 // A declaration.
 fn read_declaration<'t>(alloc: Global, text: &str, input: &'t [Lexeme]) -> Read<'t, Declaration>
     requires proper { AreProper text.now input.now }
-    ensures { ParsesPart result text.now (DeclarationPart ∷ []) (λ r xs l. IsShallow (declaration_of r.0) × DeclarationSpans text.now r.0 xs l) input.now (λ r. r.1.now) }
+    ensures { ParsesPart result text.now (DeclarationPart ∷ []) (λ r xs l. IsShallow (declaration_tree r.0) × DeclarationSpans text.now r.0 xs l) input.now (λ r. r.1.now) }
 {
     match next_kind(input) {
         Some((kind, rest)) => {
@@ -103,7 +102,7 @@ fn read_role(input: &[Lexeme]) -> (Role, &[Lexeme])
 // A process with its body.
 fn read_process<'t>(alloc: Global, text: &str, input: &'t [Lexeme]) -> Read<'t, Process>
     requires proper { AreProper text.now input.now }
-    ensures { ParsesPart result text.now (ProcessPart ∷ []) (λ r xs l. IsShallow (process_of r.0) × ProcessSpans text.now r.0 xs l) input.now (λ r. r.1.now) }
+    ensures { ParsesPart result text.now (ProcessPart ∷ []) (λ r xs l. IsShallow (process_tree r.0) × ProcessSpans text.now r.0 xs l) input.now (λ r. r.1.now) }
 {
     let rest = expect(input, Class::Word(Keyword::Process))?;
     let (name, rest) = read_name(alloc, text, rest)?;

@@ -3,8 +3,7 @@
 ghost use Rattle.std.specs.Prelude.{◌≡◌, ℕ, ◌≤◌, ◌+◌, length, Some};
 ghost use Rattle.kahn_syntax.specs.declared.lexeme.Keyword.TheVariants as keyword;
 ghost use Rattle.kahn_syntax.specs.declared.lexeme.Class.TheVariants as class;
-ghost use Rattle.kahn_syntax.specs.Lexemes.{First, AreProper};
-ghost use Rattle.kahn_syntax.specs.Spans.{IsPast};
+ghost use Rattle.kahn_syntax.specs.Texts.{First, AreProper, IsPast};
 ghost use Rattle.kahn_syntax.specs.inner.Reads.{ParsesBefore, ParsesExpression};
 ghost use Rattle.kahn_syntax.specs.inner.Machine.{a_word, class_of, denials, factors, relations, rung_of, tighter, whole};
 

@@ -2,10 +2,9 @@
 
 ghost use Rattle.std.specs.Prelude.{◌≡◌, ◌+◌, ◌<◌, [], ◌∷◌, ◌⊎◌, false, length, IfOk, IfErr};
 ghost use Rattle.kahn_syntax.specs.declared.parser.cursor.Stop.TheVariants.{Refused, NoMemory};
-ghost use Rattle.kahn_syntax.specs.Lexemes.{name, terminals, AreProper};
+ghost use Rattle.kahn_syntax.specs.Grammar.{name, SomeNames};
+ghost use Rattle.kahn_syntax.specs.Texts.{terminals, AreProper, name_of, lexemes, NameSpans};
 ghost use Rattle.kahn_syntax.specs.inner.Machine.{leads, TokenPart, NamesTail, a_name};
-ghost use Rattle.kahn_syntax.specs.Spans.{name_of, lexemes, NameSpans};
-ghost use Rattle.kahn_syntax.specs.Programs.{SomeNames};
 ghost use Rattle.kahn_syntax.specs.inner.Reads.{ParsesPart};
 
 use crate::lexeme::{Class, Lexeme, Sign};

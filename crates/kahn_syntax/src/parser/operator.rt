@@ -2,10 +2,9 @@
 
 ghost use Rattle.std.specs.Prelude.{◌≡◌, ◌+◌, List, ℕ, ◌∷◌, false, length, IfSome, IfNone};
 ghost use Rattle.kahn_syntax.specs.declared.lexeme.Keyword.TheVariants as keyword;
-ghost use Rattle.kahn_syntax.specs.Lexemes.{word, terminals, AreProper};
+ghost use Rattle.kahn_syntax.specs.Grammar.{word, operator_terminal, rank};
+ghost use Rattle.kahn_syntax.specs.Texts.{terminals, AreProper, IsPast};
 ghost use Rattle.kahn_syntax.specs.inner.Machine.{a_word, at, leads, operator_rules, relations, rung_of, starts};
-ghost use Rattle.kahn_syntax.specs.Trees.{operator_terminal, rank};
-ghost use Rattle.kahn_syntax.specs.Spans.{IsPast};
 
 use crate::lexeme::{Class, Keyword, Lexeme, Sign};
 use crate::parser::cursor::next;

@@ -3,12 +3,10 @@
 ghost use Rattle.std.specs.Prelude.{◌≡◌, ◌≤◌, ◌<◌, ◌+◌, [], ◌∷◌, ℕ, ℤ, neg_ℤ, List, false, length, map, IfOk, IfErr, IfSome, IfNone};
 ghost use Rattle.kahn_syntax.specs.declared.lexeme.Keyword.TheVariants as keyword;
 ghost use Rattle.kahn_syntax.specs.declared.lexeme.Sign.TheVariants as mark;
-ghost use Rattle.kahn_syntax.specs.Lexemes.{Terminal, terminals, AreProper, sign, number};
+ghost use Rattle.kahn_syntax.specs.Grammar.{Terminal, sign, numeral, ProgramTree, Spells, nesting, May};
+ghost use Rattle.kahn_syntax.specs.Texts.{terminals, AreProper, IsFault, program_tree, IsPast, Takes, ArgumentSpans, InstanceSpans, InstancesSpan, ProgramSpans};
 ghost use Rattle.kahn_syntax.specs.inner.Machine.{leads, InstancePart, ArgumentsPart, ArgumentPart, InstancesTail, LastTail, a_number};
-ghost use Rattle.kahn_syntax.specs.Texts.{IsFault};
 ghost use Rattle.kahn_syntax.specs.declared.fault.SyntaxFault.TheVariants as SyntaxFault;
-ghost use Rattle.kahn_syntax.specs.Programs.{ProgramTree, Spells, nesting, May};
-ghost use Rattle.kahn_syntax.specs.Spans.{program_of, IsPast, Takes, ArgumentSpans, InstanceSpans, InstancesSpan, ProgramSpans};
 ghost use Rattle.kahn_syntax.specs.declared.lexeme.Lexeme.{Lexeme};
 ghost use Rattle.kahn_syntax.specs.inner.Reads.{Reads, Halts, ClosedArgumentsSpan, ParsesPart};
 
@@ -24,11 +22,11 @@ use std::alloc::Global;
 pub fn parse_lexemes(alloc: Global, text: &str, lexemes: &[Lexeme]) -> Result<Program, SyntaxFault>
     requires proper { AreProper text.now lexemes.now }
     // The program is spelled by the lexemes, within the limit of nesting, and no other is.
-    ensures spells { IfOk result (λ p. Spells (program_of p) (terminals text.now lexemes.now)) }
+    ensures spells { IfOk result (λ p. Spells (program_tree p) (terminals text.now lexemes.now)) }
     // Each name, statement and expression has the span from its first to its last lexeme.
     ensures spans { IfOk result (λ p. ProgramSpans text.now p lexemes.now) }
-    ensures nesting { IfOk result (λ p. nesting (program_of p) ≤ 64) }
-    ensures only { IfOk result (λ p. (t : ProgramTree) → Spells t (terminals text.now lexemes.now) → t ≡ program_of p) }
+    ensures nesting { IfOk result (λ p. nesting (program_tree p) ≤ 64) }
+    ensures only { IfOk result (λ p. (t : ProgramTree) → Spells t (terminals text.now lexemes.now) → t ≡ program_tree p) }
     // What a program within the limit spells is refused for want of memory alone.
     ensures found { IfErr result (λ e. (t : ProgramTree) → Spells t (terminals text.now lexemes.now) → nesting t ≤ 64 → e ≡ SyntaxFault.NoMemory) }
     // A fault stands at the first lexeme of which it is true, or at the end of the text.
@@ -71,7 +69,7 @@ fn fault_of(text: &str, lexemes: &[Lexeme], stop: Stop) -> SyntaxFault
 // A whole program.
 fn read_program(alloc: Global, text: &str, lexemes: &[Lexeme]) -> Result<Program, Stop>
     requires proper { AreProper text.now lexemes.now }
-    ensures read { IfOk result (λ p. (nesting (program_of p) ≤ 64) × ProgramSpans text.now p lexemes.now) }
+    ensures read { IfOk result (λ p. (nesting (program_tree p) ≤ 64) × ProgramSpans text.now p lexemes.now) }
     ensures halts { IfErr result (λ e. Halts (terminals text.now lexemes.now) e) }
 {
     let rest = expect(lexemes, Class::Word(Keyword::Begin))?;
@@ -186,7 +184,7 @@ fn read_argument<'t>(alloc: Global, text: &str, input: &'t [Lexeme]) -> Read<'t,
 // The number that stands first, with the other sign, and the lexemes after it.
 #[tactic(auto, using(crate::proofs::Negative::negative_fits))]
 fn next_negative(input: &[Lexeme]) -> Option<(i64, &[Lexeme])>
-    ensures number { IfSome result (λ r. (n : ℤ) × (r.0 ≡ neg_ℤ n) × ((text : List ℕ) → terminals text input.now ≡ number n ∷ terminals text r.1.now)) }
+    ensures number { IfSome result (λ r. (n : ℤ) × (r.0 ≡ neg_ℤ n) × ((text : List ℕ) → terminals text input.now ≡ numeral n ∷ terminals text r.1.now)) }
     ensures passed { IfSome result (λ r. IsPast input.now r.1.now) }
     ensures shorter { IfSome result (λ r. length input.now ≡ length r.1.now + 1) }
     ensures proper { IfSome result (λ r. (text : List ℕ) → AreProper text input.now → AreProper text r.1.now) }

@@ -3,8 +3,7 @@
 ghost use Rattle.std.specs.Prelude.{◌≡◌, ◌≤◌, ◌+◌, [], ◌∷◌, true, length, MatchResult};
 ghost use Rattle.kahn_syntax.specs.declared.lexeme.Keyword.TheVariants as keyword;
 ghost use Rattle.kahn_syntax.specs.declared.lexeme.Class.TheVariants as class;
-ghost use Rattle.kahn_syntax.specs.Lexemes.{terminals, First, AreProper};
-ghost use Rattle.kahn_syntax.specs.Spans.{IsPast};
+ghost use Rattle.kahn_syntax.specs.Texts.{terminals, First, AreProper, IsPast};
 ghost use Rattle.kahn_syntax.specs.inner.Reads.{ParsesStatement, BodyRead, Stops};
 ghost use Rattle.kahn_syntax.specs.inner.Machine.{leads, StatementPart, SimplePart, StatementsTail, a_name};
 

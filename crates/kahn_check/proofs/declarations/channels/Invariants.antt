@@ -2,7 +2,7 @@ use Rattle.std.proofs.Common.{◌≡◌, ◌≤◌, ◌+◌, ◌++◌, List, dro
 use Rattle.kahn_streams.specs.declared.tree.Declaration.{Declaration}
 use Rattle.kahn_check.specs.inner.Globals.{known, ArePlaced}
 use Rattle.kahn_streams.specs.Wiring.{entries}
-use Rattle.kahn_check.specs.Faults.{most_channels, channel_faults}
+use Rattle.kahn_streams.specs.Faults.{most_channels, channel_faults}
 use Rattle.kahn_streams.proofs.Handed.{as_channels}
 use Rattle.kahn_check.proofs.declarations.channels.Given as goal
 

@@ -4,7 +4,7 @@ use Rattle.std.specs.Map.{lookup}
 use Rattle.kahn_streams.specs.declared.tree.Declaration.TheVariants as D
 use Rattle.kahn_streams.specs.View.{bytes_of}
 use Rattle.kahn_check.specs.inner.Globals.{known, ArePlaced}
-use Rattle.kahn_check.specs.Faults.{most_channels, channel_faults, process_faults, declaration_faults}
+use Rattle.kahn_streams.specs.Faults.{most_channels, channel_faults, process_faults, declaration_faults}
 use Rattle.kahn_streams.specs.Wiring.{entries, declared_of, IsProcess}
 use Rattle.kahn_streams.proofs.Handed.{as_channels}
 use Rattle.kahn_check.proofs.Declared.{channels_done, more_declared, process_done, more_process}

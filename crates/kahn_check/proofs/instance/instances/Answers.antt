@@ -1,7 +1,7 @@
 use Rattle.std.proofs.Common.{rules, arith, ◌≡◌, ◌∙◌, sym, ap, subst, ◌<◌, ◌+◌, ◌∷◌, ◌++◌, [], Some, IfSome, drop, map, length}
 use Rattle.std.proofs.lemmas.Grind.{common_steps}
 use Rattle.kahn_streams.specs.declared.tree.Direction.TheVariants.{In, Out}
-use Rattle.kahn_check.specs.Faults.{most_instances, IsMet}
+use Rattle.kahn_streams.specs.Faults.{most_instances, IsMet}
 use Rattle.kahn_check.specs.declared.globals.Entry.TheVariants as E
 use Rattle.kahn_check.specs.inner.Globals.{known, IsPlaced}
 use Rattle.kahn_streams.specs.Wires.{process_at}

@@ -1,5 +1,5 @@
 use Rattle.std.proofs.Common.{rules, ◌≡◌, ◌∙◌, subst, [], map}
-use Rattle.kahn_check.specs.Faults.{IsMet, declaration_faults}
+use Rattle.kahn_streams.specs.Faults.{IsMet, declaration_faults}
 use Rattle.kahn_check.specs.inner.Globals.{known}
 use Rattle.kahn_check.specs.inner.Tables.{seats_faults, sides_in}
 use Rattle.kahn_streams.specs.Wiring.{declared_channels}

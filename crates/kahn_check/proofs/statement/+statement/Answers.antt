@@ -1,6 +1,6 @@
 use Rattle.std.proofs.Common.{rules, arith, ◌≡◌, Ok, ◌++◌}
 use Rattle.kahn_check.proofs.Walk.{row_listed, verdict_ok, verdict_err}
-use Rattle.kahn_check.specs.Faults.{verdict, find, faults_in, kind_of, misused, wrong, kind_in}
+use Rattle.kahn_streams.specs.Faults.{verdict, find, faults_in, kind_of, misused, wrong, kind_in}
 use Rattle.kahn_streams.specs.View.{bytes_of}
 use Rattle.kahn_streams.specs.declared.tree.Direction.TheVariants.{Out}
 use Rattle.kahn_streams.specs.declared.tree.Action.TheViews.{the_lemmas}

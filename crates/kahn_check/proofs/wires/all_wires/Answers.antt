@@ -1,7 +1,7 @@
 use Rattle.std.proofs.Common.{rules, arith, ◌≡◌, ◌+◌, refl, ◌∙◌, sym, ap, subst, ◌∷◌, ◌++◌, [], drop, map}
 use Rattle.std.proofs.lemmas.Grind.{common_steps}
 use Rattle.kahn_streams.specs.declared.tree.Declaration.TheVariants as D
-use Rattle.kahn_check.specs.Faults.{IsMet}
+use Rattle.kahn_streams.specs.Faults.{IsMet}
 use Rattle.kahn_check.specs.inner.Tables.{sides_in}
 use Rattle.kahn_check.specs.inner.Wires.{as_lines, lines_in}
 use Rattle.kahn_streams.specs.Wires.{shown}

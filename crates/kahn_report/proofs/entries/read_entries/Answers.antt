@@ -3,7 +3,7 @@ use Rattle.std.proofs.lemmas.List.{length_push, map-append}
 use Rattle.std.proofs.lemmas.Iterator.Splits.{YieldsList-from_slice_split}
 use Rattle.std.proofs.lemmas.Iterator.Consumers.{YieldsList-turn, YieldsList-end}
 use Rattle.kahn_streams.specs.Inputs.{entry_of}
-use Rattle.kahn_report.specs.Inputs.{text_lines, content, IsEntry, AreBlanks, HasNoHead, HasNoValues, most_input_bytes}
+use Rattle.kahn_report.specs.Formats.{text_lines, content, IsEntry, AreBlanks, HasNoHead, HasNoValues, most_input_bytes}
 use Rattle.kahn_report.proofs.Parts.{from_part}
 use Rattle.kahn_report.proofs.Lines.{all_blank, all_entry, good_more, first_such, all_read}
 use Rattle.kahn_report.proofs.entries.read_entries.Goals as goal

@@ -1,7 +1,7 @@
 -- The entries so far are those of the lines so far, each of which is blank or an entry.
 use Rattle.std.proofs.Common.{◌≡◌, List, ◌++◌, length, map, take, drop, All}
 use Rattle.kahn_streams.specs.Inputs.{Entry, entry_of}
-use Rattle.kahn_report.specs.Inputs.{AreEntries, IsGood, text_lines}
+use Rattle.kahn_report.specs.Formats.{AreEntries, IsGood, text_lines}
 use Rattle.kahn_report.proofs.entries.read_entries.Given as goal
 
 abbrev pub invariant-loop-line : goal.invariant-loop-line

@@ -1,5 +1,5 @@
 use Rattle.std.proofs.Common.{subst}
-use Rattle.kahn_report.specs.Inputs.{AreValues}
+use Rattle.kahn_report.specs.Formats.{AreValues}
 use Rattle.kahn_report.proofs.entries.read_entry.Goals as goal
 
 pub returns-in-Err-NoValue : goal.returns-in-Err-NoValue

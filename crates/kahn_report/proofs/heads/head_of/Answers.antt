@@ -1,5 +1,5 @@
 use Rattle.std.proofs.Common.{◌≡◌, ◌∙◌, sym, subst, All, true}
-use Rattle.kahn_report.specs.Inputs.{HasHead, IsName, is_word_byte}
+use Rattle.kahn_report.specs.Formats.{HasHead, IsName, is_word_byte}
 use Rattle.kahn_report.proofs.Scanned.{found, scanned, all_passed, same_tail}
 use Rattle.kahn_report.proofs.heads.head_of.Goals as goal
 

@@ -1,5 +1,5 @@
 use Rattle.std.proofs.Common.{rules}
-use Rattle.kahn_report.specs.Inputs.{IsName}
+use Rattle.kahn_report.specs.Formats.{IsName}
 use Rattle.kahn_report.proofs.Words.{named}
 use Rattle.kahn_report.proofs.heads.name_of.Goals as goal
 

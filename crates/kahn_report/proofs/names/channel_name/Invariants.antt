@@ -1,6 +1,6 @@
 -- The name is that of the channel with the number that is left, among the declarations that are left.
 use Rattle.std.proofs.Common.{◌≡◌, [], drop, slice_index_or}
-use Rattle.kahn_report.specs.Report.{declared_names}
+use Rattle.kahn_report.specs.Formats.{declared_names}
 use Rattle.kahn_report.proofs.names.channel_name.Given as goal
 
 abbrev pub invariant-loop-declaration : goal.invariant-loop-declaration

@@ -1,4 +1,4 @@
-use Rattle.kahn_report.specs.Report.{ends_text}
+use Rattle.kahn_report.specs.Formats.{ends_text}
 use Rattle.std.proofs.KnownBytes.{Appends-trans}
 use Rattle.kahn_write.proofs.Pieces.{fails, stops, goes_on_front, flushed}
 use Rattle.kahn_report.proofs.news.closing_counted.Goals as goal

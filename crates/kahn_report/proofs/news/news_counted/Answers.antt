@@ -1,5 +1,5 @@
 use Rattle.std.proofs.Common.{rules, ◌≡◌, ◌+◌, ◌≤◌, [], List, ℕ, length, subst}
-use Rattle.kahn_write.specs.Written.{Writes}
+use Rattle.kahn_streams.specs.Written.{Writes}
 use Rattle.kahn_report.proofs.Fresh.{tokens_more}
 use Rattle.kahn_report.proofs.news.news_counted.Goals as goal
 

@@ -1,4 +1,4 @@
-use Rattle.kahn_write.specs.Written.{Writes}
+use Rattle.kahn_streams.specs.Written.{Writes}
 use Rattle.std.proofs.Common.{subst}
 use Rattle.kahn_report.proofs.Fresh.{tokens_plain}
 use Rattle.kahn_report.proofs.plain.plain_opened.Goals as goal

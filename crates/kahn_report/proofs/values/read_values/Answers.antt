@@ -4,7 +4,7 @@ use Rattle.std.proofs.lemmas.List.{length_push}
 use Rattle.std.proofs.lemmas.Iterator.Splits.{YieldsList-from_slice_split}
 use Rattle.std.proofs.lemmas.Iterator.Consumers.{YieldsList-turn, YieldsList-end}
 use Rattle.std.specs.List.{slice_split}
-use Rattle.kahn_report.specs.Inputs.{is_blank}
+use Rattle.kahn_report.specs.Formats.{is_blank}
 use Rattle.kahn_report.proofs.Parts.{from_part, all_skips, only_skips, all_more, only_more, spells_none, spells_all}
 use Rattle.kahn_report.proofs.values.read_values.Goals as goal
 

@@ -2,7 +2,7 @@
 use Rattle.std.proofs.Common.{List, ◌++◌, length, drop}
 use Rattle.std.specs.List.{slice_split}
 use Rattle.kahn_streams.specs.declared.value.Value.{Value}
-use Rattle.kahn_report.specs.Inputs.{SpellsValues, is_blank}
+use Rattle.kahn_report.specs.Formats.{SpellsValues, is_blank}
 use Rattle.kahn_report.proofs.values.read_values.Given as goal
 
 abbrev pub invariant-loop-word : goal.invariant-loop-word

@@ -2,8 +2,8 @@ use Rattle.std.proofs.Common.{rules, ◌<◌, length, ◌++◌, get_or, subst, s
 use Rattle.std.proofs.KnownBytes.{Appends-trans}
 use Rattle.kahn_streams.specs.declared.answer.End.{End}
 use Rattle.kahn_streams.specs.declared.answer.Outcome.TheVariants.{Ended}
-use Rattle.kahn_report.specs.Report.{end_text}
-use Rattle.kahn_write.specs.Written.{AppendsFront}
+use Rattle.kahn_report.specs.Formats.{end_text}
+use Rattle.kahn_streams.specs.Written.{AppendsFront}
 use Rattle.kahn_write.proofs.Pieces.{fails, few_on, goes_on_front, stops}
 use Rattle.kahn_report.proofs.Ends.{ends_split, ends_moved}
 use Rattle.kahn_report.proofs.write.put_ends.Goals as goal

@@ -1,5 +1,5 @@
 use Rattle.std.proofs.Common.{rules}
-use Rattle.kahn_report.specs.Report.{stream_text}
+use Rattle.kahn_report.specs.Formats.{stream_text}
 use Rattle.kahn_write.proofs.Pieces.{fails, loop_fails, loop_few}
 use Rattle.kahn_report.proofs.write.put_streams.Goals as goal
 

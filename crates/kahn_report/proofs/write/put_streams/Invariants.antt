@@ -1,7 +1,7 @@
 -- The lines so far went out, by at most as many writes.
 use Rattle.std.proofs.Common.{◌+◌, ◌≤◌, length, take, flat_map}
 use Rattle.std.specs.Io.KnownBytes.{Appends}
-use Rattle.kahn_report.specs.Report.{stream_text}
+use Rattle.kahn_report.specs.Formats.{stream_text}
 use Rattle.kahn_report.proofs.write.put_streams.Given as goal
 
 abbrev pub invariant-loop-stream : goal.invariant-loop-stream

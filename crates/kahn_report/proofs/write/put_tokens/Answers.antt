@@ -1,5 +1,5 @@
 use Rattle.std.proofs.Common.{flat_map}
-use Rattle.kahn_report.specs.Report.{token_text, line_head}
+use Rattle.kahn_report.specs.Formats.{token_text, line_head}
 use Rattle.kahn_write.proofs.Pieces.{fails, stops, goes_on, goes_on_front}
 use Rattle.kahn_report.proofs.write.put_tokens.Goals as goal
 

@@ -1,5 +1,5 @@
 use Rattle.std.proofs.Common.{flat_map}
-use Rattle.kahn_report.specs.Report.{stream_text, ends_text}
+use Rattle.kahn_report.specs.Formats.{stream_text, ends_text}
 use Rattle.std.proofs.KnownBytes.{Appends-trans}
 use Rattle.kahn_write.proofs.Pieces.{fails, stops, goes_on_front, flushed}
 use Rattle.kahn_report.proofs.write.write_counted.Goals as goal

@@ -3,7 +3,7 @@ use Rattle.std.proofs.lemmas.Grind.{flat_map-append}
 use Rattle.std.proofs.KnownBytes.{Appends-trans}
 use Rattle.std.specs.Slice.Iter.{chunks_rest}
 use Rattle.kahn_streams.specs.declared.token.Token.{Token}
-use Rattle.kahn_write.specs.Written.{AppendsFront}
+use Rattle.kahn_streams.specs.Written.{AppendsFront}
 use Rattle.kahn_write.proofs.Pieces.{fails, few_on, goes_on_front, stops}
 use Rattle.kahn_write.proofs.values.put_values.Goals as goal
 

@@ -1,4 +1,4 @@
-use Rattle.kahn_syntax.proofs.Parsing.{◌≤◌, Ended, Takes, DeclarationSpans, declarations_nesting, DeclarationPart, DeclarationsPart, Semicolon, SignClass, TokenPart, a_sign, arith, call, call_stops, declaration_of, declaration_rules, declarations_end, declarations_next, err_from_is_err_and, expected, false, map, one_lexeme, opens_declarations, refl, rules, sign, nesting_more, starts, subst, sym, terminals, then, then_stops, true, unexpected, [], ◌∷◌, ◌≡◌}
+use Rattle.kahn_syntax.proofs.Parsing.{◌≤◌, Ended, Takes, DeclarationSpans, declarations_nesting, DeclarationPart, DeclarationsPart, Semicolon, SignClass, TokenPart, a_sign, arith, call, call_stops, declaration_tree, declaration_rules, declarations_end, declarations_next, err_from_is_err_and, expected, false, map, one_lexeme, opens_declarations, refl, rules, sign, nesting_more, starts, subst, sym, terminals, then, then_stops, true, unexpected, [], ◌∷◌, ◌≡◌}
 use Rattle.kahn_syntax.proofs.parser.declaration.read_declarations.Goals as goal
 
 pub returns-in_err-declaration : goal.returns-in_err-declaration
@@ -15,7 +15,7 @@ declarations-preserved c =
     record {
       spans = (let T = c.args.text.now in declarations_next T _ _ _ c.args.input.now c.declarations.rest.now c.in_ok-declaration.after.now c.in_ok-left.left.now c.in_ok-push.ensures.items c.declarations.invariant.spans c.in_ok-declaration.ensures.spans.1
           (one_lexeme T (sign Semicolon) c.in_ok-declaration.after.now c.in_ok-left.left.now c.in_ok-left.ensures.passed (c.in_ok-left.ensures.first.1 T)));
-      nesting = subst (λ ds. declarations_nesting (map declaration_of ds) ≤ 64) (sym c.in_ok-push.ensures.items) (nesting_more _ c.in_ok-declaration.declaration c.declarations.invariant.nesting c.in_ok-declaration.ensures.spans.0);
+      nesting = subst (λ ds. declarations_nesting (map declaration_tree ds) ≤ 64) (sym c.in_ok-push.ensures.items) (nesting_more _ c.in_ok-declaration.declaration c.declarations.invariant.nesting c.in_ok-declaration.ensures.spans.0);
       shorter = omega (arith, c.in_ok-left.ensures.shorter, c.in_ok-declaration.ensures.shorter, c.declarations.invariant.shorter);
       proper = c.in_ok-left.ensures.proper c.args.text.now c.in_ok-declaration.ensures.proper;
       reads = (then (then (then (c.declarations.invariant.reads) (opens_declarations c.args.text.now [] c.declarations.rest.now a)) (call c.args.text.now 0 0 (DeclarationPart ∷ []) (TokenPart (a_sign Semicolon) ∷ DeclarationsPart ∷ []) c.declarations.rest.now c.in_ok-declaration.after.now (λ s l. omega (arith, l)) c.in_ok-declaration.ensures.reads)) (expected c.args.text.now 0 (a_sign Semicolon) (DeclarationsPart ∷ []) (SignClass Semicolon) c.in_ok-declaration.after.now c.in_ok-left.left.now (λ s l. omega (arith, l)) refl c.in_ok-left.ensures.first));
@@ -33,7 +33,7 @@ returns c =
 pub declarations-init : goal.declarations-init
 declarations-init c =
     record {
-      nesting = subst (λ ds. declarations_nesting (map declaration_of ds) ≤ 64) (sym c.new-declarations.ensures.items) (omega arith);
+      nesting = subst (λ ds. declarations_nesting (map declaration_tree ds) ≤ 64) (sym c.new-declarations.ensures.items) (omega arith);
       spans = subst (λ ds. Ended (Takes c.args.text.now (sign Semicolon)) (DeclarationSpans c.args.text.now) ds c.args.input.now c.args.input.now) (sym c.new-declarations.ensures.items) refl;
       shorter = omega arith;
       proper = c.requires.proper;

@@ -1,9 +1,9 @@
-use Rattle.kahn_syntax.proofs.Parsing.{Ended, Takes, sign, Semicolon, DeclarationSpans, AreProper, declarations_nesting, DeclarationsPart, Moves, declaration_of, length, map, [], ◌∷◌, ◌≤◌}
+use Rattle.kahn_syntax.proofs.Parsing.{Ended, Takes, sign, Semicolon, DeclarationSpans, AreProper, declarations_nesting, DeclarationsPart, Moves, declaration_tree, length, map, [], ◌∷◌, ◌≤◌}
 use Rattle.kahn_syntax.proofs.parser.declaration.read_declarations.Given as goal
 
 abbrev pub invariant-declarations : goal.invariant-declarations
 invariant-declarations l = record {
-  nesting : declarations_nesting (map declaration_of l.declarations.items) ≤ 64;
+  nesting : declarations_nesting (map declaration_tree l.declarations.items) ≤ 64;
   spans : Ended (Takes l.text (sign Semicolon)) (DeclarationSpans l.text) l.declarations.items l.input l.rest;
   shorter : length l.rest ≤ length l.input;
   proper : AreProper l.text l.rest;

@@ -1,5 +1,5 @@
-use Rattle.kahn_syntax.proofs.Parsing.{nothing, Close, Else, ExpressionPart, ExpressionRead, ExpressionSpans, False, FitsLevel, FormedOperands, If, IsUnsigned, LevelPart, Minus, NameClass, NotWord, Number, Open, OperandsSpan, OperatorsPart, SignClass, Takes, Then, TokenPart, True, Word, a_sign, a_word, ap, arith, at, call, call_stops, choice_parts, compared_fits, comparison, deep, denials, drop, err_from_is_err_and, expected, expression_nesting, expression_of, factor_rules, factors, false, first_of, form_of, formed_next, hidden-the_row-Operand-0, joined_made, joined_nesting, level_chain, level_ends, level_fits, made, name, name_of, no_operand, no_operands, number_fits, one, one_lexeme, only_memory, opened, opens_chain, opens_denial, opens_whole, operands_made, operands_nesting, operands_nesting_next, operands_next, operands_of, operands_row, operands_row_spans, operator_more, operator_terminal, ors, refl, refused, relations, rules, rung_of, sign, starts, subst, sums, sym, terminals, then, then_stops, tighter, to_z-of_z, unexpected, vec_len, w64, whole, word, [], ◌∙◌, ◌∷◌, ◌≡◌}
-use Rattle.kahn_syntax.specs.Lexemes.{number}
+use Rattle.kahn_syntax.proofs.Parsing.{nothing, Close, Else, ExpressionPart, ExpressionRead, ExpressionSpans, False, FitsLevel, FormedOperands, If, IsUnsigned, LevelPart, Minus, NameClass, NotWord, Number, Open, OperandsSpan, OperatorsPart, SignClass, Takes, Then, TokenPart, True, Word, a_sign, a_word, ap, arith, at, call, call_stops, choice_parts, compared_fits, comparison, deep, denials, drop, err_from_is_err_and, expected, expression_nesting, expression_tree, factor_rules, factors, false, first_of, form_tree, formed_next, hidden-the_row-Operand-0, joined_made, joined_nesting, level_chain, level_ends, level_fits, made, name, name_of, no_operand, no_operands, number_fits, one, one_lexeme, only_memory, opened, opens_chain, opens_denial, opens_whole, operands_made, operands_nesting, operands_nesting_next, operands_next, operands_of, operands_row, operands_row_spans, operator_more, operator_terminal, ors, refl, refused, relations, rules, rung_of, sign, starts, subst, sums, sym, terminals, then, then_stops, tighter, to_z-of_z, unexpected, vec_len, w64, whole, word, [], ◌∙◌, ◌∷◌, ◌≡◌}
+use Rattle.kahn_syntax.specs.Grammar.{numeral}
 use Rattle.std.specs.Prelude.{◌==◌, length, true}
 use Rattle.kahn_syntax.proofs.parser.expression.+expression.Goals as goal
 
@@ -31,7 +31,7 @@ read_level-operands-preserved t c =
     record {
       spans = (c.operands.invariant.spans.0, c.operands.invariant.spans.1, operands_next c.args.text.now _ _ _ _ c.operands.rest.now c.in-Some.after.now c.in_ok-expression.left.now c.in_ok-push.ensures.items c.operands.invariant.spans.2 (one_lexeme c.args.text.now (operator_terminal c.in-Some.operator) c.operands.rest.now c.in-Some.after.now c.in-Some.ensures.passed (c.in-Some.ensures.first c.args.text.now)) v.spans);
       formed = formed_next c.args.level _ _ _ c.in_ok-push.ensures.items c.operands.invariant.formed c.in-Some.ensures.ranked v.formed;
-      nesting = operands_nesting_next _ (expression_of c.in_ok-first.first.value) _ _ _ c.in_ok-push.ensures.items c.operands.invariant.nesting v.nesting;
+      nesting = operands_nesting_next _ (expression_tree c.in_ok-first.first.value) _ _ _ c.in_ok-push.ensures.items c.operands.invariant.nesting v.nesting;
       shorter = omega (arith, c.in-Some.ensures.shorter, v.shorter, c.operands.invariant.shorter);
       proper = v.proper;
       reads = (then (then (c.operands.invariant.reads) (operator_more c.args.text.now c.args.depth c.args.level c.in-Some.operator [] c.operands.rest.now c.in-Some.after.now (λ s l. omega (arith, l, c.requires.1.1.0)) c.in-Some.ensures.ranked (c.in-Some.ensures.first c.args.text.now))) (call c.args.text.now c.args.depth c.args.depth (ExpressionPart (tighter (rung_of c.args.level)) ∷ []) (OperatorsPart (rung_of c.args.level) ∷ []) c.in-Some.after.now c.in_ok-expression.left.now (λ s l. omega (arith, l, c.requires.1.1.0)) v.reads));
@@ -300,12 +300,12 @@ read_level-returns t c =
     let first = c.in_ok-first.first.value in
     let further = c.operands.further in
     let l : vec_len further ≡ length further.items = search rules in
-    let m = joined_made (form_of first.form) further.items (operands_row (hidden-the_row-Operand-0 further)) (operands_made further)
+    let m = joined_made (form_tree first.form) further.items (operands_row (hidden-the_row-Operand-0 further)) (operands_made further)
     (λ e. let t : c.is_empty.result ≡ true = c.is_empty.ensures ∙ ap (λ n. n == 0) (l ∙ ap length e) in cc (t, c.if-is_empty.false)) in
     made T c.args.depth (rung_of c.args.level) _ c.args.input.now c.operands.rest.now (λ span h. record {
       spans = (h, (i.spans.0, i.spans.1, operands_row_spans T further i.spans.0 c.operands.rest.now i.spans.2));
       formed = subst (FitsLevel (at (rung_of c.args.level))) (sym m) (level_fits c.args.level _ _ c.in_ok-first.ensures.formed i.formed);
-      nesting = omega (arith, ap expression_nesting m, joined_nesting (expression_of first) (operands_of further.items), i.nesting);
+      nesting = omega (arith, ap expression_nesting m, joined_nesting (expression_tree first) (operands_of further.items), i.nesting);
       shorter = i.shorter;
       proper = i.proper;
       reads = then i.reads (nothing T c.args.depth (OperatorsPart (rung_of c.args.level)) [] c.operands.rest.now refl (c.in_default.ensures.lacks T));
@@ -318,14 +318,14 @@ read_factor-returns-in-Some-Number-default t c =
     made T c.args.depth factors _ c.args.input.now c.in-Some-Number-default.rest.now (λ at h. record {
       spans = let u = subst IsUnsigned c.in-Some-Number-default.field-0-0-is (c.in-Some-Number-default.ensures.unsigned T c.requires.1.1.1) in (
         h,
-        subst (λ z. Takes T (number z) c.args.input.now c.in-Some-Number-default.rest.now) (sym (to_z-of_z w64 c.in-Some-Number-default.number (number_fits c.in-Some-Number-default.number u.0 u.1 u.2)))
-            (one_lexeme T (number c.in-Some-Number-default.number) c.args.input.now c.in-Some-Number-default.rest.now c.in-Some-Number-default.ensures.passed ((first_of _ (Number c.in-Some-Number-default.number) c.args.input.now c.in-Some-Number-default.rest.now c.in-Some-Number-default.field-0-0-is c.in-Some-Number-default.ensures.first.0).1 T)),
+        subst (λ z. Takes T (numeral z) c.args.input.now c.in-Some-Number-default.rest.now) (sym (to_z-of_z w64 c.in-Some-Number-default.number (number_fits c.in-Some-Number-default.number u.0 u.1 u.2)))
+            (one_lexeme T (numeral c.in-Some-Number-default.number) c.args.input.now c.in-Some-Number-default.rest.now c.in-Some-Number-default.ensures.passed ((first_of _ (Number c.in-Some-Number-default.number) c.args.input.now c.in-Some-Number-default.rest.now c.in-Some-Number-default.field-0-0-is c.in-Some-Number-default.ensures.first.0).1 T)),
       );
       formed = (omega arith, tt);
       nesting = omega (arith, c.requires.1.1.0);
       shorter = omega (arith, c.in-Some-Number-default.ensures.first.1);
       proper = c.in-Some-Number-default.ensures.proper T c.requires.1.1.1;
-      reads = one T c.args.depth (ExpressionPart factors) [] [] (number c.in-Some-Number-default.number) c.args.input.now c.in-Some-Number-default.rest.now (λ s l. omega (arith, l, c.requires.1.1.0)) (λ s. refl) ((first_of _ (Number c.in-Some-Number-default.number) c.args.input.now c.in-Some-Number-default.rest.now (c.in-Some-Number-default.field-0-0-is) c.in-Some-Number-default.ensures.first.0).1 T);
+      reads = one T c.args.depth (ExpressionPart factors) [] [] (numeral c.in-Some-Number-default.number) c.args.input.now c.in-Some-Number-default.rest.now (λ s l. omega (arith, l, c.requires.1.1.0)) (λ s. refl) ((first_of _ (Number c.in-Some-Number-default.number) c.args.input.now c.in-Some-Number-default.rest.now (c.in-Some-Number-default.field-0-0-is) c.in-Some-Number-default.ensures.first.0).1 T);
     })
     c.made.result (λ x. x.0.value) (λ x. x.1.now) c.made.ensures
 

@@ -1,4 +1,4 @@
-use Rattle.kahn_syntax.proofs.Parsing.{AreProper, ExpressionPart, ExpressionSpans, FormedOperands, Lexeme, List, Moves, OperandsSpan, OperatorsPart, at, expression_nesting, expression_of, height, length, max, operands_nesting, operands_of, rung_of, [], ◌*◌, ◌+◌, ◌∷◌, ◌≤◌}
+use Rattle.kahn_syntax.proofs.Parsing.{AreProper, ExpressionPart, ExpressionSpans, FormedOperands, Lexeme, List, Moves, OperandsSpan, OperatorsPart, at, expression_nesting, expression_tree, height, length, max, operands_nesting, operands_of, rung_of, [], ◌*◌, ◌+◌, ◌∷◌, ◌≤◌}
 use Rattle.kahn_syntax.proofs.parser.expression.+expression.Given as goal
 
 abbrev pub decreases-read_before : goal.decreases-read_before
@@ -26,7 +26,7 @@ abbrev pub invariant-read_level-operands : goal.invariant-read_level-operands
 invariant-read_level-operands l = record {
   spans : (a : List Lexeme) × ExpressionSpans l.text l.first.value l.input a × OperandsSpan l.text l.further.items a l.rest;
   formed : FormedOperands (at (rung_of l.level)) (operands_of l.further.items);
-  nesting : l.depth + max (expression_nesting (expression_of l.first.value)) (operands_nesting (operands_of l.further.items)) ≤ 64;
+  nesting : l.depth + max (expression_nesting (expression_tree l.first.value)) (operands_nesting (operands_of l.further.items)) ≤ 64;
   shorter : length l.rest + 1 ≤ length l.input;
   proper : AreProper l.text l.rest;
   reads : Moves l.text l.depth (ExpressionPart (rung_of l.level) ∷ []) (OperatorsPart (rung_of l.level) ∷ []) l.input l.rest;

@@ -1,5 +1,5 @@
 use Rattle.kahn_syntax.proofs.Parsing.{one_tree, program_spelled}
-use Rattle.kahn_syntax.specs.Lexemes.{terminals}
+use Rattle.kahn_syntax.specs.Texts.{terminals}
 use Rattle.kahn_syntax.proofs.parser.program.parse_lexemes.Goals as goal
 
 pub returns-in-Ok-clause-spells : goal.returns-in-Ok-clause-spells

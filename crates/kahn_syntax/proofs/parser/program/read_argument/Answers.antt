@@ -1,5 +1,5 @@
 use Rattle.kahn_syntax.proofs.Parsing.{ArgumentPart, False, IsUnsigned, Minus, NameClass, Number, Refused, SignClass, Takes, TokenPart, True, Word, a_number, absent, ap, argument_rules, arith, err_from_is_err_and, false, first_of, inl, inr, length, name, name_of, number_fits, one, one_lexeme, only_memory, refl, refused, rules, sign, starts, subst, sym, terminals, then, then_stops, to_z-of_z, token, w64, word, [], ◌∙◌, ◌∷◌, ◌≡◌}
-use Rattle.kahn_syntax.specs.Lexemes.{number}
+use Rattle.kahn_syntax.specs.Grammar.{numeral}
 use Rattle.kahn_syntax.proofs.parser.program.read_argument.Goals as goal
 
 pub returns-in_err-name-in-Some-Name-default : goal.returns-in_err-name-in-Some-Name-default
@@ -20,12 +20,12 @@ returns-in-Some-Number-default c =
       spans = let T = c.args.text.now in
           let u = subst IsUnsigned c.in-Some-Number-default.field-0-0-is (c.in-Some-Number-default.ensures.unsigned T c.requires.proper) in (
             c.reach.ensures,
-            inl (subst (λ z. Takes T (number z) c.args.input.now c.in-Some-Number-default.rest.now) (sym (to_z-of_z w64 c.in-Some-Number-default.number (number_fits c.in-Some-Number-default.number u.0 u.1 u.2)))
-                (one_lexeme T (number c.in-Some-Number-default.number) c.args.input.now c.in-Some-Number-default.rest.now c.in-Some-Number-default.ensures.passed ((first_of _ (Number c.in-Some-Number-default.number) c.args.input.now c.in-Some-Number-default.rest.now c.in-Some-Number-default.field-0-0-is c.in-Some-Number-default.ensures.first.0).1 T))),
+            inl (subst (λ z. Takes T (numeral z) c.args.input.now c.in-Some-Number-default.rest.now) (sym (to_z-of_z w64 c.in-Some-Number-default.number (number_fits c.in-Some-Number-default.number u.0 u.1 u.2)))
+                (one_lexeme T (numeral c.in-Some-Number-default.number) c.args.input.now c.in-Some-Number-default.rest.now c.in-Some-Number-default.ensures.passed ((first_of _ (Number c.in-Some-Number-default.number) c.args.input.now c.in-Some-Number-default.rest.now c.in-Some-Number-default.field-0-0-is c.in-Some-Number-default.ensures.first.0).1 T))),
           );
       shorter = omega (arith, c.in-Some-Number-default.ensures.first.1);
       proper = c.in-Some-Number-default.ensures.proper c.args.text.now c.requires.proper;
-      reads = one c.args.text.now 0 ArgumentPart [] [] (number c.in-Some-Number-default.number) c.args.input.now c.in-Some-Number-default.rest.now (λ s l. omega (arith, l)) (λ s. refl) ((first_of _ (Number c.in-Some-Number-default.number) c.args.input.now c.in-Some-Number-default.rest.now (c.in-Some-Number-default.field-0-0-is) c.in-Some-Number-default.ensures.first.0).1 c.args.text.now);
+      reads = one c.args.text.now 0 ArgumentPart [] [] (numeral c.in-Some-Number-default.number) c.args.input.now c.in-Some-Number-default.rest.now (λ s l. omega (arith, l)) (λ s. refl) ((first_of _ (Number c.in-Some-Number-default.number) c.args.input.now c.in-Some-Number-default.rest.now (c.in-Some-Number-default.field-0-0-is) c.in-Some-Number-default.ensures.first.0).1 c.args.text.now);
     }
 
 pub returns-in-Some-Word-True-default : goal.returns-in-Some-Word-True-default
@@ -58,12 +58,12 @@ returns-in-Some c =
           c.in-Some-Sign-Minus-default.rest.now,
           search rules,
           (one_lexeme T (sign Minus) c.args.input.now c.in-Some-Sign-Minus-default.rest.now c.in-Some-Sign-Minus-default.ensures.passed ((first_of _ (SignClass Minus) c.args.input.now c.in-Some-Sign-Minus-default.rest.now (c.in-Some-Sign-Minus-default.field-0-0-is ∙ ap SignClass c.in-Some-Sign-Minus-default.field-0-0-0-is) c.in-Some-Sign-Minus-default.ensures.first.0).1 T)),
-          one_lexeme T (number c.in-Some.ensures.number.0) c.in-Some-Sign-Minus-default.rest.now c.in-Some.after.now c.in-Some.ensures.passed (c.in-Some.ensures.number.2 T),
+          one_lexeme T (numeral c.in-Some.ensures.number.0) c.in-Some-Sign-Minus-default.rest.now c.in-Some.after.now c.in-Some.ensures.passed (c.in-Some.ensures.number.2 T),
         ),
       );
       shorter = omega (arith, c.in-Some-Sign-Minus-default.ensures.first.1, c.in-Some.ensures.shorter);
       proper = c.in-Some.ensures.proper c.args.text.now (c.in-Some-Sign-Minus-default.ensures.proper c.args.text.now c.requires.proper);
-      reads = then (one c.args.text.now 0 ArgumentPart [] (TokenPart a_number ∷ []) (sign Minus) c.args.input.now c.in-Some-Sign-Minus-default.rest.now (λ s l. omega (arith, l)) (λ s. refl) ((first_of _ (SignClass Minus) c.args.input.now c.in-Some-Sign-Minus-default.rest.now (c.in-Some-Sign-Minus-default.field-0-0-is ∙ ap SignClass c.in-Some-Sign-Minus-default.field-0-0-0-is) c.in-Some-Sign-Minus-default.ensures.first.0).1 c.args.text.now)) (token c.args.text.now 0 a_number [] (number c.in-Some.ensures.number.0) c.in-Some-Sign-Minus-default.rest.now c.in-Some.after.now (λ s l. omega (arith, l)) refl (c.in-Some.ensures.number.2 c.args.text.now));
+      reads = then (one c.args.text.now 0 ArgumentPart [] (TokenPart a_number ∷ []) (sign Minus) c.args.input.now c.in-Some-Sign-Minus-default.rest.now (λ s l. omega (arith, l)) (λ s. refl) ((first_of _ (SignClass Minus) c.args.input.now c.in-Some-Sign-Minus-default.rest.now (c.in-Some-Sign-Minus-default.field-0-0-is ∙ ap SignClass c.in-Some-Sign-Minus-default.field-0-0-0-is) c.in-Some-Sign-Minus-default.ensures.first.0).1 c.args.text.now)) (token c.args.text.now 0 a_number [] (numeral c.in-Some.ensures.number.0) c.in-Some-Sign-Minus-default.rest.now c.in-Some.after.now (λ s l. omega (arith, l)) refl (c.in-Some.ensures.number.2 c.args.text.now));
     }
 
 pub returns-in_ok-name-in-Some-Name-default : goal.returns-in_ok-name-in-Some-Name-default

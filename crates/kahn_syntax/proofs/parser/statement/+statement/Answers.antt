@@ -1,4 +1,4 @@
-use Rattle.kahn_syntax.proofs.Parsing.{block, statements_made, statements_row_spans, expression_nesting, expression_of, Formed, ExpressionSpans, Begin, Do, Else, ElseTail, End, ExpressionPart, ExpressionRead, FormedStatement, FormedStatements, If, IsSimple, LevelPart, NameClass, Print, Repeat, Semicolon, Send, SignClass, SimplePart, SomeStatements, StatementPart, StatementRead, StatementSpans, StatementsTail, Takes, Then, TokenPart, While, Word, a_name, a_sign, a_word, ap, arith, call, call_stops, conditional_parts, deep, drop, ends, err_from_is_err_and, expected, false, first_of, formed_statements_next, goes, last_member, leads, level_ends, nesting_next, next_member, nothing, one, one_lexeme, opened_simple, opens_simple, other_rules, refl, rules, sign, simple_rules, some_between, some_more, some_next, starts, statement_nesting, statement_of, statements_nesting, statements_of, subst, sym, terminals, then, then_stops, unexpected, while_parts, whole, word, [], ◌++◌, ◌∙◌, ◌∷◌, ◌≡◌}
+use Rattle.kahn_syntax.proofs.Parsing.{block, statements_made, statements_row_spans, expression_nesting, expression_tree, Formed, ExpressionSpans, Begin, Do, Else, ElseTail, End, ExpressionPart, ExpressionRead, FormedStatement, FormedStatements, If, IsSimple, LevelPart, NameClass, Print, Repeat, Semicolon, Send, SignClass, SimplePart, SomeStatements, StatementPart, StatementRead, StatementSpans, StatementsTail, Takes, Then, TokenPart, While, Word, a_name, a_sign, a_word, ap, arith, call, call_stops, conditional_parts, deep, drop, ends, err_from_is_err_and, expected, false, first_of, formed_statements_next, goes, last_member, leads, level_ends, nesting_next, next_member, nothing, one, one_lexeme, opened_simple, opens_simple, other_rules, refl, rules, sign, simple_rules, some_between, some_more, some_next, starts, statement_nesting, statement_tree, statements_nesting, statement_trees, subst, sym, terminals, then, then_stops, unexpected, while_parts, whole, word, [], ◌++◌, ◌∙◌, ◌∷◌, ◌≡◌}
 use Rattle.kahn_syntax.proofs.parser.statement.+statement.Goals as goal
 
 pub read_statement-read_if-requires : goal.read_statement-read_if-requires
@@ -139,8 +139,8 @@ read_statement-returns-in_ok-turn-in-Some-Word-While-default t c =
           c.in_ok-turn-in-Some-Word-While-default.ensures.spans,
         ),
       );
-      formed = ((subst (λ y. Formed (expression_of y)) (sym c.into_inner.ensures) c.in_ok-test-in-Some-Word-While-default.ensures.formed.1, c.in_ok-turn-in-Some-Word-While-default.ensures.formed.0), λ e. absurd cc);
-      nesting = omega (arith, ap (λ y. expression_nesting (expression_of y)) c.into_inner.ensures, c.in_ok-inner-in-Some-Word-While-default.ensures.deeper.0, c.in_ok-test-in-Some-Word-While-default.ensures.nesting, c.in_ok-turn-in-Some-Word-While-default.ensures.nesting);
+      formed = ((subst (λ y. Formed (expression_tree y)) (sym c.into_inner.ensures) c.in_ok-test-in-Some-Word-While-default.ensures.formed.1, c.in_ok-turn-in-Some-Word-While-default.ensures.formed.0), λ e. absurd cc);
+      nesting = omega (arith, ap (λ y. expression_nesting (expression_tree y)) c.into_inner.ensures, c.in_ok-inner-in-Some-Word-While-default.ensures.deeper.0, c.in_ok-test-in-Some-Word-While-default.ensures.nesting, c.in_ok-turn-in-Some-Word-While-default.ensures.nesting);
       shorter = omega (arith, c.in-Some-Word-While-default.ensures.first.1, c.in_ok-test-in-Some-Word-While-default.ensures.shorter, c.in_ok-turn-in-Some-Word-While-default.ensures.shorter);
       proper = c.in_ok-turn-in-Some-Word-While-default.ensures.proper;
       reads = let T = c.args.text.now in let i = c.args.input.now in
@@ -189,11 +189,11 @@ read_if-returns-in_default t c =
         ),
       );
       formed = (
-        let y = subst (λ y. IsSimple (statement_of y) × FormedStatement (statement_of y)) (sym c.in_ok-branch.ensures.ok) (c.in_ok-yes.ensures.formed.1 refl, c.in_ok-yes.ensures.formed.0) in
-            (subst (λ e. Formed (expression_of e)) (sym c.into_inner.ensures) c.in_ok-test.ensures.formed.1, y.0, y.1),
+        let y = subst (λ y. IsSimple (statement_tree y) × FormedStatement (statement_tree y)) (sym c.in_ok-branch.ensures.ok) (c.in_ok-yes.ensures.formed.1 refl, c.in_ok-yes.ensures.formed.0) in
+            (subst (λ e. Formed (expression_tree e)) (sym c.into_inner.ensures) c.in_ok-test.ensures.formed.1, y.0, y.1),
         λ e. absurd cc,
       );
-      nesting = omega (arith, ap (λ y. expression_nesting (expression_of y)) c.into_inner.ensures, ap (λ y. statement_nesting (statement_of y)) c.in_ok-branch.ensures.ok, c.in_ok-inner.ensures.deeper.0, c.in_ok-test.ensures.nesting, c.in_ok-yes.ensures.nesting);
+      nesting = omega (arith, ap (λ y. expression_nesting (expression_tree y)) c.into_inner.ensures, ap (λ y. statement_nesting (statement_tree y)) c.in_ok-branch.ensures.ok, c.in_ok-inner.ensures.deeper.0, c.in_ok-test.ensures.nesting, c.in_ok-yes.ensures.nesting);
       shorter = omega (arith, c.requires.1.1.1.0, c.in_ok-test.ensures.shorter, c.in_ok-yes.ensures.shorter);
       proper = c.in_ok-yes.ensures.proper;
       reads = let T = c.args.text.now in let i = c.args.input.now in
@@ -224,11 +224,11 @@ read_if-returns t c =
         ),
       );
       formed = (
-        let y = subst (λ y. IsSimple (statement_of y) × FormedStatement (statement_of y)) (sym c.in_ok-branch.ensures.ok) (c.in_ok-yes.ensures.formed.1 refl, c.in_ok-yes.ensures.formed.0) in
-            (subst (λ e. Formed (expression_of e)) (sym c.into_inner-2.ensures) c.in_ok-test.ensures.formed.1, y.0, y.1, c.in_ok-no.ensures.formed.0),
+        let y = subst (λ y. IsSimple (statement_tree y) × FormedStatement (statement_tree y)) (sym c.in_ok-branch.ensures.ok) (c.in_ok-yes.ensures.formed.1 refl, c.in_ok-yes.ensures.formed.0) in
+            (subst (λ e. Formed (expression_tree e)) (sym c.into_inner-2.ensures) c.in_ok-test.ensures.formed.1, y.0, y.1, c.in_ok-no.ensures.formed.0),
         λ e. absurd cc,
       );
-      nesting = omega (arith, ap (λ y. expression_nesting (expression_of y)) c.into_inner-2.ensures, ap (λ y. statement_nesting (statement_of y)) c.in_ok-branch.ensures.ok, c.in_ok-inner.ensures.deeper.0, c.in_ok-test.ensures.nesting, c.in_ok-yes.ensures.nesting, c.in_ok-no.ensures.nesting);
+      nesting = omega (arith, ap (λ y. expression_nesting (expression_tree y)) c.into_inner-2.ensures, ap (λ y. statement_nesting (statement_tree y)) c.in_ok-branch.ensures.ok, c.in_ok-inner.ensures.deeper.0, c.in_ok-test.ensures.nesting, c.in_ok-yes.ensures.nesting, c.in_ok-no.ensures.nesting);
       shorter = omega (arith, c.requires.1.1.1.0, c.in_ok-test.ensures.shorter, c.in_ok-yes.ensures.shorter, c.in-Some.ensures.shorter, c.in_ok-no.ensures.shorter);
       proper = c.in_ok-no.ensures.proper;
       reads = let T = c.args.text.now in let i = c.args.input.now in
@@ -311,8 +311,8 @@ read_statements-statements-init t c =
     let e = c.new-statements.ensures.items in
     record {
       spans = λ s r p. subst (λ ss. SomeStatements c.args.text.now (ss ++ s ∷ []) c.args.input.now r) (sym e) (r, p, refl);
-      formed = subst (λ ss. FormedStatements (statements_of ss)) (sym e) tt;
-      nesting = omega (arith, ap (λ ss. statements_nesting (statements_of ss)) e, c.requires.1.1.0);
+      formed = subst (λ ss. FormedStatements (statement_trees ss)) (sym e) tt;
+      nesting = omega (arith, ap (λ ss. statements_nesting (statement_trees ss)) e, c.requires.1.1.0);
       shorter = omega arith;
       proper = c.requires.1.1.1;
       reads = record { fates = λ s l. refl };

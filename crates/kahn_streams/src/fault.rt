@@ -1,6 +1,7 @@
-//! What can be wrong with a program.
+//! What can be wrong with a program, and why a run is refused.
 
-use kahn_streams::Span;
+use crate::memory::NoMemory;
+use crate::span::Span;
 use std::alloc::{AllocError, AllocFailed};
 use thiserror::Error;
 
@@ -50,7 +51,7 @@ pub enum CheckFault {
 
 impl From<AllocError> for CheckFault {
     ghost use Rattle.std.specs.Prelude.{◌≡◌};
-    ghost use Rattle.kahn_check.specs.declared.fault.CheckFault.TheVariants.{NoMemory};
+    ghost use Rattle.kahn_streams.specs.declared.fault.CheckFault.TheVariants.{NoMemory};
 
     ghost from_gives = { λ _ e. e ≡ NoMemory };
 
@@ -61,11 +62,42 @@ impl From<AllocError> for CheckFault {
 
 impl<T: Drop> From<AllocFailed<T>> for CheckFault {
     ghost use Rattle.std.specs.Prelude.{◌≡◌};
-    ghost use Rattle.kahn_check.specs.declared.fault.CheckFault.TheVariants.{NoMemory};
+    ghost use Rattle.kahn_streams.specs.declared.fault.CheckFault.TheVariants.{NoMemory};
 
     ghost from_gives = { λ _ e. e ≡ NoMemory };
 
     fn from(_error: AllocFailed<T>) -> Self {
         CheckFault::NoMemory
+    }
+}
+
+/// Why there is no answer.
+#[derive(Clone, Copy, Debug, PartialEq, Eq, Drop, Error)]
+pub enum RunFault {
+    /// A number is out of its limit.
+    #[error("configuration is out of range")]
+    BadConfig,
+    /// The watched channel is not declared.
+    #[error("watched channel is not declared")]
+    UnknownWatch,
+    /// Memory was refused before the first event.
+    #[error("no memory")]
+    NoMemory,
+    /// A thread couldn't be started. Those that were are halted and gathered.
+    #[error("no thread")]
+    NoThread,
+    /// The workers left and the run neither finished nor reached its bound nor wanted memory.
+    #[error("workers stalled")]
+    Stalled,
+}
+
+impl From<NoMemory> for RunFault {
+    ghost use Rattle.std.specs.Prelude.{◌≡◌};
+    ghost use Rattle.kahn_streams.specs.declared.fault.RunFault.TheVariants.{NoMemory as Wants};
+
+    ghost from_gives = { λ _ e. e ≡ Wants };
+
+    fn from(_error: NoMemory) -> RunFault {
+        RunFault::NoMemory
     }
 }

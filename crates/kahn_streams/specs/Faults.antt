@@ -26,8 +26,8 @@ use Rattle.kahn_streams.specs.declared.tree.Direction.TheVariants.{In, Out}
 use Rattle.kahn_streams.specs.declared.tree.Taking.TheVariants.{Channel, Value}
 use Rattle.kahn_streams.specs.declared.tree.Form as F
 use Rattle.kahn_streams.specs.View.{bytes_of}
-use Rattle.kahn_check.specs.declared.fault.CheckFault.{CheckFault}
-use Rattle.kahn_check.specs.declared.fault.CheckFault.TheVariants.{DeclaredTwice, Unknown, WrongKind, ChannelExpected, ValueExpected, WrongDirection, NoMemory, WrongCount, NoWriter, TwoWriters, NoReader, TwoReaders, TooMany}
+use Rattle.kahn_streams.specs.declared.fault.CheckFault.{CheckFault}
+use Rattle.kahn_streams.specs.declared.fault.CheckFault.TheVariants.{DeclaredTwice, Unknown, WrongKind, ChannelExpected, ValueExpected, WrongDirection, NoMemory, WrongCount, NoWriter, TwoWriters, NoReader, TwoReaders, TooMany}
 use Rattle.kahn_streams.specs.declared.tree.Kind.TheVariants as K
 use Rattle.kahn_streams.specs.declared.tree.Role.TheVariants.{Inner, Input, Output}
 use Rattle.kahn_streams.specs.declared.tree.Taking.TheVariants as T
