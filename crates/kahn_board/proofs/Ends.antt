@@ -1,5 +1,5 @@
 -- What the rule says once all seats are one.
-use Rattle.std.proofs.Common.{◌≡◌, ◌≢◌, ℕ, zero, suc, ◌+◌, ◌*◌, ◌<◌, ◌⊎◌, inl, inr, ⊎_elim, List, [], ◌∷◌, length, get_or, sym, refl, ap, ◌∙◌, subst, arith, Bool, true, Option, Some}
+use Rattle.std.proofs.Common.{◌≡◌, ◌≢◌, ℕ, zero, suc, ◌+◌, ◌*◌, ◌<◌, ◌⊎◌, inl, inr, ⊎_elim, List, [], ◌∷◌, length, get_or, sym, refl, ap, ◌∙◌, subst, arith, true, Option, Some}
 use mathlib.Core.Logic.{dite}
 use native.Mathlib.Decide.{ℕ_discrete}
 use mathlib.Core.Option.{some, some-injective, some-ne-none}
@@ -10,7 +10,8 @@ use Rattle.kahn_board.specs.Counts.{is_up, below}
 use Rattle.kahn_board.specs.Place.{Place, ready, held, parked, over, total}
 use Rattle.kahn_board.specs.Rule.{St, Deal, spent, all_parts, published, budget, halted, IsHome, Whole, AllLeft}
 use Rattle.kahn_board.specs.Cuts.{IsFree}
-use Rattle.kahn_board.specs.Closing.{IsQuietCell, Closes}
+use Rattle.kahn_board.specs.Closing.{IsCell, IsQuietCell, Closes}
+use Rattle.kahn_board.specs.declared.closing.Closed.{Closed}
 use Rattle.kahn_board.specs.declared.view.View.{View}
 use Rattle.kahn_board.proofs.Sums.{terms_le, all_none}
 use Rattle.kahn_board.proofs.Turns.{quiet_here}
@@ -45,10 +46,10 @@ module _ {T : Type 0} (told : T → Option Tale) (belongs : ℕ → T → Type 0
       (id, v, me, one),
     )
 
-    at_rest : (p : ℕ) (y : T) (x : Place) (cells : List (Option T)) → ((q : ℕ) (z : T) → q < w.instances → get_elem? cells q ≡ some (Some z) → IsHome s q z) → halted w s.words ≡ 0 → p < w.instances → IsHome s p y → a.place p ≡ x → is_up x ≡ 0 → IsQuietCell told belongs w d cells p y
-    at_rest p y ready cells back not_halted inside home is z = absurd (omega arith)
-    at_rest p y (held j) cells back not_halted inside home is z = absurd (omega arith)
-    at_rest p y (parked c) cells back not_halted inside home is z = let t = a.ruled.parking.reads p c inside is in
+    at_rest : (p : ℕ) (y : T) (x : Place) (r : Closed T) → ((q : ℕ) (z : T) → q < w.instances → IsCell told belongs w d r q z → IsHome s q z) → halted w s.words ≡ 0 → p < w.instances → IsHome s p y → a.place p ≡ x → is_up x ≡ 0 → IsQuietCell told belongs w d r p y
+    at_rest p y ready r back not_halted inside home is z = absurd (omega arith)
+    at_rest p y (held j) r back not_halted inside home is z = absurd (omega arith)
+    at_rest p y (parked c) r back not_halted inside home is z = let t = a.ruled.parking.reads p c inside is in
         inr (
           c,
           published w s.words c,
@@ -62,7 +63,7 @@ module _ {T : Type 0} (told : T → Option Tale) (belongs : ℕ → T → Type 0
                 a.reckoned.lasting.flushed_all q u near at_home not_halted c l m wrote ∙ (a.ruled.parking.flushes q c m u near at_home (ap second_of wrote)).2),
           ),
         )
-    at_rest p y over cells back not_halted inside home is z = inl (a.ruled.parking.ends p y inside is home)
+    at_rest p y over r back not_halted inside home is z = inl (a.ruled.parking.ends p y inside is home)
 
     -- it is halted only where this seat did so
     pub halter_is : halted w s.words ≢ 0 → (v.seen ≡ 2) × (0 < v.raised)
@@ -70,11 +71,11 @@ module _ {T : Type 0} (told : T → Option Tale) (belongs : ℕ → T → Type 0
         (λ is. let same : v ≡ t.1 = some-injective v t.1 (sym me ∙ (sym (ap (λ (k : ℕ). get_elem? s.views k) is) ∙ t.2)) in (ap (λ (k : View). k.seen) same ∙ t.3, omega (arith, ap (λ (k : View). k.raised) same, t.4)))
         (λ apart. absurd (omega (arith, t.3, ap (λ (k : View). k.seen) (others_spent t.0 t.1 apart t.2))))
 
-    pub by_done : (cells : List (Option T)) → ((q : ℕ) (z : T) → q < w.instances → get_elem? cells q ≡ some (Some z) → IsHome s q z) → v.stage ≡ 1
-        → (halted w s.words ≢ 0) ⊎ ((budget w s.words ≡ 0) ⊎ ((p : ℕ) (y : T) → p < w.instances → get_elem? cells p ≡ some (Some y) → IsQuietCell told belongs w d cells p y))
-    by_done cells back one = dite (ℕ_discrete (halted w s.words) 0)
+    pub by_done : (r : Closed T) → ((q : ℕ) (z : T) → q < w.instances → IsCell told belongs w d r q z → IsHome s q z) → v.stage ≡ 1
+        → (halted w s.words ≢ 0) ⊎ ((budget w s.words ≡ 0) ⊎ ((p : ℕ) (y : T) → p < w.instances → IsCell told belongs w d r p y → IsQuietCell told belongs w d r p y))
+    by_done r back one = dite (ℕ_discrete (halted w s.words) 0)
         (λ not_halted. ⊎_elim (λ h. absurd (h not_halted)) (λ t. ⊎_elim
-        (λ quiet_now. inr (inr (λ p y inside there. at_rest p y (a.place p) cells back not_halted inside (back p y inside there) refl ((quiet_here told belongs w d s a.place a.ruled a.reckoned.counted quiet_now).0 p inside))))
+        (λ quiet_now. inr (inr (λ p y inside there. at_rest p y (a.place p) r back not_halted inside (back p y inside there) refl ((quiet_here told belongs w d s a.place a.ruled a.reckoned.counted quiet_now).0 p inside))))
         (λ h. inr (inl h.0)) t) (a.reckoned.leaving.left (all_left one)))
         (λ ne. inl ne)
 
@@ -84,14 +85,14 @@ read_as (x ∷ xs) zero a e = some-injective x a e
 read_as (x ∷ xs) (suc i) a e = read_as xs i a e
 
 module _ {T : Type 0} (told : T → Option Tale) (belongs : ℕ → T → Type 0) (w : Wires) (d : Deal) where
-  pub closes : (s : St T) (a : Whole told belongs w d s) (id : ℕ) (v : View) → get_elem? s.views id ≡ some v → v.parts ≡ all_parts → IsFree v → (ws : List ℕ) (xs cells : List (Option T)) → s.words ≡ ws → length s.homes ≡ length xs
-      → ((k : ℕ) (y : Option T) → get_elem? s.homes k ≡ some (some y) → get_elem? xs k ≡ some y) → cells ≡ xs → (i j b h : ℕ) → i ≡ 8 * (w.instances + w.channels) → j ≡ 8 * (w.instances + w.channels) + 16 → get_elem? ws i ≡ some b → get_elem? ws j ≡ some h
-      → (flag : Bool) → (h ≢ 0 → flag ≡ true) → (flag ≡ true → h ≢ 0) → Closes told belongs w d cells v b flag
-  closes s a id v me all free ws xs cells words long values same i j b h at_i at_j reads_b reads_h flag flags flagged =
+  pub closes : (s : St T) (a : Whole told belongs w d s) (id : ℕ) (v : View) → get_elem? s.views id ≡ some v → v.parts ≡ all_parts → IsFree v → (ws : List ℕ) (xs : List (Option T)) (r : Closed T) → s.words ≡ ws → length s.homes ≡ length xs
+      → ((k : ℕ) (y : Option T) → get_elem? s.homes k ≡ some (some y) → get_elem? xs k ≡ some y) → r.cells.items ≡ xs → (i j h : ℕ) → i ≡ 8 * (w.instances + w.channels) → j ≡ 8 * (w.instances + w.channels) + 16 → get_elem? ws i ≡ some r.budget → get_elem? ws j ≡ some h
+      → (h ≢ 0 → r.halted ≡ true) → (r.halted ≡ true → h ≢ 0) → Closes told belongs w d r v
+  closes s a id v me all free ws xs r words long values same i j h at_i at_j reads_b reads_h flags flagged =
       let home = all_home told belongs w s a.place a.ruled id v me all free.0 in
-      let there : (p : ℕ) (y : T) → IsHome s p y → get_elem? cells p ≡ some (Some y) = λ p y e. ap (λ (l : List (Option T)). get_elem? l p) same ∙ values p (Some y) e in
-      let back : (q : ℕ) (z : T) → q < w.instances → get_elem? cells q ≡ some (Some z) → IsHome s q z = λ q z near e. (let t = home q near in subst (λ (u : T). IsHome s q u) (same_some t.0 z (some-injective (Some t.0) (Some z) (sym (there q t.0 t.1) ∙ e))) t.1) in
-      let b_is : budget w s.words ≡ b = ap (λ (k : ℕ). get_or s.words k 0) (sym at_i) ∙ (ap (λ (l : List ℕ). get_or l i 0) words ∙ read_as ws i b reads_b) in
+      let there : (p : ℕ) (y : T) → IsHome s p y → IsCell told belongs w d r p y = λ p y e. ap (λ (l : List (Option T)). get_elem? l p) same ∙ values p (Some y) e in
+      let back : (q : ℕ) (z : T) → q < w.instances → IsCell told belongs w d r q z → IsHome s q z = λ q z near e. (let t = home q near in subst (λ (u : T). IsHome s q u) (same_some t.0 z (some-injective (Some t.0) (Some z) (sym (there q t.0 t.1) ∙ e))) t.1) in
+      let b_is : budget w s.words ≡ r.budget = ap (λ (k : ℕ). get_or s.words k 0) (sym at_i) ∙ (ap (λ (l : List ℕ). get_or l i 0) words ∙ read_as ws i r.budget reads_b) in
       let h_is : halted w s.words ≡ h = ap (λ (k : ℕ). get_or s.words k 0) (sym at_j) ∙ (ap (λ (l : List ℕ). get_or l j 0) words ∙ read_as ws j h reads_h) in record {
         each = (ap length same ∙ (sym long ∙ a.ruled.deep), λ p near. (let t = home p near in (t.0, there p t.0 t.1)));
         belonging = λ p y near e. a.reckoned.lasting.belonging p y near (back p y near e);
@@ -99,5 +100,5 @@ module _ {T : Type 0} (told : T → Option Tale) (belongs : ℕ → T → Type 0
         events = (a.reckoned.tally, (λ p y near e. a.reckoned.budgeted.tells p y near (back p y near e)), events_left told belongs w d s a id v me all free);
         halt_seen = ((λ two. flags (λ z. a.reckoned.lasting.saw_halted id v me two (h_is ∙ z))), λ yes. (halter_is told belongs w d s a id v me all free (λ z. flagged yes (sym h_is ∙ z))).0);
         halt_raised = ((λ up. flags (λ z. a.reckoned.lasting.saw_halted id v me ((a.reckoned.lasting.sights id v me).1 up) (h_is ∙ z))), λ yes. (halter_is told belongs w d s a id v me all free (λ z. flagged yes (sym h_is ∙ z))).1);
-        by_done = λ one. ⊎_elim (λ ne. inl (flags (λ z. ne (h_is ∙ z)))) (λ t. ⊎_elim (λ z. inr (inl (sym b_is ∙ z))) (λ f. inr (inr f)) t) (by_done told belongs w d s a id v me all free cells back one);
+        by_done = λ one. ⊎_elim (λ ne. inl (flags (λ z. ne (h_is ∙ z)))) (λ t. ⊎_elim (λ z. inr (inl (sym b_is ∙ z))) (λ f. inr (inr f)) t) (by_done told belongs w d s a id v me all free r back one);
       }

@@ -4,7 +4,7 @@ use Rattle.std.proofs.lemmas.List.Sums.{sum_by_push}
 use Rattle.std.proofs.lemmas.List.{get_or_append_left, length-append, get_or_push}
 use Rattle.atomic_table.specs.Seated.{TableId}
 use Rattle.std.proofs.lemmas.List.Elements.{All-push}
-use Rattle.kahn_board.specs.Cuts.{kept_part, cut_part, joined_view}
+use Rattle.kahn_board.specs.Cuts.{AreCut, joined_view}
 use Rattle.kahn_board.specs.Plays.{Sat}
 use Rattle.kahn_board.specs.declared.board.Seat.{Seat}
 use Rattle.kahn_board.proofs.Seats.{zeros}
@@ -50,22 +50,21 @@ module _ {T : Type 0} where
     pub raised : (now.seat.me.0.raised ≡ whole.seat.me.0.raised) × (raised_of made ≡ 0)
 
   pub split_one : (z : TableId) (whole : Seat T) (made : List (Seat T)) (now : Seat T) (made' : List (Seat T)) (kept cut : Seat T) → Splitting z whole made now → made' ≡ made ++ cut ∷ [] → 1 < now.seat.me.0.parts
-      → (kept.seat.table_id ≡ now.seat.table_id) × (kept.seat.id ≡ now.seat.id) × (kept.seat.me ≡ (kept_part now.seat.me.0, now.seat.me.1)) × (cut.seat.table_id ≡ now.seat.table_id) × (cut.seat.me ≡ (cut_part now.seat.me.0, []))
-      → Splitting z whole made' kept
+      → AreCut now kept cut → Splitting z whole made' kept
   split_one z whole made now made' kept cut s is more e = record {
-    sits = (e.0 ∙ s.sits.0, subst (λ (m : Sat T). Rests m.0) (sym e.2) s.sits.1);
-    each = subst (All (SitsAt z)) (sym is) (All-push (SitsAt z) made cut s.each (e.3 ∙ s.sits.0, subst (λ (m : Sat T). Rests m.0) (sym e.4) ((zeros (length now.seat.me.0.hands), refl, refl, refl), refl)));
+    sits = (e.0.0 ∙ s.sits.0, subst (λ (m : Sat T). Rests m.0) (sym e.1) s.sits.1);
+    each = subst (All (SitsAt z)) (sym is) (All-push (SitsAt z) made cut s.each (e.2 ∙ s.sits.0, subst (λ (m : Sat T). Rests m.0) (sym e.3) ((zeros (length now.seat.me.0.hands), refl, refl, refl), refl)));
     parts = (
-      omega (arith, s.parts.0, ap (λ (m : Sat T). m.0.parts) e.2, ap length is, length-append made (cut ∷ []), more),
-      omega (arith, s.parts.1, ap parts_of is, sum_by_push (λ (s : Seat T). s.seat.me.0.parts) made cut, ap (λ (m : Sat T). m.0.parts) e.4, ap length is, length-append made (cut ∷ [])),
+      omega (arith, s.parts.0, ap (λ (m : Sat T). m.0.parts) e.1, ap length is, length-append made (cut ∷ []), more),
+      omega (arith, s.parts.1, ap parts_of is, sum_by_push (λ (s : Seat T). s.seat.me.0.parts) made cut, ap (λ (m : Sat T). m.0.parts) e.3, ap length is, length-append made (cut ∷ [])),
     );
     done = (
-      ap (λ (m : Sat T). m.0.done) e.2 ∙ s.done.0,
-      omega (arith, s.done.1, ap done_of is, sum_by_push (λ (s : Seat T). s.seat.me.0.done) made cut, ap (λ (m : Sat T). m.0.done) e.4),
+      ap (λ (m : Sat T). m.0.done) e.1 ∙ s.done.0,
+      omega (arith, s.done.1, ap done_of is, sum_by_push (λ (s : Seat T). s.seat.me.0.done) made cut, ap (λ (m : Sat T). m.0.done) e.3),
     );
     raised = (
-      ap (λ (m : Sat T). m.0.raised) e.2 ∙ s.raised.0,
-      omega (arith, s.raised.1, ap raised_of is, sum_by_push (λ (s : Seat T). s.seat.me.0.raised) made cut, ap (λ (m : Sat T). m.0.raised) e.4),
+      ap (λ (m : Sat T). m.0.raised) e.1 ∙ s.raised.0,
+      omega (arith, s.raised.1, ap raised_of is, sum_by_push (λ (s : Seat T). s.seat.me.0.raised) made cut, ap (λ (m : Sat T). m.0.raised) e.3),
     );
   }
 

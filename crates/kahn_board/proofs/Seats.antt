@@ -27,7 +27,7 @@ module _ {T : Type 0} where
   map_push [] x = refl
   map_push (y ∷ ys) x = ap (λ (l : List ℕ). y.0 ∷ l) (map_push ys x)
 
-  numbers_shifted : (c : Slots T) (items : List ℕ) → numbers c ≡ items → 0 < length items → numbers (shifted c) ≡ drop 1 items ++ get_or items 0 0 ∷ []
+  pub numbers_shifted : (c : Slots T) (items : List ℕ) → numbers c ≡ items → 0 < length items → numbers (shifted c) ≡ drop 1 items ++ get_or items 0 0 ∷ []
   numbers_shifted [] items e h = absurd (omega (arith, ap length e))
   numbers_shifted (x ∷ xs) items e h = map_push xs x ∙ ap (λ (l : List ℕ). drop 1 l ++ get_or l 0 0 ∷ []) e
 

@@ -1,6 +1,6 @@
 //! The board, and the seats that step on it.
 
-ghost use Rattle.std.specs.Prelude.{◌≡◌, ◌≢◌, ℕ, ◌+◌, ◌-◌, ◌*◌, ◌%◌, ◌^◌, ◌<◌, ◌≤◌, ◌==◌, [], ◌∷◌, ◌++◌, map, drop, length, Option, slice_index, slice_index_or, None, Some};
+ghost use Rattle.std.specs.Prelude.{◌≡◌, ◌≢◌, ℕ, ◌+◌, ◌-◌, ◌*◌, ◌%◌, ◌^◌, ◌<◌, ◌≤◌, ◌==◌, [], map, length, Option, slice_index, slice_index_or, None, Some};
 ghost use Rattle.std.specs.VecDeque.{deque_capacity};
 ghost use Rattle.std.specs.Vec.{vec_capacity};
 ghost use Rattle.kahn_board.specs.Hands.{Facts};
@@ -163,7 +163,7 @@ impl<T: Told> Seat<T> {
     // The first slot goes behind the others.
     fn turn(&mut self)
         requires { 0 < length self.old.held.items }
-        ensures { IsSameSeat self.old self.new × (self.new.seat.me ≡ (self.old.seat.me.0, shifted self.old.seat.me.1)) × (self.new.held.items ≡ drop 1 self.old.held.items ++ slice_index self.old.held.items 0 ∷ []) }
+        ensures { IsSameSeat self.old self.new × (self.new.seat.me ≡ (self.old.seat.me.0, shifted self.old.seat.me.1)) }
     {
         let first = self.held.pop_front().unwrap();
         self.held.push_back_reserved(first);
@@ -248,7 +248,8 @@ impl<T: Told> Seat<T> {
     /// So many tokens of the channel are published. Where its reader was parked on it, the seat has the reader now.
     pub fn publish(&mut self, board: &Board<T>, channel: usize, count: u64) -> Option<usize>
         requires board { self.old.seat.table_id ≡ board.now.table.shared.table_id }
-        requires writer { (channel < board.now.channels) × (count < 2 ^ 48) × ((q : ℕ) × ((wired board.now.table.shared.key).writer channel ≡ Some q) × IsIn self.old.seat.me.0 q) }
+        requires few { (channel < board.now.channels) × (count < 2 ^ 48) }
+        requires writer { (q : ℕ) × ((wired board.now.table.shared.key).writer channel ≡ Some q) × IsIn self.old.seat.me.0 q }
         ensures { Publishes T.told (belongs T.after board.now.table.shared.key) (wired board.now.table.shared.key) self.old self.new channel count result }
     {
         let word = 8 * (board.instances + channel);

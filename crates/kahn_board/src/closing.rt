@@ -4,6 +4,7 @@ ghost use Rattle.std.specs.Prelude.{◌≡◌, ℕ, ◌+◌, ◌*◌, ◌^◌, �
 ghost use mathlib.Core.Option.{some};
 ghost use lib.ListN.{get_elem?};
 ghost use Rattle.kahn_board.specs.Dealt.{belongs, dealt, wired};
+ghost use Rattle.kahn_board.specs.Calls.{IsSameSeat};
 ghost use Rattle.kahn_board.specs.Closing.{Closes};
 ghost use Rattle.kahn_board.specs.Cuts.{AreCut, IsFree, joined_view};
 ghost use Rattle.kahn_board.specs.Rule.{all_parts};
@@ -72,7 +73,7 @@ impl<T: Told> Board<T> {
     /// One seat of the two.
     pub fn join(&self, seat: Seat<T>, other: Seat<T>) -> Seat<T>
         requires { (seat.seat.table_id ≡ self.now.table.shared.table_id) × (other.seat.table_id ≡ self.now.table.shared.table_id) × IsFree other.seat.me.0 }
-        ensures { (result.seat.table_id ≡ seat.seat.table_id) × (result.seat.id ≡ seat.seat.id) × (result.seat.me ≡ (joined_view seat.seat.me.0 other.seat.me.0, seat.seat.me.1)) }
+        ensures { IsSameSeat seat result × (result.seat.me ≡ (joined_view seat.seat.me.0 other.seat.me.0, seat.seat.me.1)) }
     {
         let Seat { mut seat, held } = seat;
         let Seat {
@@ -86,7 +87,7 @@ impl<T: Told> Board<T> {
     /// Each cell, in order, the budget, and whether the run was halted.
     pub fn close(self, seat: Seat<T>) -> Closed<T>
         requires { (seat.seat.table_id ≡ self.table.shared.table_id) × (seat.seat.me.0.parts ≡ all_parts) × IsFree seat.seat.me.0 }
-        ensures { Closes T.told (belongs T.after self.table.shared.key) (wired self.table.shared.key) (dealt T.told self.table.shared.key) result.cells.items seat.seat.me.0 result.budget result.halted }
+        ensures { Closes T.told (belongs T.after self.table.shared.key) (wired self.table.shared.key) (dealt T.told self.table.shared.key) result seat.seat.me.0 }
     {
         let Board {
             table,

@@ -122,7 +122,7 @@ impl<T: Told> Board<T> {
     ) -> Result<(Board<T>, Seat<T>), (NoMemory, Vec<T, Global>)>
         requires { Opens T.told T.after (wires network.now) bound published.now cells.items }
         ensures seat { IfOk result (λ t. (t.1.seat.table_id ≡ t.0.table.shared.table_id) × (t.1.seat.me ≡ (opening_view (wires network.now), []))) }
-        ensures board { IfOk result (λ t. (t.0.table.shared.key.network.value ≡ network.now) × (t.0.table.shared.key.bound ≡ bound) × (t.0.table.shared.key.cells.value ≡ cells)) }
+        ensures board { IfOk result (λ t. let key = t.0.table.shared.key in (key.network.value ≡ network.now) × (key.bound ≡ bound) × (key.cells.value ≡ cells)) }
         ensures published { IfOk result (λ t. (c : ℕ) → c < length published.now → (dealt T.told t.0.table.shared.key).published c ≡ slice_index published.now c) }
         ensures refused { IfErr result (λ e. e.1.items ≡ cells.items) }
     {

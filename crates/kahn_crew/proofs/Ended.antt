@@ -22,6 +22,7 @@ use Rattle.kahn_board.specs.Closing.{Closes}
 use Rattle.kahn_board.specs.Counts.{below}
 use Rattle.kahn_board.specs.Dealt.{belongs, dealt, wired, events_told}
 use Rattle.kahn_board.specs.Wires.{wires, any_is, first_with}
+use Rattle.kahn_board.specs.declared.closing.Closed.{Closed}
 use Rattle.kahn_board.specs.declared.rule.Terms.{Terms}
 use Rattle.kahn_board.specs.declared.view.View.{View}
 use Rattle.kahn_crew.specs.inner.Begins.{AreReadyTasks, HasBegun, most_events}
@@ -34,7 +35,7 @@ use Rattle.kahn_crew.proofs.Found
 use Rattle.kahn_crew.proofs.Found.{none_some, some_same}
 use Rattle.kahn_crew.proofs.Publishing.{handed_is}
 use Rattle.kahn_crew.proofs.Resting.{continues_here, task_of}
-use Rattle.kahn_crew.proofs.Started.{at_both, both_at, mapped_at, at_mapped, fits_of}
+use Rattle.kahn_crew.proofs.Started.{both_at, at_mapped, fits_of}
 use Rattle.kahn_crew.proofs.Wirings.{instances_are, is_written_so, reads_first, writes_first, writer_is}
 
 -- ---- lists
@@ -117,7 +118,7 @@ module _ (t : Program) (is_wired : IsWellWired t) where
 -- ---- a run of a program
 
 module _ (lists : Lists) (watch : Option ℕ) (key : Terms Tasked) (is_wired : IsWellWired key.network.value) (begun : HasBegun key.network.value lists watch key)
-    (tasks : List Tasked) (v : View) (budget : ℕ) (halted : Bool) (closes : Closes told_tale (belongs IsLater key) (wired key) (dealt told_tale key) (map Some tasks) v budget halted) where
+    (c : Closed Tasked) (tasks : List Tasked) (v : View) (closes : Closes told_tale (belongs IsLater key) (wired key) (dealt told_tale key) c v) (are : c.cells.items ≡ map Some tasks) where
   abbrev t : Program
   t = key.network.value
 
@@ -125,18 +126,13 @@ module _ (lists : Lists) (watch : Option ℕ) (key : Terms Tasked) (is_wired : I
   n = (wires t).instances
 
   many : length tasks ≡ n
-  many = sym (length-map tasks Some) ∙ closes.each.0
+  many = sym (length-map tasks Some) ∙ (ap length (sym are) ∙ closes.each.0)
 
   within : (p : ℕ) (x : Tasked) → slice_get tasks p ≡ Some x → p < n
   within p x e = let lt = slice_get_within tasks p x e in omega (arith, lt, many)
 
-  cell_at : (p : ℕ) (x : Tasked) → slice_get tasks p ≡ Some x → get_elem? (map Some tasks) p ≡ some (Some x)
-  cell_at p x e = both_at (map Some tasks) p (Some x) (at_mapped Some tasks p x e)
-
-  at_cell : (p : ℕ) (x : Tasked) → get_elem? (map Some tasks) p ≡ some (Some x) → slice_get tasks p ≡ Some x
-  at_cell p x e =
-      let m = mapped_at Some tasks p (Some x) (at_both (map Some tasks) p (Some x) e) in
-      m.1 ∙ sym m.2
+  cell_at : (p : ℕ) (x : Tasked) → slice_get tasks p ≡ Some x → get_elem? c.cells.items p ≡ some (Some x)
+  cell_at p x e = ap (λ (l : List (Option Tasked)). get_elem? l p) are ∙ both_at (map Some tasks) p (Some x) (at_mapped Some tasks p x e)
 
   belong : (p : ℕ) (x : Tasked) → slice_get tasks p ≡ Some x → belongs IsLater key p x
   belong p x e = closes.belonging p x (within p x e) (cell_at p x e)
@@ -148,46 +144,46 @@ module _ (lists : Lists) (watch : Option ℕ) (key : Terms Tasked) (is_wired : I
   later : (p : ℕ) (y x : Tasked) → slice_get key.cells.value.items p ≡ Some y → slice_get tasks p ≡ Some x → Continues y x
   later p y x e f = (belong p x f y (both_at key.cells.value.items p y e)).continues
 
-  spent : v.loose ≡ 0 → budget + sum_by task_events tasks ≡ most_events key
+  spent : v.loose ≡ 0 → c.budget + sum_by task_events tasks ≡ most_events key
   spent none =
       let tally = closes.events.0 in
       let tells = closes.events.1 in
       let adds : events_told told_tale key.cells.value.items + v.done ≡ below tally n + v.loose = closes.events.2 in
-      let all : budget + v.done ≡ key.bound = closes.budget_is in
+      let all : c.budget + v.done ≡ key.bound = closes.budget_is in
       let sum : below tally (length tasks) ≡ sum_by task_events tasks = below_sum task_events tasks tally (λ p x e. tells p x (within p x e) (cell_at p x e)) in
       let same : below tally n ≡ below tally (length tasks) = ap (below tally) (sym many) in
       omega (arith, adds, all, sum, same, none)
 
   -- all that was sent on a channel that an instance reads
-  all_sent : (p q c k : ℕ) → actual_at (instance_at (network_of t) p) q ≡ Reads c →
-      closed.IsAllSent told_tale (belongs IsLater key) (wired key) (dealt told_tale key) (map Some tasks) c k → AreAll t lists tasks c k
-  all_sent p q c k at all = record {
+  all_sent : (p q d k : ℕ) → actual_at (instance_at (network_of t) p) q ≡ Reads d →
+      closed.IsAllSent told_tale (belongs IsLater key) (wired key) (dealt told_tale key) c d k → AreAll t lists tasks d k
+  all_sent p q d k at all = record {
     given = λ r.
-        let lt : c < length (network_of t).channels = Sourced.reads_listed t is_wired p q c at in
-        all.0 (no_writer t is_wired c r) ∙ (begun.numbers c lt).given r;
+        let lt : d < length (network_of t).channels = Sourced.reads_listed t is_wired p q d at in
+        all.0 (no_writer t is_wired d r) ∙ (begun.numbers d lt).given r;
     sent = λ r o z e h.
         let is = of_instance r z e in
         let w = z.work in
-        let there : actual_at (instance_at (network_of t) r) o ≡ Writes c = sym (handed_is t is_wired w r o is.0 is.1) ∙ h in
-        let inner : is_output (role_at (network_of w.cell.network) c) ≡ false = ap (λ m. is_output (role_at (network_of m) c)) is.0 ∙ read_inner t is_wired p q c at in
-        let first : writes_at w c ≡ Some o = writes_first w.cell.network (subst IsWellWired (sym is.0) is_wired) w.cell.instance o c h inner in
-        all.1 r (count w.cell.sent o) (end_at w.ends o).flushed z (within r z e) (writer_is t is_wired r o c there) (cell_at r z e) (ap (wrote_by w) first);
+        let there : actual_at (instance_at (network_of t) r) o ≡ Writes d = sym (handed_is t is_wired w r o is.0 is.1) ∙ h in
+        let inner : is_output (role_at (network_of w.cell.network) d) ≡ false = ap (λ m. is_output (role_at (network_of m) d)) is.0 ∙ read_inner t is_wired p q d at in
+        let first : writes_at w d ≡ Some o = writes_first w.cell.network (subst IsWellWired (sym is.0) is_wired) w.cell.instance o d h inner in
+        all.1 r (count w.cell.sent o) (end_at w.ends o).flushed z (within r z e) (writer_is t is_wired r o d there) (cell_at r z e) (ap (wrote_by w) first);
   }
 
-  at_rest : (p : ℕ) (x : Tasked) → slice_get tasks p ≡ Some x → closed.IsQuietCell told_tale (belongs IsLater key) (wired key) (dealt told_tale key) (map Some tasks) p x → IsQuietTask t lists tasks x
+  at_rest : (p : ℕ) (x : Tasked) → slice_get tasks p ≡ Some x → closed.IsQuietCell told_tale (belongs IsLater key) (wired key) (dealt told_tale key) c p x → IsQuietTask t lists tasks x
   at_rest p x e (inl over) = inl over
-  at_rest p x e (inr (c, k, lt, reads, tells, all)) =
+  at_rest p x e (inr (d, k, lt, reads, tells, all)) =
       let is = of_instance p x e in
       let w = x.work in
-      let s = waits_so w x.standing c tells.0 in
+      let s = waits_so w x.standing d tells.0 in
       let q = s.0 in
-      let here : handed_to_task w q ≡ Reads c = reads_so (handed_to_task w q) c s.2 in
-      let at : actual_at (instance_at (network_of t) p) q ≡ Reads c = sym (handed_is t is_wired w p q is.0 is.1) ∙ here in
-      let first : reads_at w c ≡ Some q = reads_first w.cell.network (subst IsWellWired (sym is.0) is_wired) w.cell.instance q c here in
+      let here : handed_to_task w q ≡ Reads d = reads_so (handed_to_task w q) d s.2 in
+      let at : actual_at (instance_at (network_of t) p) q ≡ Reads d = sym (handed_is t is_wired w p q is.0 is.1) ∙ here in
+      let first : reads_at w d ≡ Some q = reads_first w.cell.network (subst IsWellWired (sym is.0) is_wired) w.cell.instance q d here in
       let took : count w.cell.taken q ≡ k = sym (ap (count_on w.cell.taken) first) ∙ tells.1 in
-      inr (q, c, s.1, here, subst (AreAll t lists tasks c) (sym took) (all_sent p q c k at all))
+      inr (q, d, s.1, here, subst (AreAll t lists tasks d) (sym took) (all_sent p q d k at all))
 
-  gone_here : v.loose ≡ 0 → HaveGone t lists watch (most_events key) key.cells.value.items tasks budget
+  gone_here : v.loose ≡ 0 → HaveGone t lists watch (most_events key) key.cells.value.items tasks c.budget
   gone_here none = record {
     ready = begun.ready;
     count = many ∙ instances_are t is_wired;
@@ -195,11 +191,11 @@ module _ (lists : Lists) (watch : Option ℕ) (key : Terms Tasked) (is_wired : I
     events = spent none;
   }
 
-  over_here : v.stage ≡ 1 → IsOver t lists tasks budget halted
+  over_here : v.stage ≡ 1 → IsOver t lists tasks c.budget c.halted
   over_here gone = by (closes.by_done gone)
     where
-      by : (halted ≡ true) ⊎ ((budget ≡ 0) ⊎ ((p : ℕ) (y : Tasked) → p < n → get_elem? (map Some tasks) p ≡ some (Some y) → closed.IsQuietCell told_tale (belongs IsLater key) (wired key) (dealt told_tale key) (map Some tasks) p y)) →
-          IsOver t lists tasks budget halted
+      by : (c.halted ≡ true) ⊎ ((c.budget ≡ 0) ⊎ ((p : ℕ) (y : Tasked) → p < n → get_elem? c.cells.items p ≡ some (Some y) → closed.IsQuietCell told_tale (belongs IsLater key) (wired key) (dealt told_tale key) c p y)) →
+          IsOver t lists tasks c.budget c.halted
       by (inl h) = inl h
       by (inr (inl z)) = inr (inl z)
       by (inr (inr rest)) = inr (inr (λ p x e. at_rest p x e (rest p x (within p x e) (cell_at p x e))))
@@ -252,28 +248,24 @@ none_rose (z ∷ xs) (u ∷ ys) l h s (suc p) x y e f =
 
 -- a run on whose board nobody works
 module _ (t : Program) (lists : Lists) (watch : Option ℕ) (key : Terms Tasked) (is_wired : IsWellWired t) (begun : HasBegun t lists watch key)
-    (cells : List (Option Tasked)) (tasks : List Tasked) (v : View) (budget : ℕ) (halted : Bool)
-    (closes : Closes told_tale (belongs IsLater key) (wired key) (dealt told_tale key) cells v budget halted) (are : cells ≡ map Some tasks) where
+    (c : Closed Tasked) (tasks : List Tasked) (v : View) (closes : Closes told_tale (belongs IsLater key) (wired key) (dealt told_tale key) c v) (are : c.cells.items ≡ map Some tasks) where
   wired_key : IsWellWired key.network.value
   wired_key = subst IsWellWired (sym begun.network) is_wired
 
   begun_key : HasBegun key.network.value lists watch key
   begun_key = subst (λ (k : Program). HasBegun k lists watch key) (sym begun.network) begun
 
-  closes_key : Closes told_tale (belongs IsLater key) (wired key) (dealt told_tale key) (map Some tasks) v budget halted
-  closes_key = subst (λ (l : List (Option Tasked)). Closes told_tale (belongs IsLater key) (wired key) (dealt told_tale key) l v budget halted) are closes
-
-  pub have_gone : v.loose ≡ 0 → HaveGone t lists watch (most_events key) key.cells.value.items tasks budget
+  pub have_gone : v.loose ≡ 0 → HaveGone t lists watch (most_events key) key.cells.value.items tasks c.budget
   have_gone none =
-      subst (λ (k : Program). HaveGone k lists watch (most_events key) key.cells.value.items tasks budget) begun.network
-      (gone_here lists watch key wired_key begun_key tasks v budget halted closes_key none)
+      subst (λ (k : Program). HaveGone k lists watch (most_events key) key.cells.value.items tasks c.budget) begun.network
+      (gone_here lists watch key wired_key begun_key c tasks v closes are none)
 
-  pub untouched : v.loose ≡ 0 → v.done ≡ 0 → AreUntouched key.bound key.cells.value.items tasks budget
+  pub untouched : v.loose ≡ 0 → v.done ≡ 0 → AreUntouched key.bound key.cells.value.items tasks c.budget
   untouched none unused =
       let gone = have_gone none in
-      let spent : budget + v.done ≡ key.bound = closes.budget_is in
-      let all : budget ≡ key.bound = omega (arith, spent, unused) in
-      let sum : budget + sum_by task_events tasks ≡ key.bound + events_told told_tale key.cells.value.items = gone.events in
+      let spent : c.budget + v.done ≡ key.bound = closes.budget_is in
+      let all : c.budget ≡ key.bound = omega (arith, spent, unused) in
+      let sum : c.budget + sum_by task_events tasks ≡ key.bound + events_told told_tale key.cells.value.items = gone.events in
       let first : sum_by task_events key.cells.value.items ≡ events_told told_tale key.cells.value.items = all_told key.cells.value.items in
       let same : sum_by task_events tasks ≡ sum_by task_events key.cells.value.items = omega (arith, all, sum, first) in
       record {
@@ -283,10 +275,10 @@ module _ (t : Program) (lists : Lists) (watch : Option ℕ) (key : Terms Tasked)
             (none_rose key.cells.value.items tasks (gone.count ∙ sym gone.ready.count) (λ q u w g h. (gone.later q u w g h).events) same p x y e f);
       }
 
-  pub is_over : v.stage ≡ 1 → IsOver t lists tasks budget halted
+  pub is_over : v.stage ≡ 1 → IsOver t lists tasks c.budget c.halted
   is_over gone =
-      subst (λ (k : Program). IsOver k lists tasks budget halted) begun.network
-      (over_here lists watch key wired_key begun_key tasks v budget halted closes_key gone)
+      subst (λ (k : Program). IsOver k lists tasks c.budget c.halted) begun.network
+      (over_here lists watch key wired_key begun_key c tasks v closes are gone)
 
 -- ---- tasks on which nobody worked
 

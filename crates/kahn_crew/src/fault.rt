@@ -1,6 +1,6 @@
 //! Why the workers of a run leave nothing.
 
-use kahn_streams::NoMemory;
+use kahn_streams::{NoMemory, RunFault};
 use std::alloc::AllocError;
 use thiserror::Error;
 
@@ -34,5 +34,19 @@ impl From<AllocError> for CrewFault {
 
     fn from(_error: AllocError) -> CrewFault {
         CrewFault::NoMemory
+    }
+}
+
+impl From<CrewFault> for RunFault {
+    ghost use Rattle.std.specs.Prelude.{◌≡◌};
+    ghost use Rattle.kahn_crew.specs.inner.Wants.{run_fault};
+
+    ghost from_gives = { λ f e. e ≡ run_fault f };
+
+    fn from(fault: CrewFault) -> RunFault {
+        match fault {
+            CrewFault::NoMemory => RunFault::NoMemory,
+            CrewFault::NoThread => RunFault::NoThread,
+        }
     }
 }

@@ -14,7 +14,7 @@ use Rattle.kahn_streams.specs.declared.answer.Stream.{Stream}
 use Rattle.kahn_pool.specs.inner.Bench.{RunState, AreStreams}
 use Rattle.kahn_pool.specs.inner.Gathered.{view_at, IsFrom}
 use Rattle.kahn_streams.specs.Answers.{stream_line, stream_lines}
-use Rattle.kahn_pool.specs.inner.Streams.{AreNamed, IsDeclared, IsFilled, AreFilled, AreLists, KeepsOtherLines, HasInputs, kept_lists, kept_in, printed_list, printed_in}
+use Rattle.kahn_pool.specs.inner.Streams.{AreNamed, IsDeclared, IsFilled, HasBecome, HaveBecome, AreLists, KeepsOtherLines, HasInputs, kept_lists, kept_in, printed_list, printed_in}
 use Rattle.kahn_pool.proofs.Lists.{set_get, set_else}
 use Rattle.kahn_pool.proofs.Named.{HasLine, has_line, line_at, stream_before, declared, once}
 
@@ -123,7 +123,7 @@ pub record Filling {A : Type 0} (N : Network) (ls : List (Kept A)) (old : List S
   pub named : AreNamed N old
   pub lines : map stream_line now ≡ map stream_line old
   pub lists : AreLists N ks
-  pub done : (j : ℕ) (x y : Stream) → j < n → slice_get old j ≡ Some x → slice_get now j ≡ Some y → IsFilled N ls (source N y.line) y.line x.tokens.items y.tokens.items
+  pub done : (j : ℕ) (x y : Stream) → j < n → slice_get old j ≡ Some x → slice_get now j ≡ Some y → HasBecome N (IsFilled N ls) x y
   pub rest : (j : ℕ) → n ≤ j → slice_get now j ≡ slice_get old j
   -- the lists of the further lines are as at first
   pub held : (j : ℕ) (x : Stream) → n ≤ j → slice_get old j ≡ Some x → (ts us : List Token) →
@@ -134,7 +134,7 @@ module _ {A : Type 0} (N : Network) (ls : List (Kept A)) (old : List Stream) (ks
   next_declared x e = declared N old n x f.named (sym (f.rest n (omega arith)) ∙ e)
 
   pub filling_goes : (ks' : List (Kept A)) (x y : Stream) → slice_get now n ≡ Some x → y.line ≡ x.line → AreLists N ks' →
-      IsFilled N ks (source N x.line) x.line x.tokens.items y.tokens.items → KeepsOtherLines N x.line ks ks' → Filling N ls old ks' (slice_set now n y) (suc n)
+      HasBecome N (IsFilled N ks) x y → KeepsOtherLines N x.line ks ks' → Filling N ls old ks' (slice_set now n y) (suc n)
   filling_goes ks' x y e same lists filled others = record {
     named = f.named;
     lines = set_lines now n x y e same ∙ f.lines;
@@ -150,13 +150,12 @@ module _ {A : Type 0} (N : Network) (ls : List (Kept A)) (old : List Stream) (ks
       apart : (j : ℕ) (u : Stream) → suc n ≤ j → slice_get old j ≡ Some u → u.line ≡ x.line → ⊥
       apart j u l a k = let m : j ≡ n = once N old j n u x f.named a at_first k in omega (arith, l, m)
 
-      done_at : (j : ℕ) (u v : Stream) → j < suc n → slice_get old j ≡ Some u → ((j ≡ n) × (y ≡ v)) ⊎ ((j ≡ n → ⊥) × (slice_get now j ≡ Some v)) →
-          IsFilled N ls (source N v.line) v.line u.tokens.items v.tokens.items
+      done_at : (j : ℕ) (u v : Stream) → j < suc n → slice_get old j ≡ Some u → ((j ≡ n) × (y ≡ v)) ⊎ ((j ≡ n → ⊥) × (slice_get now j ≡ Some v)) → HasBecome N (IsFilled N ls) u v
       done_at j u v l a (inr h) = f.done j u v (let o = h.0 in omega (arith, l, o)) a h.1
       done_at j u v l a (inl h) =
-          subst (λ w. IsFilled N ls (source N w.line) w.line u.tokens.items w.tokens.items) h.1
-          (subst (λ d. IsFilled N ls (source N d) d u.tokens.items y.tokens.items) (sym same)
-          (subst (λ w. IsFilled N ls (source N x.line) x.line w.tokens.items y.tokens.items) one (f.held n x (omega arith) at_first x.tokens.items y.tokens.items filled)))
+          subst (HasBecome N (IsFilled N ls) u) h.1
+          (subst (λ w. HasBecome N (IsFilled N ls) w y) one
+          (subst (λ d. (ts us : List Token) → IsFilled N ks (source N d) d ts us → IsFilled N ls (source N d) d ts us) (sym same) (f.held n x (omega arith) at_first) x.tokens.items y.tokens.items filled))
         where
           one : x ≡ u
           one = some_stream (sym at_first ∙ (ap (slice_get old) (sym h.0) ∙ a))
@@ -164,7 +163,7 @@ module _ {A : Type 0} (N : Network) (ls : List (Kept A)) (old : List Stream) (ks
               some_stream : Some x ≡ Some u → x ≡ u
               some_stream k = cc
 
-  pub filling_ends : n ≡ length now → AreFilled N ls old now
+  pub filling_ends : n ≡ length now → HaveBecome N (IsFilled N ls) old now
   filling_ends e = record { lines = f.lines; each = λ j x y a b. f.done j x y (let l : j < length now = slice_get_within now j y b in omega (arith, e, l)) a b }
 
 -- ---- the streams of an answer
@@ -172,7 +171,7 @@ module _ {A : Type 0} (N : Network) (ls : List (Kept A)) (old : List Stream) (ks
 -- streams that are filled from the lists of these cells are those of the answer
 module _ {A : Type 0} (s : RunState) (ls : List (Kept A)) (old new : List Stream)
     (named : map stream_line old ≡ stream_lines s.network s.watch)
-    (filled : AreFilled s.network ls old new)
+    (filled : HaveBecome s.network (IsFilled s.network ls) old new)
     (kept : (p q : ℕ) → kept_in ls p q ≡ (view_at s.cells p).kept q)
     (printed : (p : ℕ) → printed_in ls p ≡ (view_at s.cells p).printed)
     (given : HasInputs s.network s.input old) where

@@ -1,5 +1,5 @@
 -- Streams of input channels, which get the whole list of the input.
-use Rattle.std.proofs.Common.{arith, ◌≡◌, ◌⊎◌, inl, inr, ℕ, suc, ◌+◌, ◌-◌, ◌<◌, ◌≤◌, Bool, true, false, if◌then◌else◌, List, [], ◌∷◌, ◌++◌, length, map, Some, None, refl, sym, ap, ◌∙◌, subst, slice_get, slice_set, append_assoc, append-nil}
+use Rattle.std.proofs.Common.{arith, ◌≡◌, ◌⊎◌, inl, inr, ℕ, suc, ◌-◌, ◌<◌, ◌≤◌, Bool, true, false, if◌then◌else◌, List, [], ◌∷◌, ◌++◌, length, map, Some, None, refl, sym, ap, ◌∙◌, subst, slice_get, slice_set, append_assoc}
 use Rattle.std.specs.List.{All}
 use Rattle.std.proofs.lemmas.List.{length-map, map-append}
 use Rattle.std.proofs.lemmas.Option.{slice_get_within, get_or_from_slice_get}
@@ -15,7 +15,7 @@ use Rattle.kahn_code.specs.Cells.{AreKeptTokens}
 use Rattle.kahn_streams.specs.Tokens.{IsOwn, token_value}
 use Rattle.kahn_streams.specs.declared.answer.Stream.{Stream}
 use Rattle.kahn_streams.specs.Answers.{stream_line}
-use Rattle.kahn_pool.specs.inner.Streams.{AreNamed, IsBegun, IsDeclared, IsBare, HasInput, HaveInput, HasInputs}
+use Rattle.kahn_pool.specs.inner.Streams.{AreNamed, AreAllOf, HasBecome, HaveBecome, IsBegun, IsDeclared, IsBare, HasInput, HasInputs}
 use Rattle.kahn_pool.proofs.Named.{declared, stream_before}
 use Rattle.kahn_code.proofs.Lists.{at_last}
 use Rattle.kahn_pool.proofs.Lists.{set_get, set_else}
@@ -83,7 +83,7 @@ input_role N c e = role_given (role_at N c) (first_writer N.instances 0 c) (no_g
 given_role : (r : Role) (s : Source) → r ≡ Input → source_by r s ≡ Given
 given_role r s e = ap (λ x. source_by x s) e
 
-pub channel_given : (N : Network) (I : Inputs) (c : ℕ) (before after : List Token) → (role_at N c ≡ Input → AreKeptTokens N I (Channel c) (I c) after) →
+pub channel_given : (N : Network) (I : Inputs) (c : ℕ) (before after : List Token) → AreAllOf N I c after →
     ((role_at N c ≡ Input → ⊥) → after ≡ before) → HasInput N I (source N (Channel c)) (Channel c) before after
 channel_given N I c before after f g = by (source N (Channel c)) refl
   where
@@ -98,7 +98,7 @@ pub record Giving (N : Network) (I : Inputs) (old now : List Stream) (n : ℕ) :
   pub named : AreNamed N old
   pub bare : All IsBare old
   pub lines : map stream_line now ≡ map stream_line old
-  pub done : (j : ℕ) (x y : Stream) → j < n → slice_get old j ≡ Some x → slice_get now j ≡ Some y → HasInput N I (source N y.line) y.line x.tokens.items y.tokens.items
+  pub done : (j : ℕ) (x y : Stream) → j < n → slice_get old j ≡ Some x → slice_get now j ≡ Some y → HasBecome N (HasInput N I) x y
   pub rest : (j : ℕ) → n ≤ j → slice_get now j ≡ slice_get old j
 
 module _ (N : Network) (I : Inputs) (old now : List Stream) (n : ℕ) (f : Giving N I old now n) where
@@ -113,8 +113,7 @@ module _ (N : Network) (I : Inputs) (old now : List Stream) (n : ℕ) (f : Givin
       let g = at_first x e in
       subst IsBare (get_or_from_slice_get old n x x g) (f.bare n x (slice_get_within old n x g))
 
-  pub giving_goes : (x y : Stream) → slice_get now n ≡ Some x → y.line ≡ x.line →
-      HasInput N I (source N x.line) x.line x.tokens.items y.tokens.items → Giving N I old (slice_set now n y) (suc n)
+  pub giving_goes : (x y : Stream) → slice_get now n ≡ Some x → y.line ≡ x.line → HasBecome N (HasInput N I) x y → Giving N I old (slice_set now n y) (suc n)
   giving_goes x y e same given = record {
     named = f.named;
     bare = f.bare;
@@ -123,13 +122,9 @@ module _ (N : Network) (I : Inputs) (old now : List Stream) (n : ℕ) (f : Givin
     rest = λ j l. set_else now n j y (λ k. omega (arith, k, l)) ∙ f.rest j (omega (arith, l));
   }
     where
-      done_at : (j : ℕ) (u v : Stream) → j < suc n → slice_get old j ≡ Some u → ((j ≡ n) × (y ≡ v)) ⊎ ((j ≡ n → ⊥) × (slice_get now j ≡ Some v)) →
-          HasInput N I (source N v.line) v.line u.tokens.items v.tokens.items
+      done_at : (j : ℕ) (u v : Stream) → j < suc n → slice_get old j ≡ Some u → ((j ≡ n) × (y ≡ v)) ⊎ ((j ≡ n → ⊥) × (slice_get now j ≡ Some v)) → HasBecome N (HasInput N I) u v
       done_at j u v l a (inr h) = f.done j u v (let o = h.0 in omega (arith, l, o)) a h.1
-      done_at j u v l a (inl h) =
-          subst (λ w. HasInput N I (source N w.line) w.line u.tokens.items w.tokens.items) h.1
-          (subst (λ d. HasInput N I (source N d) d u.tokens.items y.tokens.items) (sym same)
-          (subst (λ w. HasInput N I (source N x.line) x.line w.tokens.items y.tokens.items) one given))
+      done_at j u v l a (inl h) = subst (HasBecome N (HasInput N I) u) h.1 (subst (λ w. HasBecome N (HasInput N I) w y) one given)
         where
           one : x ≡ u
           one = some_stream (sym (at_first x e) ∙ (ap (slice_get old) (sym h.0) ∙ a))
@@ -137,11 +132,11 @@ module _ (N : Network) (I : Inputs) (old now : List Stream) (n : ℕ) (f : Givin
               some_stream : Some x ≡ Some u → x ≡ u
               some_stream k = cc
 
-  pub giving_ends : n ≡ length now → HaveInput N I old now
+  pub giving_ends : n ≡ length now → HaveBecome N (HasInput N I) old now
   giving_ends e = record { lines = f.lines; each = λ j x y a b. f.done j x y (let l : j < length now = slice_get_within now j y b in omega (arith, e, l)) a b }
 
 -- each stream of an input channel has the whole list
-pub have_inputs : (N : Network) (I : Inputs) (old new : List Stream) → HaveInput N I old new → HasInputs N I new
+pub have_inputs : (N : Network) (I : Inputs) (old new : List Stream) → HaveBecome N (HasInput N I) old new → HasInputs N I new
 have_inputs N I old new h j c y e at given =
     let x = stream_before old new j y h.lines e in
     by (source N y.line) (subst (λ d. source N d ≡ Given) (sym at) given) (h.each j x.0 y x.1 e)

@@ -74,11 +74,8 @@ calls h (x ∷ later) wired (one, rest) =
     let g = call h x wired one in
     goes_on_then h x (last_of x later) g (calls x later (subst IsWellWired (sym g.network) wired) rest)
 
-pub answers : (h : HeldRun) (later : List HeldRun) (a b : Answer) → IsWellWired h.network → AreCalls h later → IsAnswerOf h a → IsAnswerOf (last_of h later) b →
-    SaysNoLess a b
-answers h later a b wired all x y =
-    let g = calls h later wired all in
-    record {
-      streams = λ s z u w e. begins h (last_of h later) wired g s.line (values_of s) (values_of z) (x.streams s u) (subst (λ l. HasSoFar (last_of h later) l (values_of z)) (sym e) (y.streams z w));
-      events = λ p k l u w. let m = g.events p in let i = x.events p k u in let j = y.events p l w in omega (arith, m, i, j);
-    }
+pub answers : (h k : HeldRun) (a b : Answer) → IsWellWired h.network → GoesOn h k → IsAnswerOf h a → IsAnswerOf k b → SaysNoLess a b
+answers h k a b wired g x y = record {
+  streams = λ s z u w e. begins h k wired g s.line (values_of s) (values_of z) (x.streams s u) (subst (λ l. HasSoFar k l (values_of z)) (sym e) (y.streams z w));
+  events = λ p c d u w. let m = g.events p in let i = x.events p c u in let j = y.events p d w in omega (arith, m, i, j);
+}

@@ -18,13 +18,14 @@ use Rattle.kahn_code.specs.Told.{Told, told_view}
 use Rattle.kahn_job.specs.inner.Idles.{cells_of}
 use Rattle.kahn_crew.specs.inner.Wants.{IsLack}
 use Rattle.kahn_crew.specs.declared.fault.CrewFault.TheVariants.{NoMemory, NoThread}
+use Rattle.kahn_crew.specs.declared.plan.Plan.{Plan}
 use Rattle.kahn_pool.specs.declared.part.Stopped.{Stopped}
 use Rattle.kahn_job.specs.inner.Works.{Work}
 use Rattle.kahn_pool.specs.inner.Bench.{AreStreams}
 use Rattle.kahn_pool.specs.inner.Concluded.{IsConcluded}
 use Rattle.kahn_pool.specs.inner.Gathered.{IsFrom, IsGathered, no_view, view_at}
 use Rattle.kahn_pool.specs.HeldRuns.{GoesOn, HasResumed, HeldRun, IsAnswerOf, IsResumed, IsSoFar, Seen, seen_at, seen_events, seen_of, unseen}
-use Rattle.kahn_pool.specs.inner.Holding.{AreHeld, HasStopped, HaveRisen, IsHolding, cells_seen, held_state, work_events}
+use Rattle.kahn_pool.specs.inner.Holding.{AreHeld, HasStopped, HaveRisen, IsGiving, IsHolding, cells_seen, held_state, run_of, work_events}
 use Rattle.kahn_pool.specs.inner.Workbench.{AllStandBy}
 use Rattle.kahn_streams.specs.declared.answer.Answer.{Answer}
 use Rattle.kahn_streams.specs.declared.answer.End.{End}
@@ -37,19 +38,6 @@ use Rattle.kahn_pool.proofs.Going_on as Going
 use Rattle.kahn_pool.proofs.Going_on.{HasRisenTo}
 use Rattle.kahn_pool.proofs.Sizes.{settles_ends}
 use Rattle.kahn_crew.proofs.Started.{at_mapped}
-
--- what contracts see of a held run with these jobs
-abbrev pub run_of : Program → Lists → Option ℕ → ℕ → ℕ → ℕ → List Work → Option Verdict → HeldRun
-run_of t lists watch workers quantum bound ws verdict = record {
-  network = t;
-  input = lists;
-  watch = watch;
-  workers = workers;
-  quantum = quantum;
-  bound = bound;
-  cells = map seen_of (cells_of ws);
-  verdict = verdict;
-}
 
 pub seen_there : (ws : List Work) (p : ℕ) (w : Work) → slice_get ws p ≡ Some w → seen_at (map seen_of (cells_of ws)) p ≡ seen_of w.cell
 seen_there ws p w e = mapped seen_of (cells_of ws) p w.cell unseen (at_mapped (λ (z : Work). z.cell) ws p w e)
@@ -90,19 +78,19 @@ past_map_length : (ws : List Work) (p : ℕ) → length ws ≤ p → length (cel
 past_map_length ws p l = let n = length-map ws (λ (w : Work). w.cell) in omega (arith, l, n)
 
 module _ (t : Program) (wired : IsWellWired t) (lists after : Lists) (grown : AreInputsExtended (inputs_of lists) (inputs_of after))
-    (watch : Option ℕ) (workers quantum bound total : ℕ) (ws us : List Work) (budget left : ℕ) (old : AreHeld t lists watch bound ws budget)
-    (new : AreHeld t after watch total us left) (risen : HaveRisen ws us) (said next : Option Verdict) where
+    (plan : Plan) (total : ℕ) (ws us : List Work) (budget left : ℕ) (old : AreHeld t lists plan.watch plan.bound ws budget)
+    (new : AreHeld t after plan.watch total us left) (risen : HaveRisen ws us) (said next : Option Verdict) where
   abbrev N : Network
   N = network_of t
 
   abbrev before : HeldRun
-  before = run_of t lists watch workers quantum bound ws said
+  before = run_of t lists plan ws said
 
   abbrev now : HeldRun
-  now = run_of t after watch workers quantum total us next
+  now = run_of t after (record plan { bound = total }) us next
 
-  standing : (vs : List Work) → ((p : ℕ) (w : Work) → slice_get vs p ≡ Some w → StoodBy N (inputs_of w.cell.input) watch p (told_view w.cell)) → AllStandBy t watch (cells_of vs)
-  standing vs h p c e = let w = job_from vs p c e in subst (λ (z : Told). StoodBy N (inputs_of z.input) watch p (told_view z)) (sym w.2) (h p w.0 w.1)
+  standing : (vs : List Work) → ((p : ℕ) (w : Work) → slice_get vs p ≡ Some w → StoodBy N (inputs_of w.cell.input) plan.watch p (told_view w.cell)) → AllStandBy t plan.watch (cells_of vs)
+  standing vs h p c e = let w = job_from vs p c e in subst (λ (z : Told). StoodBy N (inputs_of z.input) plan.watch p (told_view z)) (sym w.2) (h p w.0 w.1)
 
   risen_cells : (p : ℕ) (c d : Told) → slice_get (cells_of ws) p ≡ Some c → slice_get (cells_of us) p ≡ Some d → HasRisenTo c d
   risen_cells p c d e f =
@@ -113,7 +101,7 @@ module _ (t : Program) (wired : IsWellWired t) (lists after : Lists) (grown : Ar
 
   pub goes_on : GoesOn before now
   goes_on =
-      Going.goes_on t wired lists after grown watch workers quantum bound total (cells_of ws) (cells_of us)
+      Going.goes_on t wired lists after grown plan.watch plan.workers plan.quantum plan.bound total (cells_of ws) (cells_of us)
       (length-map ws (λ (w : Work). w.cell) ∙ old.idle.count) (length-map us (λ (w : Work). w.cell) ∙ new.idle.count)
       (standing ws old.stood) (standing us new.stood) risen_cells said next
 
@@ -139,9 +127,9 @@ pub answer_gathered : (t : Program) (lists : Lists) (watch : Option ℕ) (bound 
 answer_gathered t lists watch bound ws budget halted a c streams count =
     gathered (held_state t lists watch ws) bound budget halted a c.last streams c.rule c.within count
 
-module _ (t : Program) (lists : Lists) (watch : Option ℕ) (workers quantum bound : ℕ) (ws : List Work) (verdict : Option Verdict) where
+module _ (t : Program) (lists : Lists) (plan : Plan) (ws : List Work) (verdict : Option Verdict) where
   abbrev held : HeldRun
-  held = run_of t lists watch workers quantum bound ws verdict
+  held = run_of t lists plan ws verdict
 
   view_there : (p : ℕ) → ((w : Work) × (slice_get ws p ≡ Some w)) ⊎ (length ws ≤ p) →
       ((view_at (cells_seen ws) p).events ≡ (seen_at held.cells p).events)
@@ -168,16 +156,16 @@ module _ (t : Program) (lists : Lists) (watch : Option ℕ) (workers quantum bou
       × ((view_at (cells_seen ws) p).printed ≡ (seen_at held.cells p).printed)
   view_is p = view_there p (job_or ws p)
 
-  so_far : (s : Source) (c : Line) (ts : List Token) → IsFrom (network_of t) (inputs_of lists) watch (cells_seen ws) s c ts → IsSoFar held s c (map token_value ts)
+  so_far : (s : Source) (c : Line) (ts : List Token) → IsFrom (network_of t) (inputs_of lists) plan.watch (cells_seen ws) s c ts → IsSoFar held s c (map token_value ts)
   so_far Given (Channel c) ts h = h.values
   so_far Given (Print r) ts h = absurd h
   so_far (Written p) (Channel c) ts (q, w, s, e) = (q, w, s, ap (map token_value) (e ∙ (view_is p).1 q))
   so_far (Written p) (Print r) ts h = ap (map token_value) (h ∙ (view_is p).2)
   so_far Nobody c ts h = absurd h
 
-  pub answer_is : (budget : ℕ) (halted : Bool) (a : Answer) → IsConcluded (held_state t lists watch ws) bound budget halted a.verdict a.ends.items →
-      AreStreams (held_state t lists watch ws) a.streams.items (stream_lines (network_of t) watch) → verdict ≡ Some a.verdict →
-      IsRight (network_of t) (inputs_of lists) bound watch a → IsAnswerOf held a
+  pub answer_is : (budget : ℕ) (halted : Bool) (a : Answer) → IsConcluded (held_state t lists plan.watch ws) plan.bound budget halted a.verdict a.ends.items →
+      AreStreams (held_state t lists plan.watch ws) a.streams.items (stream_lines (network_of t) plan.watch) → verdict ≡ Some a.verdict →
+      IsRight (network_of t) (inputs_of lists) plan.bound plan.watch a → IsAnswerOf held a
   answer_is budget halted a c streams v right = record {
     right = right;
     verdict = v;
@@ -187,62 +175,64 @@ module _ (t : Program) (lists : Lists) (watch : Option ℕ) (workers quantum bou
 
 -- ---- what a held run keeps
 
-module _ (t : Program) (wired : IsWellWired t) (compiled : Program) (lists : Lists) (watch : Option ℕ) (workers quantum bound : ℕ) (ws : List Work) (budget : ℕ)
-    (ends : List End) (verdict : Option Verdict) (h : IsHolding t compiled lists watch workers quantum bound ws budget ends verdict) where
+module _ (t : Program) (wired : IsWellWired t) (compiled : Program) (lists : Lists) (plan : Plan) (ws : List Work) (budget : ℕ)
+    (ends : List End) (given : List Token) (verdict : Option Verdict) (h : IsHolding t compiled lists plan ws budget ends given verdict) where
   abbrev held_run : ℕ → List Work → Option Verdict → HeldRun
-  held_run total vs next = run_of t lists watch workers quantum total vs next
+  held_run total vs next = run_of t lists (record plan { bound = total }) vs next
 
   -- more input
   module _ (after : Lists) (grown : AreInputsExtended (inputs_of lists) (inputs_of after)) where
-    pub holding_fed : length after ≡ length lists → IsHolding t compiled after watch workers quantum bound ws budget ends None
-    holding_fed size = record {
+    pub holding_fed : length after ≡ length lists → IsGiving t after plan.watch given None → IsHolding t compiled after plan ws budget ends given None
+    holding_fed size giving = record {
       code = h.code;
       fits = size ∙ h.fits;
       range = h.range;
-      held = held_grown t lists watch bound ws ws budget h.held after grown;
+      held = held_grown t lists plan.watch plan.bound ws ws budget h.held after grown;
       ended = tt;
+      giving = giving;
     }
 
-    pub goes_on_fed : GoesOn (held_run bound ws verdict) (run_of t after watch workers quantum bound ws None)
+    pub goes_on_fed : GoesOn (held_run plan.bound ws verdict) (run_of t after plan ws None)
     goes_on_fed =
-        goes_on t wired lists after grown watch workers quantum bound bound ws ws budget budget h.held (held_grown t lists watch bound ws ws budget h.held after grown)
+        goes_on t wired lists after grown plan plan.bound ws ws budget budget h.held (held_grown t lists plan.watch plan.bound ws ws budget h.held after grown)
         (risen_here ws) verdict None
 
   -- a part with so many events more
-  module _ (more : ℕ) (few : bound + more < 2 ^ 48) (r : Stopped) (s : HasStopped t lists watch workers (bound + more) ws (budget + more) r) where
-    pub resumed : (next : Option Verdict) → HasResumed more (held_run bound ws verdict) (held_run (bound + more) r.idles.items next)
+  module _ (more : ℕ) (few : plan.bound + more < 2 ^ 48) (r : Stopped) (s : HasStopped t lists plan.watch plan.workers (plan.bound + more) ws (budget + more) r) where
+    pub resumed : (next : Option Verdict) → HasResumed more (held_run plan.bound ws verdict) (held_run (plan.bound + more) r.idles.items next)
     resumed next = record {
-      goes_on = goes_on t wired lists lists (λ c. prefix_refl (inputs_of lists c)) watch workers quantum bound (bound + more) ws r.idles.items budget r.budget h.held s.held s.risen
+      goes_on = goes_on t wired lists lists (λ c. prefix_refl (inputs_of lists c)) plan (plan.bound + more) ws r.idles.items budget r.budget h.held s.held s.risen
           verdict next;
       input = refl;
       bound = refl;
       few = few;
     }
 
-    pub resumed_ok : (v : Verdict) → r.outcome ≡ Ok v → IsResumed more (held_run bound ws verdict) (held_run (bound + more) r.idles.items (Some v)) v
+    pub resumed_ok : (v : Verdict) → r.outcome ≡ Ok v → IsResumed more (held_run plan.bound ws verdict) (held_run (plan.bound + more) r.idles.items (Some v)) v
     resumed_ok v e =
-        let c = subst (λ o. MatchResult o (λ v. (halted : Bool) × IsConcluded (held_state t lists watch r.idles.items) (bound + more) r.budget halted v r.ends.items) (IsLack workers)) e s.outcome in
-        (resumed (Some v), refl, part_settles t lists watch (bound + more) r.idles.items r.budget s.held c.0 v r.ends.items c.1)
+        let c = subst (λ o. MatchResult o (λ v. (halted : Bool) × IsConcluded (held_state t lists plan.watch r.idles.items) (plan.bound + more) r.budget halted v r.ends.items) (IsLack plan.workers)) e s.outcome in
+        (resumed (Some v), refl, part_settles t lists plan.watch (plan.bound + more) r.idles.items r.budget s.held c.0 v r.ends.items c.1)
 
-    pub still_holding : r.outcome ≡ Err NoMemory → IsHolding t compiled lists watch workers quantum bound r.idles.items budget ends verdict
-    still_holding e =
+    pub still_holding : r.outcome ≡ Err NoMemory → (later : List Token) → IsGiving t lists plan.watch later verdict → IsHolding t compiled lists plan r.idles.items budget ends later verdict
+    still_holding e later giving =
         let u = s.untouched e in
         record {
           code = h.code;
           fits = h.fits;
           range = h.range;
-          held = held_again t lists watch (bound + more) r.idles.items r.idles.items r.budget s.held more bound budget refl (sym u.0);
-          ended = ended_alike r.idles.items ws u.1 t lists watch bound budget ends verdict h.ended;
+          held = held_again t lists plan.watch (plan.bound + more) r.idles.items r.idles.items r.budget s.held more plan.bound budget refl (sym u.0);
+          ended = ended_alike r.idles.items ws u.1 t lists plan.watch plan.bound budget ends verdict h.ended;
+          giving = giving;
         }
 
-    pub still_same : r.outcome ≡ Err NoMemory → held_run bound r.idles.items verdict ≡ held_run bound ws verdict
+    pub still_same : r.outcome ≡ Err NoMemory → held_run plan.bound r.idles.items verdict ≡ held_run plan.bound ws verdict
     still_same e =
-        ap (λ (cs : List Seen). record { network = t; input = lists; watch = watch; workers = workers; quantum = quantum; bound = bound; cells = cs; verdict = verdict })
+        ap (λ (cs : List Seen). record { network = t; input = lists; watch = plan.watch; workers = plan.workers; quantum = plan.quantum; bound = plan.bound; cells = cs; verdict = verdict })
         (same_seen r.idles.items ws (s.untouched e).1)
 
-    pub several : r.outcome ≡ Err NoThread → 1 < workers
+    pub several : r.outcome ≡ Err NoThread → 1 < plan.workers
     several e =
-        subst (λ o. MatchResult o (λ v. (halted : Bool) × IsConcluded (held_state t lists watch r.idles.items) (bound + more) r.budget halted v r.ends.items) (IsLack workers)) e s.outcome
+        subst (λ o. MatchResult o (λ v. (halted : Bool) × IsConcluded (held_state t lists plan.watch r.idles.items) (plan.bound + more) r.budget halted v r.ends.items) (IsLack plan.workers)) e s.outcome
 
 -- before the first event
 pub none_seen : (ws : List Work) → ((p : ℕ) (w : Work) → slice_get ws p ≡ Some w → w.cell.events ≡ 0) → (p : ℕ) → (seen_at (map seen_of (cells_of ws)) p).events ≡ 0

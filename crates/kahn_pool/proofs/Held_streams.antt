@@ -12,13 +12,14 @@ use Rattle.kahn_code.specs.Cells.{is_streamed}
 use Rattle.kahn_streams.specs.Tokens.{token_value}
 use Rattle.kahn_job.specs.inner.Idles.{AreIdle, cells_of}
 use Rattle.kahn_job.specs.inner.Works.{Work, width_of}
+use Rattle.kahn_crew.specs.declared.plan.Plan.{Plan}
 use Rattle.kahn_pool.specs.inner.Concluded.{IsConcluded}
 use Rattle.kahn_pool.specs.inner.Streams.{AreAllGiven, AreGiven}
-use Rattle.kahn_pool.specs.inner.Holding.{held_state, work_events}
+use Rattle.kahn_pool.specs.inner.Holding.{held_state, run_of, work_events}
 use Rattle.kahn_pool.specs.HeldRuns.{HasSoFar, HeldRun, IsLineOf, IsRightSoFar, IsSoFar, Seen}
 use Rattle.kahn_streams.specs.declared.answer.End.{End}
 use Rattle.kahn_streams.specs.declared.answer.Verdict.{Verdict}
-use Rattle.kahn_pool.proofs.Held_runs.{all_seen, run_of, seen_there}
+use Rattle.kahn_pool.proofs.Held_runs.{all_seen, seen_there}
 use Rattle.kahn_pool.proofs.Giving.{input_role}
 pub use Rattle.kahn_pool.proofs.Once_written.{so_far_is}
 use Rattle.kahn_pool.proofs.Once_written.{input_watched}
@@ -39,17 +40,17 @@ given_on N I J watch ts longer given c w =
 
 -- ---- what is lent
 
-module _ (t : Program) (lists : Lists) (watch : Option ℕ) (workers quantum bound : ℕ) (ws : List Work) (verdict : Option Verdict) where
+module _ (t : Program) (lists : Lists) (plan : Plan) (ws : List Work) (verdict : Option Verdict) where
   abbrev lent : HeldRun
-  lent = run_of t lists watch workers quantum bound ws verdict
+  lent = run_of t lists plan ws verdict
 
   -- a channel of which there is a stream, and an instance that prints
   pub streamed_here : (line : Line) (c : ℕ) → line ≡ Channel c → IsLineOf lent line →
-      (c < length (network_of t).channels) × (is_streamed (network_of t) watch c ≡ true)
-  streamed_here line c e (j, at) = subst (HasLine (network_of t) watch) e (has_line (network_of t) watch j line at)
+      (c < length (network_of t).channels) × (is_streamed (network_of t) plan.watch c ≡ true)
+  streamed_here line c e (j, at) = subst (HasLine (network_of t) plan.watch) e (has_line (network_of t) plan.watch j line at)
 
   pub printed_here : (line : Line) (p : ℕ) → line ≡ Print p → IsLineOf lent line → p < length (network_of t).instances
-  printed_here line p e (j, at) = subst (HasLine (network_of t) watch) e (has_line (network_of t) watch j line at)
+  printed_here line p e (j, at) = subst (HasLine (network_of t) plan.watch) e (has_line (network_of t) plan.watch j line at)
 
   -- the job of the writer has that parameter
   pub width_there : AreIdle t lists ws → (p q : ℕ) (w : Work) → slice_get ws p ≡ Some w → q < length (instance_at (network_of t) p).actuals → q < width_of w
@@ -70,18 +71,18 @@ module _ (t : Program) (lists : Lists) (watch : Option ℕ) (workers quantum bou
       subst (λ l. HasSoFar lent l (map token_value ts)) (sym e) (ap (map token_value) (is ∙ ap (λ (z : Seen). z.printed) (sym (seen_there ws p w at))))
 
   pub given_so_far_here : (line : Line) (c : ℕ) (ts : List Token) → line ≡ Channel c → IsLineOf lent line → channel_source (network_of t) c ≡ Given →
-      AreAllGiven (network_of t) (inputs_of lists) watch ts → HasSoFar lent line (map token_value ts)
+      AreAllGiven (network_of t) (inputs_of lists) plan.watch ts → HasSoFar lent line (map token_value ts)
   given_so_far_here line c ts e here source all =
       let role = input_role (network_of t) c source in
       subst (λ l. HasSoFar lent l (map token_value ts)) (sym e)
       (subst (λ s. IsSoFar lent s (Channel c) (map token_value ts)) (sym source)
-      (all c (input_watched (network_of t) watch c role (streamed_here line c e here).1) role))
+      (all c (input_watched (network_of t) plan.watch c role (streamed_here line c e here).1) role))
 
 -- ---- they are right
 
-pub right_so_far : (t : Program) (lists : Lists) (watch : Option ℕ) (workers quantum bound : ℕ) (ws : List Work) (verdict : Option Verdict) (budget : ℕ) →
-    budget + sum_by work_events ws ≡ bound → (halted : Bool) (v : Verdict) (ends : List End) → IsConcluded (held_state t lists watch ws) bound budget halted v ends →
-    IsRightSoFar (run_of t lists watch workers quantum bound ws verdict) v ends
-right_so_far t lists watch workers quantum bound ws verdict budget left halted v ends c =
+pub right_so_far : (t : Program) (lists : Lists) (plan : Plan) (ws : List Work) (verdict : Option Verdict) (budget : ℕ) →
+    budget + sum_by work_events ws ≡ plan.bound → (halted : Bool) (v : Verdict) (ends : List End) → IsConcluded (held_state t lists plan.watch ws) plan.bound budget halted v ends →
+    IsRightSoFar (run_of t lists plan ws verdict) v ends
+right_so_far t lists plan ws verdict budget left halted v ends c =
     let sum = all_seen ws in
-    right_with t lists watch workers quantum bound (cells_of ws) verdict budget (omega (arith, left, sum)) halted v ends c
+    right_with t lists plan.watch plan.workers plan.quantum plan.bound (cells_of ws) verdict budget (omega (arith, left, sum)) halted v ends c

@@ -1,5 +1,5 @@
 -- The lines that are still to come, and which processes print.
-use Rattle.std.proofs.Common.{arith, ◌≡◌, ℕ, zero, suc, ◌<◌, Bool, true, false, if◌then◌else◌, List, [], ◌∷◌, ◌++◌, length, drop, map, Option, Some, refl, sym, ap, ◌∙◌, slice_get, slice_index_or, append_assoc, append-nil}
+use Rattle.std.proofs.Common.{arith, ◌≡◌, ℕ, zero, suc, ◌<◌, Bool, true, false, if◌then◌else◌, List, [], ◌∷◌, ◌++◌, length, drop, map, Option, Some, refl, sym, ap, ◌∙◌, slice_get, slice_index_or, append_assoc}
 use Rattle.kahn_streams.specs.declared.tree.Kind.TheVariants.{Integer}
 use Rattle.kahn_streams.specs.declared.tree.Role.TheVariants.{Inner}
 use Rattle.kahn_streams.specs.declared.tree.Declaration.{Declaration}

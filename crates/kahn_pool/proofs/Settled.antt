@@ -19,7 +19,6 @@ use Rattle.kahn_crew.specs.inner.Tasks.{Tasked, Continues, IsTrueOf, standing_af
 use Rattle.kahn_pool.proofs.Benched.{some_one}
 use Rattle.kahn_pool.proofs.Lists.{set_get, set_else}
 use Rattle.kahn_job.proofs.Berthed.{past_none}
-use Rattle.kahn_crew.proofs.Resting.{continues_here}
 use Rattle.kahn_pool.specs.inner.Rested.{HaveSettledTasks, IsSaid, IsSettledTask, Says, SettlesTo}
 
 -- ---- input channels

@@ -1,6 +1,6 @@
 -- The events of an answer and the size of the solution.
 use mathlib.Core.Path.{fun_ext}
-use Rattle.std.proofs.Common.{arith, ◌≡◌, ◌↔◌, ℕ, zero, suc, ◌+◌, ◌≤◌, max, List, [], ◌∷◌, ◌++◌, length, sum_by, refl, sym, subst, le_trans, le_of_suc-le-suc, suc-le-suc, not-suc-le-zero, Option, Some, slice_get, pos}
+use Rattle.std.proofs.Common.{arith, ◌≡◌, ◌≢◌, ◌↔◌, ℕ, zero, suc, ◌+◌, ◌≤◌, max, List, [], ◌∷◌, ◌++◌, length, sum_by, refl, sym, subst, le_trans, le_of_suc-le-suc, suc-le-suc, not-suc-le-zero, Option, Some, slice_get, pos}
 use Rattle.std.proofs.Math.Nat.{le-max_left, le-max_right}
 use Rattle.std.proofs.lemmas.List.Sums.{sum_by-cons}
 use Rattle.kahn_streams.specs.declared.value.Value.{Value}
@@ -207,11 +207,10 @@ module _ (N : Network) (I : Inputs) (bound : ℕ) (watch : Option ℕ) (a : Answ
 
 -- ---- two of them
 
-pub verdict_is_one : (N : Network) (I : Inputs) (bound : ℕ) (watch other : Option ℕ) (a b : Answer) → IsRight N I bound watch a →
-    IsRight N I bound other b → (a.verdict ≡ Memory → ⊥) → (b.verdict ≡ Memory → ⊥) → a.verdict ≡ b.verdict
-verdict_is_one N I bound watch other a b r s m n = by a.verdict b.verdict (settles N I bound watch a r m) (settles N I bound other b s n) m n
+pub verdict_is_one : (N : Network) (I : Inputs) (bound : ℕ) (v w : Verdict) → Settles N I bound v → Settles N I bound w → v ≢ Memory → w ≢ Memory → v ≡ w
+verdict_is_one N I bound v w r s m n = by v w (r m) (s n) m n
   where
-    by : (v w : Verdict) → (v ≡ Finished) ↔ IsWithinBound N I bound → (w ≡ Finished) ↔ IsWithinBound N I bound → (v ≡ Memory → ⊥) → (w ≡ Memory → ⊥) → v ≡ w
+    by : (v w : Verdict) → (v ≡ Finished) ↔ IsWithinBound N I bound → (w ≡ Finished) ↔ IsWithinBound N I bound → v ≢ Memory → w ≢ Memory → v ≡ w
     by Finished w h g m n = sym (g.1 (h.0 refl))
     by Bound Finished h g m n = h.1 (g.0 refl)
     by Bound Bound h g m n = refl

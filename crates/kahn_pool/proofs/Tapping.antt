@@ -14,11 +14,10 @@ use Rattle.kahn_code.specs.Cells.{View}
 use Rattle.kahn_code.specs.Told.{Told}
 use Rattle.kahn_code.specs.declared.progress.Pause.{Pause}
 use Rattle.kahn_code.specs.declared.cell.Kept.{Kept}
-use Rattle.kahn_streams.specs.declared.answer.Stream.{Stream}
 use Rattle.kahn_pool.specs.inner.Bench.{HasRunCell, RunState, events_at}
 use Rattle.kahn_pool.specs.inner.Gathered.{no_view, view_at}
 use Rattle.kahn_pool.specs.inner.Streams.{kept_lists, printed_list}
-use Rattle.kahn_pool.specs.inner.Workbench.{AreKeptOf, AreLeft, AreStreamsReady, AreWhole, IsLaid, IsLeft, HasWorked, Table, actual_count, gone_in, parameter_count, sight_of, table_of, told_in}
+use Rattle.kahn_pool.specs.inner.Workbench.{AreKeptOf, AreLeft, AreWhole, IsLaid, IsLeft, HasWorked, Table, actual_count, gone_in, parameter_count, sight_of, table_of, told_in}
 use Rattle.kahn_pool.proofs.Benched.{get_map, ran, viewed}
 
 -- ---- later states of a bench

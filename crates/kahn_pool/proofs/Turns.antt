@@ -14,7 +14,7 @@ use Rattle.kahn_streams.specs.declared.answer.Outcome.TheVariants.{More, Waits}
 use Rattle.kahn_streams.specs.Network.{Reads, actual_at, instance_at}
 use Rattle.kahn_pool.specs.inner.Gathered.{view_at, IsOutcomeOf, TookAll}
 use Rattle.kahn_pool.specs.declared.rounds.Round.{Round}
-use Rattle.kahn_pool.specs.inner.Bench.{RunState, IsPaused, HasEndIn, events_at, view_events, all_events, weight, AreEnds, Goes, GoesIn, HasMoved, HasTakenTurn, HasRunCell, LacksMemory, Marked, PausedAt}
+use Rattle.kahn_pool.specs.inner.Bench.{RunState, IsPaused, HasEndIn, events_at, view_events, all_events, weight, AreEnds, Goes, HasMoved, HasTakenTurn, HasRunCell, LacksMemory, Marked, PausedAt}
 
 -- a pause and an outcome that say the same
 pub told_as : (s : RunState) (p : ℕ) (o : script.Outcome Store) (z z' : Pause) (x x' : Outcome) → z ≡ z' → x ≡ x' →
@@ -124,7 +124,7 @@ module _ (s s' : RunState) (r r' : Round) (p : ℕ) (z : Pause) (here : p < leng
     lacks = λ f. lacks_on (h.lacks f);
   }
 
-  module _ (x : End) (rests : HasEndIn s' p x) (more : x.outcome ≡ More → (z ≡ pause.Spent) ⊎ (z ≡ pause.NoMemory)) (s0 : RunState) (w0 t0 : ℕ) (go : GoesIn s0 w0 t0 s r p) where
+  module _ (x : End) (rests : HasEndIn s' p x) (more : x.outcome ≡ More → (z ≡ pause.Spent) ⊎ (z ≡ pause.NoMemory)) (s0 : RunState) (w0 t0 : ℕ) (go : Goes s0 w0 t0 s r.left r.memory r.moved r.ends.items p) where
     size : length (r.ends.items ++ x ∷ []) ≡ suc p
     size = length-append r.ends.items (x ∷ []) ∙ (let a : length r.ends.items ≡ p = go.size in omega (arith, a))
 

@@ -5,12 +5,12 @@ use Rattle.kahn_streams.specs.declared.value.Value.{Value}
 use Rattle.kahn_streams.specs.declared.value.Line.{Line}
 use Rattle.kahn_streams.specs.declared.feeds.FeedFault.{FeedFault}
 use Rattle.kahn_streams.specs.declared.config.Config.{Config}
-use Rattle.kahn_streams.specs.Network.{Actual, Source, Given, Written, Nobody, Writes, network_of, instance_at, actual_at, is_written}
+use Rattle.kahn_streams.specs.Network.{Network, Actual, Source, Given, Written, Nobody, Writes, network_of, instance_at, actual_at, is_written}
 use Rattle.kahn_streams.specs.declared.token.Token.{Token}
 use Rattle.kahn_streams.specs.declared.value.Line.TheVariants.{Channel, Print}
 use Rattle.kahn_streams.specs.Inputs.{Entry, Lists, inputs_of}
 use Rattle.kahn_streams.specs.Feeds.{IsEntryFed, IsUnwelcome}
-use Rattle.kahn_streams.specs.Solution.{AreInputsExtended, IsPrefix, IsWhole, source}
+use Rattle.kahn_streams.specs.Solution.{AreInputsExtended, Inputs, IsPrefix, IsWhole, source}
 use Rattle.kahn_code.specs.Cells.{is_streamed}
 use Rattle.kahn_streams.specs.Tokens.{token_value}
 use Rattle.kahn_code.specs.Told.{Told}
@@ -20,8 +20,8 @@ use Rattle.kahn_streams.specs.declared.answer.End.{End}
 use Rattle.kahn_streams.specs.declared.answer.Stream.{Stream}
 use Rattle.kahn_streams.specs.declared.answer.Verdict.{Verdict}
 use Rattle.kahn_streams.specs.declared.answer.Verdict.TheVariants.{Finished}
-use Rattle.kahn_pool.specs.declared.config.RunFault.{RunFault}
-use Rattle.kahn_pool.specs.declared.config.RunFault.TheVariants as fault
+use Rattle.kahn_streams.specs.declared.fault.RunFault.{RunFault}
+use Rattle.kahn_streams.specs.declared.fault.RunFault.TheVariants as fault
 use Rattle.kahn_pool.specs.declared.held_fault.HeldFault.{HeldFault}
 use Rattle.kahn_pool.specs.declared.held_fault.HeldFault.TheVariants as held
 
@@ -174,6 +174,12 @@ pub record IsRightSoFar (h : HeldRun) (v : Verdict) (ends : List End) : Type 0 w
   pub values : (c : Line) (vs : List Value) → HasSoFar h c vs → vs ≡ right.tapes c
   pub whole : v ≡ Finished → (c : Line) (vs : List Value) → HasSoFar h c vs → IsWhole (network_of h.network) (inputs_of h.input) c vs
   pub events : (p : ℕ) (x : End) → slice_get ends p ≡ Some x → x.events ≡ (seen_at h.cells p).events
+
+-- ---- answers
+
+-- a right answer for some bound, which has finished
+abbrev pub HasFinished : Network → Inputs → Option ℕ → Answer → Type 0
+HasFinished N I watch a = (bound : ℕ) × IsRight N I bound watch a × (a.verdict ≡ Finished)
 
 -- ---- many calls
 

@@ -1,9 +1,7 @@
 -- Believed. Why a run is refused.
 use Rattle.std.specs.Prelude.{ℕ, ◌≤◌, ◌<◌, ◌^◌}
-use Rattle.kahn_crew.specs.declared.fault.CrewFault.{CrewFault}
-use Rattle.kahn_crew.specs.declared.fault.CrewFault.TheVariants as crew
-use Rattle.kahn_pool.specs.declared.config.RunFault.{RunFault}
-use Rattle.kahn_pool.specs.declared.config.RunFault.TheVariants as fault
+use Rattle.kahn_streams.specs.declared.fault.RunFault.{RunFault}
+use Rattle.kahn_streams.specs.declared.fault.RunFault.TheVariants as fault
 
 -- why a run on one thread is refused
 abbrev pub IsRefusedRun : ℕ → RunFault → Type 0
@@ -12,11 +10,6 @@ IsRefusedRun bound fault.NoMemory = bound < 2 ^ 48
 IsRefusedRun bound fault.UnknownWatch = ⊥
 IsRefusedRun bound fault.NoThread = ⊥
 IsRefusedRun bound fault.Stalled = ⊥
-
--- the same want, told by the workers
-abbrev pub of_crew : CrewFault → RunFault
-of_crew crew.NoMemory = fault.NoMemory
-of_crew crew.NoThread = fault.NoThread
 
 -- memory was wanting, or a thread for one of several workers
 abbrev pub IsWant : ℕ → RunFault → Type 0

@@ -8,7 +8,6 @@ ghost use Rattle.kahn_pool.specs.Flows.{AreNew, HasFlowed, HasLetGo, HasPouredIn
 ghost use Rattle.kahn_streams.specs.declared.answer.Verdict.{Verdict as VerdictOf};
 
 use crate::bench::Bench;
-use crate::config::RunFault;
 use crate::held::lines_of;
 use crate::held_fault::HeldFault;
 use crate::lent::{is_watched, lend, make_room};
@@ -18,8 +17,8 @@ use crate::running::watched;
 use crate::streams::{empty_streams, give_watched};
 use kahn_crew::{Gate, Plan};
 use kahn_streams::{
-    Carried, Config, End, FeedFault, Input, Line, MOST_BOUND, Network, NoMemory, Side, Value,
-    Verdict, channel_meant,
+    Carried, Config, End, FeedFault, Input, Line, MOST_BOUND, Network, NoMemory, RunFault, Side,
+    Value, Verdict, channel_meant,
 };
 use std::alloc::Global;
 use std::marker::Model;

@@ -7,7 +7,6 @@ ghost use Rattle.kahn_pool.specs.HeldRuns.{HasFed, HasSoFar, HasStarted, IsAnswe
 ghost use Rattle.kahn_streams.specs.Answers.{stream_line, stream_lines};
 ghost use Rattle.kahn_streams.specs.declared.answer.Verdict.{Verdict as VerdictOf};
 
-use crate::config::RunFault;
 use crate::copies::{copied_ends, copied_streams};
 use crate::held_fault::HeldFault;
 use crate::laws;
@@ -19,8 +18,8 @@ use kahn_code::{Code, compile};
 use kahn_crew::{CrewFault, Gate, Plan};
 use kahn_job::Idle;
 use kahn_streams::{
-    Answer, Carried, Config, End, FeedFault, Input, Line, MOST_BOUND, Network, NoMemory, Side,
-    Stream, Value, Verdict,
+    Answer, Carried, Config, End, FeedFault, Input, Line, MOST_BOUND, Network, NoMemory, RunFault,
+    Side, Stream, Value, Verdict,
 };
 use std::alloc::Global;
 use std::marker::Model;
@@ -62,19 +61,16 @@ impl<'n> Model for Held<'n> {
     ghost use Rattle.kahn_streams.specs.contracts.tree.Action as action;
     ghost use Rattle.kahn_streams.specs.contracts.tree.Form as form;
     ghost use Rattle.std.specs.Coded.{codes};
-    ghost use Rattle.std.specs.Prelude.{map};
-    ghost use Rattle.kahn_job.specs.inner.Idles.{cells_of};
-    ghost use Rattle.kahn_pool.specs.HeldRuns.{HeldRun, seen_of};
-    ghost use Rattle.kahn_pool.specs.inner.Holding.{IsGiving, IsHolding};
+    ghost use Rattle.kahn_pool.specs.HeldRuns.{HeldRun};
+    ghost use Rattle.kahn_pool.specs.inner.Holding.{IsHolding, run_of};
 
     ghost Value = { HeldRun };
 
     ghost coded = { Prim.hlevel (codes, action.the_row.coded, form.the_row.coded) };
 
-    ghost view = { λ h. record { network = h.network.now; input = h.input; watch = h.plan.watch; workers = h.plan.workers; quantum = h.plan.quantum; bound = h.plan.bound; cells = map seen_of (cells_of h.idles.items); verdict = h.verdict } };
+    ghost view = { λ h. run_of h.network.now h.input h.plan h.idles.items h.verdict };
 
-    ghost invariant = { λ h. IsHolding h.network.now h.code.network.value h.input h.plan.watch h.plan.workers h.plan.quantum h.plan.bound h.idles.items h.budget h.ends.items h.verdict
-        × IsGiving h.network.now h.input h.plan.watch h.given.items h.verdict };
+    ghost invariant = { λ h. IsHolding h.network.now h.code.network.value h.input h.plan h.idles.items h.budget h.ends.items h.given.items h.verdict };
 }
 
 impl<'n> Held<'n> {

@@ -8,11 +8,12 @@ ghost use Rattle.kahn_streams.specs.declared.value.Value.{Value};
 ghost use Rattle.kahn_code.specs.Cells.{StoodBy, View};
 ghost use Rattle.kahn_pool.specs.inner.Gathered.{IsGathered, Stood};
 ghost use Rattle.kahn_streams.specs.Answers.{AreBegun, Settles, AreOne, IsRight};
-ghost use Rattle.kahn_pool.specs.HeldRuns.{AreCalls, GoesOn, HeldRun, IsAnswerOf, SaysNoLess, last_of};
+ghost use Rattle.kahn_pool.specs.HeldRuns.{AreCalls, GoesOn, HasFinished, HeldRun, IsAnswerOf, SaysNoLess, last_of};
 ghost use Rattle.kahn_pool.specs.inner.Parameters.{ReadsOnce};
 ghost use Rattle.kahn_streams.specs.declared.answer.Answer.{Answer};
+ghost use Rattle.kahn_streams.specs.declared.answer.Verdict.{Verdict};
 ghost use Rattle.kahn_streams.specs.declared.answer.Verdict.TheVariants.{Finished, Memory};
-ghost use Rattle.std.specs.Prelude.{◌≡◌, ℕ, List, Option};
+ghost use Rattle.std.specs.Prelude.{◌≡◌, ◌≢◌, ℕ, List, Option};
 
 /// What a cell says by the numbers of its parameters says the same by channels.
 pub fn by_channel()
@@ -26,19 +27,20 @@ pub fn assembled()
 
 /// Finished answers for one network, input and watch say the same, whatever their bounds.
 pub fn finished_is_one()
-    ensures { (N : Network) (I : Inputs) (watch : Option ℕ) (n m : ℕ) (a b : Answer) → IsRight N I n watch a → IsRight N I m watch b → a.verdict ≡ Finished → b.verdict ≡ Finished → AreOne a b }
+    ensures { (N : Network) (I : Inputs) (watch : Option ℕ) (a b : Answer) → HasFinished N I watch a → HasFinished N I watch b → AreOne a b }
 {}
 
 /// Want of memory apart, a right answer is finished exactly where the size of the solution is a number at most the bound;
 /// a finished one has done just so many events.
 pub fn finished_exactly()
     ensures settles { (N : Network) (I : Inputs) (bound : ℕ) (watch : Option ℕ) (a : Answer) → IsRight N I bound watch a → Settles N I bound a.verdict }
-    ensures counted { (N : Network) (I : Inputs) (bound : ℕ) (watch : Option ℕ) (a : Answer) → IsRight N I bound watch a → a.verdict ≡ Finished → HasSize N I a.events }
+    ensures counted { (N : Network) (I : Inputs) (n : ℕ) (watch : Option ℕ) (a : Answer) → IsRight N I n watch a → a.verdict ≡ Finished → HasSize N I a.events }
 {}
 
-/// Right answers for one network, input and bound have one verdict, want of memory apart.
+/// For one network, input and bound one verdict settles the run, want of memory apart. So right answers have one, as each of
+/// theirs settles it.
 pub fn verdict_is_one()
-    ensures { (N : Network) (I : Inputs) (bound : ℕ) (watch other : Option ℕ) (a b : Answer) → IsRight N I bound watch a → IsRight N I bound other b → (a.verdict ≡ Memory → ⊥) → (b.verdict ≡ Memory → ⊥) → a.verdict ≡ b.verdict }
+    ensures { (N : Network) (I : Inputs) (bound : ℕ) (v w : Verdict) → Settles N I bound v → Settles N I bound w → v ≢ Memory → w ≢ Memory → v ≡ w }
 {}
 
 /// Each stream of a right answer begins the history of its line, however the run stopped.
@@ -61,5 +63,5 @@ pub fn goes_on_then()
 /// down.
 pub fn calls_go_on()
     ensures calls { (h : HeldRun) (later : List HeldRun) → IsWellWired h.network → AreCalls h later → GoesOn h (last_of h later) }
-    ensures answers { (h : HeldRun) (later : List HeldRun) (a b : Answer) → IsWellWired h.network → AreCalls h later → IsAnswerOf h a → IsAnswerOf (last_of h later) b → SaysNoLess a b }
+    ensures answers { (h k : HeldRun) (a b : Answer) → IsWellWired h.network → GoesOn h k → IsAnswerOf h a → IsAnswerOf k b → SaysNoLess a b }
 {}

@@ -4,7 +4,6 @@
 mod awake;
 mod bench;
 mod conclude;
-mod config;
 mod copies;
 mod ends;
 mod flow;
@@ -26,12 +25,11 @@ mod streams;
 mod workbench;
 mod workers;
 
-pub use config::RunFault;
 pub use held::Held;
 pub use held_fault::HeldFault;
 pub use kahn_crew::{Gate, Open};
 pub use kahn_streams::{
-    Answer, Config, End, MOST_BOUND, MOST_QUANTUM, MOST_WORKERS, Outcome, Stream, Verdict,
+    Answer, Config, End, MOST_BOUND, MOST_QUANTUM, MOST_WORKERS, Outcome, RunFault, Stream, Verdict,
 };
 pub use laws::{
     calls_go_on, finished_exactly, finished_is_one, goes_on_same, goes_on_then, stopped_begins,

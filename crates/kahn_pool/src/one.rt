@@ -6,13 +6,12 @@ ghost use Rattle.kahn_pool.specs.Limits.{IsRefusedRun};
 ghost use Rattle.kahn_streams.specs.Inputs.{inputs_of};
 ghost use Rattle.std.specs.Prelude.{◌≡◌, ◌<◌, ◌^◌, ℕ, length, true, IfOk, IfErr, IfSome, MatchOption, MatchResult, None};
 
-use crate::config::RunFault;
 use crate::laws;
 use crate::rounds::run_bench;
 use crate::workbench::Workbench;
 use kahn_code::{CodeFault, Steps};
 use kahn_crew::{Gate, Open};
-use kahn_streams::{Answer, Input, MOST_BOUND, Network};
+use kahn_streams::{Answer, Input, MOST_BOUND, Network, RunFault};
 use std::alloc::Global;
 use std::marker::Brand;
 use std::sync::ledger::{Blank, Ledger};

@@ -2,15 +2,15 @@
 //! most turns were in vain, those that may go on come one after another before the next round.
 
 ghost use Rattle.kahn_streams.specs.Solution.{source};
-ghost use Rattle.kahn_pool.specs.inner.Bench.{RunState, HasRunCell, PausedAt, HasEndIn, Goes, GoesIn, HasMoved, LacksMemory, HasTakenTurn, HasVisited, IsSameRun, Marked, AreEnds, IsLast, IsVerdict, AreStreams, events_at, all_events, turn_of, weight};
+ghost use Rattle.kahn_pool.specs.inner.Bench.{HasRunCell, PausedAt, HasEndIn, HasMoved, LacksMemory, HasTakenTurn, HasVisited, IsSameRun, Marked, AreEnds, IsLast, IsVerdict, AreStreams, events_at, all_events, turn_of};
 ghost use Rattle.kahn_pool.specs.inner.Gathered.{IsFrom};
 ghost use Rattle.kahn_streams.specs.Answers.{IsCutShort, IsRight, stream_line, stream_lines};
-ghost use Rattle.kahn_pool.specs.inner.Workbench.{HasWorked, sight_of};
+ghost use Rattle.kahn_pool.specs.inner.Workbench.{GoesIn, HasWorked, Table, sight_of};
 ghost use Rattle.kahn_streams.specs.declared.answer.Outcome.TheVariants as outcome;
 ghost use Rattle.kahn_streams.specs.declared.answer.Stream.{Stream};
 ghost use Rattle.kahn_code.specs.declared.progress.Pause.TheVariants as pause;
 ghost use Rattle.std.specs.Prelude.{vec_len, vec_capacity};
-ghost use Rattle.std.specs.Prelude.{◌≡◌, ◌⊎◌, ◌<◌, ◌≤◌, ◌+◌, ◌^◌, ℕ, suc, length, map, true, false, IsTrue, IsFalse, slice_get, Some, None, IfOk, IfSome, IsOk, MatchOption, cond};
+ghost use Rattle.std.specs.Prelude.{◌≡◌, ◌⊎◌, ◌<◌, ◌≤◌, ◌+◌, ◌^◌, ℕ, Bool, suc, length, map, true, false, IsTrue, IsFalse, slice_get, Some, None, IfOk, IfSome, IsOk, MatchOption, cond};
 
 use crate::bench::Bench;
 use crate::laws;
@@ -183,7 +183,7 @@ impl Round {
         requires room { vec_len self.old.ends < vec_capacity self.old.ends }
         requires share { 0 < self.old.share }
         ensures share { self.new.share ≡ self.old.share }
-        ensures goes { (s0 : RunState) (w0 t0 : ℕ) → GoesIn s0 w0 t0 (sight_of bench.old) self.old instance → GoesIn s0 w0 t0 (sight_of bench.new) self.new (suc instance) }
+        ensures goes { (b : Table) (l : ℕ) (m : Bool) → GoesIn b l m bench.old self.old instance → GoesIn b l m bench.new self.new (suc instance) }
         ensures same { IsSameRun (sight_of bench.old) (sight_of bench.new) }
         ensures size { vec_len self.new.ends ≡ vec_len self.old.ends + 1 }
         ensures room { vec_capacity self.new.ends ≡ vec_capacity self.old.ends }
@@ -319,7 +319,7 @@ fn one_round<L: Ledger, G: Gate>(
     requires known { length (sight_of bench.old).cells ≡ length (sight_of bench.old).network.instances }
     requires room { length (sight_of bench.old).network.instances ≤ vec_capacity ends }
     requires lacks { LacksMemory (sight_of bench.old) left memory }
-    ensures goes { Goes (sight_of bench.old) (weight left memory) (all_events (sight_of bench.old) + left) (sight_of bench.new) result.left result.memory result.moved result.ends.items (length (sight_of bench.new).network.instances) }
+    ensures goes { GoesIn bench.old left memory bench.new result (length (sight_of bench.new).network.instances) }
     ensures same { IsSameRun (sight_of bench.old) (sight_of bench.new) }
     ensures share { result.share ≡ share }
     ensures room { vec_capacity result.ends ≡ vec_capacity ends }

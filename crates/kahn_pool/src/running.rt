@@ -1,20 +1,18 @@
 //! Runs of a network.
 
 ghost use Rattle.kahn_streams.specs.Network.{network_of};
-ghost use Rattle.kahn_streams.specs.Answers.{IsCutShort, Settles, IsRight, IsRightRun, IsUndeclared, IsWatched};
+ghost use Rattle.kahn_streams.specs.Answers.{IsCutShort, Settles, IsRight, IsRightRun, IsUndeclared, IsWatched, IsUnrun};
 ghost use Rattle.kahn_pool.specs.Limits.{IsWant};
-ghost use Rattle.kahn_pool.specs.Runs.{IsUnrun};
-ghost use Rattle.kahn_pool.specs.declared.config.RunFault.TheVariants.{UnknownWatch};
+ghost use Rattle.kahn_streams.specs.declared.fault.RunFault.TheVariants.{UnknownWatch};
 ghost use Rattle.kahn_streams.specs.Inputs.{inputs_of};
 ghost use Rattle.std.specs.Prelude.{◌≡◌, ◌<◌, ◌≤◌, ◌^◌, length, IfOk, MatchResult};
 
-use crate::config::RunFault;
 use crate::laws;
 use crate::one::{run_alone, run_watched};
 use crate::plan::{crew_plan, plan_of};
 use crate::workers::run_workers;
 use kahn_crew::{Gate, Plan};
-use kahn_streams::{Answer, Config, Input, Network, channel_named};
+use kahn_streams::{Answer, Config, Input, Network, RunFault, channel_named};
 use std::alloc::Global;
 use std::sync::Wait;
 use std::thread::{Threads, available_parallelism};

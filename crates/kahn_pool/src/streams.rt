@@ -6,12 +6,10 @@ ghost use Rattle.kahn_streams.specs.Prints.{declaration_prints};
 ghost use Rattle.kahn_streams.specs.Syntax.{prints_in};
 ghost use Rattle.kahn_streams.specs.Network.{network_of, instance_at, role_at};
 ghost use Rattle.kahn_streams.specs.declared.tree.Role.TheVariants.{Input as InputRole};
-ghost use Rattle.kahn_streams.specs.declared.value.Line.TheVariants.{Channel as ChannelLine};
-ghost use Rattle.kahn_streams.specs.Solution.{source};
 ghost use Rattle.kahn_streams.specs.Inputs.{inputs_of};
-ghost use Rattle.kahn_code.specs.Cells.{AreKeptTokens, is_streamed};
+ghost use Rattle.kahn_code.specs.Cells.{is_streamed};
 ghost use Rattle.kahn_streams.specs.Answers.{stream_line, channel_lines, print_lines, stream_lines};
-ghost use Rattle.kahn_pool.specs.inner.Streams.{AreAllGiven, AreGiven, AreNamed, IsBegun, IsDeclared, IsBare, kept_lists, AreLists, IsFilled, AreFilled, KeepsOtherLines, HasInput, HasInputs, HaveInput};
+ghost use Rattle.kahn_pool.specs.inner.Streams.{AreAllGiven, AreGiven, AreNamed, IsBegun, IsDeclared, IsBare, kept_lists, AreAllOf, AreLists, HasBecome, HaveBecome, IsFilled, KeepsOtherLines, HasInput, HasInputs};
 
 use kahn_code::Kept;
 use kahn_streams::{
@@ -128,7 +126,7 @@ fn fill_one(network: &Network, stream: &mut Stream, lists: &mut Vec<Kept>)
     requires lists { AreLists (network_of network.now) lists.old.items }
     ensures line { stream.new.line ≡ stream.old.line }
     ensures lists { AreLists (network_of network.now) lists.new.items }
-    ensures filled { IsFilled (network_of network.now) lists.old.items (source (network_of network.now) stream.old.line) stream.old.line stream.old.tokens.items stream.new.tokens.items }
+    ensures filled { HasBecome (network_of network.now) (IsFilled (network_of network.now) lists.old.items) stream.old stream.new }
     ensures others { KeepsOtherLines (network_of network.now) stream.old.line lists.old.items lists.new.items }
 {
     match stream.line {
@@ -152,7 +150,7 @@ fn fill_one(network: &Network, stream: &mut Stream, lists: &mut Vec<Kept>)
 pub fn fill(network: &Network, streams: &mut Vec<Stream>, lists: &mut Vec<Kept>)
     requires named { AreNamed (network_of network.now) streams.old.items }
     requires lists { AreLists (network_of network.now) lists.old.items }
-    ensures { AreFilled (network_of network.now) lists.old.items streams.old.items streams.new.items }
+    ensures { HaveBecome (network_of network.now) (IsFilled (network_of network.now) lists.old.items) streams.old.items streams.new.items }
 {
     for number in 0..streams.len() {
         fill_one(network, &mut streams[number], lists);
@@ -168,7 +166,7 @@ fn give_list(
 ) -> Result<(), NoMemory>
     requires begun { IsBegun (network_of network.now) (inputs_of input.now) channel (inputs_of input.now channel) tokens.old.items }
     ensures begun { IsBegun (network_of network.now) (inputs_of input.now) channel (inputs_of input.now channel) tokens.new.items }
-    ensures given { OnOk result (role_at (network_of network.now) channel ≡ InputRole → AreKeptTokens (network_of network.now) (inputs_of input.now) (ChannelLine channel) (inputs_of input.now channel) tokens.new.items) }
+    ensures given { OnOk result (AreAllOf (network_of network.now) (inputs_of input.now) channel tokens.new.items) }
     ensures others { OnOk result ((role_at (network_of network.now) channel ≡ InputRole → ⊥) → tokens.new.items ≡ tokens.old.items) }
 {
     'tokens: while let Some(token) = input.token(network, channel, tokens.len() as u64) {
@@ -182,7 +180,7 @@ fn give_input(network: &Network, input: &Input, stream: &mut Stream) -> Result<(
     requires declared { IsDeclared (network_of network.now) stream.old.line }
     requires bare { IsBare stream.old }
     ensures line { stream.new.line ≡ stream.old.line }
-    ensures given { OnOk result (HasInput (network_of network.now) (inputs_of input.now) (source (network_of network.now) stream.old.line) stream.old.line stream.old.tokens.items stream.new.tokens.items) }
+    ensures given { OnOk result (HasBecome (network_of network.now) (HasInput (network_of network.now) (inputs_of input.now)) stream.old stream.new) }
 {
     if let Line::Channel(channel) = stream.line {
         give_list(network, input, channel, &mut stream.tokens)?;
@@ -200,7 +198,7 @@ pub(crate) fn give_watched(
     requires begun { AreGiven (network_of network.now) (inputs_of input.now) watch tokens.old.items }
     ensures begun { AreGiven (network_of network.now) (inputs_of input.now) watch tokens.new.items }
     ensures all { OnOk result (AreAllGiven (network_of network.now) (inputs_of input.now) watch tokens.new.items) }
-    ensures still { AreAllGiven (network_of network.now) (inputs_of input.now) watch tokens.old.items → AreAllGiven (network_of network.now) (inputs_of input.now) watch tokens.new.items }
+    ensures still { let All = AreAllGiven (network_of network.now) (inputs_of input.now) watch in All tokens.old.items → All tokens.new.items }
 {
     let Some(channel) = watch else {
         return Ok(());
@@ -220,7 +218,7 @@ pub fn watched_input(
 ) -> Result<(), NoMemory>
     requires named { AreNamed (network_of network.now) streams.old.items }
     requires bare { All IsBare streams.old.items }
-    ensures each { OnOk result (HaveInput (network_of network.now) (inputs_of input.now) streams.old.items streams.new.items) }
+    ensures each { OnOk result (HaveBecome (network_of network.now) (HasInput (network_of network.now) (inputs_of input.now)) streams.old.items streams.new.items) }
     ensures given { OnOk result (HasInputs (network_of network.now) (inputs_of input.now) streams.new.items) }
 {
     for number in 0..streams.len() {

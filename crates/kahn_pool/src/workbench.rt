@@ -27,9 +27,8 @@ impl<'n> Model for Workbench<'n> {
     ghost use Rattle.kahn_streams.specs.contracts.tree.Action as action;
     ghost use Rattle.kahn_streams.specs.contracts.tree.Form as form;
     ghost use Rattle.std.specs.Coded.{codes};
-    ghost use Rattle.std.specs.Prelude.{◌≡◌, length, vec_capacity};
-    ghost use Rattle.kahn_streams.specs.Network.{network_of};
-    ghost use Rattle.kahn_pool.specs.inner.Workbench.{Table, AreStreamsReady, AreWhole};
+    ghost use Rattle.std.specs.Prelude.{vec_capacity};
+    ghost use Rattle.kahn_pool.specs.inner.Workbench.{Table, IsWorkbenchOf};
 
     ghost Value = { Table };
 
@@ -37,8 +36,7 @@ impl<'n> Model for Workbench<'n> {
 
     ghost view = { λ w. w.bench };
 
-    ghost invariant = { λ w. (w.bench.network ≡ w.network.now) × AreWhole (length (network_of w.network.now).instances) w.bench.gone
-        × AreStreamsReady w.network.now w.bench.input w.bench.watch w.streams.items w.kept.items (vec_capacity w.kept) };
+    ghost invariant = { λ w. IsWorkbenchOf w.network.now w.bench w.streams.items w.kept.items (vec_capacity w.kept) };
 }
 
 /// The streams of an answer, in which a watched input channel has its whole list.

@@ -8,12 +8,11 @@ ghost use Rattle.kahn_pool.specs.inner.Gathers.{IsRoom};
 ghost use Rattle.kahn_streams.specs.Inputs.{inputs_of};
 ghost use Rattle.std.specs.Prelude.{◌≡◌, ◌<◌, ◌≤◌, ◌^◌, MatchResult};
 
-use crate::config::RunFault;
 use crate::gather::{Room, answer_of};
 use crate::part::Part;
 use kahn_code::{Code, Steps, compile};
 use kahn_crew::{CrewFault, Gate, Plan, run_crew};
-use kahn_streams::{Answer, Input, Network};
+use kahn_streams::{Answer, Input, Network, RunFault};
 use std::alloc::Global;
 use std::marker::Brand;
 use std::sync::Wait;

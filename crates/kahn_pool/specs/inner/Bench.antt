@@ -95,9 +95,6 @@ pub record Goes (s0 : RunState) (w0 t0 : ℕ) (s : RunState) (left : ℕ) (memor
   pub rises : weight left memory ≤ w0
   pub lacks : LacksMemory s left memory
 
-abbrev pub GoesIn : RunState → ℕ → ℕ → RunState → Round → ℕ → Type 0
-GoesIn s0 w0 t0 s r k = Goes s0 w0 t0 s r.left r.memory r.moved r.ends.items k
-
 -- how a round is marked after so many events and this pause
 abbrev pub Marked : Pause → ℕ → Bool → Bool → Bool → Bool → Type 0
 Marked z done memory moved memory' moved' =

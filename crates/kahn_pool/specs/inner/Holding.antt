@@ -9,6 +9,7 @@ use Rattle.kahn_code.specs.Cells.{View, StoodBy}
 use Rattle.kahn_code.specs.Told.{Told, told_view}
 use Rattle.kahn_job.specs.inner.Idles.{AreIdle, cells_of}
 use Rattle.kahn_job.specs.inner.Works.{Work}
+use Rattle.kahn_pool.specs.HeldRuns.{HeldRun, seen_of}
 use Rattle.kahn_pool.specs.inner.Bench.{RunState}
 use Rattle.kahn_pool.specs.inner.Streams.{AreAllGiven, AreGiven}
 use Rattle.kahn_pool.specs.inner.Concluded.{IsConcluded}
@@ -52,19 +53,24 @@ abbrev pub AreEnded : RunState → ℕ → ℕ → List End → Option Verdict �
 AreEnded s bound budget ends None = Unit {0}
 AreEnded s bound budget ends (Some v) = (halted : Bool) × IsConcluded s bound budget halted v ends
 
--- all that a held run keeps
-pub record IsHolding (t compiled : Program) (lists : Lists) (watch : Option ℕ) (workers quantum bound : ℕ) (ws : List Work) (budget : ℕ) (ends : List End)
-    (verdict : Option Verdict) : Type 0 where
-  pub code : compiled ≡ t
-  pub fits : length lists ≡ length (network_of t).channels
-  pub range : IsInRange workers quantum bound
-  pub held : AreHeld t lists watch bound ws budget
-  pub ended : AreEnded (held_state t lists watch ws) bound budget ends verdict
-
 -- the tokens that are lent of a watched input channel: where there is a verdict they are its whole list
 abbrev pub IsGiving : Program → Lists → Option ℕ → List Token → Option Verdict → Type 0
 IsGiving t lists watch given verdict =
     AreGiven (network_of t) (inputs_of lists) watch given × ((v : Verdict) → verdict ≡ Some v → AreAllGiven (network_of t) (inputs_of lists) watch given)
+
+-- what contracts see of a held run with these jobs
+abbrev pub run_of : Program → Lists → Plan → List Work → Option Verdict → HeldRun
+run_of t lists plan ws verdict =
+    record { network = t; input = lists; watch = plan.watch; workers = plan.workers; quantum = plan.quantum; bound = plan.bound; cells = map seen_of (cells_of ws); verdict = verdict }
+
+-- all that it keeps
+pub record IsHolding (t compiled : Program) (lists : Lists) (plan : Plan) (ws : List Work) (budget : ℕ) (ends : List End) (given : List Token) (verdict : Option Verdict) : Type 0 where
+  pub code : compiled ≡ t
+  pub fits : length lists ≡ length (network_of t).channels
+  pub range : IsInRange plan.workers plan.quantum plan.bound
+  pub held : AreHeld t lists plan.watch plan.bound ws budget
+  pub ended : AreEnded (held_state t lists plan.watch ws) plan.bound budget ends verdict
+  pub giving : IsGiving t lists plan.watch given verdict
 
 -- the job has done no fewer events, and its input has grown
 pub record HasRisen (w v : Work) : Type 0 where

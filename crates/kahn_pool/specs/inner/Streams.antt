@@ -26,6 +26,15 @@ IsDeclared N (Print p) = p < length N.instances
 abbrev pub IsBare : Stream → Type 0
 IsBare x = x.tokens.items ≡ []
 
+-- the tokens of a stream became others, which is right for the source of its line
+abbrev pub HasBecome : Network → (Source → Line → List Token → List Token → Type 0) → Stream → Stream → Type 0
+HasBecome N right x y = right (source N y.line) y.line x.tokens.items y.tokens.items
+
+-- so did those of each stream, and the lines stay
+pub record HaveBecome (N : Network) (right : Source → Line → List Token → List Token → Type 0) (old new : List Stream) : Type 0 where
+  pub lines : map stream_line new ≡ map stream_line old
+  pub each : (j : ℕ) (x y : Stream) → slice_get old j ≡ Some x → slice_get new j ≡ Some y → HasBecome N right x y
+
 -- ---- what the cells kept
 
 -- by the number of the parameter, the tokens that a cell kept
@@ -57,11 +66,6 @@ IsFilled N ls (Written p) (Channel c) before after = (q : ℕ) × (actual_at (in
 IsFilled N ls (Written p) (Print r) before after = after ≡ printed_in ls p
 IsFilled N ls Nobody c before after = ⊥
 
-pub record AreFilled {A : Type 0} (N : Network) (ls : List (Kept A)) (old new : List Stream) : Type 0 where
-  pub lines : map stream_line new ≡ map stream_line old
-  pub each : (j : ℕ) (x y : Stream) → slice_get old j ≡ Some x → slice_get new j ≡ Some y →
-      IsFilled N ls (source N y.line) y.line x.tokens.items y.tokens.items
-
 -- the lists of every other line are as before
 abbrev pub KeepsOtherLines : {A : Type 0} → Network → Line → List (Kept A) → List (Kept A) → Type 0
 KeepsOtherLines N c old new =
@@ -83,6 +87,10 @@ AreGiven N I watch ts = (c : ℕ) → watch ≡ Some c → IsBegun N I c (I c) t
 abbrev pub AreAllGiven : Network → Inputs → Option ℕ → List Token → Type 0
 AreAllGiven N I watch ts = (c : ℕ) → watch ≡ Some c → role_at N c ≡ Input → map token_value ts ≡ I c
 
+-- where channel c is an input channel these tokens are its whole list
+abbrev pub AreAllOf : Network → Inputs → ℕ → List Token → Type 0
+AreAllOf N I c ts = role_at N c ≡ Input → AreKeptTokens N I (Channel c) (I c) ts
+
 -- each stream of an input channel has the whole list of that channel
 abbrev pub HasInputs : Network → Inputs → List Stream → Type 0
 HasInputs N I streams =
@@ -94,8 +102,3 @@ HasInput N I Given (Channel c) before after = AreKeptTokens N I (Channel c) (I c
 HasInput N I Given (Print r) before after = after ≡ before
 HasInput N I (Written p) c before after = after ≡ before
 HasInput N I Nobody c before after = after ≡ before
-
-pub record HaveInput (N : Network) (I : Inputs) (old new : List Stream) : Type 0 where
-  pub lines : map stream_line new ≡ map stream_line old
-  pub each : (j : ℕ) (x y : Stream) → slice_get old j ≡ Some x → slice_get new j ≡ Some y →
-      HasInput N I (source N y.line) y.line x.tokens.items y.tokens.items

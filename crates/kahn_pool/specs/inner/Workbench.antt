@@ -1,5 +1,5 @@
 -- Inner. The cells of a network over its plain queues, as a run on one thread has them.
-use Rattle.std.specs.Prelude.{◌≡◌, ◌⊎◌, ℕ, ◌+◌, ◌<◌, ◌≤◌, ◌^◌, ◌==◌, List, [], ◌∷◌, ◌++◌, length, map, replicate, Option, Some, slice_get, slice_index_or, if◌then◌else◌}
+use Rattle.std.specs.Prelude.{◌≡◌, ◌⊎◌, ℕ, ◌+◌, ◌<◌, ◌≤◌, ◌^◌, ◌==◌, Bool, List, [], ◌∷◌, ◌++◌, length, map, replicate, Option, Some, slice_get, slice_index_or, if◌then◌else◌}
 use Rattle.kahn_streams.specs.declared.tree.Program.{Program}
 use Rattle.kahn_streams.specs.Network.{network_of, instance_at}
 use Rattle.kahn_streams.specs.Wiring.{IsWellWired}
@@ -12,7 +12,8 @@ use Rattle.kahn_code.specs.Told.{Told, told_view, IsAt}
 use Rattle.kahn_code.specs.declared.cell.Kept.{Kept}
 use Rattle.kahn_code.specs.inner.Gone.{Gone, kept_behind, nothing_gone}
 use Rattle.kahn_code.specs.inner.Tapped.{HasForgotten, Tapped}
-use Rattle.kahn_pool.specs.inner.Bench.{RunState, events_at}
+use Rattle.kahn_pool.specs.inner.Bench.{Goes, RunState, all_events, events_at, weight}
+use Rattle.kahn_pool.specs.declared.rounds.Round.{Round}
 use Rattle.kahn_pool.specs.HeldRuns.{seen_at, seen_of}
 use Rattle.kahn_streams.specs.Answers.{stream_line, stream_lines}
 use Rattle.kahn_pool.specs.inner.Streams.{HasInputs, kept_lists, printed_list}
@@ -54,6 +55,11 @@ pub record HasWorked (old new : Table) : Type 0 where
   pub watch : new.watch ≡ old.watch
   pub gone : new.gone ≡ old.gone
   pub events : (p : ℕ) → events_at (sight_of old) p ≤ events_at (sight_of new) p
+
+-- a round of a bench with so many events left, and whether memory was refused, at instance k
+abbrev pub GoesIn : Table → ℕ → Bool → Table → Round → ℕ → Type 0
+GoesIn old left memory new r k =
+    Goes (sight_of old) (weight left memory) (all_events (sight_of old) + left) (sight_of new) r.left r.memory r.moved r.ends.items k
 
 -- it goes on for this input: so many values more wait on channel c, and nothing else changes
 pub record HasTakenIn (c n : ℕ) (input : Lists) (old new : Table) : Type 0 where
@@ -156,6 +162,11 @@ pub record AreStreamsReady {A : Type 0} (t : Program) (lists : Lists) (watch : O
   pub begun : AreOpen t lists watch streams
   pub empty : kept ≡ []
   pub enough : length (network_of t).instances ≤ room
+
+-- what a workbench of this network keeps
+abbrev pub IsWorkbenchOf : {A : Type 0} → Program → Table → List Stream → List A → ℕ → Type 0
+IsWorkbenchOf t b streams kept room =
+    (b.network ≡ t) × AreWhole (length (network_of t).instances) b.gone × AreStreamsReady t b.input b.watch streams kept room
 
 abbrev pub parameter_count : {A : Type 0} → Kept A → ℕ
 parameter_count k = length k.kept.items

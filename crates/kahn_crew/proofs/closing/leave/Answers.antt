@@ -17,14 +17,14 @@ out_of_cells-requires-clause-room c =
 pub returns-clause-gone : goal.returns-clause-gone
 returns-clause-gone c =
     have_gone c.args.network.now c.args.input.now c.args._watch c.args.board.table.shared.key c.program-program.ensures.wired c.requires.begun
-    c.close-cells.result.cells.items c.out_of_cells.result.items c.args.seat.seat.me.0 c.close-cells.result.budget c.close-cells.result.halted c.close-cells.ensures c.out_of_cells.ensures c.requires.seat.1.1
+    c.close-cells.result c.out_of_cells.result.items c.args.seat.seat.me.0 c.close-cells.ensures c.out_of_cells.ensures c.requires.seat.1.1
 
 pub returns-clause-over : goal.returns-clause-over
 returns-clause-over c =
     is_over c.args.network.now c.args.input.now c.args._watch c.args.board.table.shared.key c.program-program.ensures.wired c.requires.begun
-    c.close-cells.result.cells.items c.out_of_cells.result.items c.args.seat.seat.me.0 c.close-cells.result.budget c.close-cells.result.halted c.close-cells.ensures c.out_of_cells.ensures
+    c.close-cells.result c.out_of_cells.result.items c.args.seat.seat.me.0 c.close-cells.ensures c.out_of_cells.ensures
 
 pub returns-clause-untouched : goal.returns-clause-untouched
 returns-clause-untouched c =
     untouched c.args.network.now c.args.input.now c.args._watch c.args.board.table.shared.key c.program-program.ensures.wired c.requires.begun
-    c.close-cells.result.cells.items c.out_of_cells.result.items c.args.seat.seat.me.0 c.close-cells.result.budget c.close-cells.result.halted c.close-cells.ensures c.out_of_cells.ensures c.requires.seat.1.1
+    c.close-cells.result c.out_of_cells.result.items c.args.seat.seat.me.0 c.close-cells.ensures c.out_of_cells.ensures c.requires.seat.1.1

@@ -2,4 +2,4 @@ use Rattle.kahn_pool.proofs.laws.finished_is_one.Goals as goal
 use Rattle.kahn_pool.proofs.Unique
 
 pub returns : goal.returns
-returns c = Unique.finished_is_one
+returns c N I watch a b (n, r, f) (m, s, g) = Unique.finished_is_one N I watch n m a b r s f g

@@ -1,4 +1,4 @@
-use Rattle.std.proofs.Common.{◌≡◌, ◌<◌, ◌^◌, ◌∙◌, arith, ap, sym, subst, length}
+use Rattle.std.proofs.Common.{◌<◌, ◌^◌, ◌∙◌, arith, ap, sym, subst, length}
 use Rattle.kahn_pool.specs.inner.Bench.{RunState, all_events}
 use Rattle.kahn_pool.specs.inner.Workbench.{HasWorked, sight_of}
 use Rattle.kahn_pool.proofs.Turns.{asked, at_most_all}

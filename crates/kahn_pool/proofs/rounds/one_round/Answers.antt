@@ -1,6 +1,4 @@
 use Rattle.std.proofs.Common.{◌+◌, length, sym, ap, ◌∙◌, add-one}
-use Rattle.kahn_pool.specs.inner.Bench.{all_events, weight}
-use Rattle.kahn_pool.specs.inner.Workbench.{sight_of}
 use Rattle.kahn_pool.proofs.Tapping.{worked_on}
 use Rattle.kahn_pool.proofs.rounds.one_round.Goals as goal
 
@@ -9,7 +7,7 @@ loop-instance-preserved g c =
     let i = c.loop-instance.invariant in
     rw (add-one c.loop-instance.instance)
     (record {
-      goes = c.step.ensures.goes (sight_of c.args.bench.now) (weight c.args.left c.args.memory) (all_events (sight_of c.args.bench.now) + c.args.left) i.goes;
+      goes = c.step.ensures.goes c.args.bench.now c.args.left c.args.memory i.goes;
       count = i.count ∙ ap (λ n. length n.instances) (sym c.step.ensures.same.0);
       size = c.step.ensures.size ∙ ap (λ n. n + 1) i.size ∙ add-one c.loop-instance.instance;
       room = rw c.step.ensures.room i.room;

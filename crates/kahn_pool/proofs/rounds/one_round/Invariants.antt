@@ -1,11 +1,10 @@
-use Rattle.std.proofs.Common.{◌≡◌, ◌≤◌, ◌+◌, length, vec_len, vec_capacity}
-use Rattle.kahn_pool.specs.inner.Bench.{Goes, all_events, weight}
-use Rattle.kahn_pool.specs.inner.Workbench.{HasWorked, sight_of}
+use Rattle.std.proofs.Common.{◌≡◌, ◌≤◌, length, vec_len, vec_capacity}
+use Rattle.kahn_pool.specs.inner.Workbench.{GoesIn, HasWorked, sight_of}
 use Rattle.kahn_pool.proofs.rounds.one_round.Given as goal
 
 abbrev pub invariant-loop-instance : goal.invariant-loop-instance
 invariant-loop-instance g l = record {
-  goes : Goes (sight_of l.fn.bench) (weight l.fn.left l.fn.memory) (all_events (sight_of l.fn.bench) + l.fn.left) (sight_of l.bench) l.round.left l.round.memory l.round.moved l.round.ends.items l.instance;
+  goes : GoesIn l.fn.bench l.fn.left l.fn.memory l.bench l.round l.instance;
   count : l.count ≡ length (sight_of l.bench).network.instances;
   size : vec_len l.round.ends ≡ l.instance;
   room : l.count ≤ vec_capacity l.round.ends;

@@ -10,16 +10,16 @@ use Rattle.atomic_table.specs.Seated.{TableId}
 use Rattle.kahn_board.proofs.board.Seat.publish.Goals as goal
 
 pub swap-found-requires : goal.swap-found-requires
-swap-found-requires g c = let b = c.args.board.now in let k = b.table.shared.key in let t = c.requires.writer in let writer = t.2 in (
+swap-found-requires g c = let b = c.args.board.now in let k = b.table.shared.key in let few = c.requires.few in let writer = c.requires.writer in (
   search rules,
-  omega (arith, t.0, b.sized.0),
-  publishes_at _ _ _ _ _ _ _ c.args.channel _ _ writer.0 c.args.count _ (placed g.T.Told.told b c.args.self.now c.requires.board) (omega (arith, b.counts.0)) (omega (arith, b.counts.0)) (omega (arith, t.0, b.counts.1)) writer.1
+  omega (arith, few.0, b.sized.0),
+  publishes_at _ _ _ _ _ _ _ c.args.channel _ _ writer.0 c.args.count _ (placed g.T.Told.told b c.args.self.now c.requires.board) (omega (arith, b.counts.0)) (omega (arith, b.counts.0)) (omega (arith, few.0, b.counts.1)) writer.1
       (writer_in k.network.value _ _ writer.1) writer.2 (reader_in k.network.value c.args.channel) (omega (arith, b.counts.0)),
 )
 
 pub reader-reader-requires : goal.reader-reader-requires
-reader-reader-requires g c = let b = c.args.board.now in let k = b.table.shared.key in let t = c.requires.writer in
-    let odd : c.swap-found.result % 2 ≡ 1 = (let ne = c.if-found-eq0.false in omega arith) in let f = c.swap-found.ensures.2.1 odd in (t.0, (f.0, ap (wired k).reader (omega (arith, b.counts.0)) ∙ f.3))
+reader-reader-requires g c = let b = c.args.board.now in let k = b.table.shared.key in
+    let odd : c.swap-found.result % 2 ≡ 1 = (let ne = c.if-found-eq0.false in omega arith) in let f = c.swap-found.ensures.2.1 odd in (c.requires.few.0, (f.0, ap (wired k).reader (omega (arith, b.counts.0)) ∙ f.3))
 
 pub push_front_reserved-requires : goal.push_front_reserved-requires
 push_front_reserved-requires g c = let b = c.args.board.now in let k = b.table.shared.key in let me = c.args.self.now in

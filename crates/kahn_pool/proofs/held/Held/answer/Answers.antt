@@ -19,7 +19,7 @@ returns c =
     let ws = i.idles.items in
     let s = held_state t i.input i.plan.watch ws in
     let v = c.in-Some.verdict in
-    let ended = subst (AreEnded s i.plan.bound i.budget i.ends.items) c.in-Some.is c.self.invariant.0.ended in
+    let ended = subst (AreEnded s i.plan.bound i.budget i.ends.items) c.in-Some.is c.self.invariant.ended in
     let halted = ended.0 in
     let a : Answer = record { verdict = v; streams = c.in_ok-streams.streams; ends = c.in_ok-ends.ends; events = i.plan.bound - i.budget } in
     let concluded : IsConcluded s i.plan.bound i.budget halted v c.in_ok-ends.ends.items =
@@ -29,8 +29,8 @@ returns c =
     subst (λ (xs : List Work). AreStreams (held_state t i.input i.plan.watch xs) c.in_ok-streams.streams.items (stream_lines (network_of t) i.plan.watch)) c.deref.ensures.value
     c.in_ok-streams.ensures
     in
-    let sum = c.self.invariant.0.held.events in
+    let sum = c.self.invariant.held.events in
     let right = c.assembled.ensures (network_of t) (inputs_of i.input) i.plan.bound i.plan.watch a
     (answer_gathered t i.input i.plan.watch i.plan.bound ws i.budget halted a concluded streams (omega (arith, sum))) in
     subst (λ (h : HeldRun). IsAnswerOf h a) c.self.view_is
-    (answer_is t i.input i.plan.watch i.plan.workers i.plan.quantum i.plan.bound ws i.verdict i.budget halted a concluded streams c.in-Some.is right)
+    (answer_is t i.input i.plan ws i.verdict i.budget halted a concluded streams c.in-Some.is right)

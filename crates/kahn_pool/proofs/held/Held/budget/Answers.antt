@@ -6,4 +6,4 @@ use Rattle.kahn_pool.proofs.held.Held.budget.Goals as goal
 pub returns : goal.returns
 returns c =
     let i = c.self.inside in
-    subst (λ (h : HeldRun). i.budget + sum_by seen_events h.cells ≡ h.bound) c.self.view_is (ap (λ n. i.budget + n) (all_seen i.idles.items) ∙ c.self.invariant.0.held.events)
+    subst (λ (h : HeldRun). i.budget + sum_by seen_events h.cells ≡ h.bound) c.self.view_is (ap (λ n. i.budget + n) (all_seen i.idles.items) ∙ c.self.invariant.held.events)

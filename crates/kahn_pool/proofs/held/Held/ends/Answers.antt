@@ -10,9 +10,9 @@ returns c v e =
     let i = c.self.inside in
     let t = i.network.now in
     let ws = i.idles.items in
-    let h = c.self.invariant.0 in
+    let h = c.self.invariant in
     let is : i.verdict ≡ Some v = subst (λ (r : HeldRun). r.verdict ≡ Some v) (sym c.self.view_is) e in
     let ended = subst (AreEnded (held_state t i.input i.plan.watch ws) i.plan.bound i.budget i.ends.items) is h.ended in
     subst (λ (xs : List End). IsRightSoFar c.args.self.now v xs) (sym c.deref.ensures.value)
     (subst (λ (r : HeldRun). IsRightSoFar r v i.ends.items) c.self.view_is
-    (right_so_far t i.input i.plan.watch i.plan.workers i.plan.quantum i.plan.bound ws i.verdict i.budget h.held.events ended.0 v i.ends.items ended.1))
+    (right_so_far t i.input i.plan ws i.verdict i.budget h.held.events ended.0 v i.ends.items ended.1))

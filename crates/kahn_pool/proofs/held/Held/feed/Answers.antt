@@ -3,17 +3,17 @@ use Rattle.std.proofs.lemmas.Result.{err_from_is_err_and}
 use Rattle.kahn_pool.specs.HeldRuns.{HasFed, HeldRun, IsUnfed}
 use Rattle.kahn_streams.specs.Network.{network_of}
 use Rattle.kahn_streams.specs.Inputs.{inputs_of}
-use Rattle.kahn_pool.proofs.Held_runs.{goes_on_fed, holding_fed, run_of}
+use Rattle.kahn_pool.specs.inner.Holding.{run_of}
+use Rattle.kahn_pool.proofs.Held_runs.{goes_on_fed, holding_fed}
 use Rattle.kahn_pool.proofs.Held_streams.{given_on}
 use Rattle.kahn_pool.proofs.held.Held.feed.Goals as goal
 
 pub invariant_of-self-2 : goal.invariant_of-self-2
 invariant_of-self-2 c =
-    let i = c.self.inside in (
-      holding_fed i.network.now c.program-program.ensures.wired i.code.network.value i.input i.plan.watch i.plan.workers i.plan.quantum i.plan.bound i.idles.items i.budget
-          i.ends.items i.verdict c.self.invariant.0 c.extend.new.self c.extend.ensures.grown c.extend.ensures.size,
-      (given_on (network_of i.network.now) (inputs_of i.input) (inputs_of c.extend.new.self) i.plan.watch i.given.items c.extend.ensures.grown c.self.invariant.1.0, λ v e. absurd cc),
-    )
+    let i = c.self.inside in
+    holding_fed i.network.now c.program-program.ensures.wired i.code.network.value i.input i.plan i.idles.items i.budget
+    i.ends.items i.given.items i.verdict c.self.invariant c.extend.new.self c.extend.ensures.grown c.extend.ensures.size
+    (given_on (network_of i.network.now) (inputs_of i.input) (inputs_of c.extend.new.self) i.plan.watch i.given.items c.extend.ensures.grown c.self.invariant.giving.0, λ v e. absurd cc)
 
 pub returns-in_err-extend : goal.returns-in_err-extend
 returns-in_err-extend c =
@@ -22,9 +22,9 @@ returns-in_err-extend c =
     let left =
     subst
     (λ (h : HeldRun). IsUnfed (c.args.channel.now, c.args.values.items) h
-    (run_of i.network.now c.extend.new.self i.plan.watch i.plan.workers i.plan.quantum i.plan.bound i.idles.items i.verdict) c.in_err-extend.field-0.0)
+    (run_of i.network.now c.extend.new.self i.plan i.idles.items i.verdict) c.in_err-extend.field-0.0)
     c.self.view_is
-    (ap (λ lists. run_of i.network.now lists i.plan.watch i.plan.workers i.plan.quantum i.plan.bound i.idles.items i.verdict) same, unwelcome) in
+    (ap (λ lists. run_of i.network.now lists i.plan i.idles.items i.verdict) same, unwelcome) in
     let p = err_from_is_err_and c.from_residual.result c.from_residual.ensures.1 in
     rw (p.1, p.2) left
 
@@ -33,11 +33,11 @@ returns c =
     let i = c.self.inside in
     subst
     (λ (h : HeldRun). HasFed (c.args.channel.now, c.args.values.items) h
-    (run_of i.network.now c.extend.new.self i.plan.watch i.plan.workers i.plan.quantum i.plan.bound i.idles.items None))
+    (run_of i.network.now c.extend.new.self i.plan i.idles.items None))
     c.self.view_is
     (record {
       fed = c.in_ok-extend.ensures.fed;
       rest = refl;
-      goes_on = goes_on_fed i.network.now c.program-program.ensures.wired i.code.network.value i.input i.plan.watch i.plan.workers i.plan.quantum i.plan.bound i.idles.items
-          i.budget i.ends.items i.verdict c.self.invariant.0 c.extend.new.self c.extend.ensures.grown;
+      goes_on = goes_on_fed i.network.now c.program-program.ensures.wired i.code.network.value i.input i.plan i.idles.items
+          i.budget i.ends.items i.given.items i.verdict c.self.invariant c.extend.new.self c.extend.ensures.grown;
     })

@@ -10,16 +10,14 @@ pub invariant_of-result : goal.invariant_of-result
 invariant_of-result c =
     let range : IsInRange c.args.config.workers c.args.config.quantum c.args.config.bound = search rules in
     let p = c.plan_of-plan.ensures in
-    let I = inputs_of c.args.input in (
-      record {
-        code = c.in_ok-code.ensures;
-        fits = c.requires.fits;
-        range = in_range_alike _ _ _ _ _ _ p.workers p.quantum p.bound range;
-        held = c.in_ok-idles.ensures.held c.plan_of-plan.result.bound;
-        ended = tt;
-      },
-      (λ channel e. begun_none (network_of c.args.network.now) I channel (I channel) c.new-2.result.items (search rules), λ v e. absurd cc),
-    )
+    let I = inputs_of c.args.input in record {
+      code = c.in_ok-code.ensures;
+      fits = c.requires.fits;
+      range = in_range_alike _ _ _ _ _ _ p.workers p.quantum p.bound range;
+      held = c.in_ok-idles.ensures.held c.plan_of-plan.result.bound;
+      ended = tt;
+      giving = (λ channel e. begun_none (network_of c.args.network.now) I channel (I channel) c.new-2.result.items (search rules), λ v e. absurd cc);
+    }
 
 pub returns : goal.returns
 returns c =

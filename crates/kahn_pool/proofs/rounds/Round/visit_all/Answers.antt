@@ -1,4 +1,4 @@
-use Rattle.std.proofs.Common.{◌≡◌, ◌<◌, ◌∙◌, arith, ap, sym, length}
+use Rattle.std.proofs.Common.{◌<◌, ◌∙◌, arith, ap, sym, length}
 use Rattle.kahn_pool.specs.inner.Workbench.{sight_of}
 use Rattle.kahn_pool.proofs.Turns.{moves_on}
 use Rattle.kahn_pool.proofs.Tapping.{worked_on}
