@@ -11,7 +11,7 @@ use Rattle.kahn_streams.specs.declared.tree.Action.{Row_of-Statement, end_of-Sta
 use Rattle.kahn_streams.specs.declared.tree.Form.TheBlock.{items-the_row-Operand}
 use Rattle.kahn_streams.specs.declared.tree.Action.TheBlock.{items-the_row-Statement}
 use Rattle.kahn_streams.specs.Wiring.{gives, Scope}
-use Rattle.kahn_check.specs.Faults.{level_kind}
+use Rattle.kahn_streams.specs.Faults.{level_kind}
 use Rattle.kahn_hints.specs.declared.uses.Use.{Use}
 use Rattle.kahn_hints.specs.Places.{passed_in}
 use Rattle.kahn_hints.specs.Uses.{expression_use, level_use, or_inside, row_use, statement_use, statements_use, use_inside}

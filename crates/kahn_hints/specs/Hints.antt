@@ -14,8 +14,8 @@ use Rattle.kahn_streams.specs.declared.tree.Program.{Program}
 use Rattle.kahn_streams.specs.declared.tree.Kind.TheVariants as K
 use Rattle.kahn_streams.specs.declared.tree.Direction.TheVariants.{In, Out}
 use Rattle.kahn_streams.specs.declared.tree.Role.TheVariants.{Inner}
-use Rattle.kahn_check.specs.declared.fault.CheckFault.{CheckFault}
-use Rattle.kahn_check.specs.declared.fault.CheckFault.TheVariants as checked
+use Rattle.kahn_streams.specs.declared.fault.CheckFault.{CheckFault}
+use Rattle.kahn_streams.specs.declared.fault.CheckFault.TheVariants as checked
 use Rattle.kahn_marks.specs.Marks.{marked, marked_too}
 use Rattle.kahn_hints.specs.declared.hint.Reason.{Reason}
 use Rattle.kahn_hints.specs.declared.hint.Reason.TheVariants as reason
@@ -23,8 +23,9 @@ use Rattle.kahn_hints.specs.declared.names.Sort.{Sort}
 use Rattle.kahn_hints.specs.declared.names.Sort.TheVariants as sort
 use Rattle.kahn_hints.specs.declared.uses.Use.{Use}
 use Rattle.kahn_hints.specs.declared.uses.Use.TheVariants as use_as
+use Rattle.kahn_hints.specs.Exchange.{are_interchanged}
 use Rattle.kahn_hints.specs.Places.{asked_name, called_first, channel_kind, names_seen, passed, process_called, process_declaring, process_using, role_called, word_at}
-use Rattle.kahn_hints.specs.Sight.{next_words, unknown_words}
+use Rattle.kahn_hints.specs.Sight.{unknown_words, used_words}
 use Rattle.kahn_hints.specs.Uses.{body_use, instances_use, same_span}
 
 -- what is said of another place
@@ -193,17 +194,21 @@ value_words _ handed = []
 abbrev pub valued_at : List ℕ → Program → Span → List ℕ
 valued_at text t at = value_words (use_at t at) (handed_words (is_some (channel_kind t (word_at text at))) (is_some (process_called t (word_at text at))))
 
--- how the next value is taken, where a parameter to be read stands for one
-abbrev pub next_of : Option Name → List ℕ
-next_of (Some n) = next_words n
-next_of None = []
+-- how the next value is taken, where a parameter to be read stands for one, and one is sent, where one to be written is assigned to
+abbrev pub used_if : Sort → Option Name → List ℕ
+used_if s (Some n) = used_words s n
+used_if s None = []
 
-abbrev pub next_if : Option Use → Option Name → List ℕ
-next_if (Some (use_as.Expression k)) n = next_of n
-next_if _ n = []
+abbrev pub used_at : List ℕ → Program → Span → Sort → List ℕ
+used_at text t at s = used_if s (called_first (word_at text at) (names_seen (Some s) t (process_using t at)))
+
+abbrev pub next_if : List ℕ → Program → Span → Option Use → List ℕ
+next_if text t at (Some (use_as.Expression k)) = used_at text t at sort.Source
+next_if text t at (Some use_as.Assigned) = used_at text t at sort.Target
+next_if text t at _ = []
 
 abbrev pub next_there : List ℕ → Program → Span → List ℕ
-next_there text t at = next_if (use_at t at) (called_first (word_at text at) (names_seen (Some sort.Source) t (process_using t at)))
+next_there text t at = next_if text t at (use_at t at)
 
 abbrev pub value_tail : List ℕ → Program → Span → List ℕ
 value_tail text t at = valued_at text t at ++ next_there text t at
@@ -211,6 +216,15 @@ value_tail text t at = valued_at text t at ++ next_there text t at
 -- the direction, and a name that has it
 abbrev pub direction_at : List ℕ → Program → Span → List ℕ
 direction_at text t at = direction_words (use_at t at) ++ meant_at text t at
+
+-- what to do about a channel that is written, or read, once more
+abbrev pub twice_words : Direction → Bool → List ℕ
+twice_words d true = codes "; are the arguments interchanged?"
+twice_words Out false = codes "; give each writer a channel, and let a process join them by a rule"
+twice_words In false = codes "; let a process take from it and send each value on a channel for each reader"
+
+abbrev pub twice_at : List ℕ → Program → Direction → Span → List ℕ
+twice_at text t d at = twice_words d (are_interchanged t d (word_at text at) at)
 
 -- what to do about a channel of that role without a writer, which is read or not, or without a reader: an input has its writer outside, an
 -- output its reader
@@ -234,8 +248,8 @@ tail_of text t (checked.WrongDirection at) = direction_at text t at
 tail_of text t (checked.ChannelExpected at) = channel_words (use_at t at)
 tail_of text t (checked.ValueExpected at) = value_tail text t at
 tail_of text t (checked.DeclaredTwice at) = []
-tail_of text t (checked.TwoWriters at) = []
-tail_of text t (checked.TwoReaders at) = []
+tail_of text t (checked.TwoWriters at) = twice_at text t Out at
+tail_of text t (checked.TwoReaders at) = twice_at text t In at
 tail_of text t (checked.NoWriter at) = unwritten_at text t at
 tail_of text t (checked.NoReader at) = unread_words (role_called t (word_at text at))
 tail_of text t (checked.TooMany at) = []

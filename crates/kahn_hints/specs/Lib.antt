@@ -1,3 +1,4 @@
+pub mod Exchange
 pub mod Hints
 pub mod Inputs
 pub mod Names

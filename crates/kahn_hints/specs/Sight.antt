@@ -3,6 +3,8 @@ use Rattle.std.specs.Prelude.{◌==◌, ℕ, List, [], ◌∷◌, ◌++◌, Opti
 use Rattle.std.specs.List.{concat}
 use Rattle.kahn_streams.specs.View.{bytes_of}
 use Rattle.kahn_streams.specs.declared.tree.Name.{Name}
+use Rattle.kahn_hints.specs.declared.names.Sort.{Sort}
+use Rattle.kahn_hints.specs.declared.names.Sort.TheVariants.{Source, Target}
 use Rattle.kahn_hints.specs.Near.{nearest}
 use Rattle.kahn_hints.specs.Places.{called_first, is_called}
 
@@ -16,6 +18,16 @@ meant_words n = concat (codes "; did you mean `" ∷ bytes_of n ∷ codes "`?" �
 -- how the next value of a channel is taken
 abbrev pub next_words : Name → List ℕ
 next_words n = concat (codes "; its next value is `wait(" ∷ bytes_of n ∷ codes ")`" ∷ [])
+
+-- how one is sent
+abbrev pub sent_words : Name → List ℕ
+sent_words n = concat (codes "; it takes a value by `send E on " ∷ bytes_of n ∷ codes "`" ∷ [])
+
+-- of a parameter that is a channel
+abbrev pub used_words : Sort → Name → List ℕ
+used_words Source n = next_words n
+used_words Target n = sent_words n
+used_words s n = []
 
 -- what stands behind a name where so many are left
 abbrev pub after_name : ℕ → List ℕ

@@ -14,7 +14,7 @@ use Rattle.kahn_streams.specs.declared.tree.Program.{Program}
 use Rattle.kahn_streams.specs.declared.tree.Kind.TheVariants as K
 use Rattle.kahn_streams.specs.declared.tree.Argument.TheVariants as A
 use Rattle.kahn_streams.specs.Wiring.{Scope, scope_of}
-use Rattle.kahn_check.specs.Faults.{kind_of}
+use Rattle.kahn_streams.specs.Faults.{kind_of}
 use Rattle.kahn_hints.specs.declared.uses.Use.{Use}
 use Rattle.kahn_hints.specs.declared.uses.Use.TheVariants as use_as
 

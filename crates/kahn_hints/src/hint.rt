@@ -2,8 +2,9 @@
 
 ghost use Rattle.std.specs.Prelude.{◌≡◌, ◌++◌, IfOk, option_map, string_bytes};
 ghost use Rattle.std.specs.List.{find};
-ghost use Rattle.kahn_hints.specs.Hints.{asked_sort, check_note, closed_reason, count_words, counted_words, declared_first, declared_here, declared_outside, direction_at, first_reason, found_kind, meant_at, named_instance, next_there, place_in, second_place, second_text, reason_words, taken_before, tail_of, unknown_at, unwritten_at, use_at, value_tail, valued_at, wanted_here};
+ghost use Rattle.kahn_hints.specs.Hints.{asked_sort, check_note, closed_reason, count_words, counted_words, declared_first, declared_here, declared_outside, direction_at, first_reason, found_kind, meant_at, named_instance, next_there, place_in, second_place, second_text, reason_words, taken_before, tail_of, unknown_at, unwritten_at, use_at, used_at, value_tail, valued_at, wanted_here};
 
+use crate::exchange::twice_at;
 use crate::names::Sort;
 use crate::places::{
     asked_name, called_first, channel_kind, names_seen, passed, process_called, process_declaring,
@@ -13,7 +14,7 @@ use crate::said::{
     channel_words, direction_words, handed_words, kind_words, other_words, unread_words,
     unwritten_words,
 };
-use crate::sight::{add_next, add_unknown};
+use crate::sight::{add_unknown, add_used};
 use crate::uses::{Use, body_use, instances_use, same_span};
 use itoa::Buffer;
 use kahn_check::CheckFault;
@@ -347,7 +348,26 @@ fn valued_at(text: &str, program: &Program, at: Span) -> &'static str
     }
 }
 
-/// Adds how the next value of a channel is taken, where a parameter to be read stands for a value.
+/// Adds how the parameter of that sort which stands at a place is used, where one does.
+fn add_used_at(
+    words: &mut String,
+    alloc: Global,
+    text: &str,
+    program: &Program,
+    at: Span,
+    sort: Sort,
+) -> Result<(), AllocError>
+    ensures { IfOk result (λ _. string_bytes words.new ≡ string_bytes words.old ++ used_at text.now program.now at sort) }
+{
+    let process = process_using(program, at);
+    let names = names_seen(alloc, program, process, Some(sort))?;
+    match called_first(word_at(text, at), &names) {
+        Some(name) => add_used(words, sort, name),
+        None => Ok(()),
+    }
+}
+
+/// Adds how the next value is taken, where a parameter to be read stands for one, and one is sent, where one to be written is assigned to.
 fn add_next_at(
     words: &mut String,
     alloc: Global,
@@ -357,14 +377,10 @@ fn add_next_at(
 ) -> Result<(), AllocError>
     ensures { IfOk result (λ _. string_bytes words.new ≡ string_bytes words.old ++ next_there text.now program.now at) }
 {
-    let Some(Use::Expression(_)) = use_at(program, at) else {
-        return Ok(());
-    };
-    let process = process_using(program, at);
-    let names = names_seen(alloc, program, process, Some(Sort::Source))?;
-    match called_first(word_at(text, at), &names) {
-        Some(name) => add_next(words, name),
-        None => Ok(()),
+    match use_at(program, at) {
+        Some(Use::Expression(_)) => add_used_at(words, alloc, text, program, at, Sort::Source),
+        Some(Use::Assigned) => add_used_at(words, alloc, text, program, at, Sort::Target),
+        _ => Ok(()),
     }
 }
 
@@ -423,8 +439,10 @@ fn add_tail(
         CheckFault::ChannelExpected(at) => words.push_str(channel_words(use_at(program, at))),
         CheckFault::ValueExpected(at) => add_valued(words, alloc, text, program, at),
         CheckFault::DeclaredTwice(_) => Ok(()),
-        CheckFault::TwoWriters(_) => Ok(()),
-        CheckFault::TwoReaders(_) => Ok(()),
+        CheckFault::TwoWriters(at) => {
+            words.push_str(twice_at(text, program, Direction::Out, at))
+        }
+        CheckFault::TwoReaders(at) => { words.push_str(twice_at(text, program, Direction::In, at)) }
         CheckFault::NoWriter(at) => words.push_str(unwritten_at(text, program, at)),
         CheckFault::NoReader(at) => {
             words.push_str(unread_words(role_called(program, word_at(text, at))))

@@ -3,7 +3,7 @@
 ghost use Rattle.std.specs.Prelude.{◌≡◌};
 ghost use Rattle.kahn_streams.specs.View.{bytes_of};
 ghost use Rattle.kahn_streams.specs.Wiring.{gives, scope_of};
-ghost use Rattle.kahn_check.specs.Faults.{find, kind_in, kind_of};
+ghost use Rattle.kahn_streams.specs.Faults.{find, kind_in, kind_of};
 
 use crate::places::is_called;
 use kahn_streams::{Expression, Form, Kind, Name, Operator, Process, Taking};

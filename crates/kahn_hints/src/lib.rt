@@ -2,6 +2,7 @@
 //! what is found.
 #![tactic(auto)]
 
+mod exchange;
 mod hint;
 mod inputs;
 mod kinds;

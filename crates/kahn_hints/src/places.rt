@@ -157,7 +157,7 @@ pub(crate) fn role_called(program: &Program, word: &[u8]) -> Option<Role>
 }
 
 /// Whether two directions are the same.
-fn same_direction(first: Direction, second: Direction) -> bool
+pub(crate) fn same_direction(first: Direction, second: Direction) -> bool
     ensures { result ≡ same_direction first second }
 {
     match (first, second) {
@@ -259,7 +259,7 @@ fn asked_behind<'p>(
 }
 
 /// The same of an instance.
-fn asked_of<'p>(program: &'p Program, at: Span, instance: &Instance) -> Option<&'p Name>
+pub(crate) fn asked_of<'p>(program: &'p Program, at: Span, instance: &Instance) -> Option<&'p Name>
     ensures { option_map (λ n. n.now) result ≡ asked_of program.now at instance.now }
 {
     match process_called(program, instance.process.text.as_bytes()) {

@@ -1,10 +1,10 @@
 //! The words behind those of a fault: what is wanted, what is found, and what to do.
 
 ghost use Rattle.std.specs.Prelude.{◌≡◌};
-ghost use Rattle.kahn_hints.specs.Hints.{channel_words, direction_words, handed_words, kind_words, other_words, unread_words, unwritten_words};
+ghost use Rattle.kahn_hints.specs.Hints.{channel_words, direction_words, handed_words, kind_words, other_words, twice_words, unread_words, unwritten_words};
 
 use crate::uses::Use;
-use kahn_streams::{Kind, Role};
+use kahn_streams::{Direction, Kind, Role};
 
 /// As what a name is declared that should be that of a process.
 pub(crate) fn other_words(found: Option<Use>, kind: Option<Kind>) -> &'static str
@@ -61,6 +61,21 @@ pub(crate) fn handed_words(channel: bool, process: bool) -> &'static str
         ", found a process"
     } else {
         ", found a name"
+    }
+}
+
+/// What to do about a channel that is written, or read, once more, where the arguments were perhaps interchanged or not.
+pub(crate) fn twice_words(direction: Direction, interchanged: bool) -> &'static str
+    ensures { result.now ≡ twice_words direction interchanged }
+{
+    match (direction, interchanged) {
+        (_, true) => "; are the arguments interchanged?",
+        (Direction::Out, false) => {
+            "; give each writer a channel, and let a process join them by a rule"
+        }
+        (Direction::In, false) => {
+            "; let a process take from it and send each value on a channel for each reader"
+        }
     }
 }
 

@@ -6,7 +6,7 @@ use Rattle.std.specs.declared.string.String.{String}
 use Rattle.kahn_streams.specs.declared.tree.Program.{Program}
 use Rattle.kahn_streams.specs.declared.entries.InputFault.{InputFault}
 use Rattle.kahn_streams.specs.Inputs.{Entry, FailsFirst, asked_of_entry}
-use Rattle.kahn_report.specs.Inputs.{AreBlanks, AreEntries, HasHead, HasNoHead, HasNoValues, IsEntry, IsGood, content, text_lines, IsInputTextFault}
+use Rattle.kahn_report.specs.Formats.{AreBlanks, AreEntries, HasHead, HasNoHead, HasNoValues, IsEntry, IsGood, content, text_lines, IsInputTextFault}
 use Rattle.kahn_report.specs.declared.input.TextFault.{TextFault}
 use Rattle.kahn_report.specs.declared.input.TextFault.TheVariants.{BadLine, BadValue, Input, TooLong, NoMemory}
 use Rattle.kahn_report.proofs.Same_inputs.{one_list}

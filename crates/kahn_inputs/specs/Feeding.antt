@@ -17,7 +17,7 @@ use Rattle.kahn_report.specs.declared.input.TextFault.TheVariants as text_fault
 use Rattle.kahn_marks.specs.Marks.{marked, marked_too}
 use Rattle.kahn_inputs.specs.Fitting.{AreAllFit, IsUnfit, colon_at, lack_of, lack_span, moved_by, line_name, name_span, part_of}
 use Rattle.kahn_inputs.specs.Seeking.{IsFirstNamed, IsFound, IsNamedNowhere, IsUnfound}
-use Rattle.kahn_inputs.specs.Strange.{strange_words}
+use Rattle.kahn_inputs.specs.Strange.{no_comment_words, numeral_words, strange_words}
 use Rattle.kahn_inputs.specs.declared.fitting.Lack.{Lack}
 use Rattle.kahn_inputs.specs.declared.fitting.Lack.TheVariants.{Name, ShortName, Colon}
 use Rattle.kahn_inputs.specs.declared.seeking.Sort.TheVariants.{Entry, NoHead, NoValues}
@@ -26,9 +26,9 @@ use Rattle.kahn_inputs.specs.declared.seeking.Sort.TheVariants.{Entry, NoHead, N
 abbrev pub part_note : List ℕ → List ℕ → ℕ → List ℕ → Span → List ℕ → List ℕ
 part_note path text from line span words = marked path text (moved_by from span) words
 
--- with what is said of a strange character in the part
-abbrev pub word_note : List ℕ → List ℕ → ℕ → List ℕ → Span → List ℕ → List ℕ
-word_note path text from line span words = part_note path text from line span (words ++ strange_words (from + span.from) (part_of line span))
+-- with what more is said of the part, and of a strange character in it
+abbrev pub word_note : List ℕ → List ℕ → ℕ → List ℕ → Span → List ℕ → List ℕ → List ℕ
+word_note path text from line span words more = part_note path text from line span ((words ++ more) ++ strange_words (from + span.from) (part_of line span))
 
 -- of a line that doesn't begin with a name and a colon
 abbrev pub lack_words : Lack → List ℕ
@@ -37,7 +37,8 @@ lack_words ShortName = codes "not a name and a colon: wanted a name of at most 6
 lack_words Colon = codes "not a name and a colon: wanted `:` behind the name"
 
 abbrev pub lack_note : List ℕ → List ℕ → ℕ → List ℕ → List ℕ
-lack_note path text from line = word_note path text from line (lack_span line (lack_of line)) (lack_words (lack_of line))
+lack_note path text from line =
+    word_note path text from line (lack_span line (lack_of line)) (lack_words (lack_of line)) (no_comment_words (part_of line (lack_span line (lack_of line))))
 
 -- what stands behind the colon of a line, and where that begins
 abbrev pub rest_from : List ℕ → ℕ
@@ -54,13 +55,13 @@ abbrev pub no_value_words : List ℕ
 no_value_words = codes "not a value: wanted a number of 64 bits, `true` or `false`"
 
 abbrev pub IsValueNote : List ℕ → List ℕ → ℕ → List ℕ → String Global → Type 0
-IsValueNote path text from line note = (span : Span) × IsUnfitSpan None line span × (string_bytes note ≡ word_note path text from line span no_value_words)
+IsValueNote path text from line note = (span : Span) × IsUnfitSpan None line span × (string_bytes note ≡ word_note path text from line span no_value_words (numeral_words (part_of line span)))
 
 -- what an entry is refused for
 abbrev pub entry_words : InputFault → List ℕ
 entry_words (input_fault.UnknownName n) = codes "no such channel"
 entry_words (input_fault.NotAnInput n) = codes "not an input channel"
-entry_words (input_fault.GivenTwice n) = codes "given twice"
+entry_words (input_fault.GivenTwice n) = codes "given twice; all values of a channel stand on one line"
 entry_words (input_fault.WrongKind n) = codes "kind does not agree"
 entry_words (input_fault.TooMany n) = codes "too many values; at most 1048576"
 entry_words input_fault.NoMemory = codes "no memory"

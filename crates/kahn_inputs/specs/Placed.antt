@@ -1,7 +1,7 @@
 -- Believed. The law that there is a note on each fault of an input text that has a place.
 use Rattle.std.specs.Prelude.{ℕ, List, None}
 use Rattle.kahn_streams.specs.declared.tree.Program.{Program}
-use Rattle.kahn_report.specs.Inputs.{IsInputTextFault}
+use Rattle.kahn_report.specs.Formats.{IsInputTextFault}
 use Rattle.kahn_report.specs.declared.input.TextFault.{TextFault}
 use Rattle.kahn_report.specs.declared.input.TextFault.TheVariants.{BadLine, BadValue, Input, TooLong, NoMemory}
 use Rattle.kahn_inputs.specs.Feeding.{IsInputNote}

@@ -1,6 +1,7 @@
--- Believed. Characters of an input text that look like blanks and are none, and the mark of byte order.
-use Rattle.std.specs.Prelude.{◌==◌, ◌&&◌, ℕ, Bool, true, false, List, [], ◌∷◌, codes, if◌then◌else◌}
-use Rattle.std.specs.List.{starts_with}
+-- Believed. Characters of an input text that look like blanks and are none, and the mark of byte order; and words that are no values.
+use Rattle.std.specs.Prelude.{◌==◌, ◌&&◌, ◌||◌, ℕ, Bool, true, false, List, [], ◌∷◌, codes, if◌then◌else◌}
+use Rattle.std.specs.List.{list_all, starts_with}
+use Rattle.std.specs.Char.{is_ascii_digit}
 
 -- whether these bytes stand at the front, and somewhere
 abbrev pub is_front : List ℕ → List ℕ → Bool
@@ -21,4 +22,27 @@ strange_words at part =
     else if stands_in (0xE2 ∷ 0x80 ∷ 0x8B ∷ []) part then codes "; in it stands a zero width space (U+200B)"
     else if stands_in (0xE3 ∷ 0x80 ∷ 0x80 ∷ []) part then codes "; in it stands an ideographic space (U+3000)"
     else if stands_in (13 ∷ []) part then codes "; in it stands a carriage return (U+000D)"
+    else []
+
+-- digits, and a sign before them or none
+abbrev pub are_digits : List ℕ → Bool
+are_digits [] = false
+are_digits (b ∷ rest) = list_all is_ascii_digit (b ∷ rest)
+
+abbrev pub is_number : List ℕ → Bool
+is_number [] = false
+is_number (b ∷ rest) = if b == 45 then are_digits rest else are_digits (b ∷ rest)
+
+abbrev pub no_comment_words : List ℕ → List ℕ
+no_comment_words part = if is_front (codes "#") part then codes "; an input has no comments" else []
+
+-- what is said of a word that is no value, by what it has
+abbrev pub numeral_words : List ℕ → List ℕ
+numeral_words part =
+    if is_front (codes "#") part then codes "; an input has no comments"
+    else if stands_in (codes ",") part || stands_in (codes ";") part then codes "; blanks stand between values"
+    else if stands_in (codes ".") part then codes "; numbers are whole"
+    else if is_front (codes "+") part then codes "; a number has no `+`"
+    else if is_front (codes "0x") part then codes "; numbers are decimal"
+    else if is_number part then codes "; it is past 64 bits"
     else []

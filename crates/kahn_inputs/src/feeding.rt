@@ -8,7 +8,7 @@ use crate::fitting::{
     part_of,
 };
 use crate::seeking::{Found, Sort, find_line, first_named};
-use crate::strange::strange_words;
+use crate::strange::{no_comment_words, numeral_words, strange_words};
 use kahn_hints::{add_inputs, add_unknown_input};
 use kahn_marks::{marked, marked_too};
 use kahn_report::TextFault;
@@ -41,7 +41,7 @@ fn entry_words(fault: InputFault) -> &'static str
     match fault {
         InputFault::UnknownName(_) => "no such channel",
         InputFault::NotAnInput(_) => "not an input channel",
-        InputFault::GivenTwice(_) => "given twice",
+        InputFault::GivenTwice(_) => "given twice; all values of a channel stand on one line",
         InputFault::WrongKind(_) => "kind does not agree",
         InputFault::TooMany(_) => "too many values; at most 1048576",
         InputFault::NoMemory => "no memory",
@@ -76,7 +76,7 @@ fn part_note(
     marked(alloc, path, text, moved_by(found.from, span), words)
 }
 
-/// The same, with what is said of a strange character in the part.
+/// The same, with what more is said of the part, and of a strange character in it.
 fn word_note(
     alloc: Global,
     path: &str,
@@ -84,14 +84,16 @@ fn word_note(
     found: Found<'_>,
     span: Span,
     words: &str,
+    more: &str,
 ) -> Result<String, AllocError>
     requires line { found.from + length found.line.now ≤ length text.now }
     requires order { span.from ≤ span.to }
     requires within { span.to ≤ length found.line.now }
-    ensures { IfOk result (λ note. string_bytes note ≡ word_note path.now text.now found.entry.from found.entry.line.now span words.now) }
+    ensures { IfOk result (λ note. string_bytes note ≡ word_note path.now text.now found.entry.from found.entry.line.now span words.now more.now) }
 {
     let strange = strange_words(found.from + span.from, part_of(found.line, span));
     let mut told = String::from_str(alloc, words)?;
+    told.push_str(more)?;
     told.push_str(strange)?;
     part_note(alloc, path, text, found, span, told.as_str())
 }
@@ -103,7 +105,8 @@ fn lack_note(alloc: Global, path: &str, text: &str, found: Found<'_>) -> Result<
 {
     let lack = lack_of(found.line);
     let span = lack_span(found.line, lack);
-    word_note(alloc, path, text, found, span, lack_words(lack))
+    let more = no_comment_words(part_of(found.line, span));
+    word_note(alloc, path, text, found, span, lack_words(lack), more)
 }
 
 /// Where what stands behind the colon begins.
@@ -133,7 +136,8 @@ fn value_note(alloc: Global, path: &str, text: &str, found: Found<'_>) -> Result
     ensures { IfOk result (IsValueNote path.now text.now found.entry.from found.entry.line.now) }
 {
     let span = unfit_span(None, found.line);
-    word_note(alloc, path, text, found, span, no_value_words())
+    let more = numeral_words(part_of(found.line, span));
+    word_note(alloc, path, text, found, span, no_value_words(), more)
 }
 
 /// The kind of the channel of that name, where a channel has it.

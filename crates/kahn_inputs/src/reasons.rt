@@ -1,7 +1,7 @@
 //! Why a file can't be read.
 
 ghost use Rattle.std.specs.Prelude.{◌≡◌};
-ghost use Rattle.kahn_write.specs.Written.{Writes};
+ghost use Rattle.kahn_streams.specs.Written.{Writes};
 ghost use Rattle.kahn_inputs.specs.Reasons.{reason_line, file_words};
 
 use kahn_report::{WriteFault, write_line};

@@ -1,7 +1,7 @@
 //! Which line of an input text is at fault.
 
 ghost use Rattle.std.specs.Prelude.{◌≡◌, ◌+◌, ◌≤◌, IfOk, IsFalse, IsTrue, MatchOption, length};
-ghost use Rattle.kahn_report.specs.Inputs.{content as content_of};
+ghost use Rattle.kahn_report.specs.Formats.{content as content_of};
 ghost use Rattle.kahn_inputs.specs.Fitting.{moved_by, name_span};
 ghost use Rattle.kahn_inputs.specs.Seeking.{IsFirstNamed, IsFound, IsNamedNowhere, IsNotSought, IsSort, IsSought, IsUnfound, entries_in, has_line_name};
 

@@ -1,7 +1,9 @@
-//! Characters of an input text that look like blanks and are none, and the mark of byte order.
+//! Characters of an input text that look like blanks and are none, and the mark of byte order; and words that are no values.
 
 ghost use Rattle.std.specs.Prelude.{◌≡◌};
-ghost use Rattle.kahn_inputs.specs.Strange.{is_front, strange_words, stands_in};
+ghost use Rattle.kahn_inputs.specs.Strange.{are_digits, no_comment_words, is_front, is_number, numeral_words, strange_words, stands_in};
+ghost use Rattle.std.specs.List.{list_all};
+ghost use Rattle.std.specs.Char.{is_ascii_digit};
 
 use crate::fitting::behind;
 
@@ -45,6 +47,69 @@ pub(crate) fn strange_words(at: usize, part: &[u8]) -> &'static str
         "; in it stands an ideographic space (U+3000)"
     } else if stands_in(b"\r", part) {
         "; in it stands a carriage return (U+000D)"
+    } else {
+        ""
+    }
+}
+
+/// Whether it is digits.
+fn are_digits(part: &[u8]) -> bool
+    ensures { result ≡ are_digits part.now }
+{
+    if part.is_empty() {
+        return false;
+    }
+    for byte in part {
+        if !byte.is_ascii_digit() {
+            return false;
+        }
+    }
+    true
+}
+
+/// Whether it is digits, and a sign before them or none.
+fn is_number(part: &[u8]) -> bool
+    ensures { result ≡ is_number part.now }
+{
+    match part.split_first() {
+        None => false,
+        Some((first, rest)) => {
+            if *first == b'-' {
+                are_digits(rest)
+            } else {
+                are_digits(part)
+            }
+        }
+    }
+}
+
+/// What is said of a part that begins as a comment of other languages does.
+pub(crate) fn no_comment_words(part: &[u8]) -> &'static str
+    ensures { result.now ≡ no_comment_words part.now }
+{
+    if is_front(b"#", part) {
+        "; an input has no comments"
+    } else {
+        ""
+    }
+}
+
+/// What is said of a word that is no value, by what it has.
+pub(crate) fn numeral_words(part: &[u8]) -> &'static str
+    ensures { result.now ≡ numeral_words part.now }
+{
+    if is_front(b"#", part) {
+        "; an input has no comments"
+    } else if stands_in(b",", part) || stands_in(b";", part) {
+        "; blanks stand between values"
+    } else if stands_in(b".", part) {
+        "; numbers are whole"
+    } else if is_front(b"+", part) {
+        "; a number has no `+`"
+    } else if is_front(b"0x", part) {
+        "; numbers are decimal"
+    } else if is_number(part) {
+        "; it is past 64 bits"
     } else {
         ""
     }

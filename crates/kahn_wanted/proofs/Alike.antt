@@ -6,9 +6,8 @@ use Rattle.kahn_syntax.specs.declared.lexeme.Sign.TheVariants as mark
 use Rattle.kahn_syntax.specs.declared.lexeme.Class.{Class}
 use Rattle.kahn_syntax.specs.declared.lexeme.Class.TheVariants as class
 use Rattle.kahn_streams.specs.declared.span.Span.{Span}
-use Rattle.kahn_syntax.specs.Lexemes.{Terminal, number, name, sign, terminal, sign_terminal}
-use Rattle.kahn_syntax.specs.Programs.{program, May, StandsFirst, nesting}
-use Rattle.kahn_syntax.specs.Texts.{Begins}
+use Rattle.kahn_syntax.specs.Grammar.{Terminal, numeral, name, sign, program, May, StandsFirst, nesting}
+use Rattle.kahn_syntax.specs.Texts.{terminal, sign_terminal, Begins}
 use Rattle.kahn_syntax.specs.inner.Machine.{Token, a_name, accepts, Part, ProgramPart, Rule, rules_of, enters, opened_by, levels, may_end, step, Whole, Refuses, TooFar, fate, onward}
 use Rattle.kahn_syntax.proofs.Viable.{Fits, fits_some, further}
 use Rattle.kahn_syntax.proofs.WholePrograms.{whole_program}
@@ -18,7 +17,7 @@ use Rattle.kahn_wanted.specs.inner.Asked.{nowhere}
 -- two names, or two numbers
 pub data Alike : Terminal → Terminal → Type 0 where
   names : (a b : List ℕ) → Alike (name a) (name b)
-  numbers : (y z : ℤ) → Alike (number y) (number z)
+  numbers : (y z : ℤ) → Alike (numeral y) (numeral z)
 
 takes_same : (t : Token) (k l : Terminal) → Alike k l → accepts t k ≡ accepts t l
 takes_same a_name _ _ (names a b) = refl

@@ -6,9 +6,8 @@ use Rattle.kahn_syntax.specs.declared.lexeme.Lexeme.{Lexeme}
 use Rattle.kahn_syntax.specs.declared.fault.SyntaxFault.TheVariants.{Expected, TooDeep}
 use Rattle.kahn_syntax.specs.declared.fault.What.{What}
 use Rattle.kahn_syntax.specs.declared.fault.What.TheVariants.{More, Nothing, Other}
-use Rattle.kahn_syntax.specs.Lexemes.{Terminal, terminal, terminals}
-use Rattle.kahn_syntax.specs.Programs.{ProgramTree, Spells}
-use Rattle.kahn_syntax.specs.Texts.{Begins, BeginsWithin, IsTooDeep, IsFault}
+use Rattle.kahn_syntax.specs.Grammar.{Terminal, ProgramTree, Spells}
+use Rattle.kahn_syntax.specs.Texts.{terminal, terminals, Begins, BeginsWithin, IsTooDeep, IsFault}
 use Rattle.kahn_syntax.proofs.Meaning.{terminals_append}
 use Rattle.kahn_wanted.specs.inner.Asked.{AreLed, AnswersBegin, is_more}
 

@@ -11,7 +11,7 @@ use Rattle.kahn_syntax.specs.declared.lexeme.Sign.{Sign}
 use Rattle.kahn_syntax.specs.declared.lexeme.Sign.TheVariants as mark
 use Rattle.kahn_syntax.specs.declared.lexeme.Lexeme.{Lexeme}
 use Rattle.kahn_streams.specs.declared.span.Span.{Span}
-use Rattle.kahn_syntax.specs.Lexemes.{terminal, terminals, sign_terminal, IsUnsigned, IsProper, AreProper}
+use Rattle.kahn_syntax.specs.Texts.{terminal, terminals, sign_terminal, IsUnsigned, IsProper, AreProper}
 use Rattle.kahn_wanted.specs.declared.asked.TheConstants.{CLASSES}
 use Rattle.kahn_wanted.specs.declared.groups.Group.{Group}
 use Rattle.kahn_wanted.specs.declared.groups.Wanted.{Wanted}

@@ -8,9 +8,8 @@ use Rattle.kahn_syntax.specs.declared.lexeme.Lexeme.{Lexeme}
 use Rattle.kahn_syntax.specs.declared.fault.SyntaxFault.TheVariants.{Expected}
 use Rattle.kahn_syntax.specs.declared.fault.What.{What}
 use Rattle.kahn_syntax.specs.declared.fault.What.TheVariants.{More, Nothing, Other}
-use Rattle.kahn_syntax.specs.Lexemes.{terminals, AreProper, AreLexemes, IsLexFault}
-use Rattle.kahn_syntax.specs.Programs.{Spells}
-use Rattle.kahn_syntax.specs.Texts.{BeginsWithin, IsFault, IsTextFault}
+use Rattle.kahn_syntax.specs.Texts.{terminals, AreProper, AreLexemes, IsLexFault, BeginsWithin, IsFault, IsTextFault}
+use Rattle.kahn_syntax.specs.Grammar.{Spells}
 use Rattle.kahn_syntax.proofs.Meaning.{terminals_append}
 use Rattle.kahn_syntax.proofs.OneList.{same_lexemes}
 use Rattle.kahn_syntax.proofs.Reached.{le_or}

@@ -1,7 +1,7 @@
 -- What stands between two lexemes, read from the left.
 use Rattle.std.proofs.Common.{◌≡◌, ℕ, ◌+◌, ◌≤◌, ◌<◌, ◌⊎◌, List, [], ◌∷◌, ◌++◌, Bool, true, false, append-nil, length, drop, get_or, refl, sym, ap, subst, ◌∙◌, arith, inl, inr, append_assoc}
 use Rattle.std.proofs.lemmas.List.{drop_more}
-use Rattle.kahn_syntax.specs.Lexemes.{IsBlank, IsComment, Gap, no_gap, then_blank, then_comment, Lexed, IsLexemeAt}
+use Rattle.kahn_syntax.specs.Texts.{IsBlank, IsComment, Gap, no_gap, then_blank, then_comment, Lexed, IsLexemeAt}
 use Rattle.kahn_syntax.specs.declared.lexeme.Lexeme.{Lexeme}
 use Rattle.kahn_syntax.proofs.OneList.{comment_dark, comment_grows, same_comment}
 use Rattle.kahn_streams.specs.declared.span.Span.{Span}

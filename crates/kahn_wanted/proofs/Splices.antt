@@ -6,8 +6,8 @@ use Rattle.std.proofs.lemmas.List.Elements.{All-append, All-from_recursion, All-
 use Rattle.kahn_streams.specs.declared.span.Span.{Span}
 use Rattle.kahn_syntax.specs.declared.lexeme.Class.{Class}
 use Rattle.kahn_syntax.specs.declared.lexeme.Lexeme.{Lexeme}
-use Rattle.kahn_syntax.specs.Lexemes.{Terminal, terminal, terminals, AreProper, IsProper, IsUnsigned}
-use Rattle.kahn_syntax.specs.Texts.{IsWholeWithin}
+use Rattle.kahn_syntax.specs.Grammar.{Terminal}
+use Rattle.kahn_syntax.specs.Texts.{terminal, terminals, AreProper, IsProper, IsUnsigned, IsWholeWithin}
 use Rattle.kahn_syntax.proofs.Meaning.{terminals_append}
 use Rattle.kahn_wanted.specs.declared.asked.TheConstants.{CLASSES}
 use Rattle.kahn_wanted.specs.declared.changes.Spot.{Spot}

@@ -7,7 +7,7 @@ use Rattle.kahn_syntax.specs.declared.lexeme.Class.{Class}
 use Rattle.kahn_syntax.specs.declared.lexeme.Class.TheVariants as class
 use Rattle.kahn_syntax.specs.declared.lexeme.Keyword.TheVariants as word
 use Rattle.kahn_syntax.specs.declared.lexeme.Lexeme.{Lexeme}
-use Rattle.kahn_syntax.specs.Lexemes.{AreLexemes}
+use Rattle.kahn_syntax.specs.Texts.{AreLexemes}
 use Rattle.kahn_wanted.specs.Mends.{IsPlace, lexeme_before}
 use Rattle.kahn_wanted.specs.declared.blocks.Block.{Block}
 use Rattle.kahn_wanted.specs.declared.blocks.Blocks.{Blocks}

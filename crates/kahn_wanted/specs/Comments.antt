@@ -2,7 +2,7 @@
 use Rattle.std.specs.Prelude.{◌≡◌, ℕ, ◌+◌, ◌<◌, ◌⊎◌, Bool, ◌||◌, ◌==◌, not, IsTrue, true, List, [], ◌∷◌, Option, Some, None, drop, length, slice_get, slice_index, take}
 use Rattle.std.specs.List.{list_all, list_any}
 use Rattle.std.specs.Str.{IsCharBoundary}
-use Rattle.kahn_syntax.specs.Lexemes.{IsBlank, IsComment, IsLexemeAt}
+use Rattle.kahn_syntax.specs.Texts.{IsBlank, IsComment, IsLexemeAt}
 use Rattle.kahn_syntax.specs.declared.lexeme.Lexeme.{Lexeme}
 use Rattle.kahn_streams.specs.declared.span.Span.{Span}
 use Rattle.kahn_wanted.specs.Swallowing.{Swallows, is_space}

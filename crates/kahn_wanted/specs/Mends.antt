@@ -10,8 +10,8 @@ use Rattle.kahn_syntax.specs.declared.lexeme.Sign.TheVariants as sign
 use Rattle.kahn_syntax.specs.declared.lexeme.Lexeme.{Lexeme}
 use Rattle.kahn_syntax.specs.declared.fault.What.{What}
 use Rattle.kahn_syntax.specs.declared.fault.What.TheVariants.{More, Nothing, Other}
-use Rattle.kahn_syntax.specs.Lexemes.{Terminal, terminal, terminals, AreLexemes}
-use Rattle.kahn_syntax.specs.Texts.{IsWholeWithin}
+use Rattle.kahn_syntax.specs.Grammar.{Terminal}
+use Rattle.kahn_syntax.specs.Texts.{terminal, terminals, AreLexemes, IsWholeWithin}
 use Rattle.kahn_wanted.specs.Wanted.{class_of_terminal, words, signs}
 use Rattle.kahn_wanted.specs.declared.changes.Spot.{Spot}
 use Rattle.kahn_wanted.specs.declared.changes.Spot.TheVariants.{Between, Here, Before}

@@ -33,18 +33,29 @@ abbrev pub begins_line : List ℕ → ℕ → Bool
 begins_line text zero = false
 begins_line text (suc i) = slice_index text i == 10 || (is_space (slice_index text i) && begins_line text i)
 
+-- this word stands behind its first byte, in any letter case, before a line ends
+abbrev pub line_has : List ℕ → List ℕ → Bool
+line_has word [] = false
+line_has word (b ∷ rest) = not (b == 10) && ((not (is_of_word b) && has_word word rest) || line_has word rest)
+
+-- it begins with a word that begins a statement, and one that has another word on that line
+abbrev pub has_statement : List ℕ → Bool
+has_statement rest =
+    has_word (codes "send") rest || has_word (codes "print") rest || has_word (codes "repeat") rest
+    || (has_word (codes "if") rest && line_has (codes "then") rest) || (has_word (codes "while") rest && line_has (codes "do") rest)
+
 -- it begins with these bytes
 abbrev pub has_bytes : List ℕ → List ℕ → Bool
 has_bytes [] rest = true
 has_bytes (c ∷ bytes) [] = false
 has_bytes (c ∷ bytes) (b ∷ rest) = c == b && has_bytes bytes rest
 
--- `:=` begins at byte i, or a whole word `wait` with a bracket behind it, which the byte before isn't a part of, or a line with `send`
+-- `:=` begins at byte i, or a whole word `wait` with a bracket behind it, which the byte before isn't a part of, or a line with a statement
 abbrev pub is_statement_at : List ℕ → ℕ → Bool
 is_statement_at text i =
     has_bytes (codes ":=") (drop i text)
     || (not (is_of_word (slice_index text (i - 1))) && has_call (codes "wait") (drop i text))
-    || (begins_line text i && has_word (codes "send") (drop i text))
+    || (begins_line text i && has_statement (drop i text))
 
 -- a line with `begin` or `end` begins at byte i
 abbrev pub is_block_word_at : List ℕ → ℕ → Bool

@@ -10,9 +10,9 @@ use Rattle.kahn_syntax.specs.declared.lexeme.Sign.TheVariants as sign
 use Rattle.kahn_syntax.specs.declared.lexeme.Lexeme.{Lexeme}
 use Rattle.kahn_syntax.specs.declared.fault.What.{What}
 use Rattle.kahn_syntax.specs.declared.fault.What.TheVariants.{More}
-use Rattle.kahn_syntax.specs.Lexemes as terminal
-use Rattle.kahn_syntax.specs.Lexemes.{Terminal, terminals, AreLexemes}
-use Rattle.kahn_syntax.specs.Texts.{Begins}
+use Rattle.kahn_syntax.specs.Grammar as grammar
+use Rattle.kahn_syntax.specs.Grammar.{Terminal}
+use Rattle.kahn_syntax.specs.Texts.{terminal, terminals, AreLexemes, Begins}
 use Rattle.kahn_wanted.specs.declared.groups.Group.{Group}
 use Rattle.kahn_wanted.specs.declared.groups.Group.TheVariants as group
 use Rattle.kahn_wanted.specs.declared.groups.Wanted.{Wanted}
@@ -24,10 +24,10 @@ MayFollow before k = Begins (before ++ k ∷ [])
 
 -- the class of such terminals: all names are of one, and all numbers are of that of 0
 abbrev pub class_of_terminal : Terminal → Class
-class_of_terminal (terminal.word w) = class.Word w
-class_of_terminal (terminal.sign s) = class.Sign s
-class_of_terminal (terminal.number z) = class.Number (pos 0)
-class_of_terminal (terminal.name n) = class.Name
+class_of_terminal (grammar.word w) = class.Word w
+class_of_terminal (grammar.sign s) = class.Sign s
+class_of_terminal (grammar.numeral z) = class.Number (pos 0)
+class_of_terminal (grammar.name n) = class.Name
 
 abbrev pub words : List Keyword → List Class
 words [] = []
@@ -57,7 +57,7 @@ told_classes w = flat_map members w.groups.items ++ w.others.items
 
 -- a lexeme may stand behind these terminals exactly where its class is told
 abbrev pub AreWanted : List Terminal → Wanted → Type 0
-AreWanted before w = (text : List ℕ) (x : Lexeme) → let k = terminal.terminal text x.what x.span in Contains (told_classes w) (class_of_terminal k) ↔ MayFollow before k
+AreWanted before w = (text : List ℕ) (x : Lexeme) → let k = terminal text x.what x.span in Contains (told_classes w) (class_of_terminal k) ↔ MayFollow before k
 
 -- The lexeme with this span stands there, and what may stand there instead.
 abbrev pub IsInstead : List ℕ → List Lexeme → Span → Unexpected → Type 0

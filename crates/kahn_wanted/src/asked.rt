@@ -1,9 +1,8 @@
 //! Which classes of lexemes may stand behind lexemes: the parser is asked whether they begin a program.
 
 ghost use Rattle.std.specs.Prelude.{◌≡◌, ◌∷◌, ◌++◌, [], All, IfOk, IfErr};
-ghost use Rattle.kahn_syntax.specs.Lexemes.{terminal, terminals, AreProper, IsProper, IsUnsigned};
+ghost use Rattle.kahn_syntax.specs.Texts.{terminal, terminals, AreProper, IsProper, IsUnsigned, Begins, BeginsWithin, IsFault};
 ghost use Rattle.kahn_syntax.specs.declared.fault.SyntaxFault.TheVariants.{NoMemory};
-ghost use Rattle.kahn_syntax.specs.Texts.{Begins, BeginsWithin, IsFault};
 ghost use Rattle.kahn_wanted.specs.inner.Asked.{AreLed, AreOf, MayCome, AnswersBegin, is_more};
 
 use kahn_syntax::{Class, Keyword, Lexeme, Sign, Span, SyntaxFault, What, parse_lexemes};

@@ -3,7 +3,7 @@
 ghost use Rattle.std.specs.Prelude.{◌≡◌, ◌↔◌, ℕ, ◌≤◌, IfOk, IsTrue, length, take};
 ghost use Rattle.std.specs.List.{list_all};
 ghost use Rattle.std.specs.Str.{IsCharBoundary};
-ghost use Rattle.kahn_syntax.specs.Lexemes.{Gap, IsComment};
+ghost use Rattle.kahn_syntax.specs.Texts.{Gap, IsComment};
 ghost use Rattle.kahn_wanted.specs.Comments.{AreComments, IsCommentBefore, IsLastSuspect, IsSuspect, is_beside};
 ghost use Rattle.kahn_wanted.specs.Swallowing.{is_space};
 ghost use Rattle.kahn_wanted.specs.inner.Passing.{EndWithin, Passed};

@@ -3,8 +3,7 @@
 ghost use Rattle.std.specs.Prelude.{◌≡◌, ◌≤◌, ◌<◌, ℕ, IfOk, None, length, slice_index_or};
 ghost use Rattle.kahn_syntax.specs.declared.fault.SyntaxFault.TheVariants.{Expected};
 ghost use Rattle.kahn_syntax.specs.declared.lexeme.Lexeme.{Lexeme};
-ghost use Rattle.kahn_syntax.specs.Texts.{BeginsWithin, IsFault, IsTextFault};
-ghost use Rattle.kahn_syntax.specs.Lexemes.{terminals, AreProper};
+ghost use Rattle.kahn_syntax.specs.Texts.{BeginsWithin, IsFault, IsTextFault, terminals, AreProper};
 ghost use Rattle.kahn_wanted.specs.Wanted.{AreWanted, IsAtFault, IsInstead, IsUnexpected};
 ghost use Rattle.kahn_wanted.specs.inner.Asked.{StandsBehind};
 

@@ -3,9 +3,8 @@
 ghost use Rattle.std.specs.Prelude.{◌≡◌, ◌≤◌, All, IfOk, MatchBool, length};
 ghost use Rattle.kahn_syntax.specs.declared.fault.SyntaxFault.TheVariants.{Expected};
 ghost use Rattle.kahn_syntax.specs.declared.fault.SyntaxFault.TheVariants as SyntaxFault;
-ghost use Rattle.kahn_syntax.specs.Texts.{IsFault, IsWholeWithin, IsTextFault};
-ghost use Rattle.kahn_syntax.specs.Programs.{ProgramTree, Spells, nesting};
-ghost use Rattle.kahn_syntax.specs.Lexemes.{terminals, AreProper};
+ghost use Rattle.kahn_syntax.specs.Texts.{IsFault, IsWholeWithin, IsTextFault, terminals, AreProper};
+ghost use Rattle.kahn_syntax.specs.Grammar.{ProgramTree, Spells, nesting};
 ghost use Rattle.kahn_wanted.specs.Mends.{AreMends, AreMendsAt, AreMendsOf, IsPlace};
 ghost use Rattle.kahn_wanted.specs.inner.Tried.{AreTried, IsPlain, Makes};
 

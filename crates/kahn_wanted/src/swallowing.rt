@@ -1,8 +1,8 @@
 //! What a comment has behind its first line that reads like the beginning or the end of a statement.
 
 ghost use Rattle.std.specs.Prelude.{◌≡◌, ◌↔◌, ℕ, ◌≤◌, ◌<◌, IfNone, IfSome, IsTrue, length, slice_index};
-ghost use Rattle.kahn_syntax.specs.Lexemes.{IsBlank};
-ghost use Rattle.kahn_wanted.specs.Swallowing.{Swallows, begins_line, has_bytes, has_call, has_word, is_block_word_at, is_of_word, is_part_at, is_space, is_statement_at, opens};
+ghost use Rattle.kahn_syntax.specs.Texts.{IsBlank};
+ghost use Rattle.kahn_wanted.specs.Swallowing.{Swallows, begins_line, has_bytes, has_call, has_statement, has_word, is_block_word_at, is_of_word, is_part_at, is_space, is_statement_at, line_has, opens};
 
 /// Whether it is a space, a tab, a CR or an LF.
 pub fn is_blank(b: u8) -> bool
@@ -79,6 +79,34 @@ fn begins_line(text: &[u8], place: usize) -> bool
     false
 }
 
+/// Whether a word stands behind the first byte of a text, in any letter case, before a line ends.
+fn line_has(word: &[u8], text: &[u8]) -> bool
+    ensures { result ≡ line_has word.now text.now }
+{
+    let mut rest = text;
+    'bytes: while let Some((byte, behind)) = rest.split_first() {
+        if *byte == b'\n' {
+            return false;
+        }
+        if !is_of_word(*byte) && has_word(word, behind) {
+            return true;
+        }
+        rest = behind;
+    }
+    false
+}
+
+/// Whether a text begins with `send`, `print` or `repeat`, or with `if` or `while` and has `then` or `do` on that line.
+fn has_statement(text: &[u8]) -> bool
+    ensures { result ≡ has_statement text.now }
+{
+    has_word(b"send", text)
+        || has_word(b"print", text)
+        || has_word(b"repeat", text)
+        || (has_word(b"if", text) && line_has(b"then", text))
+        || (has_word(b"while", text) && line_has(b"do", text))
+}
+
 /// Whether a text begins with these bytes.
 fn has_bytes(bytes: &[u8], text: &[u8]) -> bool
     ensures { result ≡ has_bytes bytes.now text.now }
@@ -92,7 +120,7 @@ fn has_bytes(bytes: &[u8], text: &[u8]) -> bool
     }
 }
 
-/// Whether `:=`, a whole word `wait` with a bracket behind it, or a line with `send` begins at a byte that isn't the first of the text.
+/// Whether `:=`, a whole word `wait` with a bracket behind it, or a line with a statement begins at a byte that isn't the first of the text.
 fn is_statement_at(text: &[u8], at: usize) -> bool
     requires low { 0 < at }
     requires high { at < length text.now }
@@ -101,7 +129,7 @@ fn is_statement_at(text: &[u8], at: usize) -> bool
     let rest = &text[at..];
     has_bytes(b":=", rest)
         || (!is_of_word(text[at - 1]) && has_call(b"wait", rest))
-        || (begins_line(text, at) && has_word(b"send", rest))
+        || (begins_line(text, at) && has_statement(rest))
 }
 
 /// Whether a line with `begin` or `end` begins at a byte.
@@ -156,7 +184,7 @@ fn line_feed(text: &[u8], from: usize, to: usize) -> Option<usize>
 }
 
 /// Whether a line ends between two bytes of a text, and behind that `:=` begins, a whole word `wait` with a bracket behind it, or a
-/// line with `send`; or a line with `begin` or `end`, where these are looked for too.
+/// line with a statement; or a line with `begin` or `end`, where these are looked for too.
 pub fn swallows(text: &[u8], from: usize, to: usize, blocks: bool) -> bool
     requires { to ≤ length text.now }
     ensures { IsTrue result ↔ Swallows blocks text.now from to }

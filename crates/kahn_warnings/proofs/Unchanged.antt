@@ -1,9 +1,10 @@
--- A loop that gives no value to a name of its test, which doesn't wait, never ends once that came true.
+-- A loop that gives no value to a name of its test, which doesn't wait, never ends once that came true; and a name that gets no value keeps
+-- the one that it has.
 use mathlib.Core.Path.{fun_ext}
-use Rattle.std.proofs.Common.{arith, ◌≡◌, ◌∙◌, ℕ, zero, suc, ◌||◌, Bool, true, false, true≢false, Option, Some, None, Result, Ok, Err, neg_ℤ, pos, not, ap, sym, refl, nat_eq, slice_set}
+use Rattle.std.proofs.Common.{arith, ◌≡◌, ◌∙◌, ℕ, zero, suc, ◌||◌, Bool, true, false, true≢false, Option, Some, None, Result, Ok, Err, neg_ℤ, pos, not, ap, sym, refl, nat_eq, slice_set, subst}
 use Rattle.std.proofs.lemmas.List.{get_or-set_other}
 use Rattle.std.proofs.lemmas.Option.{none-some, same_Some}
-use Rattle.kahn_streams.specs.Syntax.{Expr, Literal, Variable, Wait, Negate, Not, Binary, Conditional, Stmt, Skip, Assign, Send, Print, Seq, If, While, Repeat}
+use Rattle.kahn_streams.specs.Syntax.{Constant, Expr, Literal, Variable, Wait, Negate, Not, Binary, Conditional, Stmt, Skip, Assign, Send, Print, Seq, If, While, Repeat}
 use Rattle.kahn_streams.specs.declared.value.Value.{Value}
 use Rattle.kahn_streams.specs.declared.value.Failure.{Failure}
 use Rattle.kahn_streams.specs.declared.value.Value.TheVariants.{Integer, Logical}
@@ -181,3 +182,14 @@ never_left t a b is n s T v came true' =
     ap (λ c. play n c T)
     (endless t s a is.0 is.1 v (is_ok (result_of t s) n T v (ap (λ c. play n c T) (sym (comes_to t s Give is.0)) ∙ came)) true' n n s
     (λ r. script_of n b r Give) Give (λ x named. refl))
+
+one_name : (y x : ℕ) → nat_eq y x ≡ true → x ≡ y
+one_name y x h = grind (arith, h)
+
+pub kept_value : (x : ℕ) (a : Stmt) → is_assigned_in x a ≡ false → (n : ℕ) (s : Store) (T : Tapes) (c : Constant) → read s x ≡ constant c →
+    exec n (Seq a (Print (Variable x))) s T ≡ exec n (Seq a (Print (Literal c))) s T
+kept_value x a spared n s T c is =
+    ap (λ p. play n p T)
+    (kept (Variable x) s n a s (λ r. Sends Printer (read r x) (Give r)) (λ r. Sends Printer (constant c) (Give r))
+    (λ y named. subst (λ z. is_assigned_in z a ≡ false) (one_name y x named) spared) (λ y named. refl)
+    (λ r its. ap (λ v. Sends Printer v (Give r)) (its x (itself x) ∙ is)))

@@ -10,7 +10,7 @@ use Rattle.kahn_streams.specs.Meaning.{Store, script_of, settle, turns_of, value
 use Rattle.kahn_streams.specs.Script.{Fail, Give, Rest, Script, Sends, Tapes, Turns, Waits, play}
 use Rattle.kahn_warnings.specs.Constants.{constant_of, is_true}
 use Rattle.kahn_warnings.proofs.Holding.{holds}
-use Rattle.kahn_warnings.proofs.Unchanged.{never_left}
+use Rattle.kahn_warnings.proofs.Unchanged.{kept_value, never_left}
 use Rattle.kahn_warnings.specs.Loops.{LoopsHold, is_seen, never_ends}
 use Rattle.kahn_warnings.specs.Uses.{waits_in}
 
@@ -141,5 +141,6 @@ pub loops_hold : LoopsHold
 loops_hold = record {
   unreached = λ a b h n s T. ap (λ c. play n c T) (unmoved n a s (λ r. script_of n b r Give) Give h);
   unchanged = never_left;
+  kept = kept_value;
   unseen = λ a h n s T. play_quiet n (script_of n a s Give) T (quiet_script n a s Give h (λ r. tt));
 }

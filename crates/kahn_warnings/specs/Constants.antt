@@ -14,11 +14,11 @@ use Rattle.kahn_streams.specs.declared.value.Failure.TheVariants.{Overflow, Divi
 use Rattle.kahn_streams.specs.Arithmetic.{apply, is_zero, number, ranged, truth}
 use Rattle.kahn_streams.specs.Meaning.{Store, constant, eval, exec, value_of}
 use Rattle.kahn_streams.specs.Script.{Fail, Fault, Give, Got, Tapes, Turns, at_once, play}
-use Rattle.kahn_warnings.specs.Uses.{varies_by}
+use Rattle.kahn_warnings.specs.Uses.{is_empty, varies_by}
 use Rattle.kahn_warnings.specs.Warned.{warned}
 use Rattle.kahn_warnings.specs.declared.warning.Warning.{Warning}
 use Rattle.kahn_warnings.specs.declared.warning.WarningKind.{WarningKind}
-use Rattle.kahn_warnings.specs.declared.warning.WarningKind.TheVariants.{Divides, Overflows, AlwaysTrue, AlwaysFalse, Unchanged}
+use Rattle.kahn_warnings.specs.declared.warning.WarningKind.TheVariants.{Divides, Overflows, AlwaysTrue, AlwaysFalse, Unchanged, BareDo}
 
 -- ---- the value that an expression has wherever it is reached, where that is told
 
@@ -96,11 +96,14 @@ abbrev pub test_warnings : Span → Option Value → List Warning
 test_warnings at None = []
 test_warnings at (Some v) = warned (test_kind (truth v)) at ∷ []
 
--- of a loop, whose test may vary by its body; one that is always true is another way to write `repeat`
-abbrev pub turn_warnings : Span → Option Value → Bool → List Warning
-turn_warnings at None true = []
-turn_warnings at None false = warned Unchanged at ∷ []
-turn_warnings at (Some v) varies = if truth v then [] else warned AlwaysFalse at ∷ []
+abbrev pub unchanged_kind : Bool → WarningKind
+unchanged_kind empty = if empty then BareDo else Unchanged
+
+-- of a loop, whose test may vary by its body, which may be empty; one that is always true is another way to write `repeat`
+abbrev pub turn_warnings : Span → Option Value → Bool → Bool → List Warning
+turn_warnings at None true empty = []
+turn_warnings at None false empty = warned (unchanged_kind empty) at ∷ []
+turn_warnings at (Some v) varies empty = if truth v then [] else warned AlwaysFalse at ∷ []
 
 -- ---- in an expression: of an operator its right operand is told, or its only one
 
@@ -136,7 +139,7 @@ abbrev mutual
   constant_warnings (If' t p at a b) =
       test_warnings t.span (constant_of (expression_of [] t)) ++ (expression_warnings t.form ++ (constant_warnings a ++ else_constants b))
   constant_warnings (While' t p at a) =
-      turn_warnings t.span (constant_of (expression_of [] t)) (varies_by a t.form) ++ (expression_warnings t.form ++ constant_warnings a)
+      turn_warnings t.span (constant_of (expression_of [] t)) (varies_by a t.form) (is_empty a) ++ (expression_warnings t.form ++ constant_warnings a)
   constant_warnings (Repeat' p at a) = constant_warnings a
 
   pub row_constants : {m : _} → Row_of-Statement m → List Warning

@@ -1,9 +1,9 @@
 -- Believed. Statements that never end, and loops that nobody sees.
 use Rattle.std.specs.Prelude.{◌≡◌, ℕ, Bool, true, false, ◌||◌, ◌&&◌, []}
-use Rattle.kahn_streams.specs.Syntax.{Expr, Stmt, Skip, Assign, Send, Print, Seq, If, While, Repeat}
+use Rattle.kahn_streams.specs.Syntax.{Constant, Expr, Literal, Variable, Stmt, Skip, Assign, Send, Print, Seq, If, While, Repeat}
 use Rattle.kahn_streams.specs.declared.value.Value.{Value}
 use Rattle.kahn_streams.specs.Arithmetic.{truth}
-use Rattle.kahn_streams.specs.Meaning.{Store, eval, exec}
+use Rattle.kahn_streams.specs.Meaning.{Store, constant, eval, exec, read}
 use Rattle.kahn_streams.specs.Script.{Got, Tapes, at_once}
 use Rattle.kahn_warnings.specs.Constants.{constant_of, is_true}
 use Rattle.kahn_warnings.specs.Uses.{is_assigned_in, is_named, waits_in}
@@ -37,9 +37,12 @@ IsUnchanged t a = (waits_in t ≡ false) × ((x : ℕ) → is_named x t ≡ true
 -- ---- the law
 
 -- Whatever the values of the names and whatever the tapes hold: what stands behind a statement that never ends by its form isn't done, and
--- one that isn't seen takes nothing and sends nothing; a loop whose test is unchanged never ends once that came true.
+-- one that isn't seen takes nothing and sends nothing; a loop whose test is unchanged never ends once that came true; a name that gets no value
+-- keeps the one that it has, and so prints it.
 pub record LoopsHold : Type 0 where
   pub unreached : (a b : Stmt) → never_ends a ≡ true → (n : ℕ) (s : Store) (T : Tapes) → exec n (Seq a b) s T ≡ exec n a s T
   pub unchanged : (t : Expr) (a b : Stmt) → IsUnchanged t a → (n : ℕ) (s : Store) (T : Tapes) (v : Value) → eval n t s T ≡ at_once (Got v) T → truth v ≡ true →
       exec n (Seq (While t a) b) s T ≡ exec n (While t a) s T
+  pub kept : (x : ℕ) (a : Stmt) → is_assigned_in x a ≡ false → (n : ℕ) (s : Store) (T : Tapes) (c : Constant) → read s x ≡ constant c →
+      exec n (Seq a (Print (Variable x))) s T ≡ exec n (Seq a (Print (Literal c))) s T
   pub unseen : (a : Stmt) → is_seen a ≡ false → (n : ℕ) (s : Store) (T : Tapes) → ((exec n a s T).left ≡ T) × ((exec n a s T).sent ≡ [])

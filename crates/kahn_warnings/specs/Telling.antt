@@ -6,13 +6,15 @@ use Rattle.kahn_marks.specs.Marks.{marked_too, marked_warning}
 use Rattle.kahn_warnings.specs.Warnings.{AreWarnings}
 use Rattle.kahn_warnings.specs.declared.warning.Warning.{Warning}
 use Rattle.kahn_warnings.specs.declared.warning.WarningKind.{WarningKind}
-use Rattle.kahn_warnings.specs.declared.warning.WarningKind.TheVariants.{LongComment, NoInstance, Unused, Unread, Idle, Unreached, Divides, Overflows, AlwaysTrue, AlwaysFalse, Unchanged}
+use Rattle.kahn_warnings.specs.declared.warning.WarningKind.TheVariants.{LongComment, NoInstance, Unused, Unread, StaysZero, StaysFalse, Idle, Unreached, Divides, Overflows, AlwaysTrue, AlwaysFalse, Unchanged, BareDo, BareThen}
 
 abbrev pub warning_words : WarningKind → List ℕ
-warning_words LongComment = codes "comment goes on to a later line, over `:=`, `wait` or `send`"
+warning_words LongComment = codes "comment goes on to a later line, over what reads like a statement"
 warning_words NoInstance = codes "process has no instance"
 warning_words Unused = codes "name is never used"
 warning_words Unread = codes "name is assigned, and never read"
+warning_words StaysZero = codes "name is read, and never assigned: it is always 0"
+warning_words StaysFalse = codes "name is read, and never assigned: it is always false"
 warning_words Idle = codes "loop never ends, and doesn't wait, send or print"
 warning_words Unreached = codes "statement is never reached: one before it never ends; `begin` and `end` make one statement of several"
 warning_words Divides = codes "divisor is always 0"
@@ -20,6 +22,8 @@ warning_words Overflows = codes "result is always out of range: overflow"
 warning_words AlwaysTrue = codes "test is always true"
 warning_words AlwaysFalse = codes "test is always false"
 warning_words Unchanged = codes "nothing in the loop changes this test; `begin` and `end` make one statement of several"
+warning_words BareDo = codes "nothing stands behind `do`, so nothing changes this test: a statement behind `;` is not in the loop"
+warning_words BareThen = codes "nothing stands behind `then`: a statement behind `;` is always done"
 
 -- of a comment its last byte is told too
 abbrev pub last_byte : Span → Span

@@ -1,7 +1,7 @@
 -- Believed. Which names the body of a process uses, and which it assigns.
 use Rattle.std.specs.Prelude.{ℕ, Bool, true, false, ◌||◌, ◌&&◌, List, [], ◌∷◌, nat_eq}
 use Rattle.kahn_streams.specs.declared.tree.Process.{Process}
-use Rattle.kahn_streams.specs.declared.tree.Action.{Action}
+use Rattle.kahn_streams.specs.declared.tree.Action.{Action, Empty}
 use Rattle.kahn_streams.specs.declared.tree.Form.{Form, Number, Logical, Negate', Not', Bracket', Level', Conditional', Row_of-Operand, end_of-Operand, more_of-Operand}
 use Rattle.kahn_streams.specs.declared.tree.Form as form
 use Rattle.kahn_streams.specs.Syntax.{Expr, Literal, Variable, Wait, Negate, Not, Binary, Conditional, Stmt, Skip, Assign, Send, Print, Seq, If, While, Repeat}
@@ -48,6 +48,11 @@ is_assigned_in x (Seq a b) = is_assigned_in x a || is_assigned_in x b
 is_assigned_in x (If t a b) = is_assigned_in x a || is_assigned_in x b
 is_assigned_in x (While t a) = is_assigned_in x a
 is_assigned_in x (Repeat a) = is_assigned_in x a
+
+-- nothing stands there
+abbrev pub is_empty : Action → Bool
+is_empty Empty = true
+is_empty a = false
 
 -- an expression waits, or has a name to which an action gives a value: in sight of the name alone its number is 0
 abbrev mutual

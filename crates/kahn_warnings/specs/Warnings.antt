@@ -1,16 +1,19 @@
 -- Believed. What is warned of, and in which order: the comments first, then one process after another, and in each its instances, its
 -- parameters, its variables, its statements and the constants in these.
-use Rattle.std.specs.Prelude.{◌≡◌, ℕ, Bool, List, [], ◌∷◌, ◌++◌, Option, None, if◌then◌else◌, flat_map}
+use Rattle.std.specs.Prelude.{◌≡◌, ℕ, Bool, ◌&&◌, not, List, [], ◌∷◌, ◌++◌, Option, None, if◌then◌else◌, flat_map}
 use Rattle.std.specs.List.{list_any}
 use Rattle.std.specs.Option.{option_or}
 use Rattle.std.proofs.Common.{bytes_eq}
 use Rattle.kahn_streams.specs.View.{bytes_of, expression_of, stmt_of, statement_of}
 use Rattle.kahn_streams.specs.declared.span.Span.{Span}
 use Rattle.kahn_streams.specs.declared.tree.Expression.{Expression}
+use Rattle.kahn_streams.specs.declared.tree.Kind.{Kind}
+use Rattle.kahn_streams.specs.declared.tree.Kind.TheVariants.{Integer, Logical}
 use Rattle.kahn_streams.specs.declared.tree.Name.{Name}
 use Rattle.kahn_streams.specs.declared.tree.Action.{Action, Empty, Assign, Send, Print, Block', If', While', Repeat', Row_of-Statement, end_of-Statement, more_of-Statement, Held-Action-If-2, None', Some'}
 use Rattle.kahn_streams.specs.declared.tree.Statement.{Statement}
 use Rattle.kahn_streams.specs.declared.tree.Process.{Process}
+use Rattle.kahn_streams.specs.declared.tree.Variable.{Variable}
 use Rattle.kahn_streams.specs.declared.tree.Instance.{Instance}
 use Rattle.kahn_streams.specs.declared.tree.Declaration.{Declaration}
 use Rattle.kahn_streams.specs.declared.tree.Program.{Program}
@@ -18,11 +21,11 @@ use Rattle.kahn_streams.specs.declared.tree.Declaration.TheVariants as D
 use Rattle.kahn_warnings.specs.Comments.{AreCommentWarnings}
 use Rattle.kahn_warnings.specs.Constants.{constant_of, constant_warnings, is_true}
 use Rattle.kahn_warnings.specs.Loops.{is_seen, never_ends}
-use Rattle.kahn_warnings.specs.Uses.{assigns, uses_name}
+use Rattle.kahn_warnings.specs.Uses.{assigns, is_empty, uses_name}
 use Rattle.kahn_warnings.specs.Warned.{warned, warned_where}
 use Rattle.kahn_warnings.specs.declared.warning.Warning.{Warning}
 use Rattle.kahn_warnings.specs.declared.warning.WarningKind.{WarningKind}
-use Rattle.kahn_warnings.specs.declared.warning.WarningKind.TheVariants.{NoInstance, Unused, Unread, Idle, Unreached}
+use Rattle.kahn_warnings.specs.declared.warning.WarningKind.TheVariants.{NoInstance, Unused, Unread, StaysZero, StaysFalse, Idle, Unreached, BareThen}
 
 -- ---- a process without an instance
 
@@ -40,14 +43,23 @@ unread_kind is_assigned = if is_assigned then Unread else Unused
 abbrev pub name_warnings : Process → Name → List Warning
 name_warnings p n = if uses_name p (bytes_of n) then [] else warned (unread_kind (assigns p (bytes_of n))) n.span ∷ []
 
+abbrev pub unassigned_kind : Kind → WarningKind
+unassigned_kind Integer = StaysZero
+unassigned_kind Logical = StaysFalse
+
+-- a variable has the value that it begins with
+abbrev pub unassigned_warnings : Process → Variable → List Warning
+unassigned_warnings p v =
+    if uses_name p (bytes_of v.name) && not (assigns p (bytes_of v.name)) then warned (unassigned_kind v.kind) v.name.span ∷ [] else []
+
+abbrev pub variable_warnings : Process → Variable → List Warning
+variable_warnings p v = name_warnings p v.name ++ unassigned_warnings p v
+
 abbrev pub parameter_warnings : Process → List Warning
 parameter_warnings p = flat_map (λ q. name_warnings p q.name) p.parameters.items
 
-abbrev pub variable_warnings : Process → List Warning
-variable_warnings p = flat_map (λ v. name_warnings p v.name) p.variables.items
-
 abbrev pub names_warnings : Process → List Warning
-names_warnings p = parameter_warnings p ++ variable_warnings p
+names_warnings p = parameter_warnings p ++ flat_map (variable_warnings p) p.variables.items
 
 -- ---- loops
 
@@ -74,6 +86,10 @@ abbrev pub block_items : {m : _} → Row_of-Statement m → List Statement
 block_items end_of-Statement = []
 block_items (more_of-Statement at a rest) = record { span = at; action = a } ∷ block_items rest
 
+-- an `if` without `else` that stands here
+abbrev pub bare_warnings : Option Span → Action → List Warning
+bare_warnings at a = if is_empty a then warned_where BareThen at else []
+
 -- in a statement that stands here
 abbrev mutual
   pub statement_warnings : Option Span → Action → List Warning
@@ -82,7 +98,7 @@ abbrev mutual
   statement_warnings at (Send e q) = []
   statement_warnings at (Print e) = []
   statement_warnings at (Block' shape row) = row_warnings row ++ warned_where Unreached (first_unreached (block_items row))
-  statement_warnings at (If' t p span a b) = statement_warnings span a ++ else_warnings b
+  statement_warnings at (If' t p span a b) = statement_warnings span a ++ else_warnings at a b
   statement_warnings at (While' t p span a) = endless_warnings at t a ++ statement_warnings span a
   statement_warnings at (Repeat' p span a) = idle_warnings at a ++ statement_warnings span a
 
@@ -90,9 +106,9 @@ abbrev mutual
   row_warnings end_of-Statement = []
   row_warnings (more_of-Statement span a rest) = statement_warnings span a ++ row_warnings rest
 
-  pub else_warnings : Held-Action-If-2 → List Warning
-  else_warnings None' = []
-  else_warnings (Some' p span a) = statement_warnings span a
+  pub else_warnings : Option Span → Action → Held-Action-If-2 → List Warning
+  else_warnings at a None' = bare_warnings at a
+  else_warnings at a (Some' p span b) = statement_warnings span b
 
 abbrev pub body_warnings : List Statement → List Warning
 body_warnings ss = flat_map (λ s. statement_warnings s.span s.action) ss ++ warned_where Unreached (first_unreached ss)

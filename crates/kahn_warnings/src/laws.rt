@@ -10,8 +10,8 @@ pub fn constants_hold()
     ensures { ConstantsHold }
 {}
 
-/// The law of loops: what stands behind a statement that never ends is never done, and a loop that doesn't wait, send or print takes
-/// nothing and sends nothing. Its contract is what it does.
+/// The law of loops: what stands behind a statement that never ends is never done, a loop that doesn't wait, send or print takes
+/// nothing and sends nothing, and a name that is never assigned keeps its value. Its contract is what it does.
 pub fn loops_hold()
     ensures { LoopsHold }
 {}

@@ -2,11 +2,11 @@
 
 ghost use Rattle.std.specs.Prelude.{◌≡◌, ◌++◌, IfOk};
 ghost use Rattle.std.specs.List.{list_any};
-ghost use Rattle.kahn_warnings.specs.Warnings.{is_of, name_warnings, names_warnings, process_warnings, unread_kind};
+ghost use Rattle.kahn_warnings.specs.Warnings.{is_of, name_warnings, names_warnings, process_warnings, unassigned_kind, unassigned_warnings, unread_kind, variable_warnings};
 
 use crate::uses::{assigns, uses};
 use crate::warning::{Warning, WarningKind};
-use kahn_streams::{Instance, Name, Process};
+use kahn_streams::{Instance, Kind, Name, Process, Variable};
 use std::alloc::AllocError;
 
 /// Whether one of the instances is of a process.
@@ -63,6 +63,46 @@ fn add_name(warnings: &mut Vec<Warning>, process: &Process, name: &Name) -> Resu
     Ok(())
 }
 
+/// What is warned of a variable that keeps the value that it begins with.
+fn unassigned_kind(kind: Kind) -> WarningKind
+    ensures { result ≡ unassigned_kind kind }
+{
+    match kind {
+        Kind::Integer => WarningKind::StaysZero,
+        Kind::Logical => WarningKind::StaysFalse,
+    }
+}
+
+/// Adds the warning of a variable that its process uses, and never assigns.
+fn add_unassigned(
+    warnings: &mut Vec<Warning>,
+    process: &Process,
+    variable: &Variable,
+) -> Result<(), AllocError>
+    ensures { IfOk result (λ _. warnings.new.items ≡ warnings.old.items ++ unassigned_warnings process.now variable.now) }
+{
+    let letters = variable.name.text.as_bytes();
+    if uses(process, letters) && !assigns(process, letters) {
+        warnings.push(Warning {
+            kind: unassigned_kind(variable.kind),
+            span: variable.name.span,
+        })?;
+    }
+    Ok(())
+}
+
+/// Adds those of a variable.
+fn add_variable(
+    warnings: &mut Vec<Warning>,
+    process: &Process,
+    variable: &Variable,
+) -> Result<(), AllocError>
+    ensures { IfOk result (λ _. warnings.new.items ≡ warnings.old.items ++ variable_warnings process.now variable.now) }
+{
+    add_name(warnings, process, &variable.name)?;
+    add_unassigned(warnings, process, variable)
+}
+
 /// Adds those of the parameters of a process, and then those of its variables.
 pub(crate) fn add_names(warnings: &mut Vec<Warning>, process: &Process) -> Result<(), AllocError>
     ensures { IfOk result (λ _. warnings.new.items ≡ warnings.old.items ++ names_warnings process.now) }
@@ -71,7 +111,7 @@ pub(crate) fn add_names(warnings: &mut Vec<Warning>, process: &Process) -> Resul
         add_name(warnings, process, &parameter.name)?;
     }
     for variable in &process.variables {
-        add_name(warnings, process, &variable.name)?;
+        add_variable(warnings, process, variable)?;
     }
     Ok(())
 }

@@ -14,10 +14,13 @@ fn warning_words(kind: WarningKind) -> &'static str
     ensures { result.now ≡ warning_words kind }
 {
     match kind {
-        WarningKind::LongComment => "comment goes on to a later line, over `:=`, `wait` or `send`",
+        WarningKind::LongComment =>
+            "comment goes on to a later line, over what reads like a statement",
         WarningKind::NoInstance => "process has no instance",
         WarningKind::Unused => "name is never used",
         WarningKind::Unread => "name is assigned, and never read",
+        WarningKind::StaysZero => "name is read, and never assigned: it is always 0",
+        WarningKind::StaysFalse => "name is read, and never assigned: it is always false",
         WarningKind::Idle => "loop never ends, and doesn't wait, send or print",
         WarningKind::Unreached =>
             "statement is never reached: one before it never ends; `begin` and `end` make one statement of several",
@@ -27,6 +30,10 @@ fn warning_words(kind: WarningKind) -> &'static str
         WarningKind::AlwaysFalse => "test is always false",
         WarningKind::Unchanged =>
             "nothing in the loop changes this test; `begin` and `end` make one statement of several",
+        WarningKind::BareDo =>
+            "nothing stands behind `do`, so nothing changes this test: a statement behind `;` is not in the loop",
+        WarningKind::BareThen =>
+            "nothing stands behind `then`: a statement behind `;` is always done",
     }
 }
 

@@ -2,7 +2,7 @@
 
 ghost use Rattle.std.specs.Prelude.{◌≡◌, ◌++◌, IfOk};
 ghost use Rattle.kahn_streams.specs.View.{stmt_of};
-ghost use Rattle.kahn_warnings.specs.Warnings.{AreWarnings, body_constants, body_warnings, declaration_warnings, endless_warnings, first_standing, first_unreached, idle_warnings, statement_warnings};
+ghost use Rattle.kahn_warnings.specs.Warnings.{AreWarnings, bare_warnings, body_constants, body_warnings, declaration_warnings, endless_warnings, first_standing, first_unreached, idle_warnings, statement_warnings};
 ghost use Rattle.kahn_warnings.specs.Warned.{warned_where};
 
 use crate::comments::comment_warnings;
@@ -10,6 +10,7 @@ use crate::constants::{constant_of, is_true};
 use crate::loops::{is_seen, never_ends};
 use crate::names::{add_names, add_process};
 use crate::surely::add_constants;
+use crate::uses::is_empty;
 use crate::warning::{Warning, WarningKind};
 use kahn_streams::{Action, Declaration, Expression, Instance, NoMemory, Program, Span, Statement};
 use std::alloc::{AllocError, Global};
@@ -53,6 +54,21 @@ fn add_endless(
 {
     if is_true(constant_of(test)) {
         add_idle(warnings, place, body)
+    } else {
+        Ok(())
+    }
+}
+
+/// Adds that of an `if` without `else`, where nothing stands behind its `then`.
+fn add_bare(
+    warnings: &mut Vec<Warning>,
+    place: Option<Span>,
+    yes: &Statement,
+) -> Result<(), AllocError>
+    ensures { IfOk result (λ _. warnings.new.items ≡ warnings.old.items ++ bare_warnings place yes.now.action) }
+{
+    if is_empty(yes) {
+        add_where(warnings, WarningKind::BareThen, place)
     } else {
         Ok(())
     }
@@ -109,7 +125,7 @@ fn add_statement(warnings: &mut Vec<Warning>, statement: &Statement) -> Result<(
             add_statement(warnings, yes)?;
             match no {
                 Some(no) => add_statement(warnings, no),
-                None => Ok(()),
+                None => add_bare(warnings, statement.span, yes),
             }
         }
         Action::While(test, body) => {

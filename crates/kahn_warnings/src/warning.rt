@@ -3,9 +3,9 @@
 use kahn_streams::Span;
 
 /// What is warned of.
-#[derive(Clone, Copy, Debug, PartialEq, Eq)]
+#[derive(Clone, Copy)]
 pub enum WarningKind {
-    /// A comment goes on over a line's end, and `:=`, `wait` or `send` stands behind that in it.
+    /// A comment goes on over a line's end, and what reads like a statement stands behind that in it.
     LongComment,
     /// A process that no instance names.
     NoInstance,
@@ -13,6 +13,10 @@ pub enum WarningKind {
     Unused,
     /// A parameter or a variable that its process assigns, and never reads.
     Unread,
+    /// An integer variable that its process reads, and never assigns.
+    StaysZero,
+    /// A logical variable that its process reads, and never assigns.
+    StaysFalse,
     /// A loop without an end that waits for nothing, sends nothing and prints nothing.
     Idle,
     /// A statement behind one that never ends.
@@ -27,14 +31,18 @@ pub enum WarningKind {
     AlwaysFalse,
     /// A test of a `while` that nothing in the loop changes.
     Unchanged,
+    /// The same, with nothing behind `do`.
+    BareDo,
+    /// An `if` without `else`, and with nothing behind `then`.
+    BareThen,
 }
 
 /// A warning, and the part of the text that it is about.
-#[derive(Clone, Copy, Debug, PartialEq, Eq)]
+#[derive(Clone, Copy)]
 pub struct Warning {
     /// What is warned of.
     pub kind: WarningKind,
     /// The whole comment; the name of the process, of the parameter or of the variable where it is declared; the loop; the
-    /// first statement that isn't reached; the right operand, or the one behind a sign; or the test.
+    /// first statement that isn't reached; the right operand, or the one behind a sign; the test; or the `if`.
     pub span: Span,
 }

@@ -5,8 +5,8 @@ use Rattle.kahn_syntax.specs.declared.lexeme.Class.{Class}
 use Rattle.kahn_syntax.specs.declared.lexeme.Lexeme.{Lexeme}
 use Rattle.kahn_syntax.specs.declared.fault.What.{What}
 use Rattle.kahn_syntax.specs.declared.fault.What.TheVariants.{More, Nothing, Other}
-use Rattle.kahn_syntax.specs.Lexemes.{Terminal, terminal, terminals}
-use Rattle.kahn_syntax.specs.Texts.{Begins, BeginsWithin}
+use Rattle.kahn_syntax.specs.Grammar.{Terminal}
+use Rattle.kahn_syntax.specs.Texts.{terminal, terminals, Begins, BeginsWithin}
 
 -- the last of these lexemes stands behind others that begin a program within the limit
 abbrev pub AreLed : List ℕ → List Lexeme → Type 0

@@ -2,8 +2,7 @@
 use Rattle.std.specs.Prelude.{ℕ, List, [], ◌∷◌, Option, Some, None}
 use Rattle.kahn_syntax.specs.declared.lexeme.Class.{Class}
 use Rattle.kahn_syntax.specs.declared.lexeme.Lexeme.{Lexeme}
-use Rattle.kahn_syntax.specs.Lexemes.{terminals, IsUnsigned}
-use Rattle.kahn_syntax.specs.Texts.{IsWholeWithin}
+use Rattle.kahn_syntax.specs.Texts.{terminals, IsUnsigned, IsWholeWithin}
 use Rattle.kahn_wanted.specs.declared.changes.Change.{Change}
 use Rattle.kahn_wanted.specs.Mends.{HasSpot, Picked, changed}
 use Rattle.kahn_wanted.specs.inner.Asked.{nowhere}

@@ -1,7 +1,7 @@
 -- What the rest of the operands makes of the kind so far.
 use Rattle.std.proofs.Common.{◌≡◌, drop}
 use Rattle.kahn_streams.specs.Wiring.{scope_of}
-use Rattle.kahn_check.specs.Faults.{kind_of}
+use Rattle.kahn_streams.specs.Faults.{kind_of}
 use Rattle.kahn_hints.proofs.Rows.{list_kind}
 use Rattle.kahn_hints.proofs.kinds.+kind_of.Given as goal
 

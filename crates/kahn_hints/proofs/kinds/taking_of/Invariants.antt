@@ -3,7 +3,7 @@ use Rattle.std.proofs.Common.{◌≡◌, ◌++◌, drop, map}
 use Rattle.kahn_streams.specs.View.{bytes_of}
 use Rattle.kahn_streams.specs.declared.tree.Taking.TheVariants as T
 use Rattle.kahn_streams.specs.Wiring.{entries, scope_of}
-use Rattle.kahn_check.specs.Faults.{find}
+use Rattle.kahn_streams.specs.Faults.{find}
 use Rattle.kahn_hints.proofs.kinds.taking_of.Given as goal
 
 abbrev pub invariant-loop-parameter : goal.invariant-loop-parameter

@@ -2,16 +2,15 @@ use Rattle.std.proofs.Common.{List, Result, Ok, subst, sym, true, ◌≡◌}
 use Rattle.std.specs.Prelude.{IfOk}
 use Rattle.kahn_streams.specs.declared.tree.Program.{Program}
 use Rattle.kahn_syntax.specs.declared.fault.SyntaxFault.{SyntaxFault}
-use Rattle.kahn_syntax.specs.Spans.{program_of}
-use Rattle.kahn_syntax.specs.Programs.{Spells}
-use Rattle.kahn_syntax.specs.Lexemes.{Terminal, terminals}
+use Rattle.kahn_syntax.specs.Texts.{program_tree, terminals}
+use Rattle.kahn_syntax.specs.Grammar.{Spells, Terminal}
 use Rattle.kahn_wanted.specs.inner.Asked.{AnswersBegin}
 use Rattle.kahn_wanted.proofs.Answering.{whole}
 use Rattle.kahn_wanted.proofs.asked.begins.Goals as goal
 use Rattle.kahn_wanted.proofs.asked.begins.Goals.{in-Ok, in-Err}
 
-spelled : (ks : List Terminal) (r : Result Program SyntaxFault) (p : Program) → r ≡ Ok p → IfOk r (λ q. Spells (program_of q) ks) → AnswersBegin ks true
-spelled ks r p e h = whole ks (program_of p) (subst (λ (s : Result Program SyntaxFault). IfOk s (λ q. Spells (program_of q) ks)) e h)
+spelled : (ks : List Terminal) (r : Result Program SyntaxFault) (p : Program) → r ≡ Ok p → IfOk r (λ q. Spells (program_tree q) ks) → AnswersBegin ks true
+spelled ks r p e h = whole ks (program_tree p) (subst (λ (s : Result Program SyntaxFault). IfOk s (λ q. Spells (program_tree q) ks)) e h)
 
 pub returns-clause-says : goal.returns-clause-says
 returns-clause-says c =

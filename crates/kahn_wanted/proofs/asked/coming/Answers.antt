@@ -2,7 +2,7 @@ use Rattle.std.proofs.Common.{◌<◌, ◌≤◌, [], ◌∷◌, ◌++◌, lengt
 use Rattle.std.proofs.lemmas.List.Elements.{All-get_or}
 use Rattle.kahn_syntax.specs.declared.lexeme.Class.TheVariants as class
 use Rattle.kahn_syntax.specs.declared.lexeme.Keyword.TheVariants as keyword
-use Rattle.kahn_syntax.specs.Lexemes.{IsUnsigned, terminal, terminals}
+use Rattle.kahn_syntax.specs.Texts.{IsUnsigned, terminal, terminals}
 use Rattle.kahn_wanted.specs.inner.Asked.{MayCome, AnswersBegin, nowhere}
 use Rattle.kahn_wanted.proofs.Classes.{all_told, one_less, one_more, plain_proper}
 use Rattle.kahn_wanted.proofs.asked.coming.Goals as goal

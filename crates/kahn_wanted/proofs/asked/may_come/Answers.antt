@@ -1,6 +1,6 @@
 use Rattle.std.proofs.Common.{◌≡◌, List, [], ◌∷◌, ◌++◌, IfOk, ap, subst, sym, ◌∙◌}
 use Rattle.kahn_syntax.specs.declared.lexeme.Lexeme.{Lexeme}
-use Rattle.kahn_syntax.specs.Lexemes.{AreProper, terminals}
+use Rattle.kahn_syntax.specs.Texts.{AreProper, terminals}
 use Rattle.kahn_syntax.proofs.Meaning.{terminals_append}
 use Rattle.kahn_wanted.specs.inner.Asked.{AnswersBegin}
 use Rattle.kahn_wanted.proofs.Classes.{proper_more}

@@ -1,6 +1,5 @@
 use Rattle.std.proofs.Common.{subst, sym}
-use Rattle.kahn_syntax.specs.Lexemes.{terminals}
-use Rattle.kahn_syntax.specs.Texts.{IsFault}
+use Rattle.kahn_syntax.specs.Texts.{terminals, IsFault}
 use Rattle.kahn_wanted.specs.inner.Asked.{AnswersBegin}
 use Rattle.kahn_wanted.proofs.Answering.{expected, deep}
 use Rattle.kahn_wanted.proofs.asked.said.Goals as goal

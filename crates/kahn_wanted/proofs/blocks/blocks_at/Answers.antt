@@ -1,8 +1,7 @@
 use Rattle.std.proofs.Common.{sym, subst}
 use Rattle.std.proofs.lemmas.Result.{IfOk-weaker}
 use Rattle.kahn_syntax.specs.declared.fault.SyntaxFault.TheVariants.{Expected}
-use Rattle.kahn_syntax.specs.Texts.{IsFault}
-use Rattle.kahn_syntax.specs.Lexemes.{AreLexemes}
+use Rattle.kahn_syntax.specs.Texts.{IsFault, AreLexemes}
 use Rattle.kahn_wanted.specs.Blocks.{AreBlocksAt, AreBlocksOf}
 use Rattle.kahn_wanted.proofs.Front.{of_lexemes}
 use Rattle.kahn_wanted.proofs.blocks.blocks_at.Goals as goal

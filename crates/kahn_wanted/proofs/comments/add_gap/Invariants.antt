@@ -1,6 +1,6 @@
 -- What is left is a gap, and the comments before it are passed.
 use Rattle.std.proofs.Common.{ℕ, ◌≤◌, ◌-◌}
-use Rattle.kahn_syntax.specs.Lexemes.{Gap}
+use Rattle.kahn_syntax.specs.Texts.{Gap}
 use Rattle.kahn_wanted.specs.inner.Passing.{Passed}
 use Rattle.kahn_wanted.proofs.comments.add_gap.Given as goal
 

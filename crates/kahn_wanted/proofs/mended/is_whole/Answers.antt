@@ -1,6 +1,5 @@
 use Rattle.std.proofs.Common.{IfOk, MatchBool, subst, sym}
-use Rattle.kahn_syntax.specs.Texts.{IsWholeWithin}
-use Rattle.kahn_syntax.specs.Lexemes.{terminals}
+use Rattle.kahn_syntax.specs.Texts.{IsWholeWithin, terminals}
 use Rattle.kahn_wanted.proofs.Whole.{parsed_whole}
 use Rattle.kahn_wanted.proofs.mended.is_whole.Goals as goal
 use Rattle.kahn_wanted.proofs.mended.is_whole.Goals.{in-Ok, in-Err}

@@ -1,5 +1,5 @@
 use Rattle.std.proofs.Common.{subst, sym, ◌∙◌}
-use Rattle.kahn_syntax.specs.Lexemes.{AreProper}
+use Rattle.kahn_syntax.specs.Texts.{AreProper}
 use Rattle.kahn_wanted.proofs.Splices.{proper_changed}
 use Rattle.kahn_wanted.proofs.mended.makes.Goals as goal
 

@@ -1,8 +1,7 @@
 use Rattle.std.proofs.Common.{length, sym, subst}
 use Rattle.std.proofs.lemmas.Result.{IfOk-weaker}
 use Rattle.kahn_syntax.specs.declared.fault.SyntaxFault.TheVariants.{Expected}
-use Rattle.kahn_syntax.specs.Texts.{IsFault}
-use Rattle.kahn_syntax.specs.Lexemes.{AreLexemes, AreProper}
+use Rattle.kahn_syntax.specs.Texts.{IsFault, AreLexemes, AreProper}
 use Rattle.kahn_syntax.proofs.Proper.{lexed_proper}
 use Rattle.kahn_wanted.specs.Mends.{AreMendsAt, AreMendsOf}
 use Rattle.kahn_wanted.proofs.Front.{of_lexemes}

@@ -1,6 +1,6 @@
 -- The warnings of the names so far were added.
 use Rattle.std.proofs.Common.{◌≡◌, ◌++◌, flat_map, take}
-use Rattle.kahn_warnings.specs.Warnings.{name_warnings, parameter_warnings}
+use Rattle.kahn_warnings.specs.Warnings.{name_warnings, parameter_warnings, variable_warnings}
 use Rattle.kahn_warnings.proofs.names.add_names.Given as goal
 
 abbrev pub invariant-loop-parameter : goal.invariant-loop-parameter
@@ -9,4 +9,4 @@ invariant-loop-parameter l = l.warnings.items ≡ l.initial.warnings.items ++ fl
 abbrev pub invariant-loop-variable : goal.invariant-loop-variable
 invariant-loop-variable l =
     l.warnings.items
-    ≡ (l.fn.warnings.items ++ parameter_warnings l.process) ++ flat_map (λ x. name_warnings l.process x.name) (take l.variable-index l.process.variables.items)
+    ≡ (l.fn.warnings.items ++ parameter_warnings l.process) ++ flat_map (variable_warnings l.process) (take l.variable-index l.process.variables.items)
