@@ -176,11 +176,21 @@ def may_stand(lexemes, at, one):
 
 FOREIGN = {
     word: said for words, said in (
-        ("for until loop", "a loop is `while E do S`, or `repeat S`, which has no end"),
+        ("for until loop forever", "a loop is `while E do S`, or `repeat S`, which has no end"),
         ("break exit", "a loop ends where the test of its `while` is false"),
         ("return yield", "a process has no result: `send E on C` gives a value to another one"),
         ("elif elsif elseif", "it is two words: `else if`"),
         ("int bool boolean var real float", "the kinds are `integer` and `logical`; one stands before its names"),
+        ("endif endwhile fi od", "an `if`, a `while` or a `repeat` has no `end` of its own"),
+        ("const constant", "there are no constants: an instance hands a number over, `P(A, 10)`"),
+        ("xor", "there is no exclusive or: of logicals it is `<>`"),
+    ) for word in words.split()
+}
+ACTS = {
+    word: said for words, said in (
+        ("select alt", "there is no choice among channels, since timing can't matter: a process waits on one at a time"),
+        ("case switch", "a choice is `if E then S else if F then T else ..`"),
+        ("skip pass", "a statement that does nothing is empty, or `begin end`"),
     ) for word in words.split()
 }
 
@@ -192,11 +202,13 @@ def foreign(lexemes, at):
     return next((FOREIGN[x[1].lower()] for x in before + found if x[0] == "name" and x[1].lower() in FOREIGN), None)
 
 
+BEGUN = "a statement that begins with a name assigns to it, `X := E`; `send E on C` sends a value"
 ARGUMENTS = "an instance hands over channels and literals, by their places: `P(A, -1, true)`"
 LATE = "channels and processes are declared before all instances"
 WHEREVER = {
     word: said for words, said in (
         ("in out", "`in` and `out` are no names: each stands behind a kind, `integer in U; integer out W`"),
+        ("channel", "outside of processes `integer channel C` declares one; a process gets it by `integer in U` or `integer out W`"),
         ("input output", "`input` and `output` are no names: each stands behind a kind, `integer input channel C`"),
     ) for word in words.split()
 }
@@ -207,6 +219,8 @@ BEHIND = {
     ("*", "*"): "there is no power: `X * X`",
     (":=", "<"): "a value is taken by `wait(C)`",
     ("(", "*"): "a comment goes from `comment` to `;`",
+    ("<", "<"): "there is no shift: `X * 16`, `X div 16`",
+    (">", ">"): "there is no shift: `X * 16`, `X div 16`",
 }
 
 
@@ -219,7 +233,7 @@ def behind(lead, found):
         return f"{'an' if found == 'if' else 'a'} `{found}` behind `then` stands between `begin` and `end`"
     if found == "wait" and (begins or lead == "then"):
         return "`wait(C)` is a value: a statement takes one by `X := wait(C)`"
-    if begins and found == "(":
+    if begins and found in ("(", "-"):
         return "a comment goes from `comment` to `;`"
     return BEHIND.get((lead, found))
 
@@ -233,11 +247,59 @@ def called(stands):
     return ARGUMENTS if stands(",") and stands(")") else None
 
 
+def joined(lexemes, at, stands):
+    """What is said of a lexeme right behind another one: of letters behind a number, and of `-` behind a name."""
+    if 0 < at < len(lexemes) and lexemes[at - 1][3] == lexemes[at][2]:
+        one, other = lexemes[at - 1][0], lexemes[at][:2]
+        if one == "number" and other[0] == "name":
+            return "a number has decimal digits alone"
+        if one == "name" and other == ("sign", "-") and not stands(")"):
+            return "a name has letters, digits and `_`"
+    return None
+
+
+def late(stands):
+    """Whether nothing but an instance or the end of the program may stand."""
+    return stands("par") or (stands("end") and not stands(";"))
+
+
+def stopped(stands):
+    """What is said of the end of what isn't whole."""
+    if stands("on"):
+        return "`on` and a channel stand behind the value: `send E on C`"
+    if stands("(") and not stands("wait"):
+        return "brackets stand behind the name of a process, also where they are empty: `p()`"
+    if stands("else") and not stands("end"):
+        return "an `if` among values has its `else`: `if E then E else E`"
+    return BEGUN if stands(":=") else None
+
+
+def comma(is_name, stands):
+    """What is said of a `,`, behind a name or not."""
+    if stands(")"):
+        return "one value or one channel stands between these brackets; `print E` and `send E on C` have one value"
+    if stands(":="):
+        return "a statement assigns to one name: `X := E; Y := F`"
+    if not stands(";"):
+        return None
+    if stands("*"):
+        return "a statement has one value: `print E; print F`"
+    return "a value goes on one channel: `send E on C; send E on D`" if is_name else None
+
+
+def stray(lexemes, at, stands):
+    """What is said of a keyword that begins a statement, and of `wait`."""
+    if stands("process") or late(stands):
+        return "statements stand in processes alone"
+    is_named = may_stand(lexemes, at, ("name", "x")) and not stands("send") and not stands("wait")
+    return "a keyword is no name, in any letter case: take another one" if is_named else None
+
+
 def declared(found, stands):
     """What is said of a declaration where none may stand."""
     if found != "process" and stands("while"):
         return "variables are declared right behind the first `begin` of a process, channels outside of processes"
-    return LATE if stands("par") or (stands("end") and not stands(";")) else None
+    return LATE if late(stands) else None
 
 
 def advice(lexemes, at):
@@ -248,42 +310,83 @@ def advice(lexemes, at):
     def stands(word):
         return may_stand(lexemes, at, ("word" if word.isalpha() else "sign", word))
 
-    lead = lexemes[at - 1][1] if at and lexemes[at - 1][0] in ("word", "sign") else None
+    before = lexemes[at - 1] if at else (None, None)
     what, found = lexemes[at][:2] if at < len(lexemes) else (None, None)
+    if before[0] == "name" and (what, found) != ("sign", "=") and before[1].lower() in ACTS and stands(":="):
+        return ACTS[before[1].lower()]
+    if joined(lexemes, at, stands):
+        return joined(lexemes, at, stands)
+    lead = before[1] if before[0] in ("word", "sign") else None
+    if what == "name" and lead != "wait":
+        if not at:
+            return "a program has no name: it goes from `begin` to `end`"
+        return "variables are declared in processes; a channel is `integer channel C`" if stands("channel") else None
     if what not in ("word", "sign"):
         found = None
     if behind(lead, found):
         return behind(lead, found)
-    if found == "(" and at and lexemes[at - 1][0] == "name":
+    if found == "(" and before[0] == "name":
         return called(stands)
-    if found == "if" and may_stand(lexemes, at, ("number", 0)) and not stands("not"):
+    if found == "if" and stands("wait") and not stands("not"):
         return "an `if` among operators stands in brackets"
+    if found in ("if", "while", "repeat", "send", "print", "wait"):
+        return stray(lexemes, at, stands)
+    if found == "par":
+        return stopped(stands) if stands("(") and not stands("wait") else "`par` stands between instances: `p(A) par q(B)`"
     if found in ("integer", "logical", "process"):
         return declared(found, stands)
     if found in WHEREVER:
         return WHEREVER[found]
+    if found == ",":
+        return comma(before[0] == "name", stands)
+    if found in (";", "end", "else"):
+        is_name = found == ";" and stands(":=")
+        return "a statement that begins with a name assigns to it, `X := E`; names of one kind stand with commas, `integer I, J`" if is_name else stopped(stands)
+    if (what, found) in OPERATORS and stands("*") and not (found != "=" and stands(",")):
+        return "a comparison has two sides: `0 < X and X < 3`"
     if found in (":=", "=") and stands(","):
         return ARGUMENTS if stands(")") else "a variable begins as 0 or `false`; a statement assigns to it, `X := E`"
     if found == ":=" and stands("(") and not may_stand(lexemes, at, ("number", 0)):
         return "an instance is `P(A, B)`: its brackets hand over the channels; statements stand in processes alone"
     if found == ":=":
         return "equal is `=`; `:=` assigns to a name, in a statement of its own"
-    if found == "," and stands(")"):
-        return "one value or one channel stands between these brackets; `send E on C` sends a value"
     if (what, found) in OPERATORS and stands(","):
         return ARGUMENTS if stands(")") else None
-    if found in (";", "end", "else") and stands("on"):
-        return "`on` and a channel stand behind the value: `send E on C`"
-    if (found in (";", "end", "else") or (what, found) in OPERATORS and found != "=") and stands(":="):
-        return "a statement that begins with a name assigns to it, `X := E`; `send E on C` sends a value"
+    if (what, found) in OPERATORS and found != "=" and stands(":="):
+        return BEGUN
     return None
 
 
+def closed(text, lexemes, at):
+    """That an `end` of the last process closed a block too early, outside of processes and where there are too many of them."""
+    count = [sum(x[:2] == ("word", word) for x in lexemes) for word in ("begin", "end")]
+    if len(unclosed(text, lexemes[:at])) != 1 or count[0] >= count[1]:
+        return None
+    last, is_sure, is_headed = None, False, False
+    for x in lexemes[:at]:
+        if x[:2] == ("word", "end"):
+            if is_headed or not is_sure:
+                last, is_sure = x, is_headed
+        elif x[:2] == ("word", "process"):
+            last, is_sure = None, False
+        is_headed = x[:2] in LEADERS or (is_headed and x[:2] not in [("word", "end"), ("word", "process"), ("word", "begin"), ("sign", ";")])
+    if last is None:
+        return None
+    return f"the `end` at {place(text, last[2])} closes a block: an `if`, a `while` or a `repeat` has no `end` of its own"
+
+
 def lines_of(text, lexemes, at, changes):
-    """All that is said below the carets: advice, or else changes and blocks; of advice open blocks where an `end` may be missing."""
+    """All that is said below the carets: of an `end` too many, advice, or else changes and blocks; of advice open blocks where an `end` is missing."""
     words, last = advice(lexemes, at), comment(text, lexemes, at)
+    if not at and last:
+        return [last]
+    early = closed(text, lexemes, at)
+    if early:
+        items = bare(text, lexemes[:at])
+        return [line for line in (early, f"no `begin` stands behind {listed(items[-3:])}" if items else None, last) if line]
     if words:
-        is_start = not changes and [x[:2] for x in lexemes[at:at + 1]] == [("sign", "(")] and may_stand(lexemes, at, ("sign", ":="))
+        lacks = sum((x[:2] == ("word", "begin")) - (x[:2] == ("word", "end")) for x in lexemes) > 0
+        is_start = lacks and not changes and [x[:2] for x in lexemes[at:at + 1]] == [("sign", "(")] and may_stand(lexemes, at, ("sign", ":="))
         return [line for line in (words, still_open(text, lexemes[:at]) if is_start else None, last) if line]
     mended = line_of(changes, told(changes, lexemes, at))
     return [line for line in (mended, blocks(text, lexemes, at, mended is not None), last) if line]

@@ -5,7 +5,7 @@ use Rattle.kahn_streams.specs.declared.span.Span.{Span}
 use Rattle.kahn_syntax.specs.declared.fault.What.{What}
 use Rattle.kahn_syntax.specs.declared.fault.What.TheVariants.{More, Nothing, Other}
 use Rattle.kahn_syntax.specs.declared.lexeme.Lexeme.{Lexeme}
-use Rattle.kahn_syntax.specs.Lexemes.{AreProper, IsProper, AreLexemes}
+use Rattle.kahn_syntax.specs.Texts.{AreProper, IsProper, AreLexemes}
 use Rattle.kahn_syntax.proofs.Cuts.{lexed_slices}
 use Rattle.kahn_syntax.proofs.Proper.{lexed_proper}
 use Rattle.kahn_wanted.specs.declared.found.Unexpected.{Unexpected}

@@ -1,7 +1,7 @@
 -- Believed. What is said where something stands as in another language, or without what belongs to it: by what stands before it, and by
 -- what may stand there.
-use Rattle.std.specs.Prelude.{ℕ, Bool, true, false, ◌&&◌, ◌||◌, not, List, Option, Some, None, codes, if◌then◌else◌}
-use Rattle.std.specs.List.{list_any}
+use Rattle.std.specs.Prelude.{ℕ, Bool, true, false, ◌&&◌, ◌||◌, not, List, is_some, Option, Some, None, codes, if◌then◌else◌, length, nat_lt}
+use Rattle.std.specs.List.{filter, list_any}
 use Rattle.std.specs.Option.{option_or}
 use Rattle.kahn_syntax.specs.declared.lexeme.Class.{Class}
 use Rattle.kahn_syntax.specs.declared.lexeme.Class.TheVariants as class
@@ -11,14 +11,14 @@ use Rattle.kahn_syntax.specs.declared.lexeme.Lexeme.{Lexeme}
 use Rattle.kahn_wanted.specs.declared.groups.Group.{Group}
 use Rattle.kahn_wanted.specs.declared.groups.Group.TheVariants as group
 use Rattle.kahn_wanted.specs.declared.groups.Wanted.{Wanted}
-use Rattle.kahn_notes.specs.declared.advice.Lead.{Lead}
-use Rattle.kahn_notes.specs.declared.advice.Lead.TheVariants as lead
-use Rattle.kahn_notes.specs.declared.advice.Needed.{Needed}
-use Rattle.kahn_notes.specs.declared.advice.Needed.TheVariants as needed
-use Rattle.kahn_notes.specs.declared.advice.Part.{Part}
-use Rattle.kahn_notes.specs.declared.advice.Part.TheVariants as part
-use Rattle.kahn_notes.specs.declared.advice.Habit.{Habit}
-use Rattle.kahn_notes.specs.declared.advice.Habit.TheVariants as habit
+use Rattle.kahn_notes.specs.declared.habits.Lead.{Lead}
+use Rattle.kahn_notes.specs.declared.habits.Lead.TheVariants as lead
+use Rattle.kahn_notes.specs.declared.wanting.Needed.{Needed}
+use Rattle.kahn_notes.specs.declared.wanting.Needed.TheVariants as needed
+use Rattle.kahn_notes.specs.declared.wanting.Part.{Part}
+use Rattle.kahn_notes.specs.declared.wanting.Part.TheVariants as part
+use Rattle.kahn_notes.specs.declared.habits.Habit.{Habit}
+use Rattle.kahn_notes.specs.declared.habits.Habit.TheVariants as habit
 use Rattle.kahn_notes.specs.Order.{is_name, is_operator_class}
 
 -- ---- what stands before a place, and at it
@@ -35,6 +35,8 @@ lead_class (class.Sign sign.Equal) = lead.Equal
 lead_class (class.Sign sign.Times) = lead.Times
 lead_class (class.Sign sign.Open) = lead.Open
 lead_class (class.Sign sign.Becomes) = lead.Becomes
+lead_class (class.Sign sign.Less) = lead.Less
+lead_class (class.Sign sign.Greater) = lead.Greater
 lead_class _ = lead.Other
 
 abbrev pub lead_of : Option Lexeme → Lead
@@ -48,6 +50,10 @@ habit_class (class.Word word.Repeat) = habit.Repeat
 habit_class (class.Word word.Wait) = habit.Wait
 habit_class (class.Word word.End) = habit.Stops
 habit_class (class.Word word.Else) = habit.Stops
+habit_class (class.Word word.Send) = habit.Acts
+habit_class (class.Word word.Print) = habit.Acts
+habit_class (class.Word word.Par) = habit.Par
+habit_class (class.Word word.Channel) = habit.Channel
 habit_class (class.Word word.Integer) = habit.Kind
 habit_class (class.Word word.Logical) = habit.Kind
 habit_class (class.Word word.Process) = habit.Process
@@ -55,12 +61,14 @@ habit_class (class.Word word.In) = habit.Direction
 habit_class (class.Word word.Out) = habit.Direction
 habit_class (class.Word word.Input) = habit.Port
 habit_class (class.Word word.Output) = habit.Port
-habit_class (class.Sign sign.Semicolon) = habit.Stops
+habit_class class.Name = habit.Name
+habit_class (class.Sign sign.Semicolon) = habit.Semicolon
 habit_class (class.Sign sign.Open) = habit.Open
 habit_class (class.Sign sign.Becomes) = habit.Becomes
 habit_class (class.Sign sign.Equal) = habit.Equal
 habit_class (class.Sign sign.Less) = habit.Less
 habit_class (class.Sign sign.Times) = habit.Times
+habit_class (class.Sign sign.Minus) = habit.Minus
 habit_class (class.Sign sign.Greater) = habit.Greater
 habit_class (class.Sign sign.Comma) = habit.Comma
 habit_class c = if is_operator_class c then habit.Operates else habit.Other
@@ -78,10 +86,13 @@ habit_words lead.Then habit.Repeat = Some (codes "a `repeat` behind `then` stand
 habit_words lead.Then habit.Wait = Some (codes "`wait(C)` is a value: a statement takes one by `X := wait(C)`")
 habit_words lead.Begins habit.Wait = Some (codes "`wait(C)` is a value: a statement takes one by `X := wait(C)`")
 habit_words lead.Begins habit.Open = Some (codes "a comment goes from `comment` to `;`")
+habit_words lead.Begins habit.Minus = Some (codes "a comment goes from `comment` to `;`")
 habit_words lead.Open habit.Times = Some (codes "a comment goes from `comment` to `;`")
 habit_words lead.Equal habit.Equal = Some (codes "equal is one `=`")
 habit_words lead.Equal habit.Less = Some (codes "at most is `<=`")
 habit_words lead.Equal habit.Greater = Some (codes "at least is `>=`")
+habit_words lead.Less habit.Less = Some (codes "there is no shift: `X * 16`, `X div 16`")
+habit_words lead.Greater habit.Greater = Some (codes "there is no shift: `X * 16`, `X div 16`")
 habit_words lead.Times habit.Times = Some (codes "there is no power: `X * X`")
 habit_words lead.Wait _ = Some (codes "brackets stand round the channel: `wait(C)`")
 habit_words lead.Becomes habit.Less = Some (codes "a value is taken by `wait(C)`")
@@ -97,18 +108,31 @@ is_needed needed.Comma (class.Sign sign.Comma) = true
 is_needed needed.Close (class.Sign sign.Close) = true
 is_needed needed.Semicolon (class.Sign sign.Semicolon) = true
 is_needed needed.Par (class.Word word.Par) = true
+is_needed needed.Begin (class.Word word.Begin) = true
 is_needed needed.End (class.Word word.End) = true
+is_needed needed.Else (class.Word word.Else) = true
+is_needed needed.Channel (class.Word word.Channel) = true
+is_needed needed.Name class.Name = true
 is_needed _ _ = false
 
 abbrev pub awaits : Needed → Wanted → Bool
 awaits n w = list_any (is_needed n) w.others.items
 
+-- there are fewer of one in a text than of the other
+abbrev pub count_of : Needed → List Lexeme → ℕ
+count_of n xs = length (filter (λ x. is_needed n x.what) xs)
+
+abbrev pub has_fewer : Needed → Needed → List Lexeme → Bool
+has_fewer n m xs = nat_lt (count_of n xs) (count_of m xs)
+
 -- a group of which all may stand
 abbrev pub is_part : Part → Group → Bool
 is_part part.Statement group.Statement = true
+is_part part.Declaration group.Declaration = true
 is_part part.Operand group.Operand = true
 is_part part.Operator group.Operator = true
 is_part part.Operator group.Arithmetic = true
+is_part part.Arithmetic group.Arithmetic = true
 is_part _ _ = false
 
 abbrev pub offers : Part → Wanted → Bool
@@ -118,24 +142,39 @@ offers p w = list_any (is_part p) w.groups.items
 abbrev pub begun_words : Wanted → Option (List ℕ)
 begun_words w = if awaits needed.Becomes w then Some (codes "a statement that begins with a name assigns to it, `X := E`; `send E on C` sends a value") else None
 
--- at the end of a statement that isn't whole
+-- at the end of what isn't whole: of a `send`, behind the name of a process, or behind the first value of an `if` among values
 abbrev pub stopped_words : Wanted → Option (List ℕ)
-stopped_words w = if awaits needed.On w then Some (codes "`on` and a channel stand behind the value: `send E on C`") else begun_words w
+stopped_words w =
+    if awaits needed.On w then Some (codes "`on` and a channel stand behind the value: `send E on C`")
+    else if awaits needed.Open w then Some (codes "brackets stand behind the name of a process, also where they are empty: `p()`")
+    else if awaits needed.Else w && not (awaits needed.End w) then Some (codes "an `if` among values has its `else`: `if E then E else E`")
+    else begun_words w
+
+-- of `;`
+abbrev pub ended_words : Wanted → Option (List ℕ)
+ended_words w =
+    if awaits needed.Becomes w
+    then Some (codes "a statement that begins with a name assigns to it, `X := E`; names of one kind stand with commas, `integer I, J`")
+    else stopped_words w
 
 -- among the arguments of an instance
 abbrev pub instance_words : Wanted → Option (List ℕ)
 instance_words w = if awaits needed.Close w then Some (codes "an instance hands over channels and literals, by their places: `P(A, -1, true)`") else None
 
--- of an operator: there, or in a statement
+-- of an operator: there, behind a comparison, or in a statement
 abbrev pub operator_words : Wanted → Option (List ℕ)
-operator_words w = if awaits needed.Comma w then instance_words w else begun_words w
+operator_words w =
+    if awaits needed.Comma w then instance_words w
+    else if offers part.Arithmetic w then Some (codes "a comparison has two sides: `0 < X and X < 3`")
+    else begun_words w
 
--- of a value that is given to a name where that is declared, or to a parameter among the arguments
-abbrev pub declared_words : Option (List ℕ)
-declared_words = Some (codes "a variable begins as 0 or `false`; a statement assigns to it, `X := E`")
-
+-- of `=` behind a comparison, or of a value that is given to a name where that is declared, or to a parameter among the arguments
 abbrev pub assigned_words : Wanted → Option (List ℕ)
-assigned_words w = if awaits needed.Comma w then option_or (instance_words w) declared_words else None
+assigned_words w =
+    if offers part.Arithmetic w then operator_words w
+    else if awaits needed.Comma w
+    then option_or (instance_words w) (Some (codes "a variable begins as 0 or `false`; a statement assigns to it, `X := E`"))
+    else None
 
 -- of `:=`: there, behind the name of a process, or among operators
 abbrev pub equal_words : Wanted → Option (List ℕ)
@@ -146,9 +185,15 @@ equal_words w =
 abbrev pub becomes_words : Wanted → Option (List ℕ)
 becomes_words w = if awaits needed.Comma w then assigned_words w else equal_words w
 
--- of `,`
-abbrev pub comma_words : Wanted → Option (List ℕ)
-comma_words w = if awaits needed.Close w then Some (codes "one value or one channel stands between these brackets; `send E on C` sends a value") else None
+-- of `,`: between brackets, behind a name that begins a statement, behind a value, or behind the channel of a `send`
+abbrev pub comma_words : Option Lexeme → Wanted → Option (List ℕ)
+comma_words before w =
+    if awaits needed.Close w then Some (codes "one value or one channel stands between these brackets; `print E` and `send E on C` have one value")
+    else if awaits needed.Becomes w then Some (codes "a statement assigns to one name: `X := E; Y := F`")
+    else if not (awaits needed.Semicolon w) then None
+    else if offers part.Operator w then Some (codes "a statement has one value: `print E; print F`")
+    else if is_name before then Some (codes "a value goes on one channel: `send E on C; send E on D`")
+    else None
 
 -- of `(` behind a name: in a statement, in an expression, among the arguments of an instance
 abbrev pub called_words : Wanted → Option (List ℕ)
@@ -160,14 +205,33 @@ called_words w =
 abbrev pub opened_words : Option Lexeme → Wanted → Option (List ℕ)
 opened_words before w = if is_name before then called_words w else None
 
--- of an `if` where an operand may stand
-abbrev pub among_words : Wanted → Option (List ℕ)
-among_words w = if offers part.Operand w then Some (codes "an `if` among operators stands in brackets") else None
-
 -- of a declaration behind instances, where a `par` may stand, or an `end` and no statement
 abbrev pub is_late : Wanted → Bool
 is_late w = awaits needed.Par w || (awaits needed.End w && not (awaits needed.Semicolon w))
 
+-- of a keyword that begins a statement: there, where a declaration may stand, or where a name alone may
+abbrev pub stray_words : Wanted → Option (List ℕ)
+stray_words w =
+    if offers part.Declaration w || is_late w then Some (codes "statements stand in processes alone")
+    else if awaits needed.Name w then Some (codes "a keyword is no name, in any letter case: take another one")
+    else None
+
+-- of an `if`: where an operand may stand, or there
+abbrev pub among_words : Wanted → Option (List ℕ)
+among_words w = if offers part.Operand w then Some (codes "an `if` among operators stands in brackets") else stray_words w
+
+-- of `par`
+abbrev pub par_words : Wanted → Option (List ℕ)
+par_words w = if awaits needed.Open w then stopped_words w else Some (codes "`par` stands between instances: `p(A) par q(B)`")
+
+-- of a name, where nothing stands before it or behind a kind
+abbrev pub naming_words : Option Lexeme → Wanted → Option (List ℕ)
+naming_words before w =
+    if not (is_some before) then Some (codes "a program has no name: it goes from `begin` to `end`")
+    else if awaits needed.Channel w then Some (codes "variables are declared in processes; a channel is `integer channel C`")
+    else None
+
+-- of a declaration behind instances
 abbrev pub late_words : Wanted → Option (List ℕ)
 late_words w = if is_late w then Some (codes "channels and processes are declared before all instances") else None
 
@@ -176,6 +240,10 @@ abbrev pub declaring_words : Wanted → Option (List ℕ)
 declaring_words w =
     if offers part.Statement w then Some (codes "variables are declared right behind the first `begin` of a process, channels outside of processes")
     else late_words w
+
+-- `channel`, wherever it may not stand
+abbrev pub channel_advice : Option (List ℕ)
+channel_advice = Some (codes "outside of processes `integer channel C` declares one; a process gets it by `integer in U` or `integer out W`")
 
 -- `in` and `out`, `input` and `output`, wherever they may not stand
 abbrev pub in_out_words : Option (List ℕ)
@@ -191,10 +259,19 @@ awaited_words before habit.Less w = operator_words w
 awaited_words before habit.Greater w = operator_words w
 awaited_words before habit.Times w = operator_words w
 awaited_words before habit.Operates w = operator_words w
-awaited_words before habit.Comma w = comma_words w
+awaited_words before habit.Minus w = operator_words w
+awaited_words before habit.Comma w = comma_words before w
+awaited_words before habit.Semicolon w = ended_words w
 awaited_words before habit.Stops w = stopped_words w
 awaited_words before habit.Open w = opened_words before w
 awaited_words before habit.If w = among_words w
+awaited_words before habit.While w = stray_words w
+awaited_words before habit.Wait w = stray_words w
+awaited_words before habit.Repeat w = stray_words w
+awaited_words before habit.Acts w = stray_words w
+awaited_words before habit.Par w = par_words w
+awaited_words before habit.Channel w = channel_advice
+awaited_words before habit.Name w = naming_words before w
 awaited_words before habit.Kind w = declaring_words w
 awaited_words before habit.Process w = late_words w
 awaited_words before habit.Direction w = in_out_words

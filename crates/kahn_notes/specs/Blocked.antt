@@ -1,5 +1,5 @@
 -- Believed. What is said of blocks where a text goes wrong.
-use Rattle.std.specs.Prelude.{ℕ, Bool, true, false, not, ◌&&◌, ◌-◌, List, [], ◌∷◌, ◌++◌, Option, Some, None, codes, decimal, drop, if◌then◌else◌, length, min}
+use Rattle.std.specs.Prelude.{ℕ, Bool, true, false, not, ◌&&◌, ◌||◌, ◌-◌, List, [], ◌∷◌, ◌++◌, Option, Some, None, codes, decimal, drop, if◌then◌else◌, length, min}
 use Rattle.std.specs.List.{concat}
 use Rattle.kahn_streams.specs.Place.{line_of, column_of}
 use Rattle.kahn_syntax.specs.declared.lexeme.Class.{Class}
@@ -11,8 +11,8 @@ use Rattle.kahn_wanted.specs.declared.blocks.Block.{Block}
 use Rattle.kahn_wanted.specs.declared.blocks.Blocks.{Blocks}
 use Rattle.kahn_wanted.specs.declared.found.Unexpected.{Unexpected}
 use Rattle.kahn_wanted.specs.declared.groups.Wanted.{Wanted}
-use Rattle.kahn_notes.specs.declared.advice.Needed.TheVariants.{Becomes}
-use Rattle.kahn_notes.specs.Advice.{awaits}
+use Rattle.kahn_notes.specs.declared.wanting.Needed.TheVariants.{Becomes, Begin, End}
+use Rattle.kahn_notes.specs.Advice.{awaits, has_fewer}
 use Rattle.kahn_notes.specs.Words.{any_words, separator}
 
 -- ---- places
@@ -93,9 +93,9 @@ is_outside (Some x) = is_outer_class x.what
 is_outside None = true
 
 -- at the end of the text always, else where no change is told that mends the text
-abbrev pub is_told : Option Lexeme → Bool → Bool
-is_told (Some x) mended = not mended
-is_told None mended = true
+abbrev pub tells_open : Option Lexeme → Bool → Bool
+tells_open (Some x) mended = not mended
+tells_open None mended = true
 
 -- the block of the program is open at whatever stands in it
 abbrev pub open_told : Option Lexeme → List Block → List Block
@@ -106,7 +106,7 @@ open_told None bs = bs
 abbrev pub blocks_words : List ℕ → Option Lexeme → Bool → Blocks → Option (List ℕ)
 blocks_words text found mended b =
     if is_closing found then bare_words text b.bare.items
-    else if is_told found mended && is_outside found then open_words text (open_told found b.unclosed.items)
+    else if tells_open found mended && is_outside found then open_words text (open_told found b.unclosed.items)
     else None
 
 -- a `(` behind the name that begins a statement: an instance, where an `end` was forgotten
@@ -118,7 +118,9 @@ abbrev pub is_started : Option Lexeme → Wanted → Bool
 is_started (Some x) w = is_open_class x.what && awaits Becomes w
 is_started None w = false
 
--- what is said of blocks beside advice: there of open ones, where no change mends the text
-abbrev pub open_beside : List ℕ → Unexpected → Bool → Blocks → Option (List ℕ)
-open_beside text u mended b =
-    if is_started u.found u.wanted && not mended then open_words text (open_told u.found b.unclosed.items) else None
+-- what is said of blocks beside advice: there of open ones, where the text lacks an `end` and no change mends it
+abbrev pub open_beside : List ℕ → List Lexeme → Unexpected → Bool → Blocks → Option (List ℕ)
+open_beside text xs u mended b =
+    if mended || not (is_started u.found u.wanted) then None
+    else if has_fewer End Begin xs then open_words text (open_told u.found b.unclosed.items)
+    else None

@@ -1,5 +1,5 @@
 -- Believed. What the language has in the place of characters that it hasn't, by the bytes of these in UTF-8.
-use Rattle.std.specs.Prelude.{ℕ, ◌-◌, ◌==◌, ◌&&◌, List, [], codes, drop, if◌then◌else◌, length, nat_le, nat_lt, slice_get, unwrap_or}
+use Rattle.std.specs.Prelude.{ℕ, ◌-◌, ◌==◌, ◌&&◌, ◌||◌, not, List, [], codes, drop, if◌then◌else◌, length, nat_le, nat_lt, slice_get, unwrap_or}
 use Rattle.std.specs.Char.{is_ascii_digit}
 use Rattle.kahn_syntax.specs.declared.fault.SyntaxFault.{SyntaxFault}
 use Rattle.kahn_syntax.specs.declared.fault.SyntaxFault.TheVariants.{BadCharacter}
@@ -7,7 +7,7 @@ use Rattle.kahn_syntax.specs.declared.fault.SyntaxFault.TheVariants.{BadCharacte
 -- of ASCII
 abbrev pub byte_help : ℕ → List ℕ
 byte_help b =
-    if b == 33 then codes "; unequal is `<>`"
+    if b == 33 then codes "; a value is sent by `send E on C`, and `not` is a word"
     else if b == 37 then codes "; a remainder is `mod`"
     else if b == 47 then codes "; a quotient is `div`, and a comment goes from `comment` to `;`"
     else if b == 35 then codes "; a comment goes from `comment` to `;`"
@@ -17,11 +17,19 @@ byte_help b =
     else if b == 91 then codes "; there are no arrays"
     else if b == 123 then codes "; a block goes from `begin` to `end`"
     else if b == 38 then codes "; it is the word `and`"
+    else if b == 94 then codes "; there is no power and no exclusive or: of logicals it is `<>`"
     else if b == 124 then codes "; it is the word `or`, and between instances `par`"
     else if b == 126 then codes "; it is the word `not`"
-    else if b == 63 then codes "; a choice is `if .. then .. else ..`"
+    else if b == 63 then codes "; a value is taken by `X := wait(C)`, and a choice is `if .. then .. else ..`"
     else if b == 58 then codes "; `:` stands before `=` alone, and a kind before its names"
     else []
+
+-- before another byte
+abbrev pub pair_help : ℕ → ℕ → List ℕ
+pair_help b next =
+    if next == 61 && ((b == 33 || b == 126) || b == 47) then codes "; unequal is `<>`"
+    else if b == 38 && not (next == 38) then codes "; `and` is a word, and of logicals; a remainder is `X mod 8`"
+    else byte_help b
 
 -- a `.`, behind a byte
 abbrev pub point_help : ℕ → List ℕ
@@ -82,7 +90,7 @@ rest_at text i = if nat_le i (length text) then drop i text else []
 abbrev pub begun_help : ℕ → List ℕ → List ℕ
 begun_help before rest =
     if byte_at rest 0 == 46 then point_help before
-    else if nat_lt (byte_at rest 0) 128 then byte_help (byte_at rest 0)
+    else if nat_lt (byte_at rest 0) 128 then pair_help (byte_at rest 0) (byte_at rest 1)
     else other_help (byte_at rest 0) (byte_at rest 1) (byte_at rest 2)
 
 abbrev pub place_help : List ℕ → ℕ → List ℕ

@@ -1,5 +1,5 @@
 -- Believed. Words of other languages, and what this one has in their place.
-use Rattle.std.specs.Prelude.{ℕ, Bool, true, false, ◌||◌, List, [], Option, Some, None, codes, if◌then◌else◌}
+use Rattle.std.specs.Prelude.{ℕ, Bool, true, false, ◌||◌, ◌==◌, not, List, [], Option, Some, None, codes, if◌then◌else◌}
 use Rattle.std.specs.Option.{option_or}
 use Rattle.std.specs.Str.{str_eq_ignore_ascii_case}
 use Rattle.kahn_streams.specs.declared.span.Span.{Span}
@@ -9,32 +9,47 @@ use Rattle.kahn_syntax.specs.declared.lexeme.Sign.TheVariants as sign
 use Rattle.kahn_syntax.specs.declared.lexeme.Lexeme.{Lexeme}
 use Rattle.kahn_wanted.specs.Blocks.{bytes_between}
 use Rattle.kahn_wanted.specs.declared.groups.Wanted.{Wanted}
-use Rattle.kahn_notes.specs.Advice.{advice}
+use Rattle.kahn_notes.specs.declared.wanting.Needed.TheVariants.{Becomes, Close}
+use Rattle.kahn_notes.specs.Advice.{advice, awaits}
 
-abbrev pub is_loop_word : List ℕ → Bool
-is_loop_word w = (str_eq_ignore_ascii_case w (codes "for") || str_eq_ignore_ascii_case w (codes "until")) || str_eq_ignore_ascii_case w (codes "loop")
-
-abbrev pub is_exit_word : List ℕ → Bool
-is_exit_word w = str_eq_ignore_ascii_case w (codes "break") || str_eq_ignore_ascii_case w (codes "exit")
-
-abbrev pub is_result_word : List ℕ → Bool
-is_result_word w = str_eq_ignore_ascii_case w (codes "return") || str_eq_ignore_ascii_case w (codes "yield")
-
-abbrev pub is_branch_word : List ℕ → Bool
-is_branch_word w = (str_eq_ignore_ascii_case w (codes "elif") || str_eq_ignore_ascii_case w (codes "elsif")) || str_eq_ignore_ascii_case w (codes "elseif")
-
-abbrev pub is_kind_word : List ℕ → Bool
-is_kind_word w =
-    ((((str_eq_ignore_ascii_case w (codes "int") || str_eq_ignore_ascii_case w (codes "bool")) || str_eq_ignore_ascii_case w (codes "boolean"))
-    || str_eq_ignore_ascii_case w (codes "var")) || str_eq_ignore_ascii_case w (codes "real")) || str_eq_ignore_ascii_case w (codes "float")
+abbrev pub lone_words : List ℕ → Option (List ℕ)
+lone_words w =
+    if ((((str_eq_ignore_ascii_case w (codes "int") || str_eq_ignore_ascii_case w (codes "bool"))
+    || str_eq_ignore_ascii_case w (codes "boolean")) || str_eq_ignore_ascii_case w (codes "var"))
+    || str_eq_ignore_ascii_case w (codes "real")) || str_eq_ignore_ascii_case w (codes "float")
+    then Some (codes "the kinds are `integer` and `logical`; one stands before its names")
+    else if ((str_eq_ignore_ascii_case w (codes "endif") || str_eq_ignore_ascii_case w (codes "endwhile"))
+    || str_eq_ignore_ascii_case w (codes "fi")) || str_eq_ignore_ascii_case w (codes "od")
+    then Some (codes "an `if`, a `while` or a `repeat` has no `end` of its own")
+    else if str_eq_ignore_ascii_case w (codes "const") || str_eq_ignore_ascii_case w (codes "constant")
+    then Some (codes "there are no constants: an instance hands a number over, `P(A, 10)`")
+    else if str_eq_ignore_ascii_case w (codes "xor")
+    then Some (codes "there is no exclusive or: of logicals it is `<>`")
+    else None
 
 abbrev pub foreign_words : List ℕ → Option (List ℕ)
 foreign_words w =
-    if is_loop_word w then Some (codes "a loop is `while E do S`, or `repeat S`, which has no end")
-    else if is_exit_word w then Some (codes "a loop ends where the test of its `while` is false")
-    else if is_result_word w then Some (codes "a process has no result: `send E on C` gives a value to another one")
-    else if is_branch_word w then Some (codes "it is two words: `else if`")
-    else if is_kind_word w then Some (codes "the kinds are `integer` and `logical`; one stands before its names")
+    if ((str_eq_ignore_ascii_case w (codes "for") || str_eq_ignore_ascii_case w (codes "until"))
+    || str_eq_ignore_ascii_case w (codes "loop")) || str_eq_ignore_ascii_case w (codes "forever")
+    then Some (codes "a loop is `while E do S`, or `repeat S`, which has no end")
+    else if str_eq_ignore_ascii_case w (codes "break") || str_eq_ignore_ascii_case w (codes "exit")
+    then Some (codes "a loop ends where the test of its `while` is false")
+    else if str_eq_ignore_ascii_case w (codes "return") || str_eq_ignore_ascii_case w (codes "yield")
+    then Some (codes "a process has no result: `send E on C` gives a value to another one")
+    else if (str_eq_ignore_ascii_case w (codes "elif") || str_eq_ignore_ascii_case w (codes "elsif"))
+    || str_eq_ignore_ascii_case w (codes "elseif")
+    then Some (codes "it is two words: `else if`")
+    else lone_words w
+
+-- of one that begins a statement
+abbrev pub act_words : List ℕ → Option (List ℕ)
+act_words w =
+    if str_eq_ignore_ascii_case w (codes "select") || str_eq_ignore_ascii_case w (codes "alt")
+    then Some (codes "there is no choice among channels, since timing can't matter: a process waits on one at a time")
+    else if str_eq_ignore_ascii_case w (codes "case") || str_eq_ignore_ascii_case w (codes "switch")
+    then Some (codes "a choice is `if E then S else if F then T else ..`")
+    else if str_eq_ignore_ascii_case w (codes "skip") || str_eq_ignore_ascii_case w (codes "pass")
+    then Some (codes "a statement that does nothing is empty, or `begin end`")
     else None
 
 -- the letters of a name
@@ -59,6 +74,21 @@ name_before text before None = spelled_name text before
 abbrev pub foreign : List ℕ → Option Lexeme → Option Lexeme → Option (List ℕ)
 foreign text before found = option_or (foreign_words (name_before text before found)) (foreign_words (spelled_name text found))
 
+-- of one that begins a statement, before a place
+abbrev pub acting_words : List ℕ → Option Lexeme → Option Lexeme → Wanted → Option (List ℕ)
+acting_words text before found w = if awaits Becomes w then act_words (name_before text before found) else None
+
+-- of letters behind a number, and of `-` behind a name that is no argument
+abbrev pub joined_classes : Class → Class → Wanted → Option (List ℕ)
+joined_classes (class.Number n) class.Name w = Some (codes "a number has decimal digits alone")
+joined_classes class.Name (class.Sign sign.Minus) w = if not (awaits Close w) then Some (codes "a name has letters, digits and `_`") else None
+joined_classes _ _ w = None
+
+-- of a lexeme that stands right behind another one
+abbrev pub joins : Option Lexeme → Option Lexeme → Wanted → Option (List ℕ)
+joins (Some x) (Some y) w = if x.span.to == y.span.from then joined_classes x.what y.what w else None
+joins _ _ w = None
+
 -- of a lexeme behind another one, where these may stand
 abbrev pub advised : List ℕ → Option Lexeme → Option Lexeme → Wanted → Option (List ℕ)
-advised text before found w = option_or (foreign text before found) (advice before found w)
+advised text before found w = option_or (option_or (option_or (foreign text before found) (acting_words text before found w)) (joins before found w)) (advice before found w)

@@ -1,6 +1,7 @@
 pub mod Advice
 pub mod Blocked
 pub mod Characters
+pub mod Closed
 pub mod Foreign
 pub mod Held
 pub mod Notes

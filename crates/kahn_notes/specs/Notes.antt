@@ -1,5 +1,5 @@
 -- Believed. What is said of a place where a text goes wrong: what stands there, what may stand there, and what mends it.
-use Rattle.std.specs.Prelude.{◌≡◌, ◌==◌, ◌&&◌, ℕ, Bool, false, List, [], ◌∷◌, ◌++◌, ◌-◌, Option, Some, None, codes, decimal, if◌then◌else◌, is_some, length, map, min, nat_le, nat_lt, option_map, slice_range, string_bytes, take}
+use Rattle.std.specs.Prelude.{◌≡◌, ◌==◌, ◌&&◌, ℕ, Bool, true, false, not, List, [], ◌∷◌, ◌++◌, ◌-◌, Option, Some, None, codes, decimal, if◌then◌else◌, is_some, length, map, min, nat_le, nat_lt, option_map, slice_range, string_bytes, take}
 use Rattle.std.specs.Fmt.{signed_decimal}
 use Rattle.std.specs.List.{concat}
 use Rattle.std.specs.declared.alloc.Global.{Global}
@@ -11,7 +11,7 @@ use Rattle.kahn_syntax.specs.declared.fault.What.TheVariants.{More, Nothing, Oth
 use Rattle.kahn_syntax.specs.declared.lexeme.Class.{Class}
 use Rattle.kahn_syntax.specs.declared.lexeme.Class.TheVariants as class
 use Rattle.kahn_syntax.specs.declared.lexeme.Lexeme.{Lexeme}
-use Rattle.kahn_syntax.specs.Lexemes.{IsProper}
+use Rattle.kahn_syntax.specs.Texts.{AreLexemes, IsProper}
 use Rattle.kahn_wanted.specs.declared.groups.Group.{Group}
 use Rattle.kahn_wanted.specs.declared.groups.Group.TheVariants as group
 use Rattle.kahn_wanted.specs.declared.groups.Wanted.{Wanted}
@@ -28,6 +28,7 @@ use Rattle.kahn_wanted.specs.Wanted.{IsUnexpected}
 use Rattle.kahn_marks.specs.Marks.{marked, times_over}
 use Rattle.kahn_notes.specs.Foreign.{advised}
 use Rattle.kahn_notes.specs.Blocked.{at_words, blocks_words, line_there, open_beside}
+use Rattle.kahn_notes.specs.Closed.{closed_end, early_words}
 use Rattle.kahn_notes.specs.Order.{ranked}
 use Rattle.kahn_notes.specs.Words.{any_words, keyword_words, separator, sign_words}
 
@@ -148,12 +149,26 @@ abbrev pub is_mended : Option Mends → Bool
 is_mended (Some m) = nat_lt 0 (length m.changes.items)
 is_mended None = false
 
-abbrev pub advised_text : List ℕ → Span → Unexpected → Option Mends → Blocks → Option (List ℕ) → List ℕ
-advised_text text span u m b (Some words) = remark text span words ++ remark_or_none text span (open_beside text u (is_mended m) b)
-advised_text text span u m b None = mended_text text span u m b
+abbrev pub beside_text : List ℕ → List Lexeme → Span → Unexpected → Bool → Blocks → List ℕ
+beside_text text xs span u mended b = remark_or_none text span (open_beside text xs u mended b)
 
-abbrev pub help_text : List ℕ → Span → Unexpected → Option Mends → Blocks → List ℕ
-help_text text span u m b = advised_text text span u m b (advised text b.before u.found u.wanted)
+abbrev pub told_or_mended : List ℕ → List Lexeme → Span → Unexpected → Option Mends → Blocks → Option (List ℕ) → List ℕ
+told_or_mended text xs span u m b (Some words) = remark text span words ++ beside_text text xs span u (is_mended m) b
+told_or_mended text xs span u m b None = mended_text text span u m b
+
+abbrev pub advised_text : List ℕ → List Lexeme → Span → Unexpected → Option Mends → Blocks → List ℕ
+advised_text text xs span u m b = told_or_mended text xs span u m b (advised text b.before u.found u.wanted)
+
+-- what stands below a note on what was found: of an `end` that closed a block too early, or else that
+abbrev pub closed_text : List ℕ → Span → Lexeme → Blocks → List ℕ
+closed_text text span e b = remark text span (early_words text e) ++ remark_or_none text span (blocks_words text (Some e) true b)
+
+abbrev pub closed_or_told : List ℕ → List Lexeme → Span → Unexpected → Option Mends → Blocks → Option Lexeme → List ℕ
+closed_or_told text xs span u m b (Some e) = closed_text text span e b
+closed_or_told text xs span u m b None = advised_text text xs span u m b
+
+abbrev pub help_text : List ℕ → List Lexeme → Span → Unexpected → Option Mends → Blocks → List ℕ
+help_text text xs span u m b = closed_or_told text xs span u m b (closed_end xs span.from b)
 
 -- what is said of a comment before it
 abbrev pub comment_verb : List ℕ → Span → List ℕ
@@ -165,6 +180,11 @@ comment_words text c = concat (codes "the comment" ∷ at_words text c.from ∷ 
 abbrev pub comment_text : List ℕ → Span → Option Span → List ℕ
 comment_text text span c = remark_or_none text span (option_map (comment_words text) c)
 
+-- that, and below it what is said of the comment before the place: that alone, where nothing else stands before it
+abbrev pub below_text : List ℕ → List Lexeme → Span → Unexpected → Option Mends → Blocks → Option Span → List ℕ
+below_text text xs span u m b c =
+    if not (is_some b.before) && is_some c then comment_text text span c else help_text text xs span u m b ++ comment_text text span c
+
 -- the note on what stands there, and below it the comment before it that has to do with it
 abbrev pub IsCommented : List ℕ → List ℕ → Span → List ℕ → List ℕ → Type 0
 IsCommented path text span words note = (c : Option Span) × IsCommentBefore text span.from c × (note ≡ marked path text span words ++ comment_text text span c)
@@ -172,5 +192,5 @@ IsCommented path text span words note = (c : Option Span) × IsCommentBefore tex
 -- the note on that place of the text of a file
 abbrev pub IsNote : List ℕ → List ℕ → Span → What → String Global → Type 0
 IsNote path text span what note = (u : Unexpected) × IsUnexpected text span what u × (m : Option Mends) × AreMendsOf text span what m
-    × (b : Blocks) × AreBlocksOf text span what b × (c : Option Span) × IsCommentBefore text span.from c
-    × (string_bytes note ≡ marked path text span (unexpected_words text what u) ++ (help_text text span u m b ++ comment_text text span c))
+    × (b : Blocks) × AreBlocksOf text span what b × (c : Option Span) × IsCommentBefore text span.from c × (xs : List Lexeme) × AreLexemes text xs
+    × (string_bytes note ≡ marked path text span (unexpected_words text what u) ++ below_text text xs span u m b c)

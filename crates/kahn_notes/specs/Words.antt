@@ -5,7 +5,7 @@ use Rattle.kahn_syntax.specs.declared.lexeme.Class.{Class}
 use Rattle.kahn_syntax.specs.declared.lexeme.Class.TheVariants as class
 use Rattle.kahn_syntax.specs.declared.lexeme.Keyword.{Keyword}
 use Rattle.kahn_syntax.specs.declared.lexeme.Sign.{Sign}
-use Rattle.kahn_syntax.specs.Lexemes.{bytes_of_sign, letters_of}
+use Rattle.kahn_syntax.specs.Texts.{bytes_of_sign, letters_of}
 
 -- the words for lexemes, with quotes round their letters
 abbrev pub keyword_words : Keyword → List ℕ

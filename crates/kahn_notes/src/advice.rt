@@ -1,246 +1,13 @@
-//! What is said where something stands as in another language, or without what belongs to it.
+//! What is said where something stands as in another language, or without what belongs to it, by what may stand there.
 
 ghost use Rattle.std.specs.Prelude.{◌≡◌, option_map};
-ghost use Rattle.kahn_notes.specs.Advice.{advice, among_words, assigned_words, awaited_words, awaits, becomes_words, begun_words, called_words, comma_words, declared_words, equal_words, instance_words, is_late, is_needed, is_part, declaring_words, late_words, lead_of, habit_words, offers, opened_words, operator_words, sort_of, stopped_words};
+ghost use Rattle.kahn_notes.specs.Advice.{advice, among_words, assigned_words, awaited_words, becomes_words, begun_words, called_words, comma_words, declaring_words, ended_words, equal_words, instance_words, is_late, late_words, lead_of, naming_words, opened_words, operator_words, par_words, sort_of, stopped_words, stray_words};
 
-use crate::order::{is_name, is_operator_class};
-use kahn_syntax::{Class, Keyword, Lexeme, Sign};
-use kahn_wanted::{Group, Wanted};
-
-/// What stands before a place, as far as it tells what was meant there.
-#[derive(Clone, Copy)]
-pub(crate) enum Lead {
-    /// The keyword `then`.
-    Then,
-    /// Another one or a `;`, behind which a statement begins.
-    Begins,
-    /// The keyword `wait`.
-    Wait,
-    /// `=`.
-    Equal,
-    /// `*`.
-    Times,
-    /// `(`.
-    Open,
-    /// `:=`.
-    Becomes,
-    /// Anything else, or nothing.
-    Other,
-}
-
-/// What stands at a place, in the same way.
-#[derive(Clone, Copy)]
-pub(crate) enum Habit {
-    /// The keyword `if`.
-    If,
-    /// The keyword `while`.
-    While,
-    /// The keyword `repeat`.
-    Repeat,
-    /// The keyword `wait`.
-    Wait,
-    /// `(`.
-    Open,
-    /// `:=`.
-    Becomes,
-    /// `=`.
-    Equal,
-    /// `<`.
-    Less,
-    /// `>`.
-    Greater,
-    /// `*`.
-    Times,
-    /// Another operator.
-    Operates,
-    /// `,`.
-    Comma,
-    /// `;`, `end` or `else`, with which a statement ends.
-    Stops,
-    /// A kind.
-    Kind,
-    /// The keyword `process`.
-    Process,
-    /// The keyword `in` or `out`.
-    Direction,
-    /// The keyword `input` or `output`.
-    Port,
-    /// Anything else.
-    Other,
-}
-
-/// A lexeme that may stand at a place.
-#[derive(Clone, Copy)]
-pub(crate) enum Needed {
-    /// The keyword `on`.
-    On,
-    /// `:=`.
-    Becomes,
-    /// `(`.
-    Open,
-    /// `,`.
-    Comma,
-    /// `)`.
-    Close,
-    /// `;`.
-    Semicolon,
-    /// The keyword `par`.
-    Par,
-    /// The keyword `end`.
-    End,
-}
-
-/// What may stand at a place, by a group.
-#[derive(Clone, Copy)]
-pub(crate) enum Part {
-    /// Any statement.
-    Statement,
-    /// An operand, and no other expression.
-    Operand,
-    /// An operator.
-    Operator,
-}
-
-/// What stands before a place.
-fn lead_of(before: Option<Lexeme>) -> Lead
-    ensures { result ≡ lead_of before }
-{
-    match before {
-        Some(lexeme) => match lexeme.what {
-            Class::Word(Keyword::Then) => Lead::Then,
-            Class::Word(Keyword::Begin) => Lead::Begins,
-            Class::Word(Keyword::Do) => Lead::Begins,
-            Class::Word(Keyword::Else) => Lead::Begins,
-            Class::Word(Keyword::Repeat) => Lead::Begins,
-            Class::Word(Keyword::Wait) => Lead::Wait,
-            Class::Sign(Sign::Semicolon) => Lead::Begins,
-            Class::Sign(Sign::Equal) => Lead::Equal,
-            Class::Sign(Sign::Times) => Lead::Times,
-            Class::Sign(Sign::Open) => Lead::Open,
-            Class::Sign(Sign::Becomes) => Lead::Becomes,
-            _ => Lead::Other,
-        },
-        None => Lead::Other,
-    }
-}
-
-/// What stands at a place.
-fn sort_of(found: Option<Lexeme>) -> Habit
-    ensures { result ≡ sort_of found }
-{
-    match found {
-        Some(lexeme) => match lexeme.what {
-            Class::Word(Keyword::If) => Habit::If,
-            Class::Word(Keyword::While) => Habit::While,
-            Class::Word(Keyword::Repeat) => Habit::Repeat,
-            Class::Word(Keyword::Wait) => Habit::Wait,
-            Class::Word(Keyword::End) => Habit::Stops,
-            Class::Word(Keyword::Else) => Habit::Stops,
-            Class::Word(Keyword::Integer) => Habit::Kind,
-            Class::Word(Keyword::Logical) => Habit::Kind,
-            Class::Word(Keyword::Process) => Habit::Process,
-            Class::Word(Keyword::In) => Habit::Direction,
-            Class::Word(Keyword::Out) => Habit::Direction,
-            Class::Word(Keyword::Input) => Habit::Port,
-            Class::Word(Keyword::Output) => Habit::Port,
-            Class::Sign(Sign::Semicolon) => Habit::Stops,
-            Class::Sign(Sign::Open) => Habit::Open,
-            Class::Sign(Sign::Becomes) => Habit::Becomes,
-            Class::Sign(Sign::Equal) => Habit::Equal,
-            Class::Sign(Sign::Less) => Habit::Less,
-            Class::Sign(Sign::Greater) => Habit::Greater,
-            Class::Sign(Sign::Times) => Habit::Times,
-            Class::Sign(Sign::Comma) => Habit::Comma,
-            class if is_operator_class(class) => Habit::Operates,
-            _ => Habit::Other,
-        },
-        None => Habit::Other,
-    }
-}
-
-/// What is said of one behind another.
-fn habit_words(lead: Lead, habit: Habit) -> Option<&'static str>
-    ensures { option_map (λ words. words.now) result ≡ habit_words lead habit }
-{
-    match (lead, habit) {
-        (Lead::Then, Habit::If) => Some("an `if` behind `then` stands between `begin` and `end`"),
-        (Lead::Then, Habit::While) => {
-            Some("a `while` behind `then` stands between `begin` and `end`")
-        }
-        (Lead::Then, Habit::Repeat) => {
-            Some("a `repeat` behind `then` stands between `begin` and `end`")
-        }
-        (Lead::Then, Habit::Wait) => {
-            Some("`wait(C)` is a value: a statement takes one by `X := wait(C)`")
-        }
-        (Lead::Begins, Habit::Wait) => {
-            Some("`wait(C)` is a value: a statement takes one by `X := wait(C)`")
-        }
-        (Lead::Begins, Habit::Open) => Some("a comment goes from `comment` to `;`"),
-        (Lead::Open, Habit::Times) => Some("a comment goes from `comment` to `;`"),
-        (Lead::Equal, Habit::Equal) => Some("equal is one `=`"),
-        (Lead::Equal, Habit::Less) => Some("at most is `<=`"),
-        (Lead::Equal, Habit::Greater) => Some("at least is `>=`"),
-        (Lead::Times, Habit::Times) => Some("there is no power: `X * X`"),
-        (Lead::Wait, _) => Some("brackets stand round the channel: `wait(C)`"),
-        (Lead::Becomes, Habit::Less) => Some("a value is taken by `wait(C)`"),
-        _ => None,
-    }
-}
-
-/// Whether it is that lexeme.
-fn is_needed(needed: Needed, class: Class) -> bool
-    ensures { result ≡ is_needed needed class }
-{
-    match (needed, class) {
-        (Needed::On, Class::Word(Keyword::On)) => true,
-        (Needed::Becomes, Class::Sign(Sign::Becomes)) => true,
-        (Needed::Open, Class::Sign(Sign::Open)) => true,
-        (Needed::Comma, Class::Sign(Sign::Comma)) => true,
-        (Needed::Close, Class::Sign(Sign::Close)) => true,
-        (Needed::Semicolon, Class::Sign(Sign::Semicolon)) => true,
-        (Needed::Par, Class::Word(Keyword::Par)) => true,
-        (Needed::End, Class::Word(Keyword::End)) => true,
-        _ => false,
-    }
-}
-
-/// Whether that lexeme may stand.
-pub(crate) fn awaits(needed: Needed, wanted: &Wanted) -> bool
-    ensures { result ≡ awaits needed wanted.now }
-{
-    for class in &wanted.others {
-        if is_needed(needed, *class) {
-            return true;
-        }
-    }
-    false
-}
-
-/// Whether it is a group of that part.
-fn is_part(part: Part, group: Group) -> bool
-    ensures { result ≡ is_part part group }
-{
-    match (part, group) {
-        (Part::Statement, Group::Statement) => true,
-        (Part::Operand, Group::Operand) => true,
-        (Part::Operator, Group::Operator) => true,
-        (Part::Operator, Group::Arithmetic) => true,
-        _ => false,
-    }
-}
-
-/// Whether all of a group of that part may stand.
-fn offers(part: Part, wanted: &Wanted) -> bool
-    ensures { result ≡ offers part wanted.now }
-{
-    for group in &wanted.groups {
-        if is_part(part, *group) {
-            return true;
-        }
-    }
-    false
-}
+use crate::habits::{Habit, habit_words, lead_of, sort_of};
+use crate::order::is_name;
+use crate::wanting::{Needed, Part, awaits, offers};
+use kahn_syntax::Lexeme;
+use kahn_wanted::Wanted;
 
 /// What is said of what stands behind the name that begins a statement.
 fn begun_words(wanted: &Wanted) -> Option<&'static str>
@@ -254,14 +21,34 @@ fn begun_words(wanted: &Wanted) -> Option<&'static str>
     None
 }
 
-/// What is said of the end of a statement that isn't whole.
+/// What is said of the end of what isn't whole.
 fn stopped_words(wanted: &Wanted) -> Option<&'static str>
     ensures { option_map (λ words. words.now) result ≡ stopped_words wanted.now }
 {
     if awaits(Needed::On, wanted) {
         return Some("`on` and a channel stand behind the value: `send E on C`");
     }
+    if awaits(Needed::Open, wanted) {
+        return Some(
+            "brackets stand behind the name of a process, also where they are empty: `p()`",
+        );
+    }
+    if awaits(Needed::Else, wanted) && !awaits(Needed::End, wanted) {
+        return Some("an `if` among values has its `else`: `if E then E else E`");
+    }
     begun_words(wanted)
+}
+
+/// What is said of `;`.
+fn ended_words(wanted: &Wanted) -> Option<&'static str>
+    ensures { option_map (λ words. words.now) result ≡ ended_words wanted.now }
+{
+    if awaits(Needed::Becomes, wanted) {
+        return Some(
+            "a statement that begins with a name assigns to it, `X := E`; names of one kind stand with commas, `integer I, J`",
+        );
+    }
+    stopped_words(wanted)
 }
 
 /// What is said among the arguments of an instance.
@@ -283,13 +70,19 @@ fn operator_words(wanted: &Wanted) -> Option<&'static str>
     if awaits(Needed::Comma, wanted) {
         return instance_words(wanted);
     }
+    if offers(Part::Arithmetic, wanted) {
+        return Some("a comparison has two sides: `0 < X and X < 3`");
+    }
     begun_words(wanted)
 }
 
-/// What is said of a value that is given to a name where that is declared, or to a parameter among the arguments.
+/// What is said of `=` behind a comparison, or of a value that is given to a name where that is declared, or to a parameter among the arguments.
 fn assigned_words(wanted: &Wanted) -> Option<&'static str>
     ensures { option_map (λ words. words.now) result ≡ assigned_words wanted.now }
 {
+    if offers(Part::Arithmetic, wanted) {
+        return operator_words(wanted);
+    }
     if !awaits(Needed::Comma, wanted) {
         return None;
     }
@@ -321,14 +114,26 @@ fn becomes_words(wanted: &Wanted) -> Option<&'static str>
     equal_words(wanted)
 }
 
-/// What is said of `,`.
-fn comma_words(wanted: &Wanted) -> Option<&'static str>
-    ensures { option_map (λ words. words.now) result ≡ comma_words wanted.now }
+/// What is said of `,`: between brackets, behind a name that begins a statement, behind a value, or behind the channel of a `send`.
+fn comma_words(before: Option<Lexeme>, wanted: &Wanted) -> Option<&'static str>
+    ensures { option_map (λ words. words.now) result ≡ comma_words before wanted.now }
 {
     if awaits(Needed::Close, wanted) {
         return Some(
-            "one value or one channel stands between these brackets; `send E on C` sends a value",
+            "one value or one channel stands between these brackets; `print E` and `send E on C` have one value",
         );
+    }
+    if awaits(Needed::Becomes, wanted) {
+        return Some("a statement assigns to one name: `X := E; Y := F`");
+    }
+    if !awaits(Needed::Semicolon, wanted) {
+        return None;
+    }
+    if offers(Part::Operator, wanted) {
+        return Some("a statement has one value: `print E; print F`");
+    }
+    if is_name(before) {
+        return Some("a value goes on one channel: `send E on C; send E on D`");
     }
     None
 }
@@ -360,6 +165,27 @@ fn opened_words(before: Option<Lexeme>, wanted: &Wanted) -> Option<&'static str>
     None
 }
 
+/// Whether a declaration would stand behind instances.
+fn is_late(wanted: &Wanted) -> bool
+    ensures { result ≡ is_late wanted.now }
+{
+    awaits(Needed::Par, wanted)
+        || (awaits(Needed::End, wanted) && !awaits(Needed::Semicolon, wanted))
+}
+
+/// What is said of a keyword that begins a statement, outside of processes, or where a name alone may stand.
+fn stray_words(wanted: &Wanted) -> Option<&'static str>
+    ensures { option_map (λ words. words.now) result ≡ stray_words wanted.now }
+{
+    if offers(Part::Declaration, wanted) || is_late(wanted) {
+        return Some("statements stand in processes alone");
+    }
+    if awaits(Needed::Name, wanted) {
+        return Some("a keyword is no name, in any letter case: take another one");
+    }
+    None
+}
+
 /// What is said of `if`.
 fn among_words(wanted: &Wanted) -> Option<&'static str>
     ensures { option_map (λ words. words.now) result ≡ among_words wanted.now }
@@ -367,15 +193,30 @@ fn among_words(wanted: &Wanted) -> Option<&'static str>
     if offers(Part::Operand, wanted) {
         return Some("an `if` among operators stands in brackets");
     }
-    None
+    stray_words(wanted)
 }
 
-/// Whether a declaration would stand behind instances.
-fn is_late(wanted: &Wanted) -> bool
-    ensures { result ≡ is_late wanted.now }
+/// What is said of `par`.
+fn par_words(wanted: &Wanted) -> Option<&'static str>
+    ensures { option_map (λ words. words.now) result ≡ par_words wanted.now }
 {
-    awaits(Needed::Par, wanted)
-        || (awaits(Needed::End, wanted) && !awaits(Needed::Semicolon, wanted))
+    if awaits(Needed::Open, wanted) {
+        return stopped_words(wanted);
+    }
+    Some("`par` stands between instances: `p(A) par q(B)`")
+}
+
+/// What is said of a name, where nothing stands before it or behind a kind.
+fn naming_words(before: Option<Lexeme>, wanted: &Wanted) -> Option<&'static str>
+    ensures { option_map (λ words. words.now) result ≡ naming_words before wanted.now }
+{
+    if before.is_none() {
+        return Some("a program has no name: it goes from `begin` to `end`");
+    }
+    if awaits(Needed::Channel, wanted) {
+        return Some("variables are declared in processes; a channel is `integer channel C`");
+    }
+    None
 }
 
 /// What is said of `process`.
@@ -410,11 +251,22 @@ fn awaited_words(before: Option<Lexeme>, habit: Habit, wanted: &Wanted) -> Optio
         Habit::Less => operator_words(wanted),
         Habit::Greater => operator_words(wanted),
         Habit::Times => operator_words(wanted),
+        Habit::Minus => operator_words(wanted),
         Habit::Operates => operator_words(wanted),
-        Habit::Comma => comma_words(wanted),
+        Habit::Comma => comma_words(before, wanted),
+        Habit::Semicolon => ended_words(wanted),
         Habit::Stops => stopped_words(wanted),
         Habit::Open => opened_words(before, wanted),
         Habit::If => among_words(wanted),
+        Habit::While => stray_words(wanted),
+        Habit::Wait => stray_words(wanted),
+        Habit::Repeat => stray_words(wanted),
+        Habit::Acts => stray_words(wanted),
+        Habit::Par => par_words(wanted),
+        Habit::Channel => Some(
+            "outside of processes `integer channel C` declares one; a process gets it by `integer in U` or `integer out W`",
+        ),
+        Habit::Name => naming_words(before, wanted),
         Habit::Kind => declaring_words(wanted),
         Habit::Process => late_words(wanted),
         Habit::Direction => Some(

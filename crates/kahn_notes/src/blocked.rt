@@ -2,10 +2,10 @@
 
 ghost use Rattle.std.specs.Prelude.{◌≡◌, ◌++◌, IfOk, map, option_map, string_bytes};
 ghost use Rattle.kahn_streams.specs.Place.{line_of, column_of};
-ghost use Rattle.kahn_notes.specs.Blocked.{at_words, bare_item, bare_words, begin_words, block_item, blocks_words, column_there, is_closing, is_outside, is_started, is_told, last_few, line_there, listed_bare, listed_blocks, open_told, open_words, open_beside};
+ghost use Rattle.kahn_notes.specs.Blocked.{at_words, bare_item, bare_words, begin_words, block_item, blocks_words, column_there, is_closing, is_outside, is_started, tells_open, last_few, line_there, listed_bare, listed_blocks, open_told, open_words, open_beside};
 
-use crate::advice::{Needed, awaits};
 use crate::listing::separator;
+use crate::wanting::{Needed, awaits, has_fewer};
 use crate::words::class_words;
 use itoa::Buffer;
 use kahn_marks::add;
@@ -159,8 +159,8 @@ fn open_told(found: Option<Lexeme>, blocks: &[Block]) -> &[Block]
 }
 
 /// Whether open blocks may be told: at the end of the text always, else where no change is told that mends the text.
-fn is_told(found: Option<Lexeme>, mended: bool) -> bool
-    ensures { result ≡ is_told found mended }
+fn tells_open(found: Option<Lexeme>, mended: bool) -> bool
+    ensures { result ≡ tells_open found mended }
 {
     match found {
         Some(_) => !mended,
@@ -182,7 +182,7 @@ pub(crate) fn blocks_words(
     if is_closing(found) {
         return bare_words(alloc, text, &blocks.bare);
     }
-    if is_told(found, mended) && is_outside(found) {
+    if tells_open(found, mended) && is_outside(found) {
         return open_words(alloc, text, open_told(found, &blocks.unclosed));
     }
     Ok(None)
@@ -200,18 +200,23 @@ fn is_started(found: Option<Lexeme>, wanted: &Wanted) -> bool
     }
 }
 
-/// What is said of blocks beside advice on what was found: of open ones, where an instance may have begun and no change mends the text.
+/// What is said of blocks beside advice on what was found: of open ones, where an instance may have begun, the text lacks an `end` and
+/// no change mends it.
 pub(crate) fn open_beside(
     alloc: Global,
     text: &str,
+    lexemes: &[Lexeme],
     unexpected: &Unexpected,
     mended: bool,
     blocks: &Blocks,
 ) -> Result<Option<String>, AllocError>
-    ensures { IfOk result (λ words. option_map string_bytes words ≡ open_beside text.now unexpected.now mended blocks.now) }
+    ensures { IfOk result (λ words. option_map string_bytes words ≡ open_beside text.now lexemes.now unexpected.now mended blocks.now) }
 {
     let found = unexpected.found;
-    if is_started(found, &unexpected.wanted) && !mended {
+    if mended || !is_started(found, &unexpected.wanted) {
+        return Ok(None);
+    }
+    if has_fewer(Needed::End, Needed::Begin, lexemes) {
         return open_words(alloc, text, open_told(found, &blocks.unclosed));
     }
     Ok(None)

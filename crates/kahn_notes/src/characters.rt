@@ -1,7 +1,7 @@
 //! What the language has in the place of characters that it hasn't.
 
 ghost use Rattle.std.specs.Prelude.{◌≡◌};
-ghost use Rattle.kahn_notes.specs.Characters.{byte_at, byte_help, character_help, letter_help, order_help, other_help, place_help, point_help, rest_at, space_help};
+ghost use Rattle.kahn_notes.specs.Characters.{byte_at, byte_help, character_help, letter_help, order_help, other_help, pair_help, place_help, point_help, rest_at, space_help};
 
 use kahn_syntax::SyntaxFault;
 
@@ -10,7 +10,7 @@ fn byte_help(byte: u8) -> &'static str
     ensures { result.now ≡ byte_help byte }
 {
     match byte {
-        b'!' => "; unequal is `<>`",
+        b'!' => "; a value is sent by `send E on C`, and `not` is a word",
         b'%' => "; a remainder is `mod`",
         b'/' => "; a quotient is `div`, and a comment goes from `comment` to `;`",
         b'#' => "; a comment goes from `comment` to `;`",
@@ -20,12 +20,26 @@ fn byte_help(byte: u8) -> &'static str
         b'[' => "; there are no arrays",
         b'{' => "; a block goes from `begin` to `end`",
         b'&' => "; it is the word `and`",
+        b'^' => "; there is no power and no exclusive or: of logicals it is `<>`",
         b'|' => "; it is the word `or`, and between instances `par`",
         b'~' => "; it is the word `not`",
-        b'?' => "; a choice is `if .. then .. else ..`",
+        b'?' => "; a value is taken by `X := wait(C)`, and a choice is `if .. then .. else ..`",
         b':' => "; `:` stands before `=` alone, and a kind before its names",
         _ => "",
     }
+}
+
+/// What the language has in the place of an ASCII character before another byte.
+fn pair_help(first: u8, next: u8) -> &'static str
+    ensures { result.now ≡ pair_help first next }
+{
+    if next == b'=' && (first == b'!' || first == b'~' || first == b'/') {
+        return "; unequal is `<>`";
+    }
+    if first == b'&' && next != b'&' {
+        return "; `and` is a word, and of logicals; a remainder is `X mod 8`";
+    }
+    byte_help(first)
 }
 
 /// The same of a `.`, by the byte before it.
@@ -131,7 +145,7 @@ fn place_help(bytes: &[u8], at: usize) -> &'static str
         return point_help(byte_at(bytes, at.saturating_sub(1)));
     }
     if first < 0x80 {
-        return byte_help(first);
+        return pair_help(first, byte_at(rest, 1));
     }
     other_help(first, byte_at(rest, 1), byte_at(rest, 2))
 }

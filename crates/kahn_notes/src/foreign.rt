@@ -1,70 +1,76 @@
 //! Words of other languages, and what this one has in their place.
 
 ghost use Rattle.std.specs.Prelude.{◌≡◌, option_map};
-ghost use Rattle.kahn_notes.specs.Foreign.{advised, foreign, foreign_words, is_branch_word, is_exit_word, is_kind_word, is_loop_word, is_result_word, name_before, spelled_name};
+ghost use Rattle.kahn_notes.specs.Foreign.{act_words, acting_words, advised, foreign, foreign_words, joins, lone_words, name_before, spelled_name};
 
 use crate::advice::advice;
+use crate::wanting::{Needed, awaits};
 use kahn_syntax::{Class, Lexeme, Sign};
 use kahn_wanted::{Wanted, bytes_between};
 
-/// Whether it is one for a loop.
-fn is_loop_word(word: &[u8]) -> bool
-    ensures { result ≡ is_loop_word word.now }
+/// What is said of a word for a kind, for the end of a statement, for a constant or for an operator.
+fn lone_words(word: &[u8]) -> Option<&'static str>
+    ensures { option_map (λ words. words.now) result ≡ lone_words word.now }
 {
-    word.eq_ignore_ascii_case(b"for")
-        || word.eq_ignore_ascii_case(b"until")
-        || word.eq_ignore_ascii_case(b"loop")
-}
-
-/// Whether it is one for the end of a loop.
-fn is_exit_word(word: &[u8]) -> bool
-    ensures { result ≡ is_exit_word word.now }
-{
-    word.eq_ignore_ascii_case(b"break") || word.eq_ignore_ascii_case(b"exit")
-}
-
-/// Whether it is one for a result.
-fn is_result_word(word: &[u8]) -> bool
-    ensures { result ≡ is_result_word word.now }
-{
-    word.eq_ignore_ascii_case(b"return") || word.eq_ignore_ascii_case(b"yield")
-}
-
-/// Whether it is one for a further test of an `if`.
-fn is_branch_word(word: &[u8]) -> bool
-    ensures { result ≡ is_branch_word word.now }
-{
-    word.eq_ignore_ascii_case(b"elif")
-        || word.eq_ignore_ascii_case(b"elsif")
-        || word.eq_ignore_ascii_case(b"elseif")
-}
-
-/// Whether it is one for a kind, or stands before a variable.
-fn is_kind_word(word: &[u8]) -> bool
-    ensures { result ≡ is_kind_word word.now }
-{
-    word.eq_ignore_ascii_case(b"int")
+    if word.eq_ignore_ascii_case(b"int")
         || word.eq_ignore_ascii_case(b"bool")
         || word.eq_ignore_ascii_case(b"boolean")
         || word.eq_ignore_ascii_case(b"var")
         || word.eq_ignore_ascii_case(b"real")
         || word.eq_ignore_ascii_case(b"float")
+    {
+        Some("the kinds are `integer` and `logical`; one stands before its names")
+    } else if word.eq_ignore_ascii_case(b"endif")
+        || word.eq_ignore_ascii_case(b"endwhile")
+        || word.eq_ignore_ascii_case(b"fi")
+        || word.eq_ignore_ascii_case(b"od")
+    {
+        Some("an `if`, a `while` or a `repeat` has no `end` of its own")
+    } else if word.eq_ignore_ascii_case(b"const") || word.eq_ignore_ascii_case(b"constant") {
+        Some("there are no constants: an instance hands a number over, `P(A, 10)`")
+    } else if word.eq_ignore_ascii_case(b"xor") {
+        Some("there is no exclusive or: of logicals it is `<>`")
+    } else {
+        None
+    }
 }
 
-/// What is said of a word.
+/// What is said of a word for a loop, for its end, for a result or for a further test, or of one of those.
 fn foreign_words(word: &[u8]) -> Option<&'static str>
     ensures { option_map (λ words. words.now) result ≡ foreign_words word.now }
 {
-    if is_loop_word(word) {
+    if word.eq_ignore_ascii_case(b"for")
+        || word.eq_ignore_ascii_case(b"until")
+        || word.eq_ignore_ascii_case(b"loop")
+        || word.eq_ignore_ascii_case(b"forever")
+    {
         Some("a loop is `while E do S`, or `repeat S`, which has no end")
-    } else if is_exit_word(word) {
+    } else if word.eq_ignore_ascii_case(b"break") || word.eq_ignore_ascii_case(b"exit") {
         Some("a loop ends where the test of its `while` is false")
-    } else if is_result_word(word) {
+    } else if word.eq_ignore_ascii_case(b"return") || word.eq_ignore_ascii_case(b"yield") {
         Some("a process has no result: `send E on C` gives a value to another one")
-    } else if is_branch_word(word) {
+    } else if word.eq_ignore_ascii_case(b"elif")
+        || word.eq_ignore_ascii_case(b"elsif")
+        || word.eq_ignore_ascii_case(b"elseif")
+    {
         Some("it is two words: `else if`")
-    } else if is_kind_word(word) {
-        Some("the kinds are `integer` and `logical`; one stands before its names")
+    } else {
+        lone_words(word)
+    }
+}
+
+/// What is said of a word that begins a statement: for a choice among channels or among values, or for nothing.
+fn act_words(word: &[u8]) -> Option<&'static str>
+    ensures { option_map (λ words. words.now) result ≡ act_words word.now }
+{
+    if word.eq_ignore_ascii_case(b"select") || word.eq_ignore_ascii_case(b"alt") {
+        Some(
+            "there is no choice among channels, since timing can't matter: a process waits on one at a time",
+        )
+    } else if word.eq_ignore_ascii_case(b"case") || word.eq_ignore_ascii_case(b"switch") {
+        Some("a choice is `if E then S else if F then T else ..`")
+    } else if word.eq_ignore_ascii_case(b"skip") || word.eq_ignore_ascii_case(b"pass") {
+        Some("a statement that does nothing is empty, or `begin end`")
     } else {
         None
     }
@@ -106,6 +112,37 @@ fn foreign(text: &str, before: Option<Lexeme>, found: Option<Lexeme>) -> Option<
     }
 }
 
+/// What is said of a name that begins a statement.
+fn acting_words(
+    text: &str,
+    before: Option<Lexeme>,
+    found: Option<Lexeme>,
+    wanted: &Wanted,
+) -> Option<&'static str>
+    ensures { option_map (λ words. words.now) result ≡ acting_words text.now before found wanted.now }
+{
+    if awaits(Needed::Becomes, wanted) {
+        return act_words(name_before(text, before, found));
+    }
+    None
+}
+
+/// What is said of a lexeme right behind another one: of letters behind a number, and of `-` behind a name that is no argument.
+fn joins(before: Option<Lexeme>, found: Option<Lexeme>, wanted: &Wanted) -> Option<&'static str>
+    ensures { option_map (λ words. words.now) result ≡ joins before found wanted.now }
+{
+    match (before, found) {
+        (Some(one), Some(other)) if one.span.to == other.span.from => match (one.what, other.what) {
+            (Class::Number(_), Class::Name) => Some("a number has decimal digits alone"),
+            (Class::Name, Class::Sign(Sign::Minus)) if !awaits(Needed::Close, wanted) => {
+                Some("a name has letters, digits and `_`")
+            }
+            _ => None,
+        },
+        _ => None,
+    }
+}
+
 /// What is said of a lexeme behind another one, where these may stand.
 pub(crate) fn advised(
     text: &str,
@@ -115,7 +152,13 @@ pub(crate) fn advised(
 ) -> Option<&'static str>
     ensures { option_map (λ words. words.now) result ≡ advised text.now before found wanted.now }
 {
-    match foreign(text, before, found) {
+    if let Some(words) = foreign(text, before, found) {
+        return Some(words);
+    }
+    if let Some(words) = acting_words(text, before, found, wanted) {
+        return Some(words);
+    }
+    match joins(before, found, wanted) {
         Some(words) => Some(words),
         None => advice(before, found, wanted),
     }

@@ -5,13 +5,17 @@
 mod advice;
 mod blocked;
 mod characters;
+mod closed;
 mod commented;
 mod foreign;
+mod habits;
 mod held;
+mod help;
 mod listing;
 mod mended;
 mod order;
 mod unexpected;
+mod wanting;
 mod words;
 
 // For the crates above.

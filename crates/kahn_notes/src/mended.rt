@@ -2,11 +2,10 @@
 
 ghost use Rattle.std.specs.Prelude.{◌≡◌, ◌++◌, IfOk, IfSome, None, Some, is_some, length, map, option_map, string_bytes, take};
 ghost use Rattle.kahn_wanted.specs.declared.changes.Spot.TheVariants.{Before};
-ghost use Rattle.kahn_notes.specs.Blocked.{blocks_words, open_beside};
-ghost use Rattle.kahn_notes.specs.Notes.{MayFind, article, change_lead, change_words, changes_words, help_text, is_mended, last_words, lead_words, listed, mended_text, mends_words, number_words, put_words, remark, remark_or_none, some_words};
+ghost use Rattle.kahn_notes.specs.Blocked.{blocks_words};
+ghost use Rattle.kahn_notes.specs.Notes.{MayFind, article, change_lead, change_words, changes_words, is_mended, last_words, lead_words, listed, mended_text, mends_words, number_words, put_words, remark, remark_or_none, some_words};
 
-use crate::blocked::{blocks_words, open_beside};
-use crate::foreign::advised;
+use crate::blocked::blocks_words;
 use crate::listing::separator;
 use crate::order::ranked;
 use crate::unexpected::add_lexeme;
@@ -222,7 +221,7 @@ pub(crate) fn add_remark(
 }
 
 /// Adds what is said of blocks.
-fn add_blocks_remark(
+pub(crate) fn add_blocks_remark(
     note: &mut String,
     alloc: Global,
     text: &str,
@@ -265,7 +264,7 @@ fn add_mends(
 }
 
 /// Adds what is said of the changes and of the blocks.
-fn add_mended(
+pub(crate) fn add_mended(
     note: &mut String,
     alloc: Global,
     text: &str,
@@ -283,59 +282,11 @@ fn add_mended(
 }
 
 /// Whether there are changes that mend the text.
-fn is_mended(mends: &Option<Mends>) -> bool
+pub(crate) fn is_mended(mends: &Option<Mends>) -> bool
     ensures { result ≡ is_mended mends.now }
 {
     match mends {
         Some(mends) => !mends.changes.is_empty(),
         None => false,
-    }
-}
-
-/// Adds what is said of blocks beside advice on a place.
-fn add_started(
-    note: &mut String,
-    alloc: Global,
-    text: &str,
-    span: Span,
-    place: &Unexpected,
-    mended: bool,
-    blocks: &Blocks,
-) -> Result<(), AllocError>
-    ensures { IfOk result (λ _. string_bytes note.new ≡ string_bytes note.old ++ remark_or_none text.now span (open_beside text.now place.now mended blocks.now)) }
-{
-    match open_beside(alloc, text, place, mended, blocks)? {
-        Some(words) => add_remark(note, text, span, words.as_str()),
-        None => Ok(()),
-    }
-}
-
-/// Adds advice on what was found, or else what is said of the changes and of the blocks.
-pub(crate) fn add_help(
-    note: &mut String,
-    alloc: Global,
-    text: &str,
-    span: Span,
-    unexpected: &Unexpected,
-    mends: &Option<Mends>,
-    blocks: &Blocks,
-) -> Result<(), AllocError>
-    requires { IfSome mends.now (λ m. MayFind text.now m.before) }
-    ensures { IfOk result (λ _. string_bytes note.new ≡ string_bytes note.old ++ help_text text.now span unexpected.now mends.now blocks.now) }
-{
-    match advised(text, blocks.before, unexpected.found, &unexpected.wanted) {
-        Some(words) => {
-            add_remark(note, text, span, words)?;
-            add_started(
-                note,
-                alloc,
-                text,
-                span,
-                unexpected,
-                is_mended(mends),
-                blocks,
-            )
-        }
-        None => add_mended(note, alloc, text, span, unexpected, mends, blocks),
     }
 }

@@ -2,18 +2,16 @@
 
 ghost use Rattle.std.specs.Prelude.{◌≡◌, ◌++◌, IfOk, string_bytes};
 ghost use Rattle.kahn_syntax.specs.declared.fault.SyntaxFault.TheVariants.{Expected};
-ghost use Rattle.kahn_syntax.specs.Lexemes.{IsProper};
-ghost use Rattle.kahn_syntax.specs.Texts.{IsTextFault};
+ghost use Rattle.kahn_syntax.specs.Texts.{IsProper, IsTextFault};
 ghost use Rattle.kahn_notes.specs.Notes.{IsNote, MayFind, found_words, lexeme_words, unexpected_words};
 
-use crate::commented::add_comment;
+use crate::help::add_below;
 use crate::listing::{add_listed, pieces_of};
-use crate::mended::add_help;
 use crate::words::{keyword_words, sign_words};
 use itoa::Buffer;
 use kahn_marks::{add, marked};
 use kahn_streams::NoMemory;
-use kahn_syntax::{Class, Lexeme, Span, What};
+use kahn_syntax::{Class, Lexeme, Span, What, lex};
 use kahn_wanted::{Unexpected, blocks_at, comment_before, mends_at, wanted_at};
 use std::alloc::{AllocError, Global};
 
@@ -66,11 +64,12 @@ fn words_of(
     Ok(words)
 }
 
-/// A note on a place where a text goes wrong: what stands there and what may stand there; what the language has where a habit of others
-/// is found, or else the changes of one lexeme there with which the text is a program, where there are one to seven and the text has
-/// at most 8,192 lexemes: three at most, leaving out the `;` before an `else` alone, and none that puts an operator in the place of a
-/// name, or `print` before a `wait`; which blocks are open, or which statements have none; and which comment before the place ends there
-/// or swallowed something. It refuses only where memory was refused.
+/// A note on a place where a text goes wrong: what stands there and what may stand there; which `end` closed a block too early, or what
+/// the language has where a habit of others is found, or else the changes of one lexeme there with which the text is a program, where
+/// there are one to seven and the text has at most 8,192 lexemes: three at most, leaving out the `;` before an `else` alone, and none
+/// that puts an operator in the place of a name, or `print` before a `wait`; which blocks are open, or which statements have none; and
+/// which comment before the place ends there or swallowed something: that alone, where nothing else stands before it. It refuses only
+/// where memory was refused.
 pub fn unexpected_note(
     alloc: Global,
     path: &str,
@@ -88,7 +87,19 @@ pub fn unexpected_note(
     drop(words);
     let mends = mends_at(alloc, text, span, what)?;
     let blocks = blocks_at(alloc, text, span, what)?;
-    add_help(&mut note, alloc, text, span, &unexpected, &mends, &blocks)?;
-    add_comment(&mut note, alloc, text, span, comment)?;
+    let Ok(lexemes) = lex(alloc, text) else {
+        return Err(NoMemory);
+    };
+    add_below(
+        &mut note,
+        alloc,
+        text,
+        &lexemes,
+        span,
+        &unexpected,
+        &mends,
+        &blocks,
+        comment,
+    )?;
     Ok(note)
 }
