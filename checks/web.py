@@ -1,8 +1,8 @@
-"""The page, in a headless Chromium: reports, faults and pictures compared byte for byte with the programs, and its fields and buttons.
+"""The page, in a headless Chromium: reports, faults, pictures and reasons compared byte for byte with the programs, and its fields and buttons.
 
-    web.py BROWSER PAGE KAHN KAHN_DRAW            runs the rows of checks/rows, the examples and what is refused
-    web.py BROWSER PAGE --opens                   opens the page, which shows a report at once
-    web.py BROWSER PAGE --pictures FOLDER         takes pictures of the page: a report, a fault at its place, a phone by night
+    web.py BROWSER PAGE KAHN KAHN_DRAW KAHN_EXPLAIN   runs the rows of checks/rows, the examples and what is refused
+    web.py BROWSER PAGE --opens                       opens the page, which shows a report at once
+    web.py BROWSER PAGE --pictures FOLDER             takes pictures of the page: a report, a fault at its place, a phone by night
 """
 import base64
 import json
@@ -26,8 +26,8 @@ RUN = """(async () => {
     const base64 = (bytes) => btoa(Array.from(bytes, (it) => String.fromCharCode(it)).join(""));
     const answers = [];
     for (const it of CASES) {
-        const { status, report, picture } = await run(...it);
-        answers.push([status, base64(report), base64(picture)]);
+        const { status, report, picture, reasons } = await run(...it);
+        answers.push([status, base64(report), base64(picture), base64(reasons)]);
     }
     return answers;
 })()"""
@@ -60,8 +60,8 @@ def cases():
                 pass
 
 
-def native(kahn, draw, program, text, bound, folder):
-    """What the programs answer: status, report or fault, and picture where there is one."""
+def native(kahn, draw, explain, program, text, bound, folder):
+    """What the programs answer: status, report or fault, picture where there is one, and why the run stopped or the program is refused."""
     for name, it in (("program", program), ("input", text)):
         with open(f"{folder}/{name}", "w", encoding="utf-8", newline="") as file:
             file.write(it)
@@ -70,7 +70,11 @@ def native(kahn, draw, program, text, bound, folder):
     with open(f"{folder}/report", "wb") as file:
         file.write(ran.stdout)
     drawn = subprocess.run([draw, f"{folder}/program", "--report", f"{folder}/report"], capture_output=True, timeout=60)
-    return ran.returncode, ran.stdout + ran.stderr, drawn.stdout
+    reasons = b""
+    if ran.returncode in (0, 1, 3, 4) and len(program.encode()) <= 1 << 15:
+        about = ["--input", "input"] if ran.stderr.startswith(b"kahn: input ") else ["--report", "report"]
+        reasons = subprocess.run([explain, "program", *about], capture_output=True, timeout=60, cwd=folder).stdout
+    return ran.returncode, ran.stdout + ran.stderr, drawn.stdout, reasons
 
 
 class Tried:
@@ -87,14 +91,14 @@ class Tried:
             print(f"FAILED {name}: {given!r:.300}, wanted {wanted!r:.300}")
 
 
-def compare_rows(page, tried, kahn, draw):
+def compare_rows(page, tried, *programs):
     """Runs the rows in the page, and compares what it tells with what the programs tell."""
     every = list(cases())
     answers = [it for at in range(0, len(every), 50) for it in page.value(RUN.replace("CASES", json.dumps([it[1:] for it in every[at : at + 50]])))]
     with tempfile.TemporaryDirectory() as folder:
-        for (name, *case), (status, report, picture) in zip(every, answers, strict=True):
-            given = status, base64.b64decode(report), base64.b64decode(picture)
-            for part, mine, theirs in zip(("status", "report", "picture"), given, native(kahn, draw, *case, folder)):
+        for (name, *case), (status, *texts) in zip(every, answers, strict=True):
+            given = status, *map(base64.b64decode, texts)
+            for part, mine, theirs in zip(("status", "report", "picture", "reasons"), given, native(*programs, *case, folder)):
                 tried.same(f"{name}, {part}", mine, theirs)
     print(f"{len(every)} rows")
 
@@ -123,6 +127,7 @@ def try_fields(page, path, tried):
     tried.same("its mark", page.value("[at('marks').textContent.length, document.querySelector('mark').textContent]"), [FAULTY.index("B on W") + 1, "B"])
     tried.same("its line", page.value("document.querySelector('#numbers b').textContent"), "5\n")
     page.value("at('place').click()")
+    tried.same("its reason", page.value("at('reasons').textContent.includes('program:5:56')"), True)
     tried.same("its place", page.value("[document.activeElement.id, at('program').selectionStart]"), ["program", FAULTY.index("B on W")])
     fill(page, ENDLESS, "", MOST_BOUND)
     page.value("at('run').click()")

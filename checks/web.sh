@@ -6,10 +6,11 @@ source "$(dirname "${BASH_SOURCE[0]}")/common.sh"
 source "$top/web/page.sh"
 find_program
 find_draw
+find_explain
 
 # One start of a page in fifty or so doesn't come to an answer on a machine that is full of work, so a run has a second try.
 try_page() {
-  timeout 300 python3 "$top/checks/web.py" "$browser" "$page" "$kahn" "$draw" > "$work/said" 2>&1
+  timeout 300 python3 "$top/checks/web.py" "$browser" "$page" "$kahn" "$draw" "$explain" > "$work/said" 2>&1
 }
 
 page=${PAGE:-$top/release/kahn.html}

@@ -3,7 +3,7 @@
     causes.py KAHN_EXPLAIN KAHN [COUNT] [SEED]     the same seed makes the same texts; where none is given it is chosen at random
 
 Who waits on whom is read off the report's end lines and the wiring of reference.py. Whoever has gone as many waits onward as there are
-instances, and still waits on one of them, is in a ring. What is said to be for ever is tried: the interpreter of reference.py runs the
+instances, and still waits on one of them, is in a ring, whose mending is told once. What is said to be for ever is tried: the interpreter of reference.py runs the
 network on a longer input, and each such process has to end there as it did; where it has a fault, the place where that came has to be
 one of those that are told. A difference is printed, and its texts are kept.
 """
@@ -21,7 +21,11 @@ import fuzz
 import reference as ref
 
 WARNED = re.compile(r"[^\n]*:\d+:\d+: warning: ")
-FAULTED = re.compile(r"(?m)^(\d+)( \w+ has a fault, \w+)( at \d+:\d+(?: or at \d+:\d+)*)$")
+PLACE = r"[^\n]*:(\d+:\d+): error: \w+ can have come from here\n[^\n]*\n[^\n]*\n"
+FAULTED = re.compile(rf"(?m)^(\d+)( \w+ has a fault, \w+)\n((?:{PLACE})+)")
+OWN = "\n  = its own queue is empty: let it send before it waits"
+RING = "\n  = where no value ever went round, this ring wants a first one: let one of its processes send before it waits"
+GO_ON = "--bound N with a greater N lets the run go on"
 FOR_EVER = ("ring", "ended", "fault overflow", "fault division")
 
 
@@ -94,29 +98,38 @@ def cause(checked, ends, p):
     return "ring", min(ring)
 
 
-def line_of(checked, ends, p):
-    """What is said of an instance that waits or has a fault."""
+def taken(count):
+    """How many values there were on an input, all of which are taken."""
+    return [", to which nothing came", ", of which the one value is taken"][count] if count < 2 else f", of which all {count} values are taken"
+
+
+def line_of(checked, inputs, ends, p):
+    """What is said of an instance that hasn't ended."""
     def who(z):
         return f"{z + 1} {checked.instances[z][0][1]}"
 
-    word, channel, _ = ends[p]
+    word, channel, events = ends[p]
+    if word == "wants more":
+        return f"{who(p)} wants more, after {events} event{'' if events == 1 else 's'}"
     if channel is None:
         return f"{who(p)} has a fault, {word.split()[1]}"
     name, writer = checked.channels[channel][0], awaited(checked, ends, p)
-    out = f"{who(p)} waits on {name}" + (", an input" if writer is None else f" from {who(writer)}")
+    out = f"{who(p)} waits on {name}" + (", an input" + taken(len(inputs.get(channel, []))) if writer is None else f" from {who(writer)}")
     why, z = cause(checked, ends, p)
     if why == "an input":
         return out if z == p else f"{out}, as {who(z)} waits on {checked.channels[ends[z][1]][0]}, an input"
     if why == "wants more":
         return f"{out}, as {who(z)} wants more events"
-    return f"{out}, as {who(z)} " + {"ring": "is in a deadlock", "ended": "has ended"}.get(why, "has a fault") + ": for ever"
+    advice = OWN if writer == p else RING
+    return f"{out}, as {who(z)} " + {"ring": "is in a deadlock", "ended": "has ended"}.get(why, "has a fault") + ": for ever" + (advice if (why, z) == ("ring", p) else "")
 
 
-def wanted_of(checked, ends, last):
+def wanted_of(checked, inputs, ends, last):
     """The explanation, its status, and the causes."""
     told = [p for p, (word, channel, _) in enumerate(ends) if channel is not None or word.startswith("fault")]
     causes = {p: cause(checked, ends, p) for p in told}
-    text = "".join(line_of(checked, ends, p) + "\n" for p in told) + last + "\n"
+    lines = [line_of(checked, inputs, ends, p) for p, (word, _, _) in enumerate(ends) if word != "ended"]
+    text = "".join(line + "\n" for line in lines + [GO_ON] * last.startswith("stopped by bound") + [last])
     whys = [why for why, _ in causes.values()]
     status = 8 if any(ends[p][0].startswith("fault") for p in told) else 7 if "ring" in whys else 3 if last.startswith("stopped by bound") else 0
     return text, status, causes
@@ -124,8 +137,8 @@ def wanted_of(checked, ends, last):
 
 def without_places(told):
     """The same without the places of faults, and these: the lines and columns by the number of the process."""
-    places = {int(p) - 1: re.findall(r"\d+:\d+", at) for p, _, at in FAULTED.findall(told)}
-    return FAULTED.sub(r"\1\2", told), places
+    places = {int(found.group(1)) - 1: re.findall(PLACE, found.group(3)) for found in FAULTED.finditer(told)}
+    return FAULTED.sub(r"\1\2\n", told), places
 
 
 def lasts(checked, inputs, ends, causes, text, places, rng):
@@ -162,7 +175,7 @@ def one(explain, kahn, room, seed):
         words = [path, "--input", path + ".input", *words, "--workers"]
         ran = subprocess.run([kahn, *words, "1"], stdin=subprocess.DEVNULL, capture_output=True, timeout=60)
         ends, last = ends_of(checked, ran.stdout.decode())
-        wanted, status, causes = wanted_of(checked, ends, last)
+        wanted, status, causes = wanted_of(checked, inputs, ends, last)
         if causes:
             break
         number += 1

@@ -48,7 +48,7 @@ function goTo(place) {
 
 const STATES = ["finished", "program or input refused", "command line refused", "stopped by its bound", "out of memory", "not read or written", "refused"];
 
-function show({ status, report, picture, time }, program) {
+function show({ status, report, picture, reasons, time }, program) {
   const text = new TextDecoder().decode(report);
   const place = placeOf(text, program);
   at("report").textContent = text;
@@ -60,6 +60,8 @@ function show({ status, report, picture, time }, program) {
     at("place").onclick = () => goTo(place);
   }
   mark(place);
+  at("reasons").textContent = new TextDecoder().decode(reasons);
+  at("reasons").hidden = at("why").hidden = reasons.length === 0;
   at("picture").replaceChildren(...drawn(new TextDecoder().decode(picture)));
   at("picture").hidden = at("network").hidden = picture.length === 0;
 }

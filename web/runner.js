@@ -35,19 +35,23 @@ function work() {
     places.forEach((it) => program.done(BigInt(it)));
     return { status, report };
   };
-  const draw = (text, report) => {
-    const places = [put(text), put(report)];
-    const picture = filled((room, size) =>
-      program.kahn_web_draw(places[0], BigInt(text.length), places[1], BigInt(report.length), room, size));
+  // What a call makes of texts.
+  const made = (call, ...texts) => {
+    const places = texts.map(put);
+    const words = texts.flatMap((it, i) => [places[i], BigInt(it.length)]);
+    const bytes = filled((room, size) => call(...words, room, size));
     places.forEach((it) => program.done(BigInt(it)));
-    return picture;
+    return bytes;
   };
   const answer = (data) => {
     const [text, input] = [data.program, data.input].map((it) => new TextEncoder().encode(it));
     const start = performance.now();
     const { status, report } = run(text, input, BigInt(data.bound));
     const time = performance.now() - start;
-    return { status, report, time, picture: draw(text, [0, 3, 4].includes(status) ? report : new Uint8Array(0)) };
+    const kept = [0, 3, 4].includes(status) ? report : new Uint8Array(0);
+    // Longer programs aren't explained: a browser has less of a stack than they want.
+    const reasons = status <= 4 && text.length <= 1 << 15 ? made(program.kahn_web_explain, text, input, kept) : new Uint8Array(0);
+    return { status, report, time, picture: made(program.kahn_web_draw, text, kept), reasons };
   };
   onmessage = async ({ data }) => {
     try {
@@ -87,11 +91,12 @@ function stop(fault) {
   settle?.({ fault });
 }
 
-// One run: its status, the bytes of its report or fault line, those of the network's picture, and the milliseconds that the run took.
+// One run: its status, the bytes of its report or fault line, those of the network's picture and of why it stopped or what is
+// refused, and the milliseconds that the run took.
 async function run(program, input, bound) {
   const made = worker ? {} : await start();
   const answer = made.fault ? made : await asked({ program, input, bound });
   if (answer.fault === undefined) return answer;
   stop("");
-  return { status: 7, report: new TextEncoder().encode(`kahn: ${answer.fault}\n`), picture: new Uint8Array(0), time: 0 };
+  return { status: 7, report: new TextEncoder().encode(`kahn: ${answer.fault}\n`), picture: new Uint8Array(0), reasons: new Uint8Array(0), time: 0 };
 }

@@ -3,22 +3,17 @@
 #![tactic(auto)]
 
 ghost use Rattle.std.specs.Prelude.{◌≡◌, IfOk, string_bytes};
-ghost use Rattle.kahn_explain.specs.Explaining.{path_name};
+ghost use Rattle.kahn_why.specs.Explaining.{path_name};
 
-mod explaining;
-mod laws;
-mod noting;
-mod refusing;
-mod telling;
-mod tracing;
-mod why;
+mod outlet;
 
-use explaining::{Came, explain, explain_report, status, trace};
 use kahn_fault::{Fault, Texts, read_texts, tell};
 use kahn_inputs::{file_words, reading_words, tell_reason};
 use kahn_line::{ExplainOptions, read_explain_line, tell_line, tell_no_memory, tell_words};
 use kahn_pool::Config;
 use kahn_report::{ReadFault, WorkFault};
+use kahn_why::{Came, explain, explain_report, refuse_input, status, trace};
+use outlet::Outlet;
 use std::alloc::{AllocError, Global};
 use std::io::Write;
 use std::process::ExitCode;
@@ -26,7 +21,6 @@ use std::rt::Runtime;
 use std::sync::Wait;
 use std::thread::Threads;
 use std::{env, fs, io};
-use telling::refuse_input;
 
 /// What the texts are called in notes.
 #[derive(Drop)]
@@ -59,31 +53,27 @@ fn or_refused<W: Write>(
     texts: &Texts,
     came: Result<Came, WorkFault>,
     writer: &mut W,
-) -> Result<Came, Fault> {
-    let came = match came {
+) -> Result<Came, WorkFault> {
+    match came {
         Err(WorkFault::Text(fault)) => {
             let program = texts.program.as_str();
             refuse_input(alloc, path, program, texts.input.as_str(), fault, writer)
         }
         came => came,
-    };
-    match came {
-        Ok(came) => Ok(came),
-        Err(fault) => Err(Fault::Work(fault)),
     }
 }
 
-/// Runs the program on the input, and explains on standard output.
-fn explain_texts<R: Runtime + AllocGlobal + Threads + Wait + Sync>(
+/// Runs the program on the input, and explains to the writer.
+fn explain_texts<R: Runtime + AllocGlobal + Threads + Wait + Sync, W: Write>(
     rt: &R,
     paths: &Paths,
     texts: &Texts,
     config: Config,
     strict: bool,
-) -> Result<Came, Fault> {
+    writer: &mut W,
+) -> Result<Came, WorkFault> {
     let program = texts.program.as_str();
     let input = texts.input.as_str();
-    let writer = &mut io::writer(rt);
     let came = explain(
         rt,
         rt.alloc(),
@@ -97,41 +87,32 @@ fn explain_texts<R: Runtime + AllocGlobal + Threads + Wait + Sync>(
     or_refused(rt.alloc(), paths.input.as_str(), texts, came, writer)
 }
 
-/// Explains the run of a report, which stands in the place of the input, on standard output.
-fn report_texts<R: Runtime + AllocGlobal>(
-    rt: &R,
+/// Explains the run of a report, which stands in the place of the input, to the writer.
+fn report_texts<W: Write>(
+    alloc: Global,
     path: &str,
     texts: &Texts,
     strict: bool,
-) -> Result<Came, Fault> {
+    writer: &mut W,
+) -> Result<Came, WorkFault> {
     let program = texts.program.as_str();
     let report = texts.input.as_str();
-    match explain_report(
-        rt.alloc(),
-        path,
-        program,
-        report,
-        strict,
-        &mut io::writer(rt),
-    ) {
-        Ok(came) => Ok(came),
-        Err(fault) => Err(Fault::Work(fault)),
-    }
+    explain_report(alloc, path, program, report, strict, writer)
 }
 
-/// Runs the program on the input, and writes what its channels carried on standard output; and to the writer what is warned of in
-/// it and why the run stopped, or why there is none.
-fn trace_texts<R: Runtime + AllocGlobal + Threads + Wait + Sync, W: Write>(
+/// Runs the program on the input, and writes what its channels carried as a table; and to the writer what is warned of in it and why
+/// the run stopped, or why there is none.
+fn trace_texts<R: Runtime + AllocGlobal + Threads + Wait + Sync, T: Write, W: Write>(
     rt: &R,
     paths: &Paths,
     texts: &Texts,
     config: Config,
     strict: bool,
+    table: &mut T,
     writer: &mut W,
-) -> Result<Came, Fault> {
+) -> Result<Came, WorkFault> {
     let program = texts.program.as_str();
     let input = texts.input.as_str();
-    let table = &mut io::writer(rt);
     let came = trace(
         rt,
         rt.alloc(),
@@ -150,6 +131,7 @@ fn trace_texts<R: Runtime + AllocGlobal + Threads + Wait + Sync, W: Write>(
 fn path_words<R: Runtime>(rt: &R, path: &str) -> &'static str {
     match fs::open(rt, path) {
         Ok(mut file) => reading_words(&mut file),
+        Err(_) if path == "-" => "standard input is /dev/stdin",
         Err(error) => file_words(error.kind()),
     }
 }
@@ -167,6 +149,45 @@ fn unread_words<R: Runtime>(rt: &R, fault: &Fault) -> &'static str {
     }
 }
 
+/// Tells what of a command line does nothing.
+fn tell_unused<W: Write>(options: &ExplainOptions, writer: &mut W) {
+    if options.report.is_none() {
+        return;
+    }
+    // What can't be written here changes no status.
+    if options.trace {
+        let _told = tell_reason("--trace does nothing with --report", writer);
+    }
+    if options.input.is_some() {
+        let _told = tell_reason("--input does nothing with --report", writer);
+    }
+}
+
+/// The status for what the explaining came to. A fault is told to the writer, but for that nobody reads what is explained.
+fn end_status<W: Write>(
+    came: Result<Came, WorkFault>,
+    program: &str,
+    gone: bool,
+    writer: &mut W,
+) -> u8 {
+    match came {
+        Ok(came) => status(came),
+        Err(WorkFault::Write(_)) if gone => 5,
+        Err(fault) => tell(&Err(Fault::Work(fault)), program, writer).status,
+    }
+}
+
+/// Tells why the texts can't be read, and gives the status.
+fn unread_status<R: Runtime, W: Write>(rt: &R, fault: Fault, writer: &mut W) -> u8 {
+    let reason = unread_words(rt, &fault);
+    let status = tell(&Err(fault), "", writer).status;
+    if !reason.is_empty() {
+        // What can't be written here changes no status.
+        let _told = tell_reason(reason, writer);
+    }
+    status
+}
+
 /// Does what the command line asks for, and gives the status. Faults are told to the writer.
 fn answered<R: Runtime + AllocGlobal + Threads + Wait + Sync, W: Write>(
     rt: &R,
@@ -174,31 +195,24 @@ fn answered<R: Runtime + AllocGlobal + Threads + Wait + Sync, W: Write>(
     paths: &Paths,
     writer: &mut W,
 ) -> u8 {
-    let reported = options.report.is_some();
-    match read_texts(rt, options.program, options.report.or(options.input)) {
-        Ok(texts) => {
-            let came = if reported {
-                report_texts(rt, paths.program.as_str(), &texts, options.strict)
-            } else if options.trace {
-                trace_texts(rt, paths, &texts, options.config, options.strict, writer)
-            } else {
-                explain_texts(rt, paths, &texts, options.config, options.strict)
-            };
-            match came {
-                Ok(came) => status(came),
-                Err(fault) => tell(&Err(fault), texts.program.as_str(), writer).status,
-            }
-        }
-        Err(fault) => {
-            let reason = unread_words(rt, &fault);
-            let status = tell(&Err(fault), "", writer).status;
-            if !reason.is_empty() {
-                // What can't be written here changes no status.
-                let _told = tell_reason(reason, writer);
-            }
-            status
-        }
-    }
+    tell_unused(&options, writer);
+    let (config, strict, reported) = (options.config, options.strict, options.report.is_some());
+    let texts = match read_texts(rt, options.program, options.report.or(options.input)) {
+        Ok(texts) => texts,
+        Err(fault) => return unread_status(rt, fault, writer),
+    };
+    let mut out = Outlet {
+        writer: io::writer(rt),
+        gone: false,
+    };
+    let came = if reported {
+        report_texts(rt.alloc(), paths.program.as_str(), &texts, strict, &mut out)
+    } else if options.trace {
+        trace_texts(rt, paths, &texts, config, strict, &mut out, writer)
+    } else {
+        explain_texts(rt, paths, &texts, config, strict, &mut out)
+    };
+    end_status(came, texts.program.as_str(), out.gone, writer)
 }
 
 fn main(rt: HostRuntime) -> ExitCode {

@@ -1,3 +1,4 @@
 pub mod Alone
+pub mod Explained
 pub mod Page
 pub mod Picture

@@ -8,7 +8,7 @@ use Rattle.kahn_fault.specs.declared.fault.Fault.TheVariants.{Open, Program, Inp
 use Rattle.kahn_fault.specs.Status.{status_of}
 use Rattle.kahn_write.specs.declared.bytes.WriteFault.{WriteFault}
 use Rattle.kahn_report.specs.Work.{IsWorked}
-use Rattle.kahn_write.specs.Written.{Writes}
+use Rattle.kahn_streams.specs.Written.{Writes}
 use Rattle.kahn_fault.specs.Telling.{told_text}
 use Rattle.kahn_web.specs.Alone.{alone}
 

@@ -1,15 +1,18 @@
-//! Runs and draws texts for a host that calls in, as a page does: the bytes of a program and an input in, those of a report out; the
-//! bytes of a program and a report in, those of a picture out.
+//! Runs, draws and explains texts for a host that calls in, as a page does: the bytes of a program and an input in, those of a report
+//! out; the bytes of a program and a report in, those of a picture out, or of why the run stopped.
 #![tactic(auto)]
 
+ghost use Rattle.kahn_web.specs.Explained.{IsReasonInto};
 ghost use Rattle.kahn_web.specs.Page.{IsPut, IsRunInto};
 ghost use Rattle.kahn_web.specs.Picture.{IsDrawnInto};
 
 mod alone;
 mod drawing;
+mod explaining;
 mod texts;
 
 use crate::drawing::drawn;
+use crate::explaining::reason;
 use crate::texts::run_texts;
 use std::alloc::Global;
 
@@ -67,6 +70,24 @@ pub extern "C" fn kahn_web_draw(
 {
     match drawn(alloc, program, report) {
         Some(picture) => put(picture.as_bytes(), room),
+        None => 0,
+    }
+}
+
+/// Tells why a program is refused, or else its input where the report is empty, or else why the run of the report stopped. The text is
+/// copied as a report is, and its length is given, which is 0 where there is nothing to tell.
+#[unsafe(no_mangle)]
+pub extern "C" fn kahn_web_explain(
+    alloc: Global,
+    program: &[u8],
+    input: &[u8],
+    report: &[u8],
+    room: &mut [u8],
+) -> u64
+    ensures { IsReasonInto program.now input.now report.now room.old room.new result }
+{
+    match reason(alloc, program, input, report) {
+        Some(text) => put(text.as_slice(), room),
         None => 0,
     }
 }

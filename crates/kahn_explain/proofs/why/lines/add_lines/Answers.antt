@@ -1,9 +1,0 @@
-use Rattle.std.proofs.Common.{rules}
-use Rattle.kahn_chain.specs.declared.standing.Cause.TheVariants.{Input}
-use Rattle.kahn_streams.specs.declared.answer.Outcome.TheVariants.{Ended}
-use Rattle.kahn_explain.proofs.Lined.{of_network}
-use Rattle.kahn_explain.proofs.why.lines.add_lines.Goals as goal
-
-pub add_line-requires : goal.add_line-requires
-add_line-requires c =
-    of_network c.args.network.now c.args.ends.now c.args.causes.now c.loop-instance.instance (record { outcome = Ended; events = 0 }) (Input 0 0) c.requires (search rules)

@@ -1,0 +1,61 @@
+-- Believed. The note on why a program text is refused.
+use Rattle.std.specs.Prelude.{◌≡◌, ◌++◌, ℕ, List, Option, Some, None, Err, MatchOption, string_bytes}
+use Rattle.std.specs.declared.alloc.Global.{Global}
+use Rattle.std.specs.declared.string.String.{String}
+use Rattle.kahn_streams.specs.declared.span.Span.{Span}
+use Rattle.kahn_streams.specs.declared.tree.Program.{Program}
+use Rattle.kahn_streams.specs.declared.fault.CheckFault.{CheckFault}
+use Rattle.kahn_streams.specs.Faults.{verdict, faults}
+use Rattle.kahn_check.specs.Parts.{faults_by_part}
+use Rattle.kahn_syntax.specs.declared.fault.What.{What}
+use Rattle.kahn_syntax.specs.declared.fault.SyntaxFault.{SyntaxFault}
+use Rattle.kahn_syntax.specs.declared.fault.SyntaxFault.TheVariants.{Expected}
+use Rattle.kahn_report.specs.declared.working.WorkFault.{WorkFault}
+use Rattle.kahn_report.specs.declared.working.WorkFault.TheVariants.{Syntax, Check, Text, Run, Write}
+use Rattle.kahn_fault.specs.Message.{check_span, syntax_span, syntax_words}
+use Rattle.kahn_notes.specs.Characters.{character_help}
+use Rattle.kahn_notes.specs.Notes.{IsCommented, IsNote}
+use Rattle.kahn_wanted.specs.Comments.{AreComments}
+use Rattle.kahn_report.specs.Work.{IsParsed, IsUnchecked}
+use Rattle.kahn_why.specs.Noting.{faults_text}
+
+-- the place and the reason, where a lexeme can't stand or the text ends too early
+abbrev pub expected_of : SyntaxFault → Option (Span × What)
+expected_of (Expected span what) = Some (span, what)
+expected_of _ = None
+
+-- the words of a fault, with what the language has in the place of a character that it hasn't
+abbrev pub refused_words : List ℕ → SyntaxFault → List ℕ
+refused_words program f = syntax_words f ++ character_help program f
+
+-- at its place, where it has one, with a comment before it that has to do with it
+abbrev pub IsPlacedNote : List ℕ → List ℕ → SyntaxFault → Option (String Global) → Type 0
+IsPlacedNote path program f note = MatchOption (syntax_span f) (note ≡ None)
+    (λ span. (words : String Global) × (note ≡ Some words) × IsCommented path program span (refused_words program f) (string_bytes words))
+
+-- of such a lexeme it says what may stand there; else it has the words of the fault, where that has a place
+abbrev pub IsSyntaxRefusal : List ℕ → List ℕ → SyntaxFault → Option (String Global) → Type 0
+IsSyntaxRefusal path program f note = MatchOption (expected_of f)
+    (IsPlacedNote path program f note)
+    (λ e. (words : String Global) × (note ≡ Some words) × IsNote path program e.0 e.1 words)
+
+-- of a fault of the network: the text spells a program whose first fault it is, and the note tells the parts of that program
+abbrev pub IsNetworkNote : List ℕ → List ℕ → CheckFault → String Global → Type 0
+IsNetworkNote path program f words = (t : Program) × (cs : List Span) × IsParsed program t × AreComments program 0 cs × (verdict (faults t) (tt {0}) ≡ Err f)
+    × (string_bytes words ≡ faults_text path program t cs (faults_by_part t))
+
+-- where it has a place
+abbrev pub IsCheckRefusal : List ℕ → List ℕ → CheckFault → Option (String Global) → Type 0
+IsCheckRefusal path program f note = MatchOption note (check_span f ≡ None) (IsNetworkNote path program f)
+
+-- the note on a fault, where it has a place
+abbrev pub IsRefusal : List ℕ → List ℕ → WorkFault → Option (String Global) → Type 0
+IsRefusal path program (Syntax f) note = IsSyntaxRefusal path program f note
+IsRefusal path program (Check f) note = IsCheckRefusal path program f note
+IsRefusal path program (Text f) note = note ≡ None
+IsRefusal path program (Run f) note = note ≡ None
+IsRefusal path program (Write f) note = note ≡ None
+
+-- of the first fault of this very text
+abbrev pub IsNoteOn : List ℕ → List ℕ → String Global → Type 0
+IsNoteOn path program note = (f : WorkFault) × IsUnchecked program f × IsRefusal path program f (Some note)

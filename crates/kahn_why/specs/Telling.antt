@@ -1,0 +1,30 @@
+-- Believed. What telling why an input text is refused does.
+use Rattle.std.specs.Prelude.{◌≡◌, ℕ, List, Option, Some, None, Result, Ok, Err, string_bytes}
+use Rattle.std.specs.declared.alloc.Global.{Global}
+use Rattle.std.specs.declared.string.String.{String}
+use Rattle.std.specs.Io.KnownBytes.{Appends}
+use Rattle.kahn_streams.specs.declared.tree.Program.{Program}
+use Rattle.kahn_streams.specs.declared.fault.RunFault.TheVariants.{NoMemory}
+use Rattle.kahn_report.specs.Work.{IsChecked, IsUnchecked}
+use Rattle.kahn_streams.specs.Written.{AppendsFront}
+use Rattle.kahn_report.specs.declared.input.TextFault.{TextFault}
+use Rattle.kahn_report.specs.declared.working.WorkFault.{WorkFault}
+use Rattle.kahn_report.specs.declared.working.WorkFault.TheVariants.{Syntax, Check, Text, Run, Write}
+use Rattle.kahn_inputs.specs.Feeding.{IsInputNote}
+use Rattle.kahn_why.specs.declared.explaining.Came.{Came}
+use Rattle.kahn_why.specs.declared.explaining.Came.TheVariants.{Stopped, Refused}
+
+-- the note on a fault of the input text, for the network of the program text
+abbrev pub IsNoteFor : List ℕ → List ℕ → List ℕ → TextFault → Option (String Global) → Type 0
+IsNoteFor path program text fault note = (t : Program) × IsChecked program t × IsInputNote t path text fault note
+
+-- the note went out, or why not; the fault is answered where it has no place
+abbrev pub HasToldInput : List ℕ → List ℕ → List ℕ → TextFault → Option (List ℕ) → Option (List ℕ) → Result Came WorkFault → Type 0
+HasToldInput path program text fault old new (Ok (Stopped x)) = ⊥
+HasToldInput path program text fault old new (Ok Refused) = (note : String Global) × IsNoteFor path program text fault (Some note) × Appends old new (string_bytes note)
+HasToldInput path program text fault old new (Err (Syntax f)) = IsUnchecked program (Syntax f) × (new ≡ old)
+HasToldInput path program text fault old new (Err (Check f)) = IsUnchecked program (Check f) × (new ≡ old)
+HasToldInput path program text fault old new (Err (Text f)) = (f ≡ fault) × IsNoteFor path program text fault None × (new ≡ old)
+HasToldInput path program text fault old new (Err (Run f)) = (f ≡ NoMemory) × (new ≡ old)
+HasToldInput path program text fault old new (Err (Write f)) =
+    (note : String Global) × IsNoteFor path program text fault (Some note) × AppendsFront old new (string_bytes note)

@@ -1,0 +1,60 @@
+-- Inner. What the parts of explaining do.
+use Rattle.std.specs.Prelude.{◌≡◌, ◌⊎◌, ℕ, Bool, true, false, List, [], Option, None, Result, Ok, Err, string_bytes}
+use Rattle.std.specs.Io.KnownBytes.{Appends}
+use Rattle.kahn_streams.specs.declared.fault.RunFault.TheVariants.{NoMemory}
+use Rattle.kahn_report.specs.Work.{IsChecked, IsUnchecked}
+use Rattle.kahn_streams.specs.Written.{AppendsFront}
+use Rattle.kahn_write.specs.declared.bytes.WriteFault.{WriteFault}
+use Rattle.kahn_warnings.specs.Telling.{AreWarningNotes}
+use Rattle.kahn_report.specs.declared.working.WorkFault.{WorkFault}
+use Rattle.kahn_report.specs.declared.working.WorkFault.TheVariants.{Syntax, Check, Text, Run, Write}
+use Rattle.kahn_streams.specs.declared.config.Config.{Config}
+use Rattle.kahn_why.specs.Explaining.{HasExplained, IsRefusedFor}
+use Rattle.kahn_why.specs.Reporting.{HasReported}
+use Rattle.kahn_why.specs.Tracing.{HasTraced}
+use Rattle.kahn_why.specs.Refusing.{IsRefusal}
+use Rattle.kahn_why.specs.declared.explaining.Admitted.{Admitted}
+use Rattle.kahn_why.specs.declared.explaining.Came.{Came}
+use Rattle.kahn_why.specs.declared.explaining.Came.TheVariants.{Stopped, Refused}
+
+-- the text went out, and that came of it; or a fault of the writer
+abbrev pub HasWritten : List ℕ → Came → Option (List ℕ) → Option (List ℕ) → Result Came WorkFault → Type 0
+HasWritten text came old new r = ((r ≡ Ok came) × Appends old new text) ⊎ ((f : WriteFault) × (r ≡ Err (Write f)) × AppendsFront old new text)
+
+-- it is asked to be strict, and there are notes; or it isn't, or there are none
+abbrev pub IsStrictAbout : Bool → List ℕ → Bool → Type 0
+IsStrictAbout strict notes true = (strict ≡ true) × (notes ≡ [] → ⊥)
+IsStrictAbout strict notes false = strict ≡ true → notes ≡ []
+
+-- the network of the program text, which isn't refused, and the notes on what is warned of in it
+pub record IsAdmitted (path program : List ℕ) (strict : Bool) (x : Admitted) : Type 0 where
+  pub checked : IsChecked program x.network
+  pub notes : AreWarningNotes path program x.network (string_bytes x.notes)
+  pub none : strict ≡ true → string_bytes x.notes ≡ []
+
+-- why the program text is refused went out, or why not
+abbrev pub HasRefused : List ℕ → List ℕ → Bool → Option (List ℕ) → Option (List ℕ) → Result Came WorkFault → Type 0
+HasRefused path program strict old new (Ok (Stopped x)) = ⊥
+HasRefused path program strict old new (Ok Refused) = (text : List ℕ) × IsRefusedFor path program strict text × Appends old new text
+HasRefused path program strict old new (Err (Syntax f)) = IsUnchecked program (Syntax f) × IsRefusal path program (Syntax f) None × (new ≡ old)
+HasRefused path program strict old new (Err (Check f)) = IsUnchecked program (Check f) × IsRefusal path program (Check f) None × (new ≡ old)
+HasRefused path program strict old new (Err (Text f)) = ⊥
+HasRefused path program strict old new (Err (Run f)) = (f ≡ NoMemory) × (new ≡ old)
+HasRefused path program strict old new (Err (Write f)) = (text : List ℕ) × IsRefusedFor path program strict text × AppendsFront old new text
+
+-- it isn't, and nothing was written; or it is
+abbrev pub HasAdmitted : List ℕ → List ℕ → Bool → Option (List ℕ) → Option (List ℕ) → Result Admitted (Result Came WorkFault) → Type 0
+HasAdmitted path program strict old new (Ok x) = IsAdmitted path program strict x × (new ≡ old)
+HasAdmitted path program strict old new (Err r) = HasRefused path program strict old new r
+
+-- what became of an admitted program: of its run, of a report, of a table
+abbrev pub HasToldRun : List ℕ → List ℕ → Admitted → List ℕ → Config → Option (List ℕ) → Option (List ℕ) → Result Came WorkFault → Type 0
+HasToldRun path program x input config old new r = (strict : Bool) → IsAdmitted path program strict x → HasExplained path program input config strict old new r
+
+abbrev pub HasToldReport : List ℕ → List ℕ → Admitted → List ℕ → Option (List ℕ) → Option (List ℕ) → Result Came WorkFault → Type 0
+HasToldReport path program x report old new r = (strict : Bool) → IsAdmitted path program strict x → HasReported path program report strict old new r
+
+abbrev pub HasTabled :
+    List ℕ → List ℕ → Admitted → List ℕ → Config → Option (List ℕ) → Option (List ℕ) → Option (List ℕ) → Option (List ℕ) → Result Came WorkFault → Type 0
+HasTabled path program x input config table made old new r =
+    (strict : Bool) → IsAdmitted path program strict x → HasTraced path program input config strict table made old new r

@@ -1,0 +1,137 @@
+//! The notes on what is wrong with the network that a program text spells.
+
+ghost use Rattle.std.specs.Prelude.{◌≡◌, ◌++◌, IfOk, string_bytes};
+ghost use Rattle.kahn_why.specs.Noting.{counted_text, faults_text, further_text, held_words, note_text, notes_text, unsaid_text};
+
+use itoa::Buffer;
+use kahn_check::CheckFault;
+use kahn_fault::{check_span, check_words};
+use kahn_hints::check_note;
+use kahn_marks::add;
+use kahn_notes::held_remark;
+use kahn_streams::{NoMemory, Program, Span};
+use std::alloc::{AllocError, Global};
+
+/// The most faults on which there is a note.
+const MOST_NOTES: usize = 20;
+
+/// What is said below the note on a name that isn't declared: of the comment that holds its declaration.
+fn held_words(
+    alloc: Global,
+    program: &str,
+    comments: &[Span],
+    fault: CheckFault,
+) -> Result<String, AllocError>
+    ensures { IfOk result (λ words. string_bytes words ≡ held_words program.now comments.now fault) }
+{
+    match fault {
+        CheckFault::Unknown(span) => held_remark(alloc, program, span, comments),
+        _ => Ok(String::new(alloc)),
+    }
+}
+
+/// Adds the note on a fault, where that has a place.
+fn add_note(
+    notes: &mut String,
+    alloc: Global,
+    path: &str,
+    program: &str,
+    tree: &Program,
+    comments: &[Span],
+    fault: CheckFault,
+) -> Result<(), NoMemory>
+    ensures { IfOk result (λ _. string_bytes notes.new ≡ string_bytes notes.old ++ note_text path.now program.now tree.now comments.now fault) }
+{
+    let Some(span) = check_span(fault) else {
+        return Ok(());
+    };
+    let note = check_note(alloc, path, program, tree, fault, span, check_words(fault))?;
+    notes.push_str(note.as_str())?;
+    let held = held_words(alloc, program, comments, fault)?;
+    notes.push_str(held.as_str())?;
+    Ok(())
+}
+
+/// Adds the notes on further faults, with a blank line before each.
+#[tactic(auto, using(crate::proofs::Noted::one_further))]
+fn add_further(
+    notes: &mut String,
+    alloc: Global,
+    path: &str,
+    program: &str,
+    tree: &Program,
+    comments: &[Span],
+    faults: &[CheckFault],
+) -> Result<(), NoMemory>
+    ensures { IfOk result (λ _. string_bytes notes.new ≡ string_bytes notes.old ++ further_text path.now program.now tree.now comments.now faults.now) }
+{
+    for fault in faults {
+        notes.push_str("\n")?;
+        add_note(notes, alloc, path, program, tree, comments, *fault)?;
+    }
+    Ok(())
+}
+
+/// Adds the notes on faults, with a blank line between.
+fn add_notes(
+    notes: &mut String,
+    alloc: Global,
+    path: &str,
+    program: &str,
+    tree: &Program,
+    comments: &[Span],
+    faults: &[CheckFault],
+) -> Result<(), NoMemory>
+    ensures { IfOk result (λ _. string_bytes notes.new ≡ string_bytes notes.old ++ notes_text path.now program.now tree.now comments.now faults.now) }
+{
+    match faults.split_first() {
+        None => Ok(()),
+        Some((first, others)) => {
+            add_note(notes, alloc, path, program, tree, comments, *first)?;
+            add_further(notes, alloc, path, program, tree, comments, others)
+        }
+    }
+}
+
+/// Adds that there are so many faults more.
+fn add_count(notes: &mut String, more: usize) -> Result<(), AllocError>
+    ensures { IfOk result (λ _. string_bytes notes.new ≡ string_bytes notes.old ++ counted_text more) }
+{
+    let mut digits = Buffer::new();
+    let more = digits.format(more);
+    add(notes, &["\nand ", more, " faults more\n"])
+}
+
+/// Adds how many faults more there are than were told.
+#[tactic(auto, using(crate::proofs::Noted::counted))]
+fn add_more(notes: &mut String, more: usize) -> Result<(), AllocError>
+    ensures { IfOk result (λ _. string_bytes notes.new ≡ string_bytes notes.old ++ unsaid_text more) }
+{
+    if more == 0 {
+        return Ok(());
+    }
+    if more == 1 {
+        return notes.push_str("\nand 1 fault more\n");
+    }
+    add_count(notes, more)
+}
+
+/// The notes on the faults of a program whose text has these comments, of at most 20 of them, and how many more there are. It refuses
+/// only where memory was refused.
+#[tactic(auto, using(crate::proofs::Noted::first_notes, crate::proofs::Noted::last_notes))]
+pub(crate) fn faults_note(
+    alloc: Global,
+    path: &str,
+    program: &str,
+    tree: &Program,
+    comments: &[Span],
+    faults: &[CheckFault],
+) -> Result<String, NoMemory>
+    ensures { IfOk result (λ notes. string_bytes notes ≡ faults_text path.now program.now tree.now comments.now faults.now) }
+{
+    let (told, more) = faults.split_at(MOST_NOTES.min(faults.len()));
+    let mut notes = String::new(alloc);
+    add_notes(&mut notes, alloc, path, program, tree, comments, told)?;
+    add_more(&mut notes, more.len())?;
+    Ok(notes)
+}

@@ -1,0 +1,122 @@
+//! Why a program text is refused, as a note on the place.
+
+ghost use Rattle.std.specs.Prelude.{◌≡◌, IfOk, MatchOption, None, string_bytes};
+ghost use Rattle.kahn_report.specs.Work.{IsUnchecked};
+ghost use Rattle.kahn_syntax.specs.Texts.{IsTextFault as IsSyntaxFault};
+ghost use Rattle.kahn_fault.specs.Message.{check_span};
+ghost use Rattle.kahn_why.specs.Refusing.{IsNoteOn, IsPlacedNote, IsRefusal, IsSyntaxRefusal, expected_of, refused_words};
+
+use crate::noting::faults_note;
+use kahn_check::{CheckFault, every, part_by_part};
+use kahn_fault::{check_span, syntax_span, syntax_words};
+use kahn_notes::{character_help, commented_note, unexpected_note};
+use kahn_report::WorkFault;
+use kahn_streams::{NoMemory, Span};
+use kahn_syntax::{SyntaxFault, What, parse};
+use kahn_wanted::comments_of;
+use std::alloc::{AllocError, Global};
+
+/// The words of a fault of a program text, with what the language has in the place of such a character.
+fn refused_words(alloc: Global, program: &str, fault: SyntaxFault) -> Result<String, AllocError>
+    ensures { IfOk result (λ words. string_bytes words ≡ refused_words program.now fault) }
+{
+    let mut words = String::from_str(alloc, syntax_words(fault))?;
+    words.push_str(character_help(program, fault))?;
+    Ok(words)
+}
+
+/// A note with the words of a fault, where that has a place.
+fn placed_note(
+    alloc: Global,
+    path: &str,
+    program: &str,
+    fault: SyntaxFault,
+) -> Result<Option<String>, NoMemory>
+    ensures { IfOk result (IsPlacedNote path.now program.now fault) }
+{
+    match syntax_span(fault) {
+        Some(span) => {
+            let words = refused_words(alloc, program, fault)?;
+            let note = commented_note(alloc, path, program, span, words.as_str())?;
+            Ok(Some(note))
+        }
+        None => Ok(None),
+    }
+}
+
+/// The place and the reason, where a lexeme can't stand or the text ends too early.
+fn expected_of(fault: SyntaxFault) -> Option<(Span, What)>
+    ensures { result ≡ expected_of fault }
+{
+    match fault {
+        SyntaxFault::Expected(span, what) => Some((span, what)),
+        _ => None,
+    }
+}
+
+/// The note on a fault of the text, where it has a place.
+fn syntax_note(
+    alloc: Global,
+    path: &str,
+    program: &str,
+    fault: SyntaxFault,
+) -> Result<Option<String>, NoMemory>
+    requires { IsSyntaxFault program.now fault }
+    ensures { IfOk result (IsSyntaxRefusal path.now program.now fault) }
+{
+    match expected_of(fault) {
+        Some((span, what)) => {
+            let note = unexpected_note(alloc, path, program, span, what)?;
+            Ok(Some(note))
+        }
+        None => placed_note(alloc, path, program, fault),
+    }
+}
+
+/// The notes on what is wrong with the network of a program text, where its first fault has a place.
+fn network_note(
+    alloc: Global,
+    path: &str,
+    program: &str,
+    fault: CheckFault,
+) -> Result<Option<String>, NoMemory>
+    ensures { IfOk result (λ note. MatchOption note (check_span fault ≡ None) (IsNoteOn path.now program.now)) }
+{
+    if check_span(fault).is_none() {
+        return Ok(None);
+    }
+    // A text that was checked is refused for want of memory alone, and what it spells has a fault.
+    let Ok(tree) = parse(alloc, program) else {
+        return Err(NoMemory);
+    };
+    let faults = every(alloc, &tree)?;
+    if faults.is_empty() {
+        return Err(NoMemory);
+    }
+    part_by_part();
+    let comments = comments_of(alloc, program)?;
+    let note = faults_note(alloc, path, program, &tree, &comments, &faults)?;
+    Ok(Some(note))
+}
+
+/// The note on a fault of a program text, where it has a place: what stands there and what may stand there, or the words of
+/// the fault with what is wanted and what is found, the nearest name, and another place that has to do with it. Of a network each
+/// part that has a fault is told. It refuses only where memory was refused.
+#[tactic(auto, using(crate::proofs::Refused::told_syntax))]
+pub(crate) fn refusal_note(
+    alloc: Global,
+    path: &str,
+    program: &str,
+    fault: WorkFault,
+) -> Result<Option<String>, NoMemory>
+    requires { IsUnchecked program.now fault }
+    ensures { IfOk result (λ note. MatchOption note (IsRefusal path.now program.now fault None) (IsNoteOn path.now program.now)) }
+{
+    match fault {
+        WorkFault::Syntax(fault) => syntax_note(alloc, path, program, fault),
+        WorkFault::Check(fault) => network_note(alloc, path, program, fault),
+        WorkFault::Text(_) => Ok(None),
+        WorkFault::Run(_) => Ok(None),
+        WorkFault::Write(_) => Ok(None),
+    }
+}

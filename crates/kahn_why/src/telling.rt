@@ -1,0 +1,36 @@
+//! Tells why an input text is refused.
+
+ghost use Rattle.kahn_why.specs.Telling.{HasToldInput};
+
+use crate::explaining::Came;
+use kahn_inputs::input_note;
+use kahn_pool::RunFault;
+use kahn_report::{TextFault, WorkFault, checked, write_line};
+use kahn_streams::NoMemory;
+use std::alloc::Global;
+use std::io::Write;
+
+/// Writes why an input text is refused, where that has a place; the fault is answered where it has none.
+pub fn refuse_input<W: Write>(
+    alloc: Global,
+    path: &str,
+    program: &str,
+    text: &str,
+    fault: TextFault,
+    writer: &mut W,
+) -> Result<Came, WorkFault>
+    ensures { HasToldInput path.now program.now text.now fault (W.contents writer.old) (W.contents writer.new) result }
+{
+    let network = match checked(alloc, program) {
+        Ok(network) => network,
+        Err(fault) => return Err(fault),
+    };
+    match input_note(alloc, path, &network, text, fault) {
+        Ok(Some(note)) => match write_line(writer, &[note.as_bytes()]) {
+            Ok(()) => Ok(Came::Refused),
+            Err(fault) => Err(WorkFault::Write(fault)),
+        },
+        Ok(None) => Err(WorkFault::Text(fault)),
+        Err(NoMemory) => Err(WorkFault::Run(RunFault::NoMemory)),
+    }
+}

@@ -1,0 +1,62 @@
+//! Where in its process a fault of arithmetic can have come from.
+
+ghost use Rattle.std.specs.Prelude.{◌≡◌, ◌<◌, ◌++◌, IfOk, length, string_bytes};
+ghost use Rattle.kahn_why.specs.Words.{here_words, instance_body, marks_text, places_text};
+
+use kahn_marks::marked;
+use kahn_streams::{Failure, Network, Span, Statement};
+use kahn_warnings::fault_places;
+use std::alloc::{AllocError, Global};
+
+/// The statements of the process of an instance.
+fn instance_body(network: &Network, instance: usize) -> &[Statement]
+    requires { instance < length network.now.instances.items }
+    ensures { result.now ≡ instance_body network.now instance }
+{
+    &network.instance(instance).process.statements
+}
+
+/// What is said of a place that a fault can have come from.
+fn from_here(kind: Failure) -> &'static str
+    ensures { result.now ≡ here_words kind }
+{
+    match kind {
+        Failure::Overflow => "overflow can have come from here",
+        Failure::Division => "division can have come from here",
+    }
+}
+
+/// Adds notes on places.
+fn add_notes(
+    text: &mut String,
+    alloc: Global,
+    path: &str,
+    program: &str,
+    words: &str,
+    places: &[Span],
+) -> Result<(), AllocError>
+    ensures { IfOk result (λ _. string_bytes text.new ≡ string_bytes text.old ++ marks_text path.now program.now words.now places.now) }
+{
+    for place in places {
+        let note = marked(alloc, path, program, *place, words)?;
+        text.push_str(note.as_str())?;
+    }
+    Ok(())
+}
+
+/// Adds notes on all places in the program text that a fault of an instance can have come from.
+pub(crate) fn add_places(
+    text: &mut String,
+    alloc: Global,
+    path: &str,
+    program: &str,
+    network: &Network,
+    instance: usize,
+    kind: Failure,
+) -> Result<(), AllocError>
+    requires { instance < length network.now.instances.items }
+    ensures { IfOk result (λ _. string_bytes text.new ≡ string_bytes text.old ++ places_text path.now program.now network.now instance kind) }
+{
+    let places = fault_places(alloc, kind, instance_body(network, instance))?;
+    add_notes(text, alloc, path, program, from_here(kind), &places)
+}
