@@ -76,7 +76,7 @@ send '' 'A: 3 4' 'A:'
 wants "a blank line and two values" 'B: 6 8'
 send 'Z: 1' 'B: 1' 'A: true' 'A: 1 x' 'A 1' 'A: 5' $'A: 6\r'
 wants "lines that are refused" 'B: 10' 'B: 12'
-ends "doubling" 1 'kahn: input line 6: no such channel\nkahn: input line 7: not an input channel\nkahn: input line 8: kind does not agree\nkahn: input line 9: not a value\nkahn: input line 10: not a name and a colon\n' \
+ends "doubling" 1 "$double"': input line 6: no such channel\n'"$double"': input line 7: not an input channel\n'"$double"': input line 8: kind does not agree\n'"$double"': input line 9: not a value\n'"$double"': input line 10: not a name and a colon\n' \
   'end 1 double: waits on A after 19' 'finished 19'
 
 for quantum in 1 2 1000; do
@@ -113,23 +113,23 @@ gives "a print stream" 0 'print 1 add: 1\nprint 1 add: 3 6\nend 1 add: waits on 
 
 # lines that aren't text, and that are too long
 printf 'A: 1\200\nA: 7\n' > lines
-gives "a line that isn't UTF-8" 1 'B: 14\nend 1 double: waits on A after 4\nfinished 4\n' 'kahn: input line 1: not UTF-8\n' "$double" < lines
+gives "a line that isn't UTF-8" 1 'B: 14\nend 1 double: waits on A after 4\nfinished 4\n' "$double"': input line 1: not UTF-8\n' "$double" < lines
 { printf 'A: 1' && head -c 16777213 /dev/zero | tr '\0' ' ' && printf '\nA: 7\n'; } > lines
-gives "a line that is too long" 1 'B: 14\nend 1 double: waits on A after 4\nfinished 4\n' 'kahn: input line 1: line is too long\n' "$double" < lines
+gives "a line that is too long" 1 'B: 14\nend 1 double: waits on A after 4\nfinished 4\n' "$double"': input line 1: line is too long\n' "$double" < lines
 { printf 'A: 1' && head -c 16777212 /dev/zero | tr '\0' ' ' && printf '\nA: 7\n'; } > lines
 gives "the longest line" 0 'B: 2\nB: 14\nend 1 double: waits on A after 7\nfinished 7\n' '' "$double" < lines
 
 # a refused line makes the status 1 and no other one less, and may be told to leave it
 printf 'A: 1\nA: x\nA: 3\n' > lines
-told='kahn: input line 2: not a value\n'
+told="$double"': input line 2: not a value\n'
 gives "a refused line" 1 'B: 2\nB: 6\nend 1 double: waits on A after 7\nfinished 7\n' "$told" "$double" < lines
 gives "a refused line that is passed over" 0 'B: 2\nB: 6\nend 1 double: waits on A after 7\nfinished 7\n' "$told" "$double" --keep-going < lines
 gives "a refused line, and a step used up" 3 'W: 0\nend 1 count: wants more after 3\nstopped by bound 3\n' \
-  'kahn: input line 1: not a name and a colon\n' "$count" --step 3 <<< 'no line'
+  "$count"': input line 1: not a name and a colon\n' "$count" --step 3 <<< 'no line'
 
 # a byte order mark before the first line alone
 printf '\357\273\277A: 1\r\n\357\273\277A: 2\r\n' > lines
-gives "a byte order mark" 1 'B: 2\nend 1 double: waits on A after 4\nfinished 4\n' 'kahn: input line 2: not a name and a colon\n' "$double" < lines
+gives "a byte order mark" 1 'B: 2\nend 1 double: waits on A after 4\nfinished 4\n' "$double"': input line 2: not a name and a colon\n' "$double" < lines
 
 # lines that are fed at the end: in order, with the numbers behind the last one's, and refused as others are
 cat > runs.kahn <<'P'
@@ -151,7 +151,7 @@ gives "an end mark" 0 'RUNS: 2 7\nRUNS: 1 9\nend 1 encode: ended after 12\nfinis
 gives "several lines at the end" 0 'B: 2\nB: 4\nB: 6 8\nend 1 double: waits on A after 13\nfinished 13\n' '' \
   "$double" --at-end A=2 --at-end 'A=3 4' <<< 'A: 1'
 gives "lines at the end that are refused" 1 'B: 2\nB: 4\nend 1 double: waits on A after 7\nfinished 7\n' \
-  'kahn: input line 2: no such channel\nkahn: input line 3: not an input channel\nkahn: input line 4: kind does not agree\nkahn: input line 5: not a value\nkahn: input line 6: not a name and a colon\n' \
+  "$double"': input line 2: no such channel\n'"$double"': input line 3: not an input channel\n'"$double"': input line 4: kind does not agree\n'"$double"': input line 5: not a value\n'"$double"': input line 6: not a name and a colon\n' \
   "$double" --at-end Z=1 --at-end B=1 --at-end A=true --at-end A=1=2 --at-end A --at-end A=2 <<< 'A: 1'
 
 # values alone: of the first stream or of the one that is named, as they come
@@ -165,12 +165,37 @@ printf '\357\273\2771\r\n2' > lines
 gives "values alone behind a byte order mark" 0 '2\n4\n' '' "$double" --plain A,B < lines
 gives "the values of the input alone" 0 '1\n2\n' '' "$double" --plain A,A < lines
 gives "values alone, and an end mark" 0 '2\n7\n1\n9\n' '' runs.kahn --plain RAW --at-end RAW=-1 <<< '7 7 9'
-gives "a line of values that is refused" 1 '2\n6\n' 'kahn: input line 2: not a value\nend 1 double: waits on A after 7\nfinished 7\n' "$double" --plain A <<< $'1\nA: 2\n3'
-gives "a line of values that is passed over" 0 '2\n6\n' 'kahn: input line 2: not a value\n' "$double" --plain A --keep-going <<< $'1\n2 x\n3'
-gives "values alone, and no such input" 6 '' 'kahn: input line 0: no such channel\n' "$double" --plain Z <<< '1'
-gives "values alone, and an output for the input" 6 '' 'kahn: input line 0: not an input channel\n' "$double" --plain B <<< '1'
-gives "values alone, and no name" 6 '' 'kahn: input line 0: not a name and a colon\n' "$double" --plain ,B <<< '1'
+gives "a line of values that is refused" 1 '2\n6\n' "$double"': input line 2: not a value\nend 1 double: waits on A after 7\nfinished 7\n' "$double" --plain A <<< $'1\nA: 2\n3'
+gives "a line of values that is passed over" 0 '2\n6\n' "$double"': input line 2: not a value\n' "$double" --plain A --keep-going <<< $'1\n2 x\n3'
+hint=': bare numbers are taken with --plain A\n'
+gives "values alone, and no such input" 6 '' "$double"': --plain: no such channel\n'"$double$hint" "$double" --plain Z <<< '1'
+gives "values alone, and an output for the input" 6 '' "$double"': --plain: not an input channel\n'"$double$hint" "$double" --plain B <<< '1'
+gives "values alone, and no name" 6 '' "$double"': --plain: not a name and a colon\n'"$double$hint" "$double" --plain ,B <<< '1'
 gives "values alone, and no such output" 6 '' 'kahn: watched channel is not declared\n' "$double" --plain A,Z <<< '1'
+gives "values alone, and one behind them" 0 '2\n14\n' '' "$double" --plain A --at-end 7 <<< '1'
+
+# lines that are refused one behind the other for one reason are told of by the first and by how many they are more
+seq 4 > lines
+gives "bare numbers" 1 'end 1 double: waits on A after 1\nfinished 1\n' \
+  "$double"': input line 1: not a name and a colon\n'"$double$hint$double"': and 3 lines more like it\n' "$double" < lines
+printf 'HEAT\n1\nA: 1\n2\n3\nA: x\nA: y\n' > lines
+gives "lines that are refused for several reasons" 1 'B: 2\nend 1 double: waits on A after 4\nfinished 4\n' \
+  "$double"': input line 1: not a name and a colon\n'"$double"': input line 2: not a name and a colon\n'"$double$hint$double"': input line 4: not a name and a colon\n'"$double"': and 1 line more like it\n'"$double"': input line 6: not a value\n'"$double"': and 1 line more like it\n' \
+  "$double" < lines
+
+# no line can change the run any more, though processes wait
+cat > control.kahn <<'P'
+begin integer input channel SET; integer channel Y, E, U; integer output channel OUTP;
+  process err(integer in R, Y; integer out E); begin repeat send wait(R) - wait(Y) on E end;
+  process ctl(integer in E; integer out U); begin repeat send wait(E) div 2 on U end;
+  process plant(integer in U; integer out Y, O);
+  begin integer S; repeat begin S := S + wait(U); send S on Y; send S on O end end;
+  err(SET, Y, E) par ctl(E, U) par plant(U, Y, OUTP)
+end
+P
+ends='end 1 err: waits on Y after 2\nend 2 ctl: waits on E after 1\nend 3 plant: waits on U after 1\nfinished 4\n'
+yes 100 | gives "a ring of waits, values alone" 0 '' "$ends"'kahn_explain control.kahn --input FILE says why\n' control.kahn --plain SET
+yes 'SET: 100' | gives "a ring of waits" 0 "$ends" 'kahn_explain control.kahn --input FILE says why\n' control.kahn
 
 # who reads may go: then the program ends, and says nothing
 for words in '' '--plain A'; do
@@ -189,7 +214,7 @@ gives "a pipe" 0 'B: 4\nB: 8\nend 1 double: waits on A after 7\nfinished 7\n' ''
 gives "no such channel to watch" 6 '' 'kahn: watched channel is not declared\n' "$double" --watch Z < /dev/null
 gives "no program" 5 '' 'kahn: cannot read nothing\n' nothing < /dev/null
 echo 'begin' > bad.kahn
-gives "a text that is no program" 1 '' 'kahn: 2:1: text ends too early\n' bad.kahn < /dev/null
+gives "a text that is no program" 1 '' 'kahn: 2:1: text ends too early\nkahn_explain bad.kahn says more\n' bad.kahn < /dev/null
 for words in "" "$double --step 0" "$double --bound 1"; do
   # shellcheck disable=SC2086
   "$live" $words < /dev/null > output.all 2> error
@@ -202,7 +227,7 @@ same "the help" "$(grep -c -e '--step' output.all)" 1
 if [ -e /dev/full ]; then
   printf 'A: x\nA: 1\n' | "$live" "$double" > /dev/full 2> error
   same "a full disk: status" $? 5
-  same "a full disk" "$(cat error)" $'kahn: input line 1: not a value\nkahn: report could not be written'
+  same "a full disk" "$(cat error)" "$double"$': input line 1: not a value\nkahn: report could not be written'
 fi
 
 # a part starts no thread
@@ -279,8 +304,8 @@ refuse() {
   trap '' PIPE
   start "$@"
   send 'N: 65' 'no line' 2> /dev/null
-  awaits 'kahn: input line 2: not a name'
-  if grep -q '^kahn: input line 1: no memory' error; then send 'N: 65' 2> /dev/null; else send '' 2> /dev/null; fi
+  awaits 'copy.kahn: input line 2: not a name'
+  if grep -q '^copy.kahn: input line 1: no memory' error; then send 'N: 65' 2> /dev/null; else send '' 2> /dev/null; fi
   send '' 2> /dev/null
   exec 6>&-
   timeout 20 cat <&5 > output.all

@@ -108,8 +108,10 @@ refuse_parts() {
   begin
   while goes_on; do
     refused "$live" "${words[@]}" --step "$(sed -n 's/^finished //p' whole)" <<< ""
+    # why the copies wait in the end another program says
+    said=$(grep -v '^kahn_explain copies.kahn --input FILE says why$' error | head -c 300)
     # a line for which memory was refused is passed over, and may be told by the status
-    [ "$status $said" != "1 kahn: input line 1: no memory" ] || status=0
+    [ "$status $said" != "1 copies.kahn: input line 1: no memory" ] || status=0
     alike=$((alike + 1))
     if is_whole && [ -z "$said" ]; then
       pass
@@ -119,7 +121,7 @@ refuse_parts() {
     if wants_memory; then
       wanting=$((wanting + 1))
       pass
-    elif is_whole && [[ $said =~ ^kahn:\ input\ line\ [01]:\ (no\ memory|waits\ for\ memory)$ ]]; then
+    elif is_whole && [[ $said =~ ^copies\.kahn:\ input\ line\ [01]:\ (no\ memory|waits\ for\ memory)$ ]]; then
       stopped=$((stopped + 1))
       pass
     else

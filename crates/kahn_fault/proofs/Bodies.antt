@@ -17,14 +17,13 @@ use Rattle.kahn_streams.specs.declared.tree.Form as F
 use Rattle.kahn_streams.specs.View.{bytes_of}
 use Rattle.kahn_streams.specs.Wiring.{takes, gives, Scope, ends}
 use Rattle.kahn_syntax.specs.declared.lexeme.Lexeme.{Lexeme}
-use Rattle.kahn_syntax.specs.Lexemes.{HasBytes, HasForm, Lexed, bytes_of_sign, Terminal}
+use Rattle.kahn_syntax.specs.Grammar.{Terminal, Further}
+use Rattle.kahn_syntax.specs.Texts.{HasBytes, HasForm, Lexed, bytes_of_sign, Placed, Takes, Covers, NameSpans, FormSpans, OperandRowSpans, ExpressionSpans, ActionSpans, OtherSpans, StatementRowSpans, FurtherRowSpans, StatementsSpan, StatementSpans}
 use Rattle.kahn_syntax.specs.declared.fault.SyntaxFault.{SyntaxFault}
-use Rattle.kahn_syntax.specs.Lexemes as terminal
+use Rattle.kahn_syntax.specs.Grammar as terminal
 use Rattle.kahn_syntax.specs.declared.lexeme.Sign.TheVariants as mark
-use Rattle.kahn_syntax.specs.Spans.{Placed, Takes, Covers, NameSpans, FormSpans, OperandRowSpans, ExpressionSpans, ActionSpans, OtherSpans, StatementRowSpans, FurtherRowSpans, StatementsSpan, StatementSpans}
-use Rattle.kahn_syntax.specs.Programs.{Further}
-use Rattle.kahn_check.specs.declared.fault.CheckFault.{CheckFault}
-use Rattle.kahn_check.specs.Faults.{find, wrong, misread, misused, kind_in, kind_of, wrong_first, wrong_second, spanning, faults_in, level_faults, faults_as, faults_of, row_faults, else_faults, body_faults}
+use Rattle.kahn_streams.specs.declared.fault.CheckFault.{CheckFault}
+use Rattle.kahn_streams.specs.Faults.{find, wrong, misread, misused, kind_in, kind_of, wrong_first, wrong_second, spanning, faults_in, level_faults, faults_as, faults_of, row_faults, else_faults, body_faults}
 use Rattle.kahn_fault.specs.Message.{check_span, syntax_span}
 use Rattle.kahn_fault.specs.Places.{LiesIn}
 

@@ -25,19 +25,17 @@ use Rattle.kahn_streams.specs.declared.tree.Argument.TheVariants as A
 use Rattle.kahn_streams.specs.View.{bytes_of}
 use Rattle.kahn_streams.specs.Wiring.{Global, IsChannel, IsProcess, Handover, locals_of, scope_of, entries, declared_channels, global, handed, handed_by, ends, writers, readers, side_at, is_closed}
 use Rattle.kahn_syntax.specs.declared.lexeme.Lexeme.{Lexeme}
-use Rattle.kahn_syntax.specs.Lexemes.{IsLexFault, IsLongest, Terminal}
+use Rattle.kahn_syntax.specs.Grammar.{Terminal, Between, Ended, Further, Grouped, group, all_members, role_words, taking_words, SomeNames, ParameterGroup, TakesAll, VariableGroup}
+use Rattle.kahn_syntax.specs.Texts.{IsLexFault, IsLongest, IsFault, IsNothing, IsOther, IsTooDeep, StandsAt, IsProgram, IsTextFault, lexemes, parameter_with, variable_with, DeclarationSpans, ArgumentSpans, InstanceSpans, InstancesSpan, ProcessSpans, Takes, NameSpans}
 use Rattle.kahn_syntax.specs.declared.fault.SyntaxFault.{SyntaxFault}
 use Rattle.kahn_syntax.specs.declared.fault.SyntaxFault.TheVariants as syntax
 use Rattle.kahn_syntax.specs.declared.fault.What.TheVariants as what
-use Rattle.kahn_syntax.specs.Lexemes as terminal
+use Rattle.kahn_syntax.specs.Grammar as terminal
 use Rattle.kahn_syntax.specs.declared.lexeme.Keyword.TheVariants as keyword
 use Rattle.kahn_syntax.specs.declared.lexeme.Sign.TheVariants as mark
-use Rattle.kahn_syntax.specs.Texts.{IsFault, IsNothing, IsOther, IsTooDeep, StandsAt, IsProgram, IsTextFault}
-use Rattle.kahn_syntax.specs.Spans.{lexemes, parameter_with, variable_with, DeclarationSpans, ArgumentSpans, InstanceSpans, InstancesSpan, ProcessSpans, Takes, NameSpans}
-use Rattle.kahn_syntax.specs.Programs.{Between, Ended, Further, Grouped, group, all_members, role_words, taking_words, SomeNames, ParameterGroup, TakesAll, VariableGroup}
-use Rattle.kahn_check.specs.declared.fault.CheckFault.{CheckFault}
-use Rattle.kahn_check.specs.declared.fault.CheckFault.TheVariants as checked
-use Rattle.kahn_check.specs.Faults.{wrong, too_many, repeated, twice, process_faults, channel_faults, declaration_faults, overtaken, misplaced, argument_faults, arguments_faults, miscounted, made_faults, instance_faults, missing, side_faults, sides_faults, faults, most_channels, most_instances, verdict}
+use Rattle.kahn_streams.specs.declared.fault.CheckFault.{CheckFault}
+use Rattle.kahn_streams.specs.declared.fault.CheckFault.TheVariants as checked
+use Rattle.kahn_streams.specs.Faults.{wrong, too_many, repeated, twice, process_faults, channel_faults, declaration_faults, overtaken, misplaced, argument_faults, arguments_faults, miscounted, made_faults, instance_faults, missing, side_faults, sides_faults, faults, most_channels, most_instances, verdict}
 use Rattle.kahn_report.specs.declared.working.WorkFault.{WorkFault}
 use Rattle.kahn_report.specs.declared.working.WorkFault.TheVariants as work
 use Rattle.kahn_report.specs.Work.{IsUnchecked}

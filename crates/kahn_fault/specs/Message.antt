@@ -1,21 +1,21 @@
 -- Believed. What the program says of a fault: one line.
-use Rattle.std.specs.Prelude.{ℕ, List, [], ◌∷◌, codes, decimal, length, min, string_bytes, Option}
-use Rattle.std.specs.Prelude.{Some, None}
+use Rattle.std.specs.Prelude.{ℕ, ◌+◌, ◌≤◌, List, [], ◌∷◌, codes, decimal, length, min, string_bytes, Option, Some, None, Result}
 use Rattle.std.specs.List.{concat}
 use Rattle.std.specs.declared.alloc.Global.{Global}
 use Rattle.std.specs.declared.string.String.{String}
 use Rattle.kahn_streams.specs.Place.{line_of, column_of}
+use Rattle.kahn_streams.specs.Written.{Writes}
 use Rattle.kahn_streams.specs.declared.span.Span.{Span}
 use Rattle.kahn_streams.specs.declared.entries.InputFault.{InputFault}
 use Rattle.kahn_syntax.specs.declared.fault.SyntaxFault.{SyntaxFault}
 use Rattle.kahn_syntax.specs.declared.fault.SyntaxFault.TheVariants as syntax
 use Rattle.kahn_syntax.specs.declared.fault.What.{What}
 use Rattle.kahn_syntax.specs.declared.fault.What.TheVariants.{More, Nothing, Other}
-use Rattle.kahn_check.specs.declared.fault.CheckFault.{CheckFault}
-use Rattle.kahn_check.specs.declared.fault.CheckFault.TheVariants as checked
+use Rattle.kahn_streams.specs.declared.fault.CheckFault.{CheckFault}
+use Rattle.kahn_streams.specs.declared.fault.CheckFault.TheVariants as checked
 use Rattle.kahn_streams.specs.declared.entries.InputFault.TheVariants as input
-use Rattle.kahn_pool.specs.declared.config.RunFault.{RunFault}
-use Rattle.kahn_pool.specs.declared.config.RunFault.TheVariants as run
+use Rattle.kahn_streams.specs.declared.fault.RunFault.{RunFault}
+use Rattle.kahn_streams.specs.declared.fault.RunFault.TheVariants as run
 use Rattle.kahn_report.specs.declared.input.TextFault.{TextFault}
 use Rattle.kahn_report.specs.declared.input.TextFault.TheVariants as text
 use Rattle.kahn_report.specs.declared.read.ReadFault.{ReadFault}
@@ -24,6 +24,10 @@ use Rattle.kahn_report.specs.declared.working.WorkFault.{WorkFault}
 use Rattle.kahn_report.specs.declared.working.WorkFault.TheVariants as work
 use Rattle.kahn_fault.specs.declared.fault.Fault.{Fault}
 use Rattle.kahn_fault.specs.declared.fault.Fault.TheVariants.{Open, Program, InputText, Work}
+
+-- the line went out, or after a fault of the writer a prefix of it, by at most one write for each of its bytes, and one flush
+abbrev pub WritesCounted : {X E : Type 0} → Option (List ℕ) → Option (List ℕ) → Result X E → ℕ → ℕ → List ℕ → Type 0
+WritesCounted old new result before after line = Writes old new result line × (after ≤ before + length line + 1)
 
 -- a line of words alone
 abbrev pub words_line : List ℕ → List ℕ
@@ -37,9 +41,13 @@ two_line first second = concat (codes "kahn: " ∷ first ∷ second ∷ codes "\
 abbrev pub between_line : List ℕ → List ℕ → List ℕ → List ℕ
 between_line before between after = concat (codes "kahn: " ∷ before ∷ between ∷ after ∷ codes "\n" ∷ [])
 
--- a line with the line and the column of a byte of the program text, each from 1
+-- a line with two numbers before its words
+abbrev pub numbered_line : List ℕ → List ℕ → List ℕ → List ℕ
+numbered_line line column words = concat (codes "kahn: " ∷ line ∷ codes ":" ∷ column ∷ codes ": " ∷ words ∷ codes "\n" ∷ [])
+
+-- these are the line and the column of a byte of the program text, each from 1
 abbrev pub place_line : List ℕ → ℕ → List ℕ → List ℕ
-place_line program from words = concat (codes "kahn: " ∷ decimal (line_of program from) ∷ codes ":" ∷ decimal (column_of program from) ∷ codes ": " ∷ words ∷ codes "\n" ∷ [])
+place_line program from words = numbered_line (decimal (line_of program from)) (decimal (column_of program from)) words
 
 -- a line with the place of a part, where there is one; beyond the text it is told as the text's end
 abbrev pub placed_line : List ℕ → Option Span → List ℕ → List ℕ

@@ -2,11 +2,11 @@
 use Rattle.std.specs.Prelude.{ℕ, zero, suc, Bool, true, false, Result}
 use Rattle.std.specs.declared.result.Result.TheVariants.{Ok, Err}
 use Rattle.kahn_syntax.specs.declared.fault.SyntaxFault.TheVariants as syntax
-use Rattle.kahn_check.specs.declared.fault.CheckFault.TheVariants as checked
+use Rattle.kahn_streams.specs.declared.fault.CheckFault.TheVariants as checked
 use Rattle.kahn_streams.specs.declared.entries.InputFault.TheVariants as input
 use Rattle.kahn_streams.specs.declared.answer.Verdict.{Verdict}
 use Rattle.kahn_streams.specs.declared.answer.Verdict.TheVariants.{Finished, Bound, Memory}
-use Rattle.kahn_pool.specs.declared.config.RunFault.TheVariants as run
+use Rattle.kahn_streams.specs.declared.fault.RunFault.TheVariants as run
 use Rattle.kahn_report.specs.declared.input.TextFault.TheVariants as text
 use Rattle.kahn_report.specs.declared.read.ReadFault.{ReadFault}
 use Rattle.kahn_report.specs.declared.read.ReadFault.TheVariants as read

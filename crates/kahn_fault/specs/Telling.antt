@@ -1,9 +1,29 @@
 -- Believed. What a program tells of its run in the end.
-use Rattle.std.specs.Prelude.{ℕ, List, [], Result}
+use Rattle.std.specs.Prelude.{ℕ, Bool, true, false, List, [], ◌∷◌, Result, codes, is_some}
+use Rattle.std.specs.List.{concat}
 use Rattle.std.specs.declared.result.Result.TheVariants.{Ok, Err}
 use Rattle.kahn_streams.specs.declared.answer.Verdict.{Verdict}
 use Rattle.kahn_fault.specs.declared.fault.Fault.{Fault}
+use Rattle.kahn_fault.specs.declared.fault.Fault.TheVariants.{Open, Program, InputText, Work}
 use Rattle.kahn_fault.specs.Message.{fault_text}
+use Rattle.kahn_fault.specs.Places.{fault_span}
+
+-- whether a fault has a place in the program text
+abbrev pub has_place : Fault → Bool
+has_place (Open path) = false
+has_place (Program path fault) = false
+has_place (InputText path fault) = false
+has_place (Work fault) = is_some (fault_span fault)
+
+-- which program says more, by the file of the program text, or nothing
+abbrev pub explain_line : Bool → List ℕ → List ℕ
+explain_line true path = concat (codes "kahn_explain " ∷ path ∷ codes " says more\n" ∷ [])
+explain_line false path = []
+
+-- the same of a fault, where it has a place in the program text
+abbrev pub pointer_text : List ℕ → Result Verdict Fault → List ℕ
+pointer_text path (Ok verdict) = []
+pointer_text path (Err fault) = explain_line (has_place fault) path
 
 -- nothing of a run that has a report, and one line of a fault
 abbrev pub told_text : List ℕ → Result Verdict Fault → List ℕ

@@ -1,9 +1,8 @@
 //! What the program says of a fault: one line.
 
-ghost use Rattle.std.specs.Prelude.{◌≡◌, ◌+◌, ◌<◌, ◌≤◌, [], ◌∷◌, length, decimal, codes};
-ghost use Rattle.std.specs.List.{concat};
-ghost use Rattle.kahn_write.specs.Written.{Writes};
-ghost use Rattle.kahn_fault.specs.Message.{words_line, two_line, between_line, place_line, placed_line, memory_line, what_words, syntax_span, syntax_words, check_span, check_words, entry_line, text_line, run_line, work_line, read_line, path_words, fault_text};
+ghost use Rattle.std.specs.Prelude.{◌≡◌, ◌<◌, ◌≤◌, length, decimal};
+ghost use Rattle.kahn_streams.specs.Written.{Writes};
+ghost use Rattle.kahn_fault.specs.Message.{WritesCounted, numbered_line, words_line, two_line, between_line, place_line, placed_line, memory_line, what_words, syntax_span, syntax_words, check_span, check_words, entry_line, text_line, run_line, work_line, read_line, path_words, fault_text};
 
 use crate::fault::Fault;
 use itoa::Buffer;
@@ -22,16 +21,14 @@ fn put_words<W: Write, L: Ledger>(
     words: &str,
     writes: &mut Steps<L>,
 ) -> Result<(), WriteFault>
-    ensures text { Writes (W.contents writer.old) (W.contents writer.new) result (words_line words.now) }
-    ensures few { writes.new ≤ writes.old + length (words_line words.now) + 1 }
+    ensures { WritesCounted (W.contents writer.old) (W.contents writer.new) result writes.old writes.new (words_line words.now) }
 {
     write_line_counted(writer, &[b"kahn: ", words.as_bytes(), b"\n"], writes)
 }
 
 /// Writes that memory was refused.
 fn put_memory<W: Write, L: Ledger>(writer: &mut W, writes: &mut Steps<L>) -> Result<(), WriteFault>
-    ensures text { Writes (W.contents writer.old) (W.contents writer.new) result memory_line }
-    ensures few { writes.new ≤ writes.old + length memory_line + 1 }
+    ensures { WritesCounted (W.contents writer.old) (W.contents writer.new) result writes.old writes.new memory_line }
 {
     put_words(writer, "no memory", writes)
 }
@@ -43,8 +40,7 @@ fn put_two<'a, W: Write, L: Ledger>(
     second: &'a str,
     writes: &mut Steps<L>,
 ) -> Result<(), WriteFault>
-    ensures text { Writes (W.contents writer.old) (W.contents writer.new) result (two_line first.now second.now) }
-    ensures few { writes.new ≤ writes.old + length (two_line first.now second.now) + 1 }
+    ensures { WritesCounted (W.contents writer.old) (W.contents writer.new) result writes.old writes.new (two_line first.now second.now) }
 {
     write_line_counted(
         writer,
@@ -61,8 +57,7 @@ fn put_between<'a, W: Write, L: Ledger>(
     after: &'a str,
     writes: &mut Steps<L>,
 ) -> Result<(), WriteFault>
-    ensures text { Writes (W.contents writer.old) (W.contents writer.new) result (between_line before.now between.now after.now) }
-    ensures few { writes.new ≤ writes.old + length (between_line before.now between.now after.now) + 1 }
+    ensures { WritesCounted (W.contents writer.old) (W.contents writer.new) result writes.old writes.new (between_line before.now between.now after.now) }
 {
     write_line_counted(
         writer,
@@ -85,8 +80,7 @@ fn put_number<W: Write, L: Ledger>(
     after: &str,
     writes: &mut Steps<L>,
 ) -> Result<(), WriteFault>
-    ensures text { Writes (W.contents writer.old) (W.contents writer.new) result (between_line before.now (decimal number) after.now) }
-    ensures few { writes.new ≤ writes.old + length (between_line before.now (decimal number) after.now) + 1 }
+    ensures { WritesCounted (W.contents writer.old) (W.contents writer.new) result writes.old writes.new (between_line before.now (decimal number) after.now) }
 {
     let mut buffer = Buffer::new();
     put_between(writer, before, buffer.format(number), after, writes)
@@ -100,8 +94,7 @@ fn put_place<'a, W: Write, L: Ledger>(
     words: &'a str,
     writes: &mut Steps<L>,
 ) -> Result<(), WriteFault>
-    ensures text { Writes (W.contents writer.old) (W.contents writer.new) result (concat (codes "kahn: " ∷ line.now ∷ codes ":" ∷ column.now ∷ codes ": " ∷ words.now ∷ codes "\n" ∷ [])) }
-    ensures few { writes.new ≤ writes.old + length (concat (codes "kahn: " ∷ line.now ∷ codes ":" ∷ column.now ∷ codes ": " ∷ words.now ∷ codes "\n" ∷ [])) + 1 }
+    ensures { WritesCounted (W.contents writer.old) (W.contents writer.new) result writes.old writes.new (numbered_line line.now column.now words.now) }
 {
     write_line_counted(
         writer,
@@ -127,8 +120,7 @@ fn put_byte<W: Write, L: Ledger>(
     writes: &mut Steps<L>,
 ) -> Result<(), WriteFault>
     requires { from ≤ length program.now }
-    ensures text { Writes (W.contents writer.old) (W.contents writer.new) result (place_line program.now from words.now) }
-    ensures few { writes.new ≤ writes.old + length (place_line program.now from words.now) + 1 }
+    ensures { WritesCounted (W.contents writer.old) (W.contents writer.new) result writes.old writes.new (place_line program.now from words.now) }
 {
     let (line, column) = Span { from, to: from }.place(program);
     let mut first = Buffer::new();
@@ -150,8 +142,7 @@ fn put_placed<W: Write, L: Ledger>(
     words: &str,
     writes: &mut Steps<L>,
 ) -> Result<(), WriteFault>
-    ensures text { Writes (W.contents writer.old) (W.contents writer.new) result (placed_line program.now place words.now) }
-    ensures few { writes.new ≤ writes.old + length (placed_line program.now place words.now) + 1 }
+    ensures { WritesCounted (W.contents writer.old) (W.contents writer.new) result writes.old writes.new (placed_line program.now place words.now) }
 {
     match place {
         Some(span) => put_byte(writer, program, span.from.min(program.len()), words, writes),
@@ -249,8 +240,7 @@ fn put_entry<W: Write, L: Ledger>(
     fault: InputFault,
     writes: &mut Steps<L>,
 ) -> Result<(), WriteFault>
-    ensures text { Writes (W.contents writer.old) (W.contents writer.new) result (entry_line fault) }
-    ensures few { writes.new ≤ writes.old + length (entry_line fault) + 1 }
+    ensures { WritesCounted (W.contents writer.old) (W.contents writer.new) result writes.old writes.new (entry_line fault) }
 {
     let (entry, words) = match fault {
         InputFault::UnknownName(entry) => (entry, ": no such channel"),
@@ -269,8 +259,7 @@ fn put_text<W: Write, L: Ledger>(
     fault: TextFault,
     writes: &mut Steps<L>,
 ) -> Result<(), WriteFault>
-    ensures text { Writes (W.contents writer.old) (W.contents writer.new) result (text_line fault) }
-    ensures few { writes.new ≤ writes.old + length (text_line fault) + 1 }
+    ensures { WritesCounted (W.contents writer.old) (W.contents writer.new) result writes.old writes.new (text_line fault) }
 {
     match fault {
         TextFault::BadLine(line) => put_number(
@@ -295,8 +284,7 @@ fn put_run<W: Write, L: Ledger>(
     fault: RunFault,
     writes: &mut Steps<L>,
 ) -> Result<(), WriteFault>
-    ensures text { Writes (W.contents writer.old) (W.contents writer.new) result (run_line fault) }
-    ensures few { writes.new ≤ writes.old + length (run_line fault) + 1 }
+    ensures { WritesCounted (W.contents writer.old) (W.contents writer.new) result writes.old writes.new (run_line fault) }
 {
     let words = match fault {
         RunFault::BadConfig => "configuration is out of range",
@@ -315,8 +303,7 @@ fn put_work<W: Write, L: Ledger>(
     fault: WorkFault,
     writes: &mut Steps<L>,
 ) -> Result<(), WriteFault>
-    ensures text { Writes (W.contents writer.old) (W.contents writer.new) result (work_line program.now fault) }
-    ensures few { writes.new ≤ writes.old + length (work_line program.now fault) + 1 }
+    ensures { WritesCounted (W.contents writer.old) (W.contents writer.new) result writes.old writes.new (work_line program.now fault) }
 {
     match fault {
         WorkFault::Syntax(fault) => put_placed(
@@ -347,8 +334,7 @@ fn put_read<W: Write, L: Ledger>(
     fault: ReadFault,
     writes: &mut Steps<L>,
 ) -> Result<(), WriteFault>
-    ensures text { Writes (W.contents writer.old) (W.contents writer.new) result (read_line path.now long.now fault) }
-    ensures few { writes.new ≤ writes.old + length (read_line path.now long.now fault) + 1 }
+    ensures { WritesCounted (W.contents writer.old) (W.contents writer.new) result writes.old writes.new (read_line path.now long.now fault) }
 {
     match fault {
         ReadFault::Failed => put_two(writer, "cannot read ", path, writes),
@@ -375,8 +361,7 @@ pub fn line_counted<W: Write, L: Ledger>(
     writer: &mut W,
     writes: &mut Steps<L>,
 ) -> Result<(), WriteFault>
-    ensures text { Writes (W.contents writer.old) (W.contents writer.new) result (fault_text program.now fault.now) }
-    ensures few { writes.new ≤ writes.old + length (fault_text program.now fault.now) + 1 }
+    ensures { WritesCounted (W.contents writer.old) (W.contents writer.new) result writes.old writes.new (fault_text program.now fault.now) }
 {
     match fault {
         Fault::Open(path) => put_two(writer, "cannot read ", path.as_str(), writes),

@@ -1,14 +1,16 @@
 //! What a program tells of its run in the end.
 
-ghost use Rattle.std.specs.Prelude.{◌≡◌};
+ghost use Rattle.std.specs.Prelude.{◌≡◌, true};
 ghost use Rattle.kahn_fault.specs.Status.{status_of};
-ghost use Rattle.kahn_write.specs.Written.{Writes};
-ghost use Rattle.kahn_fault.specs.Telling.{told_text};
+ghost use Rattle.kahn_streams.specs.Written.{Writes};
+ghost use Rattle.kahn_fault.specs.Places.{fault_span};
+ghost use Rattle.kahn_fault.specs.Telling.{explain_line, pointer_text, has_place, told_text};
 
 use crate::fault::{Fault, status};
-use crate::message::fault_line;
+use crate::message::{check_span, fault_line, syntax_span};
 use kahn_pool::Verdict;
-use kahn_report::WriteFault;
+use kahn_report::{WorkFault, WriteFault, write_line};
+use kahn_streams::Span;
 use std::io::Write;
 
 /// What was told.
@@ -33,5 +35,65 @@ pub fn tell<W: Write>(answer: &Result<Verdict, Fault>, program: &str, writer: &m
     Told {
         status: status(answer),
         line,
+    }
+}
+
+/// Where a program text is at fault, where it is one place.
+fn fault_span(fault: WorkFault) -> Option<Span>
+    ensures { result ≡ fault_span fault }
+{
+    match fault {
+        WorkFault::Syntax(fault) => syntax_span(fault),
+        WorkFault::Check(fault) => check_span(fault),
+        WorkFault::Text(_) => None,
+        WorkFault::Run(_) => None,
+        WorkFault::Write(_) => None,
+    }
+}
+
+/// Whether a fault has a place in the program text.
+fn has_place(fault: &Fault) -> bool
+    ensures { result ≡ has_place fault.now }
+{
+    match fault {
+        Fault::Open(_) => false,
+        Fault::Program(_, _) => false,
+        Fault::InputText(_, _) => false,
+        Fault::Work(fault) => fault_span(*fault).is_some(),
+    }
+}
+
+/// Writes which program says more.
+fn put_explain<W: Write>(path: &str, writer: &mut W) -> Result<(), WriteFault>
+    ensures { Writes (W.contents writer.old) (W.contents writer.new) result (explain_line true path.now) }
+{
+    write_line(
+        writer,
+        &[b"kahn_explain ", path.as_bytes(), b" says more\n"],
+    )
+}
+
+/// Writes which program says more of a fault.
+fn put_more<W: Write>(fault: &Fault, path: &str, writer: &mut W) -> Result<(), WriteFault>
+    ensures { Writes (W.contents writer.old) (W.contents writer.new) result (explain_line (has_place fault.now) path.now) }
+{
+    if has_place(fault) {
+        return put_explain(path, writer);
+    }
+    Ok(())
+}
+
+/// Tells which program says more of the fault of a run, where it has a place in the program text, which is that of the file of the path:
+/// one line. After a fault of the writer a prefix of the line went out. It takes no memory.
+pub fn tell_explain<W: Write>(
+    answer: &Result<Verdict, Fault>,
+    path: &str,
+    writer: &mut W,
+) -> Result<(), WriteFault>
+    ensures { Writes (W.contents writer.old) (W.contents writer.new) result (pointer_text path.now answer.now) }
+{
+    match answer {
+        Ok(_) => Ok(()),
+        Err(fault) => put_more(fault, path, writer),
     }
 }

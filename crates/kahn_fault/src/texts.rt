@@ -1,8 +1,8 @@
 //! The texts of a run, each read from its file.
 
-ghost use Rattle.std.specs.Prelude.{◌≡◌, ◌≤◌, IfOk, MatchResult, None, [], length, string_bytes};
+ghost use Rattle.std.specs.Prelude.{◌≡◌, ◌≤◌, IfErr, IfOk, MatchResult, None, [], length, string_bytes};
 ghost use Rattle.kahn_report.specs.Reading.{GivesAll};
-ghost use Rattle.kahn_report.specs.Inputs.{most_input_bytes};
+ghost use Rattle.kahn_report.specs.Formats.{most_input_bytes};
 ghost use Rattle.kahn_fault.specs.Texts.{most_program_bytes, AreWithin, IsOfProgram, IsOfInput, IsOfTexts, StandsForProgram, StandsForInput};
 
 use crate::fault::Fault;
@@ -34,8 +34,8 @@ pub fn program_of<R: Read>(
     reader: &mut R,
     path: Option<String>,
 ) -> Result<String, Fault>
-    ensures { MatchResult result (λ text. GivesAll (R.remaining reader.old) (R.remaining reader.new) most_program_bytes (string_bytes text))
-        (StandsForProgram path (R.remaining reader.old) (R.remaining reader.new)) }
+    ensures all { IfOk result (λ text. GivesAll (R.remaining reader.old) (R.remaining reader.new) most_program_bytes (string_bytes text)) }
+    ensures fault { IfErr result (StandsForProgram path (R.remaining reader.old) (R.remaining reader.new)) }
 {
     match read_text(alloc, reader, MOST_PROGRAM_BYTES) {
         Ok(text) => Ok(text),
@@ -45,8 +45,8 @@ pub fn program_of<R: Read>(
 
 /// Reads an input text: all that the reader has, within the limit. A fault names the path that was given.
 pub fn input_of<R: Read>(alloc: Global, reader: &mut R, path: String) -> Result<String, Fault>
-    ensures { MatchResult result (λ text. GivesAll (R.remaining reader.old) (R.remaining reader.new) most_input_bytes (string_bytes text))
-        (StandsForInput path (R.remaining reader.old) (R.remaining reader.new)) }
+    ensures all { IfOk result (λ text. GivesAll (R.remaining reader.old) (R.remaining reader.new) most_input_bytes (string_bytes text)) }
+    ensures fault { IfErr result (StandsForInput path (R.remaining reader.old) (R.remaining reader.new)) }
 {
     match read_text(alloc, reader, MOST_INPUT_BYTES) {
         Ok(text) => Ok(text),

@@ -15,7 +15,7 @@ use Rattle.kahn_streams.specs.Answers.{IsInRange}
 use Rattle.kahn_streams.specs.declared.config.Config.{Config}
 use Rattle.kahn_line.specs.Line.{number_or, IsSet}
 use Rattle.kahn_line.specs.Live.{live_app, live_text, IsLive}
-use Rattle.kahn_line.specs.Parts.{found_texts, parted, plain_parts, row_texts, set_line}
+use Rattle.kahn_line.specs.Parts.{found_texts, input_named, parted, plain_parts, row_texts, set_line}
 use Rattle.kahn_line.specs.declared.live.LiveOptions.{LiveOptions}
 use Rattle.kahn_line.proofs.Asked.{ParsedAs, apart, known, passed}
 
@@ -29,7 +29,7 @@ step_parsed = (apart, (apart, ((λ e. refl), (apart, (apart, (apart, (apart, tt)
 pub asked_live : (cmd : Command) (m : ArgMatches) (words : List Text) → IsParsedFrom cmd m → HasMatchesOf (app_of cmd) words m → app_of cmd ≡ live_app
     → (o : LiveOptions) → option_map string_bytes o.program ≡ first_value (found_of m) (codes "PROGRAM") → (c : Config) → IsSet (found_of m) 1 (codes "step") c → o.config ≡ record c { workers = 1 }
     → o.keep_going ≡ not (count_of (codes "keep-going") (rows_of (found_of m)) == 0)
-    → map string_bytes o.at_end.items ≡ map set_line (found_texts (found_of m) (codes "at-end"))
+    → map string_bytes o.at_end.items ≡ map (set_line (input_named o.plain)) (found_texts (found_of m) (codes "at-end"))
     → option_map plain_parts o.plain ≡ option_map (parted 44) (first_value (found_of m) (codes "plain"))
     → IsLive words o
 asked_live cmd m words p matches is o program c set e keep at_end plain =
@@ -49,7 +49,7 @@ asked_live cmd m words p matches is o program c set e keep at_end plain =
       quantum = ap (λ (x : Config). x.quantum) e ∙ quantum.0 ∙ ap (number_or 1000) (one (codes "quantum"));
       step = ap (λ (x : Config). x.bound) e ∙ step.0 ∙ ap (number_or 1000000) (one (codes "step"));
       keep_going = keep ∙ ap (λ rs. not (count_of (codes "keep-going") rs == 0)) rows;
-      at_end = at_end ∙ ap (λ rs. map set_line (row_texts (codes "at-end") rs)) rows;
+      at_end = at_end ∙ ap (λ rs. map (set_line (input_named o.plain)) (row_texts (codes "at-end") rs)) rows;
       plain = plain ∙ ap (option_map (parted 44)) (text (codes "plain"));
       in_range = subst (λ (x : Config). IsInRange x.workers x.quantum x.bound) (sym e) (omega arith, omega arith, quantum.1, quantum.2, omega arith);
     }
@@ -65,6 +65,6 @@ pub found_lent : (f : Found) (name : Text) (o : Lent) → lent_texts o ≡ optio
 found_lent f name o is = ap (λ (ts : Option (List Text)). unwrap_or ts []) (sym (raw_values-rows f name) ∙ sym is)
 
 -- the lines of words, by the words that are lent
-pub lines_lent : (words : List (Bor Text)) → map (λ w. set_line w.now) words ≡ map set_line (map (λ v. v.now) words)
-lines_lent [] = refl
-lines_lent (w ∷ words) = ap (λ l. set_line w.now ∷ l) (lines_lent words)
+pub lines_lent : (input : Option Text) (words : List (Bor Text)) → map (λ w. set_line input w.now) words ≡ map (set_line input) (map (λ v. v.now) words)
+lines_lent input [] = refl
+lines_lent input (w ∷ words) = ap (λ l. set_line input w.now ∷ l) (lines_lent input words)

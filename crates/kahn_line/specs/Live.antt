@@ -5,7 +5,7 @@ use Rattle.clap.specs.Words.{App, Rule, Text, IsAmong, count_of, fault_of, first
 use Rattle.clap.specs.declared.builder.ArgAction.TheVariants.{Append, Count}
 use Rattle.kahn_streams.specs.Answers.{IsInRange}
 use Rattle.kahn_line.specs.Line.{bare_app, number_or, number_rule, text_rule}
-use Rattle.kahn_line.specs.Parts.{parted, plain_parts, row_texts, set_line}
+use Rattle.kahn_line.specs.Parts.{input_named, parted, plain_parts, row_texts, set_line}
 use Rattle.kahn_line.specs.declared.line.LineFault.{LineFault}
 use Rattle.kahn_line.specs.declared.line.LineFault.TheVariants.{Refused, NoMemory}
 use Rattle.kahn_line.specs.declared.live.LiveOptions.{LiveOptions}
@@ -54,7 +54,7 @@ pub record IsLive (words : List Text) (o : LiveOptions) : Type 0 where
   pub quantum : o.config.quantum ≡ live_number words (codes "quantum") 1000
   pub step : o.config.bound ≡ live_number words (codes "step") 1000000
   pub keep_going : o.keep_going ≡ live_flag words (codes "keep-going")
-  pub at_end : map string_bytes o.at_end.items ≡ map set_line (live_texts words (codes "at-end"))
+  pub at_end : map string_bytes o.at_end.items ≡ map (set_line (input_named o.plain)) (live_texts words (codes "at-end"))
   -- 44 is the comma
   pub plain : option_map plain_parts o.plain ≡ option_map (parted 44) (live_text words (codes "plain"))
   pub in_range : IsInRange o.config.workers o.config.quantum o.config.bound

@@ -12,14 +12,19 @@ parted sign word = (
   if nat_lt (position_or_len (λ b. b == sign) word) (length word) then Some (after_first (λ b. b == sign) word) else None,
 )
 
--- the parts as a line of input, a name and values; a name alone is the line
-abbrev pub line_of_parts : Text × Option Text → Text
-line_of_parts (name, None) = name
-line_of_parts (name, Some value) = name ++ (codes ": " ++ value)
+-- the parts as a line of input, a name and values; a part alone is values of the input channel whose values stand alone, or else the line
+abbrev pub line_of_parts : Option Text → Text × Option Text → Text
+line_of_parts input (name, Some value) = name ++ (codes ": " ++ value)
+line_of_parts (Some input) (value, None) = input ++ (codes ": " ++ value)
+line_of_parts None (line, None) = line
 
 -- the line that `NAME=VALUE` stands for, where 61 is the sign `=`
-abbrev pub set_line : Text → Text
-set_line word = line_of_parts (parted 61 word)
+abbrev pub set_line : Option Text → Text → Text
+set_line input word = line_of_parts input (parted 61 word)
+
+-- the channel whose values stand alone in the lines of input
+abbrev pub input_named : Option Plain → Option Text
+input_named plain = option_map (λ p. string_bytes p.input) plain
 
 -- the names of the channels whose values stand alone
 abbrev pub plain_parts : Plain → Text × Option Text

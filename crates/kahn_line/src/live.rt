@@ -3,13 +3,13 @@
 ghost use Rattle.std.specs.Prelude.{◌≡◌, IfOk, codes, false, map, string_bytes};
 ghost use Rattle.clap.specs.Words.{app_of, found_of, rule_of};
 ghost use Rattle.kahn_line.specs.Line.{text_rule};
-ghost use Rattle.kahn_line.specs.Parts.{found_texts, set_line};
+ghost use Rattle.kahn_line.specs.Parts.{found_texts, input_named, set_line};
 ghost use Rattle.kahn_line.specs.Live.{at_end_rule, keep_going_rule, live_app, IsLiveRead};
 
 use crate::line::{
     LineFault, bare, config_of, copied, number_arg, quantum_arg, text_arg, watch_arg,
 };
-use crate::parts::{Plain, plain_of, set_lines};
+use crate::parts::{Plain, input_named, plain_of, set_lines};
 use clap::{Arg, ArgAction, ArgMatches, Command};
 use kahn_streams::Config;
 use std::alloc::{AllocError, Global};
@@ -38,10 +38,11 @@ A line that can't be taken is told on standard error with its number, and change
 line was taken, that is told too; the next line, which may be blank, goes on. The lines of `--at-end` have the numbers
 behind the last one's. The run takes one thread. What went out, and input that was taken, it doesn't keep.
 
-With `--plain` a line has the values alone, with blanks between, and what is new on one stream is written alone, one value
-a line. The last lines go to standard error then, and only where the status isn't 0 or a process has a fault:
+With `--plain INPUT` a line has the values of one input channel alone, with blanks between, and what is new on one stream is
+written alone, one value a line: that of OUTPUT, or else the first one. Several inputs want lines with names. The last lines
+go to standard error then, and only where the status isn't 0, a process has a fault, or the run stopped while some wait:
 
-  printf '1\\n2 3\\n' | kahn_live double.kahn --plain A,B
+  printf '1\\n2 3\\n' | kahn_live double.kahn --plain A
 
   2
   4
@@ -91,7 +92,7 @@ fn at_end_arg<'a>(alloc: Global) -> Arg<'a>
         alloc,
         "at-end",
         "NAME=VALUE",
-        "Feeds a line `NAME: VALUE` once the input has ended; may be given again",
+        "Feeds a line `NAME: VALUE` once the input has ended, or with --plain VALUE alone; may be given again",
     )
     .action(ArgAction::Append)
 }
@@ -104,8 +105,8 @@ fn plain_arg<'a>(alloc: Global) -> Arg<'a>
     text_arg(
         alloc,
         "plain",
-        "IN[,OUT]",
-        "Takes values of IN alone, and writes those of OUT alone, or else of the first stream",
+        "INPUT[,OUTPUT]",
+        "Takes values of one input channel alone, and writes those of one stream alone, of OUTPUT or else the first",
     )
 }
 
@@ -138,11 +139,15 @@ fn live_command<'a>(alloc: Global) -> Result<Command<'a>, AllocError>
 }
 
 /// The lines that are fed at the end of the input.
-fn lines_at_end(alloc: Global, matches: &ArgMatches<'_>) -> Result<Vec<String>, AllocError>
-    ensures { IfOk result (λ lines. map string_bytes lines.items ≡ map set_line (found_texts (found_of matches.now) (codes "at-end"))) }
+fn lines_at_end(
+    alloc: Global,
+    matches: &ArgMatches<'_>,
+    plain: &Option<Plain>,
+) -> Result<Vec<String>, AllocError>
+    ensures { IfOk result (λ lines. map string_bytes lines.items ≡ map (set_line (input_named plain.now)) (found_texts (found_of matches.now) (codes "at-end"))) }
 {
     match matches.get_strs("at-end") {
-        Some(words) => set_lines(alloc, words),
+        Some(words) => set_lines(alloc, input_named(plain), words),
         None => Ok(Vec::new(alloc)),
     }
 }
@@ -154,6 +159,7 @@ pub fn read_live_line<'a, S: AsStr>(alloc: Global, words: &'a [S]) -> Result<Liv
     ensures { IsLiveRead (map S.text words.now) result }
 {
     let matches = live_command(alloc)?.try_get_matches_from(words)?;
+    let plain = plain_of(alloc, matches.get_str("plain"))?;
     Ok(LiveOptions {
         program: copied(alloc, matches.get_str("PROGRAM"))?,
         config: Config {
@@ -161,7 +167,7 @@ pub fn read_live_line<'a, S: AsStr>(alloc: Global, words: &'a [S]) -> Result<Liv
             ..config_of(alloc, &matches, 1, "step")?
         },
         keep_going: matches.get_count("keep-going") != 0,
-        at_end: lines_at_end(alloc, &matches)?,
-        plain: plain_of(alloc, matches.get_str("plain"))?,
+        at_end: lines_at_end(alloc, &matches, &plain)?,
+        plain,
     })
 }

@@ -1,7 +1,7 @@
 //! Words of the command line that have two parts.
 
-ghost use Rattle.std.specs.Prelude.{◌≡◌, ◌<◌, IfOk, map, option_map, string_bytes};
-ghost use Rattle.kahn_line.specs.Parts.{parted, plain_parts, set_line};
+ghost use Rattle.std.specs.Prelude.{◌≡◌, ◌<◌, ◌++◌, IfOk, codes, map, option_copied, option_map, string_bytes};
+ghost use Rattle.kahn_line.specs.Parts.{input_named, parted, plain_parts, set_line};
 
 use crate::line::copied;
 use std::alloc::{AllocError, Global};
@@ -27,28 +27,52 @@ fn parted(word: &str, sign: char) -> (&str, Option<&str>)
     }
 }
 
-/// The line that a word `NAME=VALUE` stands for, `NAME: VALUE`. A word without `=` is the line itself.
-fn set_line(alloc: Global, word: &str) -> Result<String, AllocError>
-    ensures { IfOk result (λ line. string_bytes line ≡ set_line word.now) }
+/// A line of a name and values.
+fn named_line(alloc: Global, name: &str, value: &str) -> Result<String, AllocError>
+    ensures { IfOk result (λ line. string_bytes line ≡ name.now ++ (codes ": " ++ value.now)) }
 {
-    let (name, value) = parted(word, '=');
     let mut line = String::from_str(alloc, name)?;
-    if let Some(value) = value {
-        line.push_str(": ")?;
-        line.push_str(value)?;
-    }
+    line.push_str(": ")?;
+    line.push_str(value)?;
     Ok(line)
 }
 
+/// The line that a word `NAME=VALUE` stands for, `NAME: VALUE`. A word without `=` is values of the input channel whose values
+/// stand alone, where they do, and else the line itself.
+fn set_line(alloc: Global, input: Option<&str>, word: &str) -> Result<String, AllocError>
+    ensures { IfOk result (λ line. string_bytes line ≡ set_line (option_copied input.entry) word.now) }
+{
+    let (name, value) = parted(word, '=');
+    match (value, input) {
+        (Some(value), _) => named_line(alloc, name, value),
+        (None, Some(input)) => named_line(alloc, input, name),
+        (None, None) => String::from_str(alloc, name),
+    }
+}
+
 /// The lines that words stand for.
-pub(crate) fn set_lines(alloc: Global, words: &[&str]) -> Result<Vec<String>, AllocError>
-    ensures { IfOk result (λ lines. map string_bytes lines.items ≡ map (λ w. set_line w.now) words.now) }
+pub(crate) fn set_lines(
+    alloc: Global,
+    input: Option<&str>,
+    words: &[&str],
+) -> Result<Vec<String>, AllocError>
+    ensures { IfOk result (λ lines. map string_bytes lines.items ≡ map (λ w. set_line (option_copied input.entry) w.now) words.now) }
 {
     let mut lines = Vec::new(alloc);
     for word in words {
-        lines.push(set_line(alloc, word)?)?;
+        lines.push(set_line(alloc, input, word)?)?;
     }
     Ok(lines)
+}
+
+/// The name of the channel whose values stand alone in the lines of input, where they do.
+pub fn input_named(plain: &Option<Plain>) -> Option<&str>
+    ensures { option_copied result ≡ input_named plain.now }
+{
+    match plain {
+        Some(plain) => Some(plain.input.as_str()),
+        None => None,
+    }
 }
 
 /// The channels that a word `IN,OUT` or `IN` names, where there is one.

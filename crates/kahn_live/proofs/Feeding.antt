@@ -35,7 +35,7 @@ begun_there input old new false there begun = absurd (true≢false (sym there))
 stays : (old new : Live) → new ≡ old → IsShown old → IsShown new
 stays old new same was = subst (λ (s : Live). IsShown s) (sym same) was
 
-taken : (number : ℕ) (line : List ℕ) (p q : Telling) (old new : Live) (before after : Option (List ℕ)) (answer : Result Verdict TakeFault) → IsToldBy number answer p q
+taken : (number : ℕ) (line : List ℕ) (p q : Telling) (old new : Live) (before after : Option (List ℕ)) (answer : Result Verdict TakeFault) → IsToldBy new number line answer p q
     → IsTakenLine line old new before after answer → IsShown old → IsShown new
 taken number line p q old new before after (Ok v) told t was = (v, t.answered.verdict, t.answered.ends, t.out)
 taken number line p q old new before after (Err TooLong) told t was = stays old new t.same was

@@ -1,8 +1,10 @@
 -- What lines make, one after the other.
-use Rattle.std.proofs.Common.{◌≡◌, ◌∙◌, inl, inr, ℕ, suc, Bool, true, false, true≢false, List, None, Some, Option, Result, Ok, Err, IfOk, MatchResult, refl, sym, ap, subst}
+use Rattle.std.proofs.Common.{◌≡◌, ◌∙◌, inl, inr, ℕ, suc, Bool, true, false, true≢false, List, [], None, Some, Option, Result, Ok, Err, IfOk, is_err, MatchResult, append-nil, refl, sym, ap, subst}
 use Rattle.std.proofs.KnownBytes.{Keeps-refl}
-use Rattle.std.specs.Io.KnownBytes.{IsAtEnd}
+use Rattle.std.specs.Prelude.{◌||◌}
+use Rattle.std.specs.Io.KnownBytes.{Appends, IsAtEnd}
 use Rattle.kahn_streams.specs.declared.answer.Verdict.{Verdict}
+use Rattle.kahn_streams.specs.Written.{AppendsFront, Writes}
 use Rattle.kahn_fault.specs.declared.fault.Fault.{Fault}
 use Rattle.kahn_session.specs.Live.{IsTakenLine, Live, breaks}
 use Rattle.kahn_session.specs.declared.fault.TakeFault.{TakeFault}
@@ -15,31 +17,31 @@ fed_since line answer old mid new taken (same, kept) = (mid.out, subst (λ (s : 
 
 -- a line that was fed, and what is told of it
 pub line_met : (number : ℕ) (line : List ℕ) (answer : Result Verdict TakeFault) (old mid new : Point) (r : Result (Option TakeFault) Fault) → mid.told ≡ old.told
-    → IsTakenLine line old.session mid.session old.out mid.out answer → IsAnswerTold number answer mid new r → IsLineMet number line old new r
+    → IsTakenLine line old.session mid.session old.out mid.out answer → IsAnswerTold number line answer mid new r → IsLineMet number line old new r
 line_met number line answer old mid new (Ok None) quiet taken ((v, is), told, waited) = (
   v,
   (
-    subst (λ (a : Result Verdict TakeFault). IsToldBy number a old.told new.told) is (subst (λ (t : Telling). IsToldBy number answer t new.told) quiet told),
+    subst (λ (a : Result Verdict TakeFault). IsToldBy new.session number line a old.told new.told) is (subst (λ (t : Telling). IsToldBy new.session number line answer t new.told) quiet told),
     subst (λ (a : Result Verdict TakeFault). WasFed line a old new) is (fed_since line answer old mid new taken waited),
   ),
 )
 line_met number line answer old mid new (Ok (Some f)) quiet taken (is, told, waited) = (
-  subst (λ (a : Result Verdict TakeFault). IsToldBy number a old.told new.told) is (subst (λ (t : Telling). IsToldBy number answer t new.told) quiet told),
+  subst (λ (a : Result Verdict TakeFault). IsToldBy new.session number line a old.told new.told) is (subst (λ (t : Telling). IsToldBy new.session number line answer t new.told) quiet told),
   subst (λ (a : Result Verdict TakeFault). WasFed line a old new) is (fed_since line answer old mid new taken waited),
 )
 line_met number line answer old mid new (Err fault) quiet taken (why, (still, waited)) =
     (why, still ∙ quiet, inr (answer, fed_since line answer old mid new taken waited))
 
 -- a session is whole after a line that was told of
-pub still_whole : (number : ℕ) (answer : Result Verdict TakeFault) (mid new : Point) (r : Result (Option TakeFault) Fault)
-    → MatchResult answer (λ _. mid.session.broken ≡ false) (λ f. mid.session.broken ≡ breaks f) → IsAnswerTold number answer mid new r → IfOk r (λ _. new.session.broken ≡ false)
-still_whole number answer mid new (Ok None) whole ((v, is), told, (same, kept)) =
+pub still_whole : (number : ℕ) (line : List ℕ) (answer : Result Verdict TakeFault) (mid new : Point) (r : Result (Option TakeFault) Fault)
+    → MatchResult answer (λ _. mid.session.broken ≡ false) (λ f. mid.session.broken ≡ breaks f) → IsAnswerTold number line answer mid new r → IfOk r (λ _. new.session.broken ≡ false)
+still_whole number line answer mid new (Ok None) whole ((v, is), told, (same, kept)) =
     ap (λ (s : Live). s.broken) same ∙ subst (λ (a : Result Verdict TakeFault). MatchResult a (λ _. mid.session.broken ≡ false) (λ f. mid.session.broken ≡ breaks f)) is whole
-still_whole number answer mid new (Ok (Some f)) whole (is, told, (same, kept)) =
+still_whole number line answer mid new (Ok (Some f)) whole (is, told, (same, kept)) =
     let named = subst (λ (a : Result Verdict TakeFault). MatchResult a (λ _. mid.session.broken ≡ false) (λ f. mid.session.broken ≡ breaks f)) is whole in
-    let kind = subst (λ (a : Result Verdict TakeFault). IsToldBy number a mid.told new.told) is told in
+    let kind = subst (λ (a : Result Verdict TakeFault). IsToldBy new.session number line a mid.told new.told) is told in
     ap (λ (s : Live). s.broken) same ∙ named ∙ kind.1
-still_whole number answer mid new (Err fault) whole told = tt
+still_whole number line answer mid new (Err fault) whole told = tt
 
 -- a line that was met, as one behind those of the input
 pub answered_of : (number : ℕ) (line : List ℕ) (old new : Point) (r : Option TakeFault) → IsLineMet number line old new (Ok r) → WasAnswered number line old new
@@ -65,3 +67,21 @@ next_none input number text rest old new true none met = absurd (true≢false no
 -- nothing changed
 pub unmoved : (p : Point) → HasSent p p
 unmoved p = (refl, (refl, Keeps-refl p.out))
+
+-- ---- what was written is told
+
+pub either : (a b : Bool) → (a || b) ≡ (b || a)
+either true true = refl
+either true false = refl
+either false true = refl
+either false false = refl
+
+neither : (a b : Bool) → (a || b) ≡ false → a ≡ false
+neither true b e = e
+neither false b e = refl
+
+pub put_as : {X F : Type 0} (text : List ℕ) (before after : Option (List ℕ)) (failed bad : Bool) (r : Result X F) → bad ≡ is_err r → Writes before after r text
+    → AppendsFront before after text × ((failed || bad) ≡ false → (failed ≡ false) × Appends before after text)
+put_as text before after failed bad (Ok x) is wrote = ((text, [], sym (append-nil text), wrote), λ e. (neither failed bad e, wrote))
+put_as text before after true bad (Err f) is wrote = (wrote, λ e. absurd (true≢false e))
+put_as text before after false bad (Err f) is wrote = (wrote, λ e. absurd (true≢false (sym is ∙ e)))

@@ -1,20 +1,23 @@
 -- Believed. What lines make, one after the other, of a session, of what goes out and of what is told (this project's profile).
-use Rattle.std.specs.Prelude.{◌≡◌, ◌⊎◌, ℕ, zero, suc, ◌-◌, ◌^◌, min, Bool, true, false, not, ◌||◌, List, [], ◌∷◌, map, take, Option, None, Some, option_copied, string_bytes, Result, Ok, Err}
+use Rattle.std.specs.Prelude.{◌≡◌, ◌⊎◌, ℕ, zero, suc, ◌-◌, ◌^◌, min, Bool, true, false, not, ◌||◌, ◌&&◌, ◌==◌, List, [], ◌∷◌, map, take, Option, None, Some, if◌then◌else◌, option_copied, slice_index, string_bytes, Result, Ok, Err}
 use Rattle.std.specs.Io.KnownBytes.{Appends, IsAtEnd, Keeps}
 use Rattle.kahn_streams.specs.declared.answer.Verdict.{Verdict}
 use Rattle.kahn_streams.specs.declared.answer.Verdict.TheVariants.{Finished, Bound, Memory}
-use Rattle.kahn_pool.specs.declared.config.RunFault.TheVariants.{NoMemory as NoMemoryRun}
+use Rattle.kahn_streams.specs.declared.fault.RunFault.TheVariants.{NoMemory as NoMemoryRun}
 use Rattle.kahn_streams.specs.declared.feeds.FeedFault.TheVariants.{NoMemory as NoMemoryFeed}
-use Rattle.kahn_write.specs.Written.{AppendsFront}
+use Rattle.kahn_streams.specs.Written.{AppendsFront}
 use Rattle.kahn_write.specs.declared.bytes.WriteFault.{WriteFault}
 use Rattle.kahn_report.specs.declared.read.ReadFault.TheVariants.{Failed as FailedRead}
 use Rattle.kahn_report.specs.declared.working.WorkFault.TheVariants.{Run as RunWork, Write as WriteWork}
 use Rattle.kahn_fault.specs.declared.fault.Fault.{Fault}
 use Rattle.kahn_fault.specs.declared.fault.Fault.TheVariants.{Program, Work}
-use Rattle.kahn_session.specs.Live.{HasVerdict, IsDeaf, IsTakenLine, Live, breaks}
-use Rattle.kahn_session.specs.Refusals.{refusal_text, waiting_text}
+use Rattle.std.specs.Char.{is_ascii_digit}
+use Rattle.std.specs.Option.{is_none}
+use Rattle.std.specs.Str.{bytes_eq}
+use Rattle.kahn_session.specs.Live.{HasVerdict, IsDeaf, IsFirstInput, IsTakenLine, Live, breaks}
+use Rattle.kahn_session.specs.Refusals.{alike_text, refusal_text, take_words, waiting_text}
 use Rattle.kahn_session.specs.declared.fault.TakeFault.{TakeFault}
-use Rattle.kahn_session.specs.declared.fault.TakeFault.TheVariants.{Feed, NoMemory}
+use Rattle.kahn_session.specs.declared.fault.TakeFault.TheVariants.{BadLine, Feed, NoMemory}
 use Rattle.kahn_live.specs.Lines.{CutsLine, fed_text, most_kept, unmarked}
 use Rattle.kahn_live.specs.declared.stage.Stage.{Stage}
 use Rattle.kahn_live.specs.declared.taking.Fed.{Fed}
@@ -25,6 +28,17 @@ use Rattle.std.specs.declared.io.ErrorKind.TheVariants.{BrokenPipe}
 use Rattle.std.specs.Io.Buffered.{reader_remaining}
 use Rattle.std.specs.declared.io.buffered.BufReader.{BufReader}
 
+-- the lines that were refused so far. Those that are refused one behind the other for one reason are told of by the first of them
+-- and by how many they are more.
+pub record Complaints : Type 0 where
+  -- why the last one was
+  pub last : Option TakeFault
+  -- the number of the one that was told, and that of the last one
+  pub first : ℕ
+  pub number : ℕ
+  -- whether it was told how bare numbers are taken
+  pub hinted : Bool
+
 -- what is told on standard error
 pub record Telling : Type 0 where
   pub bytes : Option (List ℕ)
@@ -33,9 +47,22 @@ pub record Telling : Type 0 where
   -- whether a refused line leaves the status as it is, and whether one counts
   pub keep_going : Bool
   pub refused : Bool
+  -- the program's file
+  pub path : List ℕ
+  pub complaints : Complaints
+
+abbrev pub complaints_of : {E : Type 0} → Teller E → Complaints
+complaints_of t = record { last = t.last; first = t.first; number = t.number; hinted = t.hinted }
 
 abbrev pub telling_of : {E : Type 0} → (E → Option (List ℕ)) → Teller E → Telling
-telling_of contents t = record { bytes = contents t.errors; failed = t.failed; keep_going = t.keep_going; refused = t.refused }
+telling_of contents t = record {
+  bytes = contents t.errors;
+  failed = t.failed;
+  keep_going = t.keep_going;
+  refused = t.refused;
+  path = string_bytes t.path;
+  complaints = complaints_of t;
+}
 
 -- a session, the bytes that were written for it, and what is told
 pub record Point : Type 0 where
@@ -57,11 +84,95 @@ abbrev pub AcrossStage : {W E : Type 0} → (W → Option (List ℕ)) → (E →
 AcrossStage written said old new holds = holds (point_of written said old) (point_of written said new)
 
 -- the text was told, or after a fault of the writer a prefix of it; and a line counts as refused from here on, or none does
-pub record WasTold (text : List ℕ) (counts : Bool) (old new : Telling) : Type 0 where
+pub record WasToldOf (text : List ℕ) (counts : Bool) (known : Complaints) (old new : Telling) : Type 0 where
   pub front : AppendsFront old.bytes new.bytes text
   pub whole : new.failed ≡ false → (old.failed ≡ false) × Appends old.bytes new.bytes text
   pub keep_going : new.keep_going ≡ old.keep_going
   pub refused : new.refused ≡ (counts || old.refused)
+  pub path : new.path ≡ old.path
+  pub complaints : new.complaints ≡ known
+
+-- the same, and no line was refused
+abbrev pub WasTold : List ℕ → Telling → Telling → Type 0
+WasTold text old new = WasToldOf text false old.complaints old new
+
+-- how many lines more were refused was told
+abbrev pub IsMoreTold : Telling → Telling → Type 0
+IsMoreTold old new = WasToldOf (alike_text old.path (old.complaints.number - old.complaints.first)) false (record old.complaints { first = old.complaints.number }) old new
+
+-- ---- a line that is refused
+
+-- whether a fault is told in the words of another
+abbrev pub is_alike : Option TakeFault → TakeFault → Bool
+is_alike None f = false
+is_alike (Some g) f = bytes_eq (take_words g) (take_words f)
+
+-- whether a number is the next one
+abbrev pub is_next : ℕ → ℕ → Bool
+is_next number before = not (number == 0) && number - 1 == before
+
+-- whether the line of this number is refused as the one before it, and nothing more is to be said of it
+abbrev pub is_again : Complaints → ℕ → TakeFault → Option (List ℕ) → Bool
+is_again k number f hint = (is_none hint && is_next number k.number) && is_alike k.last f
+
+-- one line more was refused, and nothing was told
+pub record IsTallied (number : ℕ) (old new : Telling) : Type 0 where
+  pub bytes : new.bytes ≡ old.bytes
+  pub failed : new.failed ≡ old.failed
+  pub keep_going : new.keep_going ≡ old.keep_going
+  pub refused : new.refused ≡ (not old.keep_going || old.refused)
+  pub path : new.path ≡ old.path
+  pub complaints : new.complaints ≡ record old.complaints { number = number }
+
+-- whether it was told how bare numbers are taken, now or before
+abbrev pub is_hinted : Option (List ℕ) → Bool → Bool
+is_hinted None before = before
+is_hinted (Some input) before = true
+
+-- why the line was refused was told, and this is known then
+abbrev pub IsNewPut : Complaints → ℕ → TakeFault → Option (List ℕ) → Telling → Telling → Type 0
+IsNewPut known number f hint old new = WasToldOf (refusal_text old.path number f hint) (not old.keep_going) known old new
+
+abbrev pub IsNewTold : ℕ → TakeFault → Option (List ℕ) → Telling → Telling → Type 0
+IsNewTold number f hint old new =
+    IsNewPut (record { last = Some f; first = number; number = number; hinted = is_hinted hint old.complaints.hinted }) number f hint old new
+
+-- the line was told of, or counted
+abbrev pub IsComplaintBy : Bool → ℕ → TakeFault → Option (List ℕ) → Telling → Telling → Type 0
+IsComplaintBy true number f hint old new = IsTallied number old new
+IsComplaintBy false number f hint old new = (mid : Telling) × IsMoreTold old mid × IsNewTold number f hint mid new
+
+abbrev pub IsComplaint : ℕ → TakeFault → Option (List ℕ) → Telling → Telling → Type 0
+IsComplaint number f hint old new = IsComplaintBy (is_again old.complaints number f hint) number f hint old new
+
+-- whether a line begins as a number does
+abbrev pub is_bare_line : List ℕ → Bool
+is_bare_line line = is_ascii_digit (slice_index line 0) || slice_index line 0 == 45
+
+-- whether memory was refused for a line
+abbrev pub is_want : TakeFault → Bool
+is_want NoMemory = true
+is_want (Feed NoMemoryFeed) = true
+is_want f = false
+
+abbrev pub is_bad_line : TakeFault → Bool
+is_bad_line BadLine = true
+is_bad_line f = false
+
+-- whether it is told how bare numbers are taken: where one is refused, and where the line of number 0 is, which names a channel alone
+abbrev pub wants_hint : ℕ → List ℕ → TakeFault → Bool
+wants_hint number line f = if number == 0 then not (is_want f) else is_bad_line f && is_bare_line line
+
+-- the input channel that is named in that
+abbrev pub IsHintBy : Bool → Live → Option (List ℕ) → Type 0
+IsHintBy true s hint = IsFirstInput s.flow.run.network hint
+IsHintBy false s hint = hint ≡ None
+
+-- the line that was fed was refused, and that was told
+pub record IsRefused (s : Live) (number : ℕ) (line : List ℕ) (f : TakeFault) (old new : Telling) : Type 0 where
+  pub hint : Option (List ℕ)
+  pub named : IsHintBy (not old.complaints.hinted && wants_hint number line f) s hint
+  pub told : IsComplaint number f hint old new
 
 -- what was put off may have been sent: no byte more was written
 abbrev pub HasWaited : Point → Point → Type 0
@@ -72,11 +183,11 @@ abbrev pub HasSent : Point → Point → Type 0
 HasSent old new = (new.told ≡ old.told) × HasWaited old new
 
 -- what is told of a line with this answer
-abbrev pub IsToldBy : ℕ → Result Verdict TakeFault → Telling → Telling → Type 0
-IsToldBy number (Ok Finished) old new = new ≡ old
-IsToldBy number (Ok Bound) old new = new ≡ old
-IsToldBy number (Ok Memory) old new = WasTold (waiting_text number) false old new
-IsToldBy number (Err f) old new = WasTold (refusal_text number f) (not old.keep_going) old new × (breaks f ≡ false)
+abbrev pub IsToldBy : Live → ℕ → List ℕ → Result Verdict TakeFault → Telling → Telling → Type 0
+IsToldBy s number line (Ok Finished) old new = new ≡ old
+IsToldBy s number line (Ok Bound) old new = new ≡ old
+IsToldBy s number line (Ok Memory) old new = WasTold (waiting_text old.path number) old new
+IsToldBy s number line (Err f) old new = IsRefused s number line f old new × (breaks f ≡ false)
 
 -- what the session made of the line; what is new may have been sent
 abbrev pub WasFed : List ℕ → Result Verdict TakeFault → Point → Point → Type 0
@@ -85,11 +196,11 @@ WasFed line answer old new = (sent : Option (List ℕ)) × IsTakenLine line old.
 -- the line was taken or refused, and what is to be told of it was
 abbrev pub WasMet : ℕ → List ℕ → Result Verdict TakeFault → Point → Point → Type 0
 WasMet number line answer old new =
-    IsToldBy number answer old.told new.told × WasFed line answer old new
+    IsToldBy new.session number line answer old.told new.told × WasFed line answer old new
 
 -- memory was refused for the line, and that was told
 abbrev pub HasMissed : ℕ → Point → Point → Type 0
-HasMissed number old new = WasTold (refusal_text number NoMemory) (not old.told.keep_going) old.told new.told × HasWaited old new
+HasMissed number old new = IsRefused new.session number [] NoMemory old.told new.told × HasWaited old new
 
 -- the line was taken or refused
 abbrev pub WasAnswered : ℕ → List ℕ → Point → Point → Type 0
@@ -123,15 +234,15 @@ IsBrokenOff line old new fault = IsWriteFault fault × (new.told ≡ old.told)
 -- ---- one line
 
 -- a fault of the line is told behind what is new
-abbrev pub IsRefusalTold : {X : Type 0} → ℕ → TakeFault → Point → Point → Result X Fault → Type 0
-IsRefusalTold number f old new (Ok x) = WasTold (refusal_text number f) (not old.told.keep_going) old.told new.told × HasWaited old new
-IsRefusalTold number f old new (Err fault) = IsWriteFault fault × HasSent old new
+abbrev pub IsRefusalTold : {X : Type 0} → ℕ → List ℕ → TakeFault → Point → Point → Result X Fault → Type 0
+IsRefusalTold number line f old new (Ok x) = IsRefused new.session number line f old.told new.told × HasWaited old new
+IsRefusalTold number line f old new (Err fault) = IsWriteFault fault × HasSent old new
 
 -- what is told of a line by its answer
-abbrev pub IsAnswerTold : ℕ → Result Verdict TakeFault → Point → Point → Result (Option TakeFault) Fault → Type 0
-IsAnswerTold number answer old new (Ok None) = ((v : Verdict) × (answer ≡ Ok v)) × IsToldBy number answer old.told new.told × HasWaited old new
-IsAnswerTold number answer old new (Ok (Some f)) = (answer ≡ Err f) × IsToldBy number answer old.told new.told × HasWaited old new
-IsAnswerTold number answer old new (Err fault) = IsWriteFault fault × HasSent old new
+abbrev pub IsAnswerTold : ℕ → List ℕ → Result Verdict TakeFault → Point → Point → Result (Option TakeFault) Fault → Type 0
+IsAnswerTold number line answer old new (Ok None) = ((v : Verdict) × (answer ≡ Ok v)) × IsToldBy new.session number line answer old.told new.told × HasWaited old new
+IsAnswerTold number line answer old new (Ok (Some f)) = (answer ≡ Err f) × IsToldBy new.session number line answer old.told new.told × HasWaited old new
+IsAnswerTold number line answer old new (Err fault) = IsWriteFault fault × HasSent old new
 
 -- a line is told of by its refusal, where it was refused
 abbrev pub IsLineMet : ℕ → List ℕ → Point → Point → Result (Option TakeFault) Fault → Type 0
@@ -197,12 +308,6 @@ IsInputMet input (Err fault) text old new =
     (n : ℕ) × (rest : Option (List ℕ)) × (last : Point) × AreRead input n text rest old last × IsHearing last.session × IsStoppedAt input (suc n) rest last new fault
 
 -- ---- the part before the first line
-
--- whether memory was refused for a line
-abbrev pub is_want : TakeFault → Bool
-is_want NoMemory = true
-is_want (Feed NoMemoryFeed) = true
-is_want f = false
 
 -- a line of number 0 without values was taken; or it was refused, since there is no input channel of the name; or memory was
 -- refused for it

@@ -1,5 +1,6 @@
 -- Believed. A run on lines, from the program text to the status (this project's profile).
-use Rattle.std.specs.Prelude.{◌≡◌, ◌⊎◌, ℕ, Bool, true, false, List, [], map, Option, None, Some, Result, Ok, Err, option_map, option_copied, is_some, string_bytes}
+use Rattle.std.specs.Prelude.{◌≡◌, ◌⊎◌, ℕ, Bool, true, false, List, [], map, Option, None, Some, Result, Ok, Err, option_map, option_copied, is_some, ◌∷◌, codes, string_bytes}
+use Rattle.std.specs.List.{concat}
 use Rattle.std.specs.declared.alloc.Global.{Global}
 use Rattle.std.specs.declared.string.String.{String}
 use Rattle.kahn_streams.specs.declared.config.Config.{Config}
@@ -7,20 +8,20 @@ use Rattle.kahn_streams.specs.declared.tree.Program.{Program}
 use Rattle.kahn_pool.specs.HeldRuns.{HeldRun}
 use Rattle.kahn_streams.specs.declared.answer.Verdict.{Verdict}
 use Rattle.kahn_streams.specs.declared.answer.Verdict.TheVariants.{Finished}
-use Rattle.kahn_pool.specs.declared.config.RunFault.{RunFault}
-use Rattle.kahn_pool.specs.declared.config.RunFault.TheVariants.{UnknownWatch}
+use Rattle.kahn_streams.specs.declared.fault.RunFault.{RunFault}
+use Rattle.kahn_streams.specs.declared.fault.RunFault.TheVariants.{UnknownWatch}
 use Rattle.kahn_report.specs.Work.{IsChecked, IsUnchecked}
 use Rattle.kahn_report.specs.declared.working.WorkFault.{WorkFault}
 use Rattle.kahn_report.specs.declared.working.WorkFault.TheVariants.{Run as RunWork, Write as WriteWork}
 use Rattle.kahn_write.specs.declared.bytes.WriteFault.{WriteFault}
-use Rattle.kahn_fault.specs.Message.{fault_text}
 use Rattle.kahn_fault.specs.Status.{live_status_of}
+use Rattle.kahn_fault.specs.Telling.{pointer_text, told_text}
 use Rattle.kahn_fault.specs.declared.fault.Fault.{Fault}
 use Rattle.kahn_fault.specs.declared.fault.Fault.TheVariants.{Work}
 use Rattle.kahn_line.specs.declared.live.LiveOptions.{LiveOptions}
 use Rattle.kahn_line.specs.declared.parts.Plain.{Plain}
-use Rattle.kahn_session.specs.Live.{HasOpened, IsClosed, IsFaulty, IsLastText, IsStreamOf, IsUnopened, Live}
-use Rattle.kahn_live.specs.Course.{AreAllMet, LinesGiven, HasSent, HasWaited, IsWriteFault, Point, Telling, WasTold, no_memory, telling_of}
+use Rattle.kahn_session.specs.Live.{HasOpened, IsClosed, IsFaulty, IsLastText, IsStreamOf, IsStuck, IsUnopened, HasVerdict, Live}
+use Rattle.kahn_live.specs.Course.{AreAllMet, LinesGiven, HasSent, HasWaited, IsMoreTold, IsWriteFault, Point, Telling, WasTold, no_memory, telling_of}
 use Rattle.kahn_live.specs.declared.running.Asked.{Asked}
 use Rattle.kahn_live.specs.declared.serving.Ending.{Ending}
 use Rattle.kahn_live.specs.declared.serving.Ending.TheVariants.{Reached, Gone, NoInput}
@@ -56,13 +57,17 @@ IsSetUp plain t config (Err f) = IsUnopened t config f ⊎ ((first : Live) × Ha
 
 -- ---- the end
 
--- whether it is told how the run ended, where values stand alone: where the status isn't 0 or a process has a fault
+-- whether it is told how the run ended, where values stand alone: where the status isn't 0, a process has a fault, or no line can
+-- change the run any more though a process waits
 abbrev pub IsEndWanted : HeldRun → Bool → Verdict → Bool → Type 0
-IsEndWanted h refused v true = (live_status_of refused (Ok v) ≡ 0 → ⊥) ⊎ IsFaulty h true
-IsEndWanted h refused v false = (live_status_of refused (Ok v) ≡ 0) × IsFaulty h false
+IsEndWanted h refused v true = (live_status_of refused (Ok v) ≡ 0 → ⊥) ⊎ (IsFaulty h true ⊎ IsStuck h true)
+IsEndWanted h refused v false = (live_status_of refused (Ok v) ≡ 0) × IsFaulty h false × IsStuck h false
+
+abbrev pub IsEndPut : HeldRun → Telling → Telling → Type 0
+IsEndPut h old new = (v : Verdict) × (text : List ℕ) × IsLastText h v text × WasTold text old new
 
 abbrev pub IsEndTold : HeldRun → Telling → Telling → Bool → Type 0
-IsEndTold h old new true = (v : Verdict) × (text : List ℕ) × IsLastText h v text × WasTold text false old new
+IsEndTold h old new true = (mid : Telling) × IsMoreTold old mid × IsEndPut h mid new
 IsEndTold h old new false = new ≡ old
 
 abbrev pub IsPlainEnd : HeldRun → Telling → Telling → Verdict → Type 0
@@ -110,10 +115,29 @@ IsSent false ending r = (r ≡ ending) ⊎ IsUnsent ending r
 abbrev pub Tells : {X E : Type 0} → (E → Option (List ℕ)) → Teller E → X × Teller E → (Telling → Telling → X → Type 0) → Type 0
 Tells said old done holds = holds (telling_of said old) (telling_of said done.1) done.0
 
+-- whether no line can change the run any more, though a process waits
+abbrev pub IsStuckNow : Live → Bool → Type 0
+IsStuckNow s true = HasVerdict s × IsStuck s.flow.run true
+IsStuckNow s false = HasVerdict s → IsStuck s.flow.run false
+
+abbrev pub wants_why : Bool → Result Ending Fault → Bool
+wants_why stuck (Ok (Reached v)) = stuck
+wants_why stuck (Ok Gone) = false
+wants_why stuck (Ok NoInput) = false
+wants_why stuck (Err fault) = false
+
+-- which program says why, where it is so at the end
+abbrev pub why_text : Bool → List ℕ → List ℕ
+why_text true path = concat (codes "kahn_explain " ∷ path ∷ codes " --input FILE says why\n" ∷ [])
+why_text false path = []
+
+abbrev pub IsWhyTold : Live → Result Ending Fault → Telling → Telling → Type 0
+IsWhyTold s r old new = (stuck : Bool) × IsStuckNow s stuck × WasTold (why_text (wants_why stuck r) old.path) old new
+
 -- the lines were served from a session on, and this was told
 abbrev pub HasRunSession : LinesGiven → Live → Option (List ℕ) → Option (List ℕ) → Telling → Telling → Result Ending Fault → Type 0
 HasRunSession f s text out old new r = (last : Point) × (ending : Result Ending Fault) × (gone : Bool)
-    × HasServed f ending text (record { session = s; out = out; told = old }) last × (new ≡ last.told) × IsSent gone ending r
+    × HasServed f ending text (record { session = s; out = out; told = old }) last × IsSent gone ending r × IsWhyTold last.session r last.told new
 
 -- what is asked for: the channels whose values stand alone, and the lines behind those of the input
 pub record Request : Type 0 where
@@ -147,17 +171,30 @@ ending_status refused (Ok Gone) = live_status_of refused (Ok Finished)
 ending_status refused (Ok NoInput) = 6
 ending_status refused (Err fault) = live_status_of refused (Err fault)
 
--- what is told of how a run ended
-abbrev pub fault_told : List ℕ → Result Ending Fault → List ℕ
-fault_told program (Ok ending) = []
-fault_told program (Err fault) = fault_text program fault
+-- what is told of how a run ended: a fault, and which program says more of it
+abbrev pub IsLastTold : List ℕ → Result Verdict Fault → Telling → Telling → Type 0
+IsLastTold program answer old new = (mid : Telling) × (last : Telling)
+    × IsMoreTold old mid × WasTold (told_text program answer) mid last × WasTold (pointer_text last.path answer) last new
+
+abbrev pub IsEndingTold : List ℕ → Result Ending Fault → Telling → Telling → Type 0
+IsEndingTold program (Ok (Reached v)) old new = IsLastTold program (Ok v) old new
+IsEndingTold program (Ok Gone) old new = IsLastTold program (Ok Finished) old new
+IsEndingTold program (Ok NoInput) old new = new ≡ old
+IsEndingTold program (Err fault) old new = IsLastTold program (Err fault) old new
 
 -- before the first line
-abbrev pub untold : Option (List ℕ) → Bool → Telling
-untold bytes keep_going = record { bytes = bytes; failed = false; keep_going = keep_going; refused = false }
+abbrev pub untold : Option (List ℕ) → Bool → List ℕ → Telling
+untold bytes keep_going path = record {
+  bytes = bytes;
+  failed = false;
+  keep_going = keep_going;
+  refused = false;
+  path = path;
+  complaints = record { last = None; first = 0; number = 0; hinted = false };
+}
 
--- a program text was run as the options say, on this text of input, behind what was written and what was told before; how that
+-- a program text, of this file, was run as the options say, on this text of input, behind what was written and what was told before; how that
 -- ended was told, and the status is this
-abbrev pub HasRunAs : List ℕ → LiveOptions → Option (List ℕ) → Option (List ℕ) → Option (List ℕ) → Telling → ℕ → Type 0
-HasRunAs program o text out bytes new status = (r : Result Ending Fault) × (last : Telling) × HasRunText program o text out (untold bytes o.keep_going) last r
-    × WasTold (fault_told program r) false last new × (status ≡ ending_status last.refused r)
+abbrev pub HasRunAs : List ℕ → List ℕ → LiveOptions → Option (List ℕ) → Option (List ℕ) → Option (List ℕ) → Telling → ℕ → Type 0
+HasRunAs program path o text out bytes new status = (r : Result Ending Fault) × (last : Telling) × HasRunText program o text out (untold bytes o.keep_going path) last r
+    × IsEndingTold program r last new × (status ≡ ending_status last.refused r)

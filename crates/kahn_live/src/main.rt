@@ -12,15 +12,25 @@ mod telling;
 use kahn_fault::{read_texts, tell};
 use kahn_line::{LiveOptions, read_live_line, tell_line, tell_no_memory, tell_words};
 use running::ran;
+use std::alloc::{AllocError, Global};
 use std::io::Write;
 use std::process::ExitCode;
 use std::rt::Runtime;
 use std::{env, io};
 
+/// The path of the program text, which the words always name.
+fn path_of(alloc: Global, program: &Option<String>) -> Result<String, AllocError> {
+    match program {
+        Some(path) => String::from_str(alloc, path.as_str()),
+        None => Ok(String::new(alloc)),
+    }
+}
+
 /// Does what the command line asks for, and gives the status. Faults are told to the writer.
 fn answered<R: Runtime + AllocGlobal, W: Write>(
     rt: &R,
     mut options: LiveOptions,
+    path: String,
     writer: &mut W,
 ) -> u8 {
     let program = options.program.take();
@@ -28,7 +38,7 @@ fn answered<R: Runtime + AllocGlobal, W: Write>(
         Ok(texts) => {
             let program = texts.program.as_str();
             let (input, output) = (rt.reader(), io::writer(rt));
-            ran(rt.alloc(), program, options, input, output, writer).0
+            ran(rt.alloc(), program, path, options, input, output, writer).0
         }
         Err(fault) => tell(&Err(fault), "", writer).status,
     }
@@ -43,7 +53,10 @@ fn main(rt: HostRuntime) -> ExitCode {
         return ExitCode::from(tell_no_memory(&rt));
     };
     let status = match read_live_line(rt.alloc(), words.as_slice()) {
-        Ok(options) => answered(&rt, options, &mut rt.stderr()),
+        Ok(options) => match path_of(rt.alloc(), &options.program) {
+            Ok(path) => answered(&rt, options, path, &mut rt.stderr()),
+            Err(_) => tell_no_memory(&rt),
+        },
         Err(fault) => tell_line(&rt, &fault),
     };
     ExitCode::from(status)

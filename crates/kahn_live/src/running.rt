@@ -1,16 +1,16 @@
 //! A run on lines, from the program text to the status.
 
-ghost use Rattle.std.specs.Prelude.{◌≡◌, IfOk, false, option_copied};
-ghost use Rattle.kahn_live.specs.Course.{WasTold, telling_of};
+ghost use Rattle.std.specs.Prelude.{◌≡◌, IfOk, false, option_copied, string_bytes};
+ghost use Rattle.kahn_live.specs.Course.{AcrossStage, telling_of};
 ghost use Rattle.kahn_live.specs.Running.{HasRunAs, HasRunNetwork, HasRunText, IsInForm, IsPlainStream, IsSetUp, Tells, WatchesPlain};
-ghost use Rattle.kahn_live.specs.Running.{ending_status, input_of, fault_told, request_of};
+ghost use Rattle.kahn_live.specs.Running.{IsEndingTold, IsStuckNow, IsWhyTold, ending_status, input_of, request_of, wants_why};
 
 use crate::outlet::Outlet;
 use crate::serving::{Ending, sent, work};
 use crate::stage::Stage;
 use crate::taking::{Fed, wants_memory};
 use crate::telling::Teller;
-use kahn_fault::{Fault, live_status};
+use kahn_fault::Fault;
 use kahn_line::{LiveOptions, Plain};
 use kahn_pool::{Config, RunFault, Verdict};
 use kahn_report::{WorkFault, checked};
@@ -83,6 +83,37 @@ struct Asked<'a> {
     at_end: &'a [String],
 }
 
+/// Whether no line can change the run any more, though a process waits.
+fn is_stuck(session: &Session<'_>) -> bool
+    ensures { IsStuckNow session.now result }
+{
+    if !session.settled() {
+        return false;
+    }
+    session.is_stuck()
+}
+
+/// Whether it is told which program says why, where the run can't go on or can.
+fn wants_why(stuck: bool, ending: &Result<Ending, Fault>) -> bool
+    ensures { result ≡ wants_why stuck ending.now }
+{
+    match ending {
+        Ok(Ending::Reached(_)) => stuck,
+        Ok(Ending::Gone) => false,
+        Ok(Ending::NoInput) => false,
+        Err(_) => false,
+    }
+}
+
+/// Tells which program says why the run can't go on, where it is so at the end.
+fn tell_stuck<W: Write, E: Write>(stage: &mut Stage<'_, W, E>, ending: &Result<Ending, Fault>)
+    ensures { AcrossStage W.contents E.contents stage.old stage.new (λ p q. IsWhyTold p.session ending.now p.told q.told) }
+{
+    let stuck = is_stuck(&stage.session);
+    let wanted = wants_why(stuck, ending);
+    stage.teller.tell_why(wanted);
+}
+
 /// Runs a network on the input, and writes what is new to the output.
 fn run_network<I: Read + Drop, W: Write + Drop, E: Write + Drop>(
     alloc: Global,
@@ -113,6 +144,7 @@ fn run_network<I: Read + Drop, W: Write + Drop, E: Write + Drop>(
     };
     let ending = work(alloc, &mut stage, input, fed);
     let ending = sent(&mut stage.outlet, ending);
+    tell_stuck(&mut stage, &ending);
     (ending, stage.teller)
 }
 
@@ -159,32 +191,31 @@ fn run<I: Read + Drop, W: Write + Drop, E: Write + Drop>(
 /// Tells a fault of the run, and gives the status.
 fn told<E: Write>(ending: Result<Ending, Fault>, program: &str, teller: &mut Teller<E>) -> u8
     ensures status { result ≡ ending_status teller.old.refused ending }
-    ensures told { WasTold (fault_told program.now ending) false (telling_of E.contents teller.old) (telling_of E.contents teller.new) }
+    ensures told { IsEndingTold program.now ending (telling_of E.contents teller.old) (telling_of E.contents teller.new) }
 {
-    let answer = match ending {
-        Ok(Ending::Reached(verdict)) => Ok(verdict),
-        Ok(Ending::Gone) => Ok(Verdict::Finished),
-        Ok(Ending::NoInput) => return NO_INPUT,
-        Err(fault) => Err(fault),
-    };
-    teller.tell_fault(&answer, program);
-    live_status(&answer, teller.refused)
+    match ending {
+        Ok(Ending::Reached(verdict)) => teller.tell_last(&Ok(verdict), program),
+        Ok(Ending::Gone) => teller.tell_last(&Ok(Verdict::Finished), program),
+        Ok(Ending::NoInput) => NO_INPUT,
+        Err(fault) => teller.tell_last(&Err(fault), program),
+    }
 }
 
-/// Runs a program text on the input as the options say, writes what is new to the output, and tells what isn't taken and a fault
-/// of the run to the writer of faults. It gives the status.
+/// Runs a program text, of that file, on the input as the options say, writes what is new, and tells what isn't taken and a
+/// fault of the run to the writer of faults. It gives the status.
 pub(crate) fn ran<I: Read + Drop, W: Write + Drop, E: Write + Drop>(
     alloc: Global,
     program: &str,
+    path: String,
     options: LiveOptions,
     input: I,
-    output: W,
+    out: W,
     errors: E,
 ) -> (u8, Teller<E>)
-    ensures { HasRunAs program.now options (I.remaining input) (W.contents output) (E.contents errors) (telling_of E.contents result.1) result.0 }
+    ensures { HasRunAs program.now (string_bytes path) options (I.remaining input) (W.contents out) (E.contents errors) (telling_of E.contents result.1) result.0 }
 {
-    let teller = Teller::new(errors, options.keep_going);
-    let (ending, mut teller) = run(alloc, program, options, input, output, teller);
+    let teller = Teller::new(errors, options.keep_going, path);
+    let (ending, mut teller) = run(alloc, program, options, input, out, teller);
     let status = told(ending, program, &mut teller);
     (status, teller)
 }

@@ -28,7 +28,8 @@ pub(crate) enum Ending {
     NoInput,
 }
 
-/// Whether it is told how a run with this verdict ended: the status isn't 0, or a process has a fault.
+/// Whether it is told how a run with this verdict ended: the status isn't 0, a process has a fault, or no line can change the run any
+/// more though a process waits.
 fn is_end_wanted(session: &Session<'_>, refused: bool, verdict: Verdict) -> bool
     requires { HasVerdict session.now }
     ensures { IsEndWanted session.now.flow.run refused verdict result }
@@ -36,10 +37,13 @@ fn is_end_wanted(session: &Session<'_>, refused: bool, verdict: Verdict) -> bool
     if live_status(&Ok(verdict), refused) != 0 {
         return true;
     }
-    session.has_fault()
+    if session.has_fault() {
+        return true;
+    }
+    session.is_stuck()
 }
 
-/// Tells how the run ended, where the status isn't 0 or a process has a fault.
+/// Tells how the run ended, where that is wanted.
 fn close_plain<E: Write>(session: &Session<'_>, teller: &mut Teller<E>) -> Verdict
     requires { HasVerdict session.now }
     ensures { IsPlainEnd session.now.flow.run (telling_of E.contents teller.old) (telling_of E.contents teller.new) result }

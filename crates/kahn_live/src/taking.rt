@@ -1,15 +1,16 @@
 //! The lines of a run: those of the input, and those that are fed at its end.
 
-ghost use Rattle.std.specs.Prelude.{◌≡◌, IfErr, IfOk, false, map, option_copied, string_bytes, true};
+ghost use Rattle.std.specs.Prelude.{◌≡◌, ◌&&◌, not, IfErr, IfOk, false, map, option_copied, string_bytes, true};
 ghost use Rattle.std.specs.Io.Buffered.{reader_buffer};
 ghost use Rattle.kahn_session.specs.Live.{HasVerdict, breaks};
 ghost use Rattle.kahn_live.specs.Course.{Across, AreAllMet, AreLastMet, AcrossStage, HasSent, IsAnswerTold, IsDeafNow, IsFirstPart, IsInputMet, IsLineMet};
-ghost use Rattle.kahn_live.specs.Course.{IsNextMet, IsReadMet, IsRefusalTold, IsWriteFault, lines_given, is_want, no_memory, point_of};
+ghost use Rattle.kahn_live.specs.Course.{IsHintBy, IsNextMet, IsReadMet, IsRefusalTold, IsRefused, IsWriteFault, lines_given, is_bad_line, is_bare_line, is_want, no_memory, point_of, telling_of, wants_hint};
 ghost use Rattle.kahn_live.specs.Histories.{HasHistories};
 ghost use Rattle.kahn_live.specs.Lines.{IsReadyToRead};
 
 use crate::lines::{Next, fed_line, has_line, next_line};
 use crate::stage::Stage;
+use crate::telling::Teller;
 use kahn_fault::Fault;
 use kahn_pool::{Open, RunFault, Verdict};
 use kahn_report::{ReadFault, WorkFault};
@@ -59,17 +60,77 @@ fn send_before<I: Read, W: Write, E: Write>(
     stage.outlet.send()
 }
 
+/// Whether a line begins as a number does.
+fn is_bare_line(line: &[u8]) -> bool
+    ensures { result ≡ is_bare_line line.now }
+{
+    match line.first() {
+        None => false,
+        Some(byte) => byte.is_ascii_digit() || *byte == b'-',
+    }
+}
+
+/// Whether a line doesn't begin with a name and a colon.
+fn is_bad_line(fault: TakeFault) -> bool
+    ensures { result ≡ is_bad_line fault }
+{
+    matches!(fault, TakeFault::BadLine)
+}
+
+/// Whether it is told how bare numbers are taken, with the fault of the line of that number.
+fn wants_hint(number: u64, line: &[u8], fault: TakeFault) -> bool
+    ensures { result ≡ wants_hint number line.now fault }
+{
+    if number == 0 {
+        return !is_want(fault);
+    }
+    is_bad_line(fault) && is_bare_line(line)
+}
+
+/// Whether it is told now, where it was told or wasn't.
+fn is_hint_wanted(hinted: bool, number: u64, line: &[u8], fault: TakeFault) -> bool
+    ensures { result ≡ (not hinted && wants_hint number line.now fault) }
+{
+    !hinted && wants_hint(number, line, fault)
+}
+
+/// The input channel that is named in that.
+fn hint_of<'s>(session: &'s Session<'_>, wanted: bool) -> Option<&'s str>
+    ensures { IsHintBy wanted session.now (option_copied result) }
+{
+    if wanted {
+        return session.first_input();
+    }
+    None
+}
+
+/// Tells a fault of the line of that number.
+fn tell_refused<E: Write>(
+    session: &Session<'_>,
+    teller: &mut Teller<E>,
+    number: u64,
+    line: &[u8],
+    fault: TakeFault,
+)
+    ensures { IsRefused session.now number line.now fault (telling_of E.contents teller.old) (telling_of E.contents teller.new) }
+{
+    let wanted = is_hint_wanted(teller.hinted, number, line, fault);
+    let input = hint_of(session, wanted);
+    teller.tell(number, fault, input);
+}
+
 /// Tells a fault of the line of that number, behind what is new so far. It fails where that can't be written.
 fn tell_behind<W: Write, E: Write>(
     stage: &mut Stage<'_, W, E>,
     fault: TakeFault,
     number: u64,
+    line: &[u8],
 ) -> Result<(), Fault>
     ensures session { stage.new.session ≡ stage.old.session }
-    ensures told { IsRefusalTold number fault (point_of W.contents E.contents stage.old) (point_of W.contents E.contents stage.new) result }
+    ensures told { IsRefusalTold number line.now fault (point_of W.contents E.contents stage.old) (point_of W.contents E.contents stage.new) result }
 {
     stage.outlet.send()?;
-    stage.teller.tell(number, fault);
+    tell_refused(&stage.session, &mut stage.teller, number, line, fault);
     Ok(())
 }
 
@@ -79,8 +140,9 @@ fn tell_answer<W: Write, E: Write>(
     stage: &mut Stage<'_, W, E>,
     answer: Result<Verdict, TakeFault>,
     number: u64,
+    line: &[u8],
 ) -> Result<Option<TakeFault>, Fault>
-    ensures { IsAnswerTold number answer (point_of W.contents E.contents stage.old) (point_of W.contents E.contents stage.new) result }
+    ensures { IsAnswerTold number line.now answer (point_of W.contents E.contents stage.old) (point_of W.contents E.contents stage.new) result }
 {
     match answer {
         Ok(Verdict::Memory) => {
@@ -94,7 +156,7 @@ fn tell_answer<W: Write, E: Write>(
             if fault.breaks() {
                 return Err(last_fault(fault));
             }
-            tell_behind(stage, fault, number)?;
+            tell_behind(stage, fault, number, line)?;
             Ok(Some(fault))
         }
     }
@@ -112,7 +174,7 @@ fn take_line<W: Write, E: Write>(
     ensures met { IsLineMet number line.now (point_of W.contents E.contents stage.old) (point_of W.contents E.contents stage.new) result }
 {
     let answer = stage.session.take(line, &Open, &mut stage.outlet);
-    tell_answer(stage, answer, number)
+    tell_answer(stage, answer, number, line)
 }
 
 /// Takes a line of the input. Where memory is refused for it, that is told.
@@ -128,7 +190,7 @@ fn take_read<W: Write, E: Write>(
     ensures met { AcrossStage W.contents E.contents stage.old stage.new (λ p q. IsReadMet (option_copied input.entry) number line.now p q result) }
 {
     let Ok(fed) = fed_line(input, line, number, room) else {
-        return tell_behind(stage, TakeFault::NoMemory, number);
+        return tell_behind(stage, TakeFault::NoMemory, number, b"");
     };
     let _ = take_line(stage, fed, number)?;
     Ok(())
@@ -167,7 +229,7 @@ fn take_next<I: Read, W: Write, E: Write>(
         Next::End => Ok(false),
         Next::Failed => Err(Fault::Program(None, ReadFault::Failed)),
         Next::NoMemory => {
-            tell_behind(stage, TakeFault::NoMemory, number)?;
+            tell_behind(stage, TakeFault::NoMemory, number, b"")?;
             Ok(true)
         }
     }

@@ -1,18 +1,83 @@
-//! What is told of lines that aren't taken.
+//! What is told of lines that aren't taken, and of the end.
 
-ghost use Rattle.std.specs.Prelude.{◌≡◌, false, not, true};
-ghost use Rattle.kahn_session.specs.Refusals.{refusal_text, waiting_text};
+ghost use Rattle.std.specs.Prelude.{◌≡◌, false, option_copied, string_bytes, true};
+ghost use Rattle.std.specs.Option.{is_none};
+ghost use Rattle.kahn_streams.specs.Written.{Writes};
+ghost use Rattle.kahn_session.specs.Refusals.{waiting_text};
 ghost use Rattle.kahn_session.specs.Live.{HasVerdict};
-ghost use Rattle.kahn_fault.specs.Telling.{told_text};
-ghost use Rattle.kahn_live.specs.Course.{WasTold, telling_of};
-ghost use Rattle.kahn_live.specs.Running.{IsEndTold, untold};
+ghost use Rattle.kahn_fault.specs.Status.{live_status_of};
+ghost use Rattle.kahn_fault.specs.Telling.{pointer_text, told_text};
+ghost use Rattle.kahn_live.specs.Course.{IsComplaint, IsTallied, IsMoreTold, IsNewPut, IsNewTold, WasTold, complaints_of, is_again, is_alike, is_hinted, is_next, telling_of};
+ghost use Rattle.kahn_live.specs.Running.{IsEndPut, IsEndTold, IsLastTold, untold, why_text};
 
-use kahn_fault::{Fault, tell};
+use kahn_fault::{Fault, live_status, tell, tell_explain};
 use kahn_pool::Verdict;
-use kahn_session::{Session, TakeFault, write_refusal, write_waiting};
+use kahn_report::{WriteFault, write_line};
+use kahn_session::{Session, TakeFault, take_words, write_more, write_refusal, write_waiting};
 use std::io::Write;
 
-/// A writer of faults, and whether a line was refused.
+/// Whether a number is the next one.
+fn is_next(number: u64, before: u64) -> bool
+    ensures { result ≡ is_next number before }
+{
+    number != 0 && number - 1 == before
+}
+
+/// Whether no input channel is named.
+fn is_unnamed(input: Option<&str>) -> bool
+    ensures { result ≡ is_none (option_copied input.entry) }
+{
+    match input {
+        None => true,
+        Some(_) => false,
+    }
+}
+
+/// Whether it was told how bare numbers are taken, now or before.
+fn is_hinted(input: Option<&str>, before: bool) -> bool
+    ensures { result ≡ is_hinted (option_copied input.entry) before }
+{
+    match input {
+        None => before,
+        Some(_) => true,
+    }
+}
+
+/// Whether a fault is told in the words of another.
+fn is_alike(last: Option<TakeFault>, fault: TakeFault) -> bool
+    ensures { result ≡ is_alike last fault }
+{
+    match last {
+        None => false,
+        Some(last) => take_words(last) == take_words(fault),
+    }
+}
+
+/// Writes which program says why a run can't go on.
+fn put_why<W: Write>(writer: &mut W, path: &str) -> Result<(), WriteFault>
+    ensures { Writes (W.contents writer.old) (W.contents writer.new) result (why_text true path.now) }
+{
+    write_line(
+        writer,
+        &[
+            b"kahn_explain ",
+            path.as_bytes(),
+            b" --input FILE says why\n",
+        ],
+    )
+}
+
+/// Writes it where it is wanted.
+fn write_why<W: Write>(writer: &mut W, path: &str, wanted: bool) -> Result<(), WriteFault>
+    ensures { Writes (W.contents writer.old) (W.contents writer.new) result (why_text wanted path.now) }
+{
+    if wanted {
+        return put_why(writer, path);
+    }
+    Ok(())
+}
+
+/// A writer of faults, and what lines were refused.
 #[derive(Drop)]
 pub(crate) struct Teller<E: Write> {
     pub(crate) errors: E,
@@ -21,52 +86,152 @@ pub(crate) struct Teller<E: Write> {
     // Whether refused lines leave the status as it is.
     pub(crate) keep_going: bool,
     pub(crate) refused: bool,
+    // The program's file.
+    pub(crate) path: String,
+    // Why the last line that was refused was.
+    pub(crate) last: Option<TakeFault>,
+    // The number of the line that was told to be refused, and that of the last one that was, for the same reason.
+    pub(crate) first: u64,
+    pub(crate) number: u64,
+    // Whether it was told how bare numbers are taken.
+    pub(crate) hinted: bool,
 }
 
 impl<E: Write> Teller<E> {
     /// Before the first line. With `keep_going` no line counts as refused.
-    pub(crate) fn new(errors: E, keep_going: bool) -> Teller<E>
-        ensures { result ≡ record { errors = errors; failed = false; keep_going = keep_going; refused = false } }
+    pub(crate) fn new(errors: E, keep_going: bool, path: String) -> Teller<E>
+        ensures { telling_of E.contents result ≡ untold (E.contents errors) keep_going (string_bytes path) }
     {
         Teller {
             errors,
             failed: false,
             keep_going,
             refused: false,
+            path,
+            last: None,
+            first: 0,
+            number: 0,
+            hinted: false,
         }
     }
 
-    /// Tells why the line of that number isn't taken.
-    pub(crate) fn tell(&mut self, number: u64, fault: TakeFault)
-        ensures { WasTold (refusal_text number fault) (not self.old.keep_going) (telling_of E.contents self.old) (telling_of E.contents self.new) }
+    /// Whether the line of that number is refused as the one before it, and nothing more is to be said of it.
+    fn is_again(&self, number: u64, fault: TakeFault, input: Option<&str>) -> bool
+        ensures { result ≡ is_again (complaints_of self.now) number fault (option_copied input.entry) }
     {
-        let told = write_refusal(&mut self.errors, number, fault);
+        is_unnamed(input) && is_next(number, self.number) && is_alike(self.last, fault)
+    }
+
+    /// Tells how many lines more were refused as the one that was told.
+    fn tell_more(&mut self)
+        ensures { IsMoreTold (telling_of E.contents self.old) (telling_of E.contents self.new) }
+    {
+        let more = self.number.saturating_sub(self.first);
+        let told = write_more(&mut self.errors, self.path.as_str(), more);
+        self.failed |= told.is_err();
+        self.first = self.number;
+    }
+
+    /// Counts the line of that number.
+    fn count(&mut self, number: u64)
+        ensures { IsTallied number (telling_of E.contents self.old) (telling_of E.contents self.new) }
+    {
+        self.refused |= !self.keep_going;
+        self.number = number;
+    }
+
+    /// Tells why the line of that number is refused, and how bare numbers are taken, where an input channel is named.
+    fn tell_new(&mut self, number: u64, fault: TakeFault, input: Option<&str>)
+        ensures { IsNewTold number fault (option_copied input.entry) (telling_of E.contents self.old) (telling_of E.contents self.new) }
+    {
+        let hinted = is_hinted(input, self.hinted);
+        self.put_new(number, fault, input);
+        self.last = Some(fault);
+        self.first = number;
+        self.number = number;
+        self.hinted = hinted;
+    }
+
+    /// Writes it.
+    fn put_new(&mut self, number: u64, fault: TakeFault, input: Option<&str>)
+        ensures { IsNewPut (complaints_of self.old) number fault (option_copied input.entry) (telling_of E.contents self.old) (telling_of E.contents self.new) }
+    {
+        let told = write_refusal(&mut self.errors, self.path.as_str(), number, fault, input);
         self.failed |= told.is_err();
         self.refused |= !self.keep_going;
     }
 
+    /// Tells why the line of that number isn't taken, as `tell_new` does, or counts it where it is refused as the one before it.
+    pub(crate) fn tell(&mut self, number: u64, fault: TakeFault, input: Option<&str>)
+        ensures { IsComplaint number fault (option_copied input.entry) (telling_of E.contents self.old) (telling_of E.contents self.new) }
+    {
+        if self.is_again(number, fault, input) {
+            self.count(number);
+            return;
+        }
+        self.tell_more();
+        self.tell_new(number, fault, input);
+    }
+
     /// Tells that the part of the line of that number wants memory. The line isn't refused.
     pub(crate) fn tell_waiting(&mut self, number: u64)
-        ensures { WasTold (waiting_text number) false (telling_of E.contents self.old) (telling_of E.contents self.new) }
+        ensures { WasTold (waiting_text (string_bytes self.old.path) number) (telling_of E.contents self.old) (telling_of E.contents self.new) }
     {
-        let told = write_waiting(&mut self.errors, number);
+        let told = write_waiting(&mut self.errors, self.path.as_str(), number);
         self.failed |= told.is_err();
     }
 
-    /// Tells how the run of a session ended.
-    pub(crate) fn tell_end(&mut self, session: &Session<'_>)
+    /// Tells which program says why the run can't go on, where that is wanted.
+    pub(crate) fn tell_why(&mut self, wanted: bool)
+        ensures { WasTold (why_text wanted (string_bytes self.old.path)) (telling_of E.contents self.old) (telling_of E.contents self.new) }
+    {
+        let told = write_why(&mut self.errors, self.path.as_str(), wanted);
+        self.failed |= told.is_err();
+    }
+
+    /// Tells how the run of a session ended, in the last lines of a report.
+    fn put_end(&mut self, session: &Session<'_>)
         requires { HasVerdict session.now }
-        ensures { IsEndTold session.now.flow.run (telling_of E.contents self.old) (telling_of E.contents self.new) true }
+        ensures { IsEndPut session.now.flow.run (telling_of E.contents self.old) (telling_of E.contents self.new) }
     {
         let told = session.close(&mut self.errors);
         self.failed |= told.is_err();
     }
 
+    /// Tells how the run of a session ended, behind how many lines more were refused.
+    pub(crate) fn tell_end(&mut self, session: &Session<'_>)
+        requires { HasVerdict session.now }
+        ensures { IsEndTold session.now.flow.run (telling_of E.contents self.old) (telling_of E.contents self.new) true }
+    {
+        self.tell_more();
+        self.put_end(session);
+    }
+
     /// Tells why a run has no answer, where it has none. The fault's place is one of the program text.
-    pub(crate) fn tell_fault(&mut self, answer: &Result<Verdict, Fault>, program: &str)
-        ensures { WasTold (told_text program.now answer.now) false (telling_of E.contents self.old) (telling_of E.contents self.new) }
+    fn tell_fault(&mut self, answer: &Result<Verdict, Fault>, program: &str)
+        ensures { WasTold (told_text program.now answer.now) (telling_of E.contents self.old) (telling_of E.contents self.new) }
     {
         let told = tell(answer, program, &mut self.errors);
         self.failed |= told.line.is_err();
+    }
+
+    /// Tells which program says more of that.
+    fn tell_more_of(&mut self, answer: &Result<Verdict, Fault>)
+        ensures { WasTold (pointer_text (string_bytes self.old.path) answer.now) (telling_of E.contents self.old) (telling_of E.contents self.new) }
+    {
+        let told = tell_explain(answer, self.path.as_str(), &mut self.errors);
+        self.failed |= told.is_err();
+    }
+
+    /// Tells why a run has no answer, where it has none, behind how many lines more were refused, and gives the status.
+    pub(crate) fn tell_last(&mut self, answer: &Result<Verdict, Fault>, program: &str) -> u8
+        ensures status { result ≡ live_status_of self.old.refused answer.now }
+        ensures told { IsLastTold program.now answer.now (telling_of E.contents self.old) (telling_of E.contents self.new) }
+    {
+        let status = live_status(answer, self.refused);
+        self.tell_more();
+        self.tell_fault(answer, program);
+        self.tell_more_of(answer);
+        status
     }
 }

@@ -5,7 +5,8 @@ use Rattle.std.proofs.lemmas.Bool.{cases_lt}
 use Rattle.std.proofs.lemmas.Option.{same_Some}
 use Rattle.kahn_streams.specs.declared.tree.Program.{Program}
 use Rattle.kahn_streams.specs.declared.value.Line.{Line}
-use Rattle.kahn_session.specs.Live.{IsNamedAt, IsNamedLine}
+use Rattle.kahn_streams.specs.Network.{Network, role_at}
+use Rattle.kahn_session.specs.Live.{IsNamedAt, IsNamedLine, is_input}
 
 pub there : (lines : List Line) (n : ℕ) (d : Line) → n < length lines → slice_get lines n ≡ Some (slice_index_or lines n d)
 there [] n d below = absurd (omega (arith, below))
@@ -31,6 +32,12 @@ further t lines name n d is below told other before j next (line, at, named) =
   where
     here : j ≡ n → line ≡ slice_index_or lines n d
     here e = same_Some line (slice_index_or lines n d) (sym at ∙ subst (λ k. slice_get lines k ≡ Some (slice_index_or lines n d)) (sym e) (there lines n d below))
+
+-- no input channel up to one that is none
+pub no_further : (N : Network) (n : ℕ) → ((d : ℕ) → d < n → is_input (role_at N d) ≡ false) → is_input (role_at N n) ≡ false
+    → (d : ℕ) → d < n + 1 → is_input (role_at N d) ≡ false
+no_further N n none here d next =
+    ⊎_elim (none d) (λ le. let same : n ≡ d = omega (arith, next, le) in subst (λ k. is_input (role_at N k) ≡ false) same here) (cases_lt d n)
 
 -- none at all
 pub nowhere : (t : Program) (lines : List Line) (name : List ℕ) (n : ℕ) → length lines ≤ n → ((j : ℕ) → j < n → IsNamedAt t lines j name → ⊥) →

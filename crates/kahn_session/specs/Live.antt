@@ -9,7 +9,7 @@ use Rattle.kahn_streams.specs.declared.tree.Role.{Role}
 use Rattle.kahn_streams.specs.declared.value.Value.{Value}
 use Rattle.kahn_streams.specs.declared.value.Line.{Line}
 use Rattle.kahn_streams.specs.declared.tree.Role.TheVariants as role
-use Rattle.kahn_streams.specs.Network.{Network, network_of, role_at}
+use Rattle.kahn_streams.specs.Network.{Network, channel_names, network_of, role_at}
 use Rattle.kahn_streams.specs.declared.value.Line.TheVariants.{Channel}
 use Rattle.kahn_streams.specs.Inputs.{Entry, inputs_of}
 use Rattle.kahn_streams.specs.Answers.{Settles}
@@ -20,12 +20,11 @@ use Rattle.kahn_streams.specs.declared.answer.Outcome.{Outcome}
 use Rattle.kahn_streams.specs.declared.answer.Outcome.TheVariants.{Faulted, Waits}
 use Rattle.kahn_streams.specs.declared.answer.Verdict.{Verdict}
 use Rattle.kahn_streams.specs.declared.answer.Verdict.TheVariants.{Finished}
-use Rattle.kahn_pool.specs.declared.config.RunFault.{RunFault}
-use Rattle.kahn_pool.specs.declared.config.RunFault.TheVariants as fault
-use Rattle.kahn_report.specs.Inputs.{AreBlanks, IsEntry, HasNoHead, HasNoValues, content, most_input_bytes}
-use Rattle.kahn_report.specs.Report.{channel_name}
+use Rattle.kahn_streams.specs.declared.fault.RunFault.{RunFault}
+use Rattle.kahn_streams.specs.declared.fault.RunFault.TheVariants as fault
+use Rattle.kahn_report.specs.Formats.{AreBlanks, IsEntry, HasNoHead, HasNoValues, content, most_input_bytes, channel_name}
 use Rattle.kahn_report.specs.News.{closing_text, joined, news_text, plain_text}
-use Rattle.kahn_write.specs.Written.{AppendsFront}
+use Rattle.kahn_streams.specs.Written.{AppendsFront}
 use Rattle.kahn_write.specs.declared.bytes.WriteFault.{WriteFault}
 use Rattle.kahn_session.specs.Pace.{events_of, part_bound}
 use Rattle.kahn_session.specs.declared.fault.TakeFault.{TakeFault}
@@ -196,6 +195,30 @@ abbrev pub IsDeaf : HeldRun → Bool → Type 0
 IsDeaf h deaf =
     (v : Verdict) × (h.verdict ≡ Some v)
     × ((ends : List End) × IsRightSoFar h v ends × (deaf ≡ (is_finished v && not (list_any (waits_on_input (network_of h.network)) ends))))
+
+-- it waits
+abbrev pub is_wait_outcome : Outcome → Bool
+is_wait_outcome (Waits c) = true
+is_wait_outcome _ = false
+
+abbrev pub is_waiting : End → Bool
+is_waiting x = is_wait_outcome x.outcome
+
+-- it has finished, no process waits on an input channel, and one waits
+abbrev pub is_stuck : Network → Verdict → List End → Bool
+is_stuck N v ends = (is_finished v && not (list_any (waits_on_input N) ends)) && list_any is_waiting ends
+
+-- whether no input can change the run any more, and a process waits
+abbrev pub IsStuck : HeldRun → Bool → Type 0
+IsStuck h stuck =
+    (v : Verdict) × (h.verdict ≡ Some v) × ((ends : List End) × IsRightSoFar h v ends × (stuck ≡ is_stuck (network_of h.network) v ends))
+
+-- the first input channel has this name, or there is none
+abbrev pub IsFirstInput : Program → Option (List ℕ) → Type 0
+IsFirstInput t None = (c : ℕ) → c < length (network_of t).channels → is_input (role_at (network_of t) c) ≡ false
+IsFirstInput t (Some name) =
+    (c : ℕ) × (slice_get (channel_names t) c ≡ Some name) × (is_input (role_at (network_of t) c) ≡ true)
+    × ((d : ℕ) → d < c → is_input (role_at (network_of t) d) ≡ false)
 
 -- the text of how the run ended: its verdict, with the ends that are right for the input so far and the bound so far
 abbrev pub IsLastText : HeldRun → Verdict → List ℕ → Type 0

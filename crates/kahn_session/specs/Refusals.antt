@@ -1,5 +1,5 @@
--- Believed. What is said of a line of input that isn't taken, or whose part lacks memory: one line (this project's profile).
-use Rattle.std.specs.Prelude.{ℕ, List, [], ◌∷◌, codes, decimal}
+-- Believed. What is said of lines of input that aren't taken, or whose parts lack memory (this project's profile).
+use Rattle.std.specs.Prelude.{ℕ, ◌==◌, List, [], ◌∷◌, ◌++◌, Option, None, Some, codes, decimal, if◌then◌else◌}
 use Rattle.std.specs.List.{concat}
 use Rattle.kahn_streams.specs.declared.feeds.FeedFault.{FeedFault}
 use Rattle.kahn_streams.specs.declared.feeds.FeedFault.TheVariants as feed
@@ -24,17 +24,34 @@ take_words (take.Feed f) = feed_words f
 take_words take.NoMemory = codes "no memory"
 take_words (take.Write f) = codes "news could not be written"
 
--- the line, of its number and its words
-abbrev pub refusal_line : List ℕ → List ℕ → List ℕ
-refusal_line number words = concat (codes "kahn: input line " ∷ number ∷ codes ": " ∷ words ∷ codes "\n" ∷ [])
+-- the line, of the program's file, the number of the line of input and words
+abbrev pub input_line_text : List ℕ → List ℕ → List ℕ → List ℕ
+input_line_text path number words = concat (path ∷ codes ": input line " ∷ number ∷ codes ": " ∷ words ∷ codes "\n" ∷ [])
 
--- the line, by the number of the line of input from 1
-abbrev pub refusal_text : ℕ → TakeFault → List ℕ
-refusal_text number f = refusal_line (decimal number) (take_words f)
+-- of number 0 is the line that `--plain` makes of a channel
+abbrev pub refusal_line : List ℕ → ℕ → List ℕ → List ℕ
+refusal_line path number words =
+    if number == 0 then concat (path ∷ codes ": --plain: " ∷ words ∷ codes "\n" ∷ []) else input_line_text path (decimal number) words
+
+-- how numbers without a name are taken, where an input channel is named
+abbrev pub hint_text : List ℕ → Option (List ℕ) → List ℕ
+hint_text path None = []
+hint_text path (Some input) = concat (path ∷ codes ": bare numbers are taken with --plain " ∷ input ∷ codes "\n" ∷ [])
+
+-- why the line isn't taken, and how it would be
+abbrev pub refusal_text : List ℕ → ℕ → TakeFault → Option (List ℕ) → List ℕ
+refusal_text path number f hint = refusal_line path number (take_words f) ++ hint_text path hint
+
+abbrev pub more_words : ℕ → List ℕ
+more_words count = if count == 1 then codes " line more like it\n" else codes " lines more like it\n"
+
+-- how many lines more weren't taken as the last one that was told of
+abbrev pub alike_text : List ℕ → ℕ → List ℕ
+alike_text path count = if count == 0 then [] else concat (path ∷ codes ": and " ∷ decimal count ∷ more_words count ∷ [])
 
 -- for what a part waits
 abbrev pub waiting_words : List ℕ
 waiting_words = codes "waits for memory"
 
-abbrev pub waiting_text : ℕ → List ℕ
-waiting_text number = refusal_line (decimal number) waiting_words
+abbrev pub waiting_text : List ℕ → ℕ → List ℕ
+waiting_text path number = input_line_text path (decimal number) waiting_words

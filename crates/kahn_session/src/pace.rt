@@ -1,6 +1,6 @@
 //! A run that is fed as it goes, each part of which may take so many events.
 
-ghost use Rattle.std.specs.Prelude.{◌≡◌, ℕ, ◌+◌, Some, IfOk, MatchResult};
+ghost use Rattle.std.specs.Prelude.{◌≡◌, ℕ, ◌+◌, Some, IfErr, IfOk, MatchResult};
 ghost use Rattle.kahn_pool.specs.HeldRuns.{IsLineOf, IsRightSoFar, IsUnstarted};
 ghost use Rattle.kahn_streams.specs.declared.answer.Verdict.{Verdict as VerdictOf};
 ghost use Rattle.kahn_pool.specs.Flows.{AreNew, HasFlowed, HasLetGo, HasPouredIn, IsUnpoured, flow_lines};
@@ -76,7 +76,8 @@ impl<'n> Paced<'n> {
 
     /// Puts values behind those of an input channel.
     pub(crate) fn feed(&mut self, channel: &str, values: &[Value]) -> Result<(), FeedFault>
-        ensures fed { MatchResult result (λ _. HasPouredIn (channel.now, values.now) self.old.flow self.new.flow) (IsUnpoured (channel.now, values.now) self.old.flow self.new.flow) }
+        ensures fed { IfOk result (λ _. HasPouredIn (channel.now, values.now) self.old.flow self.new.flow) }
+        ensures unfed { IfErr result (IsUnpoured (channel.now, values.now) self.old.flow self.new.flow) }
         ensures step { self.new.step ≡ self.old.step }
     {
         self.flow.feed(channel, values)

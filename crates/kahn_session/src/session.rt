@@ -1,15 +1,13 @@
 //! Sessions: what a line of input makes of a run, and what goes out after it.
 
-ghost use Rattle.std.specs.Prelude.{◌≡◌, ◌↔◌, ◌&&◌, not, ℕ, List, Some, false, slice_index_or, true, [], IsTrue, MatchOption, MatchResult};
+ghost use Rattle.std.specs.Prelude.{◌≡◌, ◌↔◌, ◌&&◌, not, ℕ, List, Some, false, slice_index_or, true, [], IsTrue, MatchOption, MatchResult, option_copied};
 ghost use Rattle.std.specs.List.{list_any};
 ghost use Rattle.kahn_streams.specs.Network.{network_of};
-ghost use Rattle.kahn_streams.specs.Inputs.{entry_of};
 ghost use Rattle.kahn_pool.specs.Flows.{Flowing, flow_lines};
-ghost use Rattle.kahn_report.specs.Inputs.{AreBlanks, IsEntry, content};
-ghost use Rattle.kahn_report.specs.Report.{channel_name};
+ghost use Rattle.kahn_report.specs.Formats.{IsReadLine, content, channel_name};
 ghost use Rattle.kahn_report.specs.News.{news_text, plain_text};
-ghost use Rattle.kahn_write.specs.Written.{Writes};
-ghost use Rattle.kahn_session.specs.Live.{HasOpened, IsClosed, IsDeaf, IsFaulty, IsFedBy, HasVerdict, IsNamedAt, IsNamedLine, IsStreamOf, IsTakenLine, IsText, IsUnfedBy, IsUnopened, breaks, form_text, is_faulted, is_finished, waits_on_input, wants_input};
+ghost use Rattle.kahn_streams.specs.Written.{Writes};
+ghost use Rattle.kahn_session.specs.Live.{HasOpened, IsClosed, IsDeaf, IsFaulty, IsFedBy, IsFirstInput, HasVerdict, IsNamedAt, IsNamedLine, IsStreamOf, IsStuck, IsTakenLine, IsText, IsUnfedBy, IsUnopened, breaks, form_text, is_faulted, is_finished, is_input, is_stuck, is_waiting, waits_on_input, wants_input};
 ghost use Rattle.kahn_session.specs.inner.Shown.{OutBegins, news_of};
 
 use crate::fault::TakeFault;
@@ -57,8 +55,7 @@ impl<'n> Model for Session<'n> {
 
 /// The entry of a line, or nothing where the line is blank.
 fn entry_of_line(alloc: Global, line: &[u8]) -> Result<Option<(String, Vec<Value>)>, TakeFault>
-    ensures { MatchResult result (λ read. IsText line.now × MatchOption read (AreBlanks (content line.now)) (λ entry. IsEntry (content line.now) (entry_of entry)))
-        (λ f. (h : Flowing) → IsUnfedBy line.now h f) }
+    ensures { MatchResult result (λ read. IsText line.now × IsReadLine (content line.now) read) (λ f. (h : Flowing) → IsUnfedBy line.now h f) }
 {
     if line.len() > MOST_BYTES {
         return Err(TakeFault::TooLong);
@@ -204,13 +201,45 @@ fn has_faulted(ends: &[End]) -> bool
     false
 }
 
+/// Whether one of the ends is a wait.
+fn has_wait(ends: &[End]) -> bool
+    ensures { result ≡ list_any is_waiting ends.now }
+{
+    for end in ends {
+        if let Outcome::Waits(_) = end.outcome {
+            return true;
+        }
+    }
+    false
+}
+
+/// Whether a channel of that role is an input.
+fn is_input(role: Role) -> bool
+    ensures { result ≡ is_input role }
+{
+    matches!(role, Role::Input)
+}
+
+/// The name of the first input channel.
+fn first_input(network: &Network) -> Option<&str>
+    ensures { IsFirstInput network.now (option_copied result) }
+{
+    for number in 0..network.channels() {
+        let channel = network.channel(number);
+        if is_input(channel.role) {
+            return Some(channel.name);
+        }
+    }
+    None
+}
+
 /// Whether an instance that ended so waits on an input channel.
 fn wants_input(network: &Network, outcome: Outcome) -> bool
     ensures { result ≡ wants_input (network_of network.now) outcome }
 {
     match outcome {
         Outcome::Waits(channel) => {
-            channel < network.channels() && matches!(network.channel(channel).role, Role::Input)
+            channel < network.channels() && is_input(network.channel(channel).role)
         }
         Outcome::Ended => false,
         Outcome::Faulted(_) => false,
@@ -239,6 +268,13 @@ fn is_over(verdict: Verdict, waits: bool) -> bool
         Verdict::Bound => false,
         Verdict::Memory => false,
     }
+}
+
+/// Whether a run with this verdict and these ends can't go on, though one of its processes waits.
+fn is_stuck_by(network: &Network, verdict: Verdict, ends: &[End]) -> bool
+    ensures { result ≡ is_stuck (network_of network.now) verdict ends.now }
+{
+    is_over(verdict, has_input_wait(network, ends)) && has_wait(ends)
 }
 
 impl<'n> Session<'n> {
@@ -348,6 +384,24 @@ impl<'n> Session<'n> {
         };
         let waits = has_input_wait(self.network, self.paced.ends());
         is_over(verdict, waits)
+    }
+
+    /// Whether no line can change the run any more, and a process waits. It is asked only where the session is settled.
+    pub fn is_stuck(&self) -> bool
+        requires { HasVerdict self.now }
+        ensures { IsStuck self.now.flow.run result }
+    {
+        let Some(verdict) = self.paced.verdict() else {
+            unreachable!()
+        };
+        is_stuck_by(self.network, verdict, self.paced.ends())
+    }
+
+    /// The name of the first input channel, where there is one.
+    pub fn first_input(&self) -> Option<&str>
+        ensures { IsFirstInput self.now.flow.run.network (option_copied result) }
+    {
+        first_input(self.network)
     }
 
     /// Whether a write failed. Then the session takes no further line, and it is never settled.

@@ -21,7 +21,7 @@ returns g c =
     let is = c.in_ok-live_command.ensures in
     let faults = c.in_ok-matches.ensures.kinds (ap is_simple_and_free is) in (
       asked_live c.in_ok-live_command.field-0 c.in_ok-matches.matches words c.in_ok-matches.ensures.parsed c.in_ok-matches.ensures.matches is _
-          (c.in_ok-copied.ensures ∙ c.get_str.ensures) _ c.in_ok-config_of.ensures refl (ap (λ n. not (n == 0)) c.get_count.ensures.value)
-          c.in_ok-lines_at_end.ensures (c.in_ok-plain_of.ensures ∙ ap (option_map (parted 44)) c.get_str-2.ensures),
+          (c.in_ok-copied.ensures ∙ c.get_str-2.ensures) _ c.in_ok-config_of.ensures refl (ap (λ n. not (n == 0)) c.get_count.ensures.value)
+          c.in_ok-lines_at_end.ensures (c.in_ok-plain.ensures ∙ ap (option_map (parted 44)) c.get_str.ensures),
       ap (λ (a : App). fault_of a words) (sym is) ∙ faults,
     )

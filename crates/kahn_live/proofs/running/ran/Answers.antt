@@ -1,13 +1,13 @@
 use Rattle.std.proofs.Common.{subst}
-use Rattle.kahn_live.specs.Course.{telling_of}
+use Rattle.kahn_live.specs.Course.{Telling, telling_of}
 use Rattle.kahn_live.specs.Running.{HasRunText}
 use Rattle.kahn_live.proofs.running.ran.Goals as goal
 
 pub returns : goal.returns
 returns g c =
     let text = g.I.Read.remaining c.args.input in
-    let out = g.W.Write.contents c.args.output in
+    let out = g.W.Write.contents c.args.out in
     let last = telling_of g.E.Write.contents c.run-ending.result.1 in
     let r = c.run-ending.result.0 in
-    let run = subst (λ t. HasRunText c.args.program.now c.args.options text out (telling_of g.E.Write.contents t) last r) c.new-teller.ensures c.run-ending.ensures in
+    let run = subst (λ (p : Telling). HasRunText c.args.program.now c.args.options text out p last r) c.new-teller.ensures c.run-ending.ensures in
     (r, last, run, c.told-status.ensures.told, c.told-status.ensures.status)

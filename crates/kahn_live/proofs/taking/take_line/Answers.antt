@@ -4,6 +4,6 @@ use Rattle.kahn_live.proofs.taking.take_line.Goals as goal
 
 pub returns : goal.returns
 returns g c = record {
-  broken = still_whole c.args.number c.take-answer.result _ _ c.tell_answer.result c.take-answer.ensures.broken c.tell_answer.ensures;
+  broken = still_whole c.args.number c.args.line.now c.take-answer.result _ _ c.tell_answer.result c.take-answer.ensures.broken c.tell_answer.ensures;
   met = line_met c.args.number c.args.line.now c.take-answer.result _ _ _ c.tell_answer.result refl c.take-answer.ensures.taken c.tell_answer.ensures;
 }

@@ -1,5 +1,5 @@
 use Rattle.std.proofs.Common.{rules}
-use Rattle.kahn_report.specs.Inputs.{HasNoHead, HasNoValues, content}
+use Rattle.kahn_report.specs.Formats.{HasNoHead, HasNoValues, content}
 use Rattle.kahn_session.specs.Live.{IsText}
 use Rattle.kahn_session.proofs.session.entry_of_line.Goals as goal
 

@@ -1,10 +1,9 @@
-use Rattle.std.proofs.Common.{◌≡◌, ◌∙◌, ℕ, map, true, ap, sym, subst}
+use Rattle.std.proofs.Common.{◌∙◌, ℕ, map, true, sym, subst, refl}
 use Rattle.std.specs.Io.KnownBytes.{Appends}
 use Rattle.kahn_streams.specs.Wiring.{IsWellWired}
 use Rattle.kahn_pool.specs.HeldRuns.{so_far}
 use Rattle.kahn_pool.specs.Flows.{Flowing, flow_lines}
-use Rattle.std.proofs.Common.{refl}
-use Rattle.kahn_write.specs.Written.{AppendsFront}
+use Rattle.kahn_streams.specs.Written.{AppendsFront}
 use Rattle.kahn_session.specs.inner.Shown.{news_of}
 use Rattle.kahn_session.specs.Live.{HasBroken, HasTaken, Live}
 use Rattle.kahn_session.proofs.Showing.{kept_lines, news_texts}

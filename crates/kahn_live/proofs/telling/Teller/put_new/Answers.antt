@@ -1,0 +1,17 @@
+use Rattle.std.proofs.Common.{List, ℕ, refl, subst}
+use Rattle.std.specs.Prelude.{not, option_copied, string_bytes}
+use Rattle.kahn_streams.specs.Written.{Writes}
+use Rattle.kahn_session.specs.Refusals.{refusal_text}
+use Rattle.kahn_live.proofs.Meeting.{either, put_as}
+use Rattle.kahn_live.proofs.telling.Teller.put_new.Goals as goal
+
+pub returns : goal.returns
+returns g c =
+    let old = c.args.self.now in
+    let before = g.E.Write.contents old.errors in
+    let after = g.E.Write.contents c.write_refusal-told.new.writer in
+    let told = c.write_refusal-told.result in
+    let text = λ (path : List ℕ). refusal_text path c.args.number c.args.fault (option_copied c.args.input) in
+    let wrote = subst (λ (path : List ℕ). Writes before after told (text path)) c.as_str.ensures.value c.write_refusal-told.ensures in
+    let put = put_as (text (string_bytes old.path)) before after old.failed c.is_err.result told c.is_err.ensures.value wrote in
+    record { front = put.0; whole = put.1; keep_going = refl; refused = either old.refused (not old.keep_going); path = refl; complaints = refl }

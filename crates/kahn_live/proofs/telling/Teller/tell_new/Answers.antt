@@ -1,0 +1,12 @@
+use Rattle.std.proofs.Common.{Bool, Some, ap}
+use Rattle.kahn_live.proofs.telling.Teller.tell_new.Goals as goal
+
+pub returns : goal.returns
+returns g c = record {
+  front = c.put_new.ensures.front;
+  whole = c.put_new.ensures.whole;
+  keep_going = c.put_new.ensures.keep_going;
+  refused = c.put_new.ensures.refused;
+  path = c.put_new.ensures.path;
+  complaints = ap (λ (b : Bool). record { last = Some c.args.fault; first = c.args.number; number = c.args.number; hinted = b }) c.is_hinted-hinted.ensures;
+}
