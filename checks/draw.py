@@ -89,8 +89,13 @@ def values(process, arguments):
     return "\\n" + ", ".join(told) if told else ""
 
 
+def is_told(checked, report):
+    """Whether a report tells how one of the instances ended."""
+    return any(behind(f"end {number + 1} {name[1]}: ", lines_of(report)) is not None for number, (name, _) in enumerate(checked.instances))
+
+
 def picture(program, report):
-    """The picture of a program's network, with what the bytes of a report say of it."""
+    """The picture of a program's network, with what the bytes of a report say of it, and whether they say how an instance ended."""
     checked = reference.Checker(reference.Parser(reference.lex(program), len(program)).program())
     said = lines_of(report)
     channels = [name for name, _, _, _ in checked.channels]
@@ -116,15 +121,16 @@ def picture(program, report):
         look += f', headlabel="{readers[number][1]}"' if number in readers else ""
         look += ", color=red, penwidth=2" if any(stands[it] == number for it in rings) else ""
         lines.append(f'  {ends} [label="{name}{carried(name, said)}", {look}];')
-    return "".join(line + "\n" for line in [*lines, "}"]).encode()
+    return "".join(line + "\n" for line in [*lines, "}"]).encode(), is_told(checked, report)
 
 
 def wanted_of(program, report):
-    """Status, picture and fault line."""
+    """Status, picture, and what is told."""
     if report is not None and len(report) > MOST_REPORT:
         return 1, b"", b"kahn: input text is too long\n"
     try:
-        return 0, picture(program, report or b""), b""
+        drawn, told = picture(program, report or b"")
+        return 0, drawn, b"" if report is None or told else b"kahn: the report is not of this program\n"
     except reference.Fault as fault:
         line, column = reference.place(program, fault.span[0])
         return 1, b"", f"kahn: {line}:{column}: {fault.text}\n".encode()

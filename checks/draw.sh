@@ -26,6 +26,8 @@ gives "a report that isn't there" 5 '' 'kahn: cannot read nothing' program --rep
 gives "a report that isn't UTF-8" 5 '' 'kahn: bytes is not UTF-8' program --report bytes
 gives "a program and a report that aren't there" 5 '' 'kahn: cannot read nothing' nothing --report bytes
 gives "an empty text" 1 '' 'kahn: 1:1: text ends too early'
+printf 'begin x' > broken
+gives "a text that is no program" 1 '' $'kahn: 1:8: text ends too early\nkahn_explain broken says more' broken
 # ends NAME STATUS GIVEN TEST..: compares the status, and runs the test.
 ends() {
   local name=$1 status=$2 given=$3
@@ -39,6 +41,9 @@ ends "two words" 2 $? test ! -s output
 ends "a report without a name" 2 $? test ! -s output
 "$draw" --help > output 2> error < /dev/null
 ends "the help" 0 $? grep -q 'dot -Tsvg' output
+printf 'end 1 other: ended after 1\nfinished 1\n' > other
+"$draw" "$top/examples/count.kahn" --report other > output 2> error < /dev/null
+ends "a report of another program" 0 $? grep -qx "kahn: the report is not of this program" error
 if [ -e /dev/full ]; then
   "$draw" "$top/examples/count.kahn" > /dev/full 2> error < /dev/null
   ends "a full disk" 5 $? grep -qx "kahn: report could not be written" error

@@ -5,7 +5,7 @@ use Rattle.std.specs.Str.Lines.{lines}
 use Rattle.kahn_streams.specs.declared.tree.Program.{Program}
 use Rattle.kahn_graph.specs.Graph.{IsPicture}
 use Rattle.kahn_report.specs.Work.{IsChecked}
-use Rattle.kahn_write.specs.Written.{AppendsFront}
+use Rattle.kahn_streams.specs.Written.{AppendsFront}
 use Rattle.kahn_draw.specs.Drawing.{IsPictureOf}
 
 pub went_out : (program report : List ℕ) (t : Program) (picture : List ℕ) (old new : Option (List ℕ)) → IsChecked program t → IsPicture t program (lines report) picture

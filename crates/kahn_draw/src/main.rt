@@ -3,22 +3,42 @@
 
 mod drawing;
 
-use drawing::draw;
-use kahn_fault::{Fault, Texts, read_texts, tell};
+use drawing::{draw, tell_stray};
+use kahn_fault::{Fault, Texts, read_texts, tell, tell_explain};
 use kahn_line::{DrawOptions, read_draw_line, tell_line, tell_no_memory, tell_words};
 use kahn_pool::Verdict;
+use std::alloc::{AllocError, Global};
 use std::io::Write;
 use std::process::ExitCode;
 use std::rt::Runtime;
 use std::{env, io};
 
-/// Draws the program of the texts, where the input is the report.
-fn draw_texts<R: Runtime + AllocGlobal>(rt: &R, texts: &Texts) -> Result<Verdict, Fault> {
+/// Draws the program of the texts, where the input is the report, and tells where that is of another program.
+fn draw_texts<R: Runtime + AllocGlobal, W: Write>(
+    rt: &R,
+    texts: &Texts,
+    reported: bool,
+    writer: &mut W,
+) -> Result<Verdict, Fault> {
     let program = texts.program.as_str();
     let report = texts.input.as_str();
     match draw(rt.alloc(), program, report, &mut io::writer(rt)) {
-        Ok(()) => Ok(Verdict::Finished),
+        Ok(told) => {
+            if reported && !told {
+                // What can't be written here changes no status.
+                let _told = tell_stray(writer);
+            }
+            Ok(Verdict::Finished)
+        }
         Err(fault) => Err(Fault::Work(fault)),
+    }
+}
+
+/// The path of the program text, where there is one.
+fn path_of(alloc: Global, program: &Option<String>) -> Result<Option<String>, AllocError> {
+    match program {
+        Some(path) => Ok(Some(String::from_str(alloc, path.as_str())?)),
+        None => Ok(None),
     }
 }
 
@@ -26,12 +46,18 @@ fn draw_texts<R: Runtime + AllocGlobal>(rt: &R, texts: &Texts) -> Result<Verdict
 fn answered<R: Runtime + AllocGlobal, W: Write>(
     rt: &R,
     options: DrawOptions,
+    path: Option<String>,
     writer: &mut W,
 ) -> u8 {
+    let reported = options.report.is_some();
     match read_texts(rt, options.program, options.report) {
         Ok(texts) => {
-            let answer = draw_texts(rt, &texts);
-            tell(&answer, texts.program.as_str(), writer).status
+            let answer = draw_texts(rt, &texts, reported, writer);
+            let status = tell(&answer, texts.program.as_str(), writer).status;
+            if let Some(path) = path {
+                let _told = tell_explain(&answer, path.as_str(), writer);
+            }
+            status
         }
         Err(fault) => tell(&Err(fault), "", writer).status,
     }
@@ -46,7 +72,10 @@ fn main(rt: HostRuntime) -> ExitCode {
         return ExitCode::from(tell_no_memory(&rt));
     };
     let status = match read_draw_line(rt.alloc(), words.as_slice()) {
-        Ok(options) => answered(&rt, options, &mut rt.stderr()),
+        Ok(options) => match path_of(rt.alloc(), &options.program) {
+            Ok(path) => answered(&rt, options, path, &mut rt.stderr()),
+            Err(_) => tell_no_memory(&rt),
+        },
         Err(fault) => tell_line(&rt, &fault),
     };
     ExitCode::from(status)

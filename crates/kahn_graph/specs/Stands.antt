@@ -1,5 +1,5 @@
 -- Believed. How the instances of a program stand, by the lines of a run's report.
-use Rattle.std.specs.Prelude.{◌≡◌, ℕ, ◌+◌, Bool, true, false, List, [], ◌∷◌, Option, None, Some, codes, if◌then◌else◌, is_some, option_map, slice_get}
+use Rattle.std.specs.Prelude.{◌≡◌, ℕ, ◌+◌, ◌||◌, Bool, true, false, List, [], ◌∷◌, Option, None, Some, codes, if◌then◌else◌, is_some, option_map, slice_get}
 use Rattle.std.specs.Option.{unwrap_or}
 use Rattle.kahn_streams.specs.declared.tree.Instance.{Instance}
 use Rattle.kahn_streams.specs.declared.tree.Program.{Program}
@@ -45,6 +45,15 @@ standings_from t report i (x ∷ xs) = unwrap_or (told_standing t report i (byte
 -- how the instances of the program stand; one of which nothing is told counts as one that doesn't wait
 abbrev pub told_standings : Program → List (List ℕ) → List Standing
 told_standings t report = standings_from t report 0 t.instances.items
+
+-- whether the report tells how one of these instances ended, the first of which has that number
+abbrev pub is_told_from : List (List ℕ) → ℕ → List Instance → Bool
+is_told_from report i [] = false
+is_told_from report i (x ∷ xs) = is_some (told_ending report i (bytes_of x.process)) || is_told_from report (i + 1) xs
+
+-- whether a report tells how an instance of the program ended
+abbrev pub is_told : Program → List (List ℕ) → Bool
+is_told t report = is_told_from report 0 t.instances.items
 
 -- a mark is set where an instance of a ring waits on channel c
 abbrev pub IsWaitMark : Network → List Standing → ℕ → Bool → Type 0

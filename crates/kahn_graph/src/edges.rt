@@ -11,7 +11,7 @@ use crate::report::add_carried;
 use crate::stands::is_ring_channel;
 use itoa::Buffer;
 use kahn_chain::Standing;
-use kahn_streams::{Channel, Kind, Network, Role, Side};
+use kahn_streams::{Kind, Network, Role, Side};
 use std::alloc::AllocError;
 
 // Adds where an edge of a channel begins or ends.
@@ -66,19 +66,20 @@ fn add_line(
     text: &mut String,
     report: &[&str],
     number: usize,
-    channel: Channel<'_>,
+    name: &str,
+    kind: Kind,
     writer: Option<Side>,
     reader: Option<Side>,
 ) -> Result<(), AllocError>
-    ensures { IfOk result (λ _. string_bytes text.new ≡ string_bytes text.old ++ edge_text (said report.now) number channel.entry.name.now channel.entry.kind writer reader) }
+    ensures { IfOk result (λ _. string_bytes text.new ≡ string_bytes text.old ++ edge_text (said report.now) number name.now kind writer reader) }
 {
     add(text, &["  "])?;
     add_place(text, number, writer)?;
     add(text, &[" -> "])?;
     add_place(text, number, reader)?;
-    add(text, &[" [label=\"", channel.name])?;
-    add_carried(text, report, channel.name)?;
-    add(text, &["\", style=", style(channel.kind)])
+    add(text, &[" [label=\"", name])?;
+    add_carried(text, report, name)?;
+    add(text, &["\", style=", style(kind)])
 }
 
 // Adds the mark and the edge of a channel.
@@ -99,7 +100,9 @@ fn add_edge(
     let reader = network.reader(channel);
     let ring = is_ring_channel(network, report, standings, rings, channel);
     add_mark(text, channel, found.role)?;
-    add_line(text, report, channel, found, writer, reader)?;
+    add_line(
+        text, report, channel, found.name, found.kind, writer, reader,
+    )?;
     add_port(text, network, "taillabel", writer)?;
     add_port(text, network, "headlabel", reader)?;
     add(text, &[ring_line(ring), "];\n"])?;

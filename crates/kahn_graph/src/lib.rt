@@ -11,6 +11,7 @@ mod stands;
 mod tips;
 
 pub use picture::picture_text;
+pub use stands::is_told;
 
 // For the crates above.
 pub use report::{lines, without};

@@ -1,12 +1,13 @@
 //! How the instances stand by a run's report.
 
 ghost use Rattle.std.specs.Prelude.{◌≡◌, ◌<◌, IfOk, length, map};
+ghost use Rattle.std.specs.Str.Lines.{lines};
 ghost use Rattle.kahn_streams.specs.Network.{network_of, channel_names};
 ghost use Rattle.kahn_chain.specs.Chain.{AreRings, IsRingMark};
-ghost use Rattle.kahn_graph.specs.Stands.{begins_with, told_wait, worded_standing, told_standing, standings_from, told_standings, IsWaitMark};
+ghost use Rattle.kahn_graph.specs.Stands.{begins_with, told_wait, worded_standing, told_standing, standings_from, told_standings, is_told, is_told_from, IsWaitMark};
 ghost use Rattle.kahn_graph.specs.inner.Adding.{is_wait as is_wait_on, said, IsKnown, IsWaitAt};
 
-use crate::report::{ending, without};
+use crate::report::{ending, lines as report_lines, without};
 use kahn_chain::Standing;
 use kahn_streams::{Instance, Network};
 use std::alloc::{AllocError, Global};
@@ -88,6 +89,33 @@ pub(crate) fn standings(
     ensures { IfOk result (λ list. list.items ≡ told_standings network.now (said report.now)) }
 {
     all_standings(alloc, network, report, &network.program().instances)
+}
+
+// Whether a report tells how one of these instances ended.
+fn is_any_told(report: &[&str], instances: &[Instance]) -> bool
+    ensures { result ≡ is_told_from (said report.now) 0 instances.now }
+{
+    for (number, instance) in instances.iter().enumerate() {
+        if ending(report, number, instance.process.text.as_str()).is_some() {
+            return true;
+        }
+    }
+    false
+}
+
+// Whether the lines of a report tell how an instance of the network ended.
+fn is_told_in(network: &Network, report: &[&str]) -> bool
+    ensures { result ≡ is_told network.now (said report.now) }
+{
+    is_any_told(report, &network.program().instances)
+}
+
+/// Whether a report tells how an instance of the network ended. It refuses only where memory was refused.
+pub fn is_told(alloc: Global, network: &Network, report: &str) -> Result<bool, AllocError>
+    ensures { IfOk result (λ told. told ≡ is_told network.now (lines report.now)) }
+{
+    let report = report_lines(alloc, report)?;
+    Ok(is_told_in(network, &report))
 }
 
 // Whether one that stands so waits on a channel.
