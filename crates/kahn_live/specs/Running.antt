@@ -20,7 +20,7 @@ use Rattle.kahn_fault.specs.declared.fault.Fault.{Fault}
 use Rattle.kahn_fault.specs.declared.fault.Fault.TheVariants.{Work}
 use Rattle.kahn_line.specs.declared.live.LiveOptions.{LiveOptions}
 use Rattle.kahn_line.specs.declared.parts.Plain.{Plain}
-use Rattle.kahn_session.specs.Live.{HasOpened, IsClosed, IsFaulty, IsLastText, IsStreamOf, IsStuck, IsUnopened, HasVerdict, Live}
+use Rattle.kahn_session.specs.Live.{HasOpened, IsClosed, IsFaulty, IsFirstInput, IsLastText, IsStreamOf, IsStuck, IsUnopened, HasVerdict, Live}
 use Rattle.kahn_live.specs.Course.{AreAllMet, LinesGiven, HasSent, HasWaited, IsMoreTold, IsWriteFault, Point, Telling, WasTold, no_memory, telling_of}
 use Rattle.kahn_live.specs.declared.running.Asked.{Asked}
 use Rattle.kahn_live.specs.declared.serving.Ending.{Ending}
@@ -115,10 +115,10 @@ IsSent false ending r = (r ≡ ending) ⊎ IsUnsent ending r
 abbrev pub Tells : {X E : Type 0} → (E → Option (List ℕ)) → Teller E → X × Teller E → (Telling → Telling → X → Type 0) → Type 0
 Tells said old done holds = holds (telling_of said old) (telling_of said done.1) done.0
 
--- whether no line can change the run any more, though a process waits
+-- whether no line can change the run any more, though a process waits and there is an input channel
 abbrev pub IsStuckNow : Live → Bool → Type 0
-IsStuckNow s true = HasVerdict s × IsStuck s.flow.run true
-IsStuckNow s false = HasVerdict s → IsStuck s.flow.run false
+IsStuckNow s true = HasVerdict s × IsStuck s.flow.run true × ((name : List ℕ) × IsFirstInput s.flow.run.network (Some name))
+IsStuckNow s false = HasVerdict s → IsStuck s.flow.run false ⊎ IsFirstInput s.flow.run.network None
 
 abbrev pub wants_why : Bool → Result Ending Fault → Bool
 wants_why stuck (Ok (Reached v)) = stuck

@@ -83,10 +83,13 @@ struct Asked<'a> {
     at_end: &'a [String],
 }
 
-/// Whether no line can change the run any more, though a process waits.
+/// Whether no line can change the run any more, though a process waits and there is an input channel.
 fn is_stuck(session: &Session<'_>) -> bool
     ensures { IsStuckNow session.now result }
 {
+    let Some(_) = session.first_input() else {
+        return false;
+    };
     if !session.settled() {
         return false;
     }
