@@ -327,7 +327,7 @@ def advice(lexemes, at):
         return behind(lead, found)
     if found == "(" and before[0] == "name":
         return called(stands)
-    if found == "if" and stands("wait") and not stands("not"):
+    if found == "if" and stands("wait"):
         return "an `if` among operators stands in brackets"
     if found in ("if", "while", "repeat", "send", "print", "wait"):
         return stray(lexemes, at, stands)
