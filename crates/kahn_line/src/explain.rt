@@ -17,13 +17,14 @@ static ABOUT: &str = "Runs a network of processes, and explains why the run stop
 
 // What stands after the options in the help.
 static MORE: &str = "\
-A line is written for each process that waits or has a fault: whom it waits on, and where its chain of waits leads. That is
-an input, a process that has ended, has a fault or wants more events, or a deadlock: a ring of processes that wait on one
-another. The last line says how the run ended. With a program whose process 1 waits on 2, and 2 on 1:
+A line is written for each process that hasn't ended: that it has a fault or wants more events, or whom it waits on, and where
+its chain of waits leads. That is an input, a process that has ended, has a fault or wants more events, or a deadlock: a ring
+of processes that wait on one another. The last line says how the run ended. With a program whose process 1 waits on 2, and 2 on 1:
 
   kahn_explain ring.kahn
 
   1 stage waits on A from 2 stage, as 1 stage is in a deadlock: for ever
+    = where no value ever went round, this ring wants a first one: let one of its processes send before it waits
   2 stage waits on B from 1 stage, as 1 stage is in a deadlock: for ever
   finished 2
 

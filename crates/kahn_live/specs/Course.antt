@@ -4,7 +4,6 @@ use Rattle.std.specs.Io.KnownBytes.{Appends, IsAtEnd, Keeps}
 use Rattle.kahn_streams.specs.declared.answer.Verdict.{Verdict}
 use Rattle.kahn_streams.specs.declared.answer.Verdict.TheVariants.{Finished, Bound, Memory}
 use Rattle.kahn_streams.specs.declared.fault.RunFault.TheVariants.{NoMemory as NoMemoryRun}
-use Rattle.kahn_streams.specs.declared.feeds.FeedFault.TheVariants.{NoMemory as NoMemoryFeed}
 use Rattle.kahn_streams.specs.Written.{AppendsFront}
 use Rattle.kahn_write.specs.declared.bytes.WriteFault.{WriteFault}
 use Rattle.kahn_report.specs.declared.read.ReadFault.TheVariants.{Failed as FailedRead}
@@ -15,9 +14,9 @@ use Rattle.std.specs.Char.{is_ascii_digit}
 use Rattle.std.specs.Option.{is_none}
 use Rattle.std.specs.Str.{bytes_eq}
 use Rattle.kahn_session.specs.Live.{HasVerdict, IsDeaf, IsFirstInput, IsTakenLine, Live, breaks}
-use Rattle.kahn_session.specs.Refusals.{alike_text, refusal_text, take_words, waiting_text}
+use Rattle.kahn_session.specs.Refusals.{alike_text, is_want, refusal_text, take_words, waiting_text}
 use Rattle.kahn_session.specs.declared.fault.TakeFault.{TakeFault}
-use Rattle.kahn_session.specs.declared.fault.TakeFault.TheVariants.{BadLine, Feed, NoMemory}
+use Rattle.kahn_session.specs.declared.fault.TakeFault.TheVariants.{BadLine, NoMemory}
 use Rattle.kahn_live.specs.Lines.{CutsLine, fed_text, most_kept, unmarked}
 use Rattle.kahn_live.specs.declared.stage.Stage.{Stage}
 use Rattle.kahn_live.specs.declared.taking.Fed.{Fed}
@@ -148,12 +147,6 @@ IsComplaint number f hint old new = IsComplaintBy (is_again old.complaints numbe
 -- whether a line begins as a number does
 abbrev pub is_bare_line : List ℕ → Bool
 is_bare_line line = is_ascii_digit (slice_index line 0) || slice_index line 0 == 45
-
--- whether memory was refused for a line
-abbrev pub is_want : TakeFault → Bool
-is_want NoMemory = true
-is_want (Feed NoMemoryFeed) = true
-is_want f = false
 
 abbrev pub is_bad_line : TakeFault → Bool
 is_bad_line BadLine = true

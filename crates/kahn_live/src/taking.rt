@@ -4,7 +4,7 @@ ghost use Rattle.std.specs.Prelude.{◌≡◌, ◌&&◌, not, IfErr, IfOk, false
 ghost use Rattle.std.specs.Io.Buffered.{reader_buffer};
 ghost use Rattle.kahn_session.specs.Live.{HasVerdict, breaks};
 ghost use Rattle.kahn_live.specs.Course.{Across, AreAllMet, AreLastMet, AcrossStage, HasSent, IsAnswerTold, IsDeafNow, IsFirstPart, IsInputMet, IsLineMet};
-ghost use Rattle.kahn_live.specs.Course.{IsHintBy, IsNextMet, IsReadMet, IsRefusalTold, IsRefused, IsWriteFault, lines_given, is_bad_line, is_bare_line, is_want, no_memory, point_of, telling_of, wants_hint};
+ghost use Rattle.kahn_live.specs.Course.{IsHintBy, IsNextMet, IsReadMet, IsRefusalTold, IsRefused, IsWriteFault, lines_given, is_bad_line, is_bare_line, no_memory, point_of, telling_of, wants_hint};
 ghost use Rattle.kahn_live.specs.Histories.{HasHistories};
 ghost use Rattle.kahn_live.specs.Lines.{IsReadyToRead};
 
@@ -14,8 +14,7 @@ use crate::telling::Teller;
 use kahn_fault::Fault;
 use kahn_pool::{Open, RunFault, Verdict};
 use kahn_report::{ReadFault, WorkFault};
-use kahn_session::{Session, TakeFault};
-use kahn_streams::FeedFault;
+use kahn_session::{Session, TakeFault, is_want};
 use std::alloc::Global;
 use std::io::{BufReader, Read, Write};
 
@@ -275,16 +274,6 @@ fn take_last<W: Write, E: Write>(
         number = number.saturating_add(1);
     }
     Ok(())
-}
-
-/// Whether memory was refused for a line.
-fn is_want(fault: TakeFault) -> bool
-    ensures { result ≡ is_want fault }
-{
-    matches!(
-        fault,
-        TakeFault::NoMemory | TakeFault::Feed(FeedFault::NoMemory)
-    )
 }
 
 /// Runs the part before the first line, and tells whether there is an input channel of the name whose values stand alone.

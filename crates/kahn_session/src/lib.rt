@@ -7,5 +7,5 @@ mod refusal;
 mod session;
 
 pub use fault::TakeFault;
-pub use refusal::{take_words, write_more, write_refusal, write_waiting};
+pub use refusal::{is_want, take_words, write_more, write_refusal, write_waiting};
 pub use session::Session;

@@ -3,7 +3,7 @@
 ghost use Rattle.std.specs.Prelude.{◌≡◌, [], ◌∷◌, option_copied};
 ghost use Rattle.std.specs.List.{concat};
 ghost use Rattle.kahn_streams.specs.Written.{Writes};
-ghost use Rattle.kahn_session.specs.Refusals.{alike_text, feed_words, hint_text, input_line_text, more_words, refusal_line, refusal_text, take_words, waiting_text, waiting_words};
+ghost use Rattle.kahn_session.specs.Refusals.{alike_text, feed_words, hint_text, input_line_text, is_of_plain, is_want, more_words, refusal_line, refusal_text, take_words, waiting_text, waiting_words};
 
 use crate::fault::TakeFault;
 use itoa::Buffer;
@@ -22,6 +22,16 @@ fn feed_words(fault: FeedFault) -> &'static str
         FeedFault::TooMany => "too many values",
         FeedFault::NoMemory => "no memory",
     }
+}
+
+/// Whether memory was refused for a line.
+pub fn is_want(fault: TakeFault) -> bool
+    ensures { result ≡ is_want fault }
+{
+    matches!(
+        fault,
+        TakeFault::NoMemory | TakeFault::Feed(FeedFault::NoMemory)
+    )
 }
 
 /// Why a line isn't taken.
@@ -82,6 +92,13 @@ fn put_words<'a, W: Write>(
     )
 }
 
+/// Whether the line of that number is the one that `--plain` makes of a channel.
+fn is_of_plain(number: u64, fault: TakeFault) -> bool
+    ensures { result ≡ is_of_plain number fault }
+{
+    number == 0 && !is_want(fault)
+}
+
 /// Writes why a line isn't taken.
 fn put_refusal<W: Write>(
     writer: &mut W,
@@ -89,9 +106,9 @@ fn put_refusal<W: Write>(
     number: u64,
     fault: TakeFault,
 ) -> Result<(), WriteFault>
-    ensures { Writes (W.contents writer.old) (W.contents writer.new) result (refusal_line path.now number (take_words fault)) }
+    ensures { Writes (W.contents writer.old) (W.contents writer.new) result (refusal_line path.now number fault) }
 {
-    if number == 0 {
+    if is_of_plain(number, fault) {
         return put_words(writer, path, ": --plain: ", take_words(fault), "\n");
     }
     let mut buffer = Buffer::new();
@@ -116,7 +133,7 @@ fn put_hint<'a, W: Write>(
 }
 
 /// Writes why the line of input of that number, from 1, isn't taken by the program of that file, and flushes; and how it would be,
-/// where an input channel is named. Number 0 stands for a channel that `--plain` names. After a fault of the writer a prefix of
+/// where an input channel is named. Number 0 stands for what is before the first line, and for a channel that `--plain` names. After a fault of the writer a prefix of
 /// it went out. It takes no memory.
 pub fn write_refusal<W: Write>(
     writer: &mut W,
