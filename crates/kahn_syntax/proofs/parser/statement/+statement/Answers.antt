@@ -346,3 +346,33 @@ read_statements-returns-in_default t c =
       proper = c.in_ok-statement.ensures.proper;
       reads = last_member T c.args.depth (StatementPart ∷ StatementsTail ∷ []) StatementsTail (a_sign Semicolon) StatementPart [] (SignClass Semicolon) i c.statements.rest.now a (λ s l. l) refl refl c.statements.invariant.reads c.in_ok-statement.ensures.reads c.in_default.ensures.absent;
     }
+
+pub read_if-reach-requires : goal.read_if-reach-requires
+read_if-reach-requires t c = omega (arith, c.requires.1.1.1.0, c.in_ok-test.ensures.shorter, c.in_ok-yes.ensures.shorter)
+
+pub read_if-reach-requires-2 : goal.read_if-reach-requires-2
+read_if-reach-requires-2 t c = omega (arith, c.requires.1.1.1.0, c.in_ok-test.ensures.shorter, c.in_ok-yes.ensures.shorter, c.in-Some.ensures.shorter, c.in_ok-no.ensures.shorter)
+
+pub read_statement-reach-requires : goal.read_statement-reach-requires
+read_statement-reach-requires t c = omega (arith, c.in-Some-Word-While-default.ensures.first.1, c.in_ok-test-in-Some-Word-While-default.ensures.shorter, c.in_ok-turn-in-Some-Word-While-default.ensures.shorter)
+
+pub read_statement-reach-requires-in-Some-Word-Repeat-default : goal.read_statement-reach-requires-in-Some-Word-Repeat-default
+read_statement-reach-requires-in-Some-Word-Repeat-default t c = omega (arith, c.in-Some-Word-Repeat-default.ensures.first.1, c.in_ok-turn-in-Some-Word-Repeat-default.ensures.shorter)
+
+pub read_simple-reach-requires : goal.read_simple-reach-requires
+read_simple-reach-requires t c = omega (arith, c.in-Some-Word-Print-default.ensures.first.1, c.in_ok-value-in-Some-Word-Print-default.ensures.shorter)
+
+pub read_simple-reach-requires-in-Some-Word-Begin-default : goal.read_simple-reach-requires-in-Some-Word-Begin-default
+read_simple-reach-requires-in-Some-Word-Begin-default t c = omega (arith, c.in-Some-Word-Begin-default.ensures.first.1, c.in_ok-statements-in-Some-Word-Begin-default.ensures.shorter, c.in_ok-rest-in-Some-Word-Begin-default.ensures.shorter)
+
+pub read_if-returns-in_err-branch : goal.read_if-returns-in_err-branch
+read_if-returns-in_err-branch t c = let p = err_from_is_err_and c.from_residual-in_err-branch.result c.from_residual-in_err-branch.ensures.1 in rw (p.1, p.2) (λ s l. tt)
+
+pub read_inner-returns-in_err-boxed : goal.read_inner-returns-in_err-boxed
+read_inner-returns-in_err-boxed t c = let p = err_from_is_err_and c.from_residual-in_err-boxed.result c.from_residual-in_err-boxed.ensures.1 in rw (p.1, p.2) (λ s l. tt)
+
+pub read_statements-returns-in_err-push : goal.read_statements-returns-in_err-push
+read_statements-returns-in_err-push t c = let p = err_from_is_err_and c.from_residual-in_err-push.result c.from_residual-in_err-push.ensures.1 in rw (p.1, p.2) (λ s l. tt)
+
+pub read_statements-statements-smaller : goal.read_statements-statements-smaller
+read_statements-statements-smaller t c = omega (arith, c.in_ok-statement.ensures.shorter, c.in-Some.ensures.shorter)
