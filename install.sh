@@ -33,6 +33,10 @@ if $uninstall; then
   done
   exit
 fi
+if ! { mkdir -p "$target/bin" && [ -w "$target/bin" ]; } 2> /dev/null; then
+  echo "install.sh: $target can't be written; bash install.sh ~/.local wants no rights" >&2
+  exit 1
+fi
 for name in "${programs[@]}"; do
   find_built "$name" || exit $?
   install -D -m 755 "$program" "$target/bin/$name"
@@ -42,3 +46,7 @@ pages | while read -r page file; do
   install -D -m 644 "$top/$page" "$target/$file"
   echo "$target/$file"
 done
+case :$PATH: in
+  *":$target/bin:"*) ;;
+  *) [ -n "${DESTDIR:-}" ] || echo "$target/bin is not on the path: PATH=\$PATH:$target/bin" >&2 ;;
+esac

@@ -1,7 +1,15 @@
 // The page: its fields and buttons.
 
 const at = (id) => document.getElementById(id);
-const texts = () => ({ program: at("program").value, input: at("input").value, bound: at("bound").value || "0" });
+const MOST_EVENTS = 1000000;
+
+// The bound as digits, however it was written (1e3); an empty field stands for the one that the program has of itself.
+function boundText() {
+  const bound = at("bound").valueAsNumber;
+  return String(BigInt(Math.trunc(Number.isNaN(bound) ? MOST_EVENTS : bound)));
+}
+
+const texts = () => ({ program: at("program").value, input: at("input").value, bound: boundText() });
 
 // The place that a fault line names, as an index into the program: the line, the column and the index. Columns count bytes.
 function placeOf(fault, program) {
@@ -37,30 +45,37 @@ function scroll() {
   at("marks").style.transform = `translate(${-scrollLeft}px, ${-scrollTop}px)`;
 }
 
-function goTo(place) {
-  const field = at("program");
-  field.focus();
-  field.setSelectionRange(place.index, place.index);
-  const height = field.scrollHeight / Math.max(1, field.value.split("\n").length);
+function reveal(place) {
+  const field = at("program"), height = field.scrollHeight / Math.max(1, field.value.split("\n").length);
   field.scrollTop = Math.max(0, height * (place.line - 4));
   scroll();
 }
 
+function goTo(place) {
+  at("program").focus();
+  at("program").setSelectionRange(place.index, place.index);
+  reveal(place);
+}
+
 const STATES = ["finished", "program or input refused", "command line refused", "stopped by its bound", "out of memory", "not read or written", "refused"];
 
+// The words of kahn_explain, for whoever has a field in place of an option.
+const whyOf = (reasons) => new TextDecoder().decode(reasons).replace(/^--bound N with a greater N lets/m, "A greater bound lets");
+
 function show({ status, report, picture, reasons, time }, program) {
-  const text = new TextDecoder().decode(report);
+  const text = new TextDecoder().decode(report), why = whyOf(reasons);
   const place = placeOf(text, program);
   at("report").textContent = text;
   at("report").classList.toggle("fault", text.startsWith("kahn: "));
-  at("state").textContent = status === 7 ? "no answer" : `status ${status}: ${STATES[status]}, ${time.toFixed(1)} ms`;
+  at("state").textContent = status === 7 ? "no answer" : `status ${status}: ${STATES[status]}${why.includes("in a deadlock") ? ", in a deadlock" : ""}, ${time.toFixed(1)} ms`;
   at("place").hidden = !place;
   if (place) {
     at("place").textContent = `Go to line ${place.line}, column ${place.column}`;
     at("place").onclick = () => goTo(place);
+    reveal(place);
   }
   mark(place);
-  at("reasons").textContent = new TextDecoder().decode(reasons);
+  at("reasons").textContent = why;
   at("reasons").hidden = at("why").hidden = reasons.length === 0;
   at("picture").replaceChildren(...drawn(new TextDecoder().decode(picture)));
   at("picture").hidden = at("network").hidden = picture.length === 0;
@@ -99,13 +114,13 @@ function putLinked() {
   const carried = new URLSearchParams(location.hash.slice(1));
   const [name, program, input] = EXAMPLES.find(([it]) => it === "squares") ?? EXAMPLES[0];
   at("example").value = carried.has("program") ? "" : name;
-  return put(carried.get("program") ?? program, carried.get("input") ?? (carried.has("program") ? "" : input), carried.get("bound") ?? "1000000");
+  return put(carried.get("program") ?? program, carried.get("input") ?? (carried.has("program") ? "" : input), carried.get("bound") ?? MOST_EVENTS);
 }
 
 EXAMPLES.forEach(([name]) => at("example").append(new Option(name)));
 at("example").onchange = () => {
   const found = EXAMPLES.find(([name]) => name === at("example").value);
-  if (found) put(found[1], found[2], "1000000");
+  if (found) put(found[1], found[2], MOST_EVENTS);
 };
 at("program").oninput = () => {
   at("example").value = "";

@@ -187,9 +187,12 @@ function drawn(text) {
   const top = Math.min(...points.map((it) => it.y - it.height / 2)) - (loops.length ? 46 : 14);
   const bottom = Math.max(...points.map((it) => it.y + it.height / 2)) + 14;
   const width = Math.max(...points.map((it) => it.x + it.width / 2)) + 12;
-  const head = element("marker", { id: "head", viewBox: "0 0 8 8", refX: 8, refY: 4, markerWidth: 8, markerHeight: 8, orient: "auto-start-reverse" },
+  const size = { viewBox: "0 0 8 8", refX: 8, refY: 4, markerWidth: 8, markerHeight: 8, markerUnits: "userSpaceOnUse" };
+  const head = element("marker", { id: "head", orient: "auto-start-reverse", ...size },
     element("path", { d: "M0 0L8 4L0 8z" }));
   const arrows = edges.map(arrow), title = `${nodes.filter((it) => !it.isPlain).length} processes and ${all.length} channels`;
-  return [element("svg", { role: "img", "aria-label": title, width, height: bottom - top, viewBox: `0 ${top} ${width} ${bottom - top}` }, head,
+  // (a wide picture is drawn smaller, so far as its words can still be read)
+  const style = `min-width: ${Math.round(0.6 * width)}px`;
+  return [element("svg", { role: "img", "aria-label": title, width, height: bottom - top, viewBox: `0 ${top} ${width} ${bottom - top}`, style }, head,
     ...arrows.map(([line]) => line), ...nodes.map(box), ...loops.flatMap(loop), ...arrows.flatMap(([, ...names]) => names))];
 }
