@@ -1,5 +1,5 @@
 -- How the parts that are open go on, over what the parser reads.
-use Rattle.kahn_syntax.proofs.Common.{StopsAs, head_parts, Then, Else, Do, On, End, ElseTail, StatementsTail, ◌≡◌, ◌≢◌, ℕ, ◌+◌, ◌≤◌, ◌<◌, List, [], ◌∷◌, ◌++◌, ◌⊎◌, ⊎_elim, length, true, false, cond, Some, None, Result, Ok, Err, true≢false, refl, sym, ap, ◌∙◌, subst, arith, append_assoc, Span, Class, Lexeme, MatchResult, Expression, Form, Covers, Statement, Stop, Refused, TooDeep, NoMemory, Terminal, word, terminal, terminals, First, Token, accepts, leads, class_of, a_kind, a_name, a_number, a_sign, a_word, an_operator, either, rules_of, starts, enters, followed, opened_by, argument_rules, declaration_rules, other_rules, process_rules, simple_rules, Part, ProgramPart, DeclarationsPart, DeclarationPart, ProcessPart, GroupsPart, GroupPart, VariablesPart, InstancePart, ArgumentsPart, ArgumentPart, ExpressionPart, OperatorsPart, StatementPart, SimplePart, GroupsTail, ArgumentsTail, TokenPart, LevelPart, levels, step, Refuses, TooFar, fate, Operator, Level, Or, operator_terminal, rank, Rung, whole, ors, denials, relations, sums, at, tighter, rung_of, Kind, kind_terminal, IsAbsent, Reads, Moves, Stops, Halts, ExpressionRead, StatementRead, Begin, Close, If, Integer, Logical, NameClass, Not, NotWord, Process, Semicolon, SignClass, Word}
+use Rattle.kahn_syntax.proofs.Common.{Action, StopsAs, head_parts, Then, Else, Do, On, End, ElseTail, StatementsTail, ◌≡◌, ◌≢◌, ℕ, ◌+◌, ◌≤◌, ◌<◌, List, [], ◌∷◌, ◌++◌, ◌⊎◌, ⊎_elim, length, true, false, cond, Some, None, Result, Ok, Err, true≢false, refl, sym, ap, ◌∙◌, subst, arith, append_assoc, Span, Class, Lexeme, MatchResult, Expression, Form, Covers, Statement, Stop, Refused, TooDeep, NoMemory, Terminal, word, terminal, terminals, First, Token, accepts, leads, class_of, a_kind, a_name, a_number, a_sign, a_word, an_operator, either, rules_of, starts, enters, followed, opened_by, argument_rules, declaration_rules, other_rules, process_rules, simple_rules, Part, ProgramPart, DeclarationsPart, DeclarationPart, ProcessPart, GroupsPart, GroupPart, VariablesPart, InstancePart, ArgumentsPart, ArgumentPart, ExpressionPart, OperatorsPart, StatementPart, SimplePart, GroupsTail, ArgumentsTail, TokenPart, LevelPart, levels, step, Refuses, TooFar, fate, Operator, Level, Or, operator_terminal, rank, Rung, whole, ors, denials, relations, sums, at, tighter, rung_of, Kind, kind_terminal, IsAbsent, Reads, Moves, Stops, Halts, ExpressionRead, StatementRead, IsStated, Begin, Close, If, Integer, Logical, NameClass, Not, NotWord, Process, Semicolon, SignClass, Word}
 use Rattle.kahn_syntax.proofs.WholePrograms.{take_kind, skip_variables}
 use Rattle.kahn_syntax.proofs.Steps.{go, runs, part, skips, refuses, passes, passes_one, follows, follows_some, starts_one, starts_followed, skip_level, skip_tail, take_token, IsChain, IsOther, open_chain, open_whole, open_denial, take_comparison, take_operator}
 use Rattle.kahn_syntax.proofs.Reached.{go_far}
@@ -192,6 +192,13 @@ pub made : (text : List ℕ) (d : ℕ) (g : Rung) (f : Form) (i j : List Lexeme)
 made text d g f i j k r e rest h =
     unless_memory text d (ExpressionPart g ∷ []) i r _ _
     (λ x m. subst (ExpressionRead text d g (e x) i) (sym m.2) (subst (λ y. ExpressionRead text d g (record { span = (e x).span; form = y }) i j) (sym m.0) (k (e x).span m.1))) h
+
+-- a statement that is made of what it does
+pub stated : (text : List ℕ) (d : ℕ) (p : Part) (a : Action) (i j : List Lexeme) → ((at : Span) → Covers at i j → StatementRead text d p (record { span = Some at; action = a }) i j) →
+    {X : Type 0} (r : Result X Stop) (s : X → Statement) (rest : X → List Lexeme) → MatchResult r (λ x. IsStated (s x) a i j × (rest x ≡ j)) (λ x. x ≡ NoMemory) →
+    MatchResult r (λ x. StatementRead text d p (s x) i (rest x)) (Stops text d (p ∷ []) i)
+stated text d p a i j k r s rest h =
+    unless_memory text d (p ∷ []) i r _ _ (λ x (m, e). subst (StatementRead text d p (s x) i) (sym e) (subst (λ y. StatementRead text d p y i j) (sym m.1) (k m.0 m.2))) h
 
 pub opened_simple : (text : List ℕ) (d : ℕ) (i : List Lexeme) → Moves text d (StatementPart ∷ []) (SimplePart ∷ []) i i →
     {X : Type 0} (r : Result X Stop) (s : X → Statement) (rest : X → List Lexeme) →

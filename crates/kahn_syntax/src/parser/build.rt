@@ -4,11 +4,11 @@ ghost use Rattle.std.specs.Prelude.{◌≡◌, ◌<◌, length, IfOk, IfErr, Mat
 ghost use Rattle.kahn_syntax.specs.declared.parser.cursor.Stop.TheVariants.{NoMemory};
 ghost use Rattle.kahn_syntax.specs.Texts.{expression_tree, form_tree, Covers};
 ghost use Rattle.kahn_syntax.specs.Grammar as tree;
-ghost use Rattle.kahn_syntax.specs.inner.Reads.{SpansOperation};
+ghost use Rattle.kahn_syntax.specs.inner.Reads.{IsStated, SpansOperation};
 
 use crate::lexeme::Lexeme;
 use crate::parser::cursor::{Read, Stop, reach};
-use kahn_streams::{Expression, Form, Operand, Operator};
+use kahn_streams::{Action, Expression, Form, Operand, Operator, Statement};
 use std::alloc::Global;
 
 /// An expression of this form, from the first lexeme of the input to the last one before the rest.
@@ -24,6 +24,21 @@ pub fn made<'t>(
     let span = reach(input, rest);
     let expression = Box::new(alloc, Expression { span, form })?;
     Ok((expression, rest))
+}
+
+/// A statement that does this, from the first lexeme of the input to the last one before the rest.
+pub fn stated<'t>(
+    alloc: Global,
+    input: &[Lexeme],
+    rest: &'t [Lexeme],
+    action: Action,
+) -> Read<'t, Box<Statement>>
+    requires { length rest.now < length input.now }
+    ensures { MatchResult result (λ r. IsStated r.0.value action input.now rest.now × (r.1.now ≡ rest.now)) (λ e. e ≡ NoMemory) }
+{
+    let span = Some(reach(input, rest));
+    let statement = Box::new(alloc, Statement { span, action })?;
+    Ok((statement, rest))
 }
 
 /// The form of two operands with an operator between.

@@ -8,7 +8,8 @@ ghost use Rattle.kahn_syntax.specs.inner.Reads.{ParsesStatement, BodyRead, Stops
 ghost use Rattle.kahn_syntax.specs.inner.Machine.{leads, StatementPart, SimplePart, StatementsTail, a_name};
 
 use crate::lexeme::{Class, Keyword, Lexeme, Sign};
-use crate::parser::cursor::{Read, deeper, expect, next, past, reach};
+use crate::parser::build::stated;
+use crate::parser::cursor::{Read, deeper, expect, next, past};
 use crate::parser::expression::{read_before, read_expression};
 use crate::parser::names::read_name;
 use kahn_streams::{Action, Statement};
@@ -30,7 +31,7 @@ pub fn read_statements<'t>(
     let mut rest = input;
     'statements: loop {
         let (statement, after) = read_statement(alloc, text, rest, depth)?;
-        statements.push(statement)?;
+        statements.push(Box::into_inner(statement))?;
         let Some(further) = past(after, Class::Sign(Sign::Semicolon)) else {
             return Ok((statements, after));
         };
@@ -45,35 +46,28 @@ fn read_statement<'t>(
     text: &str,
     input: &'t [Lexeme],
     depth: usize,
-) -> Read<'t, Statement>
+) -> Read<'t, Box<Statement>>
     requires depth { depth ≤ 64 }
     requires proper { AreProper text.now input.now }
-    ensures { ParsesStatement result text.now depth StatementPart (λ r. r.0) input.now (λ r. r.1.now) }
+    ensures { ParsesStatement result text.now depth StatementPart (λ r. r.0.value) input.now (λ r. r.1.now) }
 {
     match next(input) {
         Some((Class::Word(Keyword::If), rest)) => read_if(alloc, text, input, rest, depth),
         Some((Class::Word(Keyword::While), rest)) => {
             let inner = deeper(input, depth)?;
             let (test, rest) = read_before(alloc, text, rest, inner, Keyword::Do)?;
-            let (turn, rest) = read_inner(alloc, text, rest, inner)?;
-            Ok((
-                Statement {
-                    span: Some(reach(input, rest)),
-                    action: Action::While(Box::into_inner(test), turn),
-                },
+            let (turn, rest) = read_statement(alloc, text, rest, inner)?;
+            stated(
+                alloc,
+                input,
                 rest,
-            ))
+                Action::While(Box::into_inner(test), turn),
+            )
         }
         Some((Class::Word(Keyword::Repeat), rest)) => {
             let inner = deeper(input, depth)?;
-            let (turn, rest) = read_inner(alloc, text, rest, inner)?;
-            Ok((
-                Statement {
-                    span: Some(reach(input, rest)),
-                    action: Action::Repeat(turn),
-                },
-                rest,
-            ))
+            let (turn, rest) = read_statement(alloc, text, rest, inner)?;
+            stated(alloc, input, rest, Action::Repeat(turn))
         }
         _ => read_simple(alloc, text, input, depth),
     }
@@ -87,52 +81,32 @@ fn read_if<'t>(
     input: &'t [Lexeme],
     rest: &'t [Lexeme],
     depth: usize,
-) -> Read<'t, Statement>
+) -> Read<'t, Box<Statement>>
     requires first { First (class.Word keyword.If) input.now rest.now }
     requires follows { length input.now ≡ length rest.now + 1 }
     requires depth { depth ≤ 64 }
     requires proper { AreProper text.now rest.now }
     requires passed { IsPast input.now rest.now }
-    ensures { ParsesStatement result text.now depth StatementPart (λ r. r.0) input.now (λ r. r.1.now) }
+    ensures { ParsesStatement result text.now depth StatementPart (λ r. r.0.value) input.now (λ r. r.1.now) }
 {
     let inner = deeper(input, depth)?;
     let (test, rest) = read_before(alloc, text, rest, inner, Keyword::Then)?;
     let (yes, rest) = read_simple(alloc, text, rest, inner)?;
-    let branch = Box::new(alloc, yes)?;
     let Some(after) = past(rest, Class::Word(Keyword::Else)) else {
-        return Ok((
-            Statement {
-                span: Some(reach(input, rest)),
-                action: Action::If(Box::into_inner(test), branch, None),
-            },
+        return stated(
+            alloc,
+            input,
             rest,
-        ));
+            Action::If(Box::into_inner(test), yes, None),
+        );
     };
-    let (no, rest) = read_inner(alloc, text, after, inner)?;
-    Ok((
-        Statement {
-            span: Some(reach(input, rest)),
-            action: Action::If(Box::into_inner(test), branch, Some(no)),
-        },
+    let (no, rest) = read_statement(alloc, text, after, inner)?;
+    stated(
+        alloc,
+        input,
         rest,
-    ))
-}
-
-// A statement inside of another one.
-#[cycle(statement)]
-fn read_inner<'t>(
-    alloc: Global,
-    text: &str,
-    input: &'t [Lexeme],
-    depth: usize,
-) -> Read<'t, Box<Statement>>
-    requires depth { depth ≤ 64 }
-    requires proper { AreProper text.now input.now }
-    ensures { ParsesStatement result text.now depth StatementPart (λ r. r.0.value) input.now (λ r. r.1.now) }
-{
-    let (statement, rest) = read_statement(alloc, text, input, depth)?;
-    let boxed = Box::new(alloc, statement)?;
-    Ok((boxed, rest))
+        Action::If(Box::into_inner(test), yes, Some(no)),
+    )
 }
 
 // A statement that `else` may follow.
@@ -142,43 +116,32 @@ fn read_simple<'t>(
     text: &str,
     input: &'t [Lexeme],
     depth: usize,
-) -> Read<'t, Statement>
+) -> Read<'t, Box<Statement>>
     requires depth { depth ≤ 64 }
     requires proper { AreProper text.now input.now }
-    ensures { ParsesStatement result text.now depth SimplePart (λ r. r.0) input.now (λ r. r.1.now) }
+    ensures { ParsesStatement result text.now depth SimplePart (λ r. r.0.value) input.now (λ r. r.1.now) }
 {
     match next(input) {
         Some((Class::Name, _)) => read_assign(alloc, text, input, depth),
         Some((Class::Word(Keyword::Send), rest)) => read_send(alloc, text, input, rest, depth),
         Some((Class::Word(Keyword::Print), rest)) => {
             let (value, rest) = read_expression(alloc, text, rest, depth)?;
-            Ok((
-                Statement {
-                    span: Some(reach(input, rest)),
-                    action: Action::Print(Box::into_inner(value)),
-                },
-                rest,
-            ))
+            stated(alloc, input, rest, Action::Print(Box::into_inner(value)))
         }
         Some((Class::Word(Keyword::Begin), rest)) => {
             let inner = deeper(input, depth)?;
             let (statements, rest) = read_statements(alloc, text, rest, inner)?;
             let rest = expect(rest, Class::Word(Keyword::End))?;
-            Ok((
-                Statement {
-                    span: Some(reach(input, rest)),
-                    action: Action::Block(statements),
-                },
-                rest,
-            ))
+            stated(alloc, input, rest, Action::Block(statements))
         }
-        _ => Ok((
-            Statement {
+        _ => {
+            let empty = Statement {
                 span: None,
                 action: Action::Empty,
-            },
-            input,
-        )),
+            };
+            let nothing = Box::new(alloc, empty)?;
+            Ok((nothing, input))
+        }
     }
 }
 
@@ -188,22 +151,21 @@ fn read_assign<'t>(
     text: &str,
     input: &'t [Lexeme],
     depth: usize,
-) -> Read<'t, Statement>
+) -> Read<'t, Box<Statement>>
     requires depth { depth ≤ 64 }
     requires proper { AreProper text.now input.now }
     requires named { leads a_name (terminals text.now input.now) ≡ true }
-    ensures { ParsesStatement result text.now depth SimplePart (λ r. r.0) input.now (λ r. r.1.now) }
+    ensures { ParsesStatement result text.now depth SimplePart (λ r. r.0.value) input.now (λ r. r.1.now) }
 {
     let (name, rest) = read_name(alloc, text, input)?;
     let rest = expect(rest, Class::Sign(Sign::Becomes))?;
     let (value, rest) = read_expression(alloc, text, rest, depth)?;
-    Ok((
-        Statement {
-            span: Some(reach(input, rest)),
-            action: Action::Assign(name, Box::into_inner(value)),
-        },
+    stated(
+        alloc,
+        input,
         rest,
-    ))
+        Action::Assign(name, Box::into_inner(value)),
+    )
 }
 
 // A send, after the `send` that the input begins with.
@@ -213,21 +175,20 @@ fn read_send<'t>(
     input: &'t [Lexeme],
     rest: &'t [Lexeme],
     depth: usize,
-) -> Read<'t, Statement>
+) -> Read<'t, Box<Statement>>
     requires first { First (class.Word keyword.Send) input.now rest.now }
     requires follows { length input.now ≡ length rest.now + 1 }
     requires depth { depth ≤ 64 }
     requires proper { AreProper text.now rest.now }
     requires passed { IsPast input.now rest.now }
-    ensures { ParsesStatement result text.now depth SimplePart (λ r. r.0) input.now (λ r. r.1.now) }
+    ensures { ParsesStatement result text.now depth SimplePart (λ r. r.0.value) input.now (λ r. r.1.now) }
 {
     let (value, rest) = read_before(alloc, text, rest, depth, Keyword::On)?;
     let (name, rest) = read_name(alloc, text, rest)?;
-    Ok((
-        Statement {
-            span: Some(reach(input, rest)),
-            action: Action::Send(Box::into_inner(value), name),
-        },
+    stated(
+        alloc,
+        input,
         rest,
-    ))
+        Action::Send(Box::into_inner(value), name),
+    )
 }

@@ -400,32 +400,5 @@ read_level-returns-in_err-push t c = let p = err_from_is_err_and c.from_residual
 pub read_relation-returns-in_err-form : goal.read_relation-returns-in_err-form
 read_relation-returns-in_err-form t c = let p = err_from_is_err_and c.from_residual-in_err-form.result c.from_residual-in_err-form.ensures.1 in rw (p.1, p.2, c.in_err-form.ensures.stop) (λ s l. tt)
 
-pub read_expression-made-requires : goal.read_expression-made-requires
-read_expression-made-requires t c = omega (arith, c.in-Some.ensures.shorter, c.in_ok-test.ensures.shorter, c.in_ok-yes.ensures.shorter, c.in_ok-no.ensures.shorter)
-
-pub read_denial-made-requires : goal.read_denial-made-requires
-read_denial-made-requires t c = omega (arith, c.in-Some.ensures.shorter, c.in_ok-operand.ensures.shorter)
-
-pub read_factor-made-requires : goal.read_factor-made-requires
-read_factor-made-requires t c = omega (arith, c.in-Some-Number-default.ensures.first.1)
-
-pub read_factor-made-requires-in-Some-Word-True-default : goal.read_factor-made-requires-in-Some-Word-True-default
-read_factor-made-requires-in-Some-Word-True-default t c = omega (arith, c.in-Some-Word-True-default.ensures.first.1)
-
-pub read_factor-made-requires-in-Some-Word-False-default : goal.read_factor-made-requires-in-Some-Word-False-default
-read_factor-made-requires-in-Some-Word-False-default t c = omega (arith, c.in-Some-Word-False-default.ensures.first.1)
-
-pub read_factor-made-requires-in-Some-Sign-Minus-default : goal.read_factor-made-requires-in-Some-Sign-Minus-default
-read_factor-made-requires-in-Some-Sign-Minus-default t c = omega (arith, c.in-Some-Sign-Minus-default.ensures.first.1, c.in_ok-operand-in-Some-Sign-Minus-default.ensures.shorter)
-
-pub read_factor-made-requires-in-Some-Sign-Open-default : goal.read_factor-made-requires-in-Some-Sign-Open-default
-read_factor-made-requires-in-Some-Sign-Open-default t c = omega (arith, c.in-Some-Sign-Open-default.ensures.first.1, c.in_ok-inside-in-Some-Sign-Open-default.ensures.shorter, c.in_ok-rest-in-Some-Sign-Open-default.ensures.shorter)
-
-pub read_factor-made-requires-in-Some-Name-default : goal.read_factor-made-requires-in-Some-Name-default
-read_factor-made-requires-in-Some-Name-default t c = omega (arith, c.in_ok-name-in-Some-Name-default.ensures.shorter)
-
-pub read_relation-made-requires : goal.read_relation-made-requires
-read_relation-made-requires t c = omega (arith, c.in_ok-left.ensures.shorter, c.in-Some.ensures.shorter, c.in_ok-right.ensures.shorter)
-
 pub read_level-operands-smaller : goal.read_level-operands-smaller
 read_level-operands-smaller t c = omega (arith, c.in-Some.ensures.shorter, c.in_ok-expression.ensures.shorter)

@@ -1,4 +1,4 @@
-use Rattle.kahn_syntax.proofs.Parsing.{block, statements_made, statements_row_spans, expression_nesting, expression_tree, Formed, ExpressionSpans, Begin, Do, Else, ElseTail, End, ExpressionPart, ExpressionRead, FormedStatement, FormedStatements, If, IsSimple, LevelPart, NameClass, Print, Repeat, Semicolon, Send, SignClass, SimplePart, SomeStatements, StatementPart, StatementRead, StatementSpans, StatementsTail, Takes, Then, TokenPart, While, Word, a_name, a_sign, a_word, ap, arith, call, call_stops, conditional_parts, deep, drop, ends, err_from_is_err_and, expected, false, first_of, formed_statements_next, goes, last_member, leads, level_ends, nesting_next, next_member, nothing, one, one_lexeme, opened_simple, opens_simple, other_rules, refl, rules, sign, simple_rules, some_between, some_more, some_next, starts, statement_nesting, statement_tree, statements_nesting, statement_trees, subst, sym, terminals, then, then_stops, unexpected, while_parts, whole, word, [], ◌++◌, ◌∙◌, ◌∷◌, ◌≡◌}
+use Rattle.kahn_syntax.proofs.Parsing.{block, statements_made, statements_row_spans, expression_nesting, expression_tree, Formed, ExpressionSpans, Begin, Do, Else, ElseTail, End, ExpressionPart, ExpressionRead, FormedStatement, FormedStatements, If, IsSimple, LevelPart, NameClass, Print, Repeat, Semicolon, Send, SignClass, SimplePart, SomeStatements, StatementPart, StatementRead, StatementSpans, StatementsTail, Takes, Then, TokenPart, While, Word, a_name, a_sign, a_word, ap, arith, call, call_stops, conditional_parts, deep, drop, ends, err_from_is_err_and, expected, false, first_of, formed_statements_next, goes, last_member, leads, level_ends, nesting_next, next_member, nothing, one, one_lexeme, opened_simple, opens_simple, other_rules, refl, rules, sign, simple_rules, some_between, some_more, some_next, starts, statement_nesting, statements_nesting, statement_trees, stated, subst, sym, terminals, then, then_stops, unexpected, while_parts, whole, word, [], ◌++◌, ◌∙◌, ◌∷◌, ◌≡◌}
 use Rattle.kahn_syntax.proofs.parser.statement.+statement.Goals as goal
 
 pub read_statement-read_if-requires : goal.read_statement-read_if-requires
@@ -12,8 +12,8 @@ pub read_statement-returns-in_err-inner-in-Some-Word-Repeat-default : goal.read_
 read_statement-returns-in_err-inner-in-Some-Word-Repeat-default t c =
     let p = err_from_is_err_and c.from_residual-in_err-inner-in-Some-Word-Repeat-default.result c.from_residual-in_err-inner-in-Some-Word-Repeat-default.ensures.1 in rw (p.1, p.2) (deep c.args.text.now c.args.depth (StatementPart) ([]) (StatementPart ∷ LevelPart ∷ []) (word Repeat) c.args.input.now c.in-Some-Word-Repeat-default.rest.now _ (λ s l. omega (arith, l, c.in_err-inner-in-Some-Word-Repeat-default.ensures.stop.0)) (λ s. refl) ((first_of _ (Word Repeat) c.args.input.now c.in-Some-Word-Repeat-default.rest.now (c.in-Some-Word-Repeat-default.field-0-0-is ∙ ap Word c.in-Some-Word-Repeat-default.field-0-0-0-is) c.in-Some-Word-Repeat-default.ensures.first.0).1 c.args.text.now) c.in_err-inner-in-Some-Word-Repeat-default.ensures.stop.1)
 
-pub read_statement-read_inner-requires-in-Some-Word-Repeat-default : goal.read_statement-read_inner-requires-in-Some-Word-Repeat-default
-read_statement-read_inner-requires-in-Some-Word-Repeat-default t c = (omega (arith, c.requires.1.0, c.in-Some-Word-Repeat-default.ensures.first.1), (c.in_ok-inner-in-Some-Word-Repeat-default.ensures.deeper.1, c.in-Some-Word-Repeat-default.ensures.proper c.args.text.now c.requires.1.1.1))
+pub read_statement-read_statement-requires-in-Some-Word-Repeat-default : goal.read_statement-read_statement-requires-in-Some-Word-Repeat-default
+read_statement-read_statement-requires-in-Some-Word-Repeat-default t c = (omega (arith, c.requires.1.0, c.in-Some-Word-Repeat-default.ensures.first.1), (c.in_ok-inner-in-Some-Word-Repeat-default.ensures.deeper.1, c.in-Some-Word-Repeat-default.ensures.proper c.args.text.now c.requires.1.1.1))
 
 pub read_statement-returns-in_err-turn-in-Some-Word-Repeat-default : goal.read_statement-returns-in_err-turn-in-Some-Word-Repeat-default
 read_statement-returns-in_err-turn-in-Some-Word-Repeat-default t c =
@@ -58,8 +58,8 @@ pub read_statement-read_before-requires : goal.read_statement-read_before-requir
 read_statement-read_before-requires t c =
     record { depth = c.in_ok-inner-in-Some-Word-While-default.ensures.deeper.1; proper = c.in-Some-Word-While-default.ensures.proper c.args.text.now c.requires.1.1.1; last = refl }
 
-pub read_statement-read_inner-requires : goal.read_statement-read_inner-requires
-read_statement-read_inner-requires t c =
+pub read_statement-read_statement-requires : goal.read_statement-read_statement-requires
+read_statement-read_statement-requires t c =
     (omega (arith, c.requires.1.0, c.in-Some-Word-While-default.ensures.first.1, c.in_ok-test-in-Some-Word-While-default.ensures.shorter), (c.in_ok-inner-in-Some-Word-While-default.ensures.deeper.1, c.in_ok-test-in-Some-Word-While-default.ensures.proper))
 
 pub read_statement-returns-in_err-test-in-Some-Word-While-default : goal.read_statement-returns-in_err-test-in-Some-Word-While-default
@@ -90,8 +90,8 @@ pub read_if-read_simple-requires : goal.read_if-read_simple-requires
 read_if-read_simple-requires t c =
     (omega (arith, c.requires.1.0, c.requires.1.1.1.0, c.in_ok-test.ensures.shorter), (c.in_ok-inner.ensures.deeper.1, c.in_ok-test.ensures.proper))
 
-pub read_if-read_inner-requires : goal.read_if-read_inner-requires
-read_if-read_inner-requires t c =
+pub read_if-read_statement-requires : goal.read_if-read_statement-requires
+read_if-read_statement-requires t c =
     (omega (arith, c.requires.1.0, c.requires.1.1.1.0, c.in_ok-test.ensures.shorter, c.in_ok-yes.ensures.shorter, c.in-Some.ensures.shorter), (c.in_ok-inner.ensures.deeper.1, c.in-Some.ensures.proper c.args.text.now c.in_ok-yes.ensures.proper))
 
 pub read_if-returns-in_err-test : goal.read_if-returns-in_err-test
@@ -126,9 +126,9 @@ read_if-returns-in_err-no t c =
 
 pub read_statement-returns-in_ok-turn-in-Some-Word-While-default : goal.read_statement-returns-in_ok-turn-in-Some-Word-While-default
 read_statement-returns-in_ok-turn-in-Some-Word-While-default t c =
-    record {
+    stated c.args.text.now c.args.depth StatementPart _ c.args.input.now c.in_ok-turn-in-Some-Word-While-default.rest.now (λ at h. record {
       spans = let T = c.args.text.now in (
-        c.reach.ensures,
+        h,
         (
           c.in-Some-Word-While-default.rest.now,
           c.in_ok-test-in-Some-Word-While-default.ensures.spans.0,
@@ -152,30 +152,32 @@ read_statement-returns-in_ok-turn-in-Some-Word-While-default t c =
           (then m2
           (call T c.args.depth e (StatementPart ∷ []) (LevelPart ∷ []) c.in_ok-test-in-Some-Word-While-default.rest.now o (λ s l. omega (arith, l, n)) c.in_ok-turn-in-Some-Word-While-default.ensures.reads))
           (level_ends T c.args.depth [] o);
-    }
+    })
+    c.stated.result (λ x. x.0.value) (λ x. x.1.now) c.stated.ensures
 
 pub read_statement-returns-in_ok-turn-in-Some-Word-Repeat-default : goal.read_statement-returns-in_ok-turn-in-Some-Word-Repeat-default
 read_statement-returns-in_ok-turn-in-Some-Word-Repeat-default t c =
-    record {
+    stated c.args.text.now c.args.depth StatementPart _ c.args.input.now c.in_ok-turn-in-Some-Word-Repeat-default.rest.now (λ at h. record {
       spans = let T = c.args.text.now in
-          (c.reach-in-Some-Word-Repeat-default.ensures, (c.in-Some-Word-Repeat-default.rest.now, (one_lexeme T (word Repeat) c.args.input.now c.in-Some-Word-Repeat-default.rest.now c.in-Some-Word-Repeat-default.ensures.passed ((first_of _ (Word Repeat) c.args.input.now c.in-Some-Word-Repeat-default.rest.now (c.in-Some-Word-Repeat-default.field-0-0-is ∙ ap Word c.in-Some-Word-Repeat-default.field-0-0-0-is) c.in-Some-Word-Repeat-default.ensures.first.0).1 T)), c.in_ok-turn-in-Some-Word-Repeat-default.ensures.spans));
+          (h, (c.in-Some-Word-Repeat-default.rest.now, (one_lexeme T (word Repeat) c.args.input.now c.in-Some-Word-Repeat-default.rest.now c.in-Some-Word-Repeat-default.ensures.passed ((first_of _ (Word Repeat) c.args.input.now c.in-Some-Word-Repeat-default.rest.now (c.in-Some-Word-Repeat-default.field-0-0-is ∙ ap Word c.in-Some-Word-Repeat-default.field-0-0-0-is) c.in-Some-Word-Repeat-default.ensures.first.0).1 T)), c.in_ok-turn-in-Some-Word-Repeat-default.ensures.spans));
       formed = (c.in_ok-turn-in-Some-Word-Repeat-default.ensures.formed.0, λ e. absurd cc);
       nesting = omega (arith, c.in_ok-inner-in-Some-Word-Repeat-default.ensures.deeper.0, c.in_ok-turn-in-Some-Word-Repeat-default.ensures.nesting);
       shorter = omega (arith, c.in-Some-Word-Repeat-default.ensures.first.1, c.in_ok-turn-in-Some-Word-Repeat-default.ensures.shorter);
       proper = c.in_ok-turn-in-Some-Word-Repeat-default.ensures.proper;
       reads = (then (then (one c.args.text.now c.args.depth (StatementPart) ([]) (StatementPart ∷ LevelPart ∷ []) (word Repeat) c.args.input.now c.in-Some-Word-Repeat-default.rest.now (λ s l. omega (arith, l, c.requires.1.1.0, c.in_ok-inner-in-Some-Word-Repeat-default.ensures.deeper.0, c.in_ok-inner-in-Some-Word-Repeat-default.ensures.deeper.1)) (λ s. refl) ((first_of _ (Word Repeat) c.args.input.now c.in-Some-Word-Repeat-default.rest.now (c.in-Some-Word-Repeat-default.field-0-0-is ∙ ap Word c.in-Some-Word-Repeat-default.field-0-0-0-is) c.in-Some-Word-Repeat-default.ensures.first.0).1 c.args.text.now)) (call c.args.text.now c.args.depth c.in_ok-inner-in-Some-Word-Repeat-default.inner (StatementPart ∷ []) (LevelPart ∷ []) c.in-Some-Word-Repeat-default.rest.now c.in_ok-turn-in-Some-Word-Repeat-default.rest.now (λ s l. omega (arith, l, c.requires.1.1.0, c.in_ok-inner-in-Some-Word-Repeat-default.ensures.deeper.0, c.in_ok-inner-in-Some-Word-Repeat-default.ensures.deeper.1)) c.in_ok-turn-in-Some-Word-Repeat-default.ensures.reads)) (level_ends c.args.text.now c.args.depth [] c.in_ok-turn-in-Some-Word-Repeat-default.rest.now));
-    }
+    })
+    c.stated-in-Some-Word-Repeat-default.result (λ x. x.0.value) (λ x. x.1.now) c.stated-in-Some-Word-Repeat-default.ensures
 
 pub read_statement-returns-in_default : goal.read_statement-returns-in_default
 read_statement-returns-in_default t c =
     let a : starts other_rules (terminals c.args.text.now c.args.input.now) ≡ false = search rules in
-    opened_simple c.args.text.now c.args.depth c.args.input.now (opens_simple c.args.text.now c.args.depth [] c.args.input.now a) c.read_simple.result (λ x. x.0) (λ x. x.1.now) c.read_simple.ensures
+    opened_simple c.args.text.now c.args.depth c.args.input.now (opens_simple c.args.text.now c.args.depth [] c.args.input.now a) c.read_simple.result (λ x. x.0.value) (λ x. x.1.now) c.read_simple.ensures
 
 pub read_if-returns-in_default : goal.read_if-returns-in_default
 read_if-returns-in_default t c =
-    record {
+    stated c.args.text.now c.args.depth StatementPart _ c.args.input.now c.in_ok-yes.rest.now (λ at h. record {
       spans = let T = c.args.text.now in (
-        c.reach.ensures,
+        h,
         (
           c.args.rest.now,
           c.in_ok-test.ensures.spans.0,
@@ -184,16 +186,15 @@ read_if-returns-in_default t c =
           one_lexeme T (word If) c.args.input.now c.args.rest.now c.requires.1.1.1.1.1.1 (c.requires.1.1.0.1 T),
           subst (λ y. ExpressionSpans T y c.args.rest.now c.in_ok-test.ensures.spans.0) (sym c.into_inner.ensures) c.in_ok-test.ensures.spans.1,
           c.in_ok-test.ensures.spans.2,
-          (subst (λ y. StatementSpans T y c.in_ok-test.rest.now c.in_ok-yes.rest.now) (sym c.in_ok-branch.ensures.ok) c.in_ok-yes.ensures.spans),
+          c.in_ok-yes.ensures.spans,
           refl,
         ),
       );
       formed = (
-        let y = subst (λ y. IsSimple (statement_tree y) × FormedStatement (statement_tree y)) (sym c.in_ok-branch.ensures.ok) (c.in_ok-yes.ensures.formed.1 refl, c.in_ok-yes.ensures.formed.0) in
-            (subst (λ e. Formed (expression_tree e)) (sym c.into_inner.ensures) c.in_ok-test.ensures.formed.1, y.0, y.1),
+        (subst (λ e. Formed (expression_tree e)) (sym c.into_inner.ensures) c.in_ok-test.ensures.formed.1, c.in_ok-yes.ensures.formed.1 refl, c.in_ok-yes.ensures.formed.0),
         λ e. absurd cc,
       );
-      nesting = omega (arith, ap (λ y. expression_nesting (expression_tree y)) c.into_inner.ensures, ap (λ y. statement_nesting (statement_tree y)) c.in_ok-branch.ensures.ok, c.in_ok-inner.ensures.deeper.0, c.in_ok-test.ensures.nesting, c.in_ok-yes.ensures.nesting);
+      nesting = omega (arith, ap (λ y. expression_nesting (expression_tree y)) c.into_inner.ensures, c.in_ok-inner.ensures.deeper.0, c.in_ok-test.ensures.nesting, c.in_ok-yes.ensures.nesting);
       shorter = omega (arith, c.requires.1.1.1.0, c.in_ok-test.ensures.shorter, c.in_ok-yes.ensures.shorter);
       proper = c.in_ok-yes.ensures.proper;
       reads = let T = c.args.text.now in let i = c.args.input.now in
@@ -204,13 +205,14 @@ read_if-returns-in_default t c =
           then
           (then m3 (ends T c.args.depth ElseTail (a_word Else) _ (LevelPart ∷ []) (Word Else) o refl refl c.in_default.ensures.absent))
           (level_ends T c.args.depth [] o);
-    }
+    })
+    c.stated.result (λ x. x.0.value) (λ x. x.1.now) c.stated.ensures
 
 pub read_if-returns : goal.read_if-returns
 read_if-returns t c =
-    record {
+    stated c.args.text.now c.args.depth StatementPart _ c.args.input.now c.in_ok-no.rest.now (λ at h. record {
       spans = let T = c.args.text.now in (
-        c.reach-2.ensures,
+        h,
         (
           c.args.rest.now,
           c.in_ok-test.ensures.spans.0,
@@ -219,16 +221,15 @@ read_if-returns t c =
           one_lexeme T (word If) c.args.input.now c.args.rest.now c.requires.1.1.1.1.1.1 (c.requires.1.1.0.1 T),
           subst (λ y. ExpressionSpans T y c.args.rest.now c.in_ok-test.ensures.spans.0) (sym c.into_inner-2.ensures) c.in_ok-test.ensures.spans.1,
           c.in_ok-test.ensures.spans.2,
-          (subst (λ y. StatementSpans T y c.in_ok-test.rest.now c.in_ok-yes.rest.now) (sym c.in_ok-branch.ensures.ok) c.in_ok-yes.ensures.spans),
+          c.in_ok-yes.ensures.spans,
           (c.in-Some.after.now, one_lexeme T (word Else) c.in_ok-yes.rest.now c.in-Some.after.now c.in-Some.ensures.passed (c.in-Some.ensures.first.1 T), c.in_ok-no.ensures.spans),
         ),
       );
       formed = (
-        let y = subst (λ y. IsSimple (statement_tree y) × FormedStatement (statement_tree y)) (sym c.in_ok-branch.ensures.ok) (c.in_ok-yes.ensures.formed.1 refl, c.in_ok-yes.ensures.formed.0) in
-            (subst (λ e. Formed (expression_tree e)) (sym c.into_inner-2.ensures) c.in_ok-test.ensures.formed.1, y.0, y.1, c.in_ok-no.ensures.formed.0),
+        (subst (λ e. Formed (expression_tree e)) (sym c.into_inner-2.ensures) c.in_ok-test.ensures.formed.1, c.in_ok-yes.ensures.formed.1 refl, c.in_ok-yes.ensures.formed.0, c.in_ok-no.ensures.formed.0),
         λ e. absurd cc,
       );
-      nesting = omega (arith, ap (λ y. expression_nesting (expression_tree y)) c.into_inner-2.ensures, ap (λ y. statement_nesting (statement_tree y)) c.in_ok-branch.ensures.ok, c.in_ok-inner.ensures.deeper.0, c.in_ok-test.ensures.nesting, c.in_ok-yes.ensures.nesting, c.in_ok-no.ensures.nesting);
+      nesting = omega (arith, ap (λ y. expression_nesting (expression_tree y)) c.into_inner-2.ensures, c.in_ok-inner.ensures.deeper.0, c.in_ok-test.ensures.nesting, c.in_ok-yes.ensures.nesting, c.in_ok-no.ensures.nesting);
       shorter = omega (arith, c.requires.1.1.1.0, c.in_ok-test.ensures.shorter, c.in_ok-yes.ensures.shorter, c.in-Some.ensures.shorter, c.in_ok-no.ensures.shorter);
       proper = c.in_ok-no.ensures.proper;
       reads = let T = c.args.text.now in let i = c.args.input.now in
@@ -240,37 +241,28 @@ read_if-returns t c =
           (then m4
           (call T c.args.depth e (StatementPart ∷ []) (LevelPart ∷ []) c.in-Some.after.now o (λ s l. omega (arith, l, n)) c.in_ok-no.ensures.reads))
           (level_ends T c.args.depth [] o);
-    }
-
-pub read_inner-read_statement-requires : goal.read_inner-read_statement-requires
-read_inner-read_statement-requires t c = (omega (arith, c.requires.1.0), (c.requires.1.1.0, c.requires.1.1.1))
-
-pub read_inner-returns-in_err-statement : goal.read_inner-returns-in_err-statement
-read_inner-returns-in_err-statement t c =
-    let p = err_from_is_err_and c.from_residual.result c.from_residual.ensures.1 in rw (p.1, p.2) c.in_err-statement.ensures
-
-pub read_inner-returns : goal.read_inner-returns
-read_inner-returns t c =
-    subst (λ s. StatementRead c.args.text.now c.args.depth StatementPart s c.args.input.now c.in_ok-statement.rest.now) (sym c.in_ok-boxed.ensures.ok) c.in_ok-statement.ensures
+    })
+    c.stated-2.result (λ x. x.0.value) (λ x. x.1.now) c.stated-2.ensures
 
 pub read_simple-returns-in_ok-value-in-Some-Word-Print-default : goal.read_simple-returns-in_ok-value-in-Some-Word-Print-default
 read_simple-returns-in_ok-value-in-Some-Word-Print-default t c =
     let v = subst (λ e. ExpressionRead c.args.text.now c.args.depth whole e c.in-Some-Word-Print-default.rest.now c.in_ok-value-in-Some-Word-Print-default.rest.now) (sym c.into_inner.ensures) c.in_ok-value-in-Some-Word-Print-default.ensures in
-    record {
+    stated c.args.text.now c.args.depth SimplePart _ c.args.input.now c.in_ok-value-in-Some-Word-Print-default.rest.now (λ at h. record {
       spans = let T = c.args.text.now in
-          (c.reach.ensures, (c.in-Some-Word-Print-default.rest.now, (one_lexeme T (word Print) c.args.input.now c.in-Some-Word-Print-default.rest.now c.in-Some-Word-Print-default.ensures.passed ((first_of _ (Word Print) c.args.input.now c.in-Some-Word-Print-default.rest.now (c.in-Some-Word-Print-default.field-0-0-is ∙ ap Word c.in-Some-Word-Print-default.field-0-0-0-is) c.in-Some-Word-Print-default.ensures.first.0).1 T)), v.spans));
+          (h, (c.in-Some-Word-Print-default.rest.now, (one_lexeme T (word Print) c.args.input.now c.in-Some-Word-Print-default.rest.now c.in-Some-Word-Print-default.ensures.passed ((first_of _ (Word Print) c.args.input.now c.in-Some-Word-Print-default.rest.now (c.in-Some-Word-Print-default.field-0-0-is ∙ ap Word c.in-Some-Word-Print-default.field-0-0-0-is) c.in-Some-Word-Print-default.ensures.first.0).1 T)), v.spans));
       formed = (v.formed.1, λ e. tt);
       nesting = v.nesting;
       shorter = omega (arith, c.in-Some-Word-Print-default.ensures.first.1, v.shorter);
       proper = v.proper;
       reads = (then (one c.args.text.now c.args.depth (SimplePart) ([]) (ExpressionPart whole ∷ []) (word Print) c.args.input.now c.in-Some-Word-Print-default.rest.now (λ s l. omega (arith, l, c.requires.1.1.0)) (λ s. refl) ((first_of _ (Word Print) c.args.input.now c.in-Some-Word-Print-default.rest.now (c.in-Some-Word-Print-default.field-0-0-is ∙ ap Word c.in-Some-Word-Print-default.field-0-0-0-is) c.in-Some-Word-Print-default.ensures.first.0).1 c.args.text.now)) (call c.args.text.now c.args.depth c.args.depth (ExpressionPart whole ∷ []) ([]) c.in-Some-Word-Print-default.rest.now c.in_ok-value-in-Some-Word-Print-default.rest.now (λ s l. omega (arith, l, c.requires.1.1.0)) v.reads));
-    }
+    })
+    c.stated.result (λ x. x.0.value) (λ x. x.1.now) c.stated.ensures
 
 pub read_simple-returns-in_ok-rest-in-Some-Word-Begin-default : goal.read_simple-returns-in_ok-rest-in-Some-Word-Begin-default
 read_simple-returns-in_ok-rest-in-Some-Word-Begin-default t c =
-    record {
+    stated c.args.text.now c.args.depth SimplePart _ c.args.input.now c.in_ok-rest-in-Some-Word-Begin-default.rest.now (λ at h. record {
       spans = let T = c.args.text.now in (
-        c.reach-in-Some-Word-Begin-default.ensures,
+        h,
         (
           c.in-Some-Word-Begin-default.rest.now,
           c.in_ok-statements-in-Some-Word-Begin-default.rest.now,
@@ -284,11 +276,12 @@ read_simple-returns-in_ok-rest-in-Some-Word-Begin-default t c =
       shorter = omega (arith, c.in-Some-Word-Begin-default.ensures.first.1, c.in_ok-statements-in-Some-Word-Begin-default.ensures.shorter, c.in_ok-rest-in-Some-Word-Begin-default.ensures.shorter);
       proper = c.in_ok-rest-in-Some-Word-Begin-default.ensures.proper c.args.text.now c.in_ok-statements-in-Some-Word-Begin-default.ensures.proper;
       reads = (then (then (then (one c.args.text.now c.args.depth (SimplePart) ([]) (StatementPart ∷ StatementsTail ∷ TokenPart (a_word End) ∷ LevelPart ∷ []) (word Begin) c.args.input.now c.in-Some-Word-Begin-default.rest.now (λ s l. omega (arith, l, c.requires.1.1.0, c.in_ok-inner-in-Some-Word-Begin-default.ensures.deeper.0, c.in_ok-inner-in-Some-Word-Begin-default.ensures.deeper.1)) (λ s. refl) ((first_of _ (Word Begin) c.args.input.now c.in-Some-Word-Begin-default.rest.now (c.in-Some-Word-Begin-default.field-0-0-is ∙ ap Word c.in-Some-Word-Begin-default.field-0-0-0-is) c.in-Some-Word-Begin-default.ensures.first.0).1 c.args.text.now)) (call c.args.text.now c.args.depth c.in_ok-inner-in-Some-Word-Begin-default.inner (StatementPart ∷ StatementsTail ∷ []) (TokenPart (a_word End) ∷ LevelPart ∷ []) c.in-Some-Word-Begin-default.rest.now c.in_ok-statements-in-Some-Word-Begin-default.rest.now (λ s l. omega (arith, l, c.requires.1.1.0, c.in_ok-inner-in-Some-Word-Begin-default.ensures.deeper.0, c.in_ok-inner-in-Some-Word-Begin-default.ensures.deeper.1)) c.in_ok-statements-in-Some-Word-Begin-default.ensures.reads)) (expected c.args.text.now c.args.depth (a_word End) (LevelPart ∷ []) (Word End) c.in_ok-statements-in-Some-Word-Begin-default.rest.now c.in_ok-rest-in-Some-Word-Begin-default.rest.now (λ s l. omega (arith, l, c.requires.1.1.0, c.in_ok-inner-in-Some-Word-Begin-default.ensures.deeper.0, c.in_ok-inner-in-Some-Word-Begin-default.ensures.deeper.1)) refl c.in_ok-rest-in-Some-Word-Begin-default.ensures.first)) (level_ends c.args.text.now c.args.depth [] c.in_ok-rest-in-Some-Word-Begin-default.rest.now));
-    }
+    })
+    c.stated-in-Some-Word-Begin-default.result (λ x. x.0.value) (λ x. x.1.now) c.stated-in-Some-Word-Begin-default.ensures
 
-pub read_simple-returns-in_default : goal.read_simple-returns-in_default
-read_simple-returns-in_default t c =
-    record {
+pub read_simple-returns-in_ok-nothing-in_default : goal.read_simple-returns-in_ok-nothing-in_default
+read_simple-returns-in_ok-nothing-in_default t c =
+    subst (λ s. StatementRead c.args.text.now c.args.depth SimplePart s c.args.input.now c.args.input.now) (sym c.in_ok-nothing-in_default.ensures.ok) record {
       spans = (refl, refl);
       formed = (tt, λ e. tt);
       nesting = omega (arith, c.requires.1.1.0);
@@ -296,6 +289,9 @@ read_simple-returns-in_default t c =
       proper = c.requires.1.1.1;
       reads = let a : starts simple_rules (terminals c.args.text.now c.args.input.now) ≡ false = search rules in nothing c.args.text.now c.args.depth SimplePart [] c.args.input.now refl a;
     }
+
+pub read_simple-returns-in_err-nothing-in_default : goal.read_simple-returns-in_err-nothing-in_default
+read_simple-returns-in_err-nothing-in_default t c = let p = err_from_is_err_and c.from_residual-in_err-nothing-in_default.result c.from_residual-in_err-nothing-in_default.ensures.1 in rw (p.1, p.2) (λ s l. tt)
 
 pub read_statements-read_statement-requires : goal.read_statements-read_statement-requires
 read_statements-read_statement-requires t c = (omega (arith, c.requires.1.0, c.statements.invariant.shorter), (c.requires.1.1.0, c.statements.invariant.proper))
@@ -320,56 +316,34 @@ read_statements-statements-init t c =
 
 pub read_statements-statements-preserved : goal.read_statements-statements-preserved
 read_statements-statements-preserved t c =
+    let v = subst (λ s. StatementRead c.args.text.now c.args.depth StatementPart s c.statements.rest.now c.in_ok-statement.after.now) (sym c.into_inner.ensures) c.in_ok-statement.ensures in
     let T = c.args.text.now in let i = c.args.input.now in
     let a = c.in_ok-statement.after.now in
     let j = c.in-Some.further.now in
     record {
-      spans = λ s r p. some_more (Takes T (sign Semicolon)) (StatementSpans T) _ s i a j r (subst (λ ss. SomeStatements T ss i a) (sym c.in_ok-push.ensures.items) (c.statements.invariant.spans c.in_ok-statement.statement a c.in_ok-statement.ensures.spans))
+      spans = λ s r p. some_more (Takes T (sign Semicolon)) (StatementSpans T) _ s i a j r (subst (λ ss. SomeStatements T ss i a) (sym c.in_ok-push.ensures.items) (c.statements.invariant.spans c.into_inner.result a v.spans))
           (one_lexeme T (sign Semicolon) a j c.in-Some.ensures.passed (c.in-Some.ensures.first.1 T)) p;
-      formed = formed_statements_next _ _ _ c.in_ok-push.ensures.items c.statements.invariant.formed c.in_ok-statement.ensures.formed.0;
-      nesting = nesting_next _ _ _ _ c.in_ok-push.ensures.items c.statements.invariant.nesting c.in_ok-statement.ensures.nesting;
-      shorter = omega (arith, c.in-Some.ensures.shorter, c.in_ok-statement.ensures.shorter, c.statements.invariant.shorter);
-      proper = c.in-Some.ensures.proper T c.in_ok-statement.ensures.proper;
-      reads = next_member T c.args.depth (StatementPart ∷ StatementsTail ∷ []) StatementsTail (a_sign Semicolon) StatementPart [] (SignClass Semicolon) i c.statements.rest.now a j (λ s l. omega (arith, l, c.requires.1.1.0)) (λ s l. l) refl refl c.statements.invariant.reads c.in_ok-statement.ensures.reads c.in-Some.ensures.first;
+      formed = formed_statements_next _ _ _ c.in_ok-push.ensures.items c.statements.invariant.formed v.formed.0;
+      nesting = nesting_next _ _ _ _ c.in_ok-push.ensures.items c.statements.invariant.nesting v.nesting;
+      shorter = omega (arith, c.in-Some.ensures.shorter, v.shorter, c.statements.invariant.shorter);
+      proper = c.in-Some.ensures.proper T v.proper;
+      reads = next_member T c.args.depth (StatementPart ∷ StatementsTail ∷ []) StatementsTail (a_sign Semicolon) StatementPart [] (SignClass Semicolon) i c.statements.rest.now a j (λ s l. omega (arith, l, c.requires.1.1.0)) (λ s l. l) refl refl c.statements.invariant.reads v.reads c.in-Some.ensures.first;
     }
 
 pub read_statements-returns-in_default : goal.read_statements-returns-in_default
 read_statements-returns-in_default t c =
+    let v = subst (λ s. StatementRead c.args.text.now c.args.depth StatementPart s c.statements.rest.now c.in_ok-statement.after.now) (sym c.into_inner.ensures) c.in_ok-statement.ensures in
     let T = c.args.text.now in let i = c.args.input.now in
     let a = c.in_ok-statement.after.now in
-    let s = some_between (Takes T (sign Semicolon)) (StatementSpans T) _ i a (subst (λ ss. SomeStatements T ss i a) (sym c.in_ok-push.ensures.items) (c.statements.invariant.spans c.in_ok-statement.statement a c.in_ok-statement.ensures.spans)) in
+    let s = some_between (Takes T (sign Semicolon)) (StatementSpans T) _ i a (subst (λ ss. SomeStatements T ss i a) (sym c.in_ok-push.ensures.items) (c.statements.invariant.spans c.into_inner.result a v.spans)) in
     record {
       spans = s;
-      formed = (some_next _ _ _ c.in_ok-push.ensures.items, formed_statements_next _ _ _ c.in_ok-push.ensures.items c.statements.invariant.formed c.in_ok-statement.ensures.formed.0);
-      nesting = nesting_next _ _ _ _ c.in_ok-push.ensures.items c.statements.invariant.nesting c.in_ok-statement.ensures.nesting;
-      shorter = omega (arith, c.in_ok-statement.ensures.shorter, c.statements.invariant.shorter);
-      proper = c.in_ok-statement.ensures.proper;
-      reads = last_member T c.args.depth (StatementPart ∷ StatementsTail ∷ []) StatementsTail (a_sign Semicolon) StatementPart [] (SignClass Semicolon) i c.statements.rest.now a (λ s l. l) refl refl c.statements.invariant.reads c.in_ok-statement.ensures.reads c.in_default.ensures.absent;
+      formed = (some_next _ _ _ c.in_ok-push.ensures.items, formed_statements_next _ _ _ c.in_ok-push.ensures.items c.statements.invariant.formed v.formed.0);
+      nesting = nesting_next _ _ _ _ c.in_ok-push.ensures.items c.statements.invariant.nesting v.nesting;
+      shorter = omega (arith, v.shorter, c.statements.invariant.shorter);
+      proper = v.proper;
+      reads = last_member T c.args.depth (StatementPart ∷ StatementsTail ∷ []) StatementsTail (a_sign Semicolon) StatementPart [] (SignClass Semicolon) i c.statements.rest.now a (λ s l. l) refl refl c.statements.invariant.reads v.reads c.in_default.ensures.absent;
     }
-
-pub read_if-reach-requires : goal.read_if-reach-requires
-read_if-reach-requires t c = omega (arith, c.requires.1.1.1.0, c.in_ok-test.ensures.shorter, c.in_ok-yes.ensures.shorter)
-
-pub read_if-reach-requires-2 : goal.read_if-reach-requires-2
-read_if-reach-requires-2 t c = omega (arith, c.requires.1.1.1.0, c.in_ok-test.ensures.shorter, c.in_ok-yes.ensures.shorter, c.in-Some.ensures.shorter, c.in_ok-no.ensures.shorter)
-
-pub read_statement-reach-requires : goal.read_statement-reach-requires
-read_statement-reach-requires t c = omega (arith, c.in-Some-Word-While-default.ensures.first.1, c.in_ok-test-in-Some-Word-While-default.ensures.shorter, c.in_ok-turn-in-Some-Word-While-default.ensures.shorter)
-
-pub read_statement-reach-requires-in-Some-Word-Repeat-default : goal.read_statement-reach-requires-in-Some-Word-Repeat-default
-read_statement-reach-requires-in-Some-Word-Repeat-default t c = omega (arith, c.in-Some-Word-Repeat-default.ensures.first.1, c.in_ok-turn-in-Some-Word-Repeat-default.ensures.shorter)
-
-pub read_simple-reach-requires : goal.read_simple-reach-requires
-read_simple-reach-requires t c = omega (arith, c.in-Some-Word-Print-default.ensures.first.1, c.in_ok-value-in-Some-Word-Print-default.ensures.shorter)
-
-pub read_simple-reach-requires-in-Some-Word-Begin-default : goal.read_simple-reach-requires-in-Some-Word-Begin-default
-read_simple-reach-requires-in-Some-Word-Begin-default t c = omega (arith, c.in-Some-Word-Begin-default.ensures.first.1, c.in_ok-statements-in-Some-Word-Begin-default.ensures.shorter, c.in_ok-rest-in-Some-Word-Begin-default.ensures.shorter)
-
-pub read_if-returns-in_err-branch : goal.read_if-returns-in_err-branch
-read_if-returns-in_err-branch t c = let p = err_from_is_err_and c.from_residual-in_err-branch.result c.from_residual-in_err-branch.ensures.1 in rw (p.1, p.2) (λ s l. tt)
-
-pub read_inner-returns-in_err-boxed : goal.read_inner-returns-in_err-boxed
-read_inner-returns-in_err-boxed t c = let p = err_from_is_err_and c.from_residual-in_err-boxed.result c.from_residual-in_err-boxed.ensures.1 in rw (p.1, p.2) (λ s l. tt)
 
 pub read_statements-returns-in_err-push : goal.read_statements-returns-in_err-push
 read_statements-returns-in_err-push t c = let p = err_from_is_err_and c.from_residual-in_err-push.result c.from_residual-in_err-push.ensures.1 in rw (p.1, p.2) (λ s l. tt)

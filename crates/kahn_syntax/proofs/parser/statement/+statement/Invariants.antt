@@ -4,9 +4,6 @@ use Rattle.kahn_syntax.proofs.parser.statement.+statement.Given as goal
 abbrev pub decreases-read_if : goal.decreases-read_if
 decreases-read_if l = 4 * length l.input.now + 1
 
-abbrev pub decreases-read_inner : goal.decreases-read_inner
-decreases-read_inner l = 4 * length l.input.now + 3
-
 abbrev pub decreases-read_simple : goal.decreases-read_simple
 decreases-read_simple l = 4 * length l.input.now
 

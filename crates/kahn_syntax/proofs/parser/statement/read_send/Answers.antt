@@ -1,4 +1,4 @@
-use Rattle.kahn_syntax.proofs.Parsing.{ExpressionBefore, ExpressionPart, On, Send, SimplePart, TokenPart, a_name, a_word, arith, call, call_stops, drop, err_from_is_err_and, name, name_of, no_name, one, one_lexeme, refl, send_parts, subst, sym, then, then_stops, token, whole, word, [], ◌∷◌}
+use Rattle.kahn_syntax.proofs.Parsing.{ExpressionBefore, ExpressionPart, On, Send, SimplePart, TokenPart, a_name, a_word, arith, call, call_stops, drop, err_from_is_err_and, name, name_of, no_name, one, one_lexeme, refl, send_parts, stated, subst, sym, then, then_stops, token, whole, word, [], ◌∷◌}
 use Rattle.kahn_syntax.proofs.parser.statement.read_send.Goals as goal
 
 pub returns-in_err-value : goal.returns-in_err-value
@@ -20,9 +20,9 @@ returns-in_err-name c =
 pub returns : goal.returns
 returns c =
     let v = subst (λ e. ExpressionBefore c.args.text.now c.args.depth On e c.args.rest.now c.in_ok-value.rest.now) (sym c.into_inner.ensures) c.in_ok-value.ensures in
-    record {
+    stated c.args.text.now c.args.depth SimplePart _ c.args.input.now c.in_ok-name.rest.now (λ at h. record {
       spans = let T = c.args.text.now in (
-        c.reach.ensures,
+        h,
         (
           c.args.rest.now,
           v.spans.0,
@@ -42,4 +42,5 @@ returns c =
           let m2 = then m (call T c.args.depth c.args.depth (ExpressionPart whole ∷ TokenPart (a_word On) ∷ []) (drop 2 send_parts) c.args.rest.now c.in_ok-value.rest.now (λ s l. l) v.reads) in
           then m2
           (token T c.args.depth a_name [] (name (name_of c.in_ok-name.name)) c.in_ok-value.rest.now c.in_ok-name.rest.now (λ s l. omega (arith, l, c.requires.depth)) refl c.in_ok-name.ensures.words);
-    }
+    })
+    c.stated.result (λ x. x.0.value) (λ x. x.1.now) c.stated.ensures
