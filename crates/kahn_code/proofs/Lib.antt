@@ -1,4 +1,5 @@
 pub mod Fit
+pub mod Formed
 pub mod Flattened
 pub mod Patch
 pub mod Rows

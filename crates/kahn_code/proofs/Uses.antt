@@ -1,10 +1,10 @@
 -- What the parameters of an instance are for.
-use Rattle.std.proofs.Common.{◌≡◌, ℕ, zero, suc, List, [], ◌∷◌, map, refl, ap, ◌∙◌, slice_index_or, pos, Option, Some, None, Bool, sym}
+use Rattle.std.proofs.Common.{◌≡◌, ℕ, zero, suc, List, [], ◌∷◌, map, refl, ap, ◌∙◌, slice_get, slice_index_or, pos, Option, Some, None, Bool, sym, subst}
 use Rattle.kahn_code.proofs.Common.{Number, Network, Actual, Reads, Writes, Hands, instance_at, actual_at, role_at}
 use Rattle.kahn_code.specs.declared.body.Use.{Use}
 use Rattle.kahn_code.specs.declared.body.Use.TheVariants as u
 use Rattle.kahn_streams.specs.Answers.{is_output}
-use Rattle.kahn_code.specs.Lines.{route_of}
+use Rattle.kahn_code.specs.Lines.{Joins, route_of}
 use Rattle.kahn_code.specs.Machines.{use_of, AreUses}
 
 use_map : (N : Network) (acts : List Actual) (q : ℕ) →
@@ -40,8 +40,20 @@ writes_by N (Writes d) c b e =
     (ap Writes f, ap (λ x. is_output (role_at N x)) (sym f) ∙ g)
 writes_by N (Hands v) c b e = absurd cc
 
-pub not_reads : (N : Network) (a : Actual) (w : Use) → w ≡ use_of N a → ((c : ℕ) → w ≡ u.Reads c → ⊥) → (d : ℕ) → a ≡ Reads d → ⊥
-not_reads N a w e ne d f = ne d (e ∙ ap (use_of N) f)
+listed_at : (N : Network) (acts : List Actual) (q c : ℕ) (a : Actual) → Joins a c → slice_index_or acts q (Hands (Number (pos 0))) ≡ a → slice_get (map (use_of N) acts) q ≡ Some (use_of N a)
+listed_at N [] q c a j e = absurd (subst (λ x. Joins x c) (sym e) j)
+listed_at N (b ∷ acts) zero c a j e = ap (λ x. Some (use_of N x)) e
+listed_at N (b ∷ acts) (suc q) c a j e = listed_at N acts q c a j e
 
-pub not_writes : (N : Network) (a : Actual) (w : Use) → w ≡ use_of N a → ((c : ℕ) (b : Bool) → w ≡ u.Writes c b → ⊥) → (d : ℕ) → a ≡ Writes d → ⊥
-not_writes N a w e ne d f = ne d (is_output (role_at N d)) (e ∙ ap (use_of N) f)
+-- the use of a parameter that has a channel stands in the list
+pub listed : (N : Network) (p : ℕ) (uses : List Use) (q c : ℕ) (a : Actual) → AreUses N p uses → Joins a c → actual_at (instance_at N p) q ≡ a → slice_get uses q ≡ Some (use_of N a)
+listed N p uses q c a are j e = ap (λ l. slice_get l q) are ∙ listed_at N (instance_at N p).actuals q c a j e
+
+used_at : (N : Network) (acts : List Actual) (q : ℕ) (w : Use) → slice_get (map (use_of N) acts) q ≡ Some w → w ≡ use_of N (slice_index_or acts q (Hands (Number (pos 0))))
+used_at N [] q w e = absurd cc
+used_at N (a ∷ acts) zero w e = cc
+used_at N (a ∷ acts) (suc q) w e = used_at N acts q w e
+
+-- and what stands there is its use
+pub used : (N : Network) (p : ℕ) (uses : List Use) (q : ℕ) (w : Use) → AreUses N p uses → slice_get uses q ≡ Some w → w ≡ use_of N (actual_at (instance_at N p) q)
+used N p uses q w are e = used_at N (instance_at N p).actuals q w (sym (ap (λ l. slice_get l q) are) ∙ e)

@@ -3,11 +3,11 @@
 ghost use Rattle.std.specs.Prelude.{◌≡◌, ℕ, ◌+◌, ◌*◌, ◌^◌, ◌<◌, ◌≤◌, length, [], map, replicate, ◌++◌, slice_get, slice_index_or, IfOk, Some};
 ghost use Rattle.kahn_streams.specs.Network.{network_of, instance_at};
 ghost use Rattle.kahn_streams.specs.Inputs.{Lists, inputs_of, Names};
-ghost use Rattle.kahn_code.specs.Flat.{stmt_code, depth, registers_of};
-ghost use Rattle.kahn_streams.specs.Solution.{AreInputsExtended, opening};
+ghost use Rattle.kahn_code.specs.Flat.{stmt_code};
+ghost use Rattle.kahn_streams.specs.Solution.{AreInputsExtended};
 ghost use Rattle.kahn_code.specs.Cells.{StoodBy};
 ghost use Rattle.kahn_code.specs.inner.Gone.{kept_behind, nothing_gone};
-ghost use Rattle.kahn_code.specs.Progress.{core_of, opening_core};
+ghost use Rattle.kahn_code.specs.Progress.{IsOpened};
 ghost use Rattle.kahn_code.specs.Seats.{LeavesOthers, Grows};
 ghost use Rattle.kahn_code.specs.Standing.{tokens};
 ghost use Rattle.kahn_code.specs.Told.{AreCounts, seat_of, told_view, IsAt, IsStanding, IsStill, WantsRoom};
@@ -204,7 +204,7 @@ fn opened<A: Allocator + Copy + Drop>(
     watch: Option<usize>,
 ) -> Result<Progress<A>, NoMemory>
     requires { instance < length (network_of code.now.network.value).instances }
-    ensures core { IfOk result (λ c. let i = instance_at (network_of code.now.network.value) instance in core_of c ≡ opening_core (registers_of (depth i.body) (opening i)) (length i.actuals)) }
+    ensures core { IfOk result (IsOpened (network_of code.now.network.value) instance) }
     ensures names { IfOk result (λ c. (c.instance ≡ instance) × (c.watch ≡ watch) × (c.gone.value ≡ nothing_gone)) }
     ensures stands { IfOk result (λ c. (lists : Lists) → IsStanding c code.now.network.value lists) }
 {

@@ -12,4 +12,4 @@ returns-clause-core g c =
 pub returns-clause-stands : goal.returns-clause-stands
 returns-clause-stands g c =
     let code = c.args.code.now in
-    if_ok_three c.new.result (λ p core names place. λ lists. standing_opened code.network.value lists c.args.instance c.routine-routine.result.now c.body.result.now p code.driven c.routine-routine.ensures c.body.ensures core names.0 place c.requires) c.new.ensures.core c.new.ensures.names c.new.ensures.place
+    if_ok_three c.new.result (λ p core names place. λ lists. standing_opened code.network.value lists c.args.instance c.routine-routine.result.now c.body.result.now p code.driven code.formed c.routine-routine.ensures c.body.ensures core names.0 place c.requires) c.new.ensures.core c.new.ensures.names c.new.ensures.place
