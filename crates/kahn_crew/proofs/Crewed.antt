@@ -10,7 +10,7 @@ use Rattle.kahn_board.specs.declared.board.Seat.{Seat}
 use Rattle.kahn_board.specs.inner.Shared.{IsDoneAt, SitsAt, parts_of, raised_of}
 use Rattle.kahn_crew.specs.inner.Crews.{HasCause, HasGone, HasSeat, crew_parts, crew_raised}
 use Rattle.kahn_crew.specs.inner.Turns.{Heeds}
-use Rattle.kahn_crew.specs.inner.Tasks.{Tasked}
+use Rattle.kahn_job.specs.inner.Tasks.{Tasked}
 use Rattle.kahn_crew.specs.declared.worker.Worker.{Worker}
 use Rattle.kahn_board.proofs.Joined.{all_but_last}
 

@@ -1,5 +1,5 @@
 -- Which types may go from one thread to another, or be shared by threads, part by part.
---     task_send, boxed_send, seat_send, worker_send      a task, also in its box, a worker's seat and a worker may go to another thread
+--     boxed_send, worker_send      a task in its box and a worker may go to another thread
 --     empty_sync      threads may share an empty list, also where they may not share what it is for
 --     board_sync      threads may share a board of what may go from one to another
 --     run_sync      threads may share what the workers of a run share
@@ -7,14 +7,14 @@ use mathlib.Core.Path.{◌≡◌, sym, subst}
 use mathlib.Core.List.{[], ◌∷◌}
 use base.Fml.{ftrue}
 use base.Shift.{Keyless}
-use denote.Builtin.{u64, usize}
+use denote.Builtin.{usize}
 use denote.Exit.{Entries}
 use denote.RattleType.{RattleType, Denots}
 use denote.RawPtr.{Ptr, block_ptr, null_ptr, block_of, count_of, in_block}
 use denote.Struct.Declared as S
 use denote.Struct.Owning as owning
 use denote.Ref.{NamedLft}
-use denote.Param.Send.{IsSend, IsSync, SyncAt, FieldsAt, sendable, struct_send, recorded_send, view_send, struct_sync, struct_sync_at, array_sync_at, recorded_sync, shr_sync}
+use denote.Param.Send.{IsSend, IsSync, SyncAt, FieldsAt, sendable, struct_sync, struct_sync_at, array_sync_at, recorded_sync, shr_sync}
 use Rattle.std.proofs.Crossing as std
 use Rattle.std.proofs.option.Option.TheSendSync as option
 use Rattle.std.specs.contracts.alloc.Global as Heap
@@ -25,43 +25,26 @@ use Rattle.atomic_table.specs.contracts.owned.Table as Table
 use Rattle.atomic_table.proofs.owned.Table.TheSendSync as table
 use Rattle.kahn_code.specs.contracts.code.Code as Code
 use Rattle.kahn_code.proofs.code.Code.TheSendSync as code
-use Rattle.kahn_job.proofs.Crossing.{network_sync, job_send}
+use Rattle.kahn_streams.proofs.input.Input.TheSendSync as input
+use Rattle.kahn_job.proofs.Crossing.{network_sync}
 use Rattle.kahn_board.specs.contracts.board.Board as Board
-use Rattle.kahn_board.specs.contracts.board.Seat as Seat
 use Rattle.kahn_board.specs.contracts.rule.Rule as Rule
 use Rattle.kahn_board.specs.contracts.rule.RuleTableRuleOptionViewTerms.TheImpl as rule
 use Rattle.kahn_board.specs.contracts.rule.Terms as Terms
 use Rattle.kahn_board.specs.contracts.view.View as View
 use Rattle.kahn_board.specs.declared.rule.Told.{Ghosts}
-use Rattle.kahn_board.proofs.board.Seat.TheSendSync as seat
 use Rattle.kahn_crew.specs.contracts.boxes.Boxed as Boxed
-use Rattle.kahn_crew.specs.contracts.boxes.Boxed.TheInside as InBoxed
+use Rattle.kahn_crew.proofs.boxes.Boxed.TheSendSync as boxed
 use Rattle.kahn_crew.specs.contracts.boxes.BoxedTold.TheImpl as told
 use Rattle.kahn_crew.specs.contracts.run.Run as Run
-use Rattle.kahn_crew.proofs.hints.Hints.TheSendSync as hints
-use Rattle.kahn_crew.proofs.standing.Standing.TheSendSync as standing
-use Rattle.kahn_crew.specs.contracts.task.Task as Task
-use Rattle.kahn_crew.specs.contracts.task.Task.TheInside as InTask
 use Rattle.kahn_crew.specs.contracts.worker.Worker as Worker
+use Rattle.kahn_crew.proofs.worker.Worker.TheSendSync as worker
 
-module _ (a : NamedLft) where
-  pub task_send : IsSend (Task.the_row a)
-  task_send = view_send (InTask.the_row a) _ _ _ _ (recorded_send (InTask.the_field a).row _ _ (InTask.the_type a).to_one
-      (struct_send (S.shape (InTask.the_type a)) (job_send a, (standing.the_field_send, (std.Vec-send u64 (search sendable), tt)))))
+boxed_send : IsSend Boxed.the_row
+boxed_send = search (boxed.the_send) depth 60
 
-  pub boxed_send : IsSend (Boxed.the_row a)
-  boxed_send = view_send (InBoxed.the_row a) _ _ _ _ (recorded_send (InBoxed.the_field a).row _ _ (InBoxed.the_type a).to_one
-      (struct_send (S.shape (InBoxed.the_type a)) (std.Box-send _ task_send, tt)))
-
-  seat_field_send : IsSend (Seat.the_field (Boxed.the_row a)).row
-  seat_field_send = seat.the_field_send (Boxed.the_row a) boxed_send
-
-  pub seat_send : IsSend (Seat.the_row (Boxed.the_row a))
-  seat_send = seat.the_send (Boxed.the_row a) boxed_send
-
-  pub worker_send : IsSend (Worker.the_row a)
-  worker_send = recorded_send (Worker.the_field a).row _ _ (Worker.the_type a).to_one
-      (struct_send (S.shape (Worker.the_type a)) (seat_field_send, (hints.the_field_send, (search sendable, tt))))
+pub worker_send : IsSend Worker.the_row
+worker_send = search (worker.the_send) depth 60
 
 in_block_keyless : (p : Ptr) → Keyless (in_block p ftrue)
 in_block_keyless (block_ptr b o) = tt
@@ -96,7 +79,7 @@ module _ (T : RattleType) (g : Ghosts T.Denot) (s : IsSend T) where
 code_sync : IsSync (Code.the_row Heap.the_row ghosts)
 code_sync = code.the_sync Heap.the_row ghosts std.sync
 
-module _ (b : NamedLft) where
-  pub run_sync : (a : NamedLft) → IsSync (Run.the_row a b)
-  run_sync a = recorded_sync (Run.the_field a b).row _ _ (Run.the_type a b).to_one
-      (struct_sync (S.shape (Run.the_type a b)) (shr_sync _ _ _ (board_sync (Boxed.the_row b) told.ghosts (boxed_send b)), (shr_sync _ _ _ network_sync, (shr_sync _ _ _ code_sync, (search sendable, tt)))))
+pub run_sync : (b : NamedLft) → IsSync (Run.the_row b)
+run_sync b = recorded_sync (Run.the_field b).row _ _ (Run.the_type b).to_one
+    (struct_sync (S.shape (Run.the_type b))
+    (shr_sync _ _ _ (board_sync Boxed.the_row told.ghosts boxed_send), (shr_sync _ _ _ network_sync, (shr_sync _ _ _ input.the_sync, (shr_sync _ _ _ code_sync, (search sendable, tt))))))

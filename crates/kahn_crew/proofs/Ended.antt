@@ -28,9 +28,10 @@ use Rattle.kahn_board.specs.declared.view.View.{View}
 use Rattle.kahn_crew.specs.inner.Begins.{AreReadyTasks, HasBegun, most_events}
 use Rattle.kahn_crew.specs.inner.Lent.{IsTaskOf}
 use Rattle.kahn_crew.specs.inner.Left.{AreAll, AreUntouched, HaveGone, IsQuietTask, IsOver, task_events}
-use Rattle.kahn_crew.specs.inner.Tasks.{Tasked, Continues, IsLater, count_on, handed_to_task, read_by, reads_at, told_tale, waits_on, writes_at, wrote_by}
-use Rattle.kahn_crew.specs.declared.standing.Standing.{Standing}
-use Rattle.kahn_crew.specs.declared.standing.Standing.TheVariants as standing
+use Rattle.kahn_job.specs.inner.Tasks.{Tasked, Continues}
+use Rattle.kahn_crew.specs.inner.Tasks.{IsLater, count_on, handed_to_task, read_by, reads_at, told_tale, waits_on, writes_at, wrote_by}
+use Rattle.kahn_job.specs.declared.standing.Standing.{Standing}
+use Rattle.kahn_job.specs.declared.standing.Standing.TheVariants as standing
 use Rattle.kahn_crew.proofs.Found
 use Rattle.kahn_crew.proofs.Found.{none_some, some_same}
 use Rattle.kahn_crew.proofs.Publishing.{handed_is}

@@ -9,5 +9,4 @@ pub mod Working
 pub mod Started
 pub mod Ended
 pub mod Crewed
-pub mod Trues
 pub mod Crossing

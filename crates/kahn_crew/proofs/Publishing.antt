@@ -19,7 +19,8 @@ use Rattle.kahn_board.specs.Plays.{SeesMore}
 use Rattle.kahn_job.specs.inner.Works.{IsJob}
 use Rattle.kahn_code.specs.Told.{AreCounts}
 use Rattle.kahn_crew.specs.inner.Lent.{IsTaskOf}
-use Rattle.kahn_crew.specs.inner.Tasks.{Tasked, AgreesWith, IsPublished, handed_to_task, written_by}
+use Rattle.kahn_job.specs.inner.Tasks.{Tasked}
+use Rattle.kahn_crew.specs.inner.Tasks.{AgreesWith, IsPublished, handed_to_task, written_by}
 use Rattle.kahn_crew.proofs.Wirings.{target, writer_is, written_inside}
 use Rattle.kahn_crew.proofs.Found.{none_some, some_same}
 

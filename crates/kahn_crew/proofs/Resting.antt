@@ -19,11 +19,12 @@ use Rattle.kahn_board.specs.declared.view.View.{View}
 use Rattle.kahn_board.specs.inner.Turn.{Fits, Knows}
 use Rattle.kahn_job.specs.inner.Berths.{end_at}
 use Rattle.kahn_job.specs.inner.Works.{Work, IsDelivered}
-use Rattle.kahn_crew.specs.declared.standing.Standing.TheVariants as standing
+use Rattle.kahn_job.specs.declared.standing.Standing.TheVariants as standing
 use Rattle.kahn_crew.specs.declared.turn.Due.TheVariants as due
 use Rattle.kahn_crew.specs.inner.Lent.{FitTogether, IsTaskOf}
 use Rattle.kahn_crew.specs.inner.Rests.{IsDue}
-use Rattle.kahn_crew.specs.inner.Tasks.{Tasked, AgreesWith, Continues, HasStanding, IsLater, IsPublished, count_on, handed_to_task, read_by, reads_at, told_tale, waits_on, writes_at, wrote_by}
+use Rattle.kahn_job.specs.inner.Tasks.{Tasked, Continues, HasStanding}
+use Rattle.kahn_crew.specs.inner.Tasks.{AgreesWith, IsLater, IsPublished, count_on, handed_to_task, read_by, reads_at, told_tale, waits_on, writes_at, wrote_by}
 use Rattle.kahn_crew.proofs.Wirings.{reads_first, writes_first, first_writes, reader_is, writer_is, read_inside, written_inside}
 use Rattle.kahn_crew.proofs.Publishing.{handed_is}
 use Rattle.kahn_crew.proofs.Found.{none_some, some_same}
@@ -70,7 +71,7 @@ continues_still x y z a b = record {
       b.still second ∙ a.still first;
 }
 
-found_at : {A : Type 0} (xs : List A) (p : ℕ) → p < length xs → (x : A) × (get_elem? xs p ≡ some x)
+pub found_at : {A : Type 0} (xs : List A) (p : ℕ) → p < length xs → (x : A) × (get_elem? xs p ≡ some x)
 found_at [] p h = absurd (omega (arith, h))
 found_at (x ∷ xs) zero h = (x, refl)
 found_at (x ∷ xs) (suc p) h = found_at xs p (omega (arith, h))

@@ -8,7 +8,8 @@ use Rattle.kahn_board.specs.declared.board.Seat.{Seat}
 use Rattle.kahn_board.proofs.Turns.{was_at}
 use Rattle.kahn_crew.specs.declared.run.Run.{Run}
 use Rattle.kahn_crew.specs.inner.Turns.{WasNotReady, terms_of}
-use Rattle.kahn_crew.specs.inner.Tasks.{Tasked, IsLater, told_tale}
+use Rattle.kahn_job.specs.inner.Tasks.{Tasked}
+use Rattle.kahn_crew.specs.inner.Tasks.{IsLater, told_tale}
 
 -- each is met once
 met : (n a p : ℕ) → a < n → p < n → (k : ℕ) × (k < n) × ((a + k) % n ≡ p)

@@ -28,9 +28,10 @@ use Rattle.kahn_board.specs.Rule.{spent}
 use Rattle.kahn_board.specs.Wires.{wires}
 use Rattle.kahn_board.specs.declared.rule.Terms.{Terms}
 use Rattle.kahn_board.specs.declared.view.View.{View}
-use Rattle.kahn_crew.specs.inner.Begins.{AreReadyTasks, HasBegun, IsNumber, IsReadyTask, woken_task}
-use Rattle.kahn_crew.specs.inner.Lent.{FitTogether}
-use Rattle.kahn_crew.specs.inner.Tasks.{AgreesWith, IsLater, IsPublished, Tasked, task_rows, told_tale}
+use Rattle.kahn_job.specs.inner.Tasks.{woken_task, Tasked}
+use Rattle.kahn_crew.specs.inner.Begins.{AreReadyTasks, HasBegun, IsNumber, IsReadyTask}
+use Rattle.kahn_crew.specs.inner.Lent.{AreOnInput, FitTogether}
+use Rattle.kahn_crew.specs.inner.Tasks.{AgreesWith, IsLater, IsPublished, task_rows, told_tale}
 use Rattle.kahn_crew.proofs.Found.{none_some, some_same}
 use Rattle.kahn_crew.proofs.Publishing.{handed_is}
 use Rattle.kahn_crew.proofs.Resting.{flushed_all, instances_of, continues_here, published_is}
@@ -130,23 +131,24 @@ rows_woken lists [] = refl
 rows_woken lists (w ∷ ws) = ap (λ rows. w.ends ∷ rows) (rows_woken lists ws)
 
 module _ (t : Program) (lists : Lists) (ws : List Work) (idle : AreIdle t lists ws) (settled : HaveSettled t lists (rows_of ws)) where
-  pub goes_on : (p : ℕ) (w : Work) → slice_get ws p ≡ Some w → CanGoOn t lists w
+  pub goes_on : (p : ℕ) (w : Work) → slice_get ws p ≡ Some w → CanGoOn lists w
   goes_on = idle_goes_on t lists ws idle ws refl (λ p q. stood_same _ _ refl) settled
 
-  writes_there : (w : Work) → CanGoOn t lists w → (q d : ℕ) → actual_at (instance_at (network_of t) w.cell.instance) q ≡ Writes d →
-      is_output (role_at (network_of t) d) ≡ false → (end_at w.ends q).writes ≡ true
-  writes_there w x q d i o = (subst (λ a. Serves t lists a (end_at w.ends q)) i (x.served.each q) o).0
+  writes_there : (w : Work) → CanGoOn lists w → (q d : ℕ) → actual_at (instance_at (network_of w.cell.network) w.cell.instance) q ≡ Writes d →
+      is_output (role_at (network_of w.cell.network) d) ≡ false → (end_at w.ends q).writes ≡ true
+  writes_there w x q d i o = (subst (λ a. Serves w.cell.network lists a (end_at w.ends q)) i (x.1.served.each q) o).0
 
   delivered : (p : ℕ) (w : Work) → slice_get ws p ≡ Some w → IsDelivered w
   delivered p w e q d i o =
       let x = goes_on p w e in
+      let same = (idle.each p w e).network in
       let is = (idle.each p w e).instance in
-      let at : actual_at (instance_at (network_of t) w.cell.instance) q ≡ Writes d = subst (λ k. actual_at (instance_at (network_of k) w.cell.instance) q ≡ Writes d) x.network i in
-      let inner : is_output (role_at (network_of t) d) ≡ false = subst (λ k. is_output (role_at (network_of k) d) ≡ false) x.network o in
+      let at : actual_at (instance_at (network_of t) w.cell.instance) q ≡ Writes d = subst (λ k. actual_at (instance_at (network_of k) w.cell.instance) q ≡ Writes d) same i in
+      let inner : is_output (role_at (network_of t) d) ≡ false = subst (λ k. is_output (role_at (network_of k) d) ≡ false) same o in
       let flushed = settled.flushed p q d (subst (λ n. actual_at (instance_at (network_of t) n) q ≡ Writes d) is at) inner in
       let row : slice_index_or (rows_of ws) p [] ≡ w.ends = row_there ws p w e in
-      subst (λ es. (end_at es q).writes ≡ true → (end_at es q).flushed ≡ (end_at es q).next) row flushed (writes_there w x q d at inner)
-      ∙ x.at.writes q d i o
+      subst (λ es. (end_at es q).writes ≡ true → (end_at es q).flushed ≡ (end_at es q).next) row flushed (writes_there w x q d i o)
+      ∙ x.1.at.writes q d i o
 
   pub woken_ready : (watch : Option ℕ) → ((p : ℕ) (w : Work) → slice_get ws p ≡ Some w → w.cell.watch ≡ watch) → AreReadyTasks t lists watch (map (woken_task lists) ws)
   woken_ready watch watched = record {
@@ -157,7 +159,7 @@ module _ (t : Program) (lists : Lists) (ws : List Work) (idle : AreIdle t lists 
     where
       ready : (p : ℕ) (w : Work) → slice_get ws p ≡ Some w → IsReadyTask t lists watch p (woken_task lists w)
       ready p w e = record {
-        network = (goes_on p w e).network;
+        network = (idle.each p w e).network;
         input = refl;
         instance = (idle.each p w e).instance;
         watched = watched p w e;
@@ -259,6 +261,9 @@ module _ (t : Program) (wired : IsWellWired t) (lists : Lists) (watch : Option �
   }
 
 -- ---- what all workers of a run share
+
+pub on_input : (t : Program) (lists : Lists) (watch : Option ℕ) (key : Terms Tasked) → HasBegun t lists watch key → AreOnInput key lists
+on_input t lists watch key b p x at = (b.ready.each p x (at_both key.cells.value.items p x at)).input
 
 pub fits_of : (t : Program) (lists : Lists) (watch : Option ℕ) (key : Terms Tasked) → HasBegun t lists watch key → (code : Program) → code ≡ t → FitTogether key t code
 fits_of t lists watch key b code same = record {

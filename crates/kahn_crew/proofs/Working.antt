@@ -13,10 +13,11 @@ use Rattle.kahn_crew.specs.declared.run.Run.{Run}
 use Rattle.kahn_crew.specs.declared.turn.Due.{Due}
 use Rattle.kahn_crew.specs.inner.Lent.{IsTaskOf}
 use Rattle.kahn_crew.specs.inner.Rests.{CanRest, IsDue}
-use Rattle.kahn_crew.specs.inner.Tasks.{Tasked, AgreesWith, Continues, IsLater, IsPublished, told_tale, written_by}
+use Rattle.kahn_job.specs.inner.Tasks.{Tasked, Continues}
+use Rattle.kahn_crew.specs.inner.Tasks.{AgreesWith, IsLater, IsPublished, told_tale, written_by}
 use Rattle.kahn_crew.specs.inner.Turns.{HasTask, IsAtWork, IsTaskIn, StandsStill, terms_of}
 use Rattle.kahn_crew.proofs.Publishing.{agrees_told}
-use Rattle.kahn_crew.proofs.Resting.{agrees_known, agrees_later, agrees_with, continues_here, continues_still, fits_after, fits_still, instances_of, is_published, sees_two, task_of}
+use Rattle.kahn_crew.proofs.Resting.{agrees_known, agrees_later, agrees_with, continues_here, continues_still, fits_after, fits_still, found_at, instances_of, is_published, sees_two, task_of}
 
 module _ (run : Run) where
   abbrev key : Terms Tasked
@@ -27,6 +28,13 @@ module _ (run : Run) where
 
   pub is_task : (p : ℕ) (x : Tasked) → p < (wired key).instances → belongs Continues key p x → IsTaskOf t p x
   is_task p x lt b = task_of key run.network.now run.code.now.network.value p x run.fits lt b
+
+  -- its network and its input are those that are lent
+  pub is_lent : (p : ℕ) (x : Tasked) → p < (wired key).instances → belongs Continues key p x →
+      (run.network.now ≡ x.work.cell.network) × (run.input.now ≡ x.work.cell.input)
+  is_lent p x lt b =
+      let f = found_at key.cells.value.items p (omega (arith, run.fits.count, lt)) in
+      (run.fits.network ∙ sym (is_task p x lt b).0, sym ((b f.0 f.1).input ∙ run.given p f.0 f.1))
 
   -- it was run, by a seat that stands still
   pub ran : (p n k j : ℕ) (x z : Tasked) (s u : Seat Tasked) → IsAtWork run p n k x s → StandsStill s u → u.seat.table_id ≡ s.seat.table_id → Continues x z →

@@ -3,23 +3,23 @@
 ghost use Rattle.std.specs.Prelude.{◌≡◌, ◌+◌, ◌≤◌, ◌++◌, [], length, reverse, IfOk, IfErr};
 ghost use Rattle.std.specs.Vec.{vec_capacity};
 
-use crate::task::Task;
 use kahn_board::Told;
+use kahn_job::Task;
 use kahn_streams::NoMemory;
 use std::alloc::Global;
 use std::marker::Model;
 
 /// A task in a box of its own, so that it moves as one pointer. Contracts see the task.
 #[derive(Drop)]
-pub struct Boxed<'n> {
-    pub(crate) task: Box<Task<'n>>,
+pub struct Boxed {
+    pub(crate) task: Box<Task>,
 }
 
-impl<'n> Model for Boxed<'n> {
+impl Model for Boxed {
     ghost use Rattle.kahn_streams.specs.contracts.tree.Action as action;
     ghost use Rattle.kahn_streams.specs.contracts.tree.Form as form;
     ghost use Rattle.std.specs.Coded.{codes};
-    ghost use Rattle.kahn_crew.specs.inner.Tasks.{Tasked};
+    ghost use Rattle.kahn_job.specs.inner.Tasks.{Tasked};
 
     ghost Value = { Tasked };
 
@@ -28,7 +28,7 @@ impl<'n> Model for Boxed<'n> {
     ghost view = { λ b. b.task.value };
 }
 
-impl<'n> Told for Boxed<'n> {
+impl Told for Boxed {
     ghost use Rattle.kahn_crew.specs.inner.Tasks.{IsLater, told_tale};
 
     ghost told = { told_tale };
@@ -36,11 +36,11 @@ impl<'n> Told for Boxed<'n> {
     ghost after = { IsLater };
 }
 
-impl<'n> Boxed<'n> {
+impl Boxed {
     // A refusal gives the task back.
-    fn new(alloc: Global, task: Task<'n>) -> Result<Boxed<'n>, Task<'n>>
-        ensures boxed { IfOk result (λ b. b ≡ task.entry) }
-        ensures refused { IfErr result (λ t. t ≡ task.entry) }
+    fn new(alloc: Global, task: Task) -> Result<Boxed, Task>
+        ensures boxed { IfOk result (λ b. b ≡ task) }
+        ensures refused { IfErr result (λ t. t ≡ task) }
     {
         match Box::new(alloc, task) {
             Ok(task) => Ok(Boxed { task }),
@@ -49,21 +49,21 @@ impl<'n> Boxed<'n> {
     }
 
     /// The task without its box. It takes no memory.
-    pub(crate) fn open(self) -> Task<'n>
-        ensures { result ≡ self.entry }
+    pub(crate) fn open(self) -> Task
+        ensures { result ≡ self }
     {
         Box::into_inner(self.task)
     }
 }
 
 /// Each task in a box, and the room of their list. A refusal leaves them as they were.
-pub(crate) fn box_all<'n>(
+pub(crate) fn box_all(
     alloc: Global,
-    mut tasks: Vec<Task<'n>>,
-) -> Result<(Vec<Boxed<'n>>, Vec<Task<'n>>), (NoMemory, Vec<Task<'n>>)>
-    ensures boxed { IfOk result (λ r. r.0.items ≡ tasks.entry.items) }
-    ensures room { IfOk result (λ r. (r.1.items ≡ []) × (length tasks.entry.items ≤ vec_capacity r.1)) }
-    ensures refused { IfErr result (λ e. e.1.items ≡ tasks.entry.items) }
+    mut tasks: Vec<Task>,
+) -> Result<(Vec<Boxed>, Vec<Task>), (NoMemory, Vec<Task>)>
+    ensures boxed { IfOk result (λ r. r.0.items ≡ tasks.items) }
+    ensures room { IfOk result (λ r. (r.1.items ≡ []) × (length tasks.items ≤ vec_capacity r.1)) }
+    ensures refused { IfErr result (λ e. e.1.items ≡ tasks.items) }
 {
     let Ok(mut boxes) = Vec::with_capacity(alloc, tasks.len()) else {
         return Err((NoMemory, tasks));
@@ -82,9 +82,9 @@ pub(crate) fn box_all<'n>(
 }
 
 /// The tasks out of their boxes, and behind them those of a list that is the other way round and has room for all.
-pub(crate) fn unbox_all<'n>(mut boxes: Vec<Boxed<'n>>, mut tasks: Vec<Task<'n>>) -> Vec<Task<'n>>
+pub(crate) fn unbox_all(mut boxes: Vec<Boxed>, mut tasks: Vec<Task>) -> Vec<Task>
     requires { length boxes.items + length tasks.items ≤ vec_capacity tasks }
-    ensures { result.items ≡ boxes.entry.items ++ reverse tasks.entry.items }
+    ensures { result.items ≡ boxes.items ++ reverse tasks.items }
 {
     while let Some(boxed) = boxes.pop() {
         tasks.push_reserved(boxed.open());

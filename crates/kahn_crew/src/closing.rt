@@ -6,19 +6,19 @@ ghost use Rattle.kahn_streams.specs.Network.{network_of};
 ghost use Rattle.kahn_board.specs.inner.Shared.{IsLoneSeat};
 ghost use Rattle.kahn_crew.specs.inner.Begins.{HasBegun};
 ghost use Rattle.kahn_crew.specs.inner.Left.{IsLeftOf, IsOver, IsUntouched};
-ghost use Rattle.kahn_crew.specs.inner.Tasks.{Tasked};
+ghost use Rattle.kahn_job.specs.inner.Tasks.{Tasked};
 
 use crate::boxes::Boxed;
 use crate::left::Left;
-use crate::task::Task;
 use kahn_board::{Board, Closed, Seat};
+use kahn_job::Task;
 use kahn_streams::{Input, Network};
 
 // The tasks of cells that are all there, in their order.
-fn out_of_cells<'n>(mut cells: Vec<Option<Boxed<'n>>>, mut tasks: Vec<Task<'n>>) -> Vec<Task<'n>>
+fn out_of_cells(mut cells: Vec<Option<Boxed>>, mut tasks: Vec<Task>) -> Vec<Task>
     requires full { (xs : List Tasked) × (cells.items ≡ map Some xs) }
     requires room { (tasks.items ≡ []) × (length cells.items ≤ vec_capacity tasks) }
-    ensures { cells.entry.items ≡ map Some result.items }
+    ensures { cells.items ≡ map Some result.items }
 {
     while let Some(cell) = cells.pop() {
         let Some(boxed) = cell else { unreachable!() };
@@ -30,22 +30,22 @@ fn out_of_cells<'n>(mut cells: Vec<Option<Boxed<'n>>>, mut tasks: Vec<Task<'n>>)
 
 /// What is left of a run on whose board nobody works. Where all workers have left by themselves the run is over. It takes no
 /// memory.
-pub(crate) fn leave<'n>(
-    board: Board<Boxed<'n>>,
-    seat: Seat<Boxed<'n>>,
+pub(crate) fn leave(
+    board: Board<Boxed>,
+    seat: Seat<Boxed>,
     wanted: bool,
-    room: Vec<Task<'n>>,
-    network: &'n Network,
-    input: &'n Input,
+    room: Vec<Task>,
+    network: &Network,
+    input: &Input,
     _watch: Option<usize>,
-) -> Left<'n>
+) -> Left
     requires seat { IsLoneSeat board.table.shared.table_id seat }
     requires begun { HasBegun network.now input.now _watch board.table.shared.key }
     requires room { (room.items ≡ []) × (length (network_of network.now).instances ≤ vec_capacity room) }
-    ensures gone { IsLeftOf network.now input.now _watch board.entry.table.shared.key result }
-    ensures untouched { seat.entry.seat.me.0.done ≡ 0 → IsUntouched board.entry.table.shared.key result }
-    ensures over { seat.entry.seat.me.0.stage ≡ 1 → IsOver network.now input.now result.tasks.items result.budget result.halted }
-    ensures halted { (0 < seat.entry.seat.me.0.raised → result.halted ≡ true) × (result.halted ≡ true → 0 < seat.entry.seat.me.0.raised) }
+    ensures gone { IsLeftOf network.now input.now _watch board.table.shared.key result }
+    ensures untouched { seat.seat.me.0.done ≡ 0 → IsUntouched board.table.shared.key result }
+    ensures over { seat.seat.me.0.stage ≡ 1 → IsOver network.now input.now result.tasks.items result.budget result.halted }
+    ensures halted { (0 < seat.seat.me.0.raised → result.halted ≡ true) × (result.halted ≡ true → 0 < seat.seat.me.0.raised) }
     ensures wanted { result.wanted ≡ wanted }
 {
     let _program = network.program();
@@ -63,8 +63,8 @@ pub(crate) fn leave<'n>(
 }
 
 /// What is left where nobody worked at all.
-pub(crate) fn untouched<'n>(tasks: Vec<Task<'n>>, bound: u64) -> Left<'n>
-    ensures { (result.tasks.items ≡ tasks.entry.items) × (result.budget ≡ bound) }
+pub(crate) fn untouched(tasks: Vec<Task>, bound: u64) -> Left
+    ensures { (result.tasks.items ≡ tasks.items) × (result.budget ≡ bound) }
 {
     Left {
         tasks,

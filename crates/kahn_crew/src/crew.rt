@@ -23,29 +23,29 @@ use crate::opening::{first_tasks, open_board};
 use crate::plan::Plan;
 use crate::rooms::Rooms;
 use crate::run::Run;
-use crate::task::Task;
 use crate::worker::Worker;
 use kahn_board::{Board, Seat, join_all, split_all, stop};
 use kahn_code::Code;
+use kahn_job::Task;
 use kahn_streams::{Input, Network, NoMemory};
 use std::alloc::Global;
 use std::sync::Wait;
 use std::thread::Threads;
 
 // A worker for each seat.
-fn man<'n>(
-    board: &Board<Boxed<'n>>,
-    mut seats: Vec<Seat<Boxed<'n>>>,
+fn man(
+    board: &Board<Boxed>,
+    mut seats: Vec<Seat<Boxed>>,
     mut hints: Vec<Hints>,
-    mut workers: Vec<Worker<'n>>,
-) -> Vec<Worker<'n>>
+    mut workers: Vec<Worker>,
+) -> Vec<Worker>
     requires hints { length hints.items ≡ length seats.items }
     requires room { (workers.items ≡ []) × (length seats.items ≤ vec_capacity workers) }
     requires each { All (SitsAt board.now.table.shared.table_id) seats.items }
-    ensures count { length result.items ≡ length seats.entry.items }
+    ensures count { length result.items ≡ length seats.items }
     ensures each { All (HasSeat board.now.table.shared.table_id) result.items }
-    ensures sums { crew_parts result.items ≡ parts_of seats.entry.items }
-    ensures raised { crew_raised result.items ≡ raised_of seats.entry.items }
+    ensures sums { crew_parts result.items ≡ parts_of seats.items }
+    ensures raised { crew_raised result.items ≡ raised_of seats.items }
 {
     while let Some(seat) = seats.pop() {
         let hints = hints.pop().unwrap();
@@ -59,19 +59,19 @@ fn man<'n>(
 }
 
 // The seats of workers that have left, and whether one of them wanted memory.
-fn dismiss<'n>(
-    board: &Board<Boxed<'n>>,
-    mut workers: Vec<Worker<'n>>,
-    mut seats: Vec<Seat<Boxed<'n>>>,
-) -> (Vec<Seat<Boxed<'n>>>, bool)
+fn dismiss(
+    board: &Board<Boxed>,
+    mut workers: Vec<Worker>,
+    mut seats: Vec<Seat<Boxed>>,
+) -> (Vec<Seat<Boxed>>, bool)
     requires room { (seats.items ≡ []) × (length workers.items ≤ vec_capacity seats) }
     requires each { All (HasGone board.now.table.shared.table_id) workers.items }
-    ensures count { length result.0.items ≡ length workers.entry.items }
+    ensures count { length result.0.items ≡ length workers.items }
     ensures each { All (IsDoneAt board.now.table.shared.table_id) result.0.items }
-    ensures sums { parts_of result.0.items ≡ crew_parts workers.entry.items }
-    ensures raised { raised_of result.0.items ≡ crew_raised workers.entry.items }
-    ensures wanted { All HasCause workers.entry.items → 0 < raised_of result.0.items → result.1 ≡ true }
-    ensures heard { All HasCause workers.entry.items → result.1 ≡ true → 0 < raised_of result.0.items }
+    ensures sums { parts_of result.0.items ≡ crew_parts workers.items }
+    ensures raised { raised_of result.0.items ≡ crew_raised workers.items }
+    ensures wanted { All HasCause workers.items → 0 < raised_of result.0.items → result.1 ≡ true }
+    ensures heard { All HasCause workers.items → result.1 ≡ true → 0 < raised_of result.0.items }
 {
     let mut wanted = false;
     while let Some(worker) = workers.pop() {
@@ -88,13 +88,13 @@ fn dismiss<'n>(
 
 // What all workers of a crew share.
 #[derive(Drop)]
-struct Shift<'b, 'c, 'n, R, G> {
+struct Shift<'b, 'c, R, G> {
     rt: &'b R,
-    run: &'b Run<'c, 'n>,
+    run: &'b Run<'c>,
     gate: &'b G,
 }
 
-impl<'b, 'c, 'n, R: Wait + Sync, G: Gate + Sync> Hand<Shift<'b, 'c, 'n, R, G>> for Worker<'n> {
+impl<'b, 'c, R: Wait + Sync, G: Gate + Sync> Hand<Shift<'b, 'c, R, G>> for Worker {
     ghost use Rattle.kahn_crew.specs.inner.Crews.{HasGone, HasQuit, HasSeat};
     ghost use Rattle.kahn_crew.specs.inner.Turns.{Heeds};
 
@@ -104,46 +104,46 @@ impl<'b, 'c, 'n, R: Wait + Sync, G: Gate + Sync> Hand<Shift<'b, 'c, 'n, R, G>> f
 
     ghost quit = { λ s old new. HasQuit s.run.now.board.now.table.shared.table_id old new };
 
-    fn halt(mut self, shared: &Shift<'b, 'c, 'n, R, G>) -> Worker<'n> {
+    fn halt(mut self, shared: &Shift<'b, 'c, R, G>) -> Worker {
         stop(&mut self.seat, shared.run.board);
         self
     }
 
-    fn labor(mut self, shared: &Shift<'b, 'c, 'n, R, G>) -> Worker<'n> {
+    fn labor(mut self, shared: &Shift<'b, 'c, R, G>) -> Worker {
         self.work(shared.rt, shared.run, shared.gate);
         self
     }
 }
 
 // All work at the same time, each until it has left. Where a thread can't be started for a worker, the run is halted.
-fn work_all<'n, R: Threads + Wait + Sync, G: Gate + Sync>(
+fn work_all<R: Threads + Wait + Sync, G: Gate + Sync>(
     rt: &R,
-    run: &Run<'_, 'n>,
+    run: &Run<'_>,
     gate: &G,
-    workers: Vec<Worker<'n>>,
-) -> Labored<Worker<'n>>
+    workers: Vec<Worker>,
+) -> Labored<Worker>
     requires each { All (HasSeat run.now.board.now.table.shared.table_id) workers.items }
-    ensures count { length result.hands.items ≡ length workers.entry.items }
+    ensures count { length result.hands.items ≡ length workers.items }
     ensures each { All (HasGone run.now.board.now.table.shared.table_id) result.hands.items }
-    ensures sums { crew_parts result.hands.items ≡ crew_parts workers.entry.items }
-    ensures several { result.refused ≡ true → 1 < length workers.entry.items }
+    ensures sums { crew_parts result.hands.items ≡ crew_parts workers.items }
+    ensures several { result.refused ≡ true → 1 < length workers.items }
     ensures halted { result.refused ≡ true → 0 < crew_raised result.hands.items }
-    ensures cause { result.refused ≡ false → crew_raised workers.entry.items ≡ 0 → All HasCause result.hands.items }
+    ensures cause { result.refused ≡ false → crew_raised workers.items ≡ 0 → All HasCause result.hands.items }
 {
     labor_all(rt, &Shift { rt, run, gate }, workers)
 }
 
 // The board's one seat, once a crew of the plan's workers has worked by its quantum and left, and whether one of it wanted
 // memory. Both come with a fault too: `NoMemory` before anybody worked, `NoThread` once those have left that were started.
-fn employ<'n, R: Threads + Wait + Sync, G: Gate + Sync>(
+fn employ<R: Threads + Wait + Sync, G: Gate + Sync>(
     rt: &R,
     alloc: Global,
     _plan: Plan,
-    run: &Run<'_, 'n>,
+    run: &Run<'_>,
     gate: &G,
-    seat: Seat<Boxed<'n>>,
-    rooms: Rooms<'n>,
-) -> Result<(Seat<Boxed<'n>>, bool), (CrewFault, Seat<Boxed<'n>>, bool)>
+    seat: Seat<Boxed>,
+    rooms: Rooms,
+) -> Result<(Seat<Boxed>, bool), (CrewFault, Seat<Boxed>, bool)>
     requires seat { IsLoneSeat run.now.board.now.table.shared.table_id seat }
     requires calm { seat.seat.me.0.raised ≡ 0 }
     requires plan { (run.now.quantum ≡ _plan.quantum) × (length rooms.hints.items ≡ _plan.workers) }
@@ -153,9 +153,9 @@ fn employ<'n, R: Threads + Wait + Sync, G: Gate + Sync>(
     ensures cause { IfOk result (λ r. 0 < r.0.seat.me.0.raised → r.1 ≡ true) }
     ensures heard { IfOk result (λ r. r.1 ≡ true → 0 < r.0.seat.me.0.raised) }
     ensures halted { IfErr result (λ e. e.0 ≡ NoThreadFault → 0 < e.1.seat.me.0.raised) }
-    ensures refused { IfErr result (λ e. IsLack (length rooms.entry.hints.items) e.0 × IsLoneSeat run.now.board.now.table.shared.table_id e.1) }
+    ensures refused { IfErr result (λ e. IsLack (length rooms.hints.items) e.0 × IsLoneSeat run.now.board.now.table.shared.table_id e.1) }
     // Where memory was refused nobody worked.
-    ensures idle { IfErr result (λ e. e.0 ≡ NoMemoryFault → e.1.seat.me.0.done ≡ seat.entry.seat.me.0.done) }
+    ensures idle { IfErr result (λ e. e.0 ≡ NoMemoryFault → e.1.seat.me.0.done ≡ seat.seat.me.0.done) }
 {
     let Rooms {
         hints,
@@ -180,11 +180,7 @@ fn employ<'n, R: Threads + Wait + Sync, G: Gate + Sync>(
 
 // What a crew takes memory for, before the board stands: the rooms of so many workers, and a list with room for the tasks
 // that they leave.
-fn prepare<'n>(
-    alloc: Global,
-    network: &'n Network,
-    workers: usize,
-) -> Result<(Rooms<'n>, Vec<Task<'n>>), NoMemory>
+fn prepare(alloc: Global, network: &Network, workers: usize) -> Result<(Rooms, Vec<Task>), NoMemory>
     requires { 0 < workers }
     ensures hints { IfOk result (λ r. length r.0.hints.items ≡ workers) }
     ensures tasks { IfOk result (λ r. (r.1.items ≡ []) × (length (network_of network.now).instances ≤ vec_capacity r.1)) }
@@ -202,29 +198,29 @@ fn prepare<'n>(
 /// nothing of the bound is used. It refuses with `NoThread` where a thread couldn't be started, which one worker never
 /// takes. Those that were started are halted then, and it returns once they have left. The tasks come back with either, as
 /// they were left.
-pub fn run_tasks<'n, R: Threads + Wait + Sync, G: Gate + Sync>(
+pub fn run_tasks<R: Threads + Wait + Sync, G: Gate + Sync>(
     rt: &R,
     alloc: Global,
-    network: &'n Network,
-    input: &'n Input,
+    network: &Network,
+    input: &Input,
     code: &Code,
     plan: Plan,
-    tasks: Vec<Task<'n>>,
+    tasks: Vec<Task>,
     gate: &G,
-) -> Result<Left<'n>, (CrewFault, Left<'n>)>
+) -> Result<Left, (CrewFault, Left)>
     requires code { code.now.network.value ≡ network.now }
     requires few { (1 ≤ plan.workers) × (plan.workers ≤ 16) }
     requires quantum { 0 < plan.quantum }
     requires ready { AreReadyTasks network.now input.now plan.watch tasks.items }
     requires bound { plan.bound + events_told told_tale tasks.items < 2 ^ 48 }
-    ensures gone { IfOk result (λ left. IsLeftBy network.now input.now plan tasks.entry.items left) }
+    ensures gone { IfOk result (λ left. IsLeftBy network.now input.now plan tasks.items left) }
     ensures over { IfOk result (λ left. IsOver network.now input.now left.tasks.items left.budget left.halted) }
     ensures cause { IfOk result (λ left. left.halted ≡ true → left.wanted ≡ true) }
     ensures heard { IfOk result (λ left. left.wanted ≡ true → left.halted ≡ true) }
     ensures wants { IfErr result (λ e. IsLack plan.workers e.0) }
     ensures halted { IfErr result (λ e. e.0 ≡ NoThreadFault → e.1.halted ≡ true) }
-    ensures refused { IfErr result (λ e. IsLeftBy network.now input.now plan tasks.entry.items e.1) }
-    ensures untouched { IfErr result (λ e. e.0 ≡ NoMemoryFault → AreUntouched plan.bound tasks.entry.items e.1.tasks.items e.1.budget) }
+    ensures refused { IfErr result (λ e. IsLeftBy network.now input.now plan tasks.items e.1) }
+    ensures untouched { IfErr result (λ e. e.0 ≡ NoMemoryFault → AreUntouched plan.bound tasks.items e.1.tasks.items e.1.budget) }
 {
     let Ok((rooms, room)) = prepare(alloc, network, plan.workers) else {
         return Err((CrewFault::NoMemory, untouched(tasks, plan.bound)));
@@ -238,6 +234,7 @@ pub fn run_tasks<'n, R: Threads + Wait + Sync, G: Gate + Sync>(
     let run = Run {
         board: &board,
         network,
+        input,
         code,
         quantum: plan.quantum,
     };
@@ -259,15 +256,15 @@ pub fn run_tasks<'n, R: Threads + Wait + Sync, G: Gate + Sync>(
 /// It refuses with `NoMemory` only where memory was refused before the first event, and with `NoThread` where a thread
 /// couldn't be started, which one worker never takes. Those that were started are halted then, and it returns once they
 /// have left.
-pub fn run_crew<'n, R: Threads + Wait + Sync, G: Gate + Sync>(
+pub fn run_crew<R: Threads + Wait + Sync, G: Gate + Sync>(
     rt: &R,
     alloc: Global,
-    network: &'n Network,
-    input: &'n Input,
+    network: &Network,
+    input: &Input,
     code: &Code,
     plan: Plan,
     gate: &G,
-) -> Result<Left<'n>, CrewFault>
+) -> Result<Left, CrewFault>
     requires code { code.now.network.value ≡ network.now }
     requires few { (1 ≤ plan.workers) × (plan.workers ≤ 16) }
     requires quantum { 0 < plan.quantum }

@@ -9,22 +9,21 @@ ghost use Rattle.kahn_crew.specs.inner.Begins.{AreNumbersOf, AreReadyTasks, HasB
 ghost use Rattle.kahn_crew.specs.inner.Tasks.{told_tale};
 
 use crate::boxes::{Boxed, box_all, unbox_all};
-use crate::task::Task;
 use crate::waking::wake_all;
 use kahn_board::{Board, Seat};
 use kahn_code::Code;
-use kahn_job::jobs;
+use kahn_job::{Task, jobs};
 use kahn_streams::{Input, Network, NoMemory, Role};
 use std::alloc::Global;
 
 /// The tasks of all instances before their first events. It refuses only where memory was refused.
-pub fn first_tasks<'n>(
+pub fn first_tasks(
     alloc: Global,
-    network: &'n Network,
-    input: &'n Input,
+    network: &Network,
+    input: &Input,
     code: &Code,
     watch: Option<usize>,
-) -> Result<Vec<Task<'n>>, NoMemory>
+) -> Result<Vec<Task>, NoMemory>
     requires { code.now.network.value ≡ network.now }
     ensures ready { IfOk result (λ tasks. AreReadyTasks network.now input.now watch tasks.items) }
     ensures none { IfOk result (λ tasks. events_told told_tale tasks.items ≡ 0) }
@@ -85,20 +84,20 @@ fn numbers_of(
 
 /// The board of a run, and its first seat. All that was sent on a channel is published, and all instances are ready. It
 /// refuses only where memory was refused, and gives the tasks back.
-pub(crate) fn open_board<'n>(
+pub(crate) fn open_board(
     alloc: Global,
-    network: &'n Network,
-    input: &'n Input,
+    network: &Network,
+    input: &Input,
     watch: Option<usize>,
     bound: u64,
-    tasks: Vec<Task<'n>>,
-) -> Result<(Board<Boxed<'n>>, Seat<Boxed<'n>>), (NoMemory, Vec<Task<'n>>)>
+    tasks: Vec<Task>,
+) -> Result<(Board<Boxed>, Seat<Boxed>), (NoMemory, Vec<Task>)>
     requires ready { AreReadyTasks network.now input.now watch tasks.items }
     requires few { bound + events_told told_tale tasks.items < 2 ^ 48 }
     ensures seat { IfOk result (λ r. (r.1.seat.table_id ≡ r.0.table.shared.table_id) × (r.1.seat.me ≡ (opening_view (wires network.now), []))) }
     ensures begun { IfOk result (λ r. HasBegun network.now input.now watch r.0.table.shared.key) }
-    ensures key { IfOk result (λ r. (r.0.table.shared.key.bound ≡ bound) × (r.0.table.shared.key.cells.value.items ≡ tasks.entry.items)) }
-    ensures refused { IfErr result (λ e. e.1.items ≡ tasks.entry.items) }
+    ensures key { IfOk result (λ r. (r.0.table.shared.key.bound ≡ bound) × (r.0.table.shared.key.cells.value.items ≡ tasks.items)) }
+    ensures refused { IfErr result (λ e. e.1.items ≡ tasks.items) }
 {
     let _program = network.program();
     let Ok(numbers) = numbers_of(alloc, network, input, watch, &tasks) else {

@@ -10,7 +10,7 @@ use crate::run::Run;
 use kahn_board::{Seat, looks_ready, pick};
 
 // Takes the instance, where there is one of that number that is ready. It looks first, since a claim writes a word.
-fn pick_one<'n>(run: &Run<'_, 'n>, seat: &mut Seat<Boxed<'n>>, p: usize) -> bool
+fn pick_one(run: &Run<'_>, seat: &mut Seat<Boxed>, p: usize) -> bool
     requires { (n : ℕ) × SitsWith run.now n seat.old }
     ensures same { IsSeatOf seat.old seat.new }
     ensures picked { result ≡ true → (n : ℕ) → SitsWith run.now n seat.old → HasTask run.now p n seat.new }
@@ -27,9 +27,9 @@ fn pick_one<'n>(run: &Run<'_, 'n>, seat: &mut Seat<Boxed<'n>>, p: usize) -> bool
 }
 
 /// Picks an instance that a hint names: one of the worker's own, or one that it steals.
-pub(crate) fn pick_hinted<'n>(
-    run: &Run<'_, 'n>,
-    seat: &mut Seat<Boxed<'n>>,
+pub(crate) fn pick_hinted(
+    run: &Run<'_>,
+    seat: &mut Seat<Boxed>,
     hints: &mut Hints,
     steals: bool,
 ) -> Option<usize>
@@ -51,11 +51,7 @@ pub(crate) fn pick_hinted<'n>(
 }
 
 /// Picks an instance that is ready, from the one with that number on, round all of them.
-pub(crate) fn pick_any<'n>(
-    run: &Run<'_, 'n>,
-    seat: &mut Seat<Boxed<'n>>,
-    start: usize,
-) -> Option<usize>
+pub(crate) fn pick_any(run: &Run<'_>, seat: &mut Seat<Boxed>, start: usize) -> Option<usize>
     requires { SitsWith run.now 0 seat.old }
     ensures same { IsSeatOf seat.old seat.new }
     ensures picked { IfSome result (λ p. HasTask run.now p 0 seat.new) }

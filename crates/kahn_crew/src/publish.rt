@@ -12,14 +12,14 @@ use crate::boxes::Boxed;
 use crate::hints::Hints;
 use crate::run::Run;
 use crate::target::target;
-use crate::task::Task;
 use kahn_board::{Seat, stop, tell};
+use kahn_job::Task;
 
 // Publishes what was flushed on a parameter, where it is more than before. Answers the reader that it woke.
-pub(crate) fn publish_one<'n>(
-    run: &Run<'_, 'n>,
-    seat: &mut Seat<Boxed<'n>>,
-    task: &mut Task<'n>,
+pub(crate) fn publish_one(
+    run: &Run<'_>,
+    seat: &mut Seat<Boxed>,
+    task: &mut Task,
     p: usize,
     parameter: usize,
 ) -> Option<usize>
@@ -44,7 +44,7 @@ pub(crate) fn publish_one<'n>(
 }
 
 // Where memory was refused for a hint the run is to stop. Otherwise the seat stays as it is.
-fn heed_hint<'n>(run: &Run<'_, 'n>, seat: &mut Seat<Boxed<'n>>, told: bool)
+fn heed_hint(run: &Run<'_>, seat: &mut Seat<Boxed>, told: bool)
     requires { SitsIn run.now seat.old }
     ensures halts { told ≡ false → HasHalted seat.old seat.new }
     ensures still { StandsStill seat.old seat.new }
@@ -57,12 +57,7 @@ fn heed_hint<'n>(run: &Run<'_, 'n>, seat: &mut Seat<Boxed<'n>>, told: bool)
 }
 
 /// Hints at an instance that is ready, where there is one. Where memory is refused the run is to stop.
-pub(crate) fn hint<'n>(
-    run: &Run<'_, 'n>,
-    seat: &mut Seat<Boxed<'n>>,
-    hints: &mut Hints,
-    woken: Option<usize>,
-)
+pub(crate) fn hint(run: &Run<'_>, seat: &mut Seat<Boxed>, hints: &mut Hints, woken: Option<usize>)
     requires { SitsIn run.now seat.old }
     ensures same { Heeds hints.old.wanted seat.old hints.new.wanted seat.new }
     ensures still { StandsStill seat.old seat.new }
@@ -77,11 +72,11 @@ pub(crate) fn hint<'n>(
 }
 
 /// Publishes all that was flushed on each parameter, and hints at the readers that it woke.
-pub(crate) fn publish_all<'n>(
-    run: &Run<'_, 'n>,
-    seat: &mut Seat<Boxed<'n>>,
+pub(crate) fn publish_all(
+    run: &Run<'_>,
+    seat: &mut Seat<Boxed>,
     hints: &mut Hints,
-    task: &mut Task<'n>,
+    task: &mut Task,
     p: usize,
 )
     requires works { (n : ℕ) × (k : ℕ) × IsAtWork run.now p n k task.old seat.old }

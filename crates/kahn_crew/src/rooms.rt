@@ -13,10 +13,10 @@ use std::alloc::Global;
 
 /// The hints of all workers, and lists with room for the workers and for their seats.
 #[derive(Drop)]
-pub(crate) struct Rooms<'n> {
+pub(crate) struct Rooms {
     pub(crate) hints: Vec<Hints>,
-    pub(crate) workers: Vec<Worker<'n>>,
-    pub(crate) seats: Vec<Seat<Boxed<'n>>>,
+    pub(crate) workers: Vec<Worker>,
+    pub(crate) seats: Vec<Seat<Boxed>>,
     ghost manned: { (workers.items ≡ []) × (length hints.items ≤ vec_capacity workers) },
     ghost seated: { (seats.items ≡ []) × (length hints.items ≤ vec_capacity seats) },
 }
@@ -75,13 +75,9 @@ fn first_hints(alloc: Global, workers: usize, instances: usize) -> Result<Vec<Hi
     Ok(all)
 }
 
-impl<'n> Rooms<'n> {
+impl Rooms {
     /// For so many workers and that many instances.
-    pub(crate) fn new(
-        alloc: Global,
-        workers: usize,
-        instances: usize,
-    ) -> Result<Rooms<'n>, NoMemory>
+    pub(crate) fn new(alloc: Global, workers: usize, instances: usize) -> Result<Rooms, NoMemory>
         requires { 0 < workers }
         ensures { IfOk result (λ r. length r.hints.items ≡ workers) }
     {

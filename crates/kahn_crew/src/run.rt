@@ -1,21 +1,23 @@
 //! The run that its workers are lent.
 
 ghost use Rattle.std.specs.Prelude.{◌<◌};
-ghost use Rattle.kahn_crew.specs.inner.Lent.{FitTogether};
+ghost use Rattle.kahn_crew.specs.inner.Lent.{AreOnInput, FitTogether};
 
 use crate::boxes::Boxed;
 use kahn_board::Board;
 use kahn_code::Code;
-use kahn_streams::Network;
+use kahn_streams::{Input, Network};
 
-/// The board on which the tasks are, their network and its code, and how many events a task may do before another one is
+/// The board on which the tasks are, their network, its input and its code, and how many events a task may do before another one is
 /// looked for, at least 1.
 #[derive(Drop)]
-pub struct Run<'b, 'n> {
-    pub board: &'b Board<Boxed<'n>>,
-    pub network: &'n Network,
+pub struct Run<'b> {
+    pub board: &'b Board<Boxed>,
+    pub network: &'b Network,
+    pub input: &'b Input,
     pub code: &'b Code,
     pub quantum: u64,
     ghost fits: { FitTogether board.now.table.shared.key network.now code.now.network.value },
+    ghost given: { AreOnInput board.now.table.shared.key input.now },
     ghost some: { 0 < quantum },
 }

@@ -8,7 +8,7 @@ ghost use Rattle.kahn_board.specs.inner.Turn.{IsBetweenTurns};
 ghost use Rattle.kahn_crew.specs.inner.Rests.{CanRest, IsDue, IsSetDown};
 ghost use Rattle.kahn_crew.specs.inner.Tasks.{IsPublished};
 ghost use Rattle.kahn_crew.specs.inner.Turns.{HasTask, Heeds, IsAtWork, IsTaskIn, SitsIn, SitsWith, StandsStill};
-ghost use Rattle.kahn_crew.specs.declared.standing.Standing.TheVariants.{Going as IsGoing};
+ghost use Rattle.kahn_job.specs.declared.standing.Standing.TheVariants.{Going as IsGoing};
 
 use crate::boxes::Boxed;
 use crate::gate::Gate;
@@ -16,12 +16,11 @@ use crate::hints::Hints;
 use crate::pick::pick_hinted;
 use crate::publish::{hint, publish_all};
 use crate::run::Run;
-use crate::standing::Standing;
-use crate::task::Task;
 use kahn_board::{
     Draw, Seat, draw_some, give, put, rest_dry, rest_over, rest_ready, stop, take_cell, tell_done,
 };
 use kahn_code::{Pause, Steps};
+use kahn_job::{Standing, Task};
 use kahn_streams::NoMemory;
 use std::sync::ledger::Ledger;
 
@@ -35,7 +34,7 @@ pub(crate) enum Due {
 }
 
 // How a task is to be set down.
-fn due_of<'n>(run: &Run<'_, 'n>, task: &Task<'n>, p: usize) -> Due
+fn due_of(run: &Run<'_>, task: &Task, p: usize) -> Due
     requires { IsTaskIn run.now p task.now }
     ensures { IsDue (wired run.now.board.now.table.shared.key) p task.now result }
 {
@@ -53,9 +52,9 @@ fn due_of<'n>(run: &Run<'_, 'n>, task: &Task<'n>, p: usize) -> Due
 }
 
 // Where memory was refused, for an event or for a segment, the run is to stop. Otherwise the seat stays as it is.
-fn heed<'n>(
-    run: &Run<'_, 'n>,
-    seat: &mut Seat<Boxed<'n>>,
+fn heed(
+    run: &Run<'_>,
+    seat: &mut Seat<Boxed>,
     hints: &mut Hints,
     pause: Pause,
     flushed: Result<(), NoMemory>,
@@ -76,11 +75,11 @@ fn heed<'n>(
 
 // Runs the task of an instance for at most so many events, and flushes and publishes what it sent. Answers how many events it
 // did. Where memory was refused the run is to stop.
-fn run_task<'n, L: Ledger>(
-    run: &Run<'_, 'n>,
-    seat: &mut Seat<Boxed<'n>>,
+fn run_task<L: Ledger>(
+    run: &Run<'_>,
+    seat: &mut Seat<Boxed>,
     hints: &mut Hints,
-    task: &mut Task<'n>,
+    task: &mut Task,
     p: usize,
     drawn: u64,
     steps: &mut Steps<L>,
@@ -94,7 +93,7 @@ fn run_task<'n, L: Ledger>(
     ensures spent { task.new.standing ≡ IsGoing → (task.new.work.cell.events ≡ task.old.work.cell.events + drawn) ⊎ (seat.new.seat.me.0.seen ≡ 2) }
 {
     let before = task.events();
-    let pause = task.run(run.code, drawn, steps);
+    let pause = task.run(run.code, run.network, run.input, drawn, steps);
     let flushed = task.flush();
     heed(run, seat, hints, pause, flushed);
     publish_all(run, seat, hints, task, p);
@@ -102,7 +101,7 @@ fn run_task<'n, L: Ledger>(
 }
 
 // Sets an instance down.
-fn rest<'n>(run: &Run<'_, 'n>, seat: &mut Seat<Boxed<'n>>, hints: &mut Hints, p: usize, due: Due)
+fn rest(run: &Run<'_>, seat: &mut Seat<Boxed>, hints: &mut Hints, p: usize, due: Due)
     requires { CanRest run.now p due seat.old }
     ensures same { Heeds hints.old.wanted seat.old hints.new.wanted seat.new }
     ensures rests { SitsWith run.now seat.old.seat.me.0.drawn seat.new }
@@ -123,9 +122,9 @@ fn rest<'n>(run: &Run<'_, 'n>, seat: &mut Seat<Boxed<'n>>, hints: &mut Hints, p:
 }
 
 // Runs an instance for at most so many events of a draw, and sets it down. Answers how many it did.
-fn spend<'n, L: Ledger>(
-    run: &Run<'_, 'n>,
-    seat: &mut Seat<Boxed<'n>>,
+fn spend<L: Ledger>(
+    run: &Run<'_>,
+    seat: &mut Seat<Boxed>,
     hints: &mut Hints,
     p: usize,
     drawn: u64,
@@ -147,10 +146,10 @@ fn spend<'n, L: Ledger>(
 
 // Runs one instance after another for the events that were drawn, as long as more than seven eighths of a quantum are left,
 // so that each has about as many as a draw of its own, and own hints name one that is ready. Answers how many are left.
-fn spend_all<'n, G: Gate, L: Ledger>(
-    run: &Run<'_, 'n>,
+fn spend_all<G: Gate, L: Ledger>(
+    run: &Run<'_>,
     gate: &G,
-    seat: &mut Seat<Boxed<'n>>,
+    seat: &mut Seat<Boxed>,
     hints: &mut Hints,
     first: usize,
     drawn: u64,
@@ -178,10 +177,10 @@ fn spend_all<'n, G: Gate, L: Ledger>(
 
 /// A turn of an instance that was picked: it is run for a part of the budget, where some is left that other workers don't
 /// take first, and set down, and so are those that it woke while the part lasts.
-pub(crate) fn turn<'n, G: Gate, L: Ledger>(
-    run: &Run<'_, 'n>,
+pub(crate) fn turn<G: Gate, L: Ledger>(
+    run: &Run<'_>,
     gate: &G,
-    seat: &mut Seat<Boxed<'n>>,
+    seat: &mut Seat<Boxed>,
     hints: &mut Hints,
     p: usize,
     steps: &mut Steps<L>,

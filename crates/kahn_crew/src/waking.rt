@@ -4,20 +4,19 @@ ghost use Rattle.std.specs.Prelude.{◌≡◌, ◌≤◌, [], All, length, map};
 ghost use Rattle.std.specs.Vec.{vec_capacity};
 ghost use Rattle.kahn_job.specs.inner.Idles.{AreIdle, HaveSettled, rows_of};
 ghost use Rattle.kahn_job.specs.inner.Works.{IsJob};
-ghost use Rattle.kahn_crew.specs.inner.Begins.{woken_task};
+ghost use Rattle.kahn_job.specs.inner.Tasks.{woken_task};
 ghost use Rattle.kahn_crew.specs.inner.Tasks.{work_of};
 
-use crate::task::Task;
-use kahn_job::Idle;
+use kahn_job::{Idle, Task};
 use kahn_streams::{Input, Network};
 
 /// The tasks of idle jobs that go on with an input for which their ends have settled. The list that is given has room for all. It takes no memory.
-pub fn wake_all<'n>(
-    network: &'n Network,
-    input: &'n Input,
+pub fn wake_all(
+    network: &Network,
+    input: &Input,
     mut idles: Vec<Idle>,
-    mut tasks: Vec<Task<'n>>,
-) -> Vec<Task<'n>>
+    mut tasks: Vec<Task>,
+) -> Vec<Task>
     requires room { (tasks.items ≡ []) × (length idles.items ≤ vec_capacity tasks) }
     requires idle { AreIdle network.now input.now idles.items }
     requires settled { HaveSettled network.now input.now (rows_of idles.items) }
@@ -25,7 +24,7 @@ pub fn wake_all<'n>(
 {
     idles.reverse();
     while let Some(idle) = idles.pop() {
-        tasks.push_reserved(Task::woken(idle, network, input));
+        tasks.push_reserved(Task::woken(idle, input));
     }
     tasks
 }
@@ -33,7 +32,7 @@ pub fn wake_all<'n>(
 /// The jobs of tasks on which nobody works any more. The list that is given has room for all. It takes no memory.
 pub fn rest_all(tasks: Vec<Task>, mut idles: Vec<Idle>) -> Vec<Idle>
     requires room { (idles.items ≡ []) × (length tasks.items ≤ vec_capacity idles) }
-    ensures same { result.items ≡ map work_of tasks.entry.items }
+    ensures same { result.items ≡ map work_of tasks.items }
     ensures jobs { All IsJob result.items }
 {
     for task in tasks {

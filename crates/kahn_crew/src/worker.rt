@@ -22,14 +22,14 @@ const LONG: usize = 8;
 
 /// A worker: its seat at the board, its hints, and the instance at which it begins to look where it has none.
 #[derive(Drop)]
-pub struct Worker<'n> {
-    pub seat: Seat<Boxed<'n>>,
+pub struct Worker {
+    pub seat: Seat<Boxed>,
     pub hints: Hints,
     pub start: usize,
 }
 
 // An instance that looks ready, from the one with that number on, round all of them.
-fn looking_ready(run: &Run<'_, '_>, start: usize) -> Option<usize> {
+fn looking_ready(run: &Run<'_>, start: usize) -> Option<usize> {
     let count = run.board.instances;
     for step in 0..count {
         let p = (start % count + step) % count;
@@ -41,7 +41,7 @@ fn looking_ready(run: &Run<'_, '_>, start: usize) -> Option<usize> {
 }
 
 // Waits a little, until an instance has looked ready for some time: it is seldom taken from the worker that woke it then.
-fn wait_a_little(run: &Run<'_, '_>, rest: &Rest, start: usize) {
+fn wait_a_little(run: &Run<'_>, rest: &Rest, start: usize) {
     let mut last = None;
     let mut since = 0;
     for look in 0..rest.pauses() {
@@ -58,7 +58,7 @@ fn wait_a_little(run: &Run<'_, '_>, rest: &Rest, start: usize) {
 }
 
 // Picks an instance where the worker has no hints of its own: one that another's hint names, or else any that is ready.
-fn pick_elsewhere<'n>(run: &Run<'_, 'n>, worker: &mut Worker<'n>, rest: &Rest) -> Option<usize>
+fn pick_elsewhere(run: &Run<'_>, worker: &mut Worker, rest: &Rest) -> Option<usize>
     requires { SitsWith run.now 0 worker.old.seat }
     ensures same { IsSeatOf worker.old.seat worker.new.seat }
     ensures picked { IfSome result (λ p. HasTask run.now p 0 worker.new.seat) }
@@ -73,7 +73,7 @@ fn pick_elsewhere<'n>(run: &Run<'_, 'n>, worker: &mut Worker<'n>, rest: &Rest) -
 }
 
 // Picks an instance.
-fn pick_next<'n>(run: &Run<'_, 'n>, worker: &mut Worker<'n>, rest: &Rest) -> Option<usize>
+fn pick_next(run: &Run<'_>, worker: &mut Worker, rest: &Rest) -> Option<usize>
     requires { SitsWith run.now 0 worker.old.seat }
     ensures same { IsSeatOf worker.old.seat worker.new.seat }
     ensures picked { IfSome result (λ p. HasTask run.now p 0 worker.new.seat) }
@@ -87,11 +87,11 @@ fn pick_next<'n>(run: &Run<'_, 'n>, worker: &mut Worker<'n>, rest: &Rest) -> Opt
 }
 
 // Turn after turn, until there is a reason to leave.
-fn turns<'n, R: Wait, G: Gate, L: Ledger>(
+fn turns<R: Wait, G: Gate, L: Ledger>(
     rt: &R,
-    run: &Run<'_, 'n>,
+    run: &Run<'_>,
     gate: &G,
-    worker: &mut Worker<'n>,
+    worker: &mut Worker,
     blank: Blank,
 )
     requires idle { SitsWith run.now 0 worker.old.seat }
@@ -118,9 +118,9 @@ fn turns<'n, R: Wait, G: Gate, L: Ledger>(
     }
 }
 
-impl<'n> Worker<'n> {
+impl Worker {
     /// Works until the run is halted, or no instance can go on, or the budget is empty.
-    pub fn work<R: Wait, G: Gate>(&mut self, rt: &R, run: &Run<'_, 'n>, gate: &G)
+    pub fn work<R: Wait, G: Gate>(&mut self, rt: &R, run: &Run<'_>, gate: &G)
         requires { SitsWith run.now 0 self.old.seat }
         ensures same { Heeds self.old.hints.wanted self.old.seat self.new.hints.wanted self.new.seat }
         ensures left { IsBetweenTurns self.new.seat × (self.new.seat.seat.me.0.stage ≡ 1) }

@@ -1,7 +1,8 @@
 -- Ends of an instance's channels, one of which changes.
-use Rattle.std.proofs.Common.{arith, ◌≡◌, ◌⊎◌, inl, inr, ⊎_elim, ℕ, zero, suc, ◌<◌, ◌≤◌, List, [], ◌∷◌, length, refl, sym, ap, ◌∙◌, subst, true, false, Some, slice_set, slice_index_or, le_of_suc-le-suc}
+use Rattle.std.proofs.Common.{arith, ◌≡◌, ◌⊎◌, inl, inr, ⊎_elim, ℕ, zero, suc, ◌<◌, ◌≤◌, List, [], ◌∷◌, ◌++◌, drop, length, take, refl, sym, ap, ◌∙◌, subst, true, false, Some, slice_set, slice_index_or, le_of_suc-le-suc}
 use Rattle.std.proofs.lemmas.Bool.{cases_eq, cases_lt}
-use Rattle.std.proofs.lemmas.List.{length-set, get_or_default, get_or_past, get_or-set_same, get_or-set_other}
+use Rattle.std.proofs.lemmas.List.{length-set, get_or_default, get_or_past, get_or-set_same, get_or-set_other, take-append-le}
+use Rattle.std.proofs.Math.Seq.{take-length}
 use Rattle.kahn_streams.specs.declared.tree.Program.{Program}
 use Rattle.kahn_streams.specs.Network.{Actual, Reads, Writes, Hands, network_of, instance_at, actual_at, role_at}
 use Rattle.kahn_streams.proofs.Sourced.{handed_within}
@@ -9,12 +10,12 @@ use Rattle.kahn_streams.specs.declared.token.Token.{Token}
 use Rattle.kahn_streams.specs.Inputs.{Lists}
 use Rattle.kahn_streams.specs.Answers.{is_output}
 use Rattle.kahn_code.specs.Lines.{Joins}
-use Rattle.kahn_code.specs.Seats.{DoesRead, DoesWrite, Grows, IsNext}
+use Rattle.kahn_code.specs.Seats.{Grows, IsNext}
 use Rattle.kahn_lane.specs.Places.{lane_name, token_name}
 use Rattle.kahn_lane.proofs.Places.{token_name-is_of, is_of-token_name}
 use Rattle.kahn_job.specs.inner.Ends.{Advances, End, Identity, IsSame, IsFlushed, identity_of}
 use Rattle.kahn_job.specs.inner.Ways.{no_end}
-use Rattle.kahn_job.specs.inner.Berths.{Berth, AreServed, Serves, end_at, identities, seat_at, HaveAdvanced, HasStayed}
+use Rattle.kahn_job.specs.inner.Berths.{AreServed, Serves, end_at, identities, HaveAdvanced, HasStayed}
 
 pub set_here : (es : List End) (q : ℕ) (e : End) → q < length es → end_at (slice_set es q e) q ≡ e
 set_here es q e l = get_or-set_same es q e no_end l
@@ -38,7 +39,7 @@ any_end es q d l = get_or_default es q d no_end l
 pub found : (es : List End) (q : ℕ) (e d : End) → q < length es → e ≡ slice_index_or es q d → end_at es q ≡ e
 found es q e d l is = sym (is ∙ any_end es q d l)
 
-still_serves : (t : Program) (lists : Lists) (a : Actual) (old new : End) → IsSame old new → Serves t lists a old → Serves t lists a new
+pub still_serves : (t : Program) (lists : Lists) (a : Actual) (old new : End) → IsSame old new → Serves t lists a old → Serves t lists a new
 still_serves t lists (Reads d) old new same s = (same.reads ∙ s.0, same.name ∙ s.1, λ i. same.lane ∙ s.2 i)
 still_serves t lists (Writes d) old new same s = λ inner. let h = s inner in (same.writes ∙ h.0, same.name ∙ h.1)
 still_serves t lists (Hands v) old new same s = tt
@@ -126,22 +127,19 @@ is_written t lists p es h q d writes inner k w =
     (s.1 ∙ ap Some (sym (token_name-is_of t lists d k w.names w.line)), w.place)
 
 -- one end that these ports take from or put on has changed
-module _ (seen : Berth) (t : Program) (lists : Lists) (p : ℕ) (es : List End) (is : record { network = t; input = lists; instance = p; ends = es } ≡ seen)
-    (h : AreServed t lists p es) (q : ℕ) (old new : End) (at : old ≡ slice_index_or es q old) (same : IsSame old new) where
-  identities_at : q < length es → identities (slice_set es q new) ≡ identities seen.ends
-  identities_at l =
-      identities_set es q new l (subst (λ x. IsSame x new) (sym (found es q old old l at)) same) ∙ ap (λ (b : Berth). identities b.ends) is
+module _ (t : Program) (lists : Lists) (p : ℕ) (es : List End) (h : AreServed t lists p es) (q : ℕ) (d new : End) (same : IsSame (slice_index_or es q d) new) where
+  identities_at : q < length es → identities (slice_set es q new) ≡ identities es
+  identities_at l = identities_set es q new l (subst (λ x. IsSame x new) (any_end es q d l) same)
 
-  pub identities_read : (d : ℕ) → DoesRead (seat_at seen) q d → identities (slice_set es q new) ≡ identities seen.ends
-  identities_read d reads = identities_at (within_read t lists p es h q d (subst (λ (b : Berth). DoesRead (seat_at b) q d) (sym is) reads))
+  pub identities_read : (c : ℕ) → actual_at (instance_at (network_of t) p) q ≡ Reads c → identities (slice_set es q new) ≡ identities es
+  identities_read c reads = identities_at (within_read t lists p es h q c reads)
 
-  pub identities_written : (d : ℕ) → DoesWrite (seat_at seen) q d → identities (slice_set es q new) ≡ identities seen.ends
-  identities_written d writes = identities_at (within_written t lists p es h q d (subst (λ (b : Berth). DoesWrite (seat_at b) q d) (sym is) writes).0)
+  pub identities_written : (c : ℕ) → actual_at (instance_at (network_of t) p) q ≡ Writes c → identities (slice_set es q new) ≡ identities es
+  identities_written c writes = identities_at (within_written t lists p es h q c writes)
 
   -- what is so of the new end is so of the end that stands there
-  pub written_at : (P : End → Type 0) (d : ℕ) → DoesWrite (seat_at seen) q d → P new → P (end_at (slice_set es q new) q)
-  written_at P d writes holds =
-      subst P (sym (set_here es q new (within_written t lists p es h q d (subst (λ (b : Berth). DoesWrite (seat_at b) q d) (sym is) writes).0))) holds
+  pub written_at : (P : End → Type 0) (c : ℕ) → actual_at (instance_at (network_of t) p) q ≡ Writes c → P new → P (end_at (slice_set es q new) q)
+  written_at P c writes holds = subst P (sym (set_here es q new (within_written t lists p es h q c writes))) holds
 
 -- the first n ends were flushed
 abbrev pub UpTo : ℕ → List End → Type 0
@@ -169,3 +167,7 @@ within_reads es q r = by (past_none es q)
 
 pub stayed_self : (e : End) → HasStayed e e
 stayed_self e = record { same = same_self e; next = refl; flushed = refl; ready = λ r. r }
+
+-- a list of which all was lent, and as many came back
+pub lent_whole : (n : ℕ) (new old : List End) → n ≡ length old → length new ≡ length old → take n (new ++ drop (length new) old) ≡ new
+lent_whole n new old e f = take-append-le n new (drop (length new) old) (omega (arith, e, f)) ∙ ap (λ k. take k new) (e ∙ sym f) ∙ take-length new

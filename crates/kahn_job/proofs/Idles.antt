@@ -1,4 +1,4 @@
--- Jobs on which nobody works: what changes where one of them gets another end, and how one goes on.
+-- Jobs on which nobody works: what changes where one of them gets another end, and which may go on.
 use Rattle.std.proofs.Common.{arith, ◌≡◌, ◌⊎◌, inl, inr, ℕ, zero, suc, ◌<◌, ◌≤◌, List, [], ◌∷◌, length, refl, sym, ap, ◌∙◌, subst, slice_set, slice_index_or, le_of_suc-le-suc, slice_get, Some}
 use Rattle.std.proofs.lemmas.List.{get_or_past}
 use Rattle.std.proofs.lemmas.Option.{slice_get_within}
@@ -14,7 +14,7 @@ use Rattle.kahn_code.specs.Told.{Told, IsAt}
 use Rattle.kahn_job.specs.inner.Ends.{End}
 use Rattle.kahn_job.specs.inner.Berths.{AreServed, Serves, end_at}
 use Rattle.kahn_job.specs.inner.Lanes.{end_in}
-use Rattle.kahn_job.specs.inner.Works.{Work, IsManned}
+use Rattle.kahn_job.specs.inner.Works.{Work}
 use Rattle.kahn_job.specs.inner.Idles.{AreIdle, AreJoinedJobs, CanGoOn, HaveMet, HaveSettled, IsIdle, cells_of, rows_of}
 use Rattle.kahn_job.specs.inner.Settling.{ServedBefore, AreResting, HaveStood, IsOfBefore}
 use Rattle.kahn_job.proofs.Meeting_ends.{all_stayed, all_stayed_then, rests_met, stood_still}
@@ -50,16 +50,6 @@ rows_exchanged ws p q e d w l i =
 pub cells_exchanged : (ws : List Work) (p q : ℕ) (e : End) (d w : Work) → p < length (rows_of ws) →
     w ≡ record (slice_index_or ws p d) { ends = slice_set (slice_index_or ws p d).ends q e } → cells_of (slice_set ws p w) ≡ cells_of ws
 cells_exchanged ws p q e d w l i = cells_set ws p w d (subst (λ n. p < n) (rows_length ws) l) (ap (λ (w : Work). w.cell) i)
-
--- ---- a job goes on
-
-pub manned_again : (t : Program) (lists : Lists) (w : Work) (c : Told) (p : ℕ) → CanGoOn t lists w → c ≡ record w.cell { input = lists } → p ≡ w.cell.instance →
-    IsManned c (record { network = t; input = lists; instance = p; ends = w.ends })
-manned_again t lists w c p h e i = subst (λ c. IsManned c (record { network = t; input = lists; instance = p; ends = w.ends })) (sym e) (record {
-  seat = λ k. record { network = sym h.network k; input = lists; instance = i k };
-  here = subst (λ x. w.cell.instance < length (network_of x).instances) (sym h.network) h.here;
-  at = record { reads = h.at.reads; writes = h.at.writes };
-})
 
 -- ---- when all have settled
 
@@ -243,19 +233,21 @@ module _ (t : Program) (lists : Lists) (ws : List Work) (h : AreIdle t lists ws)
     idle_still resting = record { count = cells_count new ws cells ∙ h.count; each = as_before; resting = resting }
 
     -- once they have settled each may go on
-    pub idle_goes_on : HaveSettled t lists (rows_of new) → (p : ℕ) (w : Work) → slice_get new p ≡ Some w → CanGoOn t lists w
+    pub idle_goes_on : HaveSettled t lists (rows_of new) → (p : ℕ) (w : Work) → slice_get new p ≡ Some w → CanGoOn lists w
     idle_goes_on settled p w e =
         let x = as_before p w e in
         let within = slice_get_within new p w e in
         let many : length new ≡ length (network_of t).instances = cells_count new ws cells ∙ h.count in
-        let row : slice_index_or (rows_of new) p [] ≡ w.ends = row_there new p w e in
-        record {
-          network = x.network;
-          grown = x.grown;
-          here = subst (λ n. n < length (network_of t).instances) (sym x.instance) (omega (arith, within, many));
-          served = subst (λ n. AreServed t lists n w.ends) (sym x.instance) (subst (AreServed t lists p) row (settled.served p));
-          at = x.at;
-        }
+        let row : slice_index_or (rows_of new) p [] ≡ w.ends = row_there new p w e in (
+          x.grown,
+          record {
+            here = subst (λ n. n < length (network_of w.cell.network).instances) (sym x.instance)
+                (subst (λ k. p < length (network_of k).instances) (sym x.network) (omega (arith, within, many)));
+            served = subst (λ n. AreServed w.cell.network lists n w.ends) (sym x.instance)
+                (subst (λ k. AreServed k lists p w.ends) (sym x.network) (subst (AreServed t lists p) row (settled.served p)));
+            at = record { reads = x.at.reads; writes = x.at.writes };
+          },
+        )
 
   -- where their ends have met
   pub idle_met : (new : List Work) → HaveMet ws new → AreIdle t lists new

@@ -8,4 +8,5 @@ pub mod Idles
 pub mod Bare
 pub mod Begun
 pub mod Fed
+pub mod Trues
 pub mod Crossing

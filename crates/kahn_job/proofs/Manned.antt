@@ -1,19 +1,41 @@
--- Cells with the ends of their channels.
-use Rattle.std.proofs.Common.{List, ◌∙◌, subst}
+-- Cells with the ends of their channels, after a run and a flush.
+use Rattle.std.proofs.Common.{arith, ◌≡◌, ⊎_elim, ◌<◌, List, length, sym, ◌∙◌, subst}
+use Rattle.kahn_streams.specs.Network.{network_of, instance_at, actual_at}
 use Rattle.kahn_code.specs.Seats.{Seat}
-use Rattle.kahn_code.specs.Told.{Told}
+use Rattle.kahn_code.specs.Told.{Told, IsAt, IsSameProcess, seat_of}
 use Rattle.kahn_job.specs.inner.Ends.{End}
-use Rattle.kahn_job.specs.inner.Berths.{Berth, AreServed, AreFlushed}
-use Rattle.kahn_job.specs.inner.Works.{IsManned, IsDelivered}
-use Rattle.kahn_job.proofs.Berthed.{serves_written}
+use Rattle.kahn_job.specs.inner.Berths.{AreFlushed, AreServed, HaveFlushed, end_at}
+use Rattle.kahn_job.specs.inner.Works.{Work, IsDelivered, IsJob}
+use Rattle.kahn_job.proofs.Berthed.{serves_written, still_serves}
 
 abbrev seat_served : Seat → List End → Type 0
 seat_served s es = AreServed s.network s.input s.instance es
 
-pub served_cell : (c : Told) (b : Berth) → IsManned c b → AreServed b.network b.input b.instance b.ends → AreServed c.network c.input c.instance b.ends
-served_cell c b m h = subst (λ s. seat_served s b.ends) m.seat h
+pub ran : (w : Work) (c : Told) (s : Seat) (es : List End) → IsJob w → IsSameProcess w.cell c → s ≡ seat_of c → seat_served s es → IsAt c (λ q. (end_at es q).next) →
+    IsJob (record { cell = c; ends = es })
+ran w c s es j names is served at = record {
+  here = subst (λ n. n < length (network_of c.network).instances) (sym names.2) (subst (λ t. w.cell.instance < length (network_of t).instances) (sym names.0) j.here);
+  served = subst (λ k. seat_served k es) is served;
+  at = at;
+}
 
-pub delivered : (c : Told) (b : Berth) → IsManned c b → AreServed b.network b.input b.instance b.ends → AreFlushed b.ends →
-    IsDelivered (record { cell = c; ends = b.ends })
-delivered c b m h f q d e inner =
-    f q (serves_written c.network c.input c.instance b.ends (served_cell c b m h) q d e inner).0 ∙ m.at.writes q d e inner
+module _ (w : Work) (es : List End) (j : IsJob w) (h : HaveFlushed w.ends es) where
+  pub flushed : IsJob (record w { ends = es })
+  flushed = record {
+    here = j.here;
+    served = record {
+      count = h.count ∙ j.served.count;
+      each = λ q. still_serves w.cell.network w.cell.input (actual_at (instance_at (network_of w.cell.network) w.cell.instance) q) (end_at w.ends q) (end_at es q)
+          (h.each q).same (j.served.each q);
+      behind = λ q.
+          let b = j.served.behind q in
+          let n = (h.each q).next in
+          ⊎_elim (λ e. omega (arith, b, n, e)) (λ e. omega (arith, e)) (h.each q).flushed;
+    };
+    at = record { reads = λ q d i. (h.each q).next ∙ j.at.reads q d i; writes = λ q d i o. (h.each q).next ∙ j.at.writes q d i o };
+  }
+
+  pub delivered : AreFlushed es → IsDelivered (record w { ends = es })
+  delivered f q d i o =
+      f q ((h.each q).same.writes ∙ (serves_written w.cell.network w.cell.input w.cell.instance w.ends j.served q d i o).0)
+      ∙ (h.each q).next ∙ j.at.writes q d i o

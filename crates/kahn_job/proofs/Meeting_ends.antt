@@ -2,7 +2,6 @@
 use Rattle.std.proofs.Common.{arith, ℕ, List, refl, ◌∙◌}
 use Rattle.kahn_streams.specs.declared.tree.Program.{Program}
 use Rattle.kahn_streams.specs.Network.{Network, Actual, Reads, Writes, Hands, network_of, instance_at, actual_at}
-use Rattle.kahn_streams.proofs.Sourced.{reads, writes}
 use Rattle.kahn_streams.specs.Inputs.{Lists}
 use Rattle.kahn_job.specs.inner.Ends.{End}
 use Rattle.kahn_job.specs.inner.Berths.{HasStayed}

@@ -5,5 +5,6 @@ pub mod Idles
 pub mod Lanes
 pub mod Openings
 pub mod Settling
+pub mod Tasks
 pub mod Ways
 pub mod Works

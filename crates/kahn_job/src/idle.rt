@@ -2,15 +2,12 @@
 
 ghost use Rattle.std.specs.Prelude.{◌≡◌, ◌<◌, length, map, slice_index_or, slice_set, [], IfOk};
 ghost use Rattle.kahn_job.specs.inner.Berths.{end_at};
-ghost use Rattle.kahn_job.specs.inner.Idles.{CanGoOn};
 ghost use Rattle.kahn_job.specs.inner.Works.{width_of};
 
 use crate::copies::lists_of;
-use crate::job::Job;
 use crate::port::Port;
-use crate::ports::Ends;
 use kahn_code::{Cell, Kept};
-use kahn_streams::{Carried, Input, Network, NoMemory};
+use kahn_streams::{Carried, NoMemory};
 use std::alloc::Global;
 use std::marker::Model;
 use std::mem;
@@ -19,10 +16,10 @@ use std::mem;
 /// list with a number for each parameter, which whoever runs the job wants again: so going on takes no memory.
 #[derive(Drop)]
 pub struct Idle {
-    cell: Cell,
-    instance: usize,
-    ports: Vec<Port>,
-    numbers: Vec<u64>,
+    pub(crate) cell: Cell,
+    pub(crate) instance: usize,
+    pub(crate) ports: Vec<Port>,
+    pub(crate) numbers: Vec<u64>,
 }
 
 impl Model for Idle {
@@ -97,18 +94,5 @@ impl Idle {
         ensures parameters { length result.kept.items ≡ width_of self }
     {
         self.cell.into_lists()
-    }
-
-    /// The job, with its hold on an input for which its ends have settled, and a list with a number for each parameter. It
-    /// takes no memory.
-    #[tactic(auto, using(crate::proofs::Idles::manned_again))]
-    pub fn wake<'n>(self, network: &'n Network, input: &'n Input) -> (Job<'n>, Vec<u64>)
-        requires { CanGoOn network.now input.now self }
-        ensures job { result.0 ≡ record self { cell = record self.cell { input = input.now } } }
-        ensures numbers { length result.1.items ≡ width_of self }
-    {
-        let cell = self.cell.grown(input);
-        let ends = Ends::new(network, input, self.instance, self.ports);
-        (Job::new(cell, ends), self.numbers)
     }
 }

@@ -6,16 +6,18 @@ mod exchanging;
 mod feed;
 mod handing;
 mod idle;
-mod job;
 mod meeting;
 mod opening;
 mod port;
 mod ports;
 mod settling;
+mod standing;
+mod task;
 
 // For the crates above.
 pub use idle::Idle;
-pub use job::Job;
 pub use meeting::meet;
 pub use opening::jobs;
 pub use settling::settle;
+pub use standing::Standing;
+pub use task::Task;

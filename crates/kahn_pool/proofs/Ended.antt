@@ -11,8 +11,9 @@ use Rattle.kahn_code.specs.Lines.{Joins}
 use Rattle.kahn_code.proofs.Lists.{at_last}
 use Rattle.kahn_code.proofs.Readers.{joins_parameter}
 use Rattle.kahn_code.specs.Standing.{count}
-use Rattle.kahn_crew.specs.declared.standing.Standing.TheVariants as standing
-use Rattle.kahn_crew.specs.inner.Tasks.{Tasked, handed_to_task}
+use Rattle.kahn_job.specs.declared.standing.Standing.TheVariants as standing
+use Rattle.kahn_job.specs.inner.Tasks.{Tasked}
+use Rattle.kahn_crew.specs.inner.Tasks.{handed_to_task}
 use Rattle.kahn_crew.specs.inner.Left.{AreAll}
 use Rattle.kahn_pool.specs.inner.Rested.{AreEndsOfTasks, AreTold, IsEndOf, IsToldAs}
 use Rattle.kahn_streams.specs.declared.answer.End.{End}

@@ -13,9 +13,9 @@ use Rattle.kahn_job.specs.inner.Lanes.{AreJoinedOn}
 use Rattle.kahn_job.specs.inner.Works.{IsJob, Work}
 use Rattle.kahn_job.proofs.Idles.{all_idle, cell_there, idle_grown, idle_met}
 use Rattle.kahn_board.specs.Dealt.{events_told}
-use Rattle.kahn_crew.specs.inner.Begins.{woken_task}
+use Rattle.kahn_job.specs.inner.Tasks.{woken_task, Tasked}
 use Rattle.kahn_crew.specs.inner.Left.{AreUntouched, HaveGone, task_events}
-use Rattle.kahn_crew.specs.inner.Tasks.{Tasked, told_tale, work_of}
+use Rattle.kahn_crew.specs.inner.Tasks.{told_tale, work_of}
 use Rattle.kahn_crew.proofs.Ended.{all_told}
 use Rattle.kahn_crew.proofs.Started.{at_mapped, at_most_all, mapped_at}
 use Rattle.kahn_pool.specs.inner.Concluded.{IsConcluded}

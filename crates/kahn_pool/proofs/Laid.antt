@@ -16,7 +16,8 @@ use Rattle.kahn_code.proofs.Queued.{given_zero, taken_zero}
 use Rattle.kahn_pool.specs.inner.Bench.{view_events}
 use Rattle.kahn_code.specs.inner.Gone.{nothing_gone}
 use Rattle.kahn_code.specs.inner.Tapped.{Tapped}
-use Rattle.kahn_pool.specs.inner.Workbench.{IsLaid, IsSeated, IsOpeningCell, AreOpeningCells, gone_in, table_of, told_in}
+use Rattle.kahn_job.specs.inner.Openings.{IsOpening}
+use Rattle.kahn_pool.specs.inner.Workbench.{IsLaid, IsSeated, AreOpeningCells, gone_in, table_of, told_in}
 
 pub laid_first : (t code : Program) (lists : Lists) (watch : Option ℕ) (taps : List Tapped) (q : Queues) → IsWellWired t → code ≡ t →
     AreOpeningCells t lists watch (map told_in taps) (length (network_of t).instances) → (q.network ≡ t) × (q.input ≡ lists) → AreFirst t lists q.queues →
@@ -32,7 +33,7 @@ laid_first t code lists watch taps q wired same cells_open names first = record 
   where
     each : (p : ℕ) (c : Told) → slice_get (map told_in taps) p ≡ Some c → IsSeated (table_of t lists watch code taps q) p c
     each p c at =
-        let o : IsOpeningCell t lists watch p c = cells_open.each p c at in
+        let o : IsOpening t lists watch p c = cells_open.each p c at in
         record {
           network = o.network;
           input = o.input;
@@ -41,12 +42,12 @@ laid_first t code lists watch taps q wired same cells_open names first = record 
           at = stands o;
         }
       where
-        own : IsOpeningCell t lists watch p c → (r : ℕ) → actual_at (instance_at (network_of q.network) p) r ≡ actual_at (instance_at (network_of c.network) c.instance) r
+        own : IsOpening t lists watch p c → (r : ℕ) → actual_at (instance_at (network_of q.network) p) r ≡ actual_at (instance_at (network_of c.network) c.instance) r
         own o r =
             ap (λ k. actual_at (instance_at (network_of k) p) r) (names.0 ∙ sym o.network) ∙
             ap (λ k. actual_at (instance_at (network_of c.network) k) r) (sym o.instance)
 
-        stands : IsOpeningCell t lists watch p c → IsAt c (place_at q p)
+        stands : IsOpening t lists watch p c → IsAt c (place_at q p)
         stands o = record {
           reads = λ r d e.
               ap (next_at q.queues) (own o r ∙ e) ∙ taken_zero t lists q.queues first d _ refl ∙
@@ -61,9 +62,9 @@ laid_first t code lists watch taps q wired same cells_open names first = record 
 
 -- one cell more
 pub opening_more : (t : Program) (lists : Lists) (watch : Option ℕ) (cells all : List Told) (n : ℕ) (c : Told) → AreOpeningCells t lists watch cells n →
-    IsOpeningCell t lists watch n c → all ≡ cells ++ c ∷ [] → AreOpeningCells t lists watch all (n + 1)
+    IsOpening t lists watch n c → all ≡ cells ++ c ∷ [] → AreOpeningCells t lists watch all (n + 1)
 opening_more t lists watch cells all n c h o is =
-    let r = one_first (IsOpeningCell t lists watch) cells all c n (record { count = h.count; each = h.each }) is o in
+    let r = one_first (IsOpening t lists watch) cells all c n (record { count = h.count; each = h.each }) is o in
     record { count = r.count; each = r.each }
 
 -- and it let go of nothing

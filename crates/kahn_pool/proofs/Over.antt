@@ -13,10 +13,11 @@ use Rattle.kahn_job.specs.inner.Lanes.{AreBehindOn, AreJoinedOn, end_in}
 use Rattle.kahn_job.specs.inner.Works.{Work}
 use Rattle.kahn_job.proofs.Idles.{Here, here_or}
 use Rattle.kahn_job.proofs.Settles.{same_lanes}
-use Rattle.kahn_crew.specs.declared.standing.Standing.TheVariants as standing
-use Rattle.kahn_crew.specs.inner.Tasks.{Tasked, handed_to_task, is_over, task_rows, work_of}
+use Rattle.kahn_job.specs.declared.standing.Standing.TheVariants as standing
+use Rattle.kahn_job.specs.inner.Tasks.{Tasked}
+use Rattle.kahn_crew.specs.inner.Tasks.{handed_to_task, is_over, task_rows, work_of}
 use Rattle.kahn_crew.specs.inner.Left.{AreAll, HaveGone, IsQuietTask, IsOver, task_events}
-use Rattle.kahn_pool.specs.inner.Rested.{AreEndsOfTasks, AreTasks, HaveSettledTasks, IsInstanceTask, IsSettledTask, IsToldAs, SettlesTo, cell_of, state_of_tasks}
+use Rattle.kahn_pool.specs.inner.Rested.{IsLentTo, AreEndsOfTasks, AreTasks, HaveSettledTasks, IsInstanceTask, IsSettledTask, IsToldAs, SettlesTo, cell_of, state_of_tasks}
 use Rattle.kahn_streams.specs.declared.answer.End.{End}
 use Rattle.kahn_streams.specs.declared.answer.Outcome.TheVariants as outcome
 use Rattle.kahn_streams.specs.declared.answer.Verdict.{Verdict}
@@ -67,11 +68,6 @@ module _ (t : Program) (lists : Lists) (watch : Option ℕ) (bound : ℕ) (first
       let b = gone.ready.count in
       got first p (omega (arith, l, a, b))
 
-  pub left_network : (p : ℕ) (x : Tasked) → slice_get old p ≡ Some x → x.work.cell.network ≡ t
-  left_network p x e =
-      let y = first_at p x e in
-      (gone.later p y.0 x y.1 e).network ∙ (gone.ready.each p y.0 y.1).network
-
   left_task : (p : ℕ) (x : Tasked) → slice_get old p ≡ Some x → IsInstanceTask t lists watch p x
   left_task p x e =
       let y = first_at p x e in
@@ -84,8 +80,11 @@ module _ (t : Program) (lists : Lists) (watch : Option ℕ) (bound : ℕ) (first
         watched = l.watch ∙ o.watched;
       }
 
-  pub left_bound : bound < 2 ^ 48 → (p : ℕ) (x : Tasked) → slice_get old p ≡ Some x → x.work.cell.events < 2 ^ 48
-  left_bound b p x e = let m = at_most old p x e in let s = gone.events in omega (arith, b, m, s)
+  -- it may be asked once more
+  pub left_lent : (compiled : Program) → compiled ≡ t → bound < 2 ^ 48 → (p : ℕ) (x : Tasked) → slice_get old p ≡ Some x → IsLentTo compiled t lists x
+  left_lent compiled same b p x e =
+      let k = left_task p x e in
+      (same ∙ sym k.network, sym k.network, sym k.input, let m = at_most old p x e in let s = gone.events in omega (arith, b, m, s))
 
   lane_of : (p q : ℕ) (x y : Tasked) (at : slice_get first p ≡ Some y) (e : slice_get old p ≡ Some x) → (end_at x.work.ends q).lane ≡ (end_at y.work.ends q).lane
   lane_of p q x y at e = ((gone.later p y x at e).ends.same q).lane

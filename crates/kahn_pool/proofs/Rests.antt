@@ -26,8 +26,9 @@ use Rattle.kahn_job.specs.inner.Ends.{IsBehind, IsReady}
 use Rattle.kahn_job.specs.inner.Lanes.{AreBehindOn, end_in}
 use Rattle.kahn_job.proofs.Idles.{row_there}
 use Rattle.kahn_job.specs.inner.Berths.{Serves, end_at}
-use Rattle.kahn_crew.specs.declared.standing.Standing.TheVariants as standing
-use Rattle.kahn_crew.specs.inner.Tasks.{Tasked, handed_to_task, task_rows, work_of}
+use Rattle.kahn_job.specs.declared.standing.Standing.TheVariants as standing
+use Rattle.kahn_job.specs.inner.Tasks.{Tasked}
+use Rattle.kahn_crew.specs.inner.Tasks.{handed_to_task, task_rows, work_of}
 use Rattle.kahn_crew.proofs.Started.{at_mapped}
 use Rattle.kahn_crew.specs.inner.Left.{AreAll}
 use Rattle.kahn_pool.specs.inner.Rested.{AreTasks, AreTold, IsDryOf, IsEndOf, IsSaid, IsSettledTask, IsInstanceTask, IsToldAs, cell_of, state_of_tasks}

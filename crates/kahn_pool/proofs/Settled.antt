@@ -13,9 +13,9 @@ use Rattle.kahn_job.specs.inner.Ends.{End, IsReady}
 use Rattle.kahn_job.specs.inner.Berths.{IsWithinInput, end_at}
 use Rattle.kahn_job.specs.inner.Ways.{no_end}
 use Rattle.kahn_job.specs.inner.Works.{Work}
-use Rattle.kahn_crew.specs.declared.standing.Standing.{Standing}
-use Rattle.kahn_crew.specs.declared.standing.Standing.TheVariants as standing
-use Rattle.kahn_crew.specs.inner.Tasks.{Tasked, Continues, IsTrueOf, standing_after}
+use Rattle.kahn_job.specs.declared.standing.Standing.{Standing}
+use Rattle.kahn_job.specs.declared.standing.Standing.TheVariants as standing
+use Rattle.kahn_job.specs.inner.Tasks.{Tasked, Continues, IsTrueOf, standing_after}
 use Rattle.kahn_pool.proofs.Benched.{some_one}
 use Rattle.kahn_pool.proofs.Lists.{set_get, set_else}
 use Rattle.kahn_job.proofs.Berthed.{past_none}

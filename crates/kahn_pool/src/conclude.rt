@@ -29,9 +29,9 @@ pub(crate) struct Conclusion {
 
 /// The jobs, the ends and the verdict of a run that is over: `Memory` exactly where it was halted. The lists that are given
 /// have room for the jobs and for the ends. It takes no memory.
-pub(crate) fn conclude<'n, L: Ledger>(
-    part: &Part<'n>,
-    mut left: Left<'n>,
+pub(crate) fn conclude<L: Ledger>(
+    part: &Part<'_>,
+    mut left: Left,
     idles: Vec<Idle>,
     ends: Vec<End>,
     steps: &mut Steps<L>,
@@ -40,12 +40,12 @@ pub(crate) fn conclude<'n, L: Ledger>(
     requires over { IsOver part.now.network.now part.now.input.now left.tasks.items left.budget left.halted }
     requires idles { (idles.items ≡ []) × (length (network_of part.now.network.now).instances ≤ vec_capacity idles) }
     requires ends { length (network_of part.now.network.now).instances ≤ vec_capacity ends }
-    ensures concluded { IsConclusion part.now left.entry.halted result }
-    ensures cells { cells_of result.idles.items ≡ map cell_of left.entry.tasks.items }
-    ensures verdict { result.verdict ≡ verdict.Memory ↔ left.entry.halted ≡ true }
+    ensures concluded { IsConclusion part.now left.halted result }
+    ensures cells { cells_of result.idles.items ≡ map cell_of left.tasks.items }
+    ensures verdict { result.verdict ≡ verdict.Memory ↔ left.halted ≡ true }
 {
     let _program = part.network.program();
-    settle_all(&mut left.tasks, part.code, steps);
+    settle_all(&mut left.tasks, part.code, part.network, part.input, steps);
     let ends = ends_of(part.network, part.input, &left.tasks, ends);
     let verdict = verdict_of(left.halted, &ends);
     let idles = rest_all(left.tasks, idles);

@@ -3,11 +3,11 @@
 ghost use Rattle.std.specs.Prelude.{◌≡◌, ◌↔◌, ℕ, ◌<◌, ◌≤◌, length, Some, IfSome, IfNone, IsTrue, slice_get, vec_capacity};
 ghost use Rattle.kahn_streams.specs.Network.{network_of, instance_at, actual_at, Reads};
 ghost use Rattle.kahn_crew.specs.inner.Left.{AreAll};
-ghost use Rattle.kahn_crew.specs.inner.Tasks.{Tasked};
+ghost use Rattle.kahn_job.specs.inner.Tasks.{Tasked};
 ghost use Rattle.kahn_pool.specs.inner.Rested.{AreEndsOfTasks, AreTold, IsDryOf, IsEndOf, IsToldAs};
-ghost use Rattle.kahn_crew.specs.declared.standing.Standing.TheVariants as standing;
+ghost use Rattle.kahn_job.specs.declared.standing.Standing.TheVariants as standing;
 
-use kahn_crew::{Standing, Task};
+use kahn_job::{Standing, Task};
 use kahn_streams::{End, Input, Network, Outcome, Side};
 
 // Whether it is this parameter of this instance.

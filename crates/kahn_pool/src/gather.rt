@@ -89,9 +89,9 @@ fn streams_of(
 
 /// The answer of the tasks that the workers left, of a run in one part. Its verdict is `Memory` exactly where the run was
 /// halted, which it was only where memory was refused to a worker. It takes no memory: the room is given.
-pub(crate) fn answer_of<'n, L: Ledger>(
-    part: &Part<'n>,
-    left: Left<'n>,
+pub(crate) fn answer_of<L: Ledger>(
+    part: &Part<'_>,
+    left: Left,
     room: Room,
     steps: &mut Steps<L>,
 ) -> Answer
@@ -100,8 +100,8 @@ pub(crate) fn answer_of<'n, L: Ledger>(
     requires room { IsRoom part.now.network.now part.now.input.now part.now.plan.watch room }
     requires cause { left.halted ≡ true → left.wanted ≡ true }
     ensures right { IsRight (network_of part.now.network.now) (inputs_of part.now.input.now) part.now.bound part.now.plan.watch result }
-    ensures verdict { result.verdict ≡ verdict.Memory ↔ left.entry.halted ≡ true }
-    ensures memory { result.verdict ≡ verdict.Memory → left.entry.wanted ≡ true }
+    ensures verdict { result.verdict ≡ verdict.Memory ↔ left.halted ≡ true }
+    ensures memory { result.verdict ≡ verdict.Memory → left.wanted ≡ true }
 {
     let Room {
         idles,

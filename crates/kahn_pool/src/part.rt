@@ -11,8 +11,8 @@ ghost use Rattle.kahn_pool.specs.inner.Rested.{cell_of};
 use crate::conclude::{Conclusion, conclude};
 use crate::settle::settle_all;
 use kahn_code::{Code, Steps};
-use kahn_crew::{CrewFault, Gate, Left, Plan, Task, first_tasks, rest_all, run_tasks, wake_all};
-use kahn_job::{Idle, settle};
+use kahn_crew::{CrewFault, Gate, Left, Plan, first_tasks, rest_all, run_tasks, wake_all};
+use kahn_job::{Idle, Task, settle};
 use kahn_streams::{End, Input, Network, NoMemory, Verdict};
 use std::alloc::Global;
 use std::marker::Brand;
@@ -22,15 +22,15 @@ use std::thread::Threads;
 
 /// Room for the tasks of a part of a run, for the jobs that they leave, and for their ends.
 #[derive(Drop)]
-pub(crate) struct PartRoom<'n> {
-    pub(crate) tasks: Vec<Task<'n>>,
+pub(crate) struct PartRoom {
+    pub(crate) tasks: Vec<Task>,
     pub(crate) idles: Vec<Idle>,
     pub(crate) ends: Vec<End>,
 }
 
-impl<'n> PartRoom<'n> {
+impl PartRoom {
     /// Room for so many of each. It refuses only where memory was refused.
-    pub(crate) fn new(alloc: Global, instances: usize) -> Result<PartRoom<'n>, NoMemory>
+    pub(crate) fn new(alloc: Global, instances: usize) -> Result<PartRoom, NoMemory>
         ensures { IfOk result (IsRoomFor instances) }
     {
         let tasks = Vec::with_capacity(alloc, instances)?;
@@ -81,7 +81,7 @@ fn first_counted<L: Ledger>(
     let room = Vec::with_capacity(alloc, network.instances())?;
     let mut tasks = first_tasks(alloc, network, input, code, watch)?;
     let _program = network.program();
-    settle_all(&mut tasks, code, &mut steps);
+    settle_all(&mut tasks, code, network, input, &mut steps);
     Ok(rest_all(tasks, room))
 }
 
@@ -101,10 +101,10 @@ pub(crate) fn first_idles(
 }
 
 // The jobs of a run that was given up.
-fn give_up<'n, L: Ledger>(
+fn give_up<L: Ledger>(
     fault: CrewFault,
-    part: &Part<'n>,
-    mut left: Left<'n>,
+    part: &Part<'_>,
+    mut left: Left,
     idles: Vec<Idle>,
     ends: Vec<End>,
     steps: &mut Steps<L>,
@@ -112,11 +112,11 @@ fn give_up<'n, L: Ledger>(
     requires left { HaveAllLeft part.now left }
     requires idles { (idles.items ≡ []) × (length (network_of part.now.network.now).instances ≤ vec_capacity idles) }
     ensures held { AreHeldBy part.now result.idles.items result.budget }
-    ensures cells { cells_of result.idles.items ≡ map cell_of left.entry.tasks.items }
-    ensures outcome { (result.outcome ≡ Err fault) × (result.budget ≡ left.entry.budget) }
+    ensures cells { cells_of result.idles.items ≡ map cell_of left.tasks.items }
+    ensures outcome { (result.outcome ≡ Err fault) × (result.budget ≡ left.budget) }
 {
     let _program = part.network.program();
-    settle_all(&mut left.tasks, part.code, steps);
+    settle_all(&mut left.tasks, part.code, part.network, part.input, steps);
     Stopped {
         idles: rest_all(left.tasks, idles),
         budget: left.budget,
@@ -126,13 +126,13 @@ fn give_up<'n, L: Ledger>(
 }
 
 // Runs idle jobs whose ends have settled for the input.
-fn run_settled<'n, R: Threads + Wait + Sync, G: Gate + Sync, L: Ledger>(
+fn run_settled<R: Threads + Wait + Sync, G: Gate + Sync, L: Ledger>(
     rt: &R,
     alloc: Global,
     blank: Blank,
-    part: &Part<'n>,
+    part: &Part<'_>,
     idles: Vec<Idle>,
-    room: PartRoom<'n>,
+    room: PartRoom,
     gate: &G,
 ) -> Stopped
     requires name { blank.name ≡ L.name }
@@ -172,12 +172,12 @@ fn run_settled<'n, R: Threads + Wait + Sync, G: Gate + Sync, L: Ledger>(
 }
 
 // The same, with a ledger of its own.
-fn run_marked<'n, R: Threads + Wait + Sync, G: Gate + Sync>(
+fn run_marked<R: Threads + Wait + Sync, G: Gate + Sync>(
     rt: &R,
     alloc: Global,
-    part: &Part<'n>,
+    part: &Part<'_>,
     idles: Vec<Idle>,
-    room: PartRoom<'n>,
+    room: PartRoom,
     gate: &G,
 ) -> Stopped
     requires part { IsHeldPart part.now idles.items }
@@ -210,13 +210,13 @@ fn settle_ends(
 ///
 /// Where memory was refused before the first event each job is as it was; where a thread couldn't be started those that
 /// were are halted and gathered, and the jobs are where they were left.
-pub(crate) fn run_part<'n, R: Threads + Wait + Sync, G: Gate + Sync>(
+pub(crate) fn run_part<R: Threads + Wait + Sync, G: Gate + Sync>(
     rt: &R,
     alloc: Global,
     _whole: Plan,
-    part: &Part<'n>,
+    part: &Part<'_>,
     idles: Vec<Idle>,
-    room: PartRoom<'n>,
+    room: PartRoom,
     gate: &G,
 ) -> Stopped
     requires part { IsHeldPart part.now idles.items }

@@ -1,13 +1,14 @@
 //! Each task that may go on is asked once more what comes next.
 
-ghost use Rattle.std.specs.Prelude.{◌≡◌, ℕ, ◌^◌, ◌<◌, length, Some, slice_get};
+ghost use Rattle.std.specs.Prelude.{◌≡◌, ℕ, Some, slice_get};
 ghost use Rattle.kahn_job.specs.inner.Berths.{IsWithinInput, end_at};
-ghost use Rattle.kahn_crew.specs.inner.Tasks.{Tasked};
-ghost use Rattle.kahn_pool.specs.inner.Rested.{HaveSettledTasks, IsSettledTask, SettlesTo};
-ghost use Rattle.kahn_crew.specs.declared.standing.Standing.TheVariants as standing;
+ghost use Rattle.kahn_job.specs.inner.Tasks.{Tasked};
+ghost use Rattle.kahn_pool.specs.inner.Rested.{HaveSettledTasks, IsLentTo, IsSettledTask, SettlesTo};
+ghost use Rattle.kahn_job.specs.declared.standing.Standing.TheVariants as standing;
 
 use kahn_code::{Code, Steps};
-use kahn_crew::{Standing, Task};
+use kahn_job::{Standing, Task};
+use kahn_streams::{Input, Network};
 use std::sync::ledger::Ledger;
 
 // Says that of an input channel no more is ready than its list has: its contract is what it does.
@@ -30,37 +31,52 @@ fn keep(task: &Task)
 }
 
 // Asks a task that may go on what comes next. No event is done, and no memory is taken.
-fn ask<L: Ledger>(task: &mut Task, code: &Code, steps: &mut Steps<L>)
+fn ask<L: Ledger>(
+    task: &mut Task,
+    code: &Code,
+    network: &Network,
+    input: &Input,
+    steps: &mut Steps<L>,
+)
     requires going { task.old.standing ≡ standing.Going }
-    requires code { code.now.network.value ≡ task.old.work.cell.network }
-    requires bound { task.old.work.cell.events < 2 ^ 48 }
+    requires lent { IsLentTo code.now.network.value network.now input.now task.old }
     ensures { SettlesTo task.old task.new }
 {
-    let _pause = task.run(code, 0, steps);
+    let _pause = task.run(code, network, input, 0, steps);
     let _parameters = task.parameters();
     fed(task);
 }
 
 // Asks a task what comes next, where it may go on.
-fn settle<L: Ledger>(task: &mut Task, code: &Code, steps: &mut Steps<L>)
-    requires code { code.now.network.value ≡ task.old.work.cell.network }
-    requires bound { task.old.work.cell.events < 2 ^ 48 }
+fn settle<L: Ledger>(
+    task: &mut Task,
+    code: &Code,
+    network: &Network,
+    input: &Input,
+    steps: &mut Steps<L>,
+)
+    requires { IsLentTo code.now.network.value network.now input.now task.old }
     ensures { SettlesTo task.old task.new }
 {
     if task.standing() == Standing::Going {
-        ask(task, code, steps);
+        ask(task, code, network, input, steps);
     } else {
         keep(task);
     }
 }
 
 /// Asks each task that may go on what comes next.
-pub fn settle_all<L: Ledger>(tasks: &mut Vec<Task>, code: &Code, steps: &mut Steps<L>)
-    requires code { (p : ℕ) (x : Tasked) → slice_get tasks.old.items p ≡ Some x → code.now.network.value ≡ x.work.cell.network }
-    requires bound { (p : ℕ) (x : Tasked) → slice_get tasks.old.items p ≡ Some x → x.work.cell.events < 2 ^ 48 }
+pub fn settle_all<L: Ledger>(
+    tasks: &mut Vec<Task>,
+    code: &Code,
+    network: &Network,
+    input: &Input,
+    steps: &mut Steps<L>,
+)
+    requires { (p : ℕ) (x : Tasked) → slice_get tasks.old.items p ≡ Some x → IsLentTo code.now.network.value network.now input.now x }
     ensures { HaveSettledTasks tasks.old.items tasks.new.items }
 {
     for instance in 0..tasks.len() {
-        settle(&mut tasks[instance], code, steps);
+        settle(&mut tasks[instance], code, network, input, steps);
     }
 }

@@ -7,19 +7,11 @@ use Rattle.kahn_streams.specs.Inputs.{Lists, inputs_of}
 use Rattle.kahn_streams.specs.Answers.{is_output}
 use Rattle.kahn_code.specs.Standing.{count}
 use Rattle.kahn_job.specs.inner.Lanes.{AreJoinedOn}
-use Rattle.kahn_job.specs.inner.Works.{Work, IsDelivered}
+use Rattle.kahn_job.specs.inner.Works.{IsDelivered}
 use Rattle.kahn_board.specs.Dealt.{dealt, events_told}
 use Rattle.kahn_board.specs.declared.rule.Terms.{Terms}
-use Rattle.kahn_crew.specs.declared.standing.Standing.TheVariants as standing
-use Rattle.kahn_crew.specs.inner.Tasks.{Tasked, task_rows, told_tale}
-
--- the task of a job that may go on, of which all that it sent is published
-abbrev pub ready_task : Work → Tasked
-ready_task w = record { work = w; standing = standing.Going; published = w.cell.sent }
-
--- the task of an idle job that goes on with this input
-abbrev pub woken_task : Lists → Work → Tasked
-woken_task lists w = ready_task (record w { cell = record w.cell { input = lists } })
+use Rattle.kahn_job.specs.inner.Tasks.{Tasked}
+use Rattle.kahn_crew.specs.inner.Tasks.{task_rows, told_tale}
 
 -- the task is that of instance p, which may go on; all that it sent was flushed, and counts as published
 pub record IsReadyTask (t : Program) (lists : Lists) (watch : Option ℕ) (p : ℕ) (x : Tasked) : Type 0 where

@@ -10,8 +10,9 @@ use Rattle.kahn_board.specs.declared.rule.Terms.{Terms}
 use Rattle.kahn_crew.specs.inner.Begins.{AreReadyTasks, most_events}
 use Rattle.kahn_crew.specs.declared.left.Left.{Left}
 use Rattle.kahn_crew.specs.declared.plan.Plan.{Plan}
-use Rattle.kahn_crew.specs.declared.standing.Standing.TheVariants as standing
-use Rattle.kahn_crew.specs.inner.Tasks.{Tasked, Continues, handed_to_task, is_over, told_tale}
+use Rattle.kahn_job.specs.declared.standing.Standing.TheVariants as standing
+use Rattle.kahn_job.specs.inner.Tasks.{Tasked, Continues}
+use Rattle.kahn_crew.specs.inner.Tasks.{handed_to_task, is_over, told_tale}
 
 abbrev pub task_events : Tasked → ℕ
 task_events x = x.work.cell.events

@@ -3,9 +3,10 @@ use Rattle.std.specs.Prelude.{◌≡◌, ℕ, length}
 use mathlib.Core.Option.{some}
 use lib.ListN.{get_elem?}
 use Rattle.kahn_streams.specs.declared.tree.Program.{Program}
+use Rattle.kahn_streams.specs.Inputs.{Lists}
 use Rattle.kahn_board.specs.Dealt.{wired}
 use Rattle.kahn_board.specs.declared.rule.Terms.{Terms}
-use Rattle.kahn_crew.specs.inner.Tasks.{Tasked}
+use Rattle.kahn_job.specs.inner.Tasks.{Tasked}
 
 -- the task is that of the instance p of this program
 abbrev pub IsTaskOf : Program → ℕ → Tasked → Type 0
@@ -17,3 +18,7 @@ pub record FitTogether (key : Terms Tasked) (lent compiled : Program) : Type 0 w
   pub code : compiled ≡ key.network.value
   pub count : length key.cells.value.items ≡ (wired key).instances
   pub cells : (p : ℕ) (x : Tasked) → get_elem? key.cells.value.items p ≡ some x → IsTaskOf key.network.value p x
+
+-- and the input is that of each task
+abbrev pub AreOnInput : Terms Tasked → Lists → Type 0
+AreOnInput key lists = (p : ℕ) (x : Tasked) → get_elem? key.cells.value.items p ≡ some x → x.work.cell.input ≡ lists

@@ -10,8 +10,9 @@ use Rattle.kahn_board.specs.inner.Turn.{EndsTurn, SetsStill}
 use Rattle.kahn_crew.specs.declared.run.Run.{Run}
 use Rattle.kahn_crew.specs.declared.turn.Due.{Due}
 use Rattle.kahn_crew.specs.declared.turn.Due.TheVariants as due
-use Rattle.kahn_crew.specs.declared.standing.Standing.TheVariants as standing
-use Rattle.kahn_crew.specs.inner.Tasks.{IsLater, Tasked, told_tale}
+use Rattle.kahn_job.specs.declared.standing.Standing.TheVariants as standing
+use Rattle.kahn_job.specs.inner.Tasks.{Tasked}
+use Rattle.kahn_crew.specs.inner.Tasks.{IsLater, told_tale}
 use Rattle.kahn_crew.specs.inner.Turns.{SitsIn, terms_of}
 
 -- the task of p may be set down so: it may go on; or it has ended; or it waits on the channel, which it reads

@@ -1,30 +1,16 @@
--- Inner. What contracts see of a task, and what it tells the board.
-use Rattle.std.specs.Prelude.{◌≡◌, ◌≤◌, ℕ, suc, Bool, true, false, List, [], ◌∷◌, map, Option, Some, None, if◌then◌else◌, ◌==◌}
+-- Inner. What a task tells the board.
+use Rattle.std.specs.Prelude.{◌≡◌, ℕ, suc, Bool, true, false, List, [], ◌∷◌, map, Option, Some, None, if◌then◌else◌, ◌==◌}
 use Rattle.kahn_streams.specs.Network.{Network, Actual, Reads, Writes, Hands, network_of, instance_at, actual_at, role_at}
-use Rattle.kahn_streams.specs.Meaning.{Store}
-use Rattle.kahn_streams.specs.Script.{Outcome, Dry as IsDryAt}
-use Rattle.kahn_streams.specs.Solution as end
-use Rattle.kahn_streams.specs.Solution.{ending}
-use Rattle.kahn_streams.specs.Inputs.{inputs_of}
-use Rattle.kahn_code.specs.declared.progress.Pause.{Pause}
-use Rattle.kahn_code.specs.declared.progress.Pause.TheVariants as pause
 use Rattle.kahn_streams.specs.Answers.{is_output}
-use Rattle.kahn_code.specs.Progress.{Paused}
 use Rattle.kahn_code.specs.Standing.{count}
-use Rattle.kahn_code.specs.Told.{told_view}
-use Rattle.kahn_job.specs.inner.Berths.{HaveAdvanced, end_at}
+use Rattle.kahn_job.specs.inner.Berths.{end_at}
 use Rattle.kahn_job.specs.inner.Ends.{End}
 use Rattle.kahn_job.specs.inner.Idles.{rows_of}
+use Rattle.kahn_job.specs.inner.Tasks.{Continues, Tasked}
 use Rattle.kahn_job.specs.inner.Works.{Work}
 use Rattle.kahn_board.specs.Tale.{Tale}
-use Rattle.kahn_crew.specs.declared.standing.Standing.{Standing}
-use Rattle.kahn_crew.specs.declared.standing.Standing.TheVariants as standing
-
--- a job, where its process stood when it was last run, and by parameter how many of the tokens that it sent are published
-pub record Tasked : Type 0 where
-  pub work : Work
-  pub standing : Standing
-  pub published : List ℕ
+use Rattle.kahn_job.specs.declared.standing.Standing.{Standing}
+use Rattle.kahn_job.specs.declared.standing.Standing.TheVariants as standing
 
 abbrev pub work_of : Tasked → Work
 work_of x = x.work
@@ -32,33 +18,6 @@ work_of x = x.work
 -- the ends of all tasks
 abbrev pub task_rows : List Tasked → List (List End)
 task_rows xs = rows_of (map work_of xs)
-
-abbrev pub standing_after : Pause → Standing
-standing_after pause.Spent = standing.Going
-standing_after pause.NoMemory = standing.Going
-standing_after pause.Ended = standing.Ended
-standing_after (pause.Fault k) = standing.Faulted k
-standing_after (pause.Dry q) = standing.Dry q
-
--- what a standing says of the outcome of the process on the values that it took
-abbrev pub TellsOutcome : Standing → Outcome Store → Type 0
-TellsOutcome standing.Going o = Unit {0}
-TellsOutcome standing.Ended o = ending o ≡ Some end.Ended
-TellsOutcome (standing.Faulted k) o = ending o ≡ Some (end.Faulted k)
-TellsOutcome (standing.Dry q) o = o ≡ IsDryAt q
-
-abbrev pub HasStanding : Work → Standing → Type 0
-HasStanding w s =
-    Paused (network_of w.cell.network) (inputs_of w.cell.input) w.cell.watch w.cell.instance (told_view w.cell) (TellsOutcome s)
-
--- where it has one, the standing is that of the process
-abbrev pub IsTrueOf : Work → Standing → Type 0
-IsTrueOf w standing.Going = Unit {0}
-IsTrueOf w standing.Ended = HasStanding w standing.Ended
-IsTrueOf w (standing.Faulted k) = HasStanding w (standing.Faulted k)
-IsTrueOf w (standing.Dry q) = HasStanding w (standing.Dry q)
-
--- ---- what a task tells the board
 
 -- what is handed to a parameter of the task's instance
 abbrev pub handed_to_task : Work → ℕ → Actual
@@ -127,17 +86,6 @@ tale_of t = record {
 
 abbrev pub told_tale : Tasked → Option Tale
 told_tale t = Some (tale_of t)
-
--- the second continues the first: of the same instance of the same network and input, with the same ends; and where it did
--- no event, its cell is as it was
-pub record Continues (old new : Tasked) : Type 0 where
-  pub network : new.work.cell.network ≡ old.work.cell.network
-  pub input : new.work.cell.input ≡ old.work.cell.input
-  pub instance : new.work.cell.instance ≡ old.work.cell.instance
-  pub watch : new.work.cell.watch ≡ old.work.cell.watch
-  pub ends : HaveAdvanced old.work.ends new.work.ends
-  pub events : old.work.cell.events ≤ new.work.cell.events
-  pub still : new.work.cell.events ≡ old.work.cell.events → new.work.cell ≡ old.work.cell
 
 -- the number of tokens published by each parameter that writes a channel between processes is the one that is known of the channel
 abbrev pub AgreesWith : Work → List ℕ → List ℕ → Type 0

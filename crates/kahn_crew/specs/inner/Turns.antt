@@ -9,7 +9,8 @@ use Rattle.kahn_board.specs.declared.view.View.{View}
 use Rattle.kahn_board.specs.inner.Turn.{BeginsTurn, HoldsInTurn, IsBetween}
 use Rattle.kahn_crew.specs.declared.run.Run.{Run}
 use Rattle.kahn_crew.specs.inner.Lent.{IsTaskOf}
-use Rattle.kahn_crew.specs.inner.Tasks.{AgreesWith, Continues, IsLater, Tasked, told_tale}
+use Rattle.kahn_job.specs.inner.Tasks.{Continues, Tasked}
+use Rattle.kahn_crew.specs.inner.Tasks.{AgreesWith, IsLater, told_tale}
 
 abbrev pub terms_of : Run → Terms Tasked
 terms_of run = run.board.now.table.shared.key

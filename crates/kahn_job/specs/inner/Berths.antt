@@ -1,25 +1,16 @@
 -- Inner. What contracts see of the ends of an instance's channels.
 use Rattle.std.specs.Prelude.{◌≡◌, ◌⊎◌, ℕ, ◌<◌, ◌≤◌, true, false, List, length, map, None, Some, slice_index_or}
+use Rattle.std.specs.Coded.{Unit-prop}
+use Rattle.std.proofs.Props.{props}
 use Rattle.kahn_streams.specs.declared.tree.Program.{Program}
 use Rattle.kahn_streams.specs.declared.tree.Role.TheVariants.{Input}
 use Rattle.kahn_streams.specs.Network.{Actual, Reads, Writes, Hands, network_of, instance_at, actual_at, role_at}
 use Rattle.kahn_streams.specs.Inputs.{Lists, inputs_of}
 use Rattle.kahn_streams.specs.Answers.{is_output}
-use Rattle.kahn_code.specs.Seats.{Seat}
 use Rattle.kahn_lane.specs.declared.name.LaneName.{LaneName}
-use Rattle.kahn_lane.specs.Places.{lane_name}
+use Rattle.kahn_lane.specs.Places.{lane_name, name-prop}
 use Rattle.kahn_job.specs.inner.Ends.{End, Identity, IsSame, IsReady, IsFlushed, identity_of}
 use Rattle.kahn_job.specs.inner.Ways.{no_end}
-
--- the network, the input and the instance, and the end that each parameter has
-pub record Berth : Type 0 where
-  pub network : Program
-  pub input : Lists
-  pub instance : ℕ
-  pub ends : List End
-
-abbrev pub seat_at : Berth → Seat
-seat_at b = record { network = b.network; input = b.input; instance = b.instance }
 
 abbrev pub end_at : List End → ℕ → End
 end_at ends q = slice_index_or ends q no_end
@@ -29,6 +20,11 @@ abbrev pub Serves : Program → Lists → Actual → End → Type 0
 Serves t lists (Reads d) e = (e.reads ≡ true) × (e.name ≡ Some (lane_name t lists d)) × (role_at (network_of t) d ≡ Input → e.lane ≡ None)
 Serves t lists (Writes d) e = is_output (role_at (network_of t) d) ≡ false → (e.writes ≡ true) × (e.name ≡ Some (lane_name t lists d))
 Serves t lists (Hands v) e = Unit {0}
+
+pub Serves-prop : (t : Program) (lists : Lists) (a : Actual) (e : End) → IsProp (Serves t lists a e)
+Serves-prop t lists (Reads d) e = Prim.hlevel (props, name-prop)
+Serves-prop t lists (Writes d) e = Prim.hlevel (props, name-prop)
+Serves-prop t lists (Hands v) e = Unit-prop
 
 -- a channel of which it is an end is one of this network, for this input
 abbrev pub IsFor : Program → Lists → End → Type 0

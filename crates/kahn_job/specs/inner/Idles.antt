@@ -1,5 +1,5 @@
 -- Inner. Jobs on which nobody works.
-use Rattle.std.specs.Prelude.{◌≡◌, ℕ, ◌<◌, false, List, [], length, map, Some, slice_get, slice_index_or}
+use Rattle.std.specs.Prelude.{◌≡◌, ℕ, false, List, [], length, map, Some, slice_get, slice_index_or}
 use Rattle.kahn_streams.specs.declared.tree.Program.{Program}
 use Rattle.kahn_streams.specs.Network.{Writes, network_of, instance_at, actual_at, role_at}
 use Rattle.kahn_streams.specs.Solution.{AreInputsExtended}
@@ -10,7 +10,7 @@ use Rattle.kahn_job.specs.inner.Ends.{End, IsFlushed}
 use Rattle.kahn_job.specs.inner.Berths.{AreServed, end_at}
 use Rattle.kahn_job.specs.inner.Lanes.{AreJoinedOn, HaveStayed, end_in}
 use Rattle.kahn_job.specs.inner.Settling.{AreResting}
-use Rattle.kahn_job.specs.inner.Works.{Work, IsJob}
+use Rattle.kahn_job.specs.inner.Works.{Work, IsJob, grown_work}
 
 abbrev pub rows_of : List Work → List (List End)
 rows_of ws = map (λ w. w.ends) ws
@@ -44,12 +44,8 @@ pub record AreIdle (t : Program) (lists : Lists) (ws : List Work) : Type 0 where
   pub resting : AreResting t lists (rows_of ws)
 
 -- the job may go on with this input: its ends are those of its cell's channels for this input, and stand where the cell stands
-pub record CanGoOn (t : Program) (lists : Lists) (w : Work) : Type 0 where
-  pub network : w.cell.network ≡ t
-  pub grown : AreInputsExtended (inputs_of w.cell.input) (inputs_of lists)
-  pub here : w.cell.instance < length (network_of t).instances
-  pub served : AreServed t lists w.cell.instance w.ends
-  pub at : IsAt w.cell (λ q. (end_at w.ends q).next)
+abbrev pub CanGoOn : Lists → Work → Type 0
+CanGoOn lists w = AreInputsExtended (inputs_of w.cell.input) (inputs_of lists) × IsJob (grown_work lists w)
 
 -- all ends are those of the channels for this input, and what was put is flushed
 pub record HaveSettled (t : Program) (lists : Lists) (rows : List (List End)) : Type 0 where

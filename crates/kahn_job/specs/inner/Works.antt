@@ -1,14 +1,14 @@
 -- Inner. What contracts see of a job: a cell with the ends of its channels.
 use Rattle.std.specs.Prelude.{◌≡◌, ℕ, ◌+◌, ◌<◌, false, List, length}
 use Rattle.kahn_streams.specs.Network.{Writes, network_of, instance_at, actual_at, role_at}
-use Rattle.kahn_streams.specs.Inputs.{inputs_of}
+use Rattle.kahn_streams.specs.Inputs.{Lists, inputs_of}
 use Rattle.kahn_code.specs.declared.progress.Pause.{Pause}
 use Rattle.kahn_streams.specs.Answers.{is_output}
 use Rattle.kahn_code.specs.Progress.{Paused, IsPause}
 use Rattle.kahn_code.specs.Standing.{count}
-use Rattle.kahn_code.specs.Told.{Told, IsAt, seat_of, told_view}
+use Rattle.kahn_code.specs.Told.{Told, IsAt, told_view}
 use Rattle.kahn_job.specs.inner.Ends.{End, IsDry, IsReady}
-use Rattle.kahn_job.specs.inner.Berths.{Berth, AreServed, end_at, seat_at}
+use Rattle.kahn_job.specs.inner.Berths.{AreServed, end_at}
 
 -- the cell, and the end that each of its parameters has
 pub record Work : Type 0 where
@@ -19,11 +19,9 @@ pub record Work : Type 0 where
 abbrev pub width_of : Work → ℕ
 width_of w = length (instance_at (network_of w.cell.network) w.cell.instance).actuals
 
--- the ends are those of the cell's instance, and stand where the cell stands
-pub record IsManned (c : Told) (b : Berth) : Type 0 where
-  pub seat : seat_at b ≡ seat_of c
-  pub here : c.instance < length (network_of c.network).instances
-  pub at : IsAt c (λ q. (end_at b.ends q).next)
+-- the same for this input
+abbrev pub grown_work : Lists → Work → Work
+grown_work lists w = record w { cell = record w.cell { input = lists } }
 
 -- the ends of a job are those of its cell's channels, and stand where the cell stands
 pub record IsJob (w : Work) : Type 0 where

@@ -21,7 +21,7 @@ use Rattle.kahn_pool.specs.declared.part.Part.{Part}
 use Rattle.kahn_pool.specs.declared.part.PartRoom.{PartRoom}
 use Rattle.kahn_pool.specs.declared.part.Stopped.{Stopped}
 use Rattle.kahn_crew.specs.inner.Left.{HaveGone}
-use Rattle.kahn_crew.specs.inner.Tasks.{Tasked}
+use Rattle.kahn_job.specs.inner.Tasks.{Tasked}
 use Rattle.kahn_crew.specs.inner.Wants.{IsLack}
 use Rattle.kahn_crew.specs.declared.left.Left.{Left}
 use Rattle.kahn_crew.specs.declared.plan.Plan.{Plan}

@@ -1,5 +1,5 @@
 -- Inner. How tasks stand when no more is run, and what stands in the answer for each.
-use Rattle.std.specs.Prelude.{◌≡◌, ◌⊎◌, ℕ, List, length, map, Option, Some, slice_get}
+use Rattle.std.specs.Prelude.{◌≡◌, ◌⊎◌, ℕ, ◌<◌, ◌^◌, List, length, map, Option, Some, slice_get}
 use Rattle.kahn_streams.specs.declared.tree.Program.{Program}
 use Rattle.kahn_streams.specs.Network.{Reads, network_of, instance_at, actual_at}
 use Rattle.kahn_streams.specs.Script as script
@@ -12,9 +12,10 @@ use Rattle.kahn_code.specs.Told.{Told, told_view}
 use Rattle.kahn_job.specs.inner.Ends.{IsReady}
 use Rattle.kahn_job.specs.inner.Berths.{IsWithinInput, end_at}
 use Rattle.kahn_job.specs.inner.Works.{Work, IsJob}
-use Rattle.kahn_crew.specs.declared.standing.Standing.{Standing}
-use Rattle.kahn_crew.specs.declared.standing.Standing.TheVariants as standing
-use Rattle.kahn_crew.specs.inner.Tasks.{Tasked, Continues, TellsOutcome, handed_to_task}
+use Rattle.kahn_job.specs.declared.standing.Standing.{Standing}
+use Rattle.kahn_job.specs.declared.standing.Standing.TheVariants as standing
+use Rattle.kahn_job.specs.inner.Tasks.{Tasked, Continues, TellsOutcome}
+use Rattle.kahn_crew.specs.inner.Tasks.{handed_to_task}
 use Rattle.kahn_crew.specs.inner.Left.{AreAll}
 use Rattle.kahn_pool.specs.inner.Bench.{RunState}
 use Rattle.kahn_streams.specs.declared.answer.End.{End}
@@ -52,6 +53,10 @@ IsSaid w (standing.Dry q) o = TellsOutcome (standing.Dry q) o
 abbrev pub Says : Work → Standing → Type 0
 Says w s =
     Paused (network_of w.cell.network) (inputs_of w.cell.input) w.cell.watch w.cell.instance (told_view w.cell) (IsSaid w s)
+
+-- the code, the network and the input are those of the task, and it did few events
+abbrev pub IsLentTo : Program → Program → Lists → Tasked → Type 0
+IsLentTo compiled t lists x = (compiled ≡ x.work.cell.network) × (t ≡ x.work.cell.network) × (lists ≡ x.work.cell.input) × (x.work.cell.events < 2 ^ 48)
 
 pub record IsSettledTask (x : Tasked) : Type 0 where
   pub says : Says x.work x.standing

@@ -12,6 +12,7 @@ use Rattle.kahn_code.specs.Told.{Told, told_view, IsAt}
 use Rattle.kahn_code.specs.declared.cell.Kept.{Kept}
 use Rattle.kahn_code.specs.inner.Gone.{Gone, kept_behind, nothing_gone}
 use Rattle.kahn_code.specs.inner.Tapped.{HasForgotten, Tapped}
+use Rattle.kahn_job.specs.inner.Openings.{IsOpening}
 use Rattle.kahn_pool.specs.inner.Bench.{Goes, RunState, all_events, events_at, weight}
 use Rattle.kahn_pool.specs.declared.rounds.Round.{Round}
 use Rattle.kahn_pool.specs.HeldRuns.{seen_at, seen_of}
@@ -137,20 +138,10 @@ pub record IsLaid (b : Table) : Type 0 where
   pub network : b.queues.network ≡ b.network
   pub input : b.queues.input ≡ b.input
 
--- the cell of instance p at its opening
-pub record IsOpeningCell (t : Program) (lists : Lists) (watch : Option ℕ) (p : ℕ) (c : Told) : Type 0 where
-  pub network : c.network ≡ t
-  pub input : c.input ≡ lists
-  pub instance : c.instance ≡ p
-  pub watched : c.watch ≡ watch
-  pub events : c.events ≡ 0
-  pub taken : c.taken ≡ replicate (length (instance_at (network_of t) p).actuals) 0
-  pub sent : c.sent ≡ replicate (length (instance_at (network_of t) p).actuals) 0
-
 -- the cells of the first n instances at their openings
 pub record AreOpeningCells (t : Program) (lists : Lists) (watch : Option ℕ) (cells : List Told) (n : ℕ) : Type 0 where
   pub count : length cells ≡ n
-  pub each : (p : ℕ) (c : Told) → slice_get cells p ≡ Some c → IsOpeningCell t lists watch p c
+  pub each : (p : ℕ) (c : Told) → slice_get cells p ≡ Some c → IsOpening t lists watch p c
 
 -- the streams of an answer before any cell's token was moved there: an input channel has its whole list
 pub record AreOpen (t : Program) (lists : Lists) (watch : Option ℕ) (streams : List Stream) : Type 0 where

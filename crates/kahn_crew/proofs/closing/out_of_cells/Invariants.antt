@@ -1,6 +1,6 @@
 use Rattle.std.proofs.Common.{◌≡◌, ◌≤◌, ◌+◌, ◌++◌, List, length, map, reverse, Some}
 use Rattle.std.specs.Vec.{vec_capacity}
-use Rattle.kahn_crew.specs.inner.Tasks.{Tasked}
+use Rattle.kahn_job.specs.inner.Tasks.{Tasked}
 use Rattle.kahn_crew.proofs.closing.out_of_cells.Given as goal
 
 abbrev pub invariant-loop-cell : goal.invariant-loop-cell

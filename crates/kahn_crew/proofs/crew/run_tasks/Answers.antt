@@ -1,6 +1,6 @@
 use Rattle.std.proofs.Common.{◌∙◌}
 use Rattle.kahn_crew.proofs.Ended.{untouched_gone, untouched_here}
-use Rattle.kahn_crew.proofs.Started.{fits_of}
+use Rattle.kahn_crew.proofs.Started.{fits_of, on_input}
 use Rattle.kahn_crew.proofs.crew.run_tasks.Goals as goal
 
 pub returns-in_default-clause-refused : goal.returns-in_default-clause-refused
@@ -16,6 +16,7 @@ returns-in-Err-clause-refused g c =
 pub invariant_of-run : goal.invariant_of-run
 invariant_of-run g c = record {
   fits = fits_of c.args.network.now c.args.input.now c.args.plan.watch c.in-Ok-open_board.opened.0.table.shared.key c.in-Ok-open_board.ensures.begun _ c.requires.code;
+  given = on_input c.args.network.now c.args.input.now c.args.plan.watch c.in-Ok-open_board.opened.0.table.shared.key c.in-Ok-open_board.ensures.begun;
   some = c.requires.quantum;
 }
 

@@ -1,7 +1,7 @@
 use Rattle.std.proofs.Common.{arith, ◌≡◌, ◌∙◌, sym, subst, Some, None}
 use Rattle.kahn_streams.specs.Wiring.{IsWellWired}
 use Rattle.kahn_streams.specs.Network.{Writes, network_of, instance_at, actual_at}
-use Rattle.kahn_crew.specs.inner.Tasks.{Tasked}
+use Rattle.kahn_job.specs.inner.Tasks.{Tasked}
 use Rattle.kahn_crew.specs.inner.Turns.{IsAtWork, terms_of}
 use Rattle.kahn_crew.proofs.Wirings.{writer_is, written_inside}
 use Rattle.kahn_crew.proofs.Publishing.{flushed_few, nothing_written, written_so}

@@ -9,11 +9,11 @@ use Rattle.kahn_code.specs.Progress.{IsPause}
 use Rattle.kahn_job.specs.inner.Ends.{IsDry, IsReady}
 use Rattle.kahn_job.specs.inner.Berths.{end_at}
 use Rattle.kahn_job.specs.inner.Works.{IsDelivered, Work}
-use Rattle.kahn_crew.specs.declared.standing.Standing.TheVariants as standing
-use Rattle.kahn_crew.specs.inner.Tasks.{standing_after}
+use Rattle.kahn_job.specs.declared.standing.Standing.TheVariants as standing
+use Rattle.kahn_job.specs.inner.Tasks.{standing_after}
 use Rattle.kahn_crew.specs.inner.Turns.{IsAtWork}
 use Rattle.kahn_crew.proofs.Resting.{sees_two}
-use Rattle.kahn_crew.proofs.Working.{in_hand, went}
+use Rattle.kahn_crew.proofs.Working.{in_hand, is_lent, went}
 use Rattle.kahn_crew.proofs.turn.run_task.Goals as goal
 
 either_of : {E : Type 0} (r : Result (Unit {0}) E) {P Q : Type 0} → OnOk r P → OnErr r Q → Q ⊎ P
@@ -31,6 +31,9 @@ going_spent N p dry ready S H (pause.Dry q) o e says halts = absurd cc
 
 pub run-pause-requires-clause-code : goal.run-pause-requires-clause-code
 run-pause-requires-clause-code g c = let run = c.args.run.now in run.fits.code ∙ sym (in_hand run c.args.p c.args.drawn 0 c.args.task.now c.args.seat.now c.requires).1.0
+
+pub run-pause-requires-clause-lent : goal.run-pause-requires-clause-lent
+run-pause-requires-clause-lent g c = is_lent c.args.run.now c.args.p c.args.task.now c.requires.inside c.requires.first
 
 pub run-pause-requires-clause-events : goal.run-pause-requires-clause-events
 run-pause-requires-clause-events g c = omega (arith, c.requires.events, c.requires.few)

@@ -22,6 +22,8 @@ loop-instance-preserved g c =
             events = made.none.0;
             taken = made.parameters.0 ∙ ap (λ t. replicate (length (instance_at (network_of t) n).actuals) 0) same;
             sent = made.parameters.1 ∙ ap (λ t. replicate (length (instance_at (network_of t) n).actuals) 0) same;
+            kept = made.parameters.2 ∙ ap (λ t. replicate (length (instance_at (network_of t) n).actuals) []) same;
+            printed = made.none.1;
           })
           (ap (map told_in) c.in_ok-push.ensures.items ∙ map-append told_in taps (x ∷ []));
       whole = whole_more taps c.push.new.self.items n x c.loop-instance.invariant.whole made.none.2 c.in_ok-push.ensures.items;

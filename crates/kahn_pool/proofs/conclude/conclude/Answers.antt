@@ -2,26 +2,21 @@ use Rattle.std.proofs.Common.{arith, ℕ, List, length, sym, ap, ◌∙◌, subs
 use Rattle.kahn_streams.specs.Network.{network_of}
 use Rattle.kahn_job.specs.inner.Lanes.{AreBehindOn}
 use Rattle.kahn_job.specs.inner.Idles.{rows_of}
-use Rattle.kahn_crew.specs.inner.Tasks.{Tasked, task_rows}
+use Rattle.kahn_job.specs.inner.Tasks.{Tasked}
+use Rattle.kahn_crew.specs.inner.Tasks.{task_rows}
 use Rattle.kahn_pool.specs.inner.Bench.{IsVerdict}
 use Rattle.kahn_pool.specs.inner.Concluded.{IsConcluded}
 use Rattle.kahn_pool.specs.inner.Rested.{AreEndsOfTasks, AreTold, state_of_tasks}
 use Rattle.kahn_pool.proofs.Held_jobs.{cells_after, held_after, held_concluded, held_met}
-use Rattle.kahn_pool.proofs.Over.{events_new, is_last, left_bound, left_network, over_new, settled_new, tasks_new}
+use Rattle.kahn_pool.proofs.Over.{events_new, is_last, left_lent, over_new, settled_new, tasks_new}
 use Rattle.kahn_pool.proofs.Rests as rests
 use Rattle.kahn_pool.proofs.conclude.conclude.Goals as goal
 
-pub settle_all-requires-clause-code : goal.settle_all-requires-clause-code
-settle_all-requires-clause-code g c p x e =
+pub settle_all-requires : goal.settle_all-requires
+settle_all-requires g c =
     let t = c.args.part.now in
     let l = c.requires.left in
-    l.code ∙ sym (left_network t.network.now t.input.now t.plan.watch t.bound l.first c.args.left.tasks.items c.args.left.budget l.gone p x e)
-
-pub settle_all-requires-clause-bound : goal.settle_all-requires-clause-bound
-settle_all-requires-clause-bound g c p x e =
-    let t = c.args.part.now in
-    let l = c.requires.left in
-    left_bound t.network.now t.input.now t.plan.watch t.bound l.first c.args.left.tasks.items c.args.left.budget l.gone l.bounded p x e
+    left_lent t.network.now t.input.now t.plan.watch t.bound l.first c.args.left.tasks.items c.args.left.budget l.gone t.code.now.network.value l.code l.bounded
 
 pub ends_of-ends-requires-clause-told : goal.ends_of-ends-requires-clause-told
 ends_of-ends-requires-clause-told g c =

@@ -2,7 +2,7 @@ use Rattle.std.proofs.Common.{◌≡◌, sym, ap, ◌∙◌, Some, slice_get}
 use Rattle.std.proofs.lemmas.Option.{slice_get-get_or}
 use Rattle.kahn_streams.proofs.Sourced.{reads_listed}
 use Rattle.kahn_code.specs.Standing.{count}
-use Rattle.kahn_crew.specs.inner.Tasks.{Tasked}
+use Rattle.kahn_job.specs.inner.Tasks.{Tasked}
 use Rattle.kahn_pool.proofs.Ended.{dry_told, taken_long}
 use Rattle.kahn_pool.proofs.Benched.{some_one}
 use Rattle.kahn_pool.proofs.ends.dry_outcome.Goals as goal

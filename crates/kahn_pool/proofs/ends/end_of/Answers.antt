@@ -1,6 +1,6 @@
 use Rattle.std.proofs.Common.{◌≡◌, inl, sym, ap, ◌∙◌, subst, Some, slice_get}
 use Rattle.std.proofs.lemmas.Option.{slice_get-get_or}
-use Rattle.kahn_crew.specs.inner.Tasks.{Tasked}
+use Rattle.kahn_job.specs.inner.Tasks.{Tasked}
 use Rattle.kahn_pool.specs.inner.Rested.{IsToldAs}
 use Rattle.kahn_pool.proofs.Benched.{some_one}
 use Rattle.kahn_pool.proofs.ends.end_of.Goals as goal

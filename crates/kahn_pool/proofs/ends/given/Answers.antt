@@ -1,6 +1,6 @@
 use Rattle.std.proofs.Common.{◌≡◌, ◌<◌, length, sym, ap, ◌∙◌, subst, Some, slice_get}
 use Rattle.std.proofs.lemmas.Option.{slice_get-get_or}
-use Rattle.kahn_crew.specs.inner.Tasks.{Tasked}
+use Rattle.kahn_job.specs.inner.Tasks.{Tasked}
 use Rattle.kahn_pool.proofs.Ended.{given_all, sent_all}
 use Rattle.kahn_pool.proofs.ends.given.Goals as goal
 

@@ -7,14 +7,12 @@ use Rattle.kahn_pool.specs.inner.Holding.{AreHeld}
 use Rattle.kahn_pool.proofs.Held_jobs.{held_after, none_done}
 use Rattle.kahn_pool.proofs.part.first_counted.Goals as goal
 
-pub settle_all-requires-clause-code : goal.settle_all-requires-clause-code
-settle_all-requires-clause-code g c p x e = c.requires.code ∙ sym (c.in_ok-tasks.ensures.ready.each p x e).network
-
-pub settle_all-requires-clause-bound : goal.settle_all-requires-clause-bound
-settle_all-requires-clause-bound g c p x e =
+pub settle_all-requires : goal.settle_all-requires
+settle_all-requires g c p x e =
+    let r = c.in_ok-tasks.ensures.ready.each p x e in
     let most = at_most_all c.in_ok-tasks.tasks.items p x e in
     let none = c.in_ok-tasks.ensures.none in
-    omega (arith, most, none)
+    (c.requires.code ∙ sym r.network, sym r.network, sym r.input, omega (arith, most, none))
 
 pub returns-clause-held : goal.returns-clause-held
 returns-clause-held g c bound =

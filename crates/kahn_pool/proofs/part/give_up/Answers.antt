@@ -1,19 +1,12 @@
-use Rattle.std.proofs.Common.{sym, ◌∙◌}
 use Rattle.kahn_pool.proofs.Held_jobs.{cells_after, held_after}
-use Rattle.kahn_pool.proofs.Over.{left_bound, left_network}
+use Rattle.kahn_pool.proofs.Over.{left_lent}
 use Rattle.kahn_pool.proofs.part.give_up.Goals as goal
 
-pub settle_all-requires-clause-code : goal.settle_all-requires-clause-code
-settle_all-requires-clause-code g c p x e =
+pub settle_all-requires : goal.settle_all-requires
+settle_all-requires g c =
     let t = c.args.part.now in
     let l = c.requires.left in
-    l.code ∙ sym (left_network t.network.now t.input.now t.plan.watch t.bound l.first c.args.left.tasks.items c.args.left.budget l.gone p x e)
-
-pub settle_all-requires-clause-bound : goal.settle_all-requires-clause-bound
-settle_all-requires-clause-bound g c p x e =
-    let t = c.args.part.now in
-    let l = c.requires.left in
-    left_bound t.network.now t.input.now t.plan.watch t.bound l.first c.args.left.tasks.items c.args.left.budget l.gone l.bounded p x e
+    left_lent t.network.now t.input.now t.plan.watch t.bound l.first c.args.left.tasks.items c.args.left.budget l.gone t.code.now.network.value l.code l.bounded
 
 pub returns-clause-held : goal.returns-clause-held
 returns-clause-held g c =

@@ -1,8 +1,10 @@
+use Rattle.std.proofs.Common.{ap}
 use Rattle.kahn_job.proofs.Berthed.{identities_written}
 use Rattle.kahn_job.proofs.ports.EndsPorts.put.Goals as goal
 
 pub returns-clause-which : goal.returns-clause-which
 returns-clause-which c =
-    let i = c.self.inside in
-    identities_written c.args.self.now i.network.now i.input.now i.instance i.ports.items c.self.view_is c.self.invariant c.args.parameter
-    c.index_mut.result.now c.put.new.self c.index_mut.ensures.value c.put.ensures.same c.args._channel c.requires.writes
+    let s = c.args.self.now in
+    ap (λ i. (s.ports.ghost_name, i))
+    (identities_written s.network.now s.input.now s.instance s.ports.now s.served c.args.parameter c.index-ports-parameter.result c.put.new.self c.put.ensures.same
+    c.args._channel c.requires.writes.0)

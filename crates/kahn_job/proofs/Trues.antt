@@ -7,8 +7,8 @@ use Rattle.kahn_code.specs.declared.progress.Pause.TheVariants as pause
 use Rattle.kahn_code.specs.Progress.{Paused, IsPause}
 use Rattle.kahn_code.specs.Told.{told_view}
 use Rattle.kahn_job.specs.inner.Works.{Work, width_of}
-use Rattle.kahn_crew.specs.declared.standing.Standing.{Standing}
-use Rattle.kahn_crew.specs.inner.Tasks.{IsTrueOf, standing_after}
+use Rattle.kahn_job.specs.declared.standing.Standing.{Standing}
+use Rattle.kahn_job.specs.inner.Tasks.{IsTrueOf, standing_after}
 
 -- after a run the standing is that of the process
 pub true_after : (w : Work) (s : Standing) (z : Pause) (dry ready : ℕ → Type 0) (spent : Type 0) → s ≡ standing_after z →

@@ -1,7 +1,7 @@
 //! Where a process stood when it was last run.
 
 ghost use Rattle.std.specs.Prelude.{◌≡◌};
-ghost use Rattle.kahn_crew.specs.inner.Tasks.{standing_after};
+ghost use Rattle.kahn_job.specs.inner.Tasks.{standing_after};
 
 use kahn_code::Pause;
 use kahn_streams::Failure;

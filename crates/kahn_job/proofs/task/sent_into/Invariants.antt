@@ -1,0 +1,8 @@
+use Rattle.std.proofs.Common.{◌≡◌, length, take}
+use Rattle.kahn_streams.specs.Network.{network_of, instance_at}
+use Rattle.kahn_job.proofs.task.sent_into.Given as goal
+
+abbrev pub invariant-loop-parameter : goal.invariant-loop-parameter
+invariant-loop-parameter l =
+    (take l.parameter l.numbers.items ≡ take l.parameter l.cell.sent)
+    × (length l.numbers.items ≡ length (instance_at (network_of l.cell.network) l.cell.instance).actuals)

@@ -1,0 +1,73 @@
+-- Inner. What contracts see of a task: a job on its way, with what the workers have to know of it.
+use Rattle.std.specs.Prelude.{◌≡◌, ◌≤◌, ℕ, List, length, Some}
+use Rattle.kahn_streams.specs.Network.{network_of}
+use Rattle.kahn_streams.specs.Inputs.{Lists, inputs_of}
+use Rattle.kahn_streams.specs.Meaning.{Store}
+use Rattle.kahn_streams.specs.Script.{Outcome, Dry as IsDryAt}
+use Rattle.kahn_streams.specs.Solution as end
+use Rattle.kahn_streams.specs.Solution.{ending}
+use Rattle.kahn_code.specs.declared.progress.Pause.{Pause}
+use Rattle.kahn_code.specs.declared.progress.Pause.TheVariants as pause
+use Rattle.kahn_code.specs.Progress.{Paused}
+use Rattle.kahn_code.specs.Told.{told_view}
+use Rattle.kahn_job.specs.declared.standing.Standing.{Standing}
+use Rattle.kahn_job.specs.declared.standing.Standing.TheVariants as standing
+use Rattle.kahn_job.specs.inner.Berths.{HaveAdvanced}
+use Rattle.kahn_job.specs.inner.Works.{Work, IsJob, grown_work, width_of}
+
+-- a job, where its process stood when it was last run, and by parameter how many of the tokens that it sent are published
+pub record Tasked : Type 0 where
+  pub work : Work
+  pub standing : Standing
+  pub published : List ℕ
+
+abbrev pub standing_after : Pause → Standing
+standing_after pause.Spent = standing.Going
+standing_after pause.NoMemory = standing.Going
+standing_after pause.Ended = standing.Ended
+standing_after (pause.Fault k) = standing.Faulted k
+standing_after (pause.Dry q) = standing.Dry q
+
+-- what a standing says of the outcome of the process on the values that it took
+abbrev pub TellsOutcome : Standing → Outcome Store → Type 0
+TellsOutcome standing.Going o = Unit {0}
+TellsOutcome standing.Ended o = ending o ≡ Some end.Ended
+TellsOutcome (standing.Faulted k) o = ending o ≡ Some (end.Faulted k)
+TellsOutcome (standing.Dry q) o = o ≡ IsDryAt q
+
+abbrev pub HasStanding : Work → Standing → Type 0
+HasStanding w s =
+    Paused (network_of w.cell.network) (inputs_of w.cell.input) w.cell.watch w.cell.instance (told_view w.cell) (TellsOutcome s)
+
+-- where it has one, the standing is that of the process
+abbrev pub IsTrueOf : Work → Standing → Type 0
+IsTrueOf w standing.Going = Unit {0}
+IsTrueOf w standing.Ended = HasStanding w standing.Ended
+IsTrueOf w (standing.Faulted k) = HasStanding w (standing.Faulted k)
+IsTrueOf w (standing.Dry q) = HasStanding w (standing.Dry q)
+
+-- what is so of a task of instance p at all times
+pub record IsTask (p : ℕ) (w : Work) (s : Standing) (published : List ℕ) : Type 0 where
+  pub job : IsJob w
+  pub instance : p ≡ w.cell.instance
+  pub says : IsTrueOf w s
+  pub each : length published ≡ width_of w
+
+-- the task of a job that may go on, of which all that it sent is published
+abbrev pub ready_task : Work → Tasked
+ready_task w = record { work = w; standing = standing.Going; published = w.cell.sent }
+
+-- the task of an idle job that goes on with this input
+abbrev pub woken_task : Lists → Work → Tasked
+woken_task lists w = ready_task (grown_work lists w)
+
+-- the second continues the first: of the same instance of the same network and input, with the same ends; and where it did
+-- no event, its cell is as it was
+pub record Continues (old new : Tasked) : Type 0 where
+  pub network : new.work.cell.network ≡ old.work.cell.network
+  pub input : new.work.cell.input ≡ old.work.cell.input
+  pub instance : new.work.cell.instance ≡ old.work.cell.instance
+  pub watch : new.work.cell.watch ≡ old.work.cell.watch
+  pub ends : HaveAdvanced old.work.ends new.work.ends
+  pub events : old.work.cell.events ≤ new.work.cell.events
+  pub still : new.work.cell.events ≡ old.work.cell.events → new.work.cell ≡ old.work.cell

@@ -1,0 +1,240 @@
+//! A task: a job on its way, with what the workers have to know of it.
+
+ghost use Rattle.std.specs.Prelude.{◌≡◌, ℕ, ◌+◌, ◌*◌, ◌^◌, ◌<◌, ◌≤◌, length, slice_set, OnOk};
+ghost use Rattle.kahn_streams.specs.Network.{network_of, instance_at};
+ghost use Rattle.kahn_code.specs.Seats.{seat_code};
+ghost use Rattle.kahn_code.specs.Standing.{count};
+ghost use Rattle.kahn_code.specs.Told.{AreCounts, IsSameProcess, IsStill, seat_of};
+ghost use Rattle.kahn_job.specs.inner.Berths.{HaveAdvanced, HaveFlushed, IsWithinInput, end_at};
+ghost use Rattle.kahn_job.specs.inner.Idles.{CanGoOn};
+ghost use Rattle.kahn_job.specs.inner.Tasks.{Continues, IsTrueOf, standing_after, woken_task};
+ghost use Rattle.kahn_job.specs.inner.Works.{HasPaused, IsDelivered, IsJob, width_of};
+
+use crate::idle::Idle;
+use crate::port::Port;
+use crate::ports::{Ends, flush_all};
+use crate::standing::Standing;
+use kahn_code::{Cell, Code, Pause, Steps};
+use kahn_streams::{Input, Network, NoMemory};
+use std::marker::Model;
+use std::sync::ledger::Ledger;
+
+/// A cell and the ends of its channels, which go from worker to worker together, with where its process stood when it was
+/// last run, and by parameter how many of the tokens that it sent are published. Code, network and input are lent to it
+/// where it runs.
+#[derive(Drop)]
+pub struct Task {
+    cell: Cell,
+    instance: usize,
+    ports: Vec<Port>,
+    standing: Standing,
+    published: Vec<u64>,
+}
+
+impl Model for Task {
+    ghost use Rattle.kahn_streams.specs.contracts.tree.Action as action;
+    ghost use Rattle.kahn_streams.specs.contracts.tree.Form as form;
+    ghost use Rattle.std.specs.Coded.{codes};
+    ghost use Rattle.kahn_job.specs.inner.Tasks.{IsTask, Tasked};
+
+    ghost Value = { Tasked };
+
+    ghost coded = { Prim.hlevel (codes, action.the_row.coded, form.the_row.coded) };
+
+    ghost view = { λ t. record { work = record { cell = t.cell; ends = t.ports.items }; standing = t.standing; published = t.published.items } };
+
+    ghost invariant = { λ t. IsTask t.instance (record { cell = t.cell; ends = t.ports.items }) t.standing t.published.items };
+}
+
+// How many tokens a cell sent on each of its parameters, written into a list with as many places.
+fn sent_into(cell: &Cell, mut numbers: Vec<u64>) -> Vec<u64>
+    requires { length numbers.items ≡ length (instance_at (network_of cell.now.network) cell.now.instance).actuals }
+    ensures { result.items ≡ cell.now.sent }
+{
+    cell.sized();
+    for parameter in 0..numbers.len() {
+        numbers[parameter] = cell.sent(parameter);
+    }
+    numbers
+}
+
+// Runs a cell for at most so many events, with the ends of its channels.
+fn run_cell<L: Ledger>(
+    cell: &mut Cell,
+    ports: &mut [Port],
+    instance: usize,
+    code: &Code,
+    network: &Network,
+    input: &Input,
+    quantum: u64,
+    steps: &mut Steps<L>,
+) -> Pause
+    requires code { code.now.network.value ≡ cell.old.network }
+    requires lent { (network.now ≡ cell.old.network) × (input.now ≡ cell.old.input) × (instance ≡ cell.old.instance) }
+    requires job { IsJob (record { cell = cell.old; ends = ports.old }) }
+    requires events { cell.old.events + quantum < 2 ^ 48 }
+    ensures names { IsSameProcess cell.old cell.new }
+    ensures job { IsJob (record { cell = cell.new; ends = ports.new }) }
+    ensures paused { HasPaused (record { cell = cell.old; ends = ports.old }) (record { cell = cell.new; ends = ports.new }) quantum result }
+    ensures events { (cell.old.events ≤ cell.new.events) × (cell.new.events ≤ cell.old.events + quantum) }
+    ensures still { cell.new.events ≡ cell.old.events → IsStill cell.old cell.new }
+    ensures ends { HaveAdvanced ports.old ports.new }
+    ensures cost { steps.new ≤ steps.old + (quantum + 1) * length (seat_code (seat_of cell.old)) }
+{
+    let mut ends = Ends {
+        network,
+        input,
+        instance,
+        ports,
+    };
+    cell.run(code, quantum, &mut ends, steps)
+}
+
+impl Task {
+    /// The task of an idle job that goes on with an input for which its ends have settled. All that it sent counts as
+    /// published. It takes no memory.
+    pub fn woken(idle: Idle, input: &Input) -> Task
+        requires { CanGoOn input.now idle }
+        ensures { result ≡ woken_task input.now idle }
+    {
+        let Idle {
+            cell,
+            instance,
+            ports,
+            numbers,
+        } = idle;
+        let cell = cell.grown(input);
+        let published = sent_into(&cell, numbers);
+        Task {
+            cell,
+            instance,
+            ports,
+            standing: Standing::Going,
+            published,
+        }
+    }
+
+    /// The job of the task, on which nobody works any more. It takes no memory.
+    pub fn rest(self) -> Idle
+        ensures same { result ≡ self.work }
+        ensures job { IsJob result }
+    {
+        Idle::new(self.cell, self.instance, self.ports, self.published)
+    }
+
+    /// Runs for at most so many events, on the network and the input of its process. What it sent may stand in open segments
+    /// until `flush`. With a quantum of 0 it only says what comes next, and takes no memory. A task whose process has ended
+    /// or faulted says so again.
+    pub fn run<L: Ledger>(
+        &mut self,
+        code: &Code,
+        network: &Network,
+        input: &Input,
+        quantum: u64,
+        steps: &mut Steps<L>,
+    ) -> Pause
+        requires code { code.now.network.value ≡ self.old.work.cell.network }
+        requires lent { (network.now ≡ self.old.work.cell.network) × (input.now ≡ self.old.work.cell.input) }
+        requires events { self.old.work.cell.events + quantum < 2 ^ 48 }
+        ensures continues { Continues self.old self.new }
+        ensures events { (self.old.work.cell.events ≤ self.new.work.cell.events) × (self.new.work.cell.events ≤ self.old.work.cell.events + quantum) }
+        ensures paused { HasPaused self.old.work self.new.work quantum result }
+        ensures standing { self.new.standing ≡ standing_after result }
+        ensures published { self.new.published ≡ self.old.published }
+        // How many instructions were executed.
+        ensures cost { steps.new ≤ steps.old + (quantum + 1) * length (seat_code (seat_of self.old.work.cell)) }
+    {
+        let instance = self.instance;
+        let (cell, ports) = (&mut self.cell, &mut self.ports);
+        let pause = run_cell(cell, ports, instance, code, network, input, quantum, steps);
+        self.standing = Standing::after(pause);
+        pause
+    }
+
+    /// Flushes what was sent on each channel, so that its reader can take it. It stops at the first refusal, which leaves
+    /// the tokens where they are.
+    pub fn flush(&mut self) -> Result<(), NoMemory>
+        ensures continues { Continues self.old self.new }
+        ensures cell { self.new.work.cell ≡ self.old.work.cell }
+        ensures standing { self.new.standing ≡ self.old.standing }
+        ensures published { self.new.published ≡ self.old.published }
+        ensures each { HaveFlushed self.old.work.ends self.new.work.ends }
+        ensures all { OnOk result (IsDelivered self.new.work) }
+    {
+        flush_all(&mut self.ports)
+    }
+
+    /// Where the process stood when it was last run.
+    pub fn standing(&self) -> Standing
+        ensures result { result ≡ self.now.standing }
+        ensures said { IsTrueOf self.now.work self.now.standing }
+    {
+        self.standing
+    }
+
+    /// The number of its events.
+    pub fn events(&self) -> u64
+        ensures { result ≡ self.now.work.cell.events }
+    {
+        self.cell.events()
+    }
+
+    /// How many parameters it has.
+    pub fn parameters(&self) -> usize
+        ensures width { result ≡ width_of self.now.work }
+        ensures lists { (length self.now.published ≡ result) × (length self.now.work.ends ≡ result) }
+        ensures job { IsJob self.now.work }
+        ensures counts { AreCounts self.now.work.cell }
+    {
+        self.cell.sized();
+        self.published.len()
+    }
+
+    /// How many tokens it took on a parameter.
+    pub fn taken(&self, parameter: usize) -> u64
+        requires { parameter < length self.now.work.cell.taken }
+        ensures { result ≡ count self.now.work.cell.taken parameter }
+    {
+        self.cell.taken(parameter)
+    }
+
+    /// How many tokens it sent on a parameter.
+    pub fn sent(&self, parameter: usize) -> u64
+        requires { parameter < length self.now.work.cell.sent }
+        ensures { result ≡ count self.now.work.cell.sent parameter }
+    {
+        self.cell.sent(parameter)
+    }
+
+    /// How many tokens it flushed on a parameter, also after a refusal. It takes no memory.
+    pub fn flushed(&self, parameter: usize) -> u64
+        requires { parameter < length self.now.work.ends }
+        ensures { result ≡ (end_at self.now.work.ends parameter).flushed }
+    {
+        self.ports[parameter].flushed()
+    }
+
+    /// How many tokens of a parameter are published.
+    pub fn published(&self, parameter: usize) -> u64
+        requires { parameter < length self.now.published }
+        ensures { result ≡ count self.now.published parameter }
+    {
+        self.published[parameter]
+    }
+
+    /// Marks so many tokens of a parameter as published.
+    pub fn mark(&mut self, parameter: usize, number: u64)
+        requires { parameter < length self.old.published }
+        ensures { self.new ≡ record { work = self.old.work; standing = self.old.standing; published = slice_set self.old.published parameter number } }
+    {
+        self.published[parameter] = number;
+    }
+
+    /// Says that of an input channel no more is ready on a parameter than its list has: its contract is what it does.
+    pub fn fed(&self, parameter: usize)
+        requires { parameter < length self.now.work.ends }
+        ensures { IsWithinInput (end_at self.now.work.ends parameter) }
+    {
+        self.ports[parameter].fed();
+    }
+}
