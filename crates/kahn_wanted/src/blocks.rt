@@ -13,7 +13,7 @@ use kahn_syntax::{Class, Keyword, Lexeme, Span, What, lex};
 use std::alloc::{AllocError, Global};
 
 /// A block that no `end` has closed.
-#[derive(Clone, Copy, Debug, PartialEq, Eq)]
+#[derive(Clone, Copy)]
 pub struct Block {
     /// What stands before its `begin`.
     pub before: Option<Lexeme>,
