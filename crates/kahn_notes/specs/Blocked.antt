@@ -9,7 +9,6 @@ use Rattle.kahn_syntax.specs.declared.lexeme.Lexeme.{Lexeme}
 use Rattle.kahn_wanted.specs.declared.blocks.Block.{Block}
 use Rattle.kahn_wanted.specs.declared.blocks.Blocks.{Blocks}
 use Rattle.kahn_wanted.specs.declared.found.Unexpected.{Unexpected}
-use Rattle.kahn_wanted.specs.declared.groups.Wanted.{Wanted}
 use Rattle.kahn_notes.specs.declared.wanting.Needed.TheVariants.{Becomes, Begin, End, Open}
 use Rattle.kahn_notes.specs.Advice.{awaits, has_fewer}
 use Rattle.kahn_notes.specs.Order.{finds}

@@ -1,6 +1,6 @@
 -- Believed. What is said of an `end` that closed a block too early, since it was written for a statement that has none: it is the last one
 -- of a process that ends a statement without a block, or else the last one.
-use Rattle.std.specs.Prelude.{◌≡◌, ◌≤◌, ◌==◌, ℕ, Bool, true, false, ◌&&◌, IsTrue, List, [], ◌∷◌, ◌++◌, MatchBool, Option, Some, None, codes, length, nat_lt}
+use Rattle.std.specs.Prelude.{◌≡◌, ◌≤◌, ◌==◌, ℕ, Bool, true, false, ◌&&◌, List, [], ◌∷◌, ◌++◌, MatchBool, Option, Some, None, codes, length, nat_lt}
 use Rattle.std.specs.List.{AllByRecursion, concat, filter}
 use Rattle.kahn_syntax.specs.declared.lexeme.Class.{Class}
 use Rattle.kahn_syntax.specs.declared.lexeme.Class.TheVariants as class
