@@ -15,18 +15,10 @@ name_words n = concat (codes "`" ∷ bytes_of n ∷ codes "`" ∷ [])
 abbrev pub meant_words : Name → List ℕ
 meant_words n = concat (codes "; did you mean `" ∷ bytes_of n ∷ codes "`?" ∷ [])
 
--- how the next value of a channel is taken
-abbrev pub next_words : Name → List ℕ
-next_words n = concat (codes "; its next value is `wait(" ∷ bytes_of n ∷ codes ")`" ∷ [])
-
--- how one is sent
-abbrev pub sent_words : Name → List ℕ
-sent_words n = concat (codes "; it takes a value by `send E on " ∷ bytes_of n ∷ codes "`" ∷ [])
-
--- of a parameter that is a channel
+-- of a parameter that is a channel: how the next value is taken, or how one is sent
 abbrev pub used_words : Sort → Name → List ℕ
-used_words Source n = next_words n
-used_words Target n = sent_words n
+used_words Source n = concat (codes "; its next value is `wait(" ∷ bytes_of n ∷ codes ")`" ∷ [])
+used_words Target n = concat (codes "; it takes a value by `send E on " ∷ bytes_of n ∷ codes "`" ∷ [])
 used_words s n = []
 
 -- what stands behind a name where so many are left
