@@ -1,3 +1,4 @@
 mod Nearest
+mod Onces
 mod Rows
 mod Sights

@@ -6,3 +6,4 @@ pub mod Near
 pub mod Places
 pub mod Sight
 pub mod Uses
+pub mod inner

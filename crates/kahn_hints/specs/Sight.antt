@@ -1,12 +1,12 @@
 -- Believed. What is said of a name that isn't declared.
-use Rattle.std.specs.Prelude.{◌==◌, ℕ, List, [], ◌∷◌, ◌++◌, Option, Some, None, codes, if◌then◌else◌, is_some, length, take}
-use Rattle.std.specs.List.{concat}
+use Rattle.std.specs.Prelude.{◌==◌, ℕ, List, [], ◌∷◌, ◌++◌, Option, Some, None, codes, if◌then◌else◌, length, not, take}
+use Rattle.std.specs.List.{concat, filter}
 use Rattle.kahn_streams.specs.View.{bytes_of}
 use Rattle.kahn_streams.specs.declared.tree.Name.{Name}
 use Rattle.kahn_hints.specs.declared.names.Sort.{Sort}
 use Rattle.kahn_hints.specs.declared.names.Sort.TheVariants.{Source, Target}
 use Rattle.kahn_hints.specs.Near.{nearest}
-use Rattle.kahn_hints.specs.Places.{called_first, is_called}
+use Rattle.kahn_hints.specs.Places.{is_called}
 
 abbrev pub name_words : Name → List ℕ
 name_words n = concat (codes "`" ∷ bytes_of n ∷ codes "`" ∷ [])
@@ -15,18 +15,10 @@ name_words n = concat (codes "`" ∷ bytes_of n ∷ codes "`" ∷ [])
 abbrev pub meant_words : Name → List ℕ
 meant_words n = concat (codes "; did you mean `" ∷ bytes_of n ∷ codes "`?" ∷ [])
 
--- how the next value of a channel is taken
-abbrev pub next_words : Name → List ℕ
-next_words n = concat (codes "; its next value is `wait(" ∷ bytes_of n ∷ codes ")`" ∷ [])
-
--- how one is sent
-abbrev pub sent_words : Name → List ℕ
-sent_words n = concat (codes "; it takes a value by `send E on " ∷ bytes_of n ∷ codes "`" ∷ [])
-
--- of a parameter that is a channel
+-- of a parameter that is a channel: how the next value is taken, or how one is sent
 abbrev pub used_words : Sort → Name → List ℕ
-used_words Source n = next_words n
-used_words Target n = sent_words n
+used_words Source n = concat (codes "; its next value is `wait(" ∷ bytes_of n ∷ codes ")`" ∷ [])
+used_words Target n = concat (codes "; it takes a value by `send E on " ∷ bytes_of n ∷ codes "`" ∷ [])
 used_words s n = []
 
 -- what stands behind a name where so many are left
@@ -37,13 +29,10 @@ abbrev pub listed_names : List Name → List ℕ
 listed_names [] = []
 listed_names (n ∷ ns) = name_words n ++ (after_name (length ns) ++ listed_names ns)
 
--- names, and behind them those of others whose letters none before has
-abbrev pub once : List Name → Name → List Name
-once names n = if is_some (called_first (bytes_of n) names) then names else names ++ n ∷ []
-
-abbrev pub each_once : List Name → List Name → List Name
-each_once names [] = names
-each_once names (n ∷ ns) = each_once (once names n) ns
+-- each once, where it stands first
+abbrev pub each_once : List Name → List Name
+each_once [] = []
+each_once (n ∷ ns) = n ∷ filter (λ m. not (is_called (bytes_of n) m)) (each_once ns)
 
 -- the first five of those in sight
 abbrev pub sight_lead : ℕ → List ℕ
@@ -56,7 +45,7 @@ sight_words names = sight_lead (length names) ++ listed_names (take 5 names)
 -- each once
 abbrev pub told_or_sight : List ℕ → List Name → Option Name → List ℕ
 told_or_sight word names (Some n) = if is_called word n then [] else meant_words n
-told_or_sight word names None = sight_words (each_once [] names)
+told_or_sight word names None = sight_words (each_once names)
 
 abbrev pub unknown_words : List ℕ → List Name → List ℕ
 unknown_words word names = told_or_sight word names (nearest word names)

@@ -1,3 +1,4 @@
+mod Closing
 mod Firsts
 mod Found
 pub mod Named

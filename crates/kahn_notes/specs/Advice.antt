@@ -19,7 +19,7 @@ use Rattle.kahn_notes.specs.declared.wanting.Part.{Part}
 use Rattle.kahn_notes.specs.declared.wanting.Part.TheVariants as part
 use Rattle.kahn_notes.specs.declared.habits.Habit.{Habit}
 use Rattle.kahn_notes.specs.declared.habits.Habit.TheVariants as habit
-use Rattle.kahn_notes.specs.Order.{is_name, is_operator_class}
+use Rattle.kahn_notes.specs.Order.{finds, is_needed, is_operator_class}
 
 -- ---- what stands before a place, and at it
 
@@ -100,21 +100,6 @@ habit_words _ _ = None
 
 -- ---- of one where these may stand
 
-abbrev pub is_needed : Needed → Class → Bool
-is_needed needed.On (class.Word word.On) = true
-is_needed needed.Becomes (class.Sign sign.Becomes) = true
-is_needed needed.Open (class.Sign sign.Open) = true
-is_needed needed.Comma (class.Sign sign.Comma) = true
-is_needed needed.Close (class.Sign sign.Close) = true
-is_needed needed.Semicolon (class.Sign sign.Semicolon) = true
-is_needed needed.Par (class.Word word.Par) = true
-is_needed needed.Begin (class.Word word.Begin) = true
-is_needed needed.End (class.Word word.End) = true
-is_needed needed.Else (class.Word word.Else) = true
-is_needed needed.Channel (class.Word word.Channel) = true
-is_needed needed.Name class.Name = true
-is_needed _ _ = false
-
 abbrev pub awaits : Needed → Wanted → Bool
 awaits n w = list_any (is_needed n) w.others.items
 
@@ -177,13 +162,11 @@ assigned_words w =
     else None
 
 -- of `:=`: there, behind the name of a process, or among operators
-abbrev pub equal_words : Wanted → Option (List ℕ)
-equal_words w =
-    if awaits needed.Open w then Some (codes "an instance is `P(A, B)`: its brackets hand over the channels; statements stand in processes alone")
-    else Some (codes "equal is `=`; `:=` assigns to a name, in a statement of its own")
-
 abbrev pub becomes_words : Wanted → Option (List ℕ)
-becomes_words w = if awaits needed.Comma w then assigned_words w else equal_words w
+becomes_words w =
+    if awaits needed.Comma w then assigned_words w
+    else if awaits needed.Open w then Some (codes "an instance is `P(A, B)`: its brackets hand over the channels; statements stand in processes alone")
+    else Some (codes "equal is `=`; `:=` assigns to a name, in a statement of its own")
 
 -- of `,`: between brackets, behind a name that begins a statement, behind a value, or behind the channel of a `send`
 abbrev pub comma_words : Option Lexeme → Wanted → Option (List ℕ)
@@ -192,18 +175,16 @@ comma_words before w =
     else if awaits needed.Becomes w then Some (codes "a statement assigns to one name: `X := E; Y := F`")
     else if not (awaits needed.Semicolon w) then None
     else if offers part.Operator w then Some (codes "a statement has one value: `print E; print F`")
-    else if is_name before then Some (codes "a value goes on one channel: `send E on C; send E on D`")
+    else if finds needed.Name before then Some (codes "a value goes on one channel: `send E on C; send E on D`")
     else None
 
 -- of `(` behind a name: in a statement, in an expression, among the arguments of an instance
-abbrev pub called_words : Wanted → Option (List ℕ)
-called_words w =
-    if awaits needed.Becomes w then Some (codes "a body calls nothing and starts nothing: instances stand behind all processes")
+abbrev pub called_words : Option Lexeme → Wanted → Option (List ℕ)
+called_words before w =
+    if not (finds needed.Name before) then None
+    else if awaits needed.Becomes w then Some (codes "a body calls nothing and starts nothing: instances stand behind all processes")
     else if offers part.Operator w then Some (codes "a body calls nothing: there are no functions, and a value is taken by `wait(C)`")
     else operator_words w
-
-abbrev pub opened_words : Option Lexeme → Wanted → Option (List ℕ)
-opened_words before w = if is_name before then called_words w else None
 
 -- of a declaration behind instances, where a `par` may stand, or an `end` and no statement
 abbrev pub is_late : Wanted → Bool
@@ -263,7 +244,7 @@ awaited_words before habit.Minus w = operator_words w
 awaited_words before habit.Comma w = comma_words before w
 awaited_words before habit.Semicolon w = ended_words w
 awaited_words before habit.Stops w = stopped_words w
-awaited_words before habit.Open w = opened_words before w
+awaited_words before habit.Open w = called_words before w
 awaited_words before habit.If w = among_words w
 awaited_words before habit.While w = stray_words w
 awaited_words before habit.Wait w = stray_words w

@@ -1,18 +1,17 @@
 -- Believed. What is said of blocks where a text goes wrong.
-use Rattle.std.specs.Prelude.{ℕ, Bool, true, false, not, ◌&&◌, ◌||◌, ◌-◌, List, [], ◌∷◌, ◌++◌, Option, Some, None, codes, decimal, drop, if◌then◌else◌, length, min}
+use Rattle.std.specs.Prelude.{ℕ, Bool, true, false, not, ◌&&◌, ◌||◌, ◌-◌, List, [], ◌∷◌, ◌++◌, Option, Some, None, codes, decimal, drop, is_some, if◌then◌else◌, length, min}
 use Rattle.std.specs.List.{concat}
 use Rattle.kahn_streams.specs.Place.{line_of, column_of}
 use Rattle.kahn_syntax.specs.declared.lexeme.Class.{Class}
 use Rattle.kahn_syntax.specs.declared.lexeme.Class.TheVariants as class
 use Rattle.kahn_syntax.specs.declared.lexeme.Keyword.TheVariants as word
-use Rattle.kahn_syntax.specs.declared.lexeme.Sign.TheVariants as sign
 use Rattle.kahn_syntax.specs.declared.lexeme.Lexeme.{Lexeme}
 use Rattle.kahn_wanted.specs.declared.blocks.Block.{Block}
 use Rattle.kahn_wanted.specs.declared.blocks.Blocks.{Blocks}
 use Rattle.kahn_wanted.specs.declared.found.Unexpected.{Unexpected}
-use Rattle.kahn_wanted.specs.declared.groups.Wanted.{Wanted}
-use Rattle.kahn_notes.specs.declared.wanting.Needed.TheVariants.{Becomes, Begin, End}
+use Rattle.kahn_notes.specs.declared.wanting.Needed.TheVariants.{Becomes, Begin, End, Open}
 use Rattle.kahn_notes.specs.Advice.{awaits, has_fewer}
+use Rattle.kahn_notes.specs.Order.{finds}
 use Rattle.kahn_notes.specs.Words.{any_words, separator}
 
 -- ---- places
@@ -71,15 +70,6 @@ bare_words text (x ∷ xs) = Some (codes "no `begin` stands behind " ++ listed_b
 
 -- ---- when they are told
 
-abbrev pub is_end_class : Class → Bool
-is_end_class (class.Word word.End) = true
-is_end_class _ = false
-
--- at an `end` that may not stand there: of statements without a block
-abbrev pub is_closing : Option Lexeme → Bool
-is_closing (Some x) = is_end_class x.what
-is_closing None = false
-
 -- what stands outside of bodies alone: a declaration
 abbrev pub is_outer_class : Class → Bool
 is_outer_class (class.Word word.Process) = true
@@ -92,35 +82,23 @@ abbrev pub is_outside : Option Lexeme → Bool
 is_outside (Some x) = is_outer_class x.what
 is_outside None = true
 
--- at the end of the text always, else where no change is told that mends the text
-abbrev pub tells_open : Option Lexeme → Bool → Bool
-tells_open (Some x) mended = not mended
-tells_open None mended = true
-
 -- the block of the program is open at whatever stands in it
 abbrev pub open_told : Option Lexeme → List Block → List Block
 open_told (Some x) bs = drop 1 bs
 open_told None bs = bs
 
--- what is said of blocks where something was found
+-- what is said of blocks where something was found: at an `end` that may not stand there, of statements without a block; at what stands
+-- outside of bodies, of open ones: at the end of the text always, else where no change is told that mends the text
 abbrev pub blocks_words : List ℕ → Option Lexeme → Bool → Blocks → Option (List ℕ)
 blocks_words text found mended b =
-    if is_closing found then bare_words text b.bare.items
-    else if tells_open found mended && is_outside found then open_words text (open_told found b.unclosed.items)
+    if finds End found then bare_words text b.bare.items
+    else if (not (is_some found) || not mended) && is_outside found then open_words text (open_told found b.unclosed.items)
     else None
 
--- a `(` behind the name that begins a statement: an instance, where an `end` was forgotten
-abbrev pub is_open_class : Class → Bool
-is_open_class (class.Sign sign.Open) = true
-is_open_class _ = false
-
-abbrev pub is_started : Option Lexeme → Wanted → Bool
-is_started (Some x) w = is_open_class x.what && awaits Becomes w
-is_started None w = false
-
--- what is said of blocks beside advice: there of open ones, where the text lacks an `end` and no change mends it
+-- what is said of blocks beside advice: at a `(` behind the name that begins a statement, which may be an instance, of open ones, where the
+-- text lacks an `end` and no change mends it
 abbrev pub open_beside : List ℕ → List Lexeme → Unexpected → Bool → Blocks → Option (List ℕ)
 open_beside text xs u mended b =
-    if mended || not (is_started u.found u.wanted) then None
+    if mended || not (finds Open u.found) || not (awaits Becomes u.wanted) then None
     else if has_fewer End Begin xs then open_words text (open_told u.found b.unclosed.items)
     else None

@@ -1,5 +1,6 @@
 -- Believed. Words of other languages, and what this one has in their place.
-use Rattle.std.specs.Prelude.{ℕ, Bool, true, false, ◌||◌, ◌==◌, not, List, [], Option, Some, None, codes, if◌then◌else◌}
+use Rattle.std.specs.Prelude.{ℕ, Bool, true, false, ◌==◌, not, List, [], ◌∷◌, Option, Some, None, codes, if◌then◌else◌}
+use Rattle.std.specs.List.{list_any}
 use Rattle.std.specs.Option.{option_or}
 use Rattle.std.specs.Str.{str_eq_ignore_ascii_case}
 use Rattle.kahn_streams.specs.declared.span.Span.{Span}
@@ -12,43 +13,42 @@ use Rattle.kahn_wanted.specs.declared.groups.Wanted.{Wanted}
 use Rattle.kahn_notes.specs.declared.wanting.Needed.TheVariants.{Becomes, Close}
 use Rattle.kahn_notes.specs.Advice.{advice, awaits}
 
+-- a word is one of these, in any letter case
+abbrev pub is_one_of : List ℕ → List (List ℕ) → Bool
+is_one_of w others = list_any (str_eq_ignore_ascii_case w) others
+
 abbrev pub lone_words : List ℕ → Option (List ℕ)
 lone_words w =
-    if ((((str_eq_ignore_ascii_case w (codes "int") || str_eq_ignore_ascii_case w (codes "bool"))
-    || str_eq_ignore_ascii_case w (codes "boolean")) || str_eq_ignore_ascii_case w (codes "var"))
-    || str_eq_ignore_ascii_case w (codes "real")) || str_eq_ignore_ascii_case w (codes "float")
+    if is_one_of w (codes "int" ∷ codes "bool" ∷ codes "boolean" ∷ codes "var" ∷ codes "real" ∷ codes "float" ∷ [])
     then Some (codes "the kinds are `integer` and `logical`; one stands before its names")
-    else if ((str_eq_ignore_ascii_case w (codes "endif") || str_eq_ignore_ascii_case w (codes "endwhile"))
-    || str_eq_ignore_ascii_case w (codes "fi")) || str_eq_ignore_ascii_case w (codes "od")
+    else if is_one_of w (codes "endif" ∷ codes "endwhile" ∷ codes "fi" ∷ codes "od" ∷ [])
     then Some (codes "an `if`, a `while` or a `repeat` has no `end` of its own")
-    else if str_eq_ignore_ascii_case w (codes "const") || str_eq_ignore_ascii_case w (codes "constant")
+    else if is_one_of w (codes "const" ∷ codes "constant" ∷ [])
     then Some (codes "there are no constants: an instance hands a number over, `P(A, 10)`")
-    else if str_eq_ignore_ascii_case w (codes "xor")
+    else if is_one_of w (codes "xor" ∷ [])
     then Some (codes "there is no exclusive or: of logicals it is `<>`")
     else None
 
 abbrev pub foreign_words : List ℕ → Option (List ℕ)
 foreign_words w =
-    if ((str_eq_ignore_ascii_case w (codes "for") || str_eq_ignore_ascii_case w (codes "until"))
-    || str_eq_ignore_ascii_case w (codes "loop")) || str_eq_ignore_ascii_case w (codes "forever")
+    if is_one_of w (codes "for" ∷ codes "until" ∷ codes "loop" ∷ codes "forever" ∷ [])
     then Some (codes "a loop is `while E do S`, or `repeat S`, which has no end")
-    else if str_eq_ignore_ascii_case w (codes "break") || str_eq_ignore_ascii_case w (codes "exit")
+    else if is_one_of w (codes "break" ∷ codes "exit" ∷ [])
     then Some (codes "a loop ends where the test of its `while` is false")
-    else if str_eq_ignore_ascii_case w (codes "return") || str_eq_ignore_ascii_case w (codes "yield")
+    else if is_one_of w (codes "return" ∷ codes "yield" ∷ [])
     then Some (codes "a process has no result: `send E on C` gives a value to another one")
-    else if (str_eq_ignore_ascii_case w (codes "elif") || str_eq_ignore_ascii_case w (codes "elsif"))
-    || str_eq_ignore_ascii_case w (codes "elseif")
+    else if is_one_of w (codes "elif" ∷ codes "elsif" ∷ codes "elseif" ∷ [])
     then Some (codes "it is two words: `else if`")
     else lone_words w
 
 -- of one that begins a statement
 abbrev pub act_words : List ℕ → Option (List ℕ)
 act_words w =
-    if str_eq_ignore_ascii_case w (codes "select") || str_eq_ignore_ascii_case w (codes "alt")
+    if is_one_of w (codes "select" ∷ codes "alt" ∷ [])
     then Some (codes "there is no choice among channels, since timing can't matter: a process waits on one at a time")
-    else if str_eq_ignore_ascii_case w (codes "case") || str_eq_ignore_ascii_case w (codes "switch")
+    else if is_one_of w (codes "case" ∷ codes "switch" ∷ [])
     then Some (codes "a choice is `if E then S else if F then T else ..`")
-    else if str_eq_ignore_ascii_case w (codes "skip") || str_eq_ignore_ascii_case w (codes "pass")
+    else if is_one_of w (codes "skip" ∷ codes "pass" ∷ [])
     then Some (codes "a statement that does nothing is empty, or `begin end`")
     else None
 

@@ -7,3 +7,4 @@ pub mod Held
 pub mod Notes
 pub mod Order
 pub mod Words
+pub mod inner

@@ -28,7 +28,7 @@ use Rattle.kahn_wanted.specs.Wanted.{IsUnexpected}
 use Rattle.kahn_marks.specs.Marks.{marked, times_over}
 use Rattle.kahn_notes.specs.Foreign.{advised}
 use Rattle.kahn_notes.specs.Blocked.{at_words, blocks_words, line_there, open_beside}
-use Rattle.kahn_notes.specs.Closed.{closed_end, early_words}
+use Rattle.kahn_notes.specs.Closed.{IsClosedEnd, early_words}
 use Rattle.kahn_notes.specs.Order.{ranked}
 use Rattle.kahn_notes.specs.Words.{any_words, keyword_words, separator, sign_words}
 
@@ -163,12 +163,9 @@ advised_text text xs span u m b = told_or_mended text xs span u m b (advised tex
 abbrev pub closed_text : List ℕ → Span → Lexeme → Blocks → List ℕ
 closed_text text span e b = remark text span (early_words text e) ++ remark_or_none text span (blocks_words text (Some e) true b)
 
-abbrev pub closed_or_told : List ℕ → List Lexeme → Span → Unexpected → Option Mends → Blocks → Option Lexeme → List ℕ
-closed_or_told text xs span u m b (Some e) = closed_text text span e b
-closed_or_told text xs span u m b None = advised_text text xs span u m b
-
-abbrev pub help_text : List ℕ → List Lexeme → Span → Unexpected → Option Mends → Blocks → List ℕ
-help_text text xs span u m b = closed_or_told text xs span u m b (closed_end xs span.from b)
+abbrev pub help_text : List ℕ → List Lexeme → Span → Unexpected → Option Mends → Blocks → Option Lexeme → List ℕ
+help_text text xs span u m b (Some e) = closed_text text span e b
+help_text text xs span u m b None = advised_text text xs span u m b
 
 -- what is said of a comment before it
 abbrev pub comment_verb : List ℕ → Span → List ℕ
@@ -181,16 +178,21 @@ abbrev pub comment_text : List ℕ → Span → Option Span → List ℕ
 comment_text text span c = remark_or_none text span (option_map (comment_words text) c)
 
 -- that, and below it what is said of the comment before the place: that alone, where nothing else stands before it
-abbrev pub below_text : List ℕ → List Lexeme → Span → Unexpected → Option Mends → Blocks → Option Span → List ℕ
-below_text text xs span u m b c =
-    if not (is_some b.before) && is_some c then comment_text text span c else help_text text xs span u m b ++ comment_text text span c
+abbrev pub below_text : List ℕ → List Lexeme → Span → Unexpected → Option Mends → Blocks → Option Lexeme → Option Span → List ℕ
+below_text text xs span u m b e c =
+    if not (is_some b.before) && is_some c then comment_text text span c else help_text text xs span u m b e ++ comment_text text span c
 
 -- the note on what stands there, and below it the comment before it that has to do with it
 abbrev pub IsCommented : List ℕ → List ℕ → Span → List ℕ → List ℕ → Type 0
 IsCommented path text span words note = (c : Option Span) × IsCommentBefore text span.from c × (note ≡ marked path text span words ++ comment_text text span c)
 
+-- what stands below the note on that place of a text
+abbrev pub StandsBelow : List ℕ → Span → What → Unexpected → List ℕ → Type 0
+StandsBelow text span what u below = (m : Option Mends) × AreMendsOf text span what m × (b : Blocks) × AreBlocksOf text span what b
+    × (xs : List Lexeme) × AreLexemes text xs × (e : Option Lexeme) × IsClosedEnd xs span.from b e
+    × (c : Option Span) × IsCommentBefore text span.from c × (below ≡ below_text text xs span u m b e c)
+
 -- the note on that place of the text of a file
 abbrev pub IsNote : List ℕ → List ℕ → Span → What → String Global → Type 0
-IsNote path text span what note = (u : Unexpected) × IsUnexpected text span what u × (m : Option Mends) × AreMendsOf text span what m
-    × (b : Blocks) × AreBlocksOf text span what b × (c : Option Span) × IsCommentBefore text span.from c × (xs : List Lexeme) × AreLexemes text xs
-    × (string_bytes note ≡ marked path text span (unexpected_words text what u) ++ below_text text xs span u m b c)
+IsNote path text span what note = (u : Unexpected) × IsUnexpected text span what u × (below : List ℕ) × StandsBelow text span what u below
+    × (string_bytes note ≡ marked path text span (unexpected_words text what u) ++ below)

@@ -10,38 +10,38 @@ use Rattle.kahn_syntax.specs.declared.lexeme.Lexeme.{Lexeme}
 use Rattle.kahn_wanted.specs.declared.changes.Spot.{Spot}
 use Rattle.kahn_wanted.specs.declared.changes.Spot.TheVariants.{Between, Here, Before}
 use Rattle.kahn_wanted.specs.declared.changes.Change.{Change}
+use Rattle.kahn_notes.specs.declared.wanting.Needed.{Needed}
+use Rattle.kahn_notes.specs.declared.wanting.Needed.TheVariants as needed
 use Rattle.kahn_notes.specs.declared.order.Rank.{Rank}
 use Rattle.kahn_notes.specs.declared.order.Rank.TheVariants.{First, Then, Never}
+
+-- a lexeme of that class, and one where it was found
+abbrev pub is_needed : Needed → Class → Bool
+is_needed needed.On (class.Word word.On) = true
+is_needed needed.Becomes (class.Sign sign.Becomes) = true
+is_needed needed.Open (class.Sign sign.Open) = true
+is_needed needed.Comma (class.Sign sign.Comma) = true
+is_needed needed.Close (class.Sign sign.Close) = true
+is_needed needed.Semicolon (class.Sign sign.Semicolon) = true
+is_needed needed.Par (class.Word word.Par) = true
+is_needed needed.Begin (class.Word word.Begin) = true
+is_needed needed.End (class.Word word.End) = true
+is_needed needed.Else (class.Word word.Else) = true
+is_needed needed.Channel (class.Word word.Channel) = true
+is_needed needed.Name class.Name = true
+is_needed needed.Print (class.Word word.Print) = true
+is_needed needed.Wait (class.Word word.Wait) = true
+is_needed _ _ = false
+
+abbrev pub finds : Needed → Option Lexeme → Bool
+finds n (Some x) = is_needed n x.what
+finds n None = false
 
 abbrev pub same_rank : Rank → Rank → Bool
 same_rank First First = true
 same_rank Then Then = true
 same_rank Never Never = true
 same_rank _ _ = false
-
-abbrev pub is_semicolon_class : Class → Bool
-is_semicolon_class (class.Sign sign.Semicolon) = true
-is_semicolon_class _ = false
-
-abbrev pub is_else_class : Class → Bool
-is_else_class (class.Word word.Else) = true
-is_else_class _ = false
-
-abbrev pub is_name_class : Class → Bool
-is_name_class class.Name = true
-is_name_class _ = false
-
-abbrev pub is_semicolon : Option Lexeme → Bool
-is_semicolon (Some x) = is_semicolon_class x.what
-is_semicolon None = false
-
-abbrev pub is_else : Option Lexeme → Bool
-is_else (Some x) = is_else_class x.what
-is_else None = false
-
-abbrev pub is_name : Option Lexeme → Bool
-is_name (Some x) = is_name_class x.what
-is_name None = false
 
 abbrev pub is_operator_class : Class → Bool
 is_operator_class (class.Word word.And) = true
@@ -59,27 +59,15 @@ is_operator_class (class.Sign sign.Greater) = true
 is_operator_class (class.Sign sign.AtLeast) = true
 is_operator_class _ = false
 
-abbrev pub is_wait_class : Class → Bool
-is_wait_class (class.Word word.Wait) = true
-is_wait_class _ = false
-
-abbrev pub finds_wait : Option Lexeme → Bool
-finds_wait (Some x) = is_wait_class x.what
-finds_wait None = false
-
-abbrev pub is_print : Class → Bool
-is_print (class.Word word.Print) = true
-is_print _ = false
-
 -- of one put before a `wait` or in its place
 abbrev pub wait_rank : Class → Option Lexeme → Rank
-wait_rank c found = if is_print c && finds_wait found then Never else Then
+wait_rank c found = if is_needed needed.Print c && finds needed.Wait found then Never else Then
 
 -- of a change beside what was found, behind what stands before it
 abbrev pub change_rank : Option Lexeme → Option Lexeme → Spot → Option Class → Rank
-change_rank before found Before None = if is_semicolon before && is_else found then First else Then
-change_rank before found Before (Some c) = if is_operator_class c && is_name before then Never else Then
-change_rank before found Here (Some c) = if is_operator_class c && is_name found then Never else wait_rank c found
+change_rank before found Before None = if finds needed.Semicolon before && finds needed.Else found then First else Then
+change_rank before found Before (Some c) = if is_operator_class c && finds needed.Name before then Never else Then
+change_rank before found Here (Some c) = if is_operator_class c && finds needed.Name found then Never else wait_rank c found
 change_rank before found Between (Some c) = wait_rank c found
 change_rank before found _ _ = Then
 

@@ -1,11 +1,10 @@
 //! What is said where something stands as in another language, or without what belongs to it, by what may stand there.
 
 ghost use Rattle.std.specs.Prelude.{◌≡◌, option_map};
-ghost use Rattle.kahn_notes.specs.Advice.{advice, among_words, assigned_words, awaited_words, becomes_words, begun_words, called_words, comma_words, declaring_words, ended_words, equal_words, instance_words, is_late, late_words, lead_of, naming_words, opened_words, operator_words, par_words, sort_of, stopped_words, stray_words};
+ghost use Rattle.kahn_notes.specs.Advice.{advice, among_words, assigned_words, awaited_words, becomes_words, begun_words, called_words, comma_words, declaring_words, ended_words, instance_words, is_late, late_words, lead_of, naming_words, operator_words, par_words, sort_of, stopped_words, stray_words};
 
 use crate::habits::{Habit, habit_words, lead_of, sort_of};
-use crate::order::is_name;
-use crate::wanting::{Needed, Part, awaits, offers};
+use crate::wanting::{Needed, Part, awaits, finds, offers};
 use kahn_syntax::Lexeme;
 use kahn_wanted::Wanted;
 
@@ -92,26 +91,19 @@ fn assigned_words(wanted: &Wanted) -> Option<&'static str>
     }
 }
 
-/// What is said of `:=` behind the name of a process, or among operators.
-fn equal_words(wanted: &Wanted) -> Option<&'static str>
-    ensures { option_map (λ words. words.now) result ≡ equal_words wanted.now }
-{
-    if awaits(Needed::Open, wanted) {
-        return Some(
-            "an instance is `P(A, B)`: its brackets hand over the channels; statements stand in processes alone",
-        );
-    }
-    Some("equal is `=`; `:=` assigns to a name, in a statement of its own")
-}
-
-/// What is said of `:=`.
+/// What is said of `:=`: there, behind the name of a process, or among operators.
 fn becomes_words(wanted: &Wanted) -> Option<&'static str>
     ensures { option_map (λ words. words.now) result ≡ becomes_words wanted.now }
 {
     if awaits(Needed::Comma, wanted) {
         return assigned_words(wanted);
     }
-    equal_words(wanted)
+    if awaits(Needed::Open, wanted) {
+        return Some(
+            "an instance is `P(A, B)`: its brackets hand over the channels; statements stand in processes alone",
+        );
+    }
+    Some("equal is `=`; `:=` assigns to a name, in a statement of its own")
 }
 
 /// What is said of `,`: between brackets, behind a name that begins a statement, behind a value, or behind the channel of a `send`.
@@ -132,16 +124,19 @@ fn comma_words(before: Option<Lexeme>, wanted: &Wanted) -> Option<&'static str>
     if offers(Part::Operator, wanted) {
         return Some("a statement has one value: `print E; print F`");
     }
-    if is_name(before) {
+    if finds(Needed::Name, before) {
         return Some("a value goes on one channel: `send E on C; send E on D`");
     }
     None
 }
 
 /// What is said of `(` behind a name.
-fn called_words(wanted: &Wanted) -> Option<&'static str>
-    ensures { option_map (λ words. words.now) result ≡ called_words wanted.now }
+fn called_words(before: Option<Lexeme>, wanted: &Wanted) -> Option<&'static str>
+    ensures { option_map (λ words. words.now) result ≡ called_words before wanted.now }
 {
+    if !finds(Needed::Name, before) {
+        return None;
+    }
     if awaits(Needed::Becomes, wanted) {
         return Some(
             "a body calls nothing and starts nothing: instances stand behind all processes",
@@ -153,16 +148,6 @@ fn called_words(wanted: &Wanted) -> Option<&'static str>
         );
     }
     operator_words(wanted)
-}
-
-/// What is said of `(` behind a lexeme.
-fn opened_words(before: Option<Lexeme>, wanted: &Wanted) -> Option<&'static str>
-    ensures { option_map (λ words. words.now) result ≡ opened_words before wanted.now }
-{
-    if is_name(before) {
-        return called_words(wanted);
-    }
-    None
 }
 
 /// Whether a declaration would stand behind instances.
@@ -256,7 +241,7 @@ fn awaited_words(before: Option<Lexeme>, habit: Habit, wanted: &Wanted) -> Optio
         Habit::Comma => comma_words(before, wanted),
         Habit::Semicolon => ended_words(wanted),
         Habit::Stops => stopped_words(wanted),
-        Habit::Open => opened_words(before, wanted),
+        Habit::Open => called_words(before, wanted),
         Habit::If => among_words(wanted),
         Habit::While => stray_words(wanted),
         Habit::Wait => stray_words(wanted),

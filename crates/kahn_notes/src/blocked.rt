@@ -2,15 +2,15 @@
 
 ghost use Rattle.std.specs.Prelude.{◌≡◌, ◌++◌, IfOk, map, option_map, string_bytes};
 ghost use Rattle.kahn_streams.specs.Place.{line_of, column_of};
-ghost use Rattle.kahn_notes.specs.Blocked.{at_words, bare_item, bare_words, begin_words, block_item, blocks_words, column_there, is_closing, is_outside, is_started, tells_open, last_few, line_there, listed_bare, listed_blocks, open_told, open_words, open_beside};
+ghost use Rattle.kahn_notes.specs.Blocked.{at_words, bare_words, begin_words, blocks_words, column_there, is_outside, last_few, line_there, listed_bare, listed_blocks, open_told, open_words, open_beside};
 
 use crate::listing::separator;
-use crate::wanting::{Needed, awaits, has_fewer};
+use crate::wanting::{Needed, awaits, finds, has_fewer};
 use crate::words::class_words;
 use itoa::Buffer;
 use kahn_marks::add;
 use kahn_syntax::{Class, Keyword, Lexeme, Sign, Span};
-use kahn_wanted::{Block, Blocks, Unexpected, Wanted};
+use kahn_wanted::{Block, Blocks, Unexpected};
 use std::alloc::{AllocError, Global};
 
 /// How many are told: the last ones.
@@ -54,28 +54,13 @@ fn begin_words(before: Option<Lexeme>) -> &'static str
     }
 }
 
-/// Adds a block.
-fn add_block(words: &mut String, text: &str, block: Block) -> Result<(), AllocError>
-    ensures { IfOk result (λ _. string_bytes words.new ≡ string_bytes words.old ++ block_item text.now block) }
-{
-    words.push_str(begin_words(block.before))?;
-    add_at(words, text, block.begin.span.from)
-}
-
-/// Adds what leads to a statement.
-fn add_head(words: &mut String, text: &str, head: Lexeme) -> Result<(), AllocError>
-    ensures { IfOk result (λ _. string_bytes words.new ≡ string_bytes words.old ++ bare_item text.now head) }
-{
-    words.push_str(class_words(head.what))?;
-    add_at(words, text, head.span.from)
-}
-
 /// Adds blocks with commas between, and `or` before the last.
 fn add_blocks(words: &mut String, text: &str, blocks: &[Block]) -> Result<(), AllocError>
     ensures { IfOk result (λ _. string_bytes words.new ≡ string_bytes words.old ++ listed_blocks text.now blocks.now) }
 {
     for (number, block) in blocks.iter().enumerate() {
-        add_block(words, text, *block)?;
+        words.push_str(begin_words(block.before))?;
+        add_at(words, text, block.begin.span.from)?;
         words.push_str(separator(blocks.len() - number - 1))?;
     }
     Ok(())
@@ -86,7 +71,8 @@ fn add_heads(words: &mut String, text: &str, heads: &[Lexeme]) -> Result<(), All
     ensures { IfOk result (λ _. string_bytes words.new ≡ string_bytes words.old ++ listed_bare text.now heads.now) }
 {
     for (number, head) in heads.iter().enumerate() {
-        add_head(words, text, *head)?;
+        words.push_str(class_words(head.what))?;
+        add_at(words, text, head.span.from)?;
         words.push_str(separator(heads.len() - number - 1))?;
     }
     Ok(())
@@ -123,16 +109,6 @@ fn bare_words(alloc: Global, text: &str, heads: &[Lexeme]) -> Result<Option<Stri
     Ok(Some(words))
 }
 
-/// Whether it is the keyword `end`.
-fn is_closing(found: Option<Lexeme>) -> bool
-    ensures { result ≡ is_closing found }
-{
-    match found {
-        Some(lexeme) => matches!(lexeme.what, Class::Word(Keyword::End)),
-        None => false,
-    }
-}
-
 /// Whether what was found stands outside of bodies alone: the end of the text, or a declaration.
 fn is_outside(found: Option<Lexeme>) -> bool
     ensures { result ≡ is_outside found }
@@ -158,16 +134,6 @@ fn open_told(found: Option<Lexeme>, blocks: &[Block]) -> &[Block]
     }
 }
 
-/// Whether open blocks may be told: at the end of the text always, else where no change is told that mends the text.
-fn tells_open(found: Option<Lexeme>, mended: bool) -> bool
-    ensures { result ≡ tells_open found mended }
-{
-    match found {
-        Some(_) => !mended,
-        None => true,
-    }
-}
-
 /// What is said of blocks where something was found: at an `end` that may not stand there, of statements without a block; and of
 /// open blocks, at what stands outside of bodies alone.
 pub(crate) fn blocks_words(
@@ -179,25 +145,13 @@ pub(crate) fn blocks_words(
 ) -> Result<Option<String>, AllocError>
     ensures { IfOk result (λ words. option_map string_bytes words ≡ blocks_words text.now found mended blocks.now) }
 {
-    if is_closing(found) {
+    if finds(Needed::End, found) {
         return bare_words(alloc, text, &blocks.bare);
     }
-    if tells_open(found, mended) && is_outside(found) {
+    if (found.is_none() || !mended) && is_outside(found) {
         return open_words(alloc, text, open_told(found, &blocks.unclosed));
     }
     Ok(None)
-}
-
-/// Whether it is a `(` behind the name that begins a statement.
-fn is_started(found: Option<Lexeme>, wanted: &Wanted) -> bool
-    ensures { result ≡ is_started found wanted.now }
-{
-    match found {
-        Some(lexeme) => {
-            matches!(lexeme.what, Class::Sign(Sign::Open)) && awaits(Needed::Becomes, wanted)
-        }
-        None => false,
-    }
 }
 
 /// What is said of blocks beside advice on what was found: of open ones, where an instance may have begun, the text lacks an `end` and
@@ -213,7 +167,7 @@ pub(crate) fn open_beside(
     ensures { IfOk result (λ words. option_map string_bytes words ≡ open_beside text.now lexemes.now unexpected.now mended blocks.now) }
 {
     let found = unexpected.found;
-    if mended || !is_started(found, &unexpected.wanted) {
+    if mended || !finds(Needed::Open, found) || !awaits(Needed::Becomes, &unexpected.wanted) {
         return Ok(None);
     }
     if has_fewer(Needed::End, Needed::Begin, lexemes) {

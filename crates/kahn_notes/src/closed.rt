@@ -1,13 +1,31 @@
 //! What is said of an `end` that closed a block too early, since it was written for a statement that has none.
 
-ghost use Rattle.std.specs.Prelude.{◌≡◌, IfOk, string_bytes};
-ghost use Rattle.kahn_notes.specs.Closed.{at_end, closed_end, early_words, ended_class, last_end, none_so_far, with_head};
+ghost use Rattle.std.specs.Prelude.{◌≡◌, ◌∷◌, ◌++◌, [], Bool, IfOk, List, string_bytes};
+ghost use Rattle.kahn_syntax.specs.declared.lexeme.Lexeme.{Lexeme};
+ghost use Rattle.kahn_notes.specs.declared.closed.Seam.TheVariants.{Ends};
+ghost use Rattle.kahn_notes.specs.Closed.{IsClosedEnd, IsLastEnd, before_place, early_words, seam_of};
+ghost use Rattle.kahn_notes.specs.inner.Closing.{KeepsEnd};
 
 use crate::blocked::add_at;
 use crate::wanting::{Needed, has_fewer};
 use kahn_syntax::{Class, Keyword, Lexeme, Sign};
 use kahn_wanted::Blocks;
-use std::alloc::{AllocError, Global};
+use std::alloc::AllocError;
+
+/// What a lexeme is to the statements beside it.
+#[derive(Clone, Copy)]
+pub(crate) enum Seam {
+    /// `do`, `then`, `else` or `repeat`: a statement stands behind it.
+    Leads,
+    /// `begin` or `;`: none stands behind it that isn't a block, or part of one.
+    Parts,
+    /// `end`.
+    Ends,
+    /// `process`.
+    Renews,
+    /// Any other.
+    Within,
+}
 
 /// The last `end` of a process so far; one that ends a statement without a block is taken before others.
 #[derive(Clone, Copy)]
@@ -27,16 +45,27 @@ const NONE: Ended = Ended {
     last: None,
 };
 
-/// Those so far, with a statement that stands there or doesn't.
-fn with_head(so_far: Ended, headed: bool) -> Ended
-    ensures { result ≡ with_head so_far headed }
+/// What a lexeme is to the statements beside it.
+fn seam_of(class: Class) -> Seam
+    ensures { result ≡ seam_of class }
 {
-    Ended { headed, ..so_far }
+    match class {
+        Class::Word(Keyword::Do) => Seam::Leads,
+        Class::Word(Keyword::Then) => Seam::Leads,
+        Class::Word(Keyword::Else) => Seam::Leads,
+        Class::Word(Keyword::Repeat) => Seam::Leads,
+        Class::Word(Keyword::Begin) => Seam::Parts,
+        Class::Sign(Sign::Semicolon) => Seam::Parts,
+        Class::Word(Keyword::End) => Seam::Ends,
+        Class::Word(Keyword::Process) => Seam::Renews,
+        _ => Seam::Within,
+    }
 }
 
 /// What an `end` makes of those so far.
 fn at_end(so_far: Ended, lexeme: Lexeme) -> Ended
-    ensures { result ≡ at_end so_far lexeme }
+    requires { seam_of lexeme.what ≡ Ends }
+    ensures { (xs : List Lexeme) → KeepsEnd xs so_far → KeepsEnd (xs ++ lexeme ∷ []) result }
 {
     if so_far.sure && !so_far.headed {
         return so_far;
@@ -49,30 +78,32 @@ fn at_end(so_far: Ended, lexeme: Lexeme) -> Ended
 }
 
 /// What a lexeme makes of them.
-fn ended_class(so_far: Ended, lexeme: Lexeme) -> Ended
-    ensures { result ≡ ended_class so_far lexeme lexeme.what }
+fn passed(so_far: Ended, lexeme: Lexeme) -> Ended
+    ensures { (xs : List Lexeme) → KeepsEnd xs so_far → KeepsEnd (xs ++ lexeme ∷ []) result }
 {
-    match lexeme.what {
-        Class::Word(Keyword::End) => at_end(so_far, lexeme),
-        Class::Word(Keyword::Process) => NONE,
-        Class::Word(Keyword::Begin) => with_head(so_far, false),
-        Class::Sign(Sign::Semicolon) => with_head(so_far, false),
-        Class::Word(Keyword::Do) => with_head(so_far, true),
-        Class::Word(Keyword::Then) => with_head(so_far, true),
-        Class::Word(Keyword::Else) => with_head(so_far, true),
-        Class::Word(Keyword::Repeat) => with_head(so_far, true),
-        _ => so_far,
+    match seam_of(lexeme.what) {
+        Seam::Leads => Ended {
+            headed: true,
+            ..so_far
+        },
+        Seam::Parts => Ended {
+            headed: false,
+            ..so_far
+        },
+        Seam::Ends => at_end(so_far, lexeme),
+        Seam::Renews => NONE,
+        Seam::Within => so_far,
     }
 }
 
-/// The `end` before a place that was written for a statement, or else the last one, behind the last `process`.
+/// The last `end` before a place, behind the last `process` there: of those that end a statement without a block, where there are some.
 fn last_end(at: usize, lexemes: &[Lexeme]) -> Option<Lexeme>
-    ensures { result ≡ (last_end at none_so_far lexemes.now).last }
+    ensures { (sure : Bool) × IsLastEnd (before_place at lexemes.now) sure result }
 {
     let mut so_far = NONE;
     for lexeme in lexemes {
         if lexeme.span.from < at {
-            so_far = ended_class(so_far, *lexeme);
+            so_far = passed(so_far, *lexeme);
         }
     }
     so_far.last
@@ -80,7 +111,7 @@ fn last_end(at: usize, lexemes: &[Lexeme]) -> Option<Lexeme>
 
 /// That `end`, where the lexemes have too many of them, and the place stands in no process.
 pub(crate) fn closed_end(lexemes: &[Lexeme], at: usize, blocks: &Blocks) -> Option<Lexeme>
-    ensures { result ≡ closed_end lexemes.now at blocks.now }
+    ensures { IsClosedEnd lexemes.now at blocks.now result }
 {
     if blocks.unclosed.len() == 1 && has_fewer(Needed::Begin, Needed::End, lexemes) {
         return last_end(at, lexemes);
@@ -88,12 +119,11 @@ pub(crate) fn closed_end(lexemes: &[Lexeme], at: usize, blocks: &Blocks) -> Opti
     None
 }
 
-/// What is said of it.
-pub(crate) fn early_words(alloc: Global, text: &str, end: Lexeme) -> Result<String, AllocError>
-    ensures { IfOk result (λ words. string_bytes words ≡ early_words text.now end) }
+/// Adds what is said of it.
+pub(crate) fn add_early(words: &mut String, text: &str, end: Lexeme) -> Result<(), AllocError>
+    ensures { IfOk result (λ _. string_bytes words.new ≡ string_bytes words.old ++ early_words text.now end) }
 {
-    let mut words = String::from_str(alloc, "the `end`")?;
-    add_at(&mut words, text, end.span.from)?;
-    words.push_str(" closes a block: an `if`, a `while` or a `repeat` has no `end` of its own")?;
-    Ok(words)
+    words.push_str("the `end`")?;
+    add_at(words, text, end.span.from)?;
+    words.push_str(" closes a block: an `if`, a `while` or a `repeat` has no `end` of its own")
 }

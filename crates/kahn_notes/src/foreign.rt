@@ -1,6 +1,8 @@
 //! Words of other languages, and what this one has in their place.
 
 ghost use Rattle.std.specs.Prelude.{◌≡◌, option_map};
+ghost use Rattle.std.specs.List.{list_any};
+ghost use Rattle.std.specs.Str.{str_eq_ignore_ascii_case};
 ghost use Rattle.kahn_notes.specs.Foreign.{act_words, acting_words, advised, foreign, foreign_words, joins, lone_words, name_before, spelled_name};
 
 use crate::advice::advice;
@@ -8,27 +10,29 @@ use crate::wanting::{Needed, awaits};
 use kahn_syntax::{Class, Lexeme, Sign};
 use kahn_wanted::{Wanted, bytes_between};
 
+/// Whether a word is one of these, in any letter case.
+fn is_one_of(word: &[u8], others: &[&str]) -> bool
+    ensures { result ≡ list_any (λ other. str_eq_ignore_ascii_case word.now other.now) others.now }
+{
+    for other in others {
+        if word.eq_ignore_ascii_case(other.as_bytes()) {
+            return true;
+        }
+    }
+    false
+}
+
 /// What is said of a word for a kind, for the end of a statement, for a constant or for an operator.
 fn lone_words(word: &[u8]) -> Option<&'static str>
     ensures { option_map (λ words. words.now) result ≡ lone_words word.now }
 {
-    if word.eq_ignore_ascii_case(b"int")
-        || word.eq_ignore_ascii_case(b"bool")
-        || word.eq_ignore_ascii_case(b"boolean")
-        || word.eq_ignore_ascii_case(b"var")
-        || word.eq_ignore_ascii_case(b"real")
-        || word.eq_ignore_ascii_case(b"float")
-    {
+    if is_one_of(word, &["int", "bool", "boolean", "var", "real", "float"]) {
         Some("the kinds are `integer` and `logical`; one stands before its names")
-    } else if word.eq_ignore_ascii_case(b"endif")
-        || word.eq_ignore_ascii_case(b"endwhile")
-        || word.eq_ignore_ascii_case(b"fi")
-        || word.eq_ignore_ascii_case(b"od")
-    {
+    } else if is_one_of(word, &["endif", "endwhile", "fi", "od"]) {
         Some("an `if`, a `while` or a `repeat` has no `end` of its own")
-    } else if word.eq_ignore_ascii_case(b"const") || word.eq_ignore_ascii_case(b"constant") {
+    } else if is_one_of(word, &["const", "constant"]) {
         Some("there are no constants: an instance hands a number over, `P(A, 10)`")
-    } else if word.eq_ignore_ascii_case(b"xor") {
+    } else if is_one_of(word, &["xor"]) {
         Some("there is no exclusive or: of logicals it is `<>`")
     } else {
         None
@@ -39,20 +43,13 @@ fn lone_words(word: &[u8]) -> Option<&'static str>
 fn foreign_words(word: &[u8]) -> Option<&'static str>
     ensures { option_map (λ words. words.now) result ≡ foreign_words word.now }
 {
-    if word.eq_ignore_ascii_case(b"for")
-        || word.eq_ignore_ascii_case(b"until")
-        || word.eq_ignore_ascii_case(b"loop")
-        || word.eq_ignore_ascii_case(b"forever")
-    {
+    if is_one_of(word, &["for", "until", "loop", "forever"]) {
         Some("a loop is `while E do S`, or `repeat S`, which has no end")
-    } else if word.eq_ignore_ascii_case(b"break") || word.eq_ignore_ascii_case(b"exit") {
+    } else if is_one_of(word, &["break", "exit"]) {
         Some("a loop ends where the test of its `while` is false")
-    } else if word.eq_ignore_ascii_case(b"return") || word.eq_ignore_ascii_case(b"yield") {
+    } else if is_one_of(word, &["return", "yield"]) {
         Some("a process has no result: `send E on C` gives a value to another one")
-    } else if word.eq_ignore_ascii_case(b"elif")
-        || word.eq_ignore_ascii_case(b"elsif")
-        || word.eq_ignore_ascii_case(b"elseif")
-    {
+    } else if is_one_of(word, &["elif", "elsif", "elseif"]) {
         Some("it is two words: `else if`")
     } else {
         lone_words(word)
@@ -63,13 +60,13 @@ fn foreign_words(word: &[u8]) -> Option<&'static str>
 fn act_words(word: &[u8]) -> Option<&'static str>
     ensures { option_map (λ words. words.now) result ≡ act_words word.now }
 {
-    if word.eq_ignore_ascii_case(b"select") || word.eq_ignore_ascii_case(b"alt") {
+    if is_one_of(word, &["select", "alt"]) {
         Some(
             "there is no choice among channels, since timing can't matter: a process waits on one at a time",
         )
-    } else if word.eq_ignore_ascii_case(b"case") || word.eq_ignore_ascii_case(b"switch") {
+    } else if is_one_of(word, &["case", "switch"]) {
         Some("a choice is `if E then S else if F then T else ..`")
-    } else if word.eq_ignore_ascii_case(b"skip") || word.eq_ignore_ascii_case(b"pass") {
+    } else if is_one_of(word, &["skip", "pass"]) {
         Some("a statement that does nothing is empty, or `begin end`")
     } else {
         None

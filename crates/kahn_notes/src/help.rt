@@ -5,7 +5,7 @@ ghost use Rattle.kahn_notes.specs.Blocked.{open_beside};
 ghost use Rattle.kahn_notes.specs.Notes.{MayFind, advised_text, below_text, beside_text, closed_text, help_text};
 
 use crate::blocked::open_beside;
-use crate::closed::{closed_end, early_words};
+use crate::closed::add_early;
 use crate::commented::add_comment;
 use crate::foreign::advised;
 use crate::mended::{add_blocks_remark, add_mended, add_remark, is_mended};
@@ -24,7 +24,8 @@ fn add_closed(
 ) -> Result<(), AllocError>
     ensures { IfOk result (λ _. string_bytes note.new ≡ string_bytes note.old ++ closed_text text.now span end blocks.now) }
 {
-    let words = early_words(alloc, text, end)?;
+    let mut words = String::new(alloc);
+    add_early(&mut words, text, end)?;
     add_remark(note, text, span, words.as_str())?;
     add_blocks_remark(note, alloc, text, span, Some(end), true, blocks)
 }
@@ -80,23 +81,24 @@ fn add_advised(
     }
 }
 
-/// Adds what is said of an `end` that closed a block too early, or else that.
+/// Adds what is said of an `end` that closed a block too early, where there is one, or else that.
 fn add_help(
     note: &mut String,
     alloc: Global,
     text: &str,
     lexemes: &[Lexeme],
     span: Span,
-    unexpected: &Unexpected,
+    place: &Unexpected,
     mends: &Option<Mends>,
     blocks: &Blocks,
+    end: Option<Lexeme>,
 ) -> Result<(), AllocError>
     requires { IfSome mends.now (λ m. MayFind text.now m.before) }
-    ensures { IfOk result (λ _. string_bytes note.new ≡ string_bytes note.old ++ help_text text.now lexemes.now span unexpected.now mends.now blocks.now) }
+    ensures { IfOk result (λ _. string_bytes note.new ≡ string_bytes note.old ++ help_text text.now lexemes.now span place.now mends.now blocks.now end) }
 {
-    match closed_end(lexemes, span.from, blocks) {
+    match end {
         Some(end) => add_closed(note, alloc, text, span, end, blocks),
-        None => add_advised(note, alloc, text, lexemes, span, unexpected, mends, blocks),
+        None => add_advised(note, alloc, text, lexemes, span, place, mends, blocks),
     }
 }
 
@@ -107,17 +109,18 @@ pub(crate) fn add_below(
     text: &str,
     lexemes: &[Lexeme],
     span: Span,
-    unexpected: &Unexpected,
+    place: &Unexpected,
     mends: &Option<Mends>,
     blocks: &Blocks,
+    end: Option<Lexeme>,
     comment: Option<Span>,
 ) -> Result<(), AllocError>
     requires { IfSome mends.now (λ m. MayFind text.now m.before) }
-    ensures { IfOk result (λ _. string_bytes note.new ≡ string_bytes note.old ++ below_text text.now lexemes.now span unexpected.now mends.now blocks.now comment) }
+    ensures { IfOk result (λ _. string_bytes note.new ≡ string_bytes note.old ++ below_text text.now lexemes.now span place.now mends.now blocks.now end comment) }
 {
     if blocks.before.is_none() && comment.is_some() {
         return add_comment(note, alloc, text, span, comment);
     }
-    add_help(note, alloc, text, lexemes, span, unexpected, mends, blocks)?;
+    add_help(note, alloc, text, lexemes, span, place, mends, blocks, end)?;
     add_comment(note, alloc, text, span, comment)
 }

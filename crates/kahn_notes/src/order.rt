@@ -1,8 +1,9 @@
 //! Which changes are told.
 
 ghost use Rattle.std.specs.Prelude.{◌≡◌, ◌++◌, IfOk};
-ghost use Rattle.kahn_notes.specs.Order.{is_else, is_name, is_operator_class, is_print, is_semicolon, finds_wait, of_rank, change_rank, ranked, same_rank};
+ghost use Rattle.kahn_notes.specs.Order.{is_operator_class, of_rank, change_rank, ranked, same_rank};
 
+use crate::wanting::{Needed, finds, is_needed};
 use kahn_syntax::{Class, Keyword, Lexeme, Sign};
 use kahn_wanted::{Change, Spot};
 use std::alloc::{AllocError, Global};
@@ -28,53 +29,6 @@ fn same_rank(one: Rank, other: Rank) -> bool
         (Rank::Never, Rank::Never) => true,
         _ => false,
     }
-}
-
-/// Whether it is a `;`.
-fn is_semicolon(lexeme: Option<Lexeme>) -> bool
-    ensures { result ≡ is_semicolon lexeme }
-{
-    match lexeme {
-        Some(lexeme) => matches!(lexeme.what, Class::Sign(Sign::Semicolon)),
-        None => false,
-    }
-}
-
-/// Whether it is the keyword `else`.
-fn is_else(lexeme: Option<Lexeme>) -> bool
-    ensures { result ≡ is_else lexeme }
-{
-    match lexeme {
-        Some(lexeme) => matches!(lexeme.what, Class::Word(Keyword::Else)),
-        None => false,
-    }
-}
-
-/// Whether it is a name.
-pub(crate) fn is_name(lexeme: Option<Lexeme>) -> bool
-    ensures { result ≡ is_name lexeme }
-{
-    match lexeme {
-        Some(lexeme) => matches!(lexeme.what, Class::Name),
-        None => false,
-    }
-}
-
-/// Whether it is the keyword `wait`.
-fn finds_wait(lexeme: Option<Lexeme>) -> bool
-    ensures { result ≡ finds_wait lexeme }
-{
-    match lexeme {
-        Some(lexeme) => matches!(lexeme.what, Class::Word(Keyword::Wait)),
-        None => false,
-    }
-}
-
-/// Whether it is the keyword `print`.
-fn is_print(class: Class) -> bool
-    ensures { result ≡ is_print class }
-{
-    matches!(class, Class::Word(Keyword::Print))
 }
 
 /// Whether it is an operator.
@@ -104,11 +58,16 @@ fn change_rank(before: Option<Lexeme>, found: Option<Lexeme>, change: Change) ->
     ensures { result ≡ change_rank before found change.spot change.put }
 {
     match (change.spot, change.put) {
-        (Spot::Before, None) if is_semicolon(before) && is_else(found) => Rank::First,
-        (Spot::Before, Some(class)) if is_operator_class(class) && is_name(before) => Rank::Never,
-        (Spot::Here, Some(class)) if is_operator_class(class) && is_name(found) => Rank::Never,
-        (Spot::Here, Some(class)) if is_print(class) && finds_wait(found) => Rank::Never,
-        (Spot::Between, Some(class)) if is_print(class) && finds_wait(found) => Rank::Never,
+        (Spot::Before, None) if finds(Needed::Semicolon, before) && finds(Needed::Else, found) =>
+            Rank::First,
+        (Spot::Before, Some(class)) if is_operator_class(class) && finds(Needed::Name, before) =>
+            Rank::Never,
+        (Spot::Here, Some(class)) if is_operator_class(class) && finds(Needed::Name, found) =>
+            Rank::Never,
+        (Spot::Here, Some(class))
+            if is_needed(Needed::Print, class) && finds(Needed::Wait, found) => Rank::Never,
+        (Spot::Between, Some(class))
+            if is_needed(Needed::Print, class) && finds(Needed::Wait, found) => Rank::Never,
         _ => Rank::Then,
     }
 }

@@ -1,10 +1,12 @@
 //! What is said of a lexeme that can't stand where it stands, or of a text that ends too early.
 
-ghost use Rattle.std.specs.Prelude.{◌≡◌, ◌++◌, IfOk, string_bytes};
+ghost use Rattle.std.specs.Prelude.{◌≡◌, ◌++◌, ℕ, IfOk, List, string_bytes};
 ghost use Rattle.kahn_syntax.specs.declared.fault.SyntaxFault.TheVariants.{Expected};
 ghost use Rattle.kahn_syntax.specs.Texts.{IsProper, IsTextFault};
-ghost use Rattle.kahn_notes.specs.Notes.{IsNote, MayFind, found_words, lexeme_words, unexpected_words};
+ghost use Rattle.kahn_marks.specs.Marks.{marked};
+ghost use Rattle.kahn_notes.specs.Notes.{StandsBelow, IsNote, MayFind, found_words, lexeme_words, unexpected_words};
 
+use crate::closed::closed_end;
 use crate::help::add_below;
 use crate::listing::{add_listed, pieces_of};
 use crate::words::{keyword_words, sign_words};
@@ -45,23 +47,65 @@ fn add_found(note: &mut String, text: &str, found: Option<Lexeme>) -> Result<(),
     }
 }
 
-/// What is said of a place.
-fn words_of(
+/// Adds what is said of a place.
+fn add_words(
+    words: &mut String,
     alloc: Global,
     text: &str,
     what: What,
     unexpected: &Unexpected,
-) -> Result<String, AllocError>
+) -> Result<(), AllocError>
     requires { MayFind text.now unexpected.now.found }
-    ensures { IfOk result (λ words. string_bytes words ≡ unexpected_words text.now what unexpected.now) }
+    ensures { IfOk result (λ _. string_bytes words.new ≡ string_bytes words.old ++ unexpected_words text.now what unexpected.now) }
 {
-    let mut words = String::from_str(alloc, "found ")?;
-    add_found(&mut words, text, unexpected.found)?;
+    words.push_str("found ")?;
+    add_found(words, text, unexpected.found)?;
     words.push_str(", where ")?;
     let pieces = pieces_of(alloc, &unexpected.wanted, what)?;
-    add_listed(&mut words, &pieces)?;
-    words.push_str(" may stand")?;
-    Ok(words)
+    add_listed(words, &pieces)?;
+    words.push_str(" may stand")
+}
+
+/// The note on a place without what stands below it.
+fn place_note(
+    alloc: Global,
+    path: &str,
+    text: &str,
+    span: Span,
+    what: What,
+    unexpected: &Unexpected,
+) -> Result<String, AllocError>
+    requires { MayFind text.now unexpected.now.found }
+    ensures { IfOk result (λ note. string_bytes note ≡ marked path.now text.now span (unexpected_words text.now what unexpected.now)) }
+{
+    let mut words = String::new(alloc);
+    add_words(&mut words, alloc, text, what, unexpected)?;
+    marked(alloc, path, text, span, words.as_str())
+}
+
+/// Adds what stands below it.
+fn add_rest(
+    note: &mut String,
+    alloc: Global,
+    text: &str,
+    span: Span,
+    what: What,
+    unexpected: &Unexpected,
+) -> Result<(), NoMemory>
+    requires { IsTextFault text.now (Expected span what) }
+    ensures { IfOk result (λ _. (below : List ℕ) × StandsBelow text.now span what unexpected.now below × (string_bytes note.new ≡ string_bytes note.old ++ below)) }
+{
+    let comment = comment_before(alloc, text, span.from)?;
+    let mends = mends_at(alloc, text, span, what)?;
+    let blocks = blocks_at(alloc, text, span, what)?;
+    let Ok(lexemes) = lex(alloc, text) else {
+        return Err(NoMemory);
+    };
+    let end = closed_end(&lexemes, span.from, &blocks);
+    add_below(
+        note, alloc, text, &lexemes, span, unexpected, &mends, &blocks, end, comment,
+    )?;
+    Ok(())
 }
 
 /// A note on a place where a text goes wrong: what stands there and what may stand there; which `end` closed a block too early, or what
@@ -80,26 +124,8 @@ pub fn unexpected_note(
     requires { IsTextFault text.now (Expected span what) }
     ensures { IfOk result (IsNote path.now text.now span what) }
 {
-    let comment = comment_before(alloc, text, span.from)?;
     let unexpected = wanted_at(alloc, text, span, what)?;
-    let words = words_of(alloc, text, what, &unexpected)?;
-    let mut note = marked(alloc, path, text, span, words.as_str())?;
-    drop(words);
-    let mends = mends_at(alloc, text, span, what)?;
-    let blocks = blocks_at(alloc, text, span, what)?;
-    let Ok(lexemes) = lex(alloc, text) else {
-        return Err(NoMemory);
-    };
-    add_below(
-        &mut note,
-        alloc,
-        text,
-        &lexemes,
-        span,
-        &unexpected,
-        &mends,
-        &blocks,
-        comment,
-    )?;
+    let mut note = place_note(alloc, path, text, span, what, &unexpected)?;
+    add_rest(&mut note, alloc, text, span, what, &unexpected)?;
     Ok(note)
 }

@@ -1,12 +1,13 @@
 //! Which lexemes and groups of them may stand at a place.
 
 ghost use Rattle.std.specs.Prelude.{◌≡◌};
-ghost use Rattle.kahn_notes.specs.Advice.{awaits, count_of, has_fewer, is_needed, is_part, offers};
+ghost use Rattle.kahn_notes.specs.Advice.{awaits, count_of, has_fewer, is_part, offers};
+ghost use Rattle.kahn_notes.specs.Order.{finds, is_needed};
 
 use kahn_syntax::{Class, Keyword, Lexeme, Sign};
 use kahn_wanted::{Group, Wanted};
 
-/// A lexeme that may stand at a place.
+/// A class of lexemes that tells what was meant.
 #[derive(Clone, Copy)]
 pub(crate) enum Needed {
     /// The keyword `on`.
@@ -33,6 +34,10 @@ pub(crate) enum Needed {
     Channel,
     /// A name.
     Name,
+    /// The keyword `print`.
+    Print,
+    /// The keyword `wait`.
+    Wait,
 }
 
 /// What may stand at a place, by a group.
@@ -51,7 +56,7 @@ pub(crate) enum Part {
 }
 
 /// Whether it is that lexeme.
-fn is_needed(needed: Needed, class: Class) -> bool
+pub(crate) fn is_needed(needed: Needed, class: Class) -> bool
     ensures { result ≡ is_needed needed class }
 {
     match (needed, class) {
@@ -67,7 +72,19 @@ fn is_needed(needed: Needed, class: Class) -> bool
         (Needed::Else, Class::Word(Keyword::Else)) => true,
         (Needed::Channel, Class::Word(Keyword::Channel)) => true,
         (Needed::Name, Class::Name) => true,
+        (Needed::Print, Class::Word(Keyword::Print)) => true,
+        (Needed::Wait, Class::Word(Keyword::Wait)) => true,
         _ => false,
+    }
+}
+
+/// Whether that lexeme was found.
+pub(crate) fn finds(needed: Needed, lexeme: Option<Lexeme>) -> bool
+    ensures { result ≡ finds needed lexeme }
+{
+    match lexeme {
+        Some(lexeme) => is_needed(needed, lexeme.what),
+        None => false,
     }
 }
 

@@ -3,6 +3,7 @@ mod Answering
 mod Classes
 mod Front
 mod Gaps
+mod Opened
 mod Splices
 pub mod Suspects
 mod Whole

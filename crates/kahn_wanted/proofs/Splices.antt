@@ -1,20 +1,18 @@
 -- Changes of lists of lexemes, and which of them are picked.
-use Rattle.std.proofs.Common.{◌≡◌, ◌↔◌, ℕ, zero, suc, ◌+◌, ◌-◌, ◌≤◌, ◌<◌, List, [], ◌∷◌, ◌++◌, Bool, true, false, Option, Some, None, length, take, drop, map, get_or, slice_get, refl, sym, ap, ◌∙◌, subst, arith, append_assoc, All, IsUtf8, MatchBool}
+use Rattle.std.proofs.Common.{◌≡◌, ◌↔◌, ℕ, zero, suc, ◌+◌, ◌-◌, ◌<◌, List, [], ◌∷◌, ◌++◌, Bool, true, false, Option, Some, None, length, take, drop, map, get_or, refl, sym, ap, ◌∙◌, subst, append_assoc, All, IsUtf8, MatchBool}
 use Rattle.std.specs.Prelude.{not}
 use Rattle.std.proofs.lemmas.List.{take_more}
 use Rattle.std.proofs.lemmas.List.Elements.{All-append, All-from_recursion, All-map}
-use Rattle.kahn_streams.specs.declared.span.Span.{Span}
 use Rattle.kahn_syntax.specs.declared.lexeme.Class.{Class}
 use Rattle.kahn_syntax.specs.declared.lexeme.Lexeme.{Lexeme}
 use Rattle.kahn_syntax.specs.Grammar.{Terminal}
-use Rattle.kahn_syntax.specs.Texts.{terminal, terminals, AreProper, IsProper, IsUnsigned, IsWholeWithin}
+use Rattle.kahn_syntax.specs.Texts.{terminal, terminals, AreProper, IsWholeWithin}
 use Rattle.kahn_syntax.proofs.Meaning.{terminals_append}
 use Rattle.kahn_wanted.specs.declared.asked.TheConstants.{CLASSES}
 use Rattle.kahn_wanted.specs.declared.changes.Spot.{Spot}
 use Rattle.kahn_wanted.specs.declared.changes.Spot.TheVariants.{Between, Here, Before}
 use Rattle.kahn_wanted.specs.declared.changes.Change.{Change}
-use Rattle.kahn_wanted.specs.Mends.{HasSpot, IsMend, IsNoMend, IsPutThere, Picked, none_left, is_in, is_out, all_classes, changed, left_out, near_changes, put_at}
-use Rattle.kahn_wanted.specs.Wanted.{class_of_terminal}
+use Rattle.kahn_wanted.specs.Mends.{IsMend, IsNoMend, IsPutThere, Picked, none_left, is_in, is_out, changed, left_out, near_changes, put_at}
 use Rattle.kahn_wanted.specs.inner.Asked.{nowhere}
 use Rattle.kahn_wanted.specs.inner.Tried.{IsPlain, Makes, put_lexemes}
 use Rattle.kahn_wanted.proofs.Alike.{Probed, probed}

@@ -1,5 +1,5 @@
 -- Believed. Which blocks are open at a place of a text, and which statements before it begin on a line of their own without one.
-use Rattle.std.specs.Prelude.{◌≡◌, ◌==◌, ◌-◌, ℕ, Bool, true, false, ◌&&◌, List, [], ◌∷◌, ◌++◌, Option, Some, None, if◌then◌else◌, length, nat_le, not, slice_range, take}
+use Rattle.std.specs.Prelude.{◌≡◌, ◌==◌, ◌-◌, ℕ, zero, suc, Bool, true, false, ◌&&◌, List, [], ◌∷◌, ◌++◌, Option, Some, None, if◌then◌else◌, length, nat_le, not, slice_range, take}
 use Rattle.std.specs.List.{list_any}
 use Rattle.kahn_streams.specs.declared.span.Span.{Span}
 use Rattle.kahn_syntax.specs.declared.fault.What.{What}
@@ -14,19 +14,28 @@ use Rattle.kahn_wanted.specs.declared.blocks.Blocks.{Blocks}
 
 -- ---- open blocks
 
-abbrev pub without_last : List Block → List Block
-without_last bs = take (length bs - 1) bs
+abbrev pub is_begin : Class → Bool
+is_begin (class.Word word.Begin) = true
+is_begin _ = false
 
--- the blocks that are open behind a lexeme of a class: `begin` opens one, and `end` closes the last one
-abbrev pub blocks_after : List Block → Option Lexeme → Lexeme → Class → List Block
-blocks_after bs last x (class.Word word.Begin) = bs ++ (record { before = last; begin = x } ∷ [])
-blocks_after bs last x (class.Word word.End) = without_last bs
-blocks_after bs last x _ = bs
+-- how many of the blocks that are open before lexemes are closed in these: an `end` closes the last one that is open
+abbrev pub closed_from : Class → ℕ → ℕ
+closed_from (class.Word word.Begin) n = n - 1
+closed_from (class.Word word.End) n = suc n
+closed_from _ n = n
 
--- behind lexemes
-abbrev pub open_behind : List Block → Option Lexeme → List Lexeme → List Block
-open_behind bs last [] = bs
-open_behind bs last (x ∷ xs) = open_behind (blocks_after bs last x x.what) (Some x) xs
+abbrev pub closed_in : List Lexeme → ℕ
+closed_in [] = 0
+closed_in (x ∷ xs) = closed_from x.what (closed_in xs)
+
+-- the block of a lexeme, where it opens one that none of so many closes; and those of lexemes, behind what stands before them
+abbrev pub block_of : Option Lexeme → Lexeme → Class → ℕ → List Block
+block_of last x (class.Word word.Begin) zero = record { before = last; begin = x } ∷ []
+block_of last x _ n = []
+
+abbrev pub open_blocks : Option Lexeme → List Lexeme → List Block
+open_blocks last [] = []
+open_blocks last (x ∷ xs) = block_of last x x.what (closed_in xs) ++ open_blocks (Some x) xs
 
 -- ---- statements without a block
 
@@ -37,10 +46,6 @@ leads_on (class.Word word.Then) = true
 leads_on (class.Word word.Else) = true
 leads_on (class.Word word.Repeat) = true
 leads_on _ = false
-
-abbrev pub is_begin : Class → Bool
-is_begin (class.Word word.Begin) = true
-is_begin _ = false
 
 abbrev pub is_process : Class → Bool
 is_process (class.Word word.Process) = true
@@ -54,24 +59,19 @@ bytes_between text a b = if nat_le a b && nat_le b (length text) then slice_rang
 abbrev pub is_bare : List ℕ → Lexeme → Lexeme → Bool
 is_bare text head x = leads_on head.what && not (is_begin x.what) && list_any (λ b. b == 10) (bytes_between text head.span.to x.span.from)
 
-abbrev pub bare_next : List ℕ → List Lexeme → Option Lexeme → Lexeme → List Lexeme
-bare_next text bare None x = bare
-bare_next text bare (Some head) x = if is_bare text head x then bare ++ (head ∷ []) else bare
-
-abbrev pub bare_after : List ℕ → List Lexeme → Option Lexeme → Lexeme → List Lexeme
-bare_after text bare last x = if is_process x.what then [] else bare_next text bare last x
-
 -- what leads to such statements in lexemes, behind the last `process`
-abbrev pub bare_behind : List ℕ → List Lexeme → Option Lexeme → List Lexeme → List Lexeme
-bare_behind text bare last [] = bare
-bare_behind text bare last (x ∷ xs) = bare_behind text (bare_after text bare last x) (Some x) xs
+abbrev pub bare_heads : List ℕ → List Lexeme → List Lexeme
+bare_heads text [] = []
+bare_heads text (head ∷ []) = []
+bare_heads text (head ∷ x ∷ xs) =
+    if is_bare text head x && not (list_any (λ y. is_process y.what) (x ∷ xs)) then head ∷ bare_heads text (x ∷ xs) else bare_heads text (x ∷ xs)
 
 -- ---- at a place
 
 pub record AreBlocks (text : List ℕ) (xs : List Lexeme) (i : ℕ) (b : Blocks) : Type 0 where
   pub before : b.before ≡ lexeme_before xs i
-  pub open_ones : b.unclosed.items ≡ open_behind [] None (take i xs)
-  pub bare_ones : b.bare.items ≡ bare_behind text [] None (take i xs)
+  pub open_ones : b.unclosed.items ≡ open_blocks None (take i xs)
+  pub bare_ones : b.bare.items ≡ bare_heads text (take i xs)
 
 abbrev pub AreBlocksAt : List ℕ → List Lexeme → Span → What → Blocks → Type 0
 AreBlocksAt text xs span what b = (i : ℕ) × IsPlace xs span what i × AreBlocks text xs i b

@@ -9,7 +9,7 @@ use Rattle.kahn_syntax.specs.declared.lexeme.Sign.{Sign}
 use Rattle.kahn_syntax.specs.declared.lexeme.Sign.TheVariants as sign
 use Rattle.kahn_syntax.specs.declared.lexeme.Lexeme.{Lexeme}
 use Rattle.kahn_syntax.specs.declared.fault.What.{What}
-use Rattle.kahn_syntax.specs.declared.fault.What.TheVariants.{More, Nothing, Other}
+use Rattle.kahn_syntax.specs.declared.fault.What.TheVariants.{More}
 use Rattle.kahn_syntax.specs.Grammar.{Terminal}
 use Rattle.kahn_syntax.specs.Texts.{terminal, terminals, AreLexemes, IsWholeWithin}
 use Rattle.kahn_wanted.specs.Wanted.{class_of_terminal, words, signs}

@@ -4,7 +4,8 @@ ghost use Rattle.std.specs.Prelude.{◌≡◌, ◌≤◌, ◌==◌, IfOk, None, 
 ghost use Rattle.std.specs.List.{list_any};
 ghost use Rattle.kahn_syntax.specs.declared.fault.SyntaxFault.TheVariants.{Expected};
 ghost use Rattle.kahn_syntax.specs.Texts.{IsFault, IsTextFault};
-ghost use Rattle.kahn_wanted.specs.Blocks.{AreBlocks, AreBlocksAt, AreBlocksOf, bare_after, bare_behind, bytes_between, is_bare, is_begin, is_process, leads_on, open_behind, blocks_after, without_last};
+ghost use Rattle.kahn_wanted.specs.Blocks.{AreBlocks, AreBlocksAt, AreBlocksOf, bare_heads, bytes_between, is_bare, is_begin, is_process, leads_on, open_blocks};
+ghost use Rattle.kahn_wanted.specs.inner.Open.{bare_after, blocks_after, without_last};
 
 use crate::changes::lexeme_before;
 use crate::mended::place_of;
@@ -13,7 +14,7 @@ use kahn_syntax::{Class, Keyword, Lexeme, Span, What, lex};
 use std::alloc::{AllocError, Global};
 
 /// A block that no `end` has closed.
-#[derive(Clone, Copy, Debug, PartialEq, Eq)]
+#[derive(Clone, Copy)]
 pub struct Block {
     /// What stands before its `begin`.
     pub before: Option<Lexeme>,
@@ -63,7 +64,7 @@ fn pass(blocks: &mut Vec<Block>, before: Option<Lexeme>, lexeme: Lexeme) -> Resu
 
 /// The blocks that are open behind lexemes.
 fn open_behind(alloc: Global, lexemes: &[Lexeme]) -> Result<Vec<Block>, AllocError>
-    ensures { IfOk result (λ blocks. blocks.items ≡ open_behind [] None lexemes.now) }
+    ensures { IfOk result (λ blocks. blocks.items ≡ open_blocks None lexemes.now) }
 {
     let mut blocks = Vec::new(alloc);
     let mut before = None;
@@ -163,7 +164,7 @@ fn add_bare(
 
 /// What leads to statements in lexemes that begin on a later line and are no blocks, behind the last `process`.
 fn bare_behind(alloc: Global, text: &str, lexemes: &[Lexeme]) -> Result<Vec<Lexeme>, AllocError>
-    ensures { IfOk result (λ bare. bare.items ≡ bare_behind text.now [] None lexemes.now) }
+    ensures { IfOk result (λ bare. bare.items ≡ bare_heads text.now lexemes.now) }
 {
     let mut bare = Vec::new(alloc);
     let mut before = None;

@@ -9,7 +9,7 @@ use kahn_syntax::{Class, Lexeme, Span};
 use std::alloc::{AllocError, Global};
 
 /// Where a lexeme is put in or left out, beside a place of a list.
-#[derive(Clone, Copy, Debug, PartialEq, Eq)]
+#[derive(Clone, Copy)]
 pub enum Spot {
     /// Before the lexeme at the place; none is left out.
     Between,
@@ -20,7 +20,7 @@ pub enum Spot {
 }
 
 /// A change of one lexeme.
-#[derive(Clone, Copy, Debug, PartialEq, Eq)]
+#[derive(Clone, Copy)]
 pub struct Change {
     /// Where it is.
     pub spot: Spot,

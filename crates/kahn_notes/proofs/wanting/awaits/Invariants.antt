@@ -1,7 +1,8 @@
 -- It is none of those so far.
 use Rattle.std.proofs.Common.{◌≡◌, drop}
 use Rattle.std.specs.List.{list_any}
-use Rattle.kahn_notes.specs.Advice.{awaits, is_needed}
+use Rattle.kahn_notes.specs.Advice.{awaits}
+use Rattle.kahn_notes.specs.Order.{is_needed}
 use Rattle.kahn_notes.proofs.wanting.awaits.Given as goal
 
 abbrev pub invariant-loop-class : goal.invariant-loop-class

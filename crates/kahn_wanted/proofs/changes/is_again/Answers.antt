@@ -1,5 +1,5 @@
 use Rattle.std.proofs.Common.{MatchBool, slice_get, subst}
-use Rattle.kahn_wanted.specs.Mends.{IsSameLexeme, lexeme_before}
+use Rattle.kahn_wanted.specs.Mends.{IsSameLexeme}
 use Rattle.kahn_wanted.proofs.changes.is_again.Goals as goal
 
 pub returns : goal.returns

@@ -1,5 +1,4 @@
 use Rattle.std.proofs.Common.{refl, sym, ◌∙◌, inl}
-use Rattle.kahn_wanted.specs.Swallowing.{Swallows}
 use Rattle.kahn_wanted.proofs.Suspects.{either}
 use Rattle.kahn_wanted.proofs.comments.is_suspect.Goals as goal
 

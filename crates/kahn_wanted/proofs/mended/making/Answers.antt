@@ -1,9 +1,8 @@
-use Rattle.std.proofs.Common.{◌<◌, ◌≤◌, ◌≡◌, [], length, get_or, subst, sym, arith, MatchBool}
+use Rattle.std.proofs.Common.{◌<◌, ◌≤◌, [], length, get_or, subst, sym, arith, MatchBool}
 use Rattle.std.proofs.lemmas.List.{take_all}
-use Rattle.std.proofs.lemmas.List.Elements.{All-get_or}
 use Rattle.kahn_wanted.specs.declared.changes.Spot.TheVariants.{Between}
-use Rattle.kahn_wanted.specs.Mends.{Picked, none_left, left_out}
-use Rattle.kahn_wanted.specs.inner.Tried.{AreTried, IsPlain, Makes}
+use Rattle.kahn_wanted.specs.Mends.{none_left, left_out}
+use Rattle.kahn_wanted.specs.inner.Tried.{AreTried, Makes}
 use Rattle.kahn_wanted.proofs.Splices.{one_in, one_out}
 use Rattle.kahn_wanted.proofs.mended.making.Goals as goal
 use Rattle.kahn_wanted.proofs.mended.making.Goals.{then-branch+in_ok-push, else-branch}

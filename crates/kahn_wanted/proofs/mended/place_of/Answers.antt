@@ -1,6 +1,5 @@
 use Rattle.std.proofs.Common.{subst, sym}
 use Rattle.kahn_syntax.specs.declared.fault.SyntaxFault.TheVariants.{Expected}
-use Rattle.kahn_syntax.specs.declared.fault.What.TheVariants.{Nothing, Other}
 use Rattle.kahn_syntax.specs.Texts.{IsFault}
 use Rattle.kahn_wanted.specs.Mends.{IsPlace}
 use Rattle.kahn_wanted.proofs.Front.{at_nothing, at_other, found_there}

@@ -1,0 +1,111 @@
+-- One lexeme more, and which blocks are open then, and which statements have none.
+use Rattle.std.proofs.Common.{◌≡◌, ◌≤◌, ◌<◌, ◌-◌, ◌+◌, ◌&&◌, ◌||◌, ◌∙◌, ℕ, zero, suc, Bool, true, false, not, List, [], ◌∷◌, ◌++◌, Option, Some, None, append-nil, append_assoc, ap, arith, drop, get_or, if◌then◌else◌, length, length-append, length-take, refl, sym, take}
+use Rattle.std.specs.List.{list_any}
+use Rattle.std.proofs.lemmas.List.{at_drop_all, at_drop_more, take_all}
+use Rattle.kahn_syntax.specs.declared.lexeme.Class.{Class}
+use Rattle.kahn_syntax.specs.declared.lexeme.Class.TheVariants as class
+use Rattle.kahn_syntax.specs.declared.lexeme.Keyword.TheVariants as word
+use Rattle.kahn_syntax.specs.declared.lexeme.Lexeme.{Lexeme}
+use Rattle.kahn_wanted.specs.declared.blocks.Block.{Block}
+use Rattle.kahn_wanted.specs.Blocks.{bare_heads, block_of, closed_from, closed_in, is_bare, is_process, open_blocks}
+use Rattle.kahn_wanted.specs.inner.Open.{bare_after, bare_on, blocks_after, heads_from, open_on}
+
+-- ---- open blocks
+
+-- the front of a longer list, and of a shorter one
+of_longer : (bs more : List Block) (n : ℕ) → n ≤ length bs → take n (bs ++ more) ≡ take n bs
+of_longer bs more zero few = refl
+of_longer [] more (suc n) few = absurd (omega (arith, few))
+of_longer (b ∷ bs) more (suc n) few = ap (λ l. b ∷ l) (of_longer bs more n (omega (arith, few)))
+
+of_front : (bs : List Block) (m n : ℕ) → n ≤ m → take n (take m bs) ≡ take n bs
+of_front bs m zero few = refl
+of_front bs zero (suc n) few = absurd (omega (arith, few))
+of_front [] (suc m) (suc n) few = refl
+of_front (b ∷ bs) (suc m) (suc n) few = ap (λ l. b ∷ l) (of_front bs m n (omega (arith, few)))
+
+-- one lexeme on, where those behind it close so many
+one_on : (bs rest : List Block) (last : Option Lexeme) (x : Lexeme) (c : Class) (n : ℕ)
+    → take (length (blocks_after bs last x c) - n) (blocks_after bs last x c) ++ rest ≡ take (length bs - closed_from c n) bs ++ (block_of last x c n ++ rest)
+one_on bs rest last x (class.Word word.Begin) zero =
+    let b : Block = record { before = last; begin = x } in
+    ap (λ l. l ++ rest) (take_all (length (bs ++ b ∷ []) - 0) (bs ++ b ∷ []) (omega arith)) ∙ append_assoc bs (b ∷ []) rest
+    ∙ ap (λ l. l ++ (b ∷ rest)) (sym (take_all (length bs - 0) bs (omega arith)))
+one_on bs rest last x (class.Word word.Begin) (suc n) =
+    let b : Block = record { before = last; begin = x } in
+    let one = length-append bs (b ∷ []) in
+    let same : length (bs ++ b ∷ []) - suc n ≡ length bs - (suc n - 1) = omega (arith, one) in
+    ap (λ l. l ++ rest) (of_longer bs (b ∷ []) (length (bs ++ b ∷ []) - suc n) (omega (arith, one)) ∙ ap (λ k. take k bs) same)
+one_on bs rest last x (class.Word word.End) n =
+    let less = length-take (length bs - 1) bs in
+    let same : length (take (length bs - 1) bs) - n ≡ length bs - suc n = omega (arith, less) in
+    ap (λ l. l ++ rest) (of_front bs (length bs - 1) (length (take (length bs - 1) bs) - n) (omega (arith, less)) ∙ ap (λ k. take k bs) same)
+one_on bs rest last x c n = refl
+
+module _ (xs : List Lexeme) (i : ℕ) (d : Lexeme) (bs new all : List Block) (last : Option Lexeme) where
+  pub open_more : i < length xs → new ≡ blocks_after bs last (get_or xs i d) (get_or xs i d).what → open_on bs last (drop i xs) ≡ all
+      → open_on new (Some (get_or xs i d)) (drop (i + 1) xs) ≡ all
+  open_more below is so_far =
+      let x = get_or xs i d in
+      let rest = drop (i + 1) xs in
+      ap (λ l. open_on l (Some x) rest) is ∙ one_on bs (open_blocks (Some x) rest) last x x.what (closed_in rest) ∙ sym (at_drop_more (open_on bs last) xs i d below) ∙ so_far
+
+no_front : (n : ℕ) → ◌≡◌ {A = List Block} (take n []) []
+no_front zero = refl
+no_front (suc n) = refl
+
+pub open_none : (bs : List Block) (xs : List Lexeme) → bs ≡ [] → open_on bs None xs ≡ open_blocks None xs
+open_none bs xs none = ap (λ l. open_on l None xs) none ∙ ap (λ l. l ++ open_blocks None xs) (no_front (0 - closed_in xs))
+
+pub open_done : (xs : List Lexeme) (i : ℕ) (bs all : List Block) (last : Option Lexeme) → length xs ≤ i → open_on bs last (drop i xs) ≡ all → bs ≡ all
+open_done xs i bs all last past so_far =
+    sym (append-nil bs) ∙ ap (λ l. l ++ []) (sym (take_all (length bs - 0) bs (omega arith))) ∙ sym (at_drop_all (open_on bs last) xs i past) ∙ so_far
+
+-- ---- statements without a block
+
+behind_none : (p q : Bool) (bare rest : List Lexeme) → (if q then [] else (if p then [] else bare)) ++ rest ≡ (if p || q then [] else bare) ++ rest
+behind_none true true bare rest = refl
+behind_none true false bare rest = refl
+behind_none false true bare rest = refl
+behind_none false false bare rest = refl
+
+behind_head : (p q r : Bool) (bare rest : List Lexeme) (head : Lexeme)
+    → (if q then [] else (if p then [] else (if r then bare ++ head ∷ [] else bare))) ++ rest
+    ≡ (if p || q then [] else bare) ++ (if r && not (p || q) then head ∷ rest else rest)
+behind_head true true true bare rest head = refl
+behind_head true true false bare rest head = refl
+behind_head true false true bare rest head = refl
+behind_head true false false bare rest head = refl
+behind_head false true true bare rest head = refl
+behind_head false true false bare rest head = refl
+behind_head false false true bare rest head = append_assoc bare (head ∷ []) rest
+behind_head false false false bare rest head = refl
+
+head_on : (text : List ℕ) (bare : List Lexeme) (last : Option Lexeme) (x : Lexeme) (xs : List Lexeme)
+    → bare_on text (bare_after text bare last x) (Some x) xs ≡ bare_on text bare last (x ∷ xs)
+head_on text bare None x xs = behind_none (is_process x.what) (list_any (λ y. is_process y.what) xs) bare (bare_heads text (x ∷ xs))
+head_on text bare (Some head) x xs =
+    behind_head (is_process x.what) (list_any (λ y. is_process y.what) xs) (is_bare text head x) bare (bare_heads text (x ∷ xs)) head
+
+module _ (text : List ℕ) (xs : List Lexeme) (i : ℕ) (d : Lexeme) (bare new all : List Lexeme) (last : Option Lexeme) where
+  pub bare_more : i < length xs → new ≡ bare_after text bare last (get_or xs i d) → bare_on text bare last (drop i xs) ≡ all
+      → bare_on text new (Some (get_or xs i d)) (drop (i + 1) xs) ≡ all
+  bare_more below is so_far =
+      let x = get_or xs i d in
+      let rest = drop (i + 1) xs in
+      ap (λ l. bare_on text l (Some x) rest) is ∙ head_on text bare last x rest ∙ sym (at_drop_more (bare_on text bare last) xs i d below) ∙ so_far
+
+nothing : (q : Bool) (rest : List Lexeme) → (if q then [] else []) ++ rest ≡ rest
+nothing true rest = refl
+nothing false rest = refl
+
+pub bare_none : (text : List ℕ) (bare xs : List Lexeme) → bare ≡ [] → bare_on text bare None xs ≡ bare_heads text xs
+bare_none text bare xs none = ap (λ l. bare_on text l None xs) none ∙ nothing (list_any (λ y. is_process y.what) xs) (bare_heads text xs)
+
+no_more : (text : List ℕ) (last : Option Lexeme) → heads_from text last [] ≡ []
+no_more text None = refl
+no_more text (Some head) = refl
+
+pub bare_done : (text : List ℕ) (xs : List Lexeme) (i : ℕ) (bare all : List Lexeme) (last : Option Lexeme) → length xs ≤ i → bare_on text bare last (drop i xs) ≡ all → bare ≡ all
+bare_done text xs i bare all last past so_far =
+    sym (append-nil bare) ∙ ap (λ l. bare ++ l) (sym (no_more text last)) ∙ sym (at_drop_all (bare_on text bare last) xs i past) ∙ so_far
