@@ -267,12 +267,12 @@ if python3 "$top/fuzz/parts.py" "$explain" 600 > output 2>&1; then pass; else fa
 gives "a text of a million bytes" 1 'long:8:9: error: found `=`, where `:=` may stand
  8 |       I = wait(U);
    |         ^
-   = the one change here that makes the text a program: `:=` in its place' '' long
+   = one change mends it: `:=` in its place' '' long
 # changes are looked for in texts of up to 8,192 lexemes
 statements=$(printf 'print 1;%.0s' $(seq 2725))
 echo "begin process p(); begin $statements I = 1 end; p() end;" > most
 "$explain" most > output
-if [ "$(tail -n 1 output)" = '   = the one change here that makes the text a program: `:=` in its place' ]; then pass; else fail "8,192 lexemes: $(tail -n 1 output)"; fi
+if [ "$(tail -n 1 output)" = '   = one change mends it: `:=` in its place' ]; then pass; else fail "8,192 lexemes: $(tail -n 1 output)"; fi
 echo "begin process p(); begin $statements; I = 1 end; p() end;" > more
 "$explain" more > output
 if [ "$(wc -l < output)" = 3 ] && grep -q 'found `=`, where' output; then pass; else fail "8,193 lexemes: $(tail -n 1 output)"; fi

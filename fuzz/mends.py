@@ -22,6 +22,7 @@ CLASSES = [("name", "x"), ("number", 0)] + [("word", word) for word in sorted(re
 GRAMMAR = ("this cannot stand here", "text ends too early", "text goes on after the program")
 NUMBERS = ("", "one", "two", "three", "four", "five", "six", "seven")
 OPERATORS = [("word", word) for word in ("and", "div", "mod", "or")] + [("sign", sign) for sign in SIGNS[5:]]
+SELDOM = [("name", "x"), ("number", 0)] + [("word", word) for word in ("false", "true", "repeat")]
 LEADERS = [("word", word) for word in ("do", "then", "else", "repeat")]
 
 
@@ -90,7 +91,7 @@ def mends(text, lexemes, at):
 
 
 def told(changes, lexemes, at):
-    """The first three: leaving out the `;` before an `else` alone, no operator in the place of a name, and no `print` for a `wait`."""
+    """The first three: leaving out the `;` before an `else` alone, no name, no literal, no `repeat`, no operator in the place of a name, no `print` for a `wait`."""
     last = lexemes[at - 1][:2] if at > 0 else None
     found = lexemes[at][:2] if at < len(lexemes) else None
     name = {"before": last, "here": found}
@@ -101,7 +102,7 @@ def told(changes, lexemes, at):
     def is_never(change):
         if change[1] == ("word", "print") and change[0] != "before" and found == ("word", "wait"):
             return True
-        return change[1] in OPERATORS and (name.get(change[0]) or ("",))[0] == "name"
+        return change[1] in SELDOM or (change[1] in OPERATORS and (name.get(change[0]) or ("",))[0] == "name")
 
     left = [change for change in changes if not is_never(change)]
     return [change[2] for change in ([change for change in left if is_first(change)] or left)[:3]]
@@ -115,9 +116,9 @@ def line_of(changes, words):
     """What is said of them; nothing where none is told, or there are more than seven."""
     if not words or len(changes) > 7:
         return None
-    some = "" if len(words) == len(changes) else f"{NUMBERS[len(words)]} of "
-    what = "change here that makes" if len(changes) == 1 else "changes here that make"
-    return f"{some}the {NUMBERS[len(changes)]} {what} the text a program: {listed(words)}"
+    if len(words) < len(changes):
+        return f"{NUMBERS[len(words)]} of {NUMBERS[len(changes)]} changes that mend it: {listed(words)}"
+    return f"{NUMBERS[len(changes)]} {'change mends' if len(changes) == 1 else 'changes mend'} it: {listed(words)}"
 
 
 def place(text, byte):
@@ -184,6 +185,7 @@ FOREIGN = {
         ("endif endwhile fi od", "an `if`, a `while` or a `repeat` has no `end` of its own"),
         ("const constant", "there are no constants: an instance hands a number over, `P(A, 10)`"),
         ("xor", "there is no exclusive or: of logicals it is `<>`"),
+        ("inout", "one process reads a channel, and another one writes it: `in U`, `out W`"),
     ) for word in words.split()
 }
 ACTS = {
@@ -205,11 +207,13 @@ def foreign(lexemes, at):
 BEGUN = "a statement that begins with a name assigns to it, `X := E`; `send E on C` sends a value"
 ARGUMENTS = "an instance hands over channels and literals, by their places: `P(A, -1, true)`"
 LATE = "channels and processes are declared before all instances"
+BETWEEN = "`par` stands between instances: `p(A) par q(B)`"
+STARTED = "instances stand without `begin`: `p(A) par q(B)`"
 WHEREVER = {
     word: said for words, said in (
-        ("in out", "`in` and `out` are no names: each stands behind a kind, `integer in U; integer out W`"),
+        ("in out", "a keyword is no name, in any letter case: `in` and `out` stand behind a kind, `integer in U; integer out W`"),
         ("channel", "outside of processes `integer channel C` declares one; a process gets it by `integer in U` or `integer out W`"),
-        ("input output", "`input` and `output` are no names: each stands behind a kind, `integer input channel C`"),
+        ("input output", "a keyword is no name, in any letter case: `input` and `output` stand behind a kind, `integer input channel C`"),
     ) for word in words.split()
 }
 BEHIND = {
@@ -221,6 +225,10 @@ BEHIND = {
     ("(", "*"): "a comment goes from `comment` to `;`",
     ("<", "<"): "there is no shift: `X * 16`, `X div 16`",
     (">", ">"): "there is no shift: `X * 16`, `X div 16`",
+    ("-", ">"): "there is no arrow: `send E on C`, `X := wait(C)`",
+    ("par", "end"): BETWEEN,
+    ("par", "else"): BETWEEN,
+    ("par", "begin"): STARTED,
 }
 
 
@@ -233,6 +241,8 @@ def behind(lead, found):
         return f"{'an' if found == 'if' else 'a'} `{found}` behind `then` stands between `begin` and `end`"
     if found == "wait" and (begins or lead == "then"):
         return "`wait(C)` is a value: a statement takes one by `X := wait(C)`"
+    if lead != "repeat" and begins and found == "do":
+        return "a loop is `while E do S`, or `repeat S`, which has no end"
     if begins and found in ("(", "-"):
         return "a comment goes from `comment` to `;`"
     return BEHIND.get((lead, found))
@@ -287,19 +297,31 @@ def comma(is_name, stands):
     return "a value goes on one channel: `send E on C; send E on D`" if is_name else None
 
 
+def named_alone(lexemes, at, stands):
+    """What is said of a keyword where a name alone may stand."""
+    is_named = may_stand(lexemes, at, ("name", "x")) and not any(stands(word) for word in ("send", "wait", "process"))
+    return "a keyword is no name, in any letter case: take another one" if is_named else None
+
+
 def stray(lexemes, at, stands):
     """What is said of a keyword that begins a statement, and of `wait`."""
-    if stands("process") or late(stands):
-        return "statements stand in processes alone"
-    is_named = may_stand(lexemes, at, ("name", "x")) and not stands("send") and not stands("wait")
-    return "a keyword is no name, in any letter case: take another one" if is_named else None
+    return "statements stand in processes alone" if stands("process") or late(stands) else named_alone(lexemes, at, stands)
 
 
 def declared(found, stands):
     """What is said of a declaration where none may stand."""
     if found != "process" and stands("while"):
         return "variables are declared right behind the first `begin` of a process, channels outside of processes"
+    if found != "process" and stands("wait"):
+        return "a kind changes no value: `if T then 1 else 0` makes a number of `T`, `X <> 0` a truth value of `X`"
     return LATE if late(stands) else None
+
+
+def counted(found, stands):
+    """What is said of `+` or `-` but as an operator."""
+    if found == "+" and stands("wait"):
+        return "no `+` stands before a value: leave it out"
+    return "there is no `++` and no `+=`: `X := X + 1`" if found in ("+", "-") and stands(":=") else None
 
 
 def advice(lexemes, at):
@@ -320,7 +342,12 @@ def advice(lexemes, at):
     if what == "name" and lead != "wait":
         if not at:
             return "a program has no name: it goes from `begin` to `end`"
-        return "variables are declared in processes; a channel is `integer channel C`" if stands("channel") else None
+        if stands("channel"):
+            return "variables are declared in processes; a channel is `integer channel C`"
+        begins = "a statement begins with `send`, `print`, `if`, `while`, `repeat` or `begin`, or is `X := E`; `X := wait(C)` takes a value"
+        return begins if stands(":=") else None
+    if what == "number" and lead == "repeat":
+        return "`repeat` goes on for ever: `while I < 10 do begin ..; I := I + 1 end` is ten turns"
     if what not in ("word", "sign"):
         found = None
     if behind(lead, found):
@@ -329,10 +356,16 @@ def advice(lexemes, at):
         return called(stands)
     if found == "if" and stands("wait"):
         return "an `if` among operators stands in brackets"
+    if found == "if" and stands("*") and not stands(";"):
+        return "a choice among values is `if T then A else B`"
     if found in ("if", "while", "repeat", "send", "print", "wait"):
         return stray(lexemes, at, stands)
+    if found == "begin" and stands("process"):
+        return STARTED
+    if found in ("begin", "do", "then", "on", "true", "false") or (found == "not" and lexemes[at][3] - lexemes[at][2] == 3):
+        return named_alone(lexemes, at, stands)
     if found == "par":
-        return stopped(stands) if stands("(") and not stands("wait") else "`par` stands between instances: `p(A) par q(B)`"
+        return stopped(stands) if stands("(") and not stands("wait") else BETWEEN
     if found in ("integer", "logical", "process"):
         return declared(found, stands)
     if found in WHEREVER:
@@ -341,7 +374,9 @@ def advice(lexemes, at):
         return comma(before[0] == "name", stands)
     if found in (";", "end", "else"):
         is_name = found == ";" and stands(":=")
-        return "a statement that begins with a name assigns to it, `X := E`; names of one kind stand with commas, `integer I, J`" if is_name else stopped(stands)
+        return "a statement that begins with a name assigns to it, `X := E`; names of one kind stand with commas, `integer I, J`" if is_name else stopped(stands) or (found != ";" and named_alone(lexemes, at, stands)) or None
+    if counted(found, stands):
+        return counted(found, stands)
     if (what, found) in OPERATORS and stands("*") and not (found != "=" and stands(",")):
         return "a comparison has two sides: `0 < X and X < 3`"
     if found in (":=", "=") and stands(","):
@@ -350,11 +385,11 @@ def advice(lexemes, at):
         return "an instance is `P(A, B)`: its brackets hand over the channels; statements stand in processes alone"
     if found == ":=":
         return "equal is `=`; `:=` assigns to a name, in a statement of its own"
-    if (what, found) in OPERATORS and stands(","):
-        return ARGUMENTS if stands(")") else None
+    if (what, found) in OPERATORS and stands(",") and stands(")"):
+        return ARGUMENTS
     if (what, found) in OPERATORS and found != "=" and stands(":="):
         return BEGUN
-    return None
+    return named_alone(lexemes, at, stands) if found in ("and", "div", "mod", "or") else None
 
 
 def closed(text, lexemes, at):

@@ -24,7 +24,7 @@ use Rattle.kahn_hints.specs.declared.names.Sort.TheVariants as sort
 use Rattle.kahn_hints.specs.declared.uses.Use.{Use}
 use Rattle.kahn_hints.specs.declared.uses.Use.TheVariants as use_as
 use Rattle.kahn_hints.specs.Exchange.{are_interchanged}
-use Rattle.kahn_hints.specs.Places.{asked_name, called_first, channel_kind, names_seen, passed, process_called, process_declaring, process_using, role_called, word_at}
+use Rattle.kahn_hints.specs.Places.{asked_name, called_first, channel_kind, names_seen, passed, process_called, process_declaring, process_using, process_without, role_called, word_at}
 use Rattle.kahn_hints.specs.Sight.{unknown_words, used_words}
 use Rattle.kahn_hints.specs.Uses.{body_use, instances_use, same_span}
 
@@ -39,6 +39,7 @@ reason_words reason.ReadFirst = codes "handed over here first, to be read"
 reason_words reason.Input = codes "declared here as an input, which is written from outside"
 reason_words reason.Output = codes "declared here as an output, which is read from outside"
 reason_words reason.Parameter = codes "its parameter is declared here"
+reason_words reason.NoInstance = codes "this process has no instance"
 
 -- the use of what stands at a place: in the body of a process, or in the instances
 abbrev pub use_of_place : Program → Span → Option Process → Option Use
@@ -109,6 +110,14 @@ before_or_declared (Some n) t d word at = if same_span n.span at then declared_r
 abbrev pub taken_before : List ℕ → Program → Direction → Span → Option (Span × Reason)
 taken_before text t d at = before_or_declared (passed t d (word_at text at)) t d (word_at text at) at
 
+-- the first process without an instance
+abbrev pub place_if : Option Process → Option (Span × Reason)
+place_if None = None
+place_if (Some p) = Some (p.name.span, reason.NoInstance)
+
+abbrev pub idle_place : Program → Option (Span × Reason)
+idle_place t = place_if (process_without t)
+
 -- another place that has to do with a fault, and why
 abbrev pub second_place : List ℕ → Program → CheckFault → Option (Span × Reason)
 second_place text t (checked.DeclaredTwice at) = declared_first text t at
@@ -120,8 +129,8 @@ second_place text t (checked.WrongDirection at) = declared_here text t at
 second_place text t (checked.TwoWriters at) = taken_before text t Out at
 second_place text t (checked.TwoReaders at) = taken_before text t In at
 second_place text t (checked.Unknown at) = declared_outside text t at
-second_place text t (checked.NoWriter at) = None
-second_place text t (checked.NoReader at) = None
+second_place text t (checked.NoWriter at) = idle_place t
+second_place text t (checked.NoReader at) = idle_place t
 second_place text t (checked.TooMany at) = None
 second_place text t checked.NoMemory = None
 
@@ -183,7 +192,9 @@ channel_words (Some (use_as.Expression k)) = codes ", found a value"
 channel_words _ = []
 
 abbrev pub handed_words : Bool → Bool → List ℕ
-handed_words channel process = if channel then codes ", found a channel" else if process then codes ", found a process" else codes ", found a name"
+handed_words channel process =
+    if channel then codes ", found a channel" else if process then codes ", found a process"
+    else codes ", found a name; an instance hands over numbers, `true` and `false`"
 
 abbrev pub value_words : Option Use → List ℕ → List ℕ
 value_words (Some (use_as.Expression k)) handed = codes ", found a channel"
@@ -194,7 +205,7 @@ value_words _ handed = []
 abbrev pub valued_at : List ℕ → Program → Span → List ℕ
 valued_at text t at = value_words (use_at t at) (handed_words (is_some (channel_kind t (word_at text at))) (is_some (process_called t (word_at text at))))
 
--- how the next value is taken, where a parameter to be read stands for one, and one is sent, where one to be written is assigned to
+-- how the next value is taken, or one is sent, where a parameter to be read or to be written stands for a value or is assigned to
 abbrev pub used_if : Sort → Option Name → List ℕ
 used_if s (Some n) = used_words s n
 used_if s None = []
@@ -203,8 +214,8 @@ abbrev pub used_at : List ℕ → Program → Span → Sort → List ℕ
 used_at text t at s = used_if s (called_first (word_at text at) (names_seen (Some s) t (process_using t at)))
 
 abbrev pub next_if : List ℕ → Program → Span → Option Use → List ℕ
-next_if text t at (Some (use_as.Expression k)) = used_at text t at sort.Source
-next_if text t at (Some use_as.Assigned) = used_at text t at sort.Target
+next_if text t at (Some (use_as.Expression k)) = used_at text t at sort.Source ++ used_at text t at sort.Target
+next_if text t at (Some use_as.Assigned) = used_at text t at sort.Source ++ used_at text t at sort.Target
 next_if text t at _ = []
 
 abbrev pub next_there : List ℕ → Program → Span → List ℕ
@@ -220,7 +231,7 @@ direction_at text t at = direction_words (use_at t at) ++ meant_at text t at
 -- what to do about a channel that is written, or read, once more
 abbrev pub twice_words : Direction → Bool → List ℕ
 twice_words d true = codes "; are the arguments interchanged?"
-twice_words Out false = codes "; give each writer a channel, and let a process join them by a rule"
+twice_words Out false = codes "; give each writer a channel of its own, and join these in a process, as in examples/merge.kahn"
 twice_words In false = codes "; let a process take from it and send each value on a channel for each reader"
 
 abbrev pub twice_at : List ℕ → Program → Direction → Span → List ℕ

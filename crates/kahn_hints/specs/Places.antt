@@ -1,5 +1,5 @@
 -- Believed. Where the names of a program are declared and handed over.
-use Rattle.std.specs.Prelude.{ℕ, Bool, ◌&&◌, ◌||◌, List, [], ◌∷◌, Option, Some, None, if◌then◌else◌, is_some, length, nat_le, slice_range}
+use Rattle.std.specs.Prelude.{ℕ, Bool, ◌&&◌, ◌||◌, List, [], ◌∷◌, Option, Some, None, if◌then◌else◌, is_some, length, nat_le, not, slice_range}
 use Rattle.std.specs.List.{find, list_any}
 use Rattle.std.specs.Option.{option_or}
 use Rattle.std.proofs.Common.{bytes_eq}
@@ -38,6 +38,13 @@ called_first word names = find (is_called word) names
 -- the first process that a program declares under these letters
 abbrev pub process_called : Program → List ℕ → Option Process
 process_called t word = find (λ p. is_called word p.name) (processes_of t.declarations.items)
+
+-- the first process that no instance names
+abbrev pub has_none : List Instance → Process → Bool
+has_none is p = not (list_any (λ i. is_called (bytes_of i.process) p.name) is)
+
+abbrev pub process_without : Program → Option Process
+process_without t = find (has_none t.instances.items) (processes_of t.declarations.items)
 
 -- the process that declares a name at this place
 abbrev pub declares : Span → Process → Bool

@@ -2,17 +2,17 @@
 
 ghost use Rattle.std.specs.Prelude.{◌≡◌, ◌++◌, IfOk, option_map, string_bytes};
 ghost use Rattle.std.specs.List.{find};
-ghost use Rattle.kahn_hints.specs.Hints.{asked_sort, check_note, closed_reason, count_words, counted_words, declared_first, declared_here, declared_outside, direction_at, first_reason, found_kind, meant_at, named_instance, next_there, place_in, second_place, second_text, reason_words, taken_before, tail_of, unknown_at, unwritten_at, use_at, used_at, value_tail, valued_at, wanted_here};
+ghost use Rattle.kahn_hints.specs.Hints.{asked_sort, check_note, closed_reason, count_words, counted_words, declared_first, declared_here, declared_outside, direction_at, first_reason, found_kind, idle_place, meant_at, named_instance, next_there, place_in, second_place, second_text, taken_before, tail_of, unknown_at, unwritten_at, use_at, used_at, value_tail, valued_at, wanted_here};
 
 use crate::exchange::twice_at;
 use crate::names::Sort;
 use crate::places::{
     asked_name, called_first, channel_kind, names_seen, passed, process_called, process_declaring,
-    process_using, role_called, word_at,
+    process_using, process_without, role_called, word_at,
 };
 use crate::said::{
-    channel_words, direction_words, handed_words, kind_words, other_words, unread_words,
-    unwritten_words,
+    channel_words, direction_words, handed_words, kind_words, other_words, reason_words,
+    unread_words, unwritten_words,
 };
 use crate::sight::{add_unknown, add_used};
 use crate::uses::{Use, body_use, instances_use, same_span};
@@ -43,23 +43,8 @@ pub(crate) enum Reason {
     Output,
     /// The parameter is declared there that takes what is at fault.
     Parameter,
-}
-
-/// What is said of another place.
-fn reason_words(reason: Reason) -> &'static str
-    ensures { result.now ≡ reason_words reason }
-{
-    match reason {
-        Reason::DeclaredFirst => "declared here first",
-        Reason::Declared => "declared here",
-        Reason::NoProcess => "declared here as a channel, and not as a process",
-        Reason::Outside => "declared here, outside of the process, which sees its own names alone",
-        Reason::WrittenFirst => "handed over here first, to be written",
-        Reason::ReadFirst => "handed over here first, to be read",
-        Reason::Input => "declared here as an input, which is written from outside",
-        Reason::Output => "declared here as an output, which is read from outside",
-        Reason::Parameter => "its parameter is declared here",
-    }
+    /// The process that is declared there has no instance.
+    NoInstance,
 }
 
 /// The use of what stands at a place.
@@ -229,6 +214,16 @@ fn taken_before(
     placed(alloc, program, None, Some(Sort::Channel), word, reason)
 }
 
+/// Where the first process without an instance is declared.
+fn idle_place(program: &Program) -> Option<(Span, Reason)>
+    ensures { result ≡ idle_place program.now }
+{
+    match process_without(program) {
+        Some(process) => Some((process.name.span, Reason::NoInstance)),
+        None => None,
+    }
+}
+
 /// Another place that has to do with a fault, and why.
 fn second_place(
     alloc: Global,
@@ -248,8 +243,8 @@ fn second_place(
         CheckFault::TwoWriters(at) => taken_before(alloc, text, program, Direction::Out, at),
         CheckFault::TwoReaders(at) => taken_before(alloc, text, program, Direction::In, at),
         CheckFault::Unknown(at) => declared_outside(alloc, text, program, at),
-        CheckFault::NoWriter(_) => Ok(None),
-        CheckFault::NoReader(_) => Ok(None),
+        CheckFault::NoWriter(_) => Ok(idle_place(program)),
+        CheckFault::NoReader(_) => Ok(idle_place(program)),
         CheckFault::TooMany(_) => Ok(None),
         CheckFault::NoMemory => Ok(None),
     }
@@ -367,7 +362,7 @@ fn add_used_at(
     }
 }
 
-/// Adds how the next value is taken, where a parameter to be read stands for one, and one is sent, where one to be written is assigned to.
+/// Adds how the next value is taken, or one is sent, where a parameter to be read or to be written stands for a value or is assigned to.
 fn add_next_at(
     words: &mut String,
     alloc: Global,
@@ -378,8 +373,10 @@ fn add_next_at(
     ensures { IfOk result (λ _. string_bytes words.new ≡ string_bytes words.old ++ next_there text.now program.now at) }
 {
     match use_at(program, at) {
-        Some(Use::Expression(_)) => add_used_at(words, alloc, text, program, at, Sort::Source),
-        Some(Use::Assigned) => add_used_at(words, alloc, text, program, at, Sort::Target),
+        Some(Use::Expression(_)) | Some(Use::Assigned) => {
+            add_used_at(words, alloc, text, program, at, Sort::Source)?;
+            add_used_at(words, alloc, text, program, at, Sort::Target)
+        }
         _ => Ok(()),
     }
 }

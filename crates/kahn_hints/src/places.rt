@@ -3,7 +3,7 @@
 ghost use Rattle.std.specs.Prelude.{◌≡◌, IfOk, map, option_map};
 ghost use Rattle.std.specs.List.{find, list_any};
 ghost use Rattle.kahn_streams.specs.Wiring.{processes_of, same_direction};
-ghost use Rattle.kahn_hints.specs.Places.{asked_of, asked_behind, asked_name, called_first, channel_kind, declares, is_called, names_seen, passed, passed_by, passed_if, passed_in, process_called, process_declaring, process_using, role_called, word_at};
+ghost use Rattle.kahn_hints.specs.Places.{asked_of, asked_behind, asked_name, called_first, channel_kind, declares, has_none, is_called, names_seen, passed, passed_by, passed_if, passed_in, process_called, process_declaring, process_using, process_without, role_called, word_at};
 
 use crate::names::{Sort, process_names, program_names};
 use crate::uses::{argument_use, body_use, same_span};
@@ -49,6 +49,32 @@ pub(crate) fn process_called<'p>(program: &'p Program, word: &[u8]) -> Option<&'
     for declaration in &program.declarations {
         if let Declaration::Process(process) = declaration {
             if is_called(word, &process.name) {
+                return Some(process);
+            }
+        }
+    }
+    None
+}
+
+/// Whether none of the instances names a process.
+fn has_none(instances: &[Instance], process: &Process) -> bool
+    ensures { result ≡ has_none instances.now process.now }
+{
+    for instance in instances {
+        if is_called(instance.process.text.as_bytes(), &process.name) {
+            return false;
+        }
+    }
+    true
+}
+
+/// The first process that no instance names.
+pub(crate) fn process_without(program: &Program) -> Option<&Process>
+    ensures { option_map (λ p. p.now) result ≡ process_without program.now }
+{
+    for declaration in &program.declarations {
+        if let Declaration::Process(process) = declaration {
+            if has_none(&program.instances, process) {
                 return Some(process);
             }
         }

@@ -1,10 +1,29 @@
-//! The words behind those of a fault: what is wanted, what is found, and what to do.
+//! The words behind those of a fault: what is wanted, what is found, and what to do; and of another place.
 
 ghost use Rattle.std.specs.Prelude.{◌≡◌};
-ghost use Rattle.kahn_hints.specs.Hints.{channel_words, direction_words, handed_words, kind_words, other_words, twice_words, unread_words, unwritten_words};
+ghost use Rattle.kahn_hints.specs.Hints.{channel_words, direction_words, handed_words, kind_words, other_words, reason_words, twice_words, unread_words, unwritten_words};
 
+use crate::hint::Reason;
 use crate::uses::Use;
 use kahn_streams::{Direction, Kind, Role};
+
+/// What is said of another place.
+pub(crate) fn reason_words(reason: Reason) -> &'static str
+    ensures { result.now ≡ reason_words reason }
+{
+    match reason {
+        Reason::DeclaredFirst => "declared here first",
+        Reason::Declared => "declared here",
+        Reason::NoProcess => "declared here as a channel, and not as a process",
+        Reason::Outside => "declared here, outside of the process, which sees its own names alone",
+        Reason::WrittenFirst => "handed over here first, to be written",
+        Reason::ReadFirst => "handed over here first, to be read",
+        Reason::Input => "declared here as an input, which is written from outside",
+        Reason::Output => "declared here as an output, which is read from outside",
+        Reason::Parameter => "its parameter is declared here",
+        Reason::NoInstance => "this process has no instance",
+    }
+}
 
 /// As what a name is declared that should be that of a process.
 pub(crate) fn other_words(found: Option<Use>, kind: Option<Kind>) -> &'static str
@@ -60,7 +79,7 @@ pub(crate) fn handed_words(channel: bool, process: bool) -> &'static str
     } else if process {
         ", found a process"
     } else {
-        ", found a name"
+        ", found a name; an instance hands over numbers, `true` and `false`"
     }
 }
 
@@ -71,7 +90,7 @@ pub(crate) fn twice_words(direction: Direction, interchanged: bool) -> &'static 
     match (direction, interchanged) {
         (_, true) => "; are the arguments interchanged?",
         (Direction::Out, false) => {
-            "; give each writer a channel, and let a process join them by a rule"
+            "; give each writer a channel of its own, and join these in a process, as in examples/merge.kahn"
         }
         (Direction::In, false) => {
             "; let a process take from it and send each value on a channel for each reader"

@@ -5,6 +5,7 @@ use Rattle.std.specs.List.{filter, list_any}
 use Rattle.std.specs.Option.{option_or}
 use Rattle.kahn_syntax.specs.declared.lexeme.Class.{Class}
 use Rattle.kahn_syntax.specs.declared.lexeme.Class.TheVariants as class
+use Rattle.kahn_syntax.specs.declared.lexeme.Keyword.{Keyword}
 use Rattle.kahn_syntax.specs.declared.lexeme.Keyword.TheVariants as word
 use Rattle.kahn_syntax.specs.declared.lexeme.Sign.TheVariants as sign
 use Rattle.kahn_syntax.specs.declared.lexeme.Lexeme.{Lexeme}
@@ -28,10 +29,12 @@ lead_class (class.Word word.Then) = lead.Then
 lead_class (class.Word word.Begin) = lead.Begins
 lead_class (class.Word word.Do) = lead.Begins
 lead_class (class.Word word.Else) = lead.Begins
-lead_class (class.Word word.Repeat) = lead.Begins
+lead_class (class.Word word.Repeat) = lead.Repeat
 lead_class (class.Word word.Wait) = lead.Wait
+lead_class (class.Word word.Par) = lead.Par
 lead_class (class.Sign sign.Semicolon) = lead.Begins
 lead_class (class.Sign sign.Equal) = lead.Equal
+lead_class (class.Sign sign.Minus) = lead.Minus
 lead_class (class.Sign sign.Times) = lead.Times
 lead_class (class.Sign sign.Open) = lead.Open
 lead_class (class.Sign sign.Becomes) = lead.Becomes
@@ -43,31 +46,43 @@ abbrev pub lead_of : Option Lexeme → Lead
 lead_of (Some x) = lead_class x.what
 lead_of None = lead.Other
 
+abbrev pub word_habit : Keyword → Habit
+word_habit word.If = habit.If
+word_habit word.While = habit.While
+word_habit word.Repeat = habit.Repeat
+word_habit word.Wait = habit.Wait
+word_habit word.End = habit.Stops
+word_habit word.Else = habit.Stops
+word_habit word.Send = habit.Acts
+word_habit word.Print = habit.Acts
+word_habit word.Par = habit.Par
+word_habit word.Channel = habit.Channel
+word_habit word.Integer = habit.Kind
+word_habit word.Logical = habit.Kind
+word_habit word.Process = habit.Process
+word_habit word.In = habit.Direction
+word_habit word.Out = habit.Direction
+word_habit word.Input = habit.Port
+word_habit word.Output = habit.Port
+word_habit word.And = habit.Logic
+word_habit word.Div = habit.Logic
+word_habit word.Mod = habit.Logic
+word_habit word.Or = habit.Logic
+word_habit word.Begin = habit.Begin
+word_habit word.Do = habit.Do
+word_habit _ = habit.Word
+
 abbrev pub habit_class : Class → Habit
-habit_class (class.Word word.If) = habit.If
-habit_class (class.Word word.While) = habit.While
-habit_class (class.Word word.Repeat) = habit.Repeat
-habit_class (class.Word word.Wait) = habit.Wait
-habit_class (class.Word word.End) = habit.Stops
-habit_class (class.Word word.Else) = habit.Stops
-habit_class (class.Word word.Send) = habit.Acts
-habit_class (class.Word word.Print) = habit.Acts
-habit_class (class.Word word.Par) = habit.Par
-habit_class (class.Word word.Channel) = habit.Channel
-habit_class (class.Word word.Integer) = habit.Kind
-habit_class (class.Word word.Logical) = habit.Kind
-habit_class (class.Word word.Process) = habit.Process
-habit_class (class.Word word.In) = habit.Direction
-habit_class (class.Word word.Out) = habit.Direction
-habit_class (class.Word word.Input) = habit.Port
-habit_class (class.Word word.Output) = habit.Port
+habit_class (class.Word k) = word_habit k
 habit_class class.Name = habit.Name
+habit_class (class.Number n) = habit.Number
 habit_class (class.Sign sign.Semicolon) = habit.Semicolon
 habit_class (class.Sign sign.Open) = habit.Open
 habit_class (class.Sign sign.Becomes) = habit.Becomes
 habit_class (class.Sign sign.Equal) = habit.Equal
 habit_class (class.Sign sign.Less) = habit.Less
 habit_class (class.Sign sign.Times) = habit.Times
+habit_class (class.Sign sign.Plus) = habit.Plus
 habit_class (class.Sign sign.Minus) = habit.Minus
 habit_class (class.Sign sign.Greater) = habit.Greater
 habit_class (class.Sign sign.Comma) = habit.Comma
@@ -87,6 +102,14 @@ habit_words lead.Then habit.Wait = Some (codes "`wait(C)` is a value: a statemen
 habit_words lead.Begins habit.Wait = Some (codes "`wait(C)` is a value: a statement takes one by `X := wait(C)`")
 habit_words lead.Begins habit.Open = Some (codes "a comment goes from `comment` to `;`")
 habit_words lead.Begins habit.Minus = Some (codes "a comment goes from `comment` to `;`")
+habit_words lead.Begins habit.Do = Some (codes "a loop is `while E do S`, or `repeat S`, which has no end")
+habit_words lead.Repeat habit.Wait = Some (codes "`wait(C)` is a value: a statement takes one by `X := wait(C)`")
+habit_words lead.Repeat habit.Open = Some (codes "a comment goes from `comment` to `;`")
+habit_words lead.Repeat habit.Minus = Some (codes "a comment goes from `comment` to `;`")
+habit_words lead.Repeat habit.Number = Some (codes "`repeat` goes on for ever: `while I < 10 do begin ..; I := I + 1 end` is ten turns")
+habit_words lead.Par habit.Stops = Some (codes "`par` stands between instances: `p(A) par q(B)`")
+habit_words lead.Par habit.Begin = Some (codes "instances stand without `begin`: `p(A) par q(B)`")
+habit_words lead.Minus habit.Greater = Some (codes "there is no arrow: `send E on C`, `X := wait(C)`")
 habit_words lead.Open habit.Times = Some (codes "a comment goes from `comment` to `;`")
 habit_words lead.Equal habit.Equal = Some (codes "equal is one `=`")
 habit_words lead.Equal habit.Less = Some (codes "at most is `<=`")
@@ -115,6 +138,8 @@ abbrev pub is_part : Part → Group → Bool
 is_part part.Statement group.Statement = true
 is_part part.Declaration group.Declaration = true
 is_part part.Operand group.Operand = true
+is_part part.Value group.Expression = true
+is_part part.Value group.Operand = true
 is_part part.Operator group.Operator = true
 is_part part.Operator group.Arithmetic = true
 is_part part.Arithmetic group.Arithmetic = true
@@ -135,6 +160,16 @@ stopped_words w =
     else if awaits needed.Else w && not (awaits needed.End w) then Some (codes "an `if` among values has its `else`: `if E then E else E`")
     else begun_words w
 
+-- of a keyword where a name alone may stand
+abbrev pub named_words : Wanted → Option (List ℕ)
+named_words w =
+    if awaits needed.Name w && not (offers part.Declaration w) then Some (codes "a keyword is no name, in any letter case: take another one")
+    else None
+
+-- of `end` or `else`: at the end of what isn't whole, or there
+abbrev pub ending_words : Wanted → Option (List ℕ)
+ending_words w = option_or (stopped_words w) (named_words w)
+
 -- of `;`
 abbrev pub ended_words : Wanted → Option (List ℕ)
 ended_words w =
@@ -152,6 +187,17 @@ operator_words w =
     if awaits needed.Comma w then instance_words w
     else if offers part.Arithmetic w then Some (codes "a comparison has two sides: `0 < X and X < 3`")
     else begun_words w
+
+-- of `and`, `div`, `mod` or `or`: among operators, or where a name alone may stand
+abbrev pub logic_words : Wanted → Option (List ℕ)
+logic_words w = option_or (operator_words w) (named_words w)
+
+-- of `-` and of `+`: behind the name that begins a statement, or else as an operator; of `+` before a value
+abbrev pub counting_words : Wanted → Option (List ℕ)
+counting_words w = if awaits needed.Becomes w then Some (codes "there is no `++` and no `+=`: `X := X + 1`") else operator_words w
+
+abbrev pub plus_words : Wanted → Option (List ℕ)
+plus_words w = if offers part.Value w then Some (codes "no `+` stands before a value: leave it out") else counting_words w
 
 -- of `=` behind a comparison, or of a value that is given to a name where that is declared, or to a parameter among the arguments
 abbrev pub assigned_words : Wanted → Option (List ℕ)
@@ -192,34 +238,41 @@ is_late w = awaits needed.Par w || (awaits needed.End w && not (awaits needed.Se
 
 -- of a keyword that begins a statement: there, where a declaration may stand, or where a name alone may
 abbrev pub stray_words : Wanted → Option (List ℕ)
-stray_words w =
-    if offers part.Declaration w || is_late w then Some (codes "statements stand in processes alone")
-    else if awaits needed.Name w then Some (codes "a keyword is no name, in any letter case: take another one")
-    else None
+stray_words w = if offers part.Declaration w || is_late w then Some (codes "statements stand in processes alone") else named_words w
 
--- of an `if`: where an operand may stand, or there
+-- of an `if`: where an operand may stand, behind a value within a statement, or there
 abbrev pub among_words : Wanted → Option (List ℕ)
-among_words w = if offers part.Operand w then Some (codes "an `if` among operators stands in brackets") else stray_words w
+among_words w =
+    if offers part.Operand w then Some (codes "an `if` among operators stands in brackets")
+    else if offers part.Operator w && not (awaits needed.Semicolon w) then Some (codes "a choice among values is `if T then A else B`")
+    else stray_words w
+
+-- of `begin`: where the instances may stand, or a name alone
+abbrev pub started_words : Wanted → Option (List ℕ)
+started_words w = if offers part.Declaration w then Some (codes "instances stand without `begin`: `p(A) par q(B)`") else named_words w
 
 -- of `par`
 abbrev pub par_words : Wanted → Option (List ℕ)
 par_words w = if awaits needed.Open w then stopped_words w else Some (codes "`par` stands between instances: `p(A) par q(B)`")
 
--- of a name, where nothing stands before it or behind a kind
+-- of a name, where nothing stands before it, behind a kind, or behind the name that begins a statement
 abbrev pub naming_words : Option Lexeme → Wanted → Option (List ℕ)
 naming_words before w =
     if not (is_some before) then Some (codes "a program has no name: it goes from `begin` to `end`")
     else if awaits needed.Channel w then Some (codes "variables are declared in processes; a channel is `integer channel C`")
+    else if awaits needed.Becomes w
+    then Some (codes "a statement begins with `send`, `print`, `if`, `while`, `repeat` or `begin`, or is `X := E`; `X := wait(C)` takes a value")
     else None
 
 -- of a declaration behind instances
 abbrev pub late_words : Wanted → Option (List ℕ)
 late_words w = if is_late w then Some (codes "channels and processes are declared before all instances") else None
 
--- of a kind: where a statement may stand, or there
+-- of a kind: where a statement may stand, where an expression may, or there
 abbrev pub declaring_words : Wanted → Option (List ℕ)
 declaring_words w =
     if offers part.Statement w then Some (codes "variables are declared right behind the first `begin` of a process, channels outside of processes")
+    else if offers part.Value w then Some (codes "a kind changes no value: `if T then 1 else 0` makes a number of `T`, `X <> 0` a truth value of `X`")
     else late_words w
 
 -- `channel`, wherever it may not stand
@@ -228,10 +281,10 @@ channel_advice = Some (codes "outside of processes `integer channel C` declares 
 
 -- `in` and `out`, `input` and `output`, wherever they may not stand
 abbrev pub in_out_words : Option (List ℕ)
-in_out_words = Some (codes "`in` and `out` are no names: each stands behind a kind, `integer in U; integer out W`")
+in_out_words = Some (codes "a keyword is no name, in any letter case: `in` and `out` stand behind a kind, `integer in U; integer out W`")
 
 abbrev pub input_output_words : Option (List ℕ)
-input_output_words = Some (codes "`input` and `output` are no names: each stands behind a kind, `integer input channel C`")
+input_output_words = Some (codes "a keyword is no name, in any letter case: `input` and `output` stand behind a kind, `integer input channel C`")
 
 abbrev pub awaited_words : Option Lexeme → Habit → Wanted → Option (List ℕ)
 awaited_words before habit.Becomes w = becomes_words w
@@ -240,10 +293,12 @@ awaited_words before habit.Less w = operator_words w
 awaited_words before habit.Greater w = operator_words w
 awaited_words before habit.Times w = operator_words w
 awaited_words before habit.Operates w = operator_words w
-awaited_words before habit.Minus w = operator_words w
+awaited_words before habit.Logic w = logic_words w
+awaited_words before habit.Plus w = plus_words w
+awaited_words before habit.Minus w = counting_words w
 awaited_words before habit.Comma w = comma_words before w
 awaited_words before habit.Semicolon w = ended_words w
-awaited_words before habit.Stops w = stopped_words w
+awaited_words before habit.Stops w = ending_words w
 awaited_words before habit.Open w = called_words before w
 awaited_words before habit.If w = among_words w
 awaited_words before habit.While w = stray_words w
@@ -257,6 +312,9 @@ awaited_words before habit.Kind w = declaring_words w
 awaited_words before habit.Process w = late_words w
 awaited_words before habit.Direction w = in_out_words
 awaited_words before habit.Port w = input_output_words
+awaited_words before habit.Begin w = started_words w
+awaited_words before habit.Do w = named_words w
+awaited_words before habit.Word w = named_words w
 awaited_words before _ w = None
 
 -- of a lexeme behind another one, where these may stand

@@ -2,7 +2,7 @@
 use Rattle.std.specs.Prelude.{ℕ, ◌-◌, ◌==◌, ◌&&◌, ◌||◌, not, List, [], codes, drop, if◌then◌else◌, length, nat_le, nat_lt, slice_get, unwrap_or}
 use Rattle.std.specs.Char.{is_ascii_digit}
 use Rattle.kahn_syntax.specs.declared.fault.SyntaxFault.{SyntaxFault}
-use Rattle.kahn_syntax.specs.declared.fault.SyntaxFault.TheVariants.{BadCharacter}
+use Rattle.kahn_syntax.specs.declared.fault.SyntaxFault.TheVariants.{BadCharacter, NumberTooLarge}
 
 -- of ASCII
 abbrev pub byte_help : ℕ → List ℕ
@@ -13,7 +13,6 @@ byte_help b =
     else if b == 35 then codes "; a comment goes from `comment` to `;`"
     else if b == 34 then codes "; there are no texts"
     else if b == 39 then codes "; there are no texts, and a name has letters, digits and `_`"
-    else if b == 95 then codes "; a name begins with a letter"
     else if b == 91 then codes "; there are no arrays"
     else if b == 123 then codes "; a block goes from `begin` to `end`"
     else if b == 38 then codes "; it is the word `and`"
@@ -21,7 +20,8 @@ byte_help b =
     else if b == 124 then codes "; it is the word `or`, and between instances `par`"
     else if b == 126 then codes "; it is the word `not`"
     else if b == 63 then codes "; a value is taken by `X := wait(C)`, and a choice is `if .. then .. else ..`"
-    else if b == 58 then codes "; `:` stands before `=` alone, and a kind before its names"
+    else if b == 58 then codes "; `:` stands before `=` alone; behind a test stands `then` or `do`, and a kind before its names"
+    else if b == 96 then codes "; the lines of a fence are no part of a program"
     else []
 
 -- before another byte
@@ -35,16 +35,26 @@ pair_help b next =
 abbrev pub point_help : ℕ → List ℕ
 point_help before = if is_ascii_digit before then codes "; numbers are whole" else codes "; no `.` stands in a name or behind the last `end`"
 
+-- a `_`
+abbrev pub score_help : ℕ → List ℕ
+score_help before = if is_ascii_digit before then codes "; a number has decimal digits alone" else codes "; a name begins with a letter"
+
 -- of U+2000 to U+203F, by the last byte
 abbrev pub space_help : ℕ → List ℕ
 space_help b =
-    if b == 0x83 then codes "; an em space (U+2003) isn't a blank here"
+    if b == 0x82 then codes "; an en space (U+2002) isn't a blank here"
+    else if b == 0x83 then codes "; an em space (U+2003) isn't a blank here"
+    else if b == 0x89 then codes "; a thin space (U+2009) isn't a blank here"
+    else if b == 0x8A then codes "; a hair space (U+200A) isn't a blank here"
     else if b == 0x8B then codes "; a zero width space (U+200B) isn't a blank here"
+    else if b == 0x91 then codes "; minus is `-`"
     else if b == 0x93 then codes "; minus is `-`"
+    else if b == 0x94 then codes "; minus is `-`"
     else if b == 0x98 then codes "; there are no texts"
     else if b == 0x99 then codes "; there are no texts"
     else if b == 0x9C then codes "; there are no texts"
     else if b == 0x9D then codes "; there are no texts"
+    else if b == 0xAF then codes "; a narrow no-break space (U+202F) isn't a blank here"
     else []
 
 -- of U+2240 to U+227F
@@ -90,6 +100,7 @@ rest_at text i = if nat_le i (length text) then drop i text else []
 abbrev pub begun_help : ℕ → List ℕ → List ℕ
 begun_help before rest =
     if byte_at rest 0 == 46 then point_help before
+    else if byte_at rest 0 == 95 then score_help before
     else if nat_lt (byte_at rest 0) 128 then pair_help (byte_at rest 0) (byte_at rest 1)
     else other_help (byte_at rest 0) (byte_at rest 1) (byte_at rest 2)
 
@@ -98,4 +109,5 @@ place_help text i = begun_help (byte_at text (i - 1)) (rest_at text i)
 
 abbrev pub character_help : List ℕ → SyntaxFault → List ℕ
 character_help program (BadCharacter span) = place_help program span.from
+character_help program (NumberTooLarge span) = codes "; the greatest is 9223372036854775807, the least -9223372036854775807 - 1"
 character_help program _ = []

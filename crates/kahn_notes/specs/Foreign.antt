@@ -27,6 +27,8 @@ lone_words w =
     then Some (codes "there are no constants: an instance hands a number over, `P(A, 10)`")
     else if is_one_of w (codes "xor" ∷ [])
     then Some (codes "there is no exclusive or: of logicals it is `<>`")
+    else if is_one_of w (codes "inout" ∷ [])
+    then Some (codes "one process reads a channel, and another one writes it: `in U`, `out W`")
     else None
 
 abbrev pub foreign_words : List ℕ → Option (List ℕ)

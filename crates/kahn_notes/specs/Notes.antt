@@ -108,11 +108,12 @@ number_words n =
 abbrev pub some_words : ℕ → ℕ → List ℕ
 some_words told n = if told == n then [] else concat (number_words told ∷ codes " of " ∷ [])
 
-abbrev pub change_lead : ℕ → List ℕ
-change_lead n = if n == 1 then codes " change here that makes the text a program: " else codes " changes here that make the text a program: "
+abbrev pub change_lead : ℕ → ℕ → List ℕ
+change_lead told n =
+    if not (told == n) then codes " changes that mend it: " else if n == 1 then codes " change mends it: " else codes " changes mend it: "
 
 abbrev pub lead_words : ℕ → ℕ → List ℕ
-lead_words told n = some_words told n ++ concat (codes "the " ∷ number_words n ∷ change_lead n ∷ [])
+lead_words told n = some_words told n ++ concat (number_words n ∷ change_lead told n ∷ [])
 
 -- the first three of those that may be told
 abbrev pub told_changes : Option Lexeme → Mends → List Change

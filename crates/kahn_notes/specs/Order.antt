@@ -1,5 +1,5 @@
 -- Believed. Which changes that mend a text are told: leaving out the `;` before an `else` alone, where that is one, and an operator in
--- the place of a name and `print` for a `wait` never, since they are seldom meant.
+-- the place of a name, `print` for a `wait`, and a name, a literal or `repeat` anywhere never, since they are seldom meant.
 use Rattle.std.specs.Prelude.{Bool, true, false, ◌&&◌, List, [], ◌∷◌, Option, Some, None, if◌then◌else◌}
 use Rattle.std.specs.List.{filter}
 use Rattle.kahn_syntax.specs.declared.lexeme.Class.{Class}
@@ -59,16 +59,29 @@ is_operator_class (class.Sign sign.Greater) = true
 is_operator_class (class.Sign sign.AtLeast) = true
 is_operator_class _ = false
 
+-- a name or a literal, of which what may stand tells as much, or `repeat`
+abbrev pub is_seldom : Class → Bool
+is_seldom class.Name = true
+is_seldom (class.Number n) = true
+is_seldom (class.Word word.False) = true
+is_seldom (class.Word word.True) = true
+is_seldom (class.Word word.Repeat) = true
+is_seldom _ = false
+
 -- of one put before a `wait` or in its place
 abbrev pub wait_rank : Class → Option Lexeme → Rank
 wait_rank c found = if is_needed needed.Print c && finds needed.Wait found then Never else Then
 
+-- of one put in the place of a name
+abbrev pub name_rank : Class → Option Lexeme → Rank → Rank
+name_rank c named other = if is_operator_class c && finds needed.Name named then Never else other
+
 -- of a change beside what was found, behind what stands before it
 abbrev pub change_rank : Option Lexeme → Option Lexeme → Spot → Option Class → Rank
 change_rank before found Before None = if finds needed.Semicolon before && finds needed.Else found then First else Then
-change_rank before found Before (Some c) = if is_operator_class c && finds needed.Name before then Never else Then
-change_rank before found Here (Some c) = if is_operator_class c && finds needed.Name found then Never else wait_rank c found
-change_rank before found Between (Some c) = wait_rank c found
+change_rank before found Before (Some c) = if is_seldom c then Never else name_rank c before Then
+change_rank before found Here (Some c) = if is_seldom c then Never else name_rank c found (wait_rank c found)
+change_rank before found Between (Some c) = if is_seldom c then Never else wait_rank c found
 change_rank before found _ _ = Then
 
 abbrev pub of_rank : Rank → Option Lexeme → Option Lexeme → List Change → List Change

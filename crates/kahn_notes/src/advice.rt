@@ -1,7 +1,7 @@
 //! What is said where something stands as in another language, or without what belongs to it, by what may stand there.
 
 ghost use Rattle.std.specs.Prelude.{◌≡◌, option_map};
-ghost use Rattle.kahn_notes.specs.Advice.{advice, among_words, assigned_words, awaited_words, becomes_words, begun_words, called_words, comma_words, declaring_words, ended_words, instance_words, is_late, late_words, lead_of, naming_words, operator_words, par_words, sort_of, stopped_words, stray_words};
+ghost use Rattle.kahn_notes.specs.Advice.{advice, among_words, assigned_words, awaited_words, becomes_words, begun_words, called_words, comma_words, counting_words, declaring_words, ended_words, ending_words, instance_words, is_late, late_words, lead_of, logic_words, named_words, naming_words, operator_words, par_words, plus_words, sort_of, started_words, stopped_words, stray_words};
 
 use crate::habits::{Habit, habit_words, lead_of, sort_of};
 use crate::wanting::{Needed, Part, awaits, finds, offers};
@@ -36,6 +36,26 @@ fn stopped_words(wanted: &Wanted) -> Option<&'static str>
         return Some("an `if` among values has its `else`: `if E then E else E`");
     }
     begun_words(wanted)
+}
+
+/// What is said of a keyword where a name alone may stand.
+fn named_words(wanted: &Wanted) -> Option<&'static str>
+    ensures { option_map (λ words. words.now) result ≡ named_words wanted.now }
+{
+    if awaits(Needed::Name, wanted) && !offers(Part::Declaration, wanted) {
+        return Some("a keyword is no name, in any letter case: take another one");
+    }
+    None
+}
+
+/// What is said of `end` or `else`: at the end of what isn't whole, or where a name alone may stand.
+fn ending_words(wanted: &Wanted) -> Option<&'static str>
+    ensures { option_map (λ words. words.now) result ≡ ending_words wanted.now }
+{
+    match stopped_words(wanted) {
+        Some(words) => Some(words),
+        None => named_words(wanted),
+    }
 }
 
 /// What is said of `;`.
@@ -73,6 +93,36 @@ fn operator_words(wanted: &Wanted) -> Option<&'static str>
         return Some("a comparison has two sides: `0 < X and X < 3`");
     }
     begun_words(wanted)
+}
+
+/// What is said of `and`, `div`, `mod` or `or`: among operators, or where a name alone may stand.
+fn logic_words(wanted: &Wanted) -> Option<&'static str>
+    ensures { option_map (λ words. words.now) result ≡ logic_words wanted.now }
+{
+    match operator_words(wanted) {
+        Some(words) => Some(words),
+        None => named_words(wanted),
+    }
+}
+
+/// What is said of `-`.
+fn counting_words(wanted: &Wanted) -> Option<&'static str>
+    ensures { option_map (λ words. words.now) result ≡ counting_words wanted.now }
+{
+    if awaits(Needed::Becomes, wanted) {
+        return Some("there is no `++` and no `+=`: `X := X + 1`");
+    }
+    operator_words(wanted)
+}
+
+/// What is said of `+`.
+fn plus_words(wanted: &Wanted) -> Option<&'static str>
+    ensures { option_map (λ words. words.now) result ≡ plus_words wanted.now }
+{
+    if offers(Part::Value, wanted) {
+        return Some("no `+` stands before a value: leave it out");
+    }
+    counting_words(wanted)
 }
 
 /// What is said of `=` behind a comparison, or of a value that is given to a name where that is declared, or to a parameter among the arguments.
@@ -165,10 +215,7 @@ fn stray_words(wanted: &Wanted) -> Option<&'static str>
     if offers(Part::Declaration, wanted) || is_late(wanted) {
         return Some("statements stand in processes alone");
     }
-    if awaits(Needed::Name, wanted) {
-        return Some("a keyword is no name, in any letter case: take another one");
-    }
-    None
+    named_words(wanted)
 }
 
 /// What is said of `if`.
@@ -178,7 +225,20 @@ fn among_words(wanted: &Wanted) -> Option<&'static str>
     if offers(Part::Operand, wanted) {
         return Some("an `if` among operators stands in brackets");
     }
+    if offers(Part::Operator, wanted) && !awaits(Needed::Semicolon, wanted) {
+        return Some("a choice among values is `if T then A else B`");
+    }
     stray_words(wanted)
+}
+
+/// What is said of `begin`: where the instances may stand, or a name alone.
+fn started_words(wanted: &Wanted) -> Option<&'static str>
+    ensures { option_map (λ words. words.now) result ≡ started_words wanted.now }
+{
+    if offers(Part::Declaration, wanted) {
+        return Some("instances stand without `begin`: `p(A) par q(B)`");
+    }
+    named_words(wanted)
 }
 
 /// What is said of `par`.
@@ -191,7 +251,7 @@ fn par_words(wanted: &Wanted) -> Option<&'static str>
     Some("`par` stands between instances: `p(A) par q(B)`")
 }
 
-/// What is said of a name, where nothing stands before it or behind a kind.
+/// What is said of a name, where nothing stands before it, behind a kind, or behind the name that begins a statement.
 fn naming_words(before: Option<Lexeme>, wanted: &Wanted) -> Option<&'static str>
     ensures { option_map (λ words. words.now) result ≡ naming_words before wanted.now }
 {
@@ -200,6 +260,11 @@ fn naming_words(before: Option<Lexeme>, wanted: &Wanted) -> Option<&'static str>
     }
     if awaits(Needed::Channel, wanted) {
         return Some("variables are declared in processes; a channel is `integer channel C`");
+    }
+    if awaits(Needed::Becomes, wanted) {
+        return Some(
+            "a statement begins with `send`, `print`, `if`, `while`, `repeat` or `begin`, or is `X := E`; `X := wait(C)` takes a value",
+        );
     }
     None
 }
@@ -223,6 +288,11 @@ fn declaring_words(wanted: &Wanted) -> Option<&'static str>
             "variables are declared right behind the first `begin` of a process, channels outside of processes",
         );
     }
+    if offers(Part::Value, wanted) {
+        return Some(
+            "a kind changes no value: `if T then 1 else 0` makes a number of `T`, `X <> 0` a truth value of `X`",
+        );
+    }
     late_words(wanted)
 }
 
@@ -236,11 +306,13 @@ fn awaited_words(before: Option<Lexeme>, habit: Habit, wanted: &Wanted) -> Optio
         Habit::Less => operator_words(wanted),
         Habit::Greater => operator_words(wanted),
         Habit::Times => operator_words(wanted),
-        Habit::Minus => operator_words(wanted),
+        Habit::Plus => plus_words(wanted),
+        Habit::Minus => counting_words(wanted),
+        Habit::Logic => logic_words(wanted),
         Habit::Operates => operator_words(wanted),
         Habit::Comma => comma_words(before, wanted),
         Habit::Semicolon => ended_words(wanted),
-        Habit::Stops => stopped_words(wanted),
+        Habit::Stops => ending_words(wanted),
         Habit::Open => called_words(before, wanted),
         Habit::If => among_words(wanted),
         Habit::While => stray_words(wanted),
@@ -255,11 +327,14 @@ fn awaited_words(before: Option<Lexeme>, habit: Habit, wanted: &Wanted) -> Optio
         Habit::Kind => declaring_words(wanted),
         Habit::Process => late_words(wanted),
         Habit::Direction => Some(
-            "`in` and `out` are no names: each stands behind a kind, `integer in U; integer out W`",
+            "a keyword is no name, in any letter case: `in` and `out` stand behind a kind, `integer in U; integer out W`",
         ),
         Habit::Port => Some(
-            "`input` and `output` are no names: each stands behind a kind, `integer input channel C`",
+            "a keyword is no name, in any letter case: `input` and `output` stand behind a kind, `integer input channel C`",
         ),
+        Habit::Begin => started_words(wanted),
+        Habit::Do => named_words(wanted),
+        Habit::Word => named_words(wanted),
         _ => None,
     }
 }

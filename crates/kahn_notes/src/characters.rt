@@ -1,7 +1,7 @@
 //! What the language has in the place of characters that it hasn't.
 
 ghost use Rattle.std.specs.Prelude.{◌≡◌};
-ghost use Rattle.kahn_notes.specs.Characters.{byte_at, byte_help, character_help, letter_help, order_help, other_help, pair_help, place_help, point_help, rest_at, space_help};
+ghost use Rattle.kahn_notes.specs.Characters.{byte_at, byte_help, character_help, letter_help, order_help, other_help, pair_help, place_help, point_help, rest_at, score_help, space_help};
 
 use kahn_syntax::SyntaxFault;
 
@@ -16,7 +16,6 @@ fn byte_help(byte: u8) -> &'static str
         b'#' => "; a comment goes from `comment` to `;`",
         b'"' => "; there are no texts",
         b'\'' => "; there are no texts, and a name has letters, digits and `_`",
-        b'_' => "; a name begins with a letter",
         b'[' => "; there are no arrays",
         b'{' => "; a block goes from `begin` to `end`",
         b'&' => "; it is the word `and`",
@@ -24,7 +23,9 @@ fn byte_help(byte: u8) -> &'static str
         b'|' => "; it is the word `or`, and between instances `par`",
         b'~' => "; it is the word `not`",
         b'?' => "; a value is taken by `X := wait(C)`, and a choice is `if .. then .. else ..`",
-        b':' => "; `:` stands before `=` alone, and a kind before its names",
+        b':' =>
+            "; `:` stands before `=` alone; behind a test stands `then` or `do`, and a kind before its names",
+        b'`' => "; the lines of a fence are no part of a program",
         _ => "",
     }
 }
@@ -53,18 +54,35 @@ fn point_help(before: u8) -> &'static str
     }
 }
 
+/// The same of a `_`.
+fn score_help(before: u8) -> &'static str
+    ensures { result.now ≡ score_help before }
+{
+    if before.is_ascii_digit() {
+        "; a number has decimal digits alone"
+    } else {
+        "; a name begins with a letter"
+    }
+}
+
 /// Of U+2000 to U+203F, by the last byte.
 fn space_help(last: u8) -> &'static str
     ensures { result.now ≡ space_help last }
 {
     match last {
+        0x82 => "; an en space (U+2002) isn't a blank here",
         0x83 => "; an em space (U+2003) isn't a blank here",
+        0x89 => "; a thin space (U+2009) isn't a blank here",
+        0x8A => "; a hair space (U+200A) isn't a blank here",
         0x8B => "; a zero width space (U+200B) isn't a blank here",
+        0x91 => "; minus is `-`",
         0x93 => "; minus is `-`",
+        0x94 => "; minus is `-`",
         0x98 => "; there are no texts",
         0x99 => "; there are no texts",
         0x9C => "; there are no texts",
         0x9D => "; there are no texts",
+        0xAF => "; a narrow no-break space (U+202F) isn't a blank here",
         _ => "",
     }
 }
@@ -144,18 +162,24 @@ fn place_help(bytes: &[u8], at: usize) -> &'static str
     if first == b'.' {
         return point_help(byte_at(bytes, at.saturating_sub(1)));
     }
+    if first == b'_' {
+        return score_help(byte_at(bytes, at.saturating_sub(1)));
+    }
     if first < 0x80 {
         return pair_help(first, byte_at(rest, 1));
     }
     other_help(first, byte_at(rest, 1), byte_at(rest, 2))
 }
 
-/// What is said of a character that isn't of the language, behind the words of the fault; nothing of other faults.
+/// What is said of a character that isn't of the language, or of a number that is too large, behind the words of the fault; nothing of others.
 pub fn character_help(program: &str, fault: SyntaxFault) -> &'static str
     ensures { result.now ≡ character_help program.now fault }
 {
     match fault {
         SyntaxFault::BadCharacter(span) => place_help(program.as_bytes(), span.from),
+        SyntaxFault::NumberTooLarge(_) => {
+            "; the greatest is 9223372036854775807, the least -9223372036854775807 - 1"
+        }
         _ => "",
     }
 }

@@ -34,6 +34,8 @@ fn lone_words(word: &[u8]) -> Option<&'static str>
         Some("there are no constants: an instance hands a number over, `P(A, 10)`")
     } else if is_one_of(word, &["xor"]) {
         Some("there is no exclusive or: of logicals it is `<>`")
+    } else if is_one_of(word, &["inout"]) {
+        Some("one process reads a channel, and another one writes it: `in U`, `out W`")
     } else {
         None
     }

@@ -125,13 +125,16 @@ fn number_words(count: usize) -> &'static str
     }
 }
 
-/// What stands behind how many changes there are.
-fn change_lead(count: usize) -> &'static str
-    ensures { result.now ≡ change_lead count }
+/// What stands behind how many changes there are, of which so many are told.
+fn change_lead(told: usize, count: usize) -> &'static str
+    ensures { result.now ≡ change_lead told count }
 {
-    match count {
-        1 => " change here that makes the text a program: ",
-        _ => " changes here that make the text a program: ",
+    if told != count {
+        " changes that mend it: "
+    } else if count == 1 {
+        " change mends it: "
+    } else {
+        " changes mend it: "
     }
 }
 
@@ -150,7 +153,7 @@ fn add_lead(words: &mut String, told: usize, count: usize) -> Result<(), AllocEr
     ensures { IfOk result (λ _. string_bytes words.new ≡ string_bytes words.old ++ lead_words told count) }
 {
     add_some(words, told, count)?;
-    add(words, &["the ", number_words(count), change_lead(count)])
+    add(words, &[number_words(count), change_lead(told, count)])
 }
 
 /// The first three changes, or all where there are fewer.

@@ -1,7 +1,7 @@
 //! Which changes are told.
 
 ghost use Rattle.std.specs.Prelude.{◌≡◌, ◌++◌, IfOk};
-ghost use Rattle.kahn_notes.specs.Order.{is_operator_class, of_rank, change_rank, ranked, same_rank};
+ghost use Rattle.kahn_notes.specs.Order.{is_operator_class, is_seldom, of_rank, change_rank, ranked, same_rank};
 
 use crate::wanting::{Needed, finds, is_needed};
 use kahn_syntax::{Class, Keyword, Lexeme, Sign};
@@ -27,6 +27,21 @@ fn same_rank(one: Rank, other: Rank) -> bool
         (Rank::First, Rank::First) => true,
         (Rank::Then, Rank::Then) => true,
         (Rank::Never, Rank::Never) => true,
+        _ => false,
+    }
+}
+
+/// Whether one that is put anywhere is seldom meant: a name or a literal, of which what may stand tells as much, or `repeat`, which goes on
+/// for ever.
+fn is_seldom(class: Class) -> bool
+    ensures { result ≡ is_seldom class }
+{
+    match class {
+        Class::Name => true,
+        Class::Number(_) => true,
+        Class::Word(Keyword::False) => true,
+        Class::Word(Keyword::True) => true,
+        Class::Word(Keyword::Repeat) => true,
         _ => false,
     }
 }
@@ -60,6 +75,7 @@ fn change_rank(before: Option<Lexeme>, found: Option<Lexeme>, change: Change) ->
     match (change.spot, change.put) {
         (Spot::Before, None) if finds(Needed::Semicolon, before) && finds(Needed::Else, found) =>
             Rank::First,
+        (_, Some(class)) if is_seldom(class) => Rank::Never,
         (Spot::Before, Some(class)) if is_operator_class(class) && finds(Needed::Name, before) =>
             Rank::Never,
         (Spot::Here, Some(class)) if is_operator_class(class) && finds(Needed::Name, found) =>

@@ -111,9 +111,9 @@ fn add_rest(
 /// A note on a place where a text goes wrong: what stands there and what may stand there; which `end` closed a block too early, or what
 /// the language has where a habit of others is found, or else the changes of one lexeme there with which the text is a program, where
 /// there are one to seven and the text has at most 8,192 lexemes: three at most, leaving out the `;` before an `else` alone, and none
-/// that puts an operator in the place of a name, or `print` before a `wait`; which blocks are open, or which statements have none; and
-/// which comment before the place ends there or swallowed something: that alone, where nothing else stands before it. It refuses only
-/// where memory was refused.
+/// that puts a name, a literal or `repeat`, an operator in the place of a name, or `print` before a `wait`; which blocks are open, or
+/// which statements have none; and which comment before the place ends there or swallowed something: that alone, where nothing else
+/// stands before it. It refuses only where memory was refused.
 pub fn unexpected_note(
     alloc: Global,
     path: &str,

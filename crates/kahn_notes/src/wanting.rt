@@ -49,6 +49,8 @@ pub(crate) enum Part {
     Declaration,
     /// An operand, and no other expression.
     Operand,
+    /// An operand, or any expression.
+    Value,
     /// An operator.
     Operator,
     /// An arithmetic operator, and no comparison.
@@ -108,6 +110,8 @@ fn is_part(part: Part, group: Group) -> bool
         (Part::Statement, Group::Statement) => true,
         (Part::Declaration, Group::Declaration) => true,
         (Part::Operand, Group::Operand) => true,
+        (Part::Value, Group::Expression) => true,
+        (Part::Value, Group::Operand) => true,
         (Part::Operator, Group::Operator) => true,
         (Part::Operator, Group::Arithmetic) => true,
         (Part::Arithmetic, Group::Arithmetic) => true,

@@ -1,5 +1,5 @@
 -- The operands of a level and the statements of a block and of a body, one after another.
-use Rattle.std.proofs.Common.{◌≡◌, ◌||◌, ◌++◌, ◌∙◌, Bool, true, false, List, [], ◌∷◌, refl, ap, flat_map}
+use Rattle.std.proofs.Common.{◌≡◌, ◌||◌, ◌++◌, ◌∙◌, ℕ, Bool, true, false, List, [], ◌∷◌, refl, ap, flat_map}
 use Rattle.kahn_streams.specs.Syntax.{Expr, Stmt}
 use Rattle.kahn_streams.specs.View.{Scope, body_of, expr_of, expression_of, level_of, row_of, statement_of, stmt_of}
 use Rattle.kahn_streams.specs.declared.tree.Form.{Row_of-Operand, end_of-Operand, more_of-Operand}
@@ -10,10 +10,8 @@ use Rattle.kahn_streams.specs.declared.tree.Form.TheBlock.{items-the_row-Operand
 use Rattle.kahn_streams.specs.declared.tree.Action.TheBlock.{items-the_row-Statement}
 use Rattle.kahn_warnings.specs.Loops.{is_seen, never_ends}
 use Rattle.kahn_warnings.specs.Uses.{any_varies_by, is_assigned_in, is_named, is_used_in, varies_by, waits_in}
-use Rattle.kahn_warnings.specs.Warned.{warned_where}
-use Rattle.kahn_warnings.specs.Warnings.{block_items, first_unreached, row_warnings, statement_warnings}
+use Rattle.kahn_warnings.specs.Warnings.{block_items, list_warnings, row_warnings, statement_warnings}
 use Rattle.kahn_warnings.specs.declared.warning.Warning.{Warning}
-use Rattle.kahn_warnings.specs.declared.warning.WarningKind.TheVariants.{Unreached}
 
 or_assoc : (a b c : Bool) → ((a || b) || c) ≡ (a || (b || c))
 or_assoc true b c = refl
@@ -88,20 +86,20 @@ block_is_seen names (more_of-Statement at a rest) = ap (λ b. is_seen (stmt_of n
 
 -- warnings
 
-abbrev pub each : Statement → List Warning
-each s = statement_warnings s.span s.action
+abbrev pub each : List ℕ → Statement → List Warning
+each text s = statement_warnings text s.span s.action
 
-pub block_warned : {m : _} (row : Row_of-Statement m) → row_warnings row ≡ flat_map each (items-the_row-Statement m row)
-block_warned end_of-Statement = refl
-block_warned (more_of-Statement span a rest) = ap (λ ws. statement_warnings span a ++ ws) (block_warned rest)
+pub block_warned : {m : _} (text : List ℕ) (row : Row_of-Statement m) → row_warnings text row ≡ flat_map (each text) (items-the_row-Statement m row)
+block_warned text end_of-Statement = refl
+block_warned text (more_of-Statement span a rest) = ap (λ ws. statement_warnings text span a ++ ws) (block_warned text rest)
 
 pub block_same : {m : _} (row : Row_of-Statement m) → block_items row ≡ items-the_row-Statement m row
 block_same end_of-Statement = refl
 block_same (more_of-Statement span a rest) = ap (λ ss. record { span = span; action = a } ∷ ss) (block_same rest)
 
-pub block_statement : {m : _} (row : Row_of-Statement m) →
-    row_warnings row ++ warned_where Unreached (first_unreached (block_items row))
-    ≡ flat_map each (items-the_row-Statement m row) ++ warned_where Unreached (first_unreached (items-the_row-Statement m row))
-block_statement {m = m} row =
-    ap (λ ws. ws ++ warned_where Unreached (first_unreached (block_items row))) (block_warned row)
-    ∙ ap (λ ss. flat_map each (items-the_row-Statement m row) ++ warned_where Unreached (first_unreached ss)) (block_same row)
+pub block_statement : {m : _} (text : List ℕ) (row : Row_of-Statement m) →
+    row_warnings text row ++ list_warnings text (block_items row)
+    ≡ flat_map (each text) (items-the_row-Statement m row) ++ list_warnings text (items-the_row-Statement m row)
+block_statement {m = m} text row =
+    ap (λ ws. ws ++ list_warnings text (block_items row)) (block_warned text row)
+    ∙ ap (λ ss. flat_map (each text) (items-the_row-Statement m row) ++ list_warnings text ss) (block_same row)

@@ -6,7 +6,7 @@ use Rattle.kahn_marks.specs.Marks.{marked_too, marked_warning}
 use Rattle.kahn_warnings.specs.Warnings.{AreWarnings}
 use Rattle.kahn_warnings.specs.declared.warning.Warning.{Warning}
 use Rattle.kahn_warnings.specs.declared.warning.WarningKind.{WarningKind}
-use Rattle.kahn_warnings.specs.declared.warning.WarningKind.TheVariants.{LongComment, NoInstance, Unused, Unread, StaysZero, StaysFalse, Idle, Unreached, Divides, Overflows, AlwaysTrue, AlwaysFalse, Unchanged, BareDo, BareThen}
+use Rattle.kahn_warnings.specs.declared.warning.WarningKind.TheVariants.{LongComment, NoInstance, Unused, Unread, StaysZero, StaysFalse, Idle, Unreached, Divides, Overflows, AlwaysTrue, AlwaysFalse, Unchanged, BareDo, BareThen, Beside}
 
 abbrev pub warning_words : WarningKind → List ℕ
 warning_words LongComment = codes "comment goes on to a later line, over what reads like a statement"
@@ -24,6 +24,7 @@ warning_words AlwaysFalse = codes "test is always false"
 warning_words Unchanged = codes "nothing in the loop changes this test; `begin` and `end` make one statement of several"
 warning_words BareDo = codes "nothing stands behind `do`, so nothing changes this test: a statement behind `;` is not in the loop"
 warning_words BareThen = codes "nothing stands behind `then`: a statement behind `;` is always done"
+warning_words Beside = codes "statement doesn't belong to the `if` on its line; `begin` and `end` make one statement of several"
 
 -- of a comment its last byte is told too
 abbrev pub last_byte : Span → Span

@@ -34,6 +34,8 @@ fn warning_words(kind: WarningKind) -> &'static str
             "nothing stands behind `do`, so nothing changes this test: a statement behind `;` is not in the loop",
         WarningKind::BareThen =>
             "nothing stands behind `then`: a statement behind `;` is always done",
+        WarningKind::Beside =>
+            "statement doesn't belong to the `if` on its line; `begin` and `end` make one statement of several",
     }
 }
 

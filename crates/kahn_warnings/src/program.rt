@@ -1,8 +1,9 @@
 //! All that is warned of in a program.
 
-ghost use Rattle.std.specs.Prelude.{◌≡◌, ◌++◌, IfOk};
+ghost use Rattle.std.specs.Prelude.{◌≡◌, ◌++◌, ◌==◌, IfOk};
+ghost use Rattle.std.specs.List.{list_any};
 ghost use Rattle.kahn_streams.specs.View.{stmt_of};
-ghost use Rattle.kahn_warnings.specs.Warnings.{AreWarnings, bare_warnings, body_constants, body_warnings, declaration_warnings, endless_warnings, first_standing, first_unreached, idle_warnings, statement_warnings};
+ghost use Rattle.kahn_warnings.specs.Warnings.{AreWarnings, bare_warnings, body_constants, body_warnings, declaration_warnings, beside_warnings, endless_warnings, first_standing, first_unreached, idle_warnings, is_on_line, is_short_if, is_single, list_warnings, place_beside, statement_warnings};
 ghost use Rattle.kahn_warnings.specs.Warned.{warned_where};
 
 use crate::comments::comment_warnings;
@@ -13,6 +14,7 @@ use crate::surely::add_constants;
 use crate::uses::is_empty;
 use crate::warning::{Warning, WarningKind};
 use kahn_streams::{Action, Declaration, Expression, Instance, NoMemory, Program, Span, Statement};
+use kahn_wanted::bytes_between;
 use std::alloc::{AllocError, Global};
 
 /// Adds a warning of a part, where that stands anywhere.
@@ -102,9 +104,120 @@ fn first_unreached(statements: &[Statement]) -> Option<Span>
     }
 }
 
+/// Whether a statement stands there that is no block.
+fn is_single(statement: &Statement) -> bool
+    ensures { result ≡ is_single statement.now.action }
+{
+    match &statement.action {
+        Action::Empty => false,
+        Action::Assign(_, _) => true,
+        Action::Send(_, _) => true,
+        Action::Print(_) => true,
+        Action::Block(_) => false,
+        Action::If(_, _, _) => true,
+        Action::While(_, _) => true,
+        Action::Repeat(_) => true,
+    }
+}
+
+/// Whether it is an `if` without `else`, with one statement that is no block.
+fn is_short_if(statement: &Statement) -> bool
+    ensures { result ≡ is_short_if statement.now.action }
+{
+    match &statement.action {
+        Action::Empty => false,
+        Action::Assign(_, _) => false,
+        Action::Send(_, _) => false,
+        Action::Print(_) => false,
+        Action::Block(_) => false,
+        Action::If(_, yes, no) => match no {
+            Some(_) => false,
+            None => is_single(yes),
+        },
+        Action::While(_, _) => false,
+        Action::Repeat(_) => false,
+    }
+}
+
+/// Whether a line ends among bytes.
+fn has_end(bytes: &[u8]) -> bool
+    ensures { result ≡ list_any (λ b. b == 10) bytes.now }
+{
+    for byte in bytes {
+        if *byte == b'\n' {
+            return true;
+        }
+    }
+    false
+}
+
+/// Whether no line ends from the end of a part of the text to another part.
+fn is_on_line(text: &str, before: Option<Span>, next: Option<Span>) -> bool
+    ensures { result ≡ is_on_line text.now before next }
+{
+    match (before, next) {
+        (Some(before), Some(next)) => !has_end(bytes_between(text, before.to, next.from)),
+        (Some(_), None) => false,
+        (None, _) => false,
+    }
+}
+
+/// Where the first of the rest stands, where that begins on the line on which such an `if` ends before it.
+fn place_beside(text: &str, first: &Statement, rest: &[Statement]) -> Option<Span>
+    ensures { result ≡ place_beside text.now first.now rest.now }
+{
+    let next = first_standing(rest);
+    if is_short_if(first) && is_on_line(text, first.span, next) {
+        next
+    } else {
+        None
+    }
+}
+
+/// Adds the warnings of those of these statements.
+fn add_beside(
+    warnings: &mut Vec<Warning>,
+    text: &str,
+    statements: &[Statement],
+) -> Result<(), AllocError>
+    ensures { IfOk result (λ _. warnings.new.items ≡ warnings.old.items ++ beside_warnings text.now statements.now) }
+{
+    match statements.split_first() {
+        None => Ok(()),
+        Some((first, rest)) => {
+            add_where(
+                warnings,
+                WarningKind::Beside,
+                place_beside(text, first, rest),
+            )?;
+            add_beside(warnings, text, rest)
+        }
+    }
+}
+
+/// Adds those of a list of statements beside those of each.
+fn add_list(
+    warnings: &mut Vec<Warning>,
+    text: &str,
+    statements: &[Statement],
+) -> Result<(), AllocError>
+    ensures { IfOk result (λ _. warnings.new.items ≡ warnings.old.items ++ list_warnings text.now statements.now) }
+{
+    add_where(
+        warnings,
+        WarningKind::Unreached,
+        first_unreached(statements),
+    )?;
+    add_beside(warnings, text, statements)
+}
+
 /// Adds the warnings of a statement.
-fn add_statement(warnings: &mut Vec<Warning>, statement: &Statement) -> Result<(), AllocError>
-    ensures { IfOk result (λ _. warnings.new.items ≡ warnings.old.items ++ statement_warnings statement.now.span statement.now.action) }
+fn add_statement(
+    warnings: &mut Vec<Warning>,
+    text: &str,
+    statement: &Statement,
+) -> Result<(), AllocError>
+    ensures { IfOk result (λ _. warnings.new.items ≡ warnings.old.items ++ statement_warnings text.now statement.now.span statement.now.action) }
 {
     match &statement.action {
         Action::Empty => Ok(()),
@@ -113,44 +226,40 @@ fn add_statement(warnings: &mut Vec<Warning>, statement: &Statement) -> Result<(
         Action::Print(_) => Ok(()),
         Action::Block(statements) => {
             for inner in statements {
-                add_statement(warnings, inner)?;
+                add_statement(warnings, text, inner)?;
             }
-            add_where(
-                warnings,
-                WarningKind::Unreached,
-                first_unreached(statements),
-            )
+            add_list(warnings, text, statements)
         }
         Action::If(_, yes, no) => {
-            add_statement(warnings, yes)?;
+            add_statement(warnings, text, yes)?;
             match no {
-                Some(no) => add_statement(warnings, no),
+                Some(no) => add_statement(warnings, text, no),
                 None => add_bare(warnings, statement.span, yes),
             }
         }
         Action::While(test, body) => {
             add_endless(warnings, statement.span, test, body)?;
-            add_statement(warnings, body)
+            add_statement(warnings, text, body)
         }
         Action::Repeat(body) => {
             add_idle(warnings, statement.span, body)?;
-            add_statement(warnings, body)
+            add_statement(warnings, text, body)
         }
     }
 }
 
 /// Adds those of a body.
-fn add_body(warnings: &mut Vec<Warning>, statements: &[Statement]) -> Result<(), AllocError>
-    ensures { IfOk result (λ _. warnings.new.items ≡ warnings.old.items ++ body_warnings statements.now) }
+fn add_body(
+    warnings: &mut Vec<Warning>,
+    text: &str,
+    statements: &[Statement],
+) -> Result<(), AllocError>
+    ensures { IfOk result (λ _. warnings.new.items ≡ warnings.old.items ++ body_warnings text.now statements.now) }
 {
     for statement in statements {
-        add_statement(warnings, statement)?;
+        add_statement(warnings, text, statement)?;
     }
-    add_where(
-        warnings,
-        WarningKind::Unreached,
-        first_unreached(statements),
-    )
+    add_list(warnings, text, statements)
 }
 
 /// Adds those of the constants in a body.
@@ -169,17 +278,18 @@ fn add_body_constants(
 /// Adds those of a declaration.
 fn add_declaration(
     warnings: &mut Vec<Warning>,
+    text: &str,
     instances: &[Instance],
     declaration: &Declaration,
 ) -> Result<(), AllocError>
-    ensures { IfOk result (λ _. warnings.new.items ≡ warnings.old.items ++ declaration_warnings instances.now declaration.now) }
+    ensures { IfOk result (λ _. warnings.new.items ≡ warnings.old.items ++ declaration_warnings text.now instances.now declaration.now) }
 {
     match declaration {
         Declaration::Channels(_, _, _) => Ok(()),
         Declaration::Process(process) => {
             add_process(warnings, instances, process)?;
             add_names(warnings, process)?;
-            add_body(warnings, &process.statements)?;
+            add_body(warnings, text, &process.statements)?;
             add_body_constants(warnings, &process.statements)
         }
     }
@@ -192,7 +302,7 @@ pub fn warnings(alloc: Global, program: &Program, text: &str) -> Result<Vec<Warn
 {
     let mut warnings = comment_warnings(alloc, text)?;
     for declaration in &program.declarations {
-        add_declaration(&mut warnings, &program.instances, declaration)?;
+        add_declaration(&mut warnings, text, &program.instances, declaration)?;
     }
     Ok(warnings)
 }

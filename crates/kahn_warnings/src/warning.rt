@@ -35,6 +35,8 @@ pub enum WarningKind {
     BareDo,
     /// An `if` without `else`, and with nothing behind `then`.
     BareThen,
+    /// A statement on the line on which an `if` without `else`, with one statement that is no block, ends before it.
+    Beside,
 }
 
 /// A warning, and the part of the text that it is about.
@@ -43,6 +45,6 @@ pub struct Warning {
     /// What is warned of.
     pub kind: WarningKind,
     /// The whole comment; the name of the process, of the parameter or of the variable where it is declared; the loop; the
-    /// first statement that isn't reached; the right operand, or the one behind a sign; the test; or the `if`.
+    /// first statement that isn't reached, or doesn't belong to the `if`; the right operand, or the one behind a sign; the test; or the `if`.
     pub span: Span,
 }

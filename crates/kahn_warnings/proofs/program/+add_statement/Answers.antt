@@ -2,9 +2,7 @@ use Rattle.std.proofs.Common.{rules, arith, ◌≡◌, ◌++◌, ◌∙◌, ap, 
 use Rattle.std.proofs.lemmas.Grind.{common_steps}
 use Rattle.std.proofs.lemmas.Result.{IfOk-weaker}
 use Rattle.kahn_streams.specs.declared.tree.Action.TheViews.{the_lemmas}
-use Rattle.kahn_warnings.specs.Warned.{warned_where}
-use Rattle.kahn_warnings.specs.Warnings.{first_unreached, statement_warnings}
-use Rattle.kahn_warnings.specs.declared.warning.WarningKind.TheVariants.{Unreached}
+use Rattle.kahn_warnings.specs.Warnings.{list_warnings, statement_warnings}
 use Rattle.kahn_warnings.proofs.Lists.{block_statement, each}
 use Rattle.kahn_warnings.proofs.program.+add_statement.Goals as goal
 
@@ -14,14 +12,14 @@ returns-after-loop-inner t c =
     let xs = c.in-Block.statements.items in
     let ss = c.deref-inner-items.result.now in
     let it = c.args.statement.now in
-    let whole : statement_warnings it.span it.action ≡ flat_map each xs ++ warned_where Unreached (first_unreached xs) = search (rules, the_lemmas, block_statement) in
+    let text = c.args.text.now in
+    let whole : statement_warnings text it.span it.action ≡ flat_map (each text) xs ++ list_warnings text xs = search (rules, the_lemmas, block_statement) in
     let all : take c.loop-inner.inner-index ss ≡ ss = grind (arith, common_steps) in
-    let last = c.first_unreached.ensures ∙ ap first_unreached c.deref.ensures.value in
-    IfOk-weaker c.add_where.result _ _
-    (λ r h. h ∙ ap (λ l. l ++ warned_where Unreached c.first_unreached.result) (c.loop-inner.invariant ∙ ap (λ l. old ++ flat_map each l) (all ∙ c.deref-inner-items.ensures.value))
-    ∙ ap (λ o. (old ++ flat_map each xs) ++ warned_where Unreached o) last
-    ∙ append_assoc old (flat_map each xs) (warned_where Unreached (first_unreached xs)) ∙ ap (λ l. old ++ l) (sym whole))
-    c.add_where.ensures
+    IfOk-weaker c.add_list.result _ _
+    (λ r h. h ∙ ap (λ l. l ++ list_warnings text c.deref.result.now) (c.loop-inner.invariant ∙ ap (λ l. old ++ flat_map (each text) l) (all ∙ c.deref-inner-items.ensures.value))
+    ∙ ap (λ l. (old ++ flat_map (each text) xs) ++ list_warnings text l) c.deref.ensures.value
+    ∙ append_assoc old (flat_map (each text) xs) (list_warnings text xs) ∙ ap (λ l. old ++ l) (sym whole))
+    c.add_list.ensures
 
 pub loop-inner-preserved : goal.loop-inner-preserved
 loop-inner-preserved t c = grind (arith, common_steps, c.loop-inner.invariant, c.in_ok-add_statement-in-Block.ensures)

@@ -8,4 +8,4 @@ use Rattle.kahn_warnings.proofs.program.warnings.Given as goal
 abbrev pub invariant-loop-declaration : goal.invariant-loop-declaration
 invariant-loop-declaration l =
     (comments : List Warning) × AreCommentWarnings l.text comments
-    × (l.warnings.items ≡ comments ++ flat_map (declaration_warnings l.program.instances.items) (take l.declaration-index l.program.declarations.items))
+    × (l.warnings.items ≡ comments ++ flat_map (declaration_warnings l.text l.program.instances.items) (take l.declaration-index l.program.declarations.items))
