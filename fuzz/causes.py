@@ -5,7 +5,7 @@
 Who waits on whom is read off the report's end lines and the wiring of reference.py. Whoever has gone as many waits onward as there are
 instances, and still waits on one of them, is in a ring, whose mending is told once. What is said to be for ever is tried: the interpreter of reference.py runs the
 network on a longer input, and each such process has to end there as it did; where it has a fault, the place where that came has to be
-one of those that are told. A difference is printed, and its texts are kept.
+one of those that are told. The places of waits are read off the tree of reference.py. A difference is printed, and its texts are kept.
 """
 import os
 import random
@@ -103,7 +103,23 @@ def taken(count):
     return [", to which nothing came", ", of which the one value is taken"][count] if count < 2 else f", of which all {count} values are taken"
 
 
-def line_of(checked, inputs, ends, p):
+def waits_in(part, name):
+    """Where the waits on a name begin, in the order of the text."""
+    if part[0] == "wait":
+        return [part[1][0]] if part[2][1] == name else []
+    return [at for inner in part if isinstance(inner, (tuple, list)) and inner for at in waits_in(inner, name)]
+
+
+def spots(checked, text, path, channel):
+    """The places of the waits on a channel, as its line tells them."""
+    number, k = checked.reader[channel]
+    _, _, params, _, body = checked.globals[checked.instances[number][0][1]][1]
+    at = ["{}:{}".format(*ref.place(text.encode(), at)) for at in waits_in(body, params[k][2][1])]
+    others = at[1:] if len(at) < 4 else [f"{len(at) - 1} places more"]
+    return f" ({path}:{' or '.join(at[:1] + others)})"
+
+
+def line_of(checked, text, path, inputs, ends, p):
     """What is said of an instance that hasn't ended."""
     def who(z):
         return f"{z + 1} {checked.instances[z][0][1]}"
@@ -114,7 +130,7 @@ def line_of(checked, inputs, ends, p):
     if channel is None:
         return f"{who(p)} has a fault, {word.split()[1]}"
     name, writer = checked.channels[channel][0], awaited(checked, ends, p)
-    out = f"{who(p)} waits on {name}" + (", an input" + taken(len(inputs.get(channel, []))) if writer is None else f" from {who(writer)}")
+    out = f"{who(p)} waits on {name}{spots(checked, text, path, channel)}" + (", an input" + taken(len(inputs.get(channel, []))) if writer is None else f" from {who(writer)}")
     why, z = cause(checked, ends, p)
     if why == "an input":
         return out if z == p else f"{out}, as {who(z)} waits on {checked.channels[ends[z][1]][0]}, an input"
@@ -124,15 +140,15 @@ def line_of(checked, inputs, ends, p):
     return f"{out}, as {who(z)} " + {"ring": "is in a deadlock", "ended": "has ended"}.get(why, "has a fault") + ": for ever" + (advice if (why, z) == ("ring", p) else "")
 
 
-def wanted_of(checked, inputs, ends, last):
+def wanted_of(checked, text, path, inputs, ends, last):
     """The explanation, its status, and the causes."""
     told = [p for p, (word, channel, _) in enumerate(ends) if channel is not None or word.startswith("fault")]
     causes = {p: cause(checked, ends, p) for p in told}
-    lines = [line_of(checked, inputs, ends, p) for p, (word, _, _) in enumerate(ends) if word != "ended"]
-    text = "".join(line + "\n" for line in lines + [GO_ON] * last.startswith("stopped by bound") + [last])
+    lines = [line_of(checked, text, path, inputs, ends, p) for p, (word, _, _) in enumerate(ends) if word != "ended"]
+    told_text = "".join(line + "\n" for line in lines + [GO_ON] * last.startswith("stopped by bound") + [last])
     whys = [why for why, _ in causes.values()]
     status = 8 if any(ends[p][0].startswith("fault") for p in told) else 7 if "ring" in whys else 3 if last.startswith("stopped by bound") else 0
-    return text, status, causes
+    return told_text, status, causes
 
 
 def without_places(told):
@@ -175,7 +191,7 @@ def one(explain, kahn, room, seed):
         words = [path, "--input", path + ".input", *words, "--workers"]
         ran = subprocess.run([kahn, *words, "1"], stdin=subprocess.DEVNULL, capture_output=True, timeout=60)
         ends, last = ends_of(checked, ran.stdout.decode())
-        wanted, status, causes = wanted_of(checked, inputs, ends, last)
+        wanted, status, causes = wanted_of(checked, text, path, inputs, ends, last)
         if causes:
             break
         number += 1

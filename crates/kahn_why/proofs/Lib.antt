@@ -13,4 +13,5 @@ mod Tables
 mod Told
 mod Traced_texts
 mod Unfed
+mod Waiting
 mod Watched_columns

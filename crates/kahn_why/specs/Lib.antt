@@ -9,6 +9,7 @@ pub mod Reporting
 pub mod Table
 pub mod Telling
 pub mod Tracing
+pub mod Waits
 pub mod Why
 pub mod Words
 pub mod inner

@@ -1,9 +1,10 @@
 -- Believed. What is said of a run that stopped: a line for each process that hasn't ended, advice to each ring, and how the run ended.
-use Rattle.std.specs.Prelude.{◌≡◌, ℕ, zero, suc, ◌+◌, ◌<◌, ◌==◌, List, [], ◌∷◌, ◌++◌, Bool, true, false, codes, decimal, if◌then◌else◌, flat_map, length, map, string_bytes, IfOk, Option, Some, None, Result, option_map, slice_index_or}
+use Rattle.std.specs.Prelude.{◌≡◌, ℕ, zero, suc, ◌+◌, ◌<◌, ◌==◌, List, [], ◌∷◌, ◌++◌, Bool, true, false, codes, decimal, if◌then◌else◌, flat_map, length, map, min, nat_lt, string_bytes, IfOk, Option, Some, None, Result, option_map, slice_index_or}
 use Rattle.std.proofs.Common.{Bor}
 use Rattle.std.specs.declared.alloc.Global.{Global}
 use Rattle.std.specs.declared.string.String.{String}
 use Rattle.std.specs.List.{concat, list_any}
+use Rattle.kahn_streams.specs.Place.{line_of, column_of}
 use Rattle.kahn_streams.specs.declared.span.Span.{Span}
 use Rattle.kahn_streams.specs.declared.tree.Process.{Process}
 use Rattle.kahn_streams.specs.declared.tree.Program.{Program}
@@ -29,6 +30,7 @@ use Rattle.kahn_streams.specs.declared.answer.Verdict.TheVariants.{Finished, Bou
 use Rattle.kahn_marks.specs.Marks.{marked}
 use Rattle.kahn_warnings.specs.Faults.{fault_places}
 use Rattle.kahn_report.specs.Formats.{channel_name, process_name, last_text}
+use Rattle.kahn_why.specs.Waits.{instance_waits}
 use Rattle.kahn_why.specs.Why.{standings_of, stands}
 use Rattle.kahn_why.specs.declared.why.told.Explanation.{Explanation}
 use Rattle.kahn_why.specs.declared.why.told.Told.{Told}
@@ -116,6 +118,26 @@ is_ring_of z (Input w c) = false
 is_ring_of z (Stopped w s) = false
 is_ring_of z (Ring w) = w == z
 
+-- the line and the column of a byte of the program text
+abbrev pub spot_at : List ℕ → ℕ → List ℕ
+spot_at source from = concat (decimal (line_of source from) ∷ codes ":" ∷ decimal (column_of source from) ∷ [])
+
+-- those where a part begins; one beyond the text is told as the text's end
+abbrev pub spot_text : List ℕ → Span → List ℕ
+spot_text source x = spot_at source (min x.from (length source))
+
+-- one or two further places, or how many there are
+abbrev pub more_spots : ℕ → List ℕ
+more_spots n = concat (codes " or " ∷ decimal n ∷ codes " places more" ∷ [])
+
+abbrev pub other_spots : List ℕ → List Span → List ℕ
+other_spots source xs = if nat_lt 2 (length xs) then more_spots (length xs) else flat_map (λ x. codes " or " ++ spot_text source x) xs
+
+-- the places, where there are any
+abbrev pub spots_text : List ℕ → List ℕ → List Span → List ℕ
+spots_text path source [] = []
+spots_text path source (x ∷ xs) = codes " (" ++ (path ++ (codes ":" ++ (spot_text source x ++ (other_spots source xs ++ codes ")"))))
+
 -- the source is z itself
 abbrev pub is_own : ℕ → Source → Bool
 is_own z Given = false
@@ -132,11 +154,11 @@ advice_text true false = codes "  = where no value ever went round, this ring wa
 abbrev pub ringed_text : Program → ℕ → ℕ → Cause → List ℕ
 ringed_text t p c y = codes "\n" ++ advice_text (is_ring_of p y) (is_own p (channel_source (network_of t) c))
 
--- the lines of p, which waits on c by this cause
-abbrev pub waits_text : Program → Verdict → Option Lists → ℕ → ℕ → Cause → List ℕ
-waits_text t v fed p c y =
-    who_text t p ++ (concat (codes " waits on " ∷ channel_name t c ∷ [])
-    ++ (source_text t v fed c ++ (cause_text t v p y ++ ringed_text t p c y)))
+-- the lines of p, which waits on c by this cause, with the places of its waits on it
+abbrev pub waits_text : List ℕ → List ℕ → Program → Verdict → Option Lists → ℕ → ℕ → Cause → List ℕ
+waits_text path source t v fed p c y =
+    who_text t p ++ (concat (codes " waits on " ∷ channel_name t c ∷ []) ++ (spots_text path source (instance_waits t p c)
+    ++ (source_text t v fed c ++ (cause_text t v p y ++ ringed_text t p c y))))
 
 -- the statements of a process, and those of the process of instance p
 abbrev pub process_body : Option Process → List Statement
@@ -175,7 +197,7 @@ wants_text t p n = concat (who_text t p ∷ codes " wants more, after " ∷ deci
 -- the lines of p, which stands so after that many events by this cause
 abbrev pub stood_text : List ℕ → List ℕ → Program → Verdict → Option Lists → ℕ → Outcome → ℕ → Cause → List ℕ
 stood_text path source t v fed p Ended n y = []
-stood_text path source t v fed p (Waits c) n y = waits_text t v fed p c y
+stood_text path source t v fed p (Waits c) n y = waits_text path source t v fed p c y
 stood_text path source t v fed p (Faulted k) n y = faulted_text path source t p k
 stood_text path source t v fed p More n y = wants_text t p n
 

@@ -5,8 +5,10 @@ mod pieces;
 mod places;
 mod reading;
 mod reported;
+mod spots;
 mod telling;
 mod told;
+mod waits;
 
 pub(crate) use reported::explained_report;
 pub(crate) use telling::explained;

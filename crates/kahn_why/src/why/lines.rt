@@ -2,12 +2,15 @@
 
 ghost use Rattle.std.specs.Prelude.{◌≡◌, ◌<◌, ◌++◌, IfOk, length, string_bytes};
 ghost use Rattle.kahn_streams.specs.Network.{network_of};
-ghost use Rattle.kahn_why.specs.Words.{as_text, cause_text, faulted_text, ringed_text, line_text, lines_text, wants_text, waits_text, ends_at, fed_lists, AreOfNetwork, GrowsBy, IsOfNetwork};
+ghost use Rattle.kahn_why.specs.Waits.{instance_waits};
+ghost use Rattle.kahn_why.specs.Words.{as_text, cause_text, faulted_text, ringed_text, line_text, lines_text, wants_text, spots_text, waits_text, ends_at, fed_lists, AreOfNetwork, GrowsBy, IsOfNetwork};
 
 use crate::why::pieces::{
     add_source, add_who, advice, events_word, fault_word, for_ever, lasting, stopped_word,
 };
 use crate::why::places::add_places;
+use crate::why::spots::add_spots;
+use crate::why::waits::channel_waits;
 use itoa::Buffer;
 use kahn_chain::Cause;
 use kahn_marks::add;
@@ -76,9 +79,30 @@ fn add_end(
     text.push_str(advice(network, instance, channel, cause))
 }
 
+/// Adds the places of the waits of an instance on a channel.
+fn add_awaited(
+    text: &mut String,
+    alloc: Global,
+    path: &str,
+    program: &str,
+    network: &Network,
+    instance: usize,
+    channel: usize,
+) -> Result<(), AllocError>
+    requires here { instance < length network.now.instances.items }
+    requires channel { channel < length (network_of network.now).channels }
+    ensures { IfOk result (λ _. string_bytes text.new ≡ string_bytes text.old ++ spots_text path.now program.now (instance_waits network.now instance channel)) }
+{
+    let places = channel_waits(alloc, network, instance, channel)?;
+    add_spots(text, path, program, &places)
+}
+
 /// Adds the line of an instance that waits on a channel, and what mends its ring.
 fn add_waits(
     text: &mut String,
+    alloc: Global,
+    path: &str,
+    program: &str,
     network: &Network,
     verdict: Verdict,
     fed: Option<&Input>,
@@ -89,10 +113,11 @@ fn add_waits(
     requires here { instance < length network.now.instances.items }
     requires there { ends_at cause < length network.now.instances.items }
     requires channel { channel < length (network_of network.now).channels }
-    ensures { IfOk result (λ _. string_bytes text.new ≡ string_bytes text.old ++ waits_text network.now verdict (fed_lists fed.entry) instance channel cause) }
+    ensures { GrowsBy result text.old text.new (waits_text path.now program.now network.now verdict (fed_lists fed.entry) instance channel cause) }
 {
     add_who(text, network, instance)?;
     add(text, &[" waits on ", channel_name(network, channel)])?;
+    add_awaited(text, alloc, path, program, network, instance, channel)?;
     add_source(text, network, verdict, fed, channel)?;
     add_cause(text, network, verdict, instance, cause)?;
     add_end(text, network, instance, channel, cause)
@@ -150,7 +175,9 @@ fn add_line(
 {
     match end.outcome {
         Outcome::Ended => Ok(()),
-        Outcome::Waits(channel) => add_waits(text, network, verdict, fed, instance, channel, cause),
+        Outcome::Waits(channel) => add_waits(
+            text, alloc, path, program, network, verdict, fed, instance, channel, cause,
+        ),
         Outcome::Faulted(kind) => add_faulted(text, alloc, path, program, network, instance, kind),
         Outcome::More => add_more(text, network, instance, end.events),
     }

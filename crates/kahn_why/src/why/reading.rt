@@ -27,7 +27,12 @@ pub enum ReportFault {
 fn all_digits(digits: &[u8]) -> bool
     ensures { result ≡ list_all is_ascii_digit digits.now }
 {
-    digits.iter().all(|byte| byte.is_ascii_digit())
+    for byte in digits {
+        if !byte.is_ascii_digit() {
+            return false;
+        }
+    }
+    true
 }
 
 /// The number that digits write.

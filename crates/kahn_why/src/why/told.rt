@@ -30,15 +30,24 @@ pub struct Explanation {
 fn has_fault(ends: &[End]) -> bool
     ensures { result ≡ has_fault ends.now }
 {
-    ends.iter()
-        .any(|end| matches!(end.outcome, Outcome::Faulted(_)))
+    for end in ends {
+        if matches!(end.outcome, Outcome::Faulted(_)) {
+            return true;
+        }
+    }
+    false
 }
 
 /// Whether there is a ring.
 fn has_ring(causes: &[Cause]) -> bool
     ensures { result ≡ has_ring causes.now }
 {
-    causes.iter().any(|cause| matches!(cause, Cause::Ring(_)))
+    for cause in causes {
+        if matches!(cause, Cause::Ring(_)) {
+            return true;
+        }
+    }
+    false
 }
 
 /// What the run of an answer came to.

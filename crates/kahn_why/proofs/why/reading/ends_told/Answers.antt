@@ -1,4 +1,4 @@
-use Rattle.std.proofs.Common.{◌≡◌, ◌∙◌, ◌++◌, ◌+◌, ◌<◌, ◌∷◌, Some, ap, drop, length, option_copied, rules, subst, sym}
+use Rattle.std.proofs.Common.{◌≡◌, ◌∙◌, ◌+◌, ◌<◌, ap, drop, length, option_copied, rules, subst, sym}
 use Rattle.kahn_streams.specs.Network.{channel_names}
 use Rattle.kahn_why.specs.Reading.{ends_joined, ends_told, line_told, said_lines}
 use Rattle.kahn_why.proofs.Read.{end_there, lent, no_end_there, read_at}
