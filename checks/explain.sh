@@ -39,13 +39,13 @@ network() {
 }
 
 dead='is in a deadlock: for ever'
-first='  = where no value ever went round, this ring wants a first one: let one of its processes send before it waits'
+first='  = this ring wants a first value (let one of its processes send before it waits), or one of them takes more than another sends: --trace shows what came'
 on='--bound N with a greater N lets the run go on'
-gives "a ring of three with a tail" 7 "1 stage waits on A ($ring:7:17) from 3 tap, as 1 stage $dead
+gives "a ring of three with a tail" 7 "1 stage waits on A at 7:17 from 3 tap, in a deadlock: for ever
 $first
-2 stage waits on B ($ring:7:17) from 1 stage, as 1 stage $dead
-3 tap waits on C ($ring:12:23) from 2 stage, as 1 stage $dead
-5 sink waits on RES ($ring:22:27) from 3 tap, as 1 stage $dead
+2 stage waits on B at 7:17 from 1 stage, as 1 stage $dead
+3 tap waits on C at 12:23 from 2 stage, as 1 stage $dead
+5 sink waits on RES at 22:27 from 3 tap, as 1 stage $dead
 finished 16" '' "$ring"
 for words in "--workers 1" "--workers 16" "--quantum 1" "--bound 16"; do
   # shellcheck disable=SC2086
@@ -54,7 +54,7 @@ for words in "--workers 1" "--workers 16" "--quantum 1" "--bound 16"; do
 done
 
 network one 'integer channel A;' 'copy(A, A)'
-gives "a channel to oneself" 7 "1 copy waits on A (one:2:64) from 1 copy, as 1 copy $dead
+gives "a channel to oneself" 7 "1 copy waits on A at 2:64 from 1 copy, in a deadlock: for ever
   = its own queue is empty: let it send before it waits
 finished 1" '' one
 network turning 'integer channel A;' 'begin_with(A, A, 5)'
@@ -65,30 +65,30 @@ gives "one event" 3 "1 begin_with wants more, after 1 event
 $on
 stopped by bound 1" '' turning --bound 1
 network two 'integer channel A, B, C, D, E;' 'copy(C, D) par copy(B, A) par copy(A, B) par count(C, 2) par drop(D) par clock(E) par drop(E)'
-gives "a ring of two beside what runs on" 7 "1 copy waits on C (two:2:64) from 4 count, as 4 count has ended: for ever
-2 copy waits on B (two:2:64) from 3 copy, as 2 copy $dead
+gives "a ring of two beside what runs on" 7 "1 copy waits on C at 2:64 from 4 count, as 4 count has ended: for ever
+2 copy waits on B at 2:64 from 3 copy, in a deadlock: for ever
 $first
-3 copy waits on A (two:2:64) from 2 copy, as 2 copy $dead
-5 drop waits on D (two:5:60) from 1 copy, as 4 count has ended: for ever
+3 copy waits on A at 2:64 from 2 copy, as 2 copy $dead
+5 drop waits on D at 5:60 from 1 copy, as 4 count has ended: for ever
 6 clock wants more, after 491 events
 7 drop wants more, after 490 events
 $on
 stopped by bound 1000" '' two --bound 1000 --workers 1 --quantum 10
 network tail 'integer channel A, B, C; integer output channel W;' 'copy(B, W) par copy(C, B) par copy(A, C) par count(A, 1)'
-gives "the end of a stream" 0 "1 copy waits on B (tail:2:64) from 2 copy, as 4 count has ended: for ever
-2 copy waits on C (tail:2:64) from 3 copy, as 4 count has ended: for ever
-3 copy waits on A (tail:2:64) from 4 count, as 4 count has ended: for ever
+gives "the end of a stream" 0 "1 copy waits on B at 2:64 from 2 copy, as 4 count has ended: for ever
+2 copy waits on C at 2:64 from 3 copy, as 4 count has ended: for ever
+3 copy waits on A at 2:64 from 4 count, as 4 count has ended: for ever
 finished 15" '' tail
 network input 'integer input channel A; integer channel B; integer output channel W;' 'copy(B, W) par copy(A, B)'
 echo 'A: 1 2' > values
-gives "an input" 0 "1 copy waits on B (input:2:64) from 2 copy, as 2 copy waits on A, an input
-2 copy waits on A (input:2:64), an input, of which all 2 values are taken
+gives "an input" 0 "1 copy waits on B at 2:64 from 2 copy, as 2 copy waits on A, an input
+2 copy waits on A at 2:64, an input, of which all 2 values are taken
 finished 14" '' input --input values
-gives "an input of one value" 0 "1 copy waits on B (input:2:64) from 2 copy, as 2 copy waits on A, an input
-2 copy waits on A (input:2:64), an input, of which the one value is taken
+gives "an input of one value" 0 "1 copy waits on B at 2:64 from 2 copy, as 2 copy waits on A, an input
+2 copy waits on A at 2:64, an input, of which the one value is taken
 finished 8" '' input --input <(echo 'A: 1')
-gives "an empty input" 0 "1 copy waits on B (input:2:64) from 2 copy, as 2 copy waits on A, an input
-2 copy waits on A (input:2:64), an input, to which nothing came
+gives "an empty input" 0 "1 copy waits on B at 2:64 from 2 copy, as 2 copy waits on A, an input
+2 copy waits on A at 2:64, an input, to which nothing came
 finished 2" '' input
 cat > places << 'P'
 begin
@@ -104,12 +104,12 @@ begin
   two(A, B) par three(C) par four(E, D)
 end
 P
-gives "waits at several places" 0 "1 two waits on A (places:3:63 or 3:84), an input, to which nothing came
-2 three waits on C (places:5:26 or 5:53 or 5:72), an input, to which nothing came
-3 four waits on E (places:9:40 or 3 places more), an input, to which nothing came
+gives "waits at several places" 0 "1 two waits on A at 3:63 or 3:84, an input, to which nothing came
+2 three waits on C at 5:26 or 5:53 or 5:72, an input, to which nothing came
+3 four waits on E at 9:40 or 3 places more, an input, to which nothing came
 finished 4" '' places --input <(echo 'D: true')
 network fault 'integer channel A, B; integer output channel W;' 'copy(B, W) par divide(A, B) par count(A, 3)'
-gives "a fault" 8 "1 copy waits on B (fault:2:64) from 2 divide, as 2 divide has a fault: for ever
+gives "a fault" 8 "1 copy waits on B at 2:64 from 2 divide, as 2 divide has a fault: for ever
 2 divide has a fault, division
 fault:4:72: error: division can have come from here
  4 |   process divide(integer in U; integer out W); begin repeat send 1 div wait(U) on W end;
@@ -117,7 +117,7 @@ fault:4:72: error: division can have come from here
 finished 10" '' fault
 network both 'integer channel A, B, C; integer output channel W;' 'copy(C, C) par divide(A, B) par count(A, 3) par copy(B, W)'
 "$explain" both > output 2> error
-if [ $? = 8 ] && grep -q "1 copy waits on C (both:2:64) from 1 copy, as 1 copy $dead" output; then pass; else fail "a fault beside a ring"; fi
+if [ $? = 8 ] && grep -q "1 copy waits on C at 2:64 from 1 copy, in a deadlock: for ever" output; then pass; else fail "a fault beside a ring"; fi
 gives "no event" 3 "1 copy wants more, after 0 events
 2 divide wants more, after 0 events
 3 count wants more, after 0 events
@@ -204,8 +204,8 @@ missing=$'kahn: cannot read nothing\nkahn_explain: there is no such file'
 gives "a report that isn't there" 5 '' "$missing" "$ring" --report nothing
 network behind 'integer channel A, B; integer output channel W;' 'copy(A, W) par copy(B, A) par clock(B)'
 printf 'end 1 copy: waits on A after 2\nend 2 copy: waits on B after 3\nend 3 clock: wants more after 2\nstopped by bound 7\n' > report
-gives "the report of a run that was stopped" 3 "1 copy waits on A (behind:2:64) from 2 copy, as 3 clock wants more events
-2 copy waits on B (behind:2:64) from 3 clock, as 3 clock wants more events
+gives "the report of a run that was stopped" 3 "1 copy waits on A at 2:64 from 2 copy, as 3 clock wants more events
+2 copy waits on B at 2:64 from 3 clock, as 3 clock wants more events
 3 clock wants more, after 2 events
 $on
 stopped by bound 7" '' behind --report report

@@ -24,7 +24,7 @@ WARNED = re.compile(r"[^\n]*:\d+:\d+: warning: ")
 PLACE = r"[^\n]*:(\d+:\d+): error: \w+ can have come from here\n[^\n]*\n[^\n]*\n"
 FAULTED = re.compile(rf"(?m)^(\d+)( \w+ has a fault, \w+)\n((?:{PLACE})+)")
 OWN = "\n  = its own queue is empty: let it send before it waits"
-RING = "\n  = where no value ever went round, this ring wants a first one: let one of its processes send before it waits"
+RING = "\n  = this ring wants a first value (let one of its processes send before it waits), or one of them takes more than another sends: --trace shows what came"
 GO_ON = "--bound N with a greater N lets the run go on"
 FOR_EVER = ("ring", "ended", "fault overflow", "fault division")
 
@@ -110,16 +110,16 @@ def waits_in(part, name):
     return [at for inner in part if isinstance(inner, (tuple, list)) and inner for at in waits_in(inner, name)]
 
 
-def spots(checked, text, path, channel):
+def spots(checked, text, channel):
     """The places of the waits on a channel, as its line tells them."""
     number, k = checked.reader[channel]
     _, _, params, _, body = checked.globals[checked.instances[number][0][1]][1]
     at = ["{}:{}".format(*ref.place(text.encode(), at)) for at in waits_in(body, params[k][2][1])]
     others = at[1:] if len(at) < 4 else [f"{len(at) - 1} places more"]
-    return f" ({path}:{' or '.join(at[:1] + others)})"
+    return f" at {' or '.join(at[:1] + others)}"
 
 
-def line_of(checked, text, path, inputs, ends, p):
+def line_of(checked, text, inputs, ends, p):
     """What is said of an instance that hasn't ended."""
     def who(z):
         return f"{z + 1} {checked.instances[z][0][1]}"
@@ -130,21 +130,22 @@ def line_of(checked, text, path, inputs, ends, p):
     if channel is None:
         return f"{who(p)} has a fault, {word.split()[1]}"
     name, writer = checked.channels[channel][0], awaited(checked, ends, p)
-    out = f"{who(p)} waits on {name}{spots(checked, text, path, channel)}" + (", an input" + taken(len(inputs.get(channel, []))) if writer is None else f" from {who(writer)}")
+    out = f"{who(p)} waits on {name}{spots(checked, text, channel)}" + (", an input" + taken(len(inputs.get(channel, []))) if writer is None else f" from {who(writer)}")
     why, z = cause(checked, ends, p)
     if why == "an input":
         return out if z == p else f"{out}, as {who(z)} waits on {checked.channels[ends[z][1]][0]}, an input"
     if why == "wants more":
         return f"{out}, as {who(z)} wants more events"
-    advice = OWN if writer == p else RING
-    return f"{out}, as {who(z)} " + {"ring": "is in a deadlock", "ended": "has ended"}.get(why, "has a fault") + ": for ever" + (advice if (why, z) == ("ring", p) else "")
+    if (why, z) == ("ring", p):
+        return f"{out}, in a deadlock: for ever" + (OWN if writer == p else RING)
+    return f"{out}, as {who(z)} " + {"ring": "is in a deadlock", "ended": "has ended"}.get(why, "has a fault") + ": for ever"
 
 
 def wanted_of(checked, text, path, inputs, ends, last):
     """The explanation, its status, and the causes."""
     told = [p for p, (word, channel, _) in enumerate(ends) if channel is not None or word.startswith("fault")]
     causes = {p: cause(checked, ends, p) for p in told}
-    lines = [line_of(checked, text, path, inputs, ends, p) for p, (word, _, _) in enumerate(ends) if word != "ended"]
+    lines = [line_of(checked, text, inputs, ends, p) for p, (word, _, _) in enumerate(ends) if word != "ended"]
     told_text = "".join(line + "\n" for line in lines + [GO_ON] * last.startswith("stopped by bound") + [last])
     whys = [why for why, _ in causes.values()]
     status = 8 if any(ends[p][0].startswith("fault") for p in told) else 7 if "ring" in whys else 3 if last.startswith("stopped by bound") else 0

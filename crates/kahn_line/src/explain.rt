@@ -23,9 +23,9 @@ of processes that wait on one another. The last line says how the run ended. Wit
 
   kahn_explain ring.kahn
 
-  1 stage waits on A (ring.kahn:4:17) from 2 stage, as 1 stage is in a deadlock: for ever
-    = where no value ever went round, this ring wants a first one: let one of its processes send before it waits
-  2 stage waits on B (ring.kahn:4:17) from 1 stage, as 1 stage is in a deadlock: for ever
+  1 stage waits on A at 4:17 from 2 stage, in a deadlock: for ever
+    = this ring wants a first value (let one of its processes send before it waits), or one of them takes more than another sends: --trace shows what came
+  2 stage waits on B at 4:17 from 1 stage, as 1 stage is in a deadlock: for ever
   finished 2
 
 What is for ever stays so whatever is added to the input, and however long the run is.

@@ -106,11 +106,16 @@ abbrev pub input_text : Program → Bool → ℕ → ℕ → List ℕ
 input_text t true z c = []
 input_text t false z c = as_text t z (codes " waits on ") (channel_name t c) (codes ", an input")
 
+-- a ring, named by the process in it with the least number, where that isn't p itself
+abbrev pub ring_text : Program → Bool → ℕ → List ℕ → List ℕ
+ring_text t true z lasts = concat (codes ", in a deadlock" ∷ lasts ∷ [])
+ring_text t false z lasts = as_text t z (codes " is in a deadlock") lasts []
+
 -- where the waits of p lead
 abbrev pub cause_text : Program → Verdict → ℕ → Cause → List ℕ
 cause_text t v p (Input z c) = input_text t (z == p) z c
 cause_text t v p (Stopped z s) = as_text t z (stopped_text s) (lasting_text v s) []
-cause_text t v p (Ring z) = as_text t z (codes " is in a deadlock") (for_ever_text v) []
+cause_text t v p (Ring z) = ring_text t (z == p) z (for_ever_text v)
 
 -- z has the least number of the ring to which the waits lead
 abbrev pub is_ring_of : ℕ → Cause → Bool
@@ -134,9 +139,9 @@ abbrev pub other_spots : List ℕ → List Span → List ℕ
 other_spots source xs = if nat_lt 2 (length xs) then more_spots (length xs) else flat_map (λ x. codes " or " ++ spot_text source x) xs
 
 -- the places, where there are any
-abbrev pub spots_text : List ℕ → List ℕ → List Span → List ℕ
-spots_text path source [] = []
-spots_text path source (x ∷ xs) = codes " (" ++ (path ++ (codes ":" ++ (spot_text source x ++ (other_spots source xs ++ codes ")"))))
+abbrev pub spots_text : List ℕ → List Span → List ℕ
+spots_text source [] = []
+spots_text source (x ∷ xs) = codes " at " ++ (spot_text source x ++ other_spots source xs)
 
 -- the source is z itself
 abbrev pub is_own : ℕ → Source → Bool
@@ -148,16 +153,16 @@ is_own z Nobody = false
 abbrev pub advice_text : Bool → Bool → List ℕ
 advice_text false own = []
 advice_text true true = codes "  = its own queue is empty: let it send before it waits\n"
-advice_text true false = codes "  = where no value ever went round, this ring wants a first one: let one of its processes send before it waits\n"
+advice_text true false = codes "  = this ring wants a first value (let one of its processes send before it waits), or one of them takes more than another sends: --trace shows what came\n"
 
 -- the end of the line of p, which waits on c by this cause, and that advice
 abbrev pub ringed_text : Program → ℕ → ℕ → Cause → List ℕ
 ringed_text t p c y = codes "\n" ++ advice_text (is_ring_of p y) (is_own p (channel_source (network_of t) c))
 
 -- the lines of p, which waits on c by this cause, with the places of its waits on it
-abbrev pub waits_text : List ℕ → List ℕ → Program → Verdict → Option Lists → ℕ → ℕ → Cause → List ℕ
-waits_text path source t v fed p c y =
-    who_text t p ++ (concat (codes " waits on " ∷ channel_name t c ∷ []) ++ (spots_text path source (instance_waits t p c)
+abbrev pub waits_text : List ℕ → Program → Verdict → Option Lists → ℕ → ℕ → Cause → List ℕ
+waits_text source t v fed p c y =
+    who_text t p ++ (concat (codes " waits on " ∷ channel_name t c ∷ []) ++ (spots_text source (instance_waits t p c)
     ++ (source_text t v fed c ++ (cause_text t v p y ++ ringed_text t p c y))))
 
 -- the statements of a process, and those of the process of instance p
@@ -197,7 +202,7 @@ wants_text t p n = concat (who_text t p ∷ codes " wants more, after " ∷ deci
 -- the lines of p, which stands so after that many events by this cause
 abbrev pub stood_text : List ℕ → List ℕ → Program → Verdict → Option Lists → ℕ → Outcome → ℕ → Cause → List ℕ
 stood_text path source t v fed p Ended n y = []
-stood_text path source t v fed p (Waits c) n y = waits_text path source t v fed p c y
+stood_text path source t v fed p (Waits c) n y = waits_text source t v fed p c y
 stood_text path source t v fed p (Faulted k) n y = faulted_text path source t p k
 stood_text path source t v fed p More n y = wants_text t p n
 

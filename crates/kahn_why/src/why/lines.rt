@@ -57,6 +57,9 @@ fn add_cause(
             let word = stopped_word(standing);
             add_as(text, network, one, word, lasting(verdict, standing), "")
         }
+        Cause::Ring(one) if one == instance => {
+            add(text, &[", in a deadlock", for_ever(verdict)])
+        }
         Cause::Ring(one) => {
             let word = " is in a deadlock";
             add_as(text, network, one, word, for_ever(verdict), "")
@@ -83,7 +86,6 @@ fn add_end(
 fn add_awaited(
     text: &mut String,
     alloc: Global,
-    path: &str,
     program: &str,
     network: &Network,
     instance: usize,
@@ -91,17 +93,16 @@ fn add_awaited(
 ) -> Result<(), AllocError>
     requires here { instance < length network.now.instances.items }
     requires channel { channel < length (network_of network.now).channels }
-    ensures { IfOk result (λ _. string_bytes text.new ≡ string_bytes text.old ++ spots_text path.now program.now (instance_waits network.now instance channel)) }
+    ensures { IfOk result (λ _. string_bytes text.new ≡ string_bytes text.old ++ spots_text program.now (instance_waits network.now instance channel)) }
 {
     let places = channel_waits(alloc, network, instance, channel)?;
-    add_spots(text, path, program, &places)
+    add_spots(text, program, &places)
 }
 
 /// Adds the line of an instance that waits on a channel, and what mends its ring.
 fn add_waits(
     text: &mut String,
     alloc: Global,
-    path: &str,
     program: &str,
     network: &Network,
     verdict: Verdict,
@@ -113,11 +114,11 @@ fn add_waits(
     requires here { instance < length network.now.instances.items }
     requires there { ends_at cause < length network.now.instances.items }
     requires channel { channel < length (network_of network.now).channels }
-    ensures { GrowsBy result text.old text.new (waits_text path.now program.now network.now verdict (fed_lists fed.entry) instance channel cause) }
+    ensures { GrowsBy result text.old text.new (waits_text program.now network.now verdict (fed_lists fed.entry) instance channel cause) }
 {
     add_who(text, network, instance)?;
     add(text, &[" waits on ", channel_name(network, channel)])?;
-    add_awaited(text, alloc, path, program, network, instance, channel)?;
+    add_awaited(text, alloc, program, network, instance, channel)?;
     add_source(text, network, verdict, fed, channel)?;
     add_cause(text, network, verdict, instance, cause)?;
     add_end(text, network, instance, channel, cause)
@@ -176,7 +177,7 @@ fn add_line(
     match end.outcome {
         Outcome::Ended => Ok(()),
         Outcome::Waits(channel) => add_waits(
-            text, alloc, path, program, network, verdict, fed, instance, channel, cause,
+            text, alloc, program, network, verdict, fed, instance, channel, cause,
         ),
         Outcome::Faulted(kind) => add_faulted(text, alloc, path, program, network, instance, kind),
         Outcome::More => add_more(text, network, instance, end.events),

@@ -133,7 +133,7 @@ pub(crate) fn advice(
     } else if is_own(network, instance, channel) {
         "  = its own queue is empty: let it send before it waits\n"
     } else {
-        "  = where no value ever went round, this ring wants a first one: let one of its processes send before it waits\n"
+        "  = this ring wants a first value (let one of its processes send before it waits), or one of them takes more than another sends: --trace shows what came\n"
     }
 }
 

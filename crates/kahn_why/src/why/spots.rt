@@ -8,23 +8,16 @@ use kahn_marks::add;
 use kahn_streams::Span;
 use std::alloc::AllocError;
 
-/// Adds the line and the column of a place, behind other pieces.
-fn add_spot<'a>(
-    text: &mut String,
-    before: &'a str,
-    path: &'a str,
-    colon: &'a str,
-    source: &str,
-    place: Span,
-) -> Result<(), AllocError>
-    ensures { IfOk result (λ _. string_bytes text.new ≡ string_bytes text.old ++ (before.now ++ (path.now ++ (colon.now ++ spot_text source.now place)))) }
+/// Adds the line and the column of a place, behind a word.
+fn add_spot(text: &mut String, before: &str, source: &str, place: Span) -> Result<(), AllocError>
+    ensures { IfOk result (λ _. string_bytes text.new ≡ string_bytes text.old ++ (before.now ++ spot_text source.now place)) }
 {
     let from = place.from.min(source.len());
     let (line, column) = Span { from, to: from }.place(source);
     let mut first = Buffer::new();
     let mut second = Buffer::new();
     let (line, column) = (first.format(line), second.format(column));
-    add(text, &[before, path, colon, line, ":", column])
+    add(text, &[before, line, ":", column])
 }
 
 /// Adds that there are so many places more.
@@ -44,26 +37,20 @@ fn add_others(text: &mut String, source: &str, others: &[Span]) -> Result<(), Al
         return add_count(text, others.len());
     }
     for place in others {
-        add_spot(text, " or ", "", "", source, *place)?;
+        add_spot(text, " or ", source, *place)?;
     }
     Ok(())
 }
 
 /// Adds places, where there are any.
-pub(crate) fn add_spots(
-    text: &mut String,
-    path: &str,
-    source: &str,
-    places: &[Span],
-) -> Result<(), AllocError>
-    ensures { IfOk result (λ _. string_bytes text.new ≡ string_bytes text.old ++ spots_text path.now source.now places.now) }
+pub(crate) fn add_spots(text: &mut String, source: &str, places: &[Span]) -> Result<(), AllocError>
+    ensures { IfOk result (λ _. string_bytes text.new ≡ string_bytes text.old ++ spots_text source.now places.now) }
 {
     match places.split_first() {
         None => Ok(()),
         Some((first, others)) => {
-            add_spot(text, " (", path, ":", source, *first)?;
-            add_others(text, source, others)?;
-            text.push_str(")")
+            add_spot(text, " at ", source, *first)?;
+            add_others(text, source, others)
         }
     }
 }
