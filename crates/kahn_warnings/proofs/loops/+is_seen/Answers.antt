@@ -9,3 +9,9 @@ loop-inner-init t c names = search (rules, the_lemmas, block_is_seen)
 
 pub loop-inner-preserved : goal.loop-inner-preserved
 loop-inner-preserved t c names = grind (arith, common_steps, c.loop-inner.invariant names, c.is_seen.ensures names, c.if-is_seen.false)
+
+pub returns-then-is_seen : goal.returns-then-is_seen
+returns-then-is_seen t c names = grind (arith, common_steps, c.loop-inner.invariant names, c.is_seen.ensures names, c.if-is_seen.true)
+
+pub returns-after-loop-inner : goal.returns-after-loop-inner
+returns-after-loop-inner t c names = grind (arith, common_steps, c.loop-inner.invariant names)

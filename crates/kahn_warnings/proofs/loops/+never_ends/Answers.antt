@@ -9,3 +9,9 @@ loop-inner-init t c names = search (rules, the_lemmas, block_never_ends)
 
 pub loop-inner-preserved : goal.loop-inner-preserved
 loop-inner-preserved t c names = grind (arith, common_steps, c.loop-inner.invariant names, c.never_ends.ensures names, c.if-never_ends.false)
+
+pub returns-then-never_ends : goal.returns-then-never_ends
+returns-then-never_ends t c names = grind (arith, common_steps, c.loop-inner.invariant names, c.never_ends.ensures names, c.if-never_ends.true)
+
+pub returns-after-loop-inner : goal.returns-after-loop-inner
+returns-after-loop-inner t c names = grind (arith, common_steps, c.loop-inner.invariant names)

@@ -12,3 +12,9 @@ returns-then-is_named t c = search (rules, the_lemmas, level_named)
 
 pub loop-operand-preserved : goal.loop-operand-preserved
 loop-operand-preserved t c = grind (arith, common_steps, c.loop-operand.invariant, c.is_named-in-loop-operand.ensures, c.if-is_named-2.false)
+
+pub returns-then-is_named-2 : goal.returns-then-is_named-2
+returns-then-is_named-2 t c = grind (arith, common_steps, c.loop-operand.invariant, c.is_named-in-loop-operand.ensures, c.if-is_named-2.true)
+
+pub returns-after-loop-operand : goal.returns-after-loop-operand
+returns-after-loop-operand t c = grind (arith, common_steps, c.loop-operand.invariant)

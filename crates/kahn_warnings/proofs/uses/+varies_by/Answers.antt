@@ -12,3 +12,9 @@ returns-then-varies_by t c = search (rules, the_lemmas, row_varies)
 
 pub loop-operand-preserved : goal.loop-operand-preserved
 loop-operand-preserved t c = grind (arith, common_steps, c.loop-operand.invariant, c.varies_by-in-loop-operand.ensures, c.if-varies_by-2.false)
+
+pub returns-then-varies_by-2 : goal.returns-then-varies_by-2
+returns-then-varies_by-2 t c = grind (arith, common_steps, c.loop-operand.invariant, c.varies_by-in-loop-operand.ensures, c.if-varies_by-2.true)
+
+pub returns-after-loop-operand : goal.returns-after-loop-operand
+returns-after-loop-operand t c = grind (arith, common_steps, c.loop-operand.invariant)
