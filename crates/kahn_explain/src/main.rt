@@ -22,6 +22,14 @@ use std::sync::Wait;
 use std::thread::Threads;
 use std::{env, fs, io};
 
+/// What is asked for.
+#[derive(Clone, Copy)]
+enum Task {
+    Report,
+    Trace,
+    Run,
+}
+
 /// What the texts are called in notes.
 #[derive(Drop)]
 struct Paths {
@@ -63,68 +71,31 @@ fn or_refused<W: Write>(
     }
 }
 
-/// Runs the program on the input, and explains to the writer.
-fn explain_texts<R: Runtime + AllocGlobal + Threads + Wait + Sync, W: Write>(
+/// Explains the run of the program on the input, or that of a report, which stands in the place of the input; or writes what the
+/// channels carried as a table, and to the other writer what is warned of and why the run stopped, or why there is none.
+fn explain_texts<R: Runtime + AllocGlobal + Threads + Wait + Sync, T: Write, W: Write>(
     rt: &R,
     paths: &Paths,
     texts: &Texts,
+    task: Task,
     config: Config,
     strict: bool,
-    writer: &mut W,
+    out: &mut T,
+    log: &mut W,
 ) -> Result<Came, WorkFault> {
-    let program = texts.program.as_str();
-    let input = texts.input.as_str();
-    let came = explain(
-        rt,
-        rt.alloc(),
-        paths.program.as_str(),
-        program,
-        input,
-        config,
-        strict,
-        writer,
-    );
-    or_refused(rt.alloc(), paths.input.as_str(), texts, came, writer)
-}
-
-/// Explains the run of a report, which stands in the place of the input, to the writer.
-fn report_texts<W: Write>(
-    alloc: Global,
-    path: &str,
-    texts: &Texts,
-    strict: bool,
-    writer: &mut W,
-) -> Result<Came, WorkFault> {
-    let program = texts.program.as_str();
-    let report = texts.input.as_str();
-    explain_report(alloc, path, program, report, strict, writer)
-}
-
-/// Runs the program on the input, and writes what its channels carried as a table; and to the writer what is warned of in it and why
-/// the run stopped, or why there is none.
-fn trace_texts<R: Runtime + AllocGlobal + Threads + Wait + Sync, T: Write, W: Write>(
-    rt: &R,
-    paths: &Paths,
-    texts: &Texts,
-    config: Config,
-    strict: bool,
-    table: &mut T,
-    writer: &mut W,
-) -> Result<Came, WorkFault> {
-    let program = texts.program.as_str();
-    let input = texts.input.as_str();
-    let came = trace(
-        rt,
-        rt.alloc(),
-        paths.program.as_str(),
-        program,
-        input,
-        config,
-        strict,
-        table,
-        writer,
-    );
-    or_refused(rt.alloc(), paths.input.as_str(), texts, came, writer)
+    let (alloc, path, input_path) = (rt.alloc(), paths.program.as_str(), paths.input.as_str());
+    let (program, input) = (texts.program.as_str(), texts.input.as_str());
+    match task {
+        Task::Report => explain_report(alloc, path, program, input, strict, out),
+        Task::Trace => {
+            let came = trace(rt, alloc, path, program, input, config, strict, out, log);
+            or_refused(alloc, input_path, texts, came, log)
+        }
+        Task::Run => {
+            let came = explain(rt, alloc, path, program, input, config, strict, out);
+            or_refused(alloc, input_path, texts, came, out)
+        }
+    }
 }
 
 /// What is said of why the file of a path can't be read. It is tried once more, so nothing is said where it can be read by now.
@@ -188,6 +159,17 @@ fn unread_status<R: Runtime, W: Write>(rt: &R, fault: Fault, writer: &mut W) -> 
     status
 }
 
+/// What the command line asks for.
+fn task_of(options: &ExplainOptions) -> Task {
+    if options.report.is_some() {
+        Task::Report
+    } else if options.trace {
+        Task::Trace
+    } else {
+        Task::Run
+    }
+}
+
 /// Does what the command line asks for, and gives the status. Faults are told to the writer.
 fn answered<R: Runtime + AllocGlobal + Threads + Wait + Sync, W: Write>(
     rt: &R,
@@ -196,7 +178,8 @@ fn answered<R: Runtime + AllocGlobal + Threads + Wait + Sync, W: Write>(
     writer: &mut W,
 ) -> u8 {
     tell_unused(&options, writer);
-    let (config, strict, reported) = (options.config, options.strict, options.report.is_some());
+    let task = task_of(&options);
+    let (config, strict) = (options.config, options.strict);
     let texts = match read_texts(rt, options.program, options.report.or(options.input)) {
         Ok(texts) => texts,
         Err(fault) => return unread_status(rt, fault, writer),
@@ -205,13 +188,7 @@ fn answered<R: Runtime + AllocGlobal + Threads + Wait + Sync, W: Write>(
         writer: io::writer(rt),
         gone: false,
     };
-    let came = if reported {
-        report_texts(rt.alloc(), paths.program.as_str(), &texts, strict, &mut out)
-    } else if options.trace {
-        trace_texts(rt, paths, &texts, config, strict, &mut out, writer)
-    } else {
-        explain_texts(rt, paths, &texts, config, strict, &mut out)
-    };
+    let came = explain_texts(rt, paths, &texts, task, config, strict, &mut out, writer);
     end_status(came, texts.program.as_str(), out.gone, writer)
 }
 
