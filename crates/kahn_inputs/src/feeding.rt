@@ -118,7 +118,7 @@ fn rest_from(line: &[u8]) -> usize
 }
 
 /// The first word behind the colon that is no such value, or the name where all are.
-fn unfit_span(asked: Option<Kind>, line: &[u8]) -> Span
+pub(crate) fn unfit_span(asked: Option<Kind>, line: &[u8]) -> Span
     ensures order { result.from ≤ result.to }
     ensures within { result.to ≤ length line.now }
     ensures span { IsUnfitSpan asked line.now result }
@@ -141,7 +141,7 @@ fn value_note(alloc: Global, path: &str, text: &str, found: Found<'_>) -> Result
 }
 
 /// The kind of the channel of that name, where a channel has it.
-fn kind_for(network: &Network, name: &[u8]) -> Option<Kind>
+pub(crate) fn kind_for(network: &Network, name: &[u8]) -> Option<Kind>
     ensures { IsKindFor network.now name.now result }
 {
     let Ok(name) = str::from_utf8(name) else {

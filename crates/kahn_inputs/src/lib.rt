@@ -6,6 +6,7 @@ mod feeding;
 mod fitting;
 mod laws;
 mod reasons;
+mod refused;
 mod seeking;
 mod strange;
 
@@ -14,3 +15,4 @@ pub use reasons::{file_words, reading_words, tell_reason};
 
 // For the crates above.
 pub use feeding::input_note;
+pub use refused::{Part, head_part, kind_part, name_part, value_part};

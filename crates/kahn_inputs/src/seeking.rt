@@ -35,7 +35,7 @@ pub(crate) struct Found<'a> {
 }
 
 /// A line without one carriage return before its end.
-fn content(line: &[u8]) -> &[u8]
+pub(crate) fn content(line: &[u8]) -> &[u8]
     ensures within { length result.now ≤ length line.now }
     ensures line { result.now ≡ content_of line.now }
 {

@@ -16,7 +16,7 @@ fn is_front(bytes: &[u8], part: &[u8]) -> bool
 
 /// Whether these bytes stand somewhere in a part.
 #[tactic(auto, using(crate::proofs::Held::held_nowhere))]
-fn stands_in(bytes: &[u8], part: &[u8]) -> bool
+pub(crate) fn stands_in(bytes: &[u8], part: &[u8]) -> bool
     ensures { result ≡ stands_in bytes.now part.now }
 {
     for at in 0..part.len() {

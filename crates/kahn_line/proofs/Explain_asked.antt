@@ -1,15 +1,15 @@
 -- What a parse of the words gives the options of the program that explains.
-use Rattle.std.proofs.Common.{◌≡◌, ◌∙◌, not, ◌==◌, List, refl, ap, arith, codes}
+use Rattle.std.proofs.Common.{◌≡◌, ◌∙◌, List, refl, ap, arith, codes}
 use Rattle.std.specs.Prelude.{option_map, string_bytes}
 use Rattle.clap.specs.Built.{IsParsedFrom}
 use Rattle.clap.specs.Matches.{found_of, first_value, one_text}
 use Rattle.clap.specs.Simple.{App, HasMatchesOf, app_of, is_simple, matches_of}
-use Rattle.clap.specs.Walk.{Text, count_of, first_of, one_of, rows_of}
+use Rattle.clap.specs.Walk.{Text, first_of, one_of, rows_of}
 use Rattle.clap.specs.declared.builder.command.Command.{Command}
 use Rattle.clap.specs.declared.builder.value_parser.ValueParser.TheVariants.{Unsigned}
 use Rattle.clap.specs.declared.parser.matches.ArgMatches.{ArgMatches}
 use Rattle.clap.proofs.WalkLemmas.{first_value-rows, one_text-rows}
-use Rattle.kahn_line.specs.Line.{number_or, IsSet}
+use Rattle.kahn_line.specs.Line.{was_given, number_or, IsSet}
 use Rattle.kahn_line.specs.Explain.{explain_app, explain_text, IsExplain}
 use Rattle.kahn_line.specs.declared.explain.ExplainOptions.{ExplainOptions}
 use Rattle.kahn_line.proofs.Asked.{ParsedAs, apart, known, passed}
@@ -28,8 +28,7 @@ pub asked_explain : (cmd : Command) (m : ArgMatches) (words : List Text) → IsP
     → (o : ExplainOptions) → option_map string_bytes o.program ≡ first_value (found_of m) (codes "PROGRAM")
     → option_map string_bytes o.input ≡ first_value (found_of m) (codes "input")
     → option_map string_bytes o.report ≡ first_value (found_of m) (codes "report") → IsSet (found_of m) 4 (codes "bound") o.config
-    → o.strict ≡ not (count_of (codes "strict") (rows_of (found_of m)) == 0)
-    → o.trace ≡ not (count_of (codes "trace") (rows_of (found_of m)) == 0)
+    → o.strict ≡ was_given (first_value (found_of m) (codes "strict")) → o.trace ≡ was_given (first_value (found_of m) (codes "trace"))
     → IsExplain words o
 asked_explain cmd m words p matches is o program input report set strict trace =
     let f = found_of m in
@@ -51,7 +50,7 @@ asked_explain cmd m words p matches is o program input report set strict trace =
       workers = workers.0 ∙ ap (number_or 4) (one (codes "workers"));
       quantum = quantum.0 ∙ ap (number_or 1000) (one (codes "quantum"));
       bound = bound.0 ∙ ap (number_or 1000000) (one (codes "bound"));
-      strict = strict ∙ ap (λ rs. not (count_of (codes "strict") rs == 0)) rows;
-      trace = trace ∙ ap (λ rs. not (count_of (codes "trace") rs == 0)) rows;
+      strict = strict ∙ ap was_given (text (codes "strict"));
+      trace = trace ∙ ap was_given (text (codes "trace"));
       in_range = (workers.1, workers.2, quantum.1, quantum.2, omega arith);
     }

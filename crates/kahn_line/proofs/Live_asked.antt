@@ -1,11 +1,11 @@
 -- What a parse of the words gives the options of the program that is fed line by line.
-use Rattle.std.proofs.Common.{◌≡◌, ◌∙◌, not, ◌==◌, List, [], ◌∷◌, map, Option, refl, sym, ap, subst, arith, codes}
+use Rattle.std.proofs.Common.{◌≡◌, ◌∙◌, List, [], ◌∷◌, map, Option, refl, sym, ap, subst, arith, codes}
 use Rattle.std.specs.Prelude.{option_map, string_bytes, unwrap_or}
 use Rattle.std.specs.Borrow.{Bor}
 use Rattle.clap.specs.Built.{IsParsedFrom}
 use Rattle.clap.specs.Matches.{found_of, first_value, matched_of, one_text, raw_values}
 use Rattle.clap.specs.Simple.{App, HasMatchesOf, app_of, is_simple, matches_of}
-use Rattle.clap.specs.Walk.{Text, count_of, first_of, one_of, rows_of}
+use Rattle.clap.specs.Walk.{Text, first_of, one_of, rows_of}
 use Rattle.clap.specs.declared.builder.command.Command.{Command}
 use Rattle.clap.specs.declared.builder.value_parser.ValueParser.TheVariants.{Unsigned}
 use Rattle.clap.specs.declared.parser.matches.ArgMatches.{ArgMatches}
@@ -13,9 +13,9 @@ use Rattle.clap.specs.declared.parser.matches.Found.{Found}
 use Rattle.clap.proofs.WalkLemmas.{first_value-rows, one_text-rows, raw_values-rows}
 use Rattle.kahn_streams.specs.Answers.{IsInRange}
 use Rattle.kahn_streams.specs.declared.config.Config.{Config}
-use Rattle.kahn_line.specs.Line.{number_or, IsSet}
-use Rattle.kahn_line.specs.Live.{live_app, live_text, IsLive}
-use Rattle.kahn_line.specs.Parts.{found_texts, input_named, parted, plain_parts, row_texts, set_line}
+use Rattle.kahn_line.specs.Line.{was_given, number_or, IsSet}
+use Rattle.kahn_line.specs.Live.{live_app, live_matches, live_text, IsLive}
+use Rattle.kahn_line.specs.Parts.{found_texts, input_named, joined_words, parted, plain_parts, row_texts, set_line}
 use Rattle.kahn_line.specs.declared.live.LiveOptions.{LiveOptions}
 use Rattle.kahn_line.proofs.Asked.{ParsedAs, apart, known, passed}
 
@@ -26,17 +26,17 @@ step_parsed : ParsedAs live_app.top.rules (codes "step") (Unsigned 1 28147497671
 step_parsed = (apart, (apart, ((λ e. refl), (apart, (apart, (apart, (apart, tt)))))))
 
 -- the options that are made of what a parse found are those that the words ask for
-pub asked_live : (cmd : Command) (m : ArgMatches) (words : List Text) → IsParsedFrom cmd m → HasMatchesOf (app_of cmd) words m → app_of cmd ≡ live_app
+pub asked_live : (cmd : Command) (m : ArgMatches) (words : List Text) → IsParsedFrom cmd m → HasMatchesOf (app_of cmd) (joined_words words) m → app_of cmd ≡ live_app
     → (o : LiveOptions) → option_map string_bytes o.program ≡ first_value (found_of m) (codes "PROGRAM") → (c : Config) → IsSet (found_of m) 1 (codes "step") c → o.config ≡ record c { workers = 1 }
-    → o.keep_going ≡ not (count_of (codes "keep-going") (rows_of (found_of m)) == 0)
+    → o.keep_going ≡ was_given (first_value (found_of m) (codes "keep-going"))
     → map string_bytes o.at_end.items ≡ map (set_line (input_named o.plain)) (found_texts (found_of m) (codes "at-end"))
     → option_map plain_parts o.plain ≡ option_map (parted 44) (first_value (found_of m) (codes "plain"))
     → IsLive words o
 asked_live cmd m words p matches is o program c set e keep at_end plain =
     let f = found_of m in
-    let rows : rows_of f ≡ matches_of live_app words = (matches (ap is_simple is)).0 ∙ ap (λ (a : App). matches_of a words) is in
+    let rows : rows_of f ≡ live_matches words = (matches (ap is_simple is)).0 ∙ ap (λ (a : App). matches_of a (joined_words words)) is in
     let text : (id : Text) → first_value f id ≡ live_text words id = λ id. first_value-rows f id ∙ ap (first_of id) rows in
-    let one : (id : Text) → one_text f id ≡ one_of id (matches_of live_app words) = λ id. one_text-rows f id ∙ ap (one_of id) rows in
+    let one : (id : Text) → one_text f id ≡ one_of id (live_matches words) = λ id. one_text-rows f id ∙ ap (one_of id) rows in
     let quantum = known 1 1000000 1000 (one_text f (codes "quantum")) c.quantum set.quantum
     (passed live_app refl refl cmd m p is (codes "quantum") 1 1000000 quantum_parsed 113 refl ((λ e. omega arith), (λ e. omega arith), (λ e. omega arith))) (omega arith) (omega arith) in
     let step = known 1 281474976710655 1000000 (one_text f (codes "step")) c.bound set.bound
@@ -48,7 +48,7 @@ asked_live cmd m words p matches is o program c set e keep at_end plain =
       workers = ap (λ (x : Config). x.workers) e;
       quantum = ap (λ (x : Config). x.quantum) e ∙ quantum.0 ∙ ap (number_or 1000) (one (codes "quantum"));
       step = ap (λ (x : Config). x.bound) e ∙ step.0 ∙ ap (number_or 1000000) (one (codes "step"));
-      keep_going = keep ∙ ap (λ rs. not (count_of (codes "keep-going") rs == 0)) rows;
+      keep_going = keep ∙ ap was_given (text (codes "keep-going"));
       at_end = at_end ∙ ap (λ rs. map (set_line (input_named o.plain)) (row_texts (codes "at-end") rs)) rows;
       plain = plain ∙ ap (option_map (parted 44)) (text (codes "plain"));
       in_range = subst (λ (x : Config). IsInRange x.workers x.quantum x.bound) (sym e) (omega arith, omega arith, quantum.1, quantum.2, omega arith);

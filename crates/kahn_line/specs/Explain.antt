@@ -1,21 +1,12 @@
 -- Believed. What the words of the command line of the program that explains ask for.
-use Rattle.std.specs.Prelude.{◌≡◌, ⊤, ℕ, List, [], Bool, not, ◌==◌, Some, Option, Result, codes, option_map, string_bytes}
+use Rattle.std.specs.Prelude.{◌≡◌, ⊤, ℕ, List, [], Bool, Option, Result, codes, option_map, string_bytes}
 use Rattle.std.specs.declared.result.Result.TheVariants.{Ok, Err}
-use Rattle.clap.specs.Words.{App, Rule, Text, IsAmong, count_of, fault_of, first_of, kind_of, matches_of, new_rule, one_of, with_rule}
-use Rattle.clap.specs.declared.builder.ArgAction.TheVariants.{Count}
+use Rattle.clap.specs.Words.{App, Text, IsAmong, fault_of, first_of, kind_of, matches_of, new_rule, one_of, with_rule}
 use Rattle.kahn_streams.specs.Answers.{IsInRange}
-use Rattle.kahn_line.specs.Line.{bare_app, number_or, number_rule, text_rule}
+use Rattle.kahn_line.specs.Line.{bare_app, flag_rule, was_given, number_or, number_rule, text_rule}
 use Rattle.kahn_line.specs.declared.line.LineFault.{LineFault}
 use Rattle.kahn_line.specs.declared.line.LineFault.TheVariants.{Refused, NoMemory}
 use Rattle.kahn_line.specs.declared.explain.ExplainOptions.{ExplainOptions}
-
--- the option by which a program with a warning is refused, without a text
-abbrev pub strict_rule : Rule
-strict_rule = record (new_rule (codes "strict")) { long = Some (codes "strict"); action = Some Count }
-
--- the option for a table of all histories, without a text
-abbrev pub trace_rule : Rule
-trace_rule = record (new_rule (codes "trace")) { long = Some (codes "trace"); action = Some Count }
 
 -- the program text's path without a name, the report's, and the options
 abbrev pub explain_app : App
@@ -27,8 +18,8 @@ explain_app =
     (number_rule (codes "workers") 1 16 (codes "4")))
     (number_rule (codes "quantum") 1 1000000 (codes "1000")))
     (number_rule (codes "bound") 0 281474976710655 (codes "1000000")))
-    strict_rule)
-    trace_rule
+    (flag_rule (codes "strict")))
+    (flag_rule (codes "trace"))
 
 -- the text that the words give for a name
 abbrev pub explain_text : List Text → Text → Option Text
@@ -40,7 +31,7 @@ explain_number words name other = number_or other (one_of name (matches_of expla
 
 -- whether the words give a name
 abbrev pub explain_flag : List Text → Text → Bool
-explain_flag words name = not (count_of name (matches_of explain_app words) == 0)
+explain_flag words name = was_given (explain_text words name)
 
 -- the options are those that the words name, and its numbers are within their limits; no option has the name `watch`
 pub record IsExplain (words : List Text) (o : ExplainOptions) : Type 0 where

@@ -1,10 +1,12 @@
 -- Believed. What the words of a command line ask for, in the words of the library that reads them.
-use Rattle.std.specs.Prelude.{◌≡◌, ◌≢◌, ◌⊎◌, ◌<◌, ◌^◌, ⊤, ℕ, List, [], ◌∷◌, true, Option, Some, None, Result, codes, option_map, string_bytes}
+use Rattle.std.specs.Prelude.{◌≡◌, ◌≢◌, ◌⊎◌, ◌<◌, ◌^◌, ⊤, ℕ, List, [], ◌∷◌, Bool, false, true, Option, Some, None, Result, codes, option_map, string_bytes}
 use Rattle.std.specs.declared.result.Result.TheVariants.{Ok, Err}
+use Rattle.std.specs.Str.{bytes_eq}
 use Rattle.std.specs.Str.Parse.{IsNumeral, digits_value, without_leading_plus}
 use Rattle.clap.specs.Words.{App, Rule, Text, IsAmong, fault_of, first_of, first_value, kind_of, matches_of, new_app, new_rule, one_of, one_text, with_rule}
 use Rattle.clap.specs.declared.error.Error.{Error}
 use Rattle.clap.specs.declared.error.kind.ErrorKind.TheVariants.{OutOfMemory}
+use Rattle.clap.specs.declared.builder.ArgAction.TheVariants.{SetTrue}
 use Rattle.clap.specs.declared.builder.value_parser.ValueParser.TheVariants.{Unsigned}
 use Rattle.clap.specs.declared.parser.matches.Found.{Found}
 use Rattle.kahn_streams.specs.Answers.{IsInRange}
@@ -16,6 +18,15 @@ use Rattle.kahn_line.specs.declared.line.LineFault.TheVariants.{Refused, NoMemor
 -- an option with a text, as `--input FILE`
 abbrev pub text_rule : Text → Rule
 text_rule name = record (new_rule name) { long = Some name; value_names = 1 }
+
+-- an option without a text
+abbrev pub flag_rule : Text → Rule
+flag_rule name = record (new_rule name) { long = Some name; action = Some SetTrue }
+
+-- whether it was given, by what was found for it
+abbrev pub was_given : Option Text → Bool
+was_given None = false
+was_given (Some text) = bytes_eq text (codes "true")
 
 -- an option with a number from `least` to `most`, and what it is where the words don't say
 abbrev pub number_rule : Text → ℕ → ℕ → Text → Rule

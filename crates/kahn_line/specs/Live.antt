@@ -1,18 +1,14 @@
 -- Believed. What the words of the command line of the program that is fed line by line ask for.
-use Rattle.std.specs.Prelude.{◌≡◌, ⊤, ℕ, List, [], map, Bool, true, not, ◌==◌, Some, Option, Result, codes, option_map, string_bytes}
+use Rattle.std.specs.Prelude.{◌≡◌, ⊤, ℕ, List, [], map, Bool, true, Some, Option, Result, codes, option_map, string_bytes}
 use Rattle.std.specs.declared.result.Result.TheVariants.{Ok, Err}
-use Rattle.clap.specs.Words.{App, Rule, Text, IsAmong, count_of, fault_of, first_of, kind_of, matches_of, new_rule, one_of, with_rule}
-use Rattle.clap.specs.declared.builder.ArgAction.TheVariants.{Append, Count}
+use Rattle.clap.specs.Words.{App, Row, Rule, Text, IsAmong, fault_of, first_of, kind_of, matches_of, new_rule, one_of, with_rule}
+use Rattle.clap.specs.declared.builder.ArgAction.TheVariants.{Append}
 use Rattle.kahn_streams.specs.Answers.{IsInRange}
-use Rattle.kahn_line.specs.Line.{bare_app, number_or, number_rule, text_rule}
-use Rattle.kahn_line.specs.Parts.{input_named, parted, plain_parts, row_texts, set_line}
+use Rattle.kahn_line.specs.Line.{bare_app, flag_rule, was_given, number_or, number_rule, text_rule}
+use Rattle.kahn_line.specs.Parts.{input_named, joined_words, parted, plain_parts, row_texts, set_line}
 use Rattle.kahn_line.specs.declared.line.LineFault.{LineFault}
 use Rattle.kahn_line.specs.declared.line.LineFault.TheVariants.{Refused, NoMemory}
 use Rattle.kahn_line.specs.declared.live.LiveOptions.{LiveOptions}
-
--- an option without a text
-abbrev pub keep_going_rule : Rule
-keep_going_rule = record (new_rule (codes "keep-going")) { long = Some (codes "keep-going"); action = Some Count }
 
 -- an option with a text that may be given again
 abbrev pub at_end_rule : Rule
@@ -26,25 +22,29 @@ live_app =
     (number_rule (codes "quantum") 1 1000000 (codes "1000")))
     (number_rule (codes "step") 1 281474976710655 (codes "1000000")))
     (text_rule (codes "watch")))
-    keep_going_rule)
+    (flag_rule (codes "keep-going")))
     at_end_rule)
     (text_rule (codes "plain"))
 
+-- what the words give, where a negative number behind `--at-end` belongs to it
+abbrev pub live_matches : List Text → List Row
+live_matches words = matches_of live_app (joined_words words)
+
 -- the text that the words give for a name
 abbrev pub live_text : List Text → Text → Option Text
-live_text words name = first_of name (matches_of live_app words)
+live_text words name = first_of name (live_matches words)
 
 -- all texts that the words give for a name
 abbrev pub live_texts : List Text → Text → List Text
-live_texts words name = row_texts name (matches_of live_app words)
+live_texts words name = row_texts name (live_matches words)
 
 -- the number that the words give for a name
 abbrev pub live_number : List Text → Text → ℕ → ℕ
-live_number words name other = number_or other (one_of name (matches_of live_app words))
+live_number words name other = number_or other (one_of name (live_matches words))
 
 -- whether the words give a name
 abbrev pub live_flag : List Text → Text → Bool
-live_flag words name = not (count_of name (matches_of live_app words) == 0)
+live_flag words name = was_given (live_text words name)
 
 -- the options are those that the words name, and its numbers are within their limits; the events of a part are the bound
 pub record IsLive (words : List Text) (o : LiveOptions) : Type 0 where
@@ -61,6 +61,6 @@ pub record IsLive (words : List Text) (o : LiveOptions) : Type 0 where
 
 -- what the words ask for; or what is at fault in them, and `--help` and `--version` are such faults; or want of memory
 abbrev pub IsLiveRead : List Text → Result LiveOptions LineFault → Type 0
-IsLiveRead words (Ok o) = IsLive words o × (fault_of live_app words ≡ [])
-IsLiveRead words (Err (Refused e)) = IsAmong (kind_of e) (fault_of live_app words)
+IsLiveRead words (Ok o) = IsLive words o × (fault_of live_app (joined_words words) ≡ [])
+IsLiveRead words (Err (Refused e)) = IsAmong (kind_of e) (fault_of live_app (joined_words words))
 IsLiveRead words (Err NoMemory) = ⊤

@@ -1,6 +1,10 @@
 -- Believed. What words of a command line say that have two parts.
-use Rattle.std.specs.Prelude.{ℕ, List, ◌++◌, Option, None, Some, ◌==◌, length, codes, if◌then◌else◌, nat_lt, option_map, string_bytes, unwrap_or, []}
+use Rattle.std.specs.Prelude.{◌≡◌, ℕ, Bool, List, ◌∷◌, ◌++◌, ◌&&◌, Option, None, Some, ◌==◌, length, slice_index, codes, if◌then◌else◌, map, nat_lt, option_map, string_bytes, unwrap_or, []}
 use Rattle.std.specs.List.{after_first, before_first, position_or_len}
+use Rattle.std.specs.Char.{is_ascii_digit}
+use Rattle.std.specs.Str.{bytes_eq}
+use Rattle.std.specs.declared.alloc.Global.{Global}
+use Rattle.std.specs.declared.string.String.{String}
 use Rattle.clap.specs.Words.{Row, Text, all_of, rows_of}
 use Rattle.clap.specs.declared.parser.matches.Found.{Found}
 use Rattle.kahn_line.specs.declared.parts.Plain.{Plain}
@@ -11,6 +15,25 @@ parted sign word = (
   before_first (λ b. b == sign) word,
   if nat_lt (position_or_len (λ b. b == sign) word) (length word) then Some (after_first (λ b. b == sign) word) else None,
 )
+
+-- a word that begins as a negative number does (45 is the minus)
+abbrev pub is_negative : Text → Bool
+is_negative word = slice_index word 0 == 45 && is_ascii_digit (slice_index word 1)
+
+-- whether a word is `--at-end`, and the one behind it begins as a negative number does
+abbrev pub takes_behind : Text → Text → Bool
+takes_behind word value = bytes_eq word (codes "--at-end") && is_negative value
+
+-- the words, where both are joined_words as in `--at-end=-1`
+abbrev pub joined_words : List Text → List Text
+joined_words [] = []
+joined_words (word ∷ []) = word ∷ []
+joined_words (word ∷ value ∷ words) =
+    if takes_behind word value then (word ++ (codes "=" ++ value)) ∷ joined_words words else word ∷ joined_words (value ∷ words)
+
+-- what was added to words stands for the first of these, up to those that are left
+abbrev pub IsJoinedBy : {S : Type 0} → (S → Text) → List (String Global) → List S → List (String Global) → List S → Type 0
+IsJoinedBy text old words new left = (map string_bytes old ++ joined_words (map text words)) ≡ (map string_bytes new ++ joined_words (map text left))
 
 -- the parts as a line of input, a name and values; a part alone is values of the input channel whose values stand alone, or else the line
 abbrev pub line_of_parts : Option Text → Text × Option Text → Text

@@ -11,6 +11,9 @@ use std::convert::AsStr;
 
 static ABOUT: &str = "Draws the network of a program, in the language of Graphviz.";
 
+// How a line goes on behind the name of the program.
+static USAGE: &str = "kahn_draw [PROGRAM] [--report FILE] [OPTIONS]";
+
 // What stands after the options in the help.
 static MORE: &str = "\
 A box is an instance, with its number, its process and its value arguments; it has a second border where its process
@@ -45,7 +48,7 @@ pub struct DrawOptions {
 fn draw_command<'a>(alloc: Global) -> Result<Command<'a>, AllocError>
     ensures { IfOk result (λ c. app_of c ≡ draw_app) }
 {
-    bare(alloc, "kahn_draw", ABOUT, MORE)?
+    bare(alloc, "kahn_draw", USAGE, ABOUT, MORE)?
         .arg(program_arg(alloc))?
         .arg(text_arg(
             alloc,

@@ -1,19 +1,22 @@
 //! The command line of the program that explains why a run stopped.
 
-ghost use Rattle.std.specs.Prelude.{◌≡◌, IfOk, false, map};
-ghost use Rattle.clap.specs.Words.{app_of, rule_of};
-ghost use Rattle.kahn_line.specs.Explain.{explain_app, strict_rule, trace_rule, IsExplainRead};
+ghost use Rattle.std.specs.Prelude.{◌≡◌, IfOk, map};
+ghost use Rattle.clap.specs.Words.{app_of};
+ghost use Rattle.kahn_line.specs.Explain.{explain_app, IsExplainRead};
 
 use crate::line::{
-    LineFault, bare, bound_arg, config_of, copied, input_arg, program_arg, quantum_arg, text_arg,
-    workers_arg,
+    LineFault, bare, bound_arg, config_of, copied, flag_arg, input_arg, program_arg, quantum_arg,
+    text_arg, was_given, workers_arg,
 };
-use clap::{Arg, ArgAction, Command};
+use clap::Command;
 use kahn_streams::Config;
 use std::alloc::{AllocError, Global};
 use std::convert::AsStr;
 
 static ABOUT: &str = "Runs a network of processes, and explains why the run stopped.";
+
+// How a line goes on behind the name of the program.
+static USAGE: &str = "kahn_explain [PROGRAM] [--input FILE] [OPTIONS]";
 
 // What stands after the options in the help.
 static MORE: &str = "\
@@ -82,33 +85,11 @@ pub struct ExplainOptions {
     pub trace: bool,
 }
 
-/// The option by which a program with a warning is refused.
-fn strict_arg<'a>(alloc: Global) -> Arg<'a>
-    ensures rule { rule_of result ≡ strict_rule }
-    ensures local { result.global ≡ false }
-{
-    Arg::new(alloc, "strict")
-        .long("strict")
-        .action(ArgAction::Count)
-        .help("Refuses a program with a warning")
-}
-
-/// The option for a table of all histories.
-fn trace_arg<'a>(alloc: Global) -> Arg<'a>
-    ensures rule { rule_of result ≡ trace_rule }
-    ensures local { result.global ≡ false }
-{
-    Arg::new(alloc, "trace")
-        .long("trace")
-        .action(ArgAction::Count)
-        .help("Writes all that the channels carried, as a table in CSV")
-}
-
 /// The rules of the command line.
 fn explain_command<'a>(alloc: Global) -> Result<Command<'a>, AllocError>
     ensures { IfOk result (λ c. app_of c ≡ explain_app) }
 {
-    bare(alloc, "kahn_explain", ABOUT, MORE)?
+    bare(alloc, "kahn_explain", USAGE, ABOUT, MORE)?
         .arg(program_arg(alloc))?
         .arg(input_arg(alloc))?
         .arg(text_arg(
@@ -120,8 +101,12 @@ fn explain_command<'a>(alloc: Global) -> Result<Command<'a>, AllocError>
         .arg(workers_arg(alloc, "4"))?
         .arg(quantum_arg(alloc))?
         .arg(bound_arg(alloc))?
-        .arg(strict_arg(alloc))?
-        .arg(trace_arg(alloc))
+        .arg(flag_arg(alloc, "strict", "Refuses a program with a warning"))?
+        .arg(flag_arg(
+            alloc,
+            "trace",
+            "Writes all that the channels carried, as a table in CSV",
+        ))
 }
 
 /// Reads the words of a command line, the first of which is the name of the program. It refuses with `Refused` where
@@ -138,7 +123,7 @@ pub fn read_explain_line<'a, S: AsStr>(
         input: copied(alloc, matches.get_str("input"))?,
         report: copied(alloc, matches.get_str("report"))?,
         config: config_of(alloc, &matches, 4, "bound")?,
-        strict: matches.get_count("strict") != 0,
-        trace: matches.get_count("trace") != 0,
+        strict: was_given(matches.get_str("strict")),
+        trace: was_given(matches.get_str("trace")),
     })
 }

@@ -2,12 +2,12 @@
 
 ghost use Rattle.std.specs.Prelude.{◌≡◌, IfOk, codes, false, map, option_map, string_bytes};
 ghost use Rattle.clap.specs.Words.{app_of, first_value, found_of, new_rule, one_text, rule_of};
-ghost use Rattle.kahn_line.specs.Line.{bare_app, kahn_app, number_rule, text_rule, IsRead, IsSet, IsTold, ReadsOr};
+ghost use Rattle.kahn_line.specs.Line.{bare_app, flag_rule, was_given, kahn_app, number_rule, text_rule, IsRead, IsSet, IsTold, ReadsOr};
 ghost use Rattle.kahn_line.specs.declared.line.LineFault.TheVariants.{NoMemory};
 
 use clap::builder::ValueParser;
 use clap::error::ErrorKind;
-use clap::{Arg, ArgMatches, Command};
+use clap::{Arg, ArgAction, ArgMatches, Command};
 use kahn_streams::Config;
 use std::alloc::{AllocError, Global};
 use std::convert::AsStr;
@@ -18,6 +18,9 @@ static VERSION: &str = "0.9.0";
 
 static ABOUT: &str =
     "Runs a network of processes that send one another values over channels, and reports what was sent.";
+
+// How a line goes on behind the name of the program.
+static USAGE: &str = "kahn [PROGRAM] [--input FILE] [OPTIONS]";
 
 // What stands after the options in the help.
 static MORE: &str = "\
@@ -142,7 +145,7 @@ pub(crate) fn input_arg<'a>(alloc: Global) -> Arg<'a>
         alloc,
         "input",
         "FILE",
-        "File of the input text, lines such as `A: 1 2 3`: an input channel and its values",
+        "File of the input text, /dev/stdin for standard input: lines such as `A: 1 2 3`, an input channel and its values",
     )
 }
 
@@ -192,10 +195,32 @@ pub(crate) fn watch_arg<'a>(alloc: Global, help: &'a str) -> Arg<'a>
     text_arg(alloc, "watch", "NAME", help)
 }
 
-/// A program's name, its version, and the texts round its options in the help.
+/// An option without a text.
+pub(crate) fn flag_arg<'a>(alloc: Global, name: &'a str, help: &'a str) -> Arg<'a>
+    ensures rule { rule_of result ≡ flag_rule name.entry.now }
+    ensures local { result.global ≡ false }
+{
+    Arg::new(alloc, name)
+        .long(name)
+        .action(ArgAction::SetTrue)
+        .help(help)
+}
+
+/// Whether an option without a text was given, by what was found for it.
+pub(crate) fn was_given(found: Option<&str>) -> bool
+    ensures { result ≡ was_given (option_map (λ t. t.now) found.entry) }
+{
+    match found {
+        Some(text) => text == "true",
+        None => false,
+    }
+}
+
+/// A program's name, its version, its usage, and the texts round its options in the help.
 pub(crate) fn bare<'a>(
     alloc: Global,
     name: &'a str,
+    usage: &'a str,
     about: &'a str,
     more: &'a str,
 ) -> Result<Command<'a>, AllocError>
@@ -205,6 +230,7 @@ pub(crate) fn bare<'a>(
         Command::new(alloc, name)
             .bin_name(name)?
             .version(VERSION)
+            .override_usage(usage)
             .about(about)
             .after_help(more),
     )
@@ -214,7 +240,7 @@ pub(crate) fn bare<'a>(
 fn command<'a>(alloc: Global) -> Result<Command<'a>, AllocError>
     ensures { IfOk result (λ c. app_of c ≡ kahn_app) }
 {
-    bare(alloc, "kahn", ABOUT, MORE)?
+    bare(alloc, "kahn", USAGE, ABOUT, MORE)?
         .arg(program_arg(alloc))?
         .arg(input_arg(alloc))?
         .arg(workers_arg(alloc, "4"))?
@@ -222,7 +248,7 @@ fn command<'a>(alloc: Global) -> Result<Command<'a>, AllocError>
         .arg(bound_arg(alloc))?
         .arg(watch_arg(
             alloc,
-            "A channel that is reported too, besides the output channels",
+            "One channel that is reported too, besides the output channels; kahn_explain --trace shows all",
         ))
 }
 

@@ -4,12 +4,13 @@ ghost use Rattle.std.specs.Prelude.{◌≡◌, IfOk, codes, false, map, string_b
 ghost use Rattle.clap.specs.Words.{app_of, found_of, rule_of};
 ghost use Rattle.kahn_line.specs.Line.{text_rule};
 ghost use Rattle.kahn_line.specs.Parts.{found_texts, input_named, set_line};
-ghost use Rattle.kahn_line.specs.Live.{at_end_rule, keep_going_rule, live_app, IsLiveRead};
+ghost use Rattle.kahn_line.specs.Live.{at_end_rule, live_app, IsLiveRead};
 
 use crate::line::{
-    LineFault, bare, config_of, copied, number_arg, quantum_arg, text_arg, watch_arg,
+    LineFault, bare, config_of, copied, flag_arg, number_arg, quantum_arg, text_arg, was_given,
+    watch_arg,
 };
-use crate::parts::{Plain, input_named, plain_of, set_lines};
+use crate::parts::{Plain, input_named, joined_words, plain_of, set_lines};
 use clap::{Arg, ArgAction, ArgMatches, Command};
 use kahn_streams::Config;
 use std::alloc::{AllocError, Global};
@@ -17,6 +18,9 @@ use std::convert::AsStr;
 
 static ABOUT: &str =
     "Runs a network of processes on the lines of its standard input, and shows after each line what is new.";
+
+// How a line goes on behind the name of the program.
+static USAGE: &str = "kahn_live PROGRAM [--plain INPUT] [OPTIONS] < LINES";
 
 // What stands after the options in the help.
 static MORE: &str = "\
@@ -34,13 +38,14 @@ channel that has new values, with these alone. With a program that doubles what 
 A part of the run is the events that come after a line. A blank line feeds nothing and runs a part. Before the first
 line a part is run too. The last lines, how each process stands and how the run ended, come at the end of the input.
 
-A line that can't be taken is told on standard error with its number, and changes nothing. Where memory is refused after a
-line was taken, that is told too; the next line, which may be blank, goes on. The lines of `--at-end` have the numbers
-behind the last one's. The run takes one thread. What went out, and input that was taken, it doesn't keep.
+A line that can't be taken is told on standard error, with its number and the word at fault, and changes nothing; one of
+`--at-end` is told as such. Where memory is refused after a line was taken, that is told too; the next line, which may be
+blank, goes on. The run takes one thread. What went out, and input that was taken, it doesn't keep.
 
 With `--plain INPUT` a line has the values of one input channel alone, with blanks between, and what is new on one stream is
-written alone, one value a line: that of OUTPUT, or else the first one. Several inputs want lines with names. The last lines
-go to standard error then, and only where the status isn't 0, a process has a fault, or the run stopped while some wait:
+written alone, one value a line: that of OUTPUT, or else the first one. Several inputs want lines with names; with
+`--plain` the others have no values, and that is told. The last lines go to standard error then, and only where the status
+isn't 0, a process has a fault, or the run stopped while some wait:
 
   printf '1\\n2 3\\n' | kahn_live double.kahn --plain A
 
@@ -72,17 +77,6 @@ pub struct LiveOptions {
     pub plain: Option<Plain>,
 }
 
-/// The option by which refused lines leave the status as it is.
-fn keep_going_arg<'a>(alloc: Global) -> Arg<'a>
-    ensures rule { rule_of result ≡ keep_going_rule }
-    ensures local { result.global ≡ false }
-{
-    Arg::new(alloc, "keep-going")
-        .long("keep-going")
-        .action(ArgAction::Count)
-        .help("Leaves the status 0 where lines were refused")
-}
-
 /// The option of a line that is fed at the end of the input, which may be given again.
 fn at_end_arg<'a>(alloc: Global) -> Arg<'a>
     ensures rule { rule_of result ≡ at_end_rule }
@@ -92,7 +86,7 @@ fn at_end_arg<'a>(alloc: Global) -> Arg<'a>
         alloc,
         "at-end",
         "NAME=VALUE",
-        "Feeds a line `NAME: VALUE` once the input has ended, or with --plain VALUE alone; may be given again",
+        "Feeds a line `NAME: VALUE` once the input has ended, or with --plain VALUE alone, as -1; may be given again",
     )
     .action(ArgAction::Append)
 }
@@ -106,7 +100,7 @@ fn plain_arg<'a>(alloc: Global) -> Arg<'a>
         alloc,
         "plain",
         "INPUT[,OUTPUT]",
-        "Takes values of one input channel alone, and writes those of one stream alone, of OUTPUT or else the first",
+        "Takes values of one input channel alone, and writes those of one stream alone, of OUTPUT, any channel, or else the first",
     )
 }
 
@@ -114,7 +108,7 @@ fn plain_arg<'a>(alloc: Global) -> Arg<'a>
 fn live_command<'a>(alloc: Global) -> Result<Command<'a>, AllocError>
     ensures { IfOk result (λ c. app_of c ≡ live_app) }
 {
-    bare(alloc, "kahn_live", ABOUT, MORE)?
+    bare(alloc, "kahn_live", USAGE, ABOUT, MORE)?
         .arg(
             Arg::new(alloc, "PROGRAM")
                 .required(true)
@@ -131,9 +125,13 @@ fn live_command<'a>(alloc: Global) -> Result<Command<'a>, AllocError>
         ))?
         .arg(watch_arg(
             alloc,
-            "A channel that is shown too, besides the output channels",
+            "One channel that is shown too, besides the output channels; with --plain name it there",
         ))?
-        .arg(keep_going_arg(alloc))?
+        .arg(flag_arg(
+            alloc,
+            "keep-going",
+            "Leaves the status 0 where lines were refused",
+        ))?
         .arg(at_end_arg(alloc))?
         .arg(plain_arg(alloc))
 }
@@ -158,7 +156,8 @@ fn lines_at_end(
 pub fn read_live_line<'a, S: AsStr>(alloc: Global, words: &'a [S]) -> Result<LiveOptions, LineFault>
     ensures { IsLiveRead (map S.text words.now) result }
 {
-    let matches = live_command(alloc)?.try_get_matches_from(words)?;
+    let words = joined_words(alloc, words)?;
+    let matches = live_command(alloc)?.try_get_matches_from(words.as_slice())?;
     let plain = plain_of(alloc, matches.get_str("plain"))?;
     Ok(LiveOptions {
         program: copied(alloc, matches.get_str("PROGRAM"))?,
@@ -166,7 +165,7 @@ pub fn read_live_line<'a, S: AsStr>(alloc: Global, words: &'a [S]) -> Result<Liv
             workers: 1,
             ..config_of(alloc, &matches, 1, "step")?
         },
-        keep_going: matches.get_count("keep-going") != 0,
+        keep_going: was_given(matches.get_str("keep-going")),
         at_end: lines_at_end(alloc, &matches, &plain)?,
         plain,
     })

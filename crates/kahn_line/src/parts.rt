@@ -1,10 +1,11 @@
 //! Words of the command line that have two parts.
 
-ghost use Rattle.std.specs.Prelude.{◌≡◌, ◌<◌, ◌++◌, IfOk, codes, map, option_copied, option_map, string_bytes};
-ghost use Rattle.kahn_line.specs.Parts.{input_named, parted, plain_parts, set_line};
+ghost use Rattle.std.specs.Prelude.{◌≡◌, ◌<◌, ◌≤◌, ◌∷◌, ◌++◌, IfOk, codes, length, map, option_copied, option_map, string_bytes};
+ghost use Rattle.kahn_line.specs.Parts.{IsJoinedBy, input_named, is_negative, joined_words, parted, plain_parts, set_line, takes_behind};
 
 use crate::line::copied;
 use std::alloc::{AllocError, Global};
+use std::convert::AsStr;
 
 /// Channels whose values stand alone in the lines of input and output.
 #[derive(Debug, Drop)]
@@ -25,6 +26,67 @@ fn parted(word: &str, sign: char) -> (&str, Option<&str>)
         Some((before, behind)) => (before, Some(behind)),
         None => (word, None),
     }
+}
+
+/// Whether a word begins as a negative number does.
+fn is_negative(word: &str) -> bool
+    ensures { result ≡ is_negative word.now }
+{
+    match word.as_bytes() {
+        [b'-', digit, ..] => digit.is_ascii_digit(),
+        _ => false,
+    }
+}
+
+/// Whether a word is `--at-end`, and the one behind it begins as a negative number does.
+fn takes_behind(word: &str, value: &str) -> bool
+    ensures { result ≡ takes_behind word.now value.now }
+{
+    word == "--at-end" && is_negative(value)
+}
+
+/// A word and its value as one word.
+fn joined_word(alloc: Global, word: &str, value: &str) -> Result<String, AllocError>
+    ensures { IfOk result (λ text. string_bytes text ≡ word.now ++ (codes "=" ++ value.now)) }
+{
+    let mut text = String::from_str(alloc, word)?;
+    text.push_str("=")?;
+    text.push_str(value)?;
+    Ok(text)
+}
+
+/// Adds what stands for a word and those behind it, up to some of these, which it gives.
+fn add_joined<'w, S: AsStr>(
+    alloc: Global,
+    all: &mut Vec<String>,
+    word: &S,
+    behind: &'w [S],
+) -> Result<&'w [S], AllocError>
+    ensures fewer { IfOk result (λ left. length left.now ≤ length behind.now) }
+    ensures joined { IfOk result (λ left. IsJoinedBy S.text all.old.items (word.now ∷ behind.now) all.new.items left.now) }
+{
+    let word = word.as_str();
+    if let Some((value, left)) = behind.split_first() {
+        let value = value.as_str();
+        if takes_behind(word, value) {
+            all.push(joined_word(alloc, word, value)?)?;
+            return Ok(left);
+        }
+    }
+    all.push(String::from_str(alloc, word)?)?;
+    Ok(behind)
+}
+
+/// The words, where a negative number behind `--at-end` is joined to it.
+pub(crate) fn joined_words<S: AsStr>(alloc: Global, words: &[S]) -> Result<Vec<String>, AllocError>
+    ensures { IfOk result (λ all. map string_bytes all.items ≡ joined_words (map S.text words.now)) }
+{
+    let mut all = Vec::new(alloc);
+    let mut rest = words;
+    'words: while let Some((word, behind)) = rest.split_first() {
+        rest = add_joined(alloc, &mut all, word, behind)?;
+    }
+    Ok(all)
 }
 
 /// A line of a name and values.

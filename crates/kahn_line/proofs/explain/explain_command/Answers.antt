@@ -11,5 +11,5 @@ returns c =
     let four = c.in_ok-arg-4.ensures.shape c.workers_arg.ensures.local ∙ ap₂ with_rule three c.workers_arg.ensures.rule in
     let five = c.in_ok-arg-5.ensures.shape c.quantum_arg.ensures.local ∙ ap₂ with_rule four c.quantum_arg.ensures.rule in
     let six = c.in_ok-arg-6.ensures.shape c.bound_arg.ensures.local ∙ ap₂ with_rule five c.bound_arg.ensures.rule in
-    let seven = c.in_ok-arg-7.ensures.shape c.strict_arg.ensures.local ∙ ap₂ with_rule six c.strict_arg.ensures.rule in
-    IfOk-weaker c.arg-8.result _ _ (λ r h. h.shape c.trace_arg.ensures.local ∙ ap₂ with_rule seven c.trace_arg.ensures.rule) c.arg-8.ensures
+    let seven = c.in_ok-arg-7.ensures.shape c.flag_arg.ensures.local ∙ ap₂ with_rule six c.flag_arg.ensures.rule in
+    IfOk-weaker c.arg-8.result _ _ (λ r h. h.shape c.flag_arg-2.ensures.local ∙ ap₂ with_rule seven c.flag_arg-2.ensures.rule) c.arg-8.ensures

@@ -1,5 +1,6 @@
-use Rattle.std.proofs.Common.{map, ap, subst, sym, not, ◌==◌, ◌∙◌}
+use Rattle.std.proofs.Common.{map, ap, subst, sym, ◌∙◌}
 use Rattle.clap.specs.Words.{App, HasKind, fault_of, is_simple_and_free}
+use Rattle.kahn_line.specs.Line.{was_given}
 use Rattle.kahn_line.specs.Explain.{explain_app, IsExplainRead}
 use Rattle.kahn_line.proofs.Asked.{told}
 use Rattle.kahn_line.proofs.Explain_asked.{asked_explain}
@@ -21,6 +22,6 @@ returns g c =
       asked_explain c.in_ok-explain_command.field-0 c.in_ok-matches.matches words c.in_ok-matches.ensures.parsed c.in_ok-matches.ensures.matches is _
           (c.in_ok-copied.ensures ∙ c.get_str.ensures) (c.in_ok-copied-2.ensures ∙ c.get_str-2.ensures) (c.in_ok-copied-3.ensures ∙ c.get_str-3.ensures)
           c.in_ok-config_of.ensures
-          (ap (λ n. not (n == 0)) c.get_count.ensures.value) (ap (λ n. not (n == 0)) c.get_count-2.ensures.value),
+          (c.was_given.ensures ∙ ap was_given c.get_str-4.ensures) (c.was_given-2.ensures ∙ ap was_given c.get_str-5.ensures),
       ap (λ (a : App). fault_of a words) (sym is) ∙ faults,
     )

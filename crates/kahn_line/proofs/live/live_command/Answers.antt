@@ -14,6 +14,6 @@ returns c =
     let two = c.in_ok-arg-2.ensures.shape c.quantum_arg.ensures.local ∙ ap₂ with_rule one c.quantum_arg.ensures.rule in
     let three = c.in_ok-arg-3.ensures.shape c.number_arg.ensures.local ∙ ap₂ with_rule two c.number_arg.ensures.rule in
     let four = c.in_ok-arg-4.ensures.shape c.watch_arg.ensures.local ∙ ap₂ with_rule three c.watch_arg.ensures.rule in
-    let five = c.in_ok-arg-5.ensures.shape c.keep_going_arg.ensures.local ∙ ap₂ with_rule four c.keep_going_arg.ensures.rule in
+    let five = c.in_ok-arg-5.ensures.shape c.flag_arg.ensures.local ∙ ap₂ with_rule four c.flag_arg.ensures.rule in
     let six = c.in_ok-arg-6.ensures.shape c.at_end_arg.ensures.local ∙ ap₂ with_rule five c.at_end_arg.ensures.rule in
     IfOk-weaker c.arg-7.result _ _ (λ r h. h.shape c.plain_arg.ensures.local ∙ ap₂ with_rule six c.plain_arg.ensures.rule) c.arg-7.ensures

@@ -1,0 +1,10 @@
+use Rattle.std.proofs.Common.{◌∙◌, None, ap, subst}
+use Rattle.kahn_inputs.specs.Feeding.{IsUnfitSpan}
+use Rattle.kahn_inputs.specs.Fitting.{part_of}
+use Rattle.kahn_inputs.proofs.refused.value_part.Goals as goal
+
+pub returns : goal.returns
+returns c =
+    let is = c.content-line.ensures.line in
+    let span = c.unfit_span-span.result in
+    (span, subst (λ l. IsUnfitSpan None l span) is c.unfit_span-span.ensures.span, c.part_of-word.ensures ∙ ap (λ l. part_of l span) is, c.value_wanted-words.ensures)

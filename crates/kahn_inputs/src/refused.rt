@@ -1,0 +1,104 @@
+//! The part of a line that isn't taken which is at fault, and what is wanted there, where lines come one at a time.
+
+ghost use Rattle.std.specs.Prelude.{◌≡◌};
+ghost use Rattle.kahn_report.specs.Formats.{content as content_of};
+ghost use Rattle.kahn_inputs.specs.Refused.{IsHeadPart, IsKindPart, IsNamePart, IsValuePart, kind_wanted, lack_wanted, value_wanted, words_or};
+
+use crate::feeding::{kind_for, unfit_span};
+use crate::fitting::{Lack, lack_of, lack_span, line_name, part_of};
+use crate::seeking::content;
+use crate::strange::{no_comment_words, numeral_words, stands_in};
+use kahn_streams::{Kind, Network};
+
+/// A part of a line.
+#[derive(Clone, Copy)]
+pub struct Part<'a> {
+    /// The part.
+    pub word: &'a [u8],
+    /// What is wanted there, behind a semicolon, or nothing.
+    pub words: &'static str,
+}
+
+/// The first words, or the others where these are none.
+fn words_or(first: &'static str, others: &'static str) -> &'static str
+    ensures { result.now ≡ words_or first.now others.now }
+{
+    if first.is_empty() { others } else { first }
+}
+
+/// What is wanted of a line that doesn't begin with a name and a colon.
+fn lack_wanted(lack: Lack) -> &'static str
+    ensures { result.now ≡ lack_wanted lack }
+{
+    match lack {
+        Lack::Name => "; a line begins with the name of a channel",
+        Lack::ShortName => "; a name has at most 64 characters",
+        Lack::Colon => "; a colon stands behind the name",
+    }
+}
+
+/// What is wanted in the place of a word that is no value.
+fn value_wanted(word: &[u8]) -> &'static str
+    ensures { result.now ≡ value_wanted word.now }
+{
+    if stands_in(b":", word) {
+        return "; a name stands before the values alone, and with --plain nowhere";
+    }
+    words_or(
+        numeral_words(word),
+        "; values are numbers, `true` and `false`",
+    )
+}
+
+/// What is wanted in the place of a value of another kind.
+fn kind_wanted(kind: Option<Kind>) -> &'static str
+    ensures { result.now ≡ kind_wanted kind }
+{
+    match kind {
+        Some(Kind::Integer) => "; wanted a number",
+        Some(Kind::Logical) => "; wanted `true` or `false`",
+        None => "",
+    }
+}
+
+/// Where a line doesn't begin with a name and a colon.
+pub fn head_part(line: &[u8]) -> Part<'_>
+    ensures { IsHeadPart (content_of line.now) result.word.now result.words.now }
+{
+    let line = content(line);
+    let lack = lack_of(line);
+    let word = part_of(line, lack_span(line, lack));
+    let words = words_or(no_comment_words(word), lack_wanted(lack));
+    Part { word, words }
+}
+
+/// The first word behind a line's colon that is no value.
+pub fn value_part(line: &[u8]) -> Part<'_>
+    ensures { IsValuePart (content_of line.now) result.word.now result.words.now }
+{
+    let line = content(line);
+    let span = unfit_span(None, line);
+    let word = part_of(line, span);
+    let words = value_wanted(word);
+    Part { word, words }
+}
+
+/// The name of a line.
+pub fn name_part(line: &[u8]) -> Part<'_>
+    ensures { IsNamePart (content_of line.now) result.word.now result.words.now }
+{
+    let word = line_name(content(line));
+    Part { word, words: "" }
+}
+
+/// The first value of another kind than that of the line's channel.
+pub fn kind_part<'l>(network: &Network, line: &'l [u8]) -> Part<'l>
+    ensures { IsKindPart network.now (content_of line.entry.now) result.word.now result.words.now }
+{
+    let line = content(line);
+    let kind = kind_for(network, line_name(line));
+    let span = unfit_span(kind, line);
+    let word = part_of(line, span);
+    let words = kind_wanted(kind);
+    Part { word, words }
+}
