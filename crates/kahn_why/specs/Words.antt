@@ -107,15 +107,15 @@ input_text t true z c = []
 input_text t false z c = as_text t z (codes " waits on ") (channel_name t c) (codes ", an input")
 
 -- a ring, named by the process in it with the least number, where that isn't p itself
-abbrev pub ring_text : Program → Bool → ℕ → List ℕ → List ℕ
-ring_text t true z lasts = concat (codes ", in a deadlock" ∷ lasts ∷ [])
-ring_text t false z lasts = as_text t z (codes " is in a deadlock") lasts []
+abbrev pub deadlock_text : Program → Bool → ℕ → List ℕ → List ℕ
+deadlock_text t true z lasts = concat (codes ", in a deadlock" ∷ lasts ∷ [])
+deadlock_text t false z lasts = as_text t z (codes " is in a deadlock") lasts []
 
 -- where the waits of p lead
 abbrev pub cause_text : Program → Verdict → ℕ → Cause → List ℕ
 cause_text t v p (Input z c) = input_text t (z == p) z c
 cause_text t v p (Stopped z s) = as_text t z (stopped_text s) (lasting_text v s) []
-cause_text t v p (Ring z) = ring_text t (z == p) z (for_ever_text v)
+cause_text t v p (Ring z) = deadlock_text t (z == p) z (for_ever_text v)
 
 -- z has the least number of the ring to which the waits lead
 abbrev pub is_ring_of : ℕ → Cause → Bool
