@@ -9,6 +9,8 @@ find_live
 cd "$work" || exit 2
 double="$top/examples/double.kahn"
 count="$top/examples/count.kahn"
+# what is said of words that are no values
+values='; values are numbers, `true` and `false`'
 
 # same NAME GIVEN WANTED: compares two texts.
 same() {
@@ -76,7 +78,7 @@ send '' 'A: 3 4' 'A:'
 wants "a blank line and two values" 'B: 6 8'
 send 'Z: 1' 'B: 1' 'A: true' 'A: 1 x' 'A 1' 'A: 5' $'A: 6\r'
 wants "lines that are refused" 'B: 10' 'B: 12'
-ends "doubling" 1 "$double"': input line 6: no such channel\n'"$double"': input line 7: not an input channel\n'"$double"': input line 8: kind does not agree\n'"$double"': input line 9: not a value\n'"$double"': input line 10: not a name and a colon\n' \
+ends "doubling" 1 "$double"': input line 6: no such channel: `Z`\n'"$double"': input line 7: not an input channel: `B`\n'"$double"': input line 8: kind does not agree: `true`; wanted a number\n'"$double"': input line 9: not a value: `x`'"$values"'\n'"$double"': input line 10: not a name and a colon: `1`; a colon stands behind the name\n' \
   'end 1 double: waits on A after 19' 'finished 19'
 
 for quantum in 1 2 1000; do
@@ -121,17 +123,26 @@ gives "the longest line" 0 'B: 2\nB: 14\nend 1 double: waits on A after 7\nfinis
 
 # a refused line makes the status 1 and no other one less, and may be told to leave it
 printf 'A: 1\nA: x\nA: 3\n' > lines
-told="$double"': input line 2: not a value\n'
+told="$double"': input line 2: not a value: `x`'"$values"'\n'
 gives "a refused line" 1 'B: 2\nB: 6\nend 1 double: waits on A after 7\nfinished 7\n' "$told" "$double" < lines
 gives "a refused line that is passed over" 0 'B: 2\nB: 6\nend 1 double: waits on A after 7\nfinished 7\n' "$told" "$double" --keep-going < lines
 gives "a refused line, and a step used up" 3 'W: 0\nend 1 count: wants more after 3\nstopped by bound 3\n' \
-  "$count"': input line 1: not a name and a colon\n' "$count" --step 3 <<< 'no line'
+  "$count"': input line 1: not a name and a colon: `line`; a colon stands behind the name\n' "$count" --step 3 <<< 'no line'
 
 # a byte order mark before the first line alone
 printf '\357\273\277A: 1\r\n\357\273\277A: 2\r\n' > lines
-gives "a byte order mark" 1 'B: 2\nend 1 double: waits on A after 4\nfinished 4\n' "$double"': input line 2: not a name and a colon\n' "$double" < lines
+gives "a byte order mark" 1 'B: 2\nend 1 double: waits on A after 4\nfinished 4\n' "$double"': input line 2: not a name and a colon: `\xef\xbb\xbfA:`; a line begins with the name of a channel\n' "$double" < lines
 
-# lines that are fed at the end: in order, with the numbers behind the last one's, and refused as others are
+# what is shown of a line: no control character, 40 bytes and the rest of a character, and what is wanted in each case
+printf 'A: 21.5\nA: \033[31m\nA: 1\177\nA: \302\2331\nA: 1234567890123456789012345678901234567890\nA: 12345678901234567890123456789012345678901\n' > lines
+printf 'A: 123456789012345678901234567890123456789\303\251x\n' >> lines
+while IFS= read -r line; do
+  timeout 60 "$live" "$double" <<< "$line" 2>&1 > output.all | sed -n "s/^.*not a value: //p"
+done < lines > parts
+same "parts of lines" "$(cat parts)" "$(printf '%s\n' '`21.5`; numbers are whole' "\`..\`$values" "\`1..\`$values" "\`..\`$values" \
+  '`1234567890123456789012345678901234567890`; it is past 64 bits' '`1234567890123456789012345678901234567890..`; it is past 64 bits' "\`123456789012345678901234567890123456789"$'\303\251'"..\`$values")"
+
+# lines that are fed at the end: in order, and refused as others are
 cat > runs.kahn <<'P'
 begin integer input channel RAW; integer output channel RUNS;
   process encode(integer in U; integer out W; integer MARK);
@@ -151,7 +162,7 @@ gives "an end mark" 0 'RUNS: 2 7\nRUNS: 1 9\nend 1 encode: ended after 12\nfinis
 gives "several lines at the end" 0 'B: 2\nB: 4\nB: 6 8\nend 1 double: waits on A after 13\nfinished 13\n' '' \
   "$double" --at-end A=2 --at-end 'A=3 4' <<< 'A: 1'
 gives "lines at the end that are refused" 1 'B: 2\nB: 4\nend 1 double: waits on A after 7\nfinished 7\n' \
-  "$double"': input line 2: no such channel\n'"$double"': input line 3: not an input channel\n'"$double"': input line 4: kind does not agree\n'"$double"': input line 5: not a value\n'"$double"': input line 6: not a name and a colon\n' \
+  "$double"': --at-end: no such channel: `Z`\n'"$double"': --at-end: not an input channel: `B`\n'"$double"': --at-end: kind does not agree: `true`; wanted a number\n'"$double"': --at-end: not a value: `1=2`'"$values"'\n'"$double"': --at-end: not a name and a colon; a colon stands behind the name\n' \
   "$double" --at-end Z=1 --at-end B=1 --at-end A=true --at-end A=1=2 --at-end A --at-end A=2 <<< 'A: 1'
 
 # values alone: of the first stream or of the one that is named, as they come
@@ -165,22 +176,25 @@ printf '\357\273\2771\r\n2' > lines
 gives "values alone behind a byte order mark" 0 '2\n4\n' '' "$double" --plain A,B < lines
 gives "the values of the input alone" 0 '1\n2\n' '' "$double" --plain A,A < lines
 gives "values alone, and an end mark" 0 '2\n7\n1\n9\n' '' runs.kahn --plain RAW --at-end RAW=-1 <<< '7 7 9'
-gives "a line of values that is refused" 1 '2\n6\n' "$double"': input line 2: not a value\nend 1 double: waits on A after 7\nfinished 7\n' "$double" --plain A <<< $'1\nA: 2\n3'
-gives "a line of values that is passed over" 0 '2\n6\n' "$double"': input line 2: not a value\n' "$double" --plain A --keep-going <<< $'1\n2 x\n3'
+gives "a line of values that is refused" 1 '2\n6\n' "$double"': input line 2: not a value: `A:`; a name stands before the values alone, and with --plain nowhere\nend 1 double: waits on A after 7\nfinished 7\n' "$double" --plain A <<< $'1\nA: 2\n3'
+gives "a line of values that is passed over" 0 '2\n6\n' "$double"': input line 2: not a value: `x`'"$values"'\n' "$double" --plain A --keep-going <<< $'1\n2 x\n3'
 hint=': bare numbers are taken with --plain A\n'
-gives "values alone, and no such input" 6 '' "$double"': --plain: no such channel\n'"$double$hint" "$double" --plain Z <<< '1'
-gives "values alone, and an output for the input" 6 '' "$double"': --plain: not an input channel\n'"$double$hint" "$double" --plain B <<< '1'
-gives "values alone, and no name" 6 '' "$double"': --plain: not a name and a colon\n'"$double$hint" "$double" --plain ,B <<< '1'
-gives "values alone, and no such output" 6 '' 'kahn: watched channel is not declared\n' "$double" --plain A,Z <<< '1'
+gives "values alone, and no such input" 6 '' "$double"': --plain: no such channel: `Z`\n'"$double$hint" "$double" --plain Z <<< '1'
+gives "values alone, and an output for the input" 6 '' "$double"': --plain: not an input channel: `B`\n'"$double$hint" "$double" --plain B <<< '1'
+gives "values alone, and no name" 6 '' "$double"': --plain: not a name and a colon: `:`; a line begins with the name of a channel\n'"$double$hint" "$double" --plain ,B <<< '1'
+gives "values alone, and no such output" 6 '' "$double"': --plain: no such channel: `Z`\n' "$double" --plain A,Z <<< '1'
 gives "values alone, and one behind them" 0 '2\n14\n' '' "$double" --plain A --at-end 7 <<< '1'
+gives "values alone, and negative ones behind them" 0 '2\n-2\n-4\n-6\n' '' "$double" --plain A --at-end -1 --at-end '-2 -3' <<< '1'
+gives "values of one of two inputs" 0 '' "$top/examples/merge.kahn"': --plain feeds LEFT alone; no line feeds RIGHT\n' "$top/examples/merge.kahn" --plain LEFT <<< '1'
+gives "values of the other one of two inputs" 0 '' "$top/examples/merge.kahn"': --plain feeds RIGHT alone; no line feeds LEFT\n' "$top/examples/merge.kahn" --plain RIGHT <<< '1'
 
 # lines that are refused one behind the other for one reason are told of by the first and by how many they are more
 seq 4 > lines
 gives "bare numbers" 1 'end 1 double: waits on A after 1\nfinished 1\n' \
-  "$double"': input line 1: not a name and a colon\n'"$double$hint$double"': and 3 lines more like it\n' "$double" < lines
+  "$double"': input line 1: not a name and a colon: `1`; a line begins with the name of a channel\n'"$double$hint$double"': and 3 lines more like it\n' "$double" < lines
 printf 'HEAT\n1\nA: 1\n2\n3\nA: x\nA: y\n' > lines
 gives "lines that are refused for several reasons" 1 'B: 2\nend 1 double: waits on A after 4\nfinished 4\n' \
-  "$double"': input line 1: not a name and a colon\n'"$double"': input line 2: not a name and a colon\n'"$double$hint$double"': input line 4: not a name and a colon\n'"$double"': and 1 line more like it\n'"$double"': input line 6: not a value\n'"$double"': and 1 line more like it\n' \
+  "$double"': input line 1: not a name and a colon; a colon stands behind the name\n'"$double"': input line 2: not a name and a colon: `1`; a line begins with the name of a channel\n'"$double$hint$double"': input line 4: not a name and a colon: `2`; a line begins with the name of a channel\n'"$double"': and 1 line more like it\n'"$double"': input line 6: not a value: `x`'"$values"'\n'"$double"': and 1 line more like it\n' \
   "$double" < lines
 
 # no line can change the run any more, though processes wait
@@ -227,7 +241,7 @@ same "the help" "$(grep -c -e '--step' output.all)" 1
 if [ -e /dev/full ]; then
   printf 'A: x\nA: 1\n' | "$live" "$double" > /dev/full 2> error
   same "a full disk: status" $? 5
-  same "a full disk" "$(cat error)" "$double"$': input line 1: not a value\nkahn: report could not be written'
+  same "a full disk" "$(cat error)" "$double: input line 1: not a value: \`x\`$values"$'\nkahn: report could not be written'
 fi
 
 # a part starts no thread

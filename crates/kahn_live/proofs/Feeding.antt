@@ -5,25 +5,23 @@ use Rattle.kahn_fault.specs.declared.fault.Fault.{Fault}
 use Rattle.kahn_session.specs.Live.{IsTakenLine, Live}
 use Rattle.kahn_session.specs.declared.fault.TakeFault.{TakeFault}
 use Rattle.kahn_session.specs.declared.fault.TakeFault.TheVariants.{TooLong, NotUtf8, BadLine, BadValue, Feed, NoMemory, Write}
-use Rattle.kahn_live.specs.Course.{AreAllMet, AreFed, AreRead, LinesGiven, IsFirstPart, IsAnyMet, IsBrokenOff, IsCutOff, IsToldBy, Point, Telling, WasAnswered, next_number}
+use Rattle.kahn_session.specs.Refusals.{at_end_number}
+use Rattle.kahn_live.specs.Course.{AreAllMet, AreFed, AreRead, LinesGiven, IsFirstPart, IsAnyMet, IsBrokenOff, IsCutOff, IsToldBy, Point, Telling, WasAnswered}
 use Rattle.kahn_live.specs.Histories.{IsShown}
 
 -- one line more was fed
-pub fed_more : (number behind : ℕ) (line : List ℕ) (lines rest : List (List ℕ)) (old new : Point) → behind ≡ next_number number → rest ≡ line ∷ lines → WasAnswered number line old new
-    → (p : Point) → AreFed behind lines new p → AreFed number rest old p
-fed_more number behind line lines rest old new is split met p fed =
-    subst (λ (ls : List (List ℕ)). AreFed number ls old p) (sym split) (new, met, subst (λ (k : ℕ). AreFed k lines new p) is fed)
+pub fed_more : (line : List ℕ) (lines rest : List (List ℕ)) (old new : Point) → rest ≡ line ∷ lines → WasAnswered at_end_number line old new → (p : Point) → AreFed lines new p
+    → AreFed rest old p
+fed_more line lines rest old new split met p fed = subst (λ (ls : List (List ℕ)). AreFed ls old p) (sym split) (new, met, fed)
 
 -- a line behind stopped the run
-pub cut_more : (number behind : ℕ) (line : List ℕ) (lines rest : List (List ℕ)) (old new : Point) → behind ≡ next_number number → rest ≡ line ∷ lines → WasAnswered number line old new
-    → (p : Point) (fault : Fault) → IsCutOff behind lines new p fault → IsCutOff number rest old p fault
-cut_more number behind line lines rest old new is split met p fault cut =
-    subst (λ (ls : List (List ℕ)). IsCutOff number ls old p fault) (sym split) (inr (new, met, subst (λ (k : ℕ). IsCutOff k lines new p fault) is cut))
+pub cut_more : (line : List ℕ) (lines rest : List (List ℕ)) (old new : Point) → rest ≡ line ∷ lines → WasAnswered at_end_number line old new → (p : Point) (fault : Fault)
+    → IsCutOff lines new p fault → IsCutOff rest old p fault
+cut_more line lines rest old new split met p fault cut = subst (λ (ls : List (List ℕ)). IsCutOff ls old p fault) (sym split) (inr (new, met, cut))
 
 -- this one did
-pub cut_here : (number : ℕ) (line : List ℕ) (lines rest : List (List ℕ)) (old new : Point) (fault : Fault) → rest ≡ line ∷ lines → IsBrokenOff line old new fault
-    → IsCutOff number rest old new fault
-cut_here number line lines rest old new fault split broken = subst (λ (ls : List (List ℕ)). IsCutOff number ls old new fault) (sym split) (inl broken)
+pub cut_here : (line : List ℕ) (lines rest : List (List ℕ)) (old new : Point) (fault : Fault) → rest ≡ line ∷ lines → IsBrokenOff line old new fault → IsCutOff rest old new fault
+cut_here line lines rest old new fault split broken = subst (λ (ls : List (List ℕ)). IsCutOff ls old new fault) (sym split) (inl broken)
 
 -- there is an input channel of the name
 pub begun_there : (input : Option (List ℕ)) (old new : Point) (b : Bool) → b ≡ true → IsFirstPart input old new (Ok b) → IsFirstPart input old new (Ok true)
@@ -58,12 +56,12 @@ read input zero text rest old new (left, same) was = stays old.session new.sessi
 read input (suc n) text rest old new (left, last, are, hearing, (line, ready, cuts, (quiet, (same, kept)), any)) was =
     met (suc n) _ ready new any (stays last.session ready.session same (read input n text left old last are was))
 
-fed : (number : ℕ) (lines : List (List ℕ)) (old new : Point) → AreFed number lines old new → IsShown old.session → IsShown new.session
-fed number [] old new same was = stays old.session new.session (ap (λ (p : Point). p.session) same) was
-fed number (line ∷ lines) old new (next, a, rest) was = fed (next_number number) lines next new rest (answered number line old next a was)
+fed : (lines : List (List ℕ)) (old new : Point) → AreFed lines old new → IsShown old.session → IsShown new.session
+fed [] old new same was = stays old.session new.session (ap (λ (p : Point). p.session) same) was
+fed (line ∷ lines) old new (next, a, rest) was = fed lines next new rest (answered at_end_number line old next a was)
 
 -- where all lines were met
 pub all_shown : (f : LinesGiven) (text : Option (List ℕ)) (old new : Point) → AreAllMet f (Ok true) text old new → IsShown new.session
-all_shown f text old new (begun, (v, (told, (sent, t, kept))), (number, last, (n, rest, ready, are, is, (quiet, (same, still)), out), behind)) =
-    fed number f.at_end last new behind
-    (stays ready.session last.session same (read f.input n text rest begun ready are (v, t.answered.verdict, t.answered.ends, t.out)))
+all_shown f text old new (begun, (v, (told, (sent, t, kept))), (ready, last, (unchanged, quiet_out, said), (n, rest, ended, are, (quiet, (same, still)), out), behind)) =
+    fed f.at_end last new behind
+    (stays ended.session last.session same (read f.input n text rest ready ended are (stays begun.session ready.session unchanged (v, t.answered.verdict, t.answered.ends, t.out))))

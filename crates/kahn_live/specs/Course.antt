@@ -1,11 +1,17 @@
 -- Believed. What lines make, one after the other, of a session, of what goes out and of what is told (this project's profile).
-use Rattle.std.specs.Prelude.{◌≡◌, ◌⊎◌, ℕ, zero, suc, ◌-◌, ◌^◌, min, Bool, true, false, not, ◌||◌, ◌&&◌, ◌==◌, List, [], ◌∷◌, map, take, Option, None, Some, if◌then◌else◌, option_copied, slice_index, string_bytes, Result, Ok, Err}
+use Rattle.std.specs.Prelude.{◌≡◌, ◌⊎◌, ℕ, zero, suc, ◌-◌, ◌^◌, Bool, true, false, not, ◌||◌, ◌&&◌, ◌==◌, List, [], ◌∷◌, map, take, Option, None, Some, if◌then◌else◌, option_copied, slice_index, string_bytes, Result, Ok, Err}
 use Rattle.std.specs.Io.KnownBytes.{Appends, IsAtEnd, Keeps}
 use Rattle.kahn_streams.specs.declared.answer.Verdict.{Verdict}
 use Rattle.kahn_streams.specs.declared.answer.Verdict.TheVariants.{Finished, Bound, Memory}
 use Rattle.kahn_streams.specs.declared.fault.RunFault.TheVariants.{NoMemory as NoMemoryRun}
 use Rattle.kahn_streams.specs.Written.{AppendsFront}
 use Rattle.kahn_write.specs.declared.bytes.WriteFault.{WriteFault}
+use Rattle.kahn_streams.specs.declared.feeds.FeedFault.{FeedFault}
+use Rattle.kahn_streams.specs.declared.feeds.FeedFault.TheVariants as feed
+use Rattle.kahn_streams.specs.declared.tree.Program.{Program as Tree}
+use Rattle.kahn_report.specs.Formats.{content}
+use Rattle.kahn_inputs.specs.declared.refused.Part.{Part}
+use Rattle.kahn_inputs.specs.Refused.{IsHeadPart, IsKindPart, IsNamePart, IsValuePart}
 use Rattle.kahn_report.specs.declared.read.ReadFault.TheVariants.{Failed as FailedRead}
 use Rattle.kahn_report.specs.declared.working.WorkFault.TheVariants.{Run as RunWork, Write as WriteWork}
 use Rattle.kahn_fault.specs.declared.fault.Fault.{Fault}
@@ -13,10 +19,10 @@ use Rattle.kahn_fault.specs.declared.fault.Fault.TheVariants.{Program, Work}
 use Rattle.std.specs.Char.{is_ascii_digit}
 use Rattle.std.specs.Option.{is_none}
 use Rattle.std.specs.Str.{bytes_eq}
-use Rattle.kahn_session.specs.Live.{HasVerdict, IsDeaf, IsFirstInput, IsTakenLine, Live, breaks}
-use Rattle.kahn_session.specs.Refusals.{alike_text, is_want, refusal_text, take_words, waiting_text}
+use Rattle.kahn_session.specs.Live.{HasVerdict, IsDeaf, IsFirstInput, IsOtherInput, IsTakenLine, Live, breaks}
+use Rattle.kahn_session.specs.Refusals.{alike_text, alone_text, at_end_number, is_want, refusal_text, take_words, waiting_text}
 use Rattle.kahn_session.specs.declared.fault.TakeFault.{TakeFault}
-use Rattle.kahn_session.specs.declared.fault.TakeFault.TheVariants.{BadLine, NoMemory}
+use Rattle.kahn_session.specs.declared.fault.TakeFault.TheVariants.{TooLong, NotUtf8, BadLine, BadValue, Feed, NoMemory, Write}
 use Rattle.kahn_live.specs.Lines.{CutsLine, fed_text, most_kept, unmarked}
 use Rattle.kahn_live.specs.declared.stage.Stage.{Stage}
 use Rattle.kahn_live.specs.declared.taking.Fed.{Fed}
@@ -128,21 +134,41 @@ abbrev pub is_hinted : Option (List ℕ) → Bool → Bool
 is_hinted None before = before
 is_hinted (Some input) before = true
 
--- why the line was refused was told, and this is known then
-abbrev pub IsNewPut : Complaints → ℕ → TakeFault → Option (List ℕ) → Telling → Telling → Type 0
-IsNewPut known number f hint old new = WasToldOf (refusal_text old.path number f hint) (not old.keep_going) known old new
+-- why the line was refused was told, with a part of it and more words, and this is known then
+abbrev pub IsNewPut : Complaints → ℕ → TakeFault → Part → Option (List ℕ) → Telling → Telling → Type 0
+IsNewPut known number f part hint old new = WasToldOf (refusal_text old.path number f part.word.now part.words.now hint) (not old.keep_going) known old new
 
-abbrev pub IsNewTold : ℕ → TakeFault → Option (List ℕ) → Telling → Telling → Type 0
-IsNewTold number f hint old new =
-    IsNewPut (record { last = Some f; first = number; number = number; hinted = is_hinted hint old.complaints.hinted }) number f hint old new
+abbrev pub IsNewTold : ℕ → TakeFault → Part → Option (List ℕ) → Telling → Telling → Type 0
+IsNewTold number f part hint old new =
+    IsNewPut (record { last = Some f; first = number; number = number; hinted = is_hinted hint old.complaints.hinted }) number f part hint old new
 
 -- the line was told of, or counted
-abbrev pub IsComplaintBy : Bool → ℕ → TakeFault → Option (List ℕ) → Telling → Telling → Type 0
-IsComplaintBy true number f hint old new = IsTallied number old new
-IsComplaintBy false number f hint old new = (mid : Telling) × IsMoreTold old mid × IsNewTold number f hint mid new
+abbrev pub IsComplaintBy : Bool → ℕ → TakeFault → Part → Option (List ℕ) → Telling → Telling → Type 0
+IsComplaintBy true number f part hint old new = IsTallied number old new
+IsComplaintBy false number f part hint old new = (mid : Telling) × IsMoreTold old mid × IsNewTold number f part hint mid new
 
-abbrev pub IsComplaint : ℕ → TakeFault → Option (List ℕ) → Telling → Telling → Type 0
-IsComplaint number f hint old new = IsComplaintBy (is_again old.complaints number f hint) number f hint old new
+abbrev pub IsComplaint : ℕ → TakeFault → Part → Option (List ℕ) → Telling → Telling → Type 0
+IsComplaint number f part hint old new = IsComplaintBy (is_again old.complaints number f hint) number f part hint old new
+
+-- the part of the line that is at fault, and what is wanted there
+abbrev pub IsNoPart : List ℕ → List ℕ → Type 0
+IsNoPart part more = (part ≡ []) × (more ≡ [])
+
+abbrev pub IsFedPart : Tree → List ℕ → FeedFault → List ℕ → List ℕ → Type 0
+IsFedPart t line feed.UnknownName part more = IsNamePart (content line) part more
+IsFedPart t line feed.NotAnInput part more = IsNamePart (content line) part more
+IsFedPart t line feed.WrongKind part more = IsKindPart t (content line) part more
+IsFedPart t line feed.TooMany part more = IsNoPart part more
+IsFedPart t line feed.NoMemory part more = IsNoPart part more
+
+abbrev pub IsRefusedPart : Tree → List ℕ → TakeFault → List ℕ → List ℕ → Type 0
+IsRefusedPart t line BadLine part more = IsHeadPart (content line) part more
+IsRefusedPart t line BadValue part more = IsValuePart (content line) part more
+IsRefusedPart t line (Feed f) part more = IsFedPart t line f part more
+IsRefusedPart t line TooLong part more = IsNoPart part more
+IsRefusedPart t line NotUtf8 part more = IsNoPart part more
+IsRefusedPart t line NoMemory part more = IsNoPart part more
+IsRefusedPart t line (Write f) part more = IsNoPart part more
 
 -- whether a line begins as a number does
 abbrev pub is_bare_line : List ℕ → Bool
@@ -165,7 +191,9 @@ IsHintBy false s hint = hint ≡ None
 pub record IsRefused (s : Live) (number : ℕ) (line : List ℕ) (f : TakeFault) (old new : Telling) : Type 0 where
   pub hint : Option (List ℕ)
   pub named : IsHintBy (not old.complaints.hinted && wants_hint number line f) s hint
-  pub told : IsComplaint number f hint old new
+  pub part : Part
+  pub at_fault : IsRefusedPart s.flow.run.network line f part.word.now part.words.now
+  pub told : IsComplaint number f part hint old new
 
 -- what was put off may have been sent: no byte more was written
 abbrev pub HasWaited : Point → Point → Type 0
@@ -293,12 +321,19 @@ AreRead input (suc n) text rest old new =
 abbrev pub IsReadOut : Option (List ℕ) → Live → ℕ → Type 0
 IsReadOut rest s number = IsAtEnd rest ⊎ (IsDeafNow s true ⊎ (number ≡ 2 ^ 64 - 1))
 
--- the lines of the input were met, and the number is that behind the last one's; or the one behind these stopped the run
-abbrev pub IsInputMet : Option (List ℕ) → Result ℕ Fault → Option (List ℕ) → Point → Point → Type 0
-IsInputMet input (Ok number) text old new =
-    (n : ℕ) × (rest : Option (List ℕ)) × (last : Point) × AreRead input n text rest old last × (number ≡ suc n) × HasSent last new × IsReadOut rest last.session number
-IsInputMet input (Err fault) text old new =
+-- the lines of the input were met
+abbrev pub AreAllRead : Option (List ℕ) → Option (List ℕ) → Point → Point → Type 0
+AreAllRead input text old new =
+    (n : ℕ) × (rest : Option (List ℕ)) × (last : Point) × AreRead input n text rest old last × HasSent last new × IsReadOut rest last.session (suc n)
+
+-- or the one behind these stopped the run
+abbrev pub IsInputStopped : Option (List ℕ) → Fault → Option (List ℕ) → Point → Point → Type 0
+IsInputStopped input fault text old new =
     (n : ℕ) × (rest : Option (List ℕ)) × (last : Point) × AreRead input n text rest old last × IsHearing last.session × IsStoppedAt input (suc n) rest last new fault
+
+abbrev pub IsInputMet : {X : Type 0} → Option (List ℕ) → Result X Fault → Option (List ℕ) → Point → Point → Type 0
+IsInputMet input (Ok x) text old new = AreAllRead input text old new
+IsInputMet input (Err fault) text old new = IsInputStopped input fault text old new
 
 -- ---- the part before the first line
 
@@ -310,26 +345,33 @@ IsFirstPart input old new (Ok false) = (f : TakeFault) × WasMet 0 (fed_text inp
 IsFirstPart input old new (Err fault) = IsBrokenOff (fed_text input []) old new fault
     ⊎ ((fault ≡ no_memory) × ((new ≡ old) ⊎ ((f : TakeFault) × WasMet 0 (fed_text input []) (Err f) old new × (is_want f ≡ true))))
 
+-- that no line is for another input channel was told, where values of one stand alone and there is another
+abbrev pub IsAlonePut : List ℕ → Option (List ℕ) → Telling → Telling → Type 0
+IsAlonePut input other old new = WasTold (alone_text old.path input other) old new
+
+abbrev pub IsAloneSaid : Option (List ℕ) → Live → Telling → Telling → Type 0
+IsAloneSaid None s old new = new ≡ old
+IsAloneSaid (Some input) s old new = (other : Option (List ℕ)) × IsOtherInput s.flow.run.network input other × IsAlonePut input other old new
+
+abbrev pub IsAloneTold : Option (List ℕ) → Point → Point → Type 0
+IsAloneTold input old new = (new.session ≡ old.session) × (new.out ≡ old.out) × IsAloneSaid input old.session old.told new.told
+
 -- ---- the lines behind those of the input
 
--- the number behind this one, but no number lies behind the last
-abbrev pub next_number : ℕ → ℕ
-next_number number = min (suc number) (2 ^ 64 - 1)
-
--- each was taken or refused, in their order, the first by this number
-abbrev pub AreFed : ℕ → List (List ℕ) → Point → Point → Type 0
-AreFed number [] old new = new ≡ old
-AreFed number (line ∷ lines) old new = (next : Point) × WasAnswered number line old next × AreFed (next_number number) lines next new
+-- each was taken or refused, in their order
+abbrev pub AreFed : List (List ℕ) → Point → Point → Type 0
+AreFed [] old new = new ≡ old
+AreFed (line ∷ lines) old new = (next : Point) × WasAnswered at_end_number line old next × AreFed lines next new
 
 -- one of them stopped the run, behind those before it
-abbrev pub IsCutOff : ℕ → List (List ℕ) → Point → Point → Fault → Type 0
-IsCutOff number [] old new fault = ⊥
-IsCutOff number (line ∷ lines) old new fault =
-    IsBrokenOff line old new fault ⊎ ((next : Point) × WasAnswered number line old next × IsCutOff (next_number number) lines next new fault)
+abbrev pub IsCutOff : List (List ℕ) → Point → Point → Fault → Type 0
+IsCutOff [] old new fault = ⊥
+IsCutOff (line ∷ lines) old new fault =
+    IsBrokenOff line old new fault ⊎ ((next : Point) × WasAnswered at_end_number line old next × IsCutOff lines next new fault)
 
-abbrev pub AreLastMet : {X : Type 0} → ℕ → List (List ℕ) → Point → Point → Result X Fault → Type 0
-AreLastMet number lines old new (Ok x) = AreFed number lines old new
-AreLastMet number lines old new (Err fault) = IsCutOff number lines old new fault
+abbrev pub AreLastMet : {X : Type 0} → List (List ℕ) → Point → Point → Result X Fault → Type 0
+AreLastMet lines old new (Ok x) = AreFed lines old new
+AreLastMet lines old new (Err fault) = IsCutOff lines old new fault
 
 -- ---- all lines
 
@@ -343,14 +385,14 @@ lines_given f = record { input = option_copied f.input; at_end = map string_byte
 
 -- behind the part before the first line: the lines of the input stopped the run, or those behind them
 abbrev pub AreStopped : LinesGiven → Fault → Option (List ℕ) → Point → Point → Type 0
-AreStopped f fault text old new = IsInputMet f.input (Err fault) text old new
-    ⊎ ((number : ℕ) × (last : Point) × IsInputMet f.input (Ok number) text old last × IsCutOff number f.at_end last new fault)
+AreStopped f fault text old new =
+    IsInputStopped f.input fault text old new ⊎ ((last : Point) × AreAllRead f.input text old last × IsCutOff f.at_end last new fault)
 
 -- the part before the first line, the lines of the input, and the lines behind these, as far as the run came; where there is no
 -- input channel of the name no line is read
 abbrev pub AreAllMet : LinesGiven → Result Bool Fault → Option (List ℕ) → Point → Point → Type 0
 AreAllMet f (Ok true) text old new = (begun : Point) × IsFirstPart f.input old begun (Ok true)
-    × ((number : ℕ) × (last : Point) × IsInputMet f.input (Ok number) text begun last × AreFed number f.at_end last new)
+    × ((ready : Point) × (last : Point) × IsAloneTold f.input begun ready × AreAllRead f.input text ready last × AreFed f.at_end last new)
 AreAllMet f (Ok false) text old new = IsFirstPart f.input old new (Ok false)
 AreAllMet f (Err fault) text old new = IsFirstPart f.input old new (Err fault)
-    ⊎ ((begun : Point) × IsFirstPart f.input old begun (Ok true) × AreStopped f fault text begun new)
+    ⊎ ((begun : Point) × (ready : Point) × IsFirstPart f.input old begun (Ok true) × IsAloneTold f.input begun ready × AreStopped f fault text ready new)

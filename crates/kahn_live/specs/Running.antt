@@ -20,11 +20,12 @@ use Rattle.kahn_fault.specs.declared.fault.Fault.{Fault}
 use Rattle.kahn_fault.specs.declared.fault.Fault.TheVariants.{Work}
 use Rattle.kahn_line.specs.declared.live.LiveOptions.{LiveOptions}
 use Rattle.kahn_line.specs.declared.parts.Plain.{Plain}
+use Rattle.kahn_session.specs.Refusals.{unknown_text}
 use Rattle.kahn_session.specs.Live.{HasOpened, IsClosed, IsFaulty, IsFirstInput, IsLastText, IsStreamOf, IsStuck, IsUnopened, HasVerdict, Live}
 use Rattle.kahn_live.specs.Course.{AreAllMet, LinesGiven, HasSent, HasWaited, IsMoreTold, IsWriteFault, Point, Telling, WasTold, no_memory, telling_of}
 use Rattle.kahn_live.specs.declared.running.Asked.{Asked}
 use Rattle.kahn_live.specs.declared.serving.Ending.{Ending}
-use Rattle.kahn_live.specs.declared.serving.Ending.TheVariants.{Reached, Gone, NoInput}
+use Rattle.kahn_live.specs.declared.serving.Ending.TheVariants.{Reached, Gone, NoChannel}
 use Rattle.kahn_live.specs.declared.telling.Teller.{Teller}
 
 -- ---- the start
@@ -86,7 +87,7 @@ IsEnded true old new (Err fault) = IsWriteFault fault × HasSent old new
 -- all lines were met and then the end, or one of these stopped the run
 abbrev pub HasServedAll : LinesGiven → Result Ending Fault → Option (List ℕ) → Point → Point → Type 0
 HasServedAll f (Ok (Reached v)) text old new = (last : Point) × AreAllMet f (Ok true) text old last × IsEnded (is_some f.input) last new (Ok v)
-HasServedAll f (Ok NoInput) text old new = AreAllMet f (Ok false) text old new
+HasServedAll f (Ok NoChannel) text old new = AreAllMet f (Ok false) text old new
 HasServedAll f (Ok Gone) text old new = ⊥
 HasServedAll f (Err fault) text old new = AreAllMet f (Err fault) text old new
     ⊎ ((last : Point) × AreAllMet f (Ok true) text old last × IsEnded (is_some f.input) last new (Err fault))
@@ -123,7 +124,7 @@ IsStuckNow s false = HasVerdict s → IsStuck s.flow.run false ⊎ IsFirstInput 
 abbrev pub wants_why : Bool → Result Ending Fault → Bool
 wants_why stuck (Ok (Reached v)) = stuck
 wants_why stuck (Ok Gone) = false
-wants_why stuck (Ok NoInput) = false
+wants_why stuck (Ok NoChannel) = false
 wants_why stuck (Err fault) = false
 
 -- which program says why, where it is so at the end
@@ -150,10 +151,20 @@ request_of a = record { plain = option_copied a.plain; at_end = map string_bytes
 abbrev pub input_of : Option Plain → Option (List ℕ)
 input_of plain = option_map (λ p. string_bytes p.input) plain
 
+-- the channel that is named for the values that are shown, where a run is refused since none has that name
+abbrev pub unknown_output : RunFault → Option Plain → Option (List ℕ)
+unknown_output UnknownWatch (Some p) = option_map string_bytes p.output
+unknown_output f plain = None
+
+-- that was told; or the run is refused for another reason
+abbrev pub IsUnstartedTold : Option (List ℕ) → RunFault → Telling → Telling → Result Ending Fault → Type 0
+IsUnstartedTold None f old new r = (r ≡ Err (Work (RunWork f))) × (new ≡ old)
+IsUnstartedTold (Some name) f old new r = (r ≡ Ok NoChannel) × WasTold (unknown_text old.path name) old new
+
 -- a session of the network was set up and run, or why not: memory was refused, or the run is
 abbrev pub HasRunNetwork : Request → Program → Config → Option (List ℕ) → Option (List ℕ) → Telling → Telling → Result Ending Fault → Type 0
 HasRunNetwork a t config text out old new r = IsLacking r old new
-    ⊎ (((f : RunFault) × IsSetUp a.plain t config (Err f) × (r ≡ Err (Work (RunWork f))) × (new ≡ old))
+    ⊎ (((f : RunFault) × IsSetUp a.plain t config (Err f) × IsUnstartedTold (unknown_output f a.plain) f old new r)
     ⊎ ((s : Live) × IsSetUp a.plain t config (Ok s) × HasRunSession (record { input = input_of a.plain; at_end = a.at_end }) s text out old new r))
 
 -- the network of the program text was run on this text of input, or why not: memory was refused, or the program text is
@@ -168,7 +179,7 @@ HasRunText program o text out old new r = IsLacking r old new
 abbrev pub ending_status : Bool → Result Ending Fault → ℕ
 ending_status refused (Ok (Reached v)) = live_status_of refused (Ok v)
 ending_status refused (Ok Gone) = live_status_of refused (Ok Finished)
-ending_status refused (Ok NoInput) = 6
+ending_status refused (Ok NoChannel) = 6
 ending_status refused (Err fault) = live_status_of refused (Err fault)
 
 -- what is told of how a run ended: a fault, and which program says more of it
@@ -179,7 +190,7 @@ IsLastTold program answer old new = (mid : Telling) × (last : Telling)
 abbrev pub IsEndingTold : List ℕ → Result Ending Fault → Telling → Telling → Type 0
 IsEndingTold program (Ok (Reached v)) old new = IsLastTold program (Ok v) old new
 IsEndingTold program (Ok Gone) old new = IsLastTold program (Ok Finished) old new
-IsEndingTold program (Ok NoInput) old new = new ≡ old
+IsEndingTold program (Ok NoChannel) old new = new ≡ old
 IsEndingTold program (Err fault) old new = IsLastTold program (Err fault) old new
 
 -- before the first line

@@ -1,9 +1,9 @@
 //! A run on lines, from the program text to the status.
 
-ghost use Rattle.std.specs.Prelude.{◌≡◌, IfOk, false, option_copied, string_bytes};
+ghost use Rattle.std.specs.Prelude.{◌≡◌, IfOk, false, option_copied, option_map, string_bytes};
 ghost use Rattle.kahn_live.specs.Course.{AcrossStage, telling_of};
 ghost use Rattle.kahn_live.specs.Running.{HasRunAs, HasRunNetwork, HasRunText, IsInForm, IsPlainStream, IsSetUp, Tells, WatchesPlain};
-ghost use Rattle.kahn_live.specs.Running.{IsEndingTold, IsStuckNow, IsWhyTold, ending_status, input_of, request_of, wants_why};
+ghost use Rattle.kahn_live.specs.Running.{IsEndingTold, IsStuckNow, IsUnstartedTold, IsWhyTold, ending_status, input_of, request_of, unknown_output, wants_why};
 
 use crate::outlet::Outlet;
 use crate::serving::{Ending, sent, work};
@@ -19,8 +19,8 @@ use kahn_streams::Network;
 use std::alloc::{AllocError, Global};
 use std::io::{BufWriter, Read, Write};
 
-/// The status where there is no input channel of the name whose values stand alone.
-const NO_INPUT: u8 = 6;
+/// The status where there is no channel of a name of `--plain`.
+const NO_CHANNEL: u8 = 6;
 
 /// How the run is set up: the channel whose values alone are shown is watched, so that it has a stream.
 fn watching(alloc: Global, config: Config, plain: Option<&Plain>) -> Result<Config, AllocError>
@@ -36,6 +36,16 @@ fn watching(alloc: Global, config: Config, plain: Option<&Plain>) -> Result<Conf
         watch: Some(String::from_str(alloc, output.as_str())?),
         ..config
     })
+}
+
+/// The name of the channel whose values are shown, where it is named.
+fn output_of(plain: &Plain) -> Option<&str>
+    ensures { option_copied result ≡ option_map string_bytes plain.now.output }
+{
+    match &plain.output {
+        Some(output) => Some(output.as_str()),
+        None => None,
+    }
 }
 
 /// The number of the stream of which the values alone are shown.
@@ -103,7 +113,7 @@ fn wants_why(stuck: bool, ending: &Result<Ending, Fault>) -> bool
     match ending {
         Ok(Ending::Reached(_)) => stuck,
         Ok(Ending::Gone) => false,
-        Ok(Ending::NoInput) => false,
+        Ok(Ending::NoChannel) => false,
         Err(_) => false,
     }
 }
@@ -115,6 +125,33 @@ fn tell_stuck<W: Write, E: Write>(stage: &mut Stage<'_, W, E>, ending: &Result<E
     let stuck = is_stuck(&stage.session);
     let wanted = wants_why(stuck, ending);
     stage.teller.tell_why(wanted);
+}
+
+/// The channel that `--plain` names for the values that are shown, where a run is refused since none has that name.
+fn unknown_output<'p>(fault: RunFault, plain: Option<&'p Plain>) -> Option<&'p str>
+    ensures { option_copied result ≡ unknown_output fault (option_copied plain.entry) }
+{
+    match (fault, plain) {
+        (RunFault::UnknownWatch, Some(plain)) => output_of(plain),
+        _ => None,
+    }
+}
+
+/// How a run without a session ends. That there is no channel of a name of `--plain` is told.
+fn unstarted<E: Write + Drop>(
+    fault: RunFault,
+    plain: Option<&Plain>,
+    mut teller: Teller<E>,
+) -> (Result<Ending, Fault>, Teller<E>)
+    ensures { Tells E.contents teller result (IsUnstartedTold (unknown_output fault (option_copied plain.entry)) fault) }
+{
+    match unknown_output(fault, plain) {
+        None => (Err(Fault::Work(WorkFault::Run(fault))), teller),
+        Some(name) => {
+            teller.tell_unknown(name);
+            (Ok(Ending::NoChannel), teller)
+        }
+    }
 }
 
 /// Runs a network on the input, and writes what is new to the output.
@@ -131,7 +168,7 @@ fn run_network<I: Read + Drop, W: Write + Drop, E: Write + Drop>(
 {
     let session = match started(alloc, network, config, asked.plain) {
         Ok(session) => session,
-        Err(fault) => return (Err(Fault::Work(WorkFault::Run(fault))), teller),
+        Err(fault) => return unstarted(fault, asked.plain, teller),
     };
     let Ok(writer) = BufWriter::new(alloc, output) else {
         return (Err(wants_memory()), teller);
@@ -199,7 +236,7 @@ fn told<E: Write>(ending: Result<Ending, Fault>, program: &str, teller: &mut Tel
     match ending {
         Ok(Ending::Reached(verdict)) => teller.tell_last(&Ok(verdict), program),
         Ok(Ending::Gone) => teller.tell_last(&Ok(Verdict::Finished), program),
-        Ok(Ending::NoInput) => NO_INPUT,
+        Ok(Ending::NoChannel) => NO_CHANNEL,
         Err(fault) => teller.tell_last(&Err(fault), program),
     }
 }

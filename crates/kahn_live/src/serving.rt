@@ -24,8 +24,8 @@ pub(crate) enum Ending {
     Reached(Verdict),
     /// Nobody reads what is new any more.
     Gone,
-    /// There is no input channel of the name whose values stand alone.
-    NoInput,
+    /// There is no channel of a name of `--plain`, or it is no input where its values stand in the lines.
+    NoChannel,
 }
 
 /// Whether it is told how a run with this verdict ended: the status isn't 0, a process has a fault, or no line can change the run any
@@ -83,7 +83,7 @@ fn serve<I: Read, W: Write, E: Write>(
     ensures { Across I.remaining W.contents E.contents reader.old reader.new stage.old stage.new (λ s t. HasServedAll (lines_given fed.entry) result s) }
 {
     if !take_all(alloc, stage, reader, fed)? {
-        return Ok(Ending::NoInput);
+        return Ok(Ending::NoChannel);
     }
     let verdict = close(stage, fed.input.is_some())?;
     Ok(Ending::Reached(verdict))

@@ -3,8 +3,8 @@
 ghost use Rattle.std.specs.Prelude.{◌≡◌, ◌&&◌, not, IfErr, IfOk, false, map, option_copied, string_bytes, true};
 ghost use Rattle.std.specs.Io.Buffered.{reader_buffer};
 ghost use Rattle.kahn_session.specs.Live.{HasVerdict, breaks};
-ghost use Rattle.kahn_live.specs.Course.{Across, AreAllMet, AreLastMet, AcrossStage, HasSent, IsAnswerTold, IsDeafNow, IsFirstPart, IsInputMet, IsLineMet};
-ghost use Rattle.kahn_live.specs.Course.{IsHintBy, IsNextMet, IsReadMet, IsRefusalTold, IsRefused, IsWriteFault, lines_given, is_bad_line, is_bare_line, no_memory, point_of, telling_of, wants_hint};
+ghost use Rattle.kahn_live.specs.Course.{Across, AreAllMet, AreLastMet, AcrossStage, HasSent, IsAnswerTold, IsDeafNow, IsFedPart, IsFirstPart, IsInputMet, IsLineMet};
+ghost use Rattle.kahn_live.specs.Course.{IsAloneTold, IsHintBy, IsNextMet, IsReadMet, IsRefusalTold, IsRefused, IsRefusedPart, IsWriteFault, lines_given, is_bad_line, is_bare_line, no_memory, point_of, telling_of, wants_hint};
 ghost use Rattle.kahn_live.specs.Histories.{HasHistories};
 ghost use Rattle.kahn_live.specs.Lines.{IsReadyToRead};
 
@@ -12,11 +12,19 @@ use crate::lines::{Next, fed_line, has_line, next_line};
 use crate::stage::Stage;
 use crate::telling::Teller;
 use kahn_fault::Fault;
+use kahn_inputs::{Part, head_part, kind_part, name_part, value_part};
 use kahn_pool::{Open, RunFault, Verdict};
 use kahn_report::{ReadFault, WorkFault};
-use kahn_session::{Session, TakeFault, is_want};
+use kahn_session::{AT_END, Session, TakeFault, is_want};
+use kahn_streams::{FeedFault, Network};
 use std::alloc::Global;
 use std::io::{BufReader, Read, Write};
+
+/// No part of a line.
+const NO_PART: Part<'static> = Part {
+    word: b"",
+    words: "",
+};
 
 /// Which lines are fed.
 #[derive(Clone, Copy)]
@@ -103,6 +111,34 @@ fn hint_of<'s>(session: &'s Session<'_>, wanted: bool) -> Option<&'s str>
     None
 }
 
+/// The part of a line that is at fault where its values aren't fed, and what is wanted there.
+fn fed_part<'l>(network: &Network, line: &'l [u8], fault: FeedFault) -> Part<'l>
+    ensures { IsFedPart network.now line.entry.now fault result.word.now result.words.now }
+{
+    match fault {
+        FeedFault::UnknownName => name_part(line),
+        FeedFault::NotAnInput => name_part(line),
+        FeedFault::WrongKind => kind_part(network, line),
+        FeedFault::TooMany => NO_PART,
+        FeedFault::NoMemory => NO_PART,
+    }
+}
+
+/// The part of a line that is at fault where it isn't taken, and what is wanted there.
+fn refused_part<'l>(network: &Network, line: &'l [u8], fault: TakeFault) -> Part<'l>
+    ensures { IsRefusedPart network.now line.entry.now fault result.word.now result.words.now }
+{
+    match fault {
+        TakeFault::BadLine => head_part(line),
+        TakeFault::BadValue => value_part(line),
+        TakeFault::Feed(fault) => fed_part(network, line, fault),
+        TakeFault::TooLong => NO_PART,
+        TakeFault::NotUtf8 => NO_PART,
+        TakeFault::NoMemory => NO_PART,
+        TakeFault::Write(_) => NO_PART,
+    }
+}
+
 /// Tells a fault of the line of that number.
 fn tell_refused<E: Write>(
     session: &Session<'_>,
@@ -115,7 +151,8 @@ fn tell_refused<E: Write>(
 {
     let wanted = is_hint_wanted(teller.hinted, number, line, fault);
     let input = hint_of(session, wanted);
-    teller.tell(number, fault, input);
+    let part = refused_part(session.network(), line, fault);
+    teller.tell(number, fault, part, input);
 }
 
 /// Tells a fault of the line of that number, behind what is new so far. It fails where that can't be written.
@@ -205,6 +242,17 @@ fn is_over(session: &Session<'_>) -> bool
     session.is_deaf()
 }
 
+/// Tells that no line is for another input channel, where values of one stand alone and there is another.
+fn tell_alone<W: Write, E: Write>(stage: &mut Stage<'_, W, E>, input: Option<&str>)
+    ensures { AcrossStage W.contents E.contents stage.old stage.new (IsAloneTold (option_copied input.entry)) }
+{
+    let Some(input) = input else {
+        return;
+    };
+    let other = stage.session.other_input(input);
+    stage.teller.tell_alone(input, other);
+}
+
 /// Reads the next line, of that number, and takes it, and tells whether there was one. What is new goes out before, unless the
 /// read doesn't wait.
 fn take_next<I: Read, W: Write, E: Write>(
@@ -234,13 +282,13 @@ fn take_next<I: Read, W: Write, E: Write>(
     }
 }
 
-/// Takes the lines of the reader as long as one can change the run, and gives the number behind the last one's.
+/// Takes the lines of the reader as long as one can change the run.
 fn take_lines<I: Read, W: Write, E: Write>(
     alloc: Global,
     stage: &mut Stage<'_, W, E>,
     reader: &mut BufReader<I>,
     input: Option<&str>,
-) -> Result<u64, Fault>
+) -> Result<(), Fault>
     requires { stage.old.session.broken ≡ false }
     ensures broken { IfOk result (λ _. stage.new.session.broken ≡ false) }
     ensures met { Across I.remaining W.contents E.contents reader.old reader.new stage.old stage.new (λ s t. IsInputMet (option_copied input.entry) result s) }
@@ -249,29 +297,23 @@ fn take_lines<I: Read, W: Write, E: Write>(
     let mut room = Vec::new(alloc);
     for number in 1..u64::MAX {
         if is_over(&stage.session) {
-            return Ok(number);
+            return Ok(());
         }
         if !take_next(stage, reader, input, number, &mut line, &mut room)? {
-            return Ok(number);
+            return Ok(());
         }
     }
-    Ok(u64::MAX)
+    Ok(())
 }
 
-/// Takes the lines that are fed at the end, whose numbers begin with that one.
-fn take_last<W: Write, E: Write>(
-    stage: &mut Stage<'_, W, E>,
-    lines: &[String],
-    first: u64,
-) -> Result<(), Fault>
+/// Takes the lines that are fed at the end.
+fn take_last<W: Write, E: Write>(stage: &mut Stage<'_, W, E>, lines: &[String]) -> Result<(), Fault>
     requires { stage.old.session.broken ≡ false }
     ensures broken { IfOk result (λ _. stage.new.session.broken ≡ false) }
-    ensures met { AcrossStage W.contents E.contents stage.old stage.new (λ p q. AreLastMet first (map string_bytes lines.now) p q result) }
+    ensures met { AcrossStage W.contents E.contents stage.old stage.new (λ p q. AreLastMet (map string_bytes lines.now) p q result) }
 {
-    let mut number = first;
     for line in lines {
-        let _ = take_line(stage, line.as_bytes(), number)?;
-        number = number.saturating_add(1);
+        let _ = take_line(stage, line.as_bytes(), AT_END)?;
     }
     Ok(())
 }
@@ -318,7 +360,8 @@ pub(crate) fn take_all<I: Read, W: Write, E: Write>(
     if !begin(alloc, stage, fed.input)? {
         return Ok(false);
     }
-    let number = take_lines(alloc, stage, reader, fed.input)?;
-    take_last(stage, fed.at_end, number)?;
+    tell_alone(stage, fed.input);
+    take_lines(alloc, stage, reader, fed.input)?;
+    take_last(stage, fed.at_end)?;
     Ok(true)
 }

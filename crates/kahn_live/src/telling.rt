@@ -3,17 +3,21 @@
 ghost use Rattle.std.specs.Prelude.{◌≡◌, false, option_copied, string_bytes, true};
 ghost use Rattle.std.specs.Option.{is_none};
 ghost use Rattle.kahn_streams.specs.Written.{Writes};
-ghost use Rattle.kahn_session.specs.Refusals.{waiting_text};
+ghost use Rattle.kahn_session.specs.Refusals.{unknown_text, waiting_text};
 ghost use Rattle.kahn_session.specs.Live.{HasVerdict};
 ghost use Rattle.kahn_fault.specs.Status.{live_status_of};
 ghost use Rattle.kahn_fault.specs.Telling.{pointer_text, told_text};
-ghost use Rattle.kahn_live.specs.Course.{IsComplaint, IsTallied, IsMoreTold, IsNewPut, IsNewTold, WasTold, complaints_of, is_again, is_alike, is_hinted, is_next, telling_of};
+ghost use Rattle.kahn_live.specs.Course.{IsAlonePut, IsComplaint, IsTallied, IsMoreTold, IsNewPut, IsNewTold, WasTold, complaints_of, is_again, is_alike, is_hinted, is_next, telling_of};
 ghost use Rattle.kahn_live.specs.Running.{IsEndPut, IsEndTold, IsLastTold, untold, why_text};
 
 use kahn_fault::{Fault, live_status, tell, tell_explain};
+use kahn_inputs::Part;
 use kahn_pool::Verdict;
 use kahn_report::{WriteFault, write_line};
-use kahn_session::{Session, TakeFault, take_words, write_more, write_refusal, write_waiting};
+use kahn_session::{
+    Session, TakeFault, take_words, write_alone, write_more, write_refusal, write_unknown,
+    write_waiting,
+};
 use std::io::Write;
 
 /// Whether a number is the next one.
@@ -140,12 +144,13 @@ impl<E: Write> Teller<E> {
         self.number = number;
     }
 
-    /// Tells why the line of that number is refused, and how bare numbers are taken, where an input channel is named.
-    fn tell_new(&mut self, number: u64, fault: TakeFault, input: Option<&str>)
-        ensures { IsNewTold number fault (option_copied input.entry) (telling_of E.contents self.old) (telling_of E.contents self.new) }
+    /// Tells why the line of that number is refused, by the part of it that is at fault, and how bare numbers are taken, where an
+    /// input channel is named.
+    fn tell_new(&mut self, number: u64, fault: TakeFault, part: Part<'_>, input: Option<&str>)
+        ensures { IsNewTold number fault part.entry (option_copied input.entry) (telling_of E.contents self.old) (telling_of E.contents self.new) }
     {
         let hinted = is_hinted(input, self.hinted);
-        self.put_new(number, fault, input);
+        self.put_new(number, fault, part, input);
         self.last = Some(fault);
         self.first = number;
         self.number = number;
@@ -153,24 +158,54 @@ impl<E: Write> Teller<E> {
     }
 
     /// Writes it.
-    fn put_new(&mut self, number: u64, fault: TakeFault, input: Option<&str>)
-        ensures { IsNewPut (complaints_of self.old) number fault (option_copied input.entry) (telling_of E.contents self.old) (telling_of E.contents self.new) }
+    fn put_new(&mut self, number: u64, why: TakeFault, part: Part<'_>, hint: Option<&str>)
+        ensures { IsNewPut (complaints_of self.old) number why part.entry (option_copied hint.entry) (telling_of E.contents self.old) (telling_of E.contents self.new) }
     {
-        let told = write_refusal(&mut self.errors, self.path.as_str(), number, fault, input);
+        let told = write_refusal(
+            &mut self.errors,
+            self.path.as_str(),
+            number,
+            why,
+            part.word,
+            part.words,
+            hint,
+        );
         self.failed |= told.is_err();
         self.refused |= !self.keep_going;
     }
 
     /// Tells why the line of that number isn't taken, as `tell_new` does, or counts it where it is refused as the one before it.
-    pub(crate) fn tell(&mut self, number: u64, fault: TakeFault, input: Option<&str>)
-        ensures { IsComplaint number fault (option_copied input.entry) (telling_of E.contents self.old) (telling_of E.contents self.new) }
+    pub(crate) fn tell(
+        &mut self,
+        number: u64,
+        fault: TakeFault,
+        part: Part<'_>,
+        input: Option<&str>,
+    )
+        ensures { IsComplaint number fault part.entry (option_copied input.entry) (telling_of E.contents self.old) (telling_of E.contents self.new) }
     {
         if self.is_again(number, fault, input) {
             self.count(number);
             return;
         }
         self.tell_more();
-        self.tell_new(number, fault, input);
+        self.tell_new(number, fault, part, input);
+    }
+
+    /// Tells that all lines are for one input channel and none is for another, where there is another.
+    pub(crate) fn tell_alone(&mut self, input: &str, other: Option<&str>)
+        ensures { IsAlonePut input.now (option_copied other.entry) (telling_of E.contents self.old) (telling_of E.contents self.new) }
+    {
+        let told = write_alone(&mut self.errors, self.path.as_str(), input, other);
+        self.failed |= told.is_err();
+    }
+
+    /// Tells that no channel has the name of `--plain` for the values that are shown.
+    pub(crate) fn tell_unknown(&mut self, name: &str)
+        ensures { WasTold (unknown_text (string_bytes self.old.path) name.now) (telling_of E.contents self.old) (telling_of E.contents self.new) }
+    {
+        let told = write_unknown(&mut self.errors, self.path.as_str(), name);
+        self.failed |= told.is_err();
     }
 
     /// Tells that the part of the line of that number wants memory. The line isn't refused.

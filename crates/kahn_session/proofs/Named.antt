@@ -1,12 +1,12 @@
 -- The line of a channel of some name, looked for from the first one on.
-use Rattle.std.proofs.Common.{Bool, true, false, ◌≡◌, ℕ, zero, suc, ◌+◌, ◌<◌, ◌≤◌, List, [], ◌∷◌, length, Some, ⊎_elim, subst, sym, ◌∙◌, arith, refl}
+use Rattle.std.proofs.Common.{Bool, true, false, ◌≡◌, ℕ, zero, suc, ◌+◌, ◌<◌, ◌≤◌, List, [], ◌∷◌, length, Some, ⊎_elim, ap, subst, sym, ◌∙◌, arith, refl}
 use Rattle.std.specs.Prelude.{MatchOption, Option, slice_get, slice_index_or}
 use Rattle.std.proofs.lemmas.Bool.{cases_lt}
 use Rattle.std.proofs.lemmas.Option.{same_Some}
 use Rattle.kahn_streams.specs.declared.tree.Program.{Program}
 use Rattle.kahn_streams.specs.declared.value.Line.{Line}
-use Rattle.kahn_streams.specs.Network.{Network, role_at}
-use Rattle.kahn_session.specs.Live.{IsNamedAt, IsNamedLine, is_input}
+use Rattle.kahn_streams.specs.Network.{Network, channel_names, network_of, role_at}
+use Rattle.kahn_session.specs.Live.{IsNamedAt, IsNamedLine, IsNoOther, is_input, is_other_input}
 
 pub there : (lines : List Line) (n : ℕ) (d : Line) → n < length lines → slice_get lines n ≡ Some (slice_index_or lines n d)
 there [] n d below = absurd (omega (arith, below))
@@ -50,3 +50,13 @@ Found t lines name found = MatchOption found ((n : ℕ) → IsNamedAt t lines n 
 
 pub same_found : (t u : Program) (lines rows : List Line) (name : List ℕ) (found : Option ℕ) → t ≡ u → lines ≡ rows → Found t lines name found → Found u rows name found
 same_found t u lines rows name found e f h = subst (λ p. Found p rows name found) e (subst (λ l. Found t l name found) f h)
+
+-- none of the channels up to this one is another input
+pub no_other_further : (t : Program) (name : List ℕ) (n : ℕ) (channel : List ℕ) → ((d : ℕ) → d < n → IsNoOther t name d) → slice_get (channel_names t) n ≡ Some channel
+    → is_other_input name (role_at (network_of t) n) channel ≡ false → (d : ℕ) → d < n + 1 → IsNoOther t name d
+no_other_further t name n channel none at is d below = ⊎_elim
+    (λ under. none d under)
+    (λ over. let same : d ≡ n = omega (arith, below, over) in
+    λ other there. subst (λ c. is_other_input name (role_at (network_of t) d) c ≡ false) (same_Some channel other (sym at ∙ ap (λ k. slice_get (channel_names t) k) (sym same) ∙ there))
+    (subst (λ k. is_other_input name (role_at (network_of t) k) channel ≡ false) (sym same) is))
+    (cases_lt d n)

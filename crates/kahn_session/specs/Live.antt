@@ -2,7 +2,7 @@
 use Rattle.std.specs.Prelude.{◌≡◌, ◌⊎◌, ℕ, ◌<◌, ◌≤◌, Bool, true, false, List, [], map, length, replicate, slice_get, slice_index_or, Option, None, Some, Result, Ok, Err, ◌&&◌, not, nat_lt}
 use Rattle.std.specs.Io.KnownBytes.{Appends}
 use Rattle.std.specs.List.{list_any}
-use Rattle.std.specs.Str.{IsUtf8}
+use Rattle.std.specs.Str.{IsUtf8, bytes_eq}
 use Rattle.kahn_streams.specs.declared.config.Config.{Config}
 use Rattle.kahn_streams.specs.declared.tree.Program.{Program}
 use Rattle.kahn_streams.specs.declared.tree.Role.{Role}
@@ -219,6 +219,18 @@ IsFirstInput t None = (c : ℕ) → c < length (network_of t).channels → is_in
 IsFirstInput t (Some name) =
     (c : ℕ) × (slice_get (channel_names t) c ≡ Some name) × (is_input (role_at (network_of t) c) ≡ true)
     × ((d : ℕ) → d < c → is_input (role_at (network_of t) d) ≡ false)
+
+-- the first input channel of another name has this one, or there is none
+abbrev pub is_other_input : List ℕ → Role → List ℕ → Bool
+is_other_input name r channel = is_input r && not (bytes_eq channel name)
+
+abbrev pub IsNoOther : Program → List ℕ → ℕ → Type 0
+IsNoOther t name c = (channel : List ℕ) → slice_get (channel_names t) c ≡ Some channel → is_other_input name (role_at (network_of t) c) channel ≡ false
+
+abbrev pub IsOtherInput : Program → List ℕ → Option (List ℕ) → Type 0
+IsOtherInput t name None = (c : ℕ) → c < length (network_of t).channels → IsNoOther t name c
+IsOtherInput t name (Some other) = (c : ℕ) × (slice_get (channel_names t) c ≡ Some other)
+    × (is_other_input name (role_at (network_of t) c) other ≡ true) × ((d : ℕ) → d < c → IsNoOther t name d)
 
 -- the text of how the run ended: its verdict, with the ends that are right for the input so far and the bound so far
 abbrev pub IsLastText : HeldRun → Verdict → List ℕ → Type 0

@@ -1,5 +1,5 @@
 -- Believed. What is said of lines of input that aren't taken, or whose parts lack memory (this project's profile).
-use Rattle.std.specs.Prelude.{ℕ, ◌==◌, ◌&&◌, Bool, true, false, not, List, [], ◌∷◌, ◌++◌, Option, None, Some, codes, decimal, if◌then◌else◌}
+use Rattle.std.specs.Prelude.{ℕ, suc, ◌-◌, ◌^◌, ◌==◌, ◌&&◌, ◌||◌, Bool, true, false, not, List, [], ◌∷◌, ◌++◌, Option, None, Some, codes, decimal, if◌then◌else◌, length, nat_le, nat_lt, take}
 use Rattle.std.specs.List.{concat}
 use Rattle.kahn_streams.specs.declared.feeds.FeedFault.{FeedFault}
 use Rattle.kahn_streams.specs.declared.feeds.FeedFault.TheVariants as feed
@@ -30,17 +30,59 @@ is_want take.NoMemory = true
 is_want (take.Feed feed.NoMemory) = true
 is_want f = false
 
--- the line, of the program's file, the number of the line of input and words
-abbrev pub input_line_text : List ℕ → List ℕ → List ℕ → List ℕ
-input_line_text path number words = concat (path ∷ codes ": input line " ∷ number ∷ codes ": " ∷ words ∷ codes "\n" ∷ [])
+-- ---- a part of a line as it is shown
+
+-- a byte of a control character, or one that may begin one, as of U+0080 to U+009F
+abbrev pub is_hidden : ℕ → Bool
+is_hidden b = (nat_lt b 32 || b == 127) || b == 0xC2
+
+-- up to the first such byte; of a longer part 40 bytes, and the rest of the character there
+abbrev pub ends_before : ℕ → ℕ → Bool
+ends_before number b = is_hidden b || (nat_le 40 number && (nat_lt b 128 || nat_le 192 b))
+
+-- how many bytes are shown, where so many stand before
+abbrev pub shown_bytes : ℕ → List ℕ → ℕ
+shown_bytes number [] = 0
+shown_bytes number (b ∷ bs) = if ends_before number b then 0 else suc (shown_bytes (suc number) bs)
+
+abbrev pub before_part : List ℕ → List ℕ
+before_part [] = []
+before_part (b ∷ bs) = codes ": `"
+
+abbrev pub behind_part : List ℕ → ℕ → List ℕ
+behind_part [] shown = []
+behind_part (b ∷ bs) shown = if nat_lt shown (length (b ∷ bs)) then codes "..`" else codes "`"
+
+-- ---- what is said of a line
+
+-- the number of each line of `--at-end`, which no line of the input has
+abbrev pub at_end_number : ℕ
+at_end_number = 2 ^ 64 - 1
 
 -- of number 0 is the line that `--plain` makes of a channel, and want of memory before the first line
 abbrev pub is_of_plain : ℕ → TakeFault → Bool
 is_of_plain number f = number == 0 && not (is_want f)
 
-abbrev pub refusal_line : List ℕ → ℕ → TakeFault → List ℕ
-refusal_line path number f =
-    if is_of_plain number f then concat (path ∷ codes ": --plain: " ∷ take_words f ∷ codes "\n" ∷ []) else input_line_text path (decimal number) (take_words f)
+-- where a line comes from, and its number in the input
+abbrev pub origin : Bool → ℕ → List ℕ
+origin of_plain number = if of_plain then codes ": --plain" else if number == at_end_number then codes ": --at-end" else codes ": input line "
+
+abbrev pub digits : Bool → ℕ → List ℕ
+digits of_plain number = if of_plain || number == at_end_number then [] else decimal number
+
+-- that and words, a part of the line, and more words
+abbrev pub pieces : List ℕ → List ℕ → List ℕ → List ℕ → List ℕ → List ℕ → List ℕ → List ℕ → List ℕ
+pieces path from number words lead part tail more =
+    concat (path ∷ from ∷ number ∷ codes ": " ∷ words ∷ lead ∷ part ∷ tail ∷ more ∷ codes "\n" ∷ [])
+
+abbrev pub said_text : List ℕ → List ℕ → List ℕ → List ℕ → List ℕ → List ℕ → List ℕ
+said_text path from number words part more =
+    pieces path from number words (before_part part) (take (shown_bytes 0 part) part) (behind_part part (shown_bytes 0 part)) more
+
+-- why a line isn't taken, the part of it that is at fault, and what is wanted there
+abbrev pub refusal_line : List ℕ → ℕ → TakeFault → List ℕ → List ℕ → List ℕ
+refusal_line path number f part more =
+    said_text path (origin (is_of_plain number f) number) (digits (is_of_plain number f) number) (take_words f) part more
 
 -- how numbers without a name are taken, where an input channel is named
 abbrev pub hint_text : List ℕ → Option (List ℕ) → List ℕ
@@ -48,8 +90,20 @@ hint_text path None = []
 hint_text path (Some input) = concat (path ∷ codes ": bare numbers are taken with --plain " ∷ input ∷ codes "\n" ∷ [])
 
 -- why the line isn't taken, and how it would be
-abbrev pub refusal_text : List ℕ → ℕ → TakeFault → Option (List ℕ) → List ℕ
-refusal_text path number f hint = refusal_line path number f ++ hint_text path hint
+abbrev pub refusal_text : List ℕ → ℕ → TakeFault → List ℕ → List ℕ → Option (List ℕ) → List ℕ
+refusal_text path number f part more hint = refusal_line path number f part more ++ hint_text path hint
+
+-- no channel has the name of `--plain` for the values that are shown
+abbrev pub unknown_text : List ℕ → List ℕ → List ℕ
+unknown_text path name = said_text path (codes ": --plain") [] (feed_words feed.UnknownName) name []
+
+-- all lines are for one input channel, and none is for another, where there is one
+abbrev pub alone_line : List ℕ → List ℕ → List ℕ → List ℕ
+alone_line path input other = concat (path ∷ codes ": --plain feeds " ∷ input ∷ codes " alone; no line feeds " ∷ other ∷ codes "\n" ∷ [])
+
+abbrev pub alone_text : List ℕ → List ℕ → Option (List ℕ) → List ℕ
+alone_text path input None = []
+alone_text path input (Some other) = alone_line path input other
 
 abbrev pub more_words : ℕ → List ℕ
 more_words count = if count == 1 then codes " line more like it\n" else codes " lines more like it\n"
@@ -63,4 +117,4 @@ abbrev pub waiting_words : List ℕ
 waiting_words = codes "waits for memory"
 
 abbrev pub waiting_text : List ℕ → ℕ → List ℕ
-waiting_text path number = input_line_text path (decimal number) waiting_words
+waiting_text path number = said_text path (origin false number) (digits false number) waiting_words [] []

@@ -7,5 +7,8 @@ mod refusal;
 mod session;
 
 pub use fault::TakeFault;
-pub use refusal::{is_want, take_words, write_more, write_refusal, write_waiting};
+pub use refusal::{
+    AT_END, is_want, take_words, write_alone, write_more, write_refusal, write_unknown,
+    write_waiting,
+};
 pub use session::Session;

@@ -1,15 +1,21 @@
 //! What is said of lines of input that aren't taken.
 
-ghost use Rattle.std.specs.Prelude.{◌≡◌, [], ◌∷◌, option_copied};
+ghost use Rattle.std.specs.Prelude.{◌≡◌, ◌≤◌, [], ◌∷◌, length, option_copied, take};
 ghost use Rattle.std.specs.List.{concat};
 ghost use Rattle.kahn_streams.specs.Written.{Writes};
-ghost use Rattle.kahn_session.specs.Refusals.{alike_text, feed_words, hint_text, input_line_text, is_of_plain, is_want, more_words, refusal_line, refusal_text, take_words, waiting_text, waiting_words};
+ghost use Rattle.kahn_session.specs.Refusals.{alike_text, alone_line, alone_text, behind_part, digits, ends_before, feed_words, hint_text, is_hidden, is_of_plain, is_want, more_words, before_part, origin, pieces, refusal_line, refusal_text, said_text, shown_bytes, take_words, unknown_text, waiting_text, waiting_words};
 
 use crate::fault::TakeFault;
 use itoa::Buffer;
 use kahn_report::{WriteFault, write_line};
 use kahn_streams::FeedFault;
 use std::io::Write;
+
+/// The number of each line of `--at-end`. No line of the input has it.
+pub const AT_END: u64 = u64::MAX;
+
+/// How many bytes of a part of a line are shown, and the rest of a character there.
+const MOST_SHOWN: usize = 40;
 
 /// Why values aren't fed.
 fn feed_words(fault: FeedFault) -> &'static str
@@ -49,25 +55,142 @@ pub fn take_words(fault: TakeFault) -> &'static str
     }
 }
 
-/// Writes the line of a line of input that has a number.
-fn put_numbered<'a, W: Write>(
+/// Whether a byte is of a control character, or may begin one.
+fn is_hidden(byte: u8) -> bool
+    ensures { result ≡ is_hidden byte }
+{
+    byte < 32 || byte == 127 || byte == 0xC2
+}
+
+/// Whether what is shown of a part of a line ends before its byte of that number.
+fn ends_before(number: usize, byte: u8) -> bool
+    ensures { result ≡ ends_before number byte }
+{
+    is_hidden(byte) || (number >= MOST_SHOWN && (byte < 128 || byte >= 192))
+}
+
+/// How many bytes of a part of a line are shown.
+fn shown_bytes(part: &[u8]) -> usize
+    ensures within { result ≤ length part.now }
+    ensures shown { result ≡ shown_bytes 0 part.now }
+{
+    let mut number = 0;
+    let mut rest = part;
+    'bytes: while let Some((byte, behind)) = rest.split_first() {
+        if ends_before(number, *byte) {
+            return number;
+        }
+        number += 1;
+        rest = behind;
+    }
+    number
+}
+
+/// What stands before a part of a line.
+fn before_part(part: &[u8]) -> &'static str
+    ensures { result.now ≡ before_part part.now }
+{
+    if part.is_empty() { "" } else { ": `" }
+}
+
+/// What stands behind so many bytes of a part of a line.
+fn behind_part(part: &[u8], shown: usize) -> &'static str
+    ensures { result.now ≡ behind_part part.now shown }
+{
+    if part.is_empty() {
+        ""
+    } else if shown < part.len() {
+        "..`"
+    } else {
+        "`"
+    }
+}
+
+/// Where a line comes from, up to its number.
+fn origin(of_plain: bool, number: u64) -> &'static str
+    ensures { result.now ≡ origin of_plain number }
+{
+    if of_plain {
+        ": --plain"
+    } else if number == AT_END {
+        ": --at-end"
+    } else {
+        ": input line "
+    }
+}
+
+/// The digits of a number, where the line has one.
+fn digits<'b>(buffer: &'b mut Buffer, of_plain: bool, number: u64) -> &'b str
+    ensures { result.now ≡ digits of_plain number }
+{
+    if of_plain || number == AT_END {
+        ""
+    } else {
+        buffer.format(number)
+    }
+}
+
+/// What is shown of a part of a line.
+fn shown(part: &[u8]) -> &[u8]
+    ensures { result.now ≡ take (shown_bytes 0 part.now) part.now }
+{
+    &part[..shown_bytes(part)]
+}
+
+/// Writes pieces, a colon behind the third.
+fn put_pieces<'a, W: Write>(
     writer: &mut W,
     path: &'a str,
+    at: &'a str,
     number: &'a str,
     words: &'a str,
+    lead: &'a str,
+    part: &'a [u8],
+    tail: &'a str,
+    more: &'a str,
 ) -> Result<(), WriteFault>
-    ensures { Writes (W.contents writer.old) (W.contents writer.new) result (input_line_text path.now number.now words.now) }
+    ensures { Writes (W.contents writer.old) (W.contents writer.new) result (pieces path.now at.now number.now words.now lead.now part.now tail.now more.now) }
 {
     write_line(
         writer,
         &[
             path.as_bytes(),
-            b": input line ",
+            at.as_bytes(),
             number.as_bytes(),
             b": ",
             words.as_bytes(),
+            lead.as_bytes(),
+            part,
+            tail.as_bytes(),
+            more.as_bytes(),
             b"\n",
         ],
+    )
+}
+
+/// Writes what is said of a line: where it comes from, words, a part of it, and more words.
+fn put_said<W: Write>(
+    writer: &mut W,
+    path: &str,
+    origin: &str,
+    number: &str,
+    words: &str,
+    part: &[u8],
+    more: &str,
+) -> Result<(), WriteFault>
+    ensures { Writes (W.contents writer.old) (W.contents writer.new) result (said_text path.now origin.now number.now words.now part.now more.now) }
+{
+    let tail = behind_part(part, shown_bytes(part));
+    put_pieces(
+        writer,
+        path,
+        origin,
+        number,
+        words,
+        before_part(part),
+        shown(part),
+        tail,
+        more,
     )
 }
 
@@ -99,20 +222,22 @@ fn is_of_plain(number: u64, fault: TakeFault) -> bool
     number == 0 && !is_want(fault)
 }
 
-/// Writes why a line isn't taken.
+/// Writes why a line isn't taken, the part of it that is at fault, and what is wanted there.
 fn put_refusal<W: Write>(
     writer: &mut W,
     path: &str,
     number: u64,
     fault: TakeFault,
+    part: &[u8],
+    more: &str,
 ) -> Result<(), WriteFault>
-    ensures { Writes (W.contents writer.old) (W.contents writer.new) result (refusal_line path.now number fault) }
+    ensures { Writes (W.contents writer.old) (W.contents writer.new) result (refusal_line path.now number fault part.now more.now) }
 {
-    if is_of_plain(number, fault) {
-        return put_words(writer, path, ": --plain: ", take_words(fault), "\n");
-    }
+    let of_plain = is_of_plain(number, fault);
     let mut buffer = Buffer::new();
-    put_numbered(writer, path, buffer.format(number), take_words(fault))
+    let digits = digits(&mut buffer, of_plain, number);
+    let origin = origin(of_plain, number);
+    put_said(writer, path, origin, digits, take_words(fault), part, more)
 }
 
 /// Writes how numbers without a name are taken, where an input channel is named.
@@ -132,20 +257,68 @@ fn put_hint<'a, W: Write>(
     }
 }
 
-/// Writes why the line of input of that number, from 1, isn't taken by the program of that file, and flushes; and how it would be,
-/// where an input channel is named. Number 0 stands for what is before the first line, and for a channel that `--plain` names. After a fault of the writer a prefix of
-/// it went out. It takes no memory.
+/// Writes why the line of that number isn't taken by the program of that file, with the part of it that is at fault and what is
+/// wanted there, and flushes; and how it would be, where an input channel is named. Lines of the input are counted from 1; number 0
+/// stands for what is before the first, and for a channel that `--plain` names, and `AT_END` for each line of `--at-end`. After a
+/// fault of the writer a prefix of it went out. It takes no memory.
 pub fn write_refusal<W: Write>(
     writer: &mut W,
     path: &str,
     number: u64,
     fault: TakeFault,
+    part: &[u8],
+    more: &str,
     input: Option<&str>,
 ) -> Result<(), WriteFault>
-    ensures { Writes (W.contents writer.old) (W.contents writer.new) result (refusal_text path.now number fault (option_copied input.entry)) }
+    ensures { Writes (W.contents writer.old) (W.contents writer.new) result (refusal_text path.now number fault part.now more.now (option_copied input.entry)) }
 {
-    put_refusal(writer, path, number, fault)?;
+    put_refusal(writer, path, number, fault, part, more)?;
     put_hint(writer, path, input)
+}
+
+/// Writes that no channel has the name of `--plain` for the values that are shown, and flushes; as `write_refusal` does.
+pub fn write_unknown<W: Write>(writer: &mut W, path: &str, name: &str) -> Result<(), WriteFault>
+    ensures { Writes (W.contents writer.old) (W.contents writer.new) result (unknown_text path.now name.now) }
+{
+    let words = feed_words(FeedFault::UnknownName);
+    put_said(writer, path, ": --plain", "", words, name.as_bytes(), "")
+}
+
+/// Writes that all lines are for one input channel, and none is for another, and flushes; as `write_refusal` does.
+fn put_alone<'a, W: Write>(
+    writer: &mut W,
+    path: &'a str,
+    input: &'a str,
+    other: &'a str,
+) -> Result<(), WriteFault>
+    ensures { Writes (W.contents writer.old) (W.contents writer.new) result (alone_line path.now input.now other.now) }
+{
+    write_line(
+        writer,
+        &[
+            path.as_bytes(),
+            b": --plain feeds ",
+            input.as_bytes(),
+            b" alone; no line feeds ",
+            other.as_bytes(),
+            b"\n",
+        ],
+    )
+}
+
+/// Writes it where there is another input channel.
+pub fn write_alone<W: Write>(
+    writer: &mut W,
+    path: &str,
+    input: &str,
+    other: Option<&str>,
+) -> Result<(), WriteFault>
+    ensures { Writes (W.contents writer.old) (W.contents writer.new) result (alone_text path.now input.now (option_copied other.entry)) }
+{
+    match other {
+        None => Ok(()),
+        Some(other) => put_alone(writer, path, input, other),
+    }
 }
 
 /// What is said of so many lines.
@@ -188,5 +361,7 @@ pub fn write_waiting<W: Write>(writer: &mut W, path: &str, number: u64) -> Resul
     ensures { Writes (W.contents writer.old) (W.contents writer.new) result (waiting_text path.now number) }
 {
     let mut buffer = Buffer::new();
-    put_numbered(writer, path, buffer.format(number), waiting_words())
+    let digits = digits(&mut buffer, false, number);
+    let origin = origin(false, number);
+    put_said(writer, path, origin, digits, waiting_words(), b"", "")
 }

@@ -7,7 +7,7 @@ ghost use Rattle.kahn_pool.specs.Flows.{Flowing, flow_lines};
 ghost use Rattle.kahn_report.specs.Formats.{IsReadLine, content, channel_name};
 ghost use Rattle.kahn_report.specs.News.{news_text, plain_text};
 ghost use Rattle.kahn_streams.specs.Written.{Writes};
-ghost use Rattle.kahn_session.specs.Live.{HasOpened, IsClosed, IsDeaf, IsFaulty, IsFedBy, IsFirstInput, HasVerdict, IsNamedAt, IsNamedLine, IsStreamOf, IsStuck, IsTakenLine, IsText, IsUnfedBy, IsUnopened, breaks, form_text, is_faulted, is_finished, is_input, is_stuck, is_waiting, waits_on_input, wants_input};
+ghost use Rattle.kahn_session.specs.Live.{HasOpened, IsClosed, IsDeaf, IsFaulty, IsFedBy, IsFirstInput, IsOtherInput, HasVerdict, IsNamedAt, IsNamedLine, IsStreamOf, IsStuck, IsTakenLine, IsText, IsUnfedBy, IsUnopened, breaks, form_text, is_faulted, is_finished, is_input, is_other_input, is_stuck, is_waiting, waits_on_input, wants_input};
 ghost use Rattle.kahn_session.specs.inner.Shown.{OutBegins, news_of};
 
 use crate::fault::TakeFault;
@@ -233,6 +233,26 @@ fn first_input(network: &Network) -> Option<&str>
     None
 }
 
+/// Whether a channel of that role and name is another input than the one of this name.
+fn is_other_input(role: Role, channel: &str, name: &str) -> bool
+    ensures { result ≡ is_other_input name.now role channel.now }
+{
+    is_input(role) && channel != name
+}
+
+/// The name of the first input channel of another name.
+fn other_input<'t>(network: &'t Network, name: &str) -> Option<&'t str>
+    ensures { IsOtherInput network.now name.now (option_copied result) }
+{
+    for number in 0..network.channels() {
+        let channel = network.channel(number);
+        if is_other_input(channel.role, channel.name, name) {
+            return Some(channel.name);
+        }
+    }
+    None
+}
+
 /// Whether an instance that ended so waits on an input channel.
 fn wants_input(network: &Network, outcome: Outcome) -> bool
     ensures { result ≡ wants_input (network_of network.now) outcome }
@@ -402,6 +422,20 @@ impl<'n> Session<'n> {
         ensures { IsFirstInput self.now.flow.run.network (option_copied result) }
     {
         first_input(self.network)
+    }
+
+    /// The name of the first input channel that hasn't this one, where there is one.
+    pub fn other_input(&self, name: &str) -> Option<&str>
+        ensures { IsOtherInput self.now.flow.run.network name.now (option_copied result) }
+    {
+        other_input(self.network, name)
+    }
+
+    /// The network that is run.
+    pub fn network(&self) -> &Network
+        ensures { result.now ≡ self.now.flow.run.network }
+    {
+        self.network
     }
 
     /// Whether a write failed. Then the session takes no further line, and it is never settled.

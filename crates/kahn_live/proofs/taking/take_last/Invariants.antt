@@ -12,5 +12,5 @@ invariant-loop-line g l =
     let all = map string_bytes l.lines in
     let rest = map string_bytes (drop l.line-index l.lines) in
     (l.stage.session.broken ≡ false)
-    × ((p : Point) → AreFed l.number rest new p → AreFed l.first all old p)
-    × ((p : Point) (fault : Fault) → IsCutOff l.number rest new p fault → IsCutOff l.first all old p fault)
+    × ((p : Point) → AreFed rest new p → AreFed all old p)
+    × ((p : Point) (fault : Fault) → IsCutOff rest new p fault → IsCutOff all old p fault)

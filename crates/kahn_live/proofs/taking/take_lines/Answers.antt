@@ -1,5 +1,5 @@
 use Rattle.std.specs.Prelude.{option_copied}
-use Rattle.std.proofs.Common.{◌≡◌, inl, inr, false, true, ℕ, suc, arith, refl, rules, subst}
+use Rattle.std.proofs.Common.{◌≡◌, inl, inr, false, true, ℕ, suc, arith, rules, subst, sym}
 use Rattle.std.proofs.lemmas.Result.{err_from_is_err_and}
 use Rattle.std.specs.Io.Buffered.{reader_remaining}
 use Rattle.kahn_live.specs.Course.{IsStoppedAt, point_of}
@@ -40,14 +40,14 @@ returns-clause-met g c =
     let left = reader_remaining g.I.Read.remaining c.loop-number.reader in
     let last = point_of g.W.Write.contents g.E.Write.contents c.loop-number.stage in
     let end : 18446744073709551615 ≡ suc known.0 = omega (arith, known.1, c.loop-number-test.false, c.loop-number.auto.number, c.loop-number.auto.number-end) in
-    (known.0, left, last, known.2, end, unmoved last, inr (inr refl))
+    (known.0, left, last, known.2, unmoved last, inr (inr (sym end)))
 
 pub returns-then-is_over-clause-met : goal.returns-then-is_over-clause-met
 returns-then-is_over-clause-met g c =
     let known = c.loop-number.invariant.1 in
     let left = reader_remaining g.I.Read.remaining c.loop-number.reader in
     let last = point_of g.W.Write.contents g.E.Write.contents c.loop-number.stage in
-    (known.0, left, last, known.2, known.1, unmoved last, inr (inl c.if-is_over.ensures))
+    (known.0, left, last, known.2, unmoved last, inr (inl c.if-is_over.ensures))
 
 pub returns-then-not-branch-clause-met : goal.returns-then-not-branch-clause-met
 returns-then-not-branch-clause-met g c =
@@ -58,4 +58,4 @@ returns-then-not-branch-clause-met g c =
     let new = point_of g.W.Write.contents g.E.Write.contents c.take_next.new.stage in
     let none : c.in_ok-take_next.field-0 ≡ false = search rules in
     let (ended, sent) = next_none (option_copied c.args.input) c.loop-number.number left rest last new c.in_ok-take_next.field-0 none c.in_ok-take_next.ensures.met in
-    (known.0, left, last, known.2, known.1, sent, inl ended)
+    (known.0, left, last, known.2, sent, inl ended)

@@ -11,7 +11,7 @@ returns g c =
     let before = g.E.Write.contents old.errors in
     let after = g.E.Write.contents c.write_refusal-told.new.writer in
     let told = c.write_refusal-told.result in
-    let text = λ (path : List ℕ). refusal_text path c.args.number c.args.fault (option_copied c.args.input) in
+    let text = λ (path : List ℕ). refusal_text path c.args.number c.args.why c.args.part.word.now c.args.part.words.now (option_copied c.args.hint) in
     let wrote = subst (λ (path : List ℕ). Writes before after told (text path)) c.as_str.ensures.value c.write_refusal-told.ensures in
     let put = put_as (text (string_bytes old.path)) before after old.failed c.is_err.result told c.is_err.ensures.value wrote in
     record { front = put.0; whole = put.1; keep_going = refl; refused = either old.refused (not old.keep_going); path = refl; complaints = refl }

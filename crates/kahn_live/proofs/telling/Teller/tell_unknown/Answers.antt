@@ -1,0 +1,16 @@
+use Rattle.std.proofs.Common.{List, ℕ, refl, subst}
+use Rattle.std.specs.Prelude.{string_bytes}
+use Rattle.kahn_streams.specs.Written.{Writes}
+use Rattle.kahn_session.specs.Refusals.{unknown_text}
+use Rattle.kahn_live.proofs.Meeting.{put_as}
+use Rattle.kahn_live.proofs.telling.Teller.tell_unknown.Goals as goal
+
+pub returns : goal.returns
+returns g c =
+    let old = c.args.self.now in
+    let before = g.E.Write.contents old.errors in
+    let after = g.E.Write.contents c.write_unknown-told.new.writer in
+    let told = c.write_unknown-told.result in
+    let wrote = subst (λ (path : List ℕ). Writes before after told (unknown_text path c.args.name.now)) c.as_str.ensures.value c.write_unknown-told.ensures in
+    let put = put_as (unknown_text (string_bytes old.path) c.args.name.now) before after old.failed c.is_err.result told c.is_err.ensures.value wrote in
+    record { front = put.0; whole = put.1; keep_going = refl; refused = refl; path = refl; complaints = refl }
