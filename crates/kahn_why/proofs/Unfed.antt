@@ -1,10 +1,15 @@
--- Why nothing is told of an input text.
-use Rattle.std.proofs.Common.{ℕ, List, Option, Err, refl}
+-- What is told of an input text, or why nothing is.
+use Rattle.std.proofs.Common.{ℕ, List, Option, Some, Result, Err, inl, inr, refl, string_bytes, subst, sym}
+use Rattle.std.specs.declared.alloc.Global.{Global}
+use Rattle.std.specs.declared.string.String.{String}
 use Rattle.kahn_report.specs.Work.{IsUnchecked}
 use Rattle.kahn_report.specs.declared.input.TextFault.{TextFault}
 use Rattle.kahn_report.specs.declared.working.WorkFault.{WorkFault}
 use Rattle.kahn_report.specs.declared.working.WorkFault.TheVariants.{Syntax, Check, Text, Run, Write}
-use Rattle.kahn_why.specs.Telling.{HasToldInput}
+use Rattle.kahn_why.specs.Telling.{HasToldInput, IsNoteFor}
+use Rattle.kahn_why.specs.inner.Told.{HasWritten}
+use Rattle.kahn_why.specs.declared.explaining.Came.{Came}
+use Rattle.kahn_why.specs.declared.explaining.Came.TheVariants.{Refused}
 
 pub unfed : (path program text : List ℕ) (fault : TextFault) (written : Option (List ℕ)) (f : WorkFault) → IsUnchecked program f →
     HasToldInput path program text fault written written (Err f)
@@ -13,3 +18,8 @@ unfed path program text fault written (Check f) h = (h, refl)
 unfed path program text fault written (Text f) h = absurd h
 unfed path program text fault written (Run f) h = absurd h
 unfed path program text fault written (Write f) h = absurd h
+
+pub input_out : (path program text : List ℕ) (fault : TextFault) (note : String Global) (old new : Option (List ℕ)) (r : Result Came WorkFault) → IsNoteFor path program text fault (Some note)
+    → HasWritten (string_bytes note) Refused old new r → HasToldInput path program text fault old new r
+input_out path program text fault note old new r why (inl (is, out)) = subst (HasToldInput path program text fault old new) (sym is) (note, why, out)
+input_out path program text fault note old new r why (inr (f, is, out)) = subst (HasToldInput path program text fault old new) (sym is) (note, why, out)

@@ -37,7 +37,7 @@ struct Admitted {
 }
 
 /// Writes two texts, one behind the other, and answers what that came to.
-fn write_both<W: Write>(
+pub(crate) fn write_both<W: Write>(
     first: &str,
     second: &str,
     came: Came,

@@ -2,10 +2,10 @@
 
 ghost use Rattle.kahn_why.specs.Telling.{HasToldInput};
 
-use crate::explaining::Came;
+use crate::explaining::{Came, write_both};
 use kahn_inputs::input_note;
 use kahn_pool::RunFault;
-use kahn_report::{TextFault, WorkFault, checked, write_line};
+use kahn_report::{TextFault, WorkFault, checked};
 use kahn_streams::NoMemory;
 use std::alloc::Global;
 use std::io::Write;
@@ -26,10 +26,7 @@ pub fn refuse_input<W: Write>(
         Err(fault) => return Err(fault),
     };
     match input_note(alloc, path, &network, text, fault) {
-        Ok(Some(note)) => match write_line(writer, &[note.as_bytes()]) {
-            Ok(()) => Ok(Came::Refused),
-            Err(fault) => Err(WorkFault::Write(fault)),
-        },
+        Ok(Some(note)) => write_both("", note.as_str(), Came::Refused, writer),
         Ok(None) => Err(WorkFault::Text(fault)),
         Err(NoMemory) => Err(WorkFault::Run(RunFault::NoMemory)),
     }
