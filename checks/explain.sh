@@ -129,7 +129,7 @@ channels=$(seq -s ', C' 0 255)
 rounds=$(for k in $(seq 0 254); do printf 'copy(C%s, C%s) par ' "$k" $((k + 1)); done)
 network long "integer channel C$channels;" "$rounds copy(C255, C0)"
 "$explain" long > output 2> error
-if [ $? = 7 ] && [ "$(grep -c "as 1 copy $dead\$" output)" = 256 ]; then pass; else fail "a ring of 256: $(head -c 300 error)"; fi
+if [ $? = 7 ] && [ "$(grep -c "as 1 copy $dead\$" output)" = 255 ]; then pass; else fail "a ring of 256: $(head -c 300 error)"; fi
 
 # tables of all histories
 gives "a table of one channel" 0 'place,W
@@ -156,7 +156,7 @@ begin
   process mark(integer in U; logical out W; integer out X);
   begin integer I; repeat begin I := wait(U); print(I mod 2 = 1); send I mod 2 = 1 on W; send I on X end end;
   process tell(logical in U, V; logical out W);
-  begin integer N; repeat begin if wait(U) then print(N); N := N - 1; send wait(V) on W end end;
+  begin integer N; repeat begin N := N - 1; if wait(U) then print(N + 1) else; send wait(V) on W end end;
   mark(A, ODD, B) par tell(ODD, NONE, LAST)
 end
 P

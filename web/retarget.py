@@ -19,7 +19,8 @@ text = re.sub(r'^target datalayout = .*', f'target datalayout = "{LAYOUT}"', tex
 text = re.sub(r'^target triple = .*', 'target triple = "wasm32-unknown-unknown"', text, flags=re.M)
 text = re.sub(r' "(probe-stack|stack-probe-size|target-cpu|target-features|frame-pointer)"="[^"]*"', "", text)
 
-WIDENED = r"@\S+ = private constant <\{ ptr, \[4 x i8\], \[\d+ x i8\] \}> <\{ ptr getelementptr \([^()]*\), \[4 x i8\] zeroinitializer, \["
+PAD = "[4 x i8]"
+INTO = r"ptr getelementptr \([^()]*\)"
 SIZES = {"i1": 1, "i8": 1, "i16": 2, "i32": 4, "i64": 8, "ptr": 8}
 
 
@@ -36,13 +37,20 @@ def parts(found):
     return "\n".join(lines)
 
 
+def widened(found):
+    name, kinds, values = found.groups()
+    kinds = kinds.replace("ptr", f"ptr, {PAD}")
+    values = re.sub(INTO, lambda pointer: f"{pointer[0]}, {PAD} zeroinitializer", values)
+    return f"{name} = private constant <{{ {kinds} }}> <{{ {values} }}>"
+
+
 text = re.sub(r"= alloca ptr, align 8", "= alloca i64, align 8", text)
 text = re.sub(r"^  (%\S+) = load \{ ([^}]*\bptr\b[^}]*) \}, ptr (%\S+), align \d+$", parts, text, flags=re.M)
 text = re.sub(r"^  (%\S+) = ptrtoaddr ptr (%\S+) to i64$", r"  \1.n = ptrtoaddr ptr \2 to i32\n  \1 = zext i32 \1.n to i64", text, flags=re.M)
-# A constant that begins with a pointer into itself.
-wide = r"\1 = private constant <{ ptr, [4 x i8], \2 }> <{ ptr \3, [4 x i8] zeroinitializer, \2 \4 }>"
-text = re.sub(r"^(@\S+) = private constant <\{ ptr, (\[\d+ x i8\]) \}> <\{ ptr (getelementptr \([^()]*\)), \2 ([^\n]*) \}>", wide, text, flags=re.M)
-for word in (r"load \{[^}]*\bptr\b", r"store \{[^}]*\bptr\b", r"alloca [^i\[\n][^\n]*", rf"^(?!{WIDENED})@[^\n]*\bptr\b[^\n]*"):
+# A constant with pointers into itself.
+text = re.sub(r"^(@\S+) = private constant <\{ ((?:ptr|\[\d+ x i8\]|, )*ptr(?:ptr|\[\d+ x i8\]|, )*) \}> <\{ ([^\n]*) \}>", widened, text, flags=re.M)
+narrow = rf"\bptr\b(?!, {re.escape(PAD)}| getelementptr \([^()]*\), {re.escape(PAD)} zeroinitializer| @)"
+for word in (r"load \{[^}]*\bptr\b", r"store \{[^}]*\bptr\b", r"alloca [^i\[\n][^\n]*", rf"^@[^\n]*{narrow}[^\n]*"):
     if found := re.search(word, text, re.M):
         sys.exit(f"retarget.py: no rule for {found[0]}")
 open(write, "w", encoding="utf-8").write(text)
