@@ -88,7 +88,7 @@ gives "an input of one value" 0 "1 copy waits on B at 2:64 from 2 copy, as 2 cop
 2 copy waits on A at 2:64, an input, of which the one value is taken
 finished 8" '' input --input <(echo 'A: 1')
 gives "an empty input" 0 "1 copy waits on B at 2:64 from 2 copy, as 2 copy waits on A, an input
-2 copy waits on A at 2:64, an input, to which nothing came
+2 copy waits on A at 2:64, an input, to which nothing came: --input FILE brings values
 finished 2" '' input
 cat > places << 'P'
 begin
@@ -104,9 +104,9 @@ begin
   two(A, B) par three(C) par four(E, D)
 end
 P
-gives "waits at several places" 0 "1 two waits on A at 3:63 or 3:84, an input, to which nothing came
-2 three waits on C at 5:26 or 5:53 or 5:72, an input, to which nothing came
-3 four waits on E at 9:40 or 3 places more, an input, to which nothing came
+gives "waits at several places" 0 "1 two waits on A at 3:63 or 3:84, an input, to which nothing came: --input FILE brings values
+2 three waits on C at 5:26 or 5:53 or 5:72, an input, to which nothing came: --input FILE brings values
+3 four waits on E at 9:40 or 3 places more, an input, to which nothing came: --input FILE brings values
 finished 4" '' places --input <(echo 'D: true')
 network fault 'integer channel A, B; integer output channel W;' 'copy(B, W) par divide(A, B) par count(A, 3)'
 gives "a fault" 8 "1 copy waits on B at 2:64 from 2 divide, as 2 divide has a fault: for ever
@@ -228,7 +228,7 @@ for report in "$top"/examples/*.report; do
   fi
   "$explain" "$top/examples/$name.kahn" --report "$report" > other 2> error < /dev/null
   # a report says of no input how many values it had
-  if [ $? = "$status" ] && { [ "$status" = 3 ] || sed -E 's/, (of which .* taken|to which nothing came)$//' output | cmp -s - other; }; then
+  if [ $? = "$status" ] && { [ "$status" = 3 ] || sed -E 's/, (of which .* taken|to which nothing came: --input FILE brings values)$//' output | cmp -s - other; }; then
     pass
   else
     fail "examples/$name from its report: $(head -c 600 other), $(head -c 300 error)"

@@ -100,7 +100,7 @@ def cause(checked, ends, p):
 
 def taken(count):
     """How many values there were on an input, all of which are taken."""
-    return [", to which nothing came", ", of which the one value is taken"][count] if count < 2 else f", of which all {count} values are taken"
+    return [", to which nothing came: --input FILE brings values", ", of which the one value is taken"][count] if count < 2 else f", of which all {count} values are taken"
 
 
 def waits_in(part, name):

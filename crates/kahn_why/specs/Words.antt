@@ -49,7 +49,7 @@ abbrev pub all_taken : ℕ → List ℕ
 all_taken n = concat (codes ", of which all " ∷ decimal n ∷ codes " values are taken" ∷ [])
 
 abbrev pub taken_words : ℕ → List ℕ
-taken_words zero = codes ", to which nothing came"
+taken_words zero = codes ", to which nothing came: --input FILE brings values"
 taken_words (suc zero) = codes ", of which the one value is taken"
 taken_words (suc (suc n)) = all_taken (suc (suc n))
 

@@ -41,7 +41,7 @@ fn add_count(text: &mut String, count: usize) -> Result<(), AllocError>
     ensures { IfOk result (λ _. string_bytes text.new ≡ string_bytes text.old ++ taken_words count) }
 {
     if count == 0 {
-        return text.push_str(", to which nothing came");
+        return text.push_str(", to which nothing came: --input FILE brings values");
     }
     if count == 1 {
         return text.push_str(", of which the one value is taken");
