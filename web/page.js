@@ -60,8 +60,7 @@ function goTo(place) {
 const STATES = ["finished", "program or input refused", "command line refused", "stopped by its bound", "out of memory", "not read or written", "refused"];
 
 // The words of kahn_explain, for whoever has a field in place of an option.
-const whyOf = (reasons) =>
-  new TextDecoder().decode(reasons).replace(/^--bound N with a greater N lets/m, "A greater bound lets").replaceAll(": --input FILE brings values", "");
+const whyOf = (reasons) => new TextDecoder().decode(reasons).replace(/^--bound N with a greater N lets/m, "A greater bound lets");
 
 function show({ status, report, picture, reasons, time }, program) {
   const text = new TextDecoder().decode(report), why = whyOf(reasons);
