@@ -12,3 +12,7 @@ pub record Waiting : Type 0 where
   pub taken : ℕ
   pub waiting : ℕ
   pub spare : ℕ
+
+-- so many of its tokens were taken, so many wait, and for so many more there is room
+abbrev pub waiting_in : Program → Lists → ℕ → ℕ → ℕ → ℕ → Waiting
+waiting_in network input channel taken waiting spare = record { network = network; input = input; channel = channel; taken = taken; waiting = waiting; spare = spare }

@@ -31,14 +31,14 @@ impl<A: Allocator> Model for Queue<A> {
     ghost use Rattle.std.specs.VecDeque.{deque_len, deque_capacity};
     ghost use Rattle.kahn_streams.specs.declared.value.Line.TheVariants.{Channel};
     ghost use Rattle.kahn_streams.specs.Tokens.{Follow};
-    ghost use Rattle.kahn_code.specs.Queues.{Waiting};
+    ghost use Rattle.kahn_code.specs.Queues.{Waiting, waiting_in};
     ghost use Rattle.kahn_code.specs.inner.Begins.{AllBegin};
 
     ghost Value = { Waiting };
 
     ghost coded = { Prim.hlevel (codes, action.the_row.coded, form.the_row.coded) };
 
-    ghost view = { λ q. record { network = q.network.value; input = q.input.value; channel = q.channel; taken = q.taken; waiting = length q.tokens.items; spare = deque_capacity q.tokens - deque_len q.tokens } };
+    ghost view = { λ q. waiting_in q.network.value q.input.value q.channel q.taken (length q.tokens.items) (deque_capacity q.tokens - deque_len q.tokens) };
 
     ghost invariant = { λ q. Follow (Channel q.channel) q.taken q.tokens.items × AllBegin q.network.value q.input.value q.tokens.items };
 }
