@@ -93,7 +93,7 @@ fn run_task<L: Ledger>(
     ensures spent { task.new.standing ≡ IsGoing → (task.new.work.cell.events ≡ task.old.work.cell.events + drawn) ⊎ (seat.new.seat.me.0.seen ≡ 2) }
 {
     let before = task.events();
-    let pause = task.run(run.code, run.network, run.input, drawn, steps);
+    let pause = task.run(run.code, drawn, steps, run.network, run.input);
     let flushed = task.flush();
     heed(run, seat, hints, pause, flushed);
     publish_all(run, seat, hints, task, p);

@@ -1,8 +1,7 @@
 -- Ends of an instance's channels, one of which changes.
-use Rattle.std.proofs.Common.{arith, ◌≡◌, ◌⊎◌, inl, inr, ⊎_elim, ℕ, zero, suc, ◌<◌, ◌≤◌, List, [], ◌∷◌, ◌++◌, drop, length, take, refl, sym, ap, ◌∙◌, subst, true, false, Some, slice_set, slice_index_or, le_of_suc-le-suc}
+use Rattle.std.proofs.Common.{arith, ◌≡◌, ◌⊎◌, inl, inr, ⊎_elim, ℕ, zero, suc, ◌<◌, ◌≤◌, List, [], ◌∷◌, length, refl, sym, ap, ◌∙◌, subst, true, false, Some, slice_set, slice_index_or, le_of_suc-le-suc}
 use Rattle.std.proofs.lemmas.Bool.{cases_eq, cases_lt}
-use Rattle.std.proofs.lemmas.List.{length-set, get_or_default, get_or_past, get_or-set_same, get_or-set_other, take-append-le}
-use Rattle.std.proofs.Math.Seq.{take-length}
+use Rattle.std.proofs.lemmas.List.{length-set, get_or_default, get_or_past, get_or-set_same, get_or-set_other}
 use Rattle.kahn_streams.specs.declared.tree.Program.{Program}
 use Rattle.kahn_streams.specs.Network.{Actual, Reads, Writes, Hands, network_of, instance_at, actual_at, role_at}
 use Rattle.kahn_streams.proofs.Sourced.{handed_within}
@@ -167,7 +166,3 @@ within_reads es q r = by (past_none es q)
 
 pub stayed_self : (e : End) → HasStayed e e
 stayed_self e = record { same = same_self e; next = refl; flushed = refl; ready = λ r. r }
-
--- a list of which all was lent, and as many came back
-pub lent_whole : (n : ℕ) (new old : List End) → n ≡ length old → length new ≡ length old → take n (new ++ drop (length new) old) ≡ new
-lent_whole n new old e f = take-append-le n new (drop (length new) old) (omega (arith, e, f)) ∙ ap (λ k. take k new) (e ∙ sym f) ∙ take-length new

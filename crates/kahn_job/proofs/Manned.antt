@@ -2,7 +2,7 @@
 use Rattle.std.proofs.Common.{arith, ◌≡◌, ⊎_elim, ◌<◌, List, length, sym, ◌∙◌, subst}
 use Rattle.kahn_streams.specs.Network.{network_of, instance_at, actual_at}
 use Rattle.kahn_code.specs.Seats.{Seat}
-use Rattle.kahn_code.specs.Told.{Told, IsAt, IsSameProcess, seat_of}
+use Rattle.kahn_code.specs.Told.{Told, IsAt, IsSameProcess, IsStill, seat_of}
 use Rattle.kahn_job.specs.inner.Ends.{End}
 use Rattle.kahn_job.specs.inner.Berths.{AreFlushed, AreServed, HaveFlushed, end_at}
 use Rattle.kahn_job.specs.inner.Works.{Work, IsDelivered, IsJob}
@@ -17,6 +17,22 @@ ran w c s es j names is served at = record {
   here = subst (λ n. n < length (network_of c.network).instances) (sym names.2) (subst (λ t. w.cell.instance < length (network_of t).instances) (sym names.0) j.here);
   served = subst (λ k. seat_served k es) is served;
   at = at;
+}
+
+-- a cell that did no event is the same
+pub same_cell : (c d : Told) → IsSameProcess c d → d.events ≡ c.events → IsStill c d → d ≡ c
+same_cell c d n e s = λ i. record {
+  network = n.0 i;
+  input = n.1 i;
+  instance = n.2 i;
+  watch = n.3 i;
+  events = e i;
+  taken = s.0 i;
+  sent = s.1 i;
+  kept = s.2 i;
+  printed = s.3 i;
+  spare = s.4 i;
+  print_spare = s.5 i;
 }
 
 module _ (w : Work) (es : List End) (j : IsJob w) (h : HaveFlushed w.ends es) where

@@ -15,8 +15,8 @@ pub(crate) struct Ends<'a> {
     pub(crate) network: &'a Network,
     pub(crate) input: &'a Input,
     pub(crate) instance: usize,
-    pub(crate) ports: &'a mut [Port],
-    ghost served: { AreServed network.now input.now instance ports.now } by { Prim.hlevel (props, Serves-prop) },
+    pub(crate) ports: &'a mut Vec<Port>,
+    ghost served: { AreServed network.now input.now instance ports.now.items } by { Prim.hlevel (props, Serves-prop) },
 }
 
 impl<'a> Ports for Ends<'a> {
@@ -26,22 +26,22 @@ impl<'a> Ports for Ends<'a> {
 
     ghost seat = { λ s. record { network = s.network.now; input = s.input.now; instance = s.instance } };
 
-    ghost next = { λ s q. (end_at s.ports.now q).next };
+    ghost next = { λ s q. (end_at s.ports.now.items q).next };
 
     ghost others = { λ s p q. 0 };
 
     // also which borrow it is that they are lent from
     ghost Identity = { ℕ × List Identity };
 
-    ghost which = { λ s. (s.ports.ghost_name, identities s.ports.now) };
+    ghost which = { λ s. (s.ports.ghost_name, identities s.ports.now.items) };
 
-    ghost delivered = { λ s q. (end_at s.ports.now q).flushed };
+    ghost delivered = { λ s q. (end_at s.ports.now.items q).flushed };
 
-    ghost is_ready = { λ s q. IsReady (end_at s.ports.now q) };
+    ghost is_ready = { λ s q. IsReady (end_at s.ports.now.items q) };
 
-    ghost is_dry = { λ s q. IsDry (end_at s.ports.now q) };
+    ghost is_dry = { λ s q. IsDry (end_at s.ports.now.items q) };
 
-    ghost has_room = { λ s q. HasRoom (end_at s.ports.now q) };
+    ghost has_room = { λ s q. HasRoom (end_at s.ports.now.items q) };
 
     fn ready(&mut self, parameter: usize, _channel: usize) -> bool {
         let (network, input) = (self.network, self.input);

@@ -4,8 +4,8 @@ ghost use Rattle.std.specs.Prelude.{◌≡◌, ℕ, ◌+◌, ◌*◌, ◌^◌, �
 ghost use Rattle.kahn_streams.specs.Network.{network_of, instance_at};
 ghost use Rattle.kahn_code.specs.Seats.{seat_code};
 ghost use Rattle.kahn_code.specs.Standing.{count};
-ghost use Rattle.kahn_code.specs.Told.{AreCounts, IsSameProcess, IsStill, seat_of};
-ghost use Rattle.kahn_job.specs.inner.Berths.{HaveAdvanced, HaveFlushed, IsWithinInput, end_at};
+ghost use Rattle.kahn_code.specs.Told.{AreCounts, seat_of};
+ghost use Rattle.kahn_job.specs.inner.Berths.{HaveFlushed, IsWithinInput, end_at};
 ghost use Rattle.kahn_job.specs.inner.Idles.{CanGoOn};
 ghost use Rattle.kahn_job.specs.inner.Tasks.{Continues, IsTrueOf, standing_after, woken_task};
 ghost use Rattle.kahn_job.specs.inner.Works.{HasPaused, IsDelivered, IsJob, width_of};
@@ -58,38 +58,6 @@ fn sent_into(cell: &Cell, mut numbers: Vec<u64>) -> Vec<u64>
     numbers
 }
 
-// Runs a cell for at most so many events, with the ends of its channels.
-fn run_cell<L: Ledger>(
-    cell: &mut Cell,
-    ports: &mut [Port],
-    instance: usize,
-    code: &Code,
-    network: &Network,
-    input: &Input,
-    quantum: u64,
-    steps: &mut Steps<L>,
-) -> Pause
-    requires code { code.now.network.value ≡ cell.old.network }
-    requires lent { (network.now ≡ cell.old.network) × (input.now ≡ cell.old.input) × (instance ≡ cell.old.instance) }
-    requires job { IsJob (record { cell = cell.old; ends = ports.old }) }
-    requires events { cell.old.events + quantum < 2 ^ 48 }
-    ensures names { IsSameProcess cell.old cell.new }
-    ensures job { IsJob (record { cell = cell.new; ends = ports.new }) }
-    ensures paused { HasPaused (record { cell = cell.old; ends = ports.old }) (record { cell = cell.new; ends = ports.new }) quantum result }
-    ensures events { (cell.old.events ≤ cell.new.events) × (cell.new.events ≤ cell.old.events + quantum) }
-    ensures still { cell.new.events ≡ cell.old.events → IsStill cell.old cell.new }
-    ensures ends { HaveAdvanced ports.old ports.new }
-    ensures cost { steps.new ≤ steps.old + (quantum + 1) * length (seat_code (seat_of cell.old)) }
-{
-    let mut ends = Ends {
-        network,
-        input,
-        instance,
-        ports,
-    };
-    cell.run(code, quantum, &mut ends, steps)
-}
-
 impl Task {
     /// The task of an idle job that goes on with an input for which its ends have settled. All that it sent counts as
     /// published. It takes no memory.
@@ -128,10 +96,10 @@ impl Task {
     pub fn run<L: Ledger>(
         &mut self,
         code: &Code,
-        network: &Network,
-        input: &Input,
         quantum: u64,
         steps: &mut Steps<L>,
+        network: &Network,
+        input: &Input,
     ) -> Pause
         requires code { code.now.network.value ≡ self.old.work.cell.network }
         requires lent { (network.now ≡ self.old.work.cell.network) × (input.now ≡ self.old.work.cell.input) }
@@ -144,9 +112,13 @@ impl Task {
         // How many instructions were executed.
         ensures cost { steps.new ≤ steps.old + (quantum + 1) * length (seat_code (seat_of self.old.work.cell)) }
     {
-        let instance = self.instance;
-        let (cell, ports) = (&mut self.cell, &mut self.ports);
-        let pause = run_cell(cell, ports, instance, code, network, input, quantum, steps);
+        let mut ends = Ends {
+            network,
+            input,
+            instance: self.instance,
+            ports: &mut self.ports,
+        };
+        let pause = self.cell.run(code, quantum, &mut ends, steps);
         self.standing = Standing::after(pause);
         pause
     }

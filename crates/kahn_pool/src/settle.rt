@@ -42,7 +42,7 @@ fn ask<L: Ledger>(
     requires lent { IsLentTo code.now.network.value network.now input.now task.old }
     ensures { SettlesTo task.old task.new }
 {
-    let _pause = task.run(code, network, input, 0, steps);
+    let _pause = task.run(code, 0, steps, network, input);
     let _parameters = task.parameters();
     fed(task);
 }

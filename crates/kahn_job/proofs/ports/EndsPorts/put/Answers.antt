@@ -1,4 +1,5 @@
-use Rattle.std.proofs.Common.{ap}
+use Rattle.std.proofs.Common.{ap, subst}
+use Rattle.kahn_job.specs.inner.Ends.{IsSame}
 use Rattle.kahn_job.proofs.Berthed.{identities_written}
 use Rattle.kahn_job.proofs.ports.EndsPorts.put.Goals as goal
 
@@ -6,5 +7,5 @@ pub returns-clause-which : goal.returns-clause-which
 returns-clause-which c =
     let s = c.args.self.now in
     ap (λ i. (s.ports.ghost_name, i))
-    (identities_written s.network.now s.input.now s.instance s.ports.now s.served c.args.parameter c.index-ports-parameter.result c.put.new.self c.put.ensures.same
+    (identities_written s.network.now s.input.now s.instance s.ports.now.items s.served c.args.parameter c.index_mut.result.now c.put.new.self (subst (λ x. IsSame x c.put.new.self) c.index_mut.ensures.value c.put.ensures.same)
     c.args._channel c.requires.writes.0)
