@@ -9,7 +9,8 @@ use Rattle.kahn_streams.specs.declared.tree.Statement.{Statement}
 use Rattle.kahn_streams.specs.declared.value.Value.{Value}
 use Rattle.kahn_streams.specs.declared.tree.Form.TheBlock.{items-the_row-Operand}
 use Rattle.kahn_streams.specs.declared.tree.Action.TheBlock.{items-the_row-Statement}
-use Rattle.kahn_warnings.specs.Constants.{constant_of, constant_warnings, expression_warnings, fault_warnings, combined, level_warnings, row_constants, sure_fault}
+use Rattle.kahn_warnings.specs.Constants.{constant_of, constant_warnings, expression_warnings, fault_kind, combined, level_warnings, row_constants, sure_fault}
+use Rattle.kahn_warnings.specs.Warned.{warned_if}
 use Rattle.kahn_warnings.specs.declared.warning.Warning.{Warning}
 
 abbrev pub level_constant : Scope → Option Value → List Operand → Option Value
@@ -25,14 +26,14 @@ abbrev pub operands_warned : Option Value → List Operand → List Warning
 operands_warned left [] = []
 operands_warned left (o ∷ rest) =
     expression_warnings o.expression.form
-    ++ (fault_warnings o.expression.span (sure_fault o.operator left (constant_of (expression_of [] o.expression)))
+    ++ (warned_if (fault_kind (sure_fault o.operator left (constant_of (expression_of [] o.expression)))) o.expression.span
     ++ operands_warned (combined o.operator left (constant_of (expression_of [] o.expression))) rest)
 
 pub level_warned : {m : _} (left : Option Value) (row : Row_of-Operand m) → level_warnings left row ≡ operands_warned left (items-the_row-Operand m row)
 level_warned left end_of-Operand = refl
 level_warned left (more_of-Operand o at e rest) =
     let right = constant_of (expr_of [] e) in
-    ap (λ ws. expression_warnings e ++ (fault_warnings at (sure_fault o left right) ++ ws)) (level_warned (combined o left right) rest)
+    ap (λ ws. expression_warnings e ++ (warned_if (fault_kind (sure_fault o left right)) at ++ ws)) (level_warned (combined o left right) rest)
 
 abbrev pub constants_in : Statement → List Warning
 constants_in s = constant_warnings s.action

@@ -1,6 +1,5 @@
 -- Believed. What is warned of constants: operators that fail wherever they are reached, and tests that come out one way.
-use Rattle.std.specs.Prelude.{◌≡◌, ℕ, Bool, true, false, not, ◌&&◌, neg_ℤ, List, [], ◌∷◌, ◌++◌, Option, Some, None, Result, Ok, Err, if◌then◌else◌}
-use Rattle.kahn_streams.specs.declared.span.Span.{Span}
+use Rattle.std.specs.Prelude.{◌≡◌, ℕ, Bool, true, false, not, ◌&&◌, neg_ℤ, List, [], ◌++◌, Option, Some, None, Result, Ok, Err, if◌then◌else◌}
 use Rattle.kahn_streams.specs.declared.tree.Operator.{Operator}
 use Rattle.kahn_streams.specs.declared.tree.Form.{Form, Number, Logical, Variable, Wait, Negate', Not', Bracket', Level', Conditional', Row_of-Operand, end_of-Operand, more_of-Operand}
 use Rattle.kahn_streams.specs.declared.tree.Action.{Action, Empty, Assign, Send, Print, Block', If', While', Repeat', Row_of-Statement, end_of-Statement, more_of-Statement, Held-Action-If-2, None', Some'}
@@ -15,7 +14,7 @@ use Rattle.kahn_streams.specs.Arithmetic.{apply, is_zero, number, ranged, truth}
 use Rattle.kahn_streams.specs.Meaning.{Store, constant, eval, exec, value_of}
 use Rattle.kahn_streams.specs.Script.{Fail, Fault, Give, Got, Tapes, Turns, at_once, play}
 use Rattle.kahn_warnings.specs.Uses.{is_empty, varies_by}
-use Rattle.kahn_warnings.specs.Warned.{warned}
+use Rattle.kahn_warnings.specs.Warned.{warned_if}
 use Rattle.kahn_warnings.specs.declared.warning.Warning.{Warning}
 use Rattle.kahn_warnings.specs.declared.warning.WarningKind.{WarningKind}
 use Rattle.kahn_warnings.specs.declared.warning.WarningKind.TheVariants.{Divides, Overflows, AlwaysTrue, AlwaysFalse, Unchanged, BareDo}
@@ -78,32 +77,21 @@ sure_fault o v None = None
 sure_fault o None (Some w) = if divides o && is_zero (number w) then Some Division else None
 sure_fault o (Some v) (Some w) = bad (apply o v w)
 
-abbrev pub fault_kind : Failure → WarningKind
-fault_kind Overflow = Overflows
-fault_kind Division = Divides
-
-abbrev pub fault_warnings : Span → Option Failure → List Warning
-fault_warnings at None = []
-fault_warnings at (Some k) = warned (fault_kind k) at ∷ []
+abbrev pub fault_kind : Option Failure → Option WarningKind
+fault_kind None = None
+fault_kind (Some Overflow) = Some Overflows
+fault_kind (Some Division) = Some Divides
 
 -- ---- tests
 
-abbrev pub test_kind : Bool → WarningKind
-test_kind true = AlwaysTrue
-test_kind false = AlwaysFalse
-
-abbrev pub test_warnings : Span → Option Value → List Warning
-test_warnings at None = []
-test_warnings at (Some v) = warned (test_kind (truth v)) at ∷ []
-
-abbrev pub unchanged_kind : Bool → WarningKind
-unchanged_kind empty = if empty then BareDo else Unchanged
+abbrev pub test_kind : Option Value → Option WarningKind
+test_kind None = None
+test_kind (Some v) = Some (if truth v then AlwaysTrue else AlwaysFalse)
 
 -- of a loop, whose test may vary by its body, which may be empty; one that is always true is another way to write `repeat`
-abbrev pub turn_warnings : Span → Option Value → Bool → Bool → List Warning
-turn_warnings at None true empty = []
-turn_warnings at None false empty = warned (unchanged_kind empty) at ∷ []
-turn_warnings at (Some v) varies empty = if truth v then [] else warned AlwaysFalse at ∷ []
+abbrev pub turn_kind : Option Value → Bool → Bool → Option WarningKind
+turn_kind None varies empty = if varies then None else Some (if empty then BareDo else Unchanged)
+turn_kind (Some v) varies empty = if truth v then None else Some AlwaysFalse
 
 -- ---- in an expression: of an operator its right operand is told, or its only one
 
@@ -113,19 +101,19 @@ abbrev mutual
   expression_warnings (Logical b) = []
   expression_warnings (Variable x) = []
   expression_warnings (Wait q) = []
-  expression_warnings (Negate' p at e) = expression_warnings e ++ fault_warnings at (negate_fault (constant_of (expr_of [] e)))
+  expression_warnings (Negate' p at e) = expression_warnings e ++ warned_if (fault_kind (negate_fault (constant_of (expr_of [] e)))) at
   expression_warnings (Not' p at e) = expression_warnings e
   expression_warnings (Bracket' p at e) = expression_warnings e
   expression_warnings (Level' p at e shape rest) = expression_warnings e ++ level_warnings (constant_of (expr_of [] e)) rest
   expression_warnings (Conditional' p at t q at' a r at'' b) =
-      test_warnings at (constant_of (expr_of [] t)) ++ (expression_warnings t ++ (expression_warnings a ++ expression_warnings b))
+      warned_if (test_kind (constant_of (expr_of [] t))) at ++ (expression_warnings t ++ (expression_warnings a ++ expression_warnings b))
 
   -- behind operands with this value
   pub level_warnings : {m : _} → Option Value → Row_of-Operand m → List Warning
   level_warnings left end_of-Operand = []
   level_warnings left (more_of-Operand o at e rest) =
       expression_warnings e
-      ++ (fault_warnings at (sure_fault o left (constant_of (expr_of [] e))) ++ level_warnings (combined o left (constant_of (expr_of [] e))) rest)
+      ++ (warned_if (fault_kind (sure_fault o left (constant_of (expr_of [] e)))) at ++ level_warnings (combined o left (constant_of (expr_of [] e))) rest)
 
 -- ---- in a statement
 
@@ -137,9 +125,9 @@ abbrev mutual
   constant_warnings (Print e) = expression_warnings e.form
   constant_warnings (Block' shape row) = row_constants row
   constant_warnings (If' t p at a b) =
-      test_warnings t.span (constant_of (expression_of [] t)) ++ (expression_warnings t.form ++ (constant_warnings a ++ else_constants b))
+      warned_if (test_kind (constant_of (expression_of [] t))) t.span ++ (expression_warnings t.form ++ (constant_warnings a ++ else_constants b))
   constant_warnings (While' t p at a) =
-      turn_warnings t.span (constant_of (expression_of [] t)) (varies_by a t.form) (is_empty a) ++ (expression_warnings t.form ++ constant_warnings a)
+      warned_if (turn_kind (constant_of (expression_of [] t)) (varies_by a t.form) (is_empty a)) t.span ++ (expression_warnings t.form ++ constant_warnings a)
   constant_warnings (Repeat' p at a) = constant_warnings a
 
   pub row_constants : {m : _} → Row_of-Statement m → List Warning

@@ -11,3 +11,8 @@ warned k at = record { kind = k; span = at }
 abbrev pub warned_where : WarningKind → Option Span → List Warning
 warned_where k None = []
 warned_where k (Some at) = warned k at ∷ []
+
+-- and none where there is nothing to warn of
+abbrev pub warned_if : Option WarningKind → Span → List Warning
+warned_if None at = []
+warned_if (Some k) at = warned k at ∷ []

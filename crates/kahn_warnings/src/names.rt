@@ -2,7 +2,7 @@
 
 ghost use Rattle.std.specs.Prelude.{◌≡◌, ◌++◌, IfOk};
 ghost use Rattle.std.specs.List.{list_any};
-ghost use Rattle.kahn_warnings.specs.Warnings.{is_of, name_warnings, names_warnings, process_warnings, unassigned_kind, unassigned_warnings, unread_kind, variable_warnings};
+ghost use Rattle.kahn_warnings.specs.Warnings.{is_of, name_warnings, names_warnings, process_warnings, unassigned_kind, unassigned_warnings, unread_kind};
 
 use crate::uses::{assigns, uses};
 use crate::warning::{Warning, WarningKind};
@@ -91,18 +91,6 @@ fn add_unassigned(
     Ok(())
 }
 
-/// Adds those of a variable.
-fn add_variable(
-    warnings: &mut Vec<Warning>,
-    process: &Process,
-    variable: &Variable,
-) -> Result<(), AllocError>
-    ensures { IfOk result (λ _. warnings.new.items ≡ warnings.old.items ++ variable_warnings process.now variable.now) }
-{
-    add_name(warnings, process, &variable.name)?;
-    add_unassigned(warnings, process, variable)
-}
-
 /// Adds those of the parameters of a process, and then those of its variables.
 pub(crate) fn add_names(warnings: &mut Vec<Warning>, process: &Process) -> Result<(), AllocError>
     ensures { IfOk result (λ _. warnings.new.items ≡ warnings.old.items ++ names_warnings process.now) }
@@ -111,7 +99,8 @@ pub(crate) fn add_names(warnings: &mut Vec<Warning>, process: &Process) -> Resul
         add_name(warnings, process, &parameter.name)?;
     }
     for variable in &process.variables {
-        add_variable(warnings, process, variable)?;
+        add_name(warnings, process, &variable.name)?;
+        add_unassigned(warnings, process, variable)?;
     }
     Ok(())
 }

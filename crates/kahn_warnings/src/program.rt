@@ -1,7 +1,6 @@
 //! All that is warned of in a program.
 
-ghost use Rattle.std.specs.Prelude.{◌≡◌, ◌++◌, ◌==◌, IfOk};
-ghost use Rattle.std.specs.List.{list_any};
+ghost use Rattle.std.specs.Prelude.{◌≡◌, ◌++◌, IfOk};
 ghost use Rattle.kahn_streams.specs.View.{stmt_of};
 ghost use Rattle.kahn_warnings.specs.Warnings.{AreWarnings, bare_warnings, body_constants, body_warnings, declaration_warnings, beside_warnings, endless_warnings, first_standing, first_unreached, idle_warnings, is_on_line, is_short_if, is_single, list_warnings, place_beside, statement_warnings};
 ghost use Rattle.kahn_warnings.specs.Warned.{warned_where};
@@ -139,24 +138,12 @@ fn is_short_if(statement: &Statement) -> bool
     }
 }
 
-/// Whether a line ends among bytes.
-fn has_end(bytes: &[u8]) -> bool
-    ensures { result ≡ list_any (λ b. b == 10) bytes.now }
-{
-    for byte in bytes {
-        if *byte == b'\n' {
-            return true;
-        }
-    }
-    false
-}
-
 /// Whether no line ends from the end of a part of the text to another part.
 fn is_on_line(text: &str, before: Option<Span>, next: Option<Span>) -> bool
     ensures { result ≡ is_on_line text.now before next }
 {
     match (before, next) {
-        (Some(before), Some(next)) => !has_end(bytes_between(text, before.to, next.from)),
+        (Some(before), Some(next)) => !bytes_between(text, before.to, next.from).contains(&b'\n'),
         (Some(_), None) => false,
         (None, _) => false,
     }

@@ -13,8 +13,5 @@ loop-variable-init c =
     let all : take c.loop-parameter.parameter-index p.parameters.items ≡ p.parameters.items = grind (arith, common_steps) in
     c.loop-parameter.invariant ∙ ap (λ l. old ++ flat_map (λ x. name_warnings p x.name) l) all ∙ sym (append-nil (old ++ parameter_warnings p))
 
-pub loop-variable-preserved : goal.loop-variable-preserved
-loop-variable-preserved c = grind (arith, common_steps, c.loop-variable.invariant, c.in_ok-add_variable.ensures)
-
 pub returns : goal.returns
 returns c = grind (arith, common_steps, c.loop-variable.invariant)

@@ -35,8 +35,9 @@ loop-operand-preserved t c =
       common_steps,
       c.loop-operand.invariant,
       c.in_ok-add_expression-in-Level-2.ensures,
-      c.in_ok-add_fault-in-Level.ensures,
-      c.sure_fault-failure.ensures,
+      c.in_ok-add_warning-in-Level.ensures,
+      c.sure_fault.ensures,
+      c.fault_kind-kind-in-loop-operand.ensures,
       c.combined-left.ensures,
       c.constant_of-right.ensures [],
     )
