@@ -7,10 +7,11 @@ use Rattle.kahn_wanted.specs.declared.changes.Change.{Change}
 pub all_of_few : (xs : List Change) → length xs < 3 → xs ≡ take 3 xs
 all_of_few xs few = sym (take_all 3 xs (omega (arith, few)))
 
--- words that come in three steps
-pub joined : (old a b l e one two new : List ℕ) → one ≡ old ++ (a ++ b) → two ≡ one ++ l → new ≡ two ++ e → new ≡ old ++ (a ++ (b ++ (l ++ e)))
-joined old a b l e one two new p q r =
-    r ∙ ap (λ t. t ++ e) (q ∙ ap (λ t. t ++ l) p) ∙ append_assoc (old ++ (a ++ b)) l e ∙ append_assoc old (a ++ b) (l ++ e) ∙ ap (λ t. old ++ t) (append_assoc a b (l ++ e))
+-- words that come in two steps, the first of two pieces
+pub behind : (old a b l x y one new : List ℕ) → one ≡ old ++ (x ++ (y ++ [])) → x ≡ a → y ≡ b → new ≡ one ++ l → new ≡ old ++ (a ++ (b ++ l))
+behind old a b l x y one new p q r u =
+    u ∙ ap (λ t. t ++ l) (p ∙ ap (λ t. old ++ (x ++ t)) (append-nil y ∙ r) ∙ ap (λ t. old ++ (t ++ b)) q)
+    ∙ append_assoc old (a ++ b) l ∙ ap (λ t. old ++ t) (append_assoc a b l)
 
 -- words that come in five
 pub in_five : (s a v t b one two three four five : List ℕ) → one ≡ s → two ≡ one ++ a → three ≡ two ++ v → four ≡ three ++ t → five ≡ four ++ b →

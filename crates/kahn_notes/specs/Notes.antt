@@ -32,15 +32,16 @@ use Rattle.kahn_notes.specs.Closed.{IsClosedEnd, early_words}
 use Rattle.kahn_notes.specs.Order.{ranked}
 use Rattle.kahn_notes.specs.Words.{any_words, keyword_words, separator, sign_words}
 
-abbrev pub lexeme_words : List ℕ → Class → Span → List ℕ
-lexeme_words text (class.Word k) at = concat (codes "the keyword " ∷ keyword_words k ∷ [])
-lexeme_words text class.Name at = concat (codes "the name `" ∷ slice_range text at.from at.to ∷ codes "`" ∷ [])
-lexeme_words text (class.Number n) at = codes "the number " ++ signed_decimal n
-lexeme_words text (class.Sign s) at = sign_words s
+-- a lexeme, of a sign with an article
+abbrev pub lexeme_words : List ℕ → List ℕ → Class → Span → List ℕ
+lexeme_words text article (class.Word k) at = concat (codes "the keyword " ∷ keyword_words k ∷ [])
+lexeme_words text article class.Name at = concat (codes "the name `" ∷ slice_range text at.from at.to ∷ codes "`" ∷ [])
+lexeme_words text article (class.Number n) at = codes "the number " ++ signed_decimal n
+lexeme_words text article (class.Sign s) at = concat (article ∷ sign_words s ∷ [])
 
 -- what stands at a place
 abbrev pub found_words : List ℕ → Option Lexeme → List ℕ
-found_words text (Some x) = lexeme_words text x.what x.span
+found_words text (Some x) = lexeme_words text [] x.what x.span
 found_words text None = codes "the end of the text"
 
 -- a lexeme that is found is as the lexer makes it
@@ -79,21 +80,28 @@ unexpected_words text what u =
     concat (codes "found " ∷ found_words text u.found ∷ codes ", where " ∷ listed (pieces_of u.wanted what) ∷ codes " may stand" ∷ [])
 
 -- the lexeme before a place
-abbrev pub article : Class → List ℕ
-article (class.Sign s) = codes "the "
-article _ = []
-
 abbrev pub last_words : List ℕ → Option Lexeme → List ℕ
-last_words text (Some x) = concat (article x.what ∷ lexeme_words text x.what x.span ∷ [])
+last_words text (Some x) = lexeme_words text (codes "the ") x.what x.span
 last_words text None = []
+
+-- it is left out, or any lexeme of a class is put in its place
+abbrev pub put_lead : Option Class → List ℕ
+put_lead (Some c) = any_words c
+put_lead None = codes "leaving out "
+
+abbrev pub put_link : Option Class → List ℕ
+put_link (Some c) = codes " in place of "
+put_link None = []
+
+abbrev pub before_words : List ℕ → Option Lexeme → Option Class → List ℕ
+before_words text last put = concat (put_lead put ∷ put_link put ∷ last_words text last ∷ codes " before it" ∷ [])
 
 -- a change of the lexeme that was found
 abbrev pub put_words : List ℕ → Option Lexeme → Spot → Option Class → List ℕ
 put_words text last Between (Some c) = concat (any_words c ∷ codes " before it" ∷ [])
 put_words text last Here (Some c) = concat (any_words c ∷ codes " in its place" ∷ [])
-put_words text last Before (Some c) = concat (any_words c ∷ codes " in place of " ∷ last_words text last ∷ codes " before it" ∷ [])
+put_words text last Before put = before_words text last put
 put_words text last Here None = codes "leaving it out"
-put_words text last Before None = concat (codes "leaving out " ∷ last_words text last ∷ codes " before it" ∷ [])
 put_words text last Between None = []
 
 abbrev pub change_words : List ℕ → Option Lexeme → Change → List ℕ
@@ -105,15 +113,10 @@ number_words n =
     if n == 1 then codes "one" else if n == 2 then codes "two" else if n == 3 then codes "three" else if n == 4 then codes "four"
     else if n == 5 then codes "five" else if n == 6 then codes "six" else codes "seven"
 
-abbrev pub some_words : ℕ → ℕ → List ℕ
-some_words told n = if told == n then [] else concat (number_words told ∷ codes " of " ∷ [])
-
-abbrev pub change_lead : ℕ → ℕ → List ℕ
-change_lead told n =
-    if not (told == n) then codes " changes that mend it: " else if n == 1 then codes " change mends it: " else codes " changes mend it: "
-
 abbrev pub lead_words : ℕ → ℕ → List ℕ
-lead_words told n = some_words told n ++ concat (number_words n ∷ change_lead told n ∷ [])
+lead_words told n =
+    if not (told == n) then concat (number_words told ∷ codes " of " ∷ number_words n ∷ codes " changes that mend it: " ∷ [])
+    else if n == 1 then codes "one change mends it: " else concat (number_words n ∷ codes " changes mend it: " ∷ [])
 
 -- the first three of those that may be told
 abbrev pub told_changes : Option Lexeme → Mends → List Change

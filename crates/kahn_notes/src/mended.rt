@@ -1,9 +1,8 @@
 //! What is said below a place where a text goes wrong: of the changes of one lexeme with which it is a program, and of blocks.
 
-ghost use Rattle.std.specs.Prelude.{◌≡◌, ◌++◌, IfOk, IfSome, None, Some, is_some, length, map, option_map, string_bytes, take};
-ghost use Rattle.kahn_wanted.specs.declared.changes.Spot.TheVariants.{Before};
+ghost use Rattle.std.specs.Prelude.{◌≡◌, ◌++◌, IfOk, IfSome, codes, is_some, length, map, option_map, string_bytes, take};
 ghost use Rattle.kahn_notes.specs.Blocked.{blocks_words};
-ghost use Rattle.kahn_notes.specs.Notes.{MayFind, article, change_lead, change_words, changes_words, is_mended, last_words, lead_words, listed, mended_text, mends_words, number_words, put_words, remark, remark_or_none, some_words};
+ghost use Rattle.kahn_notes.specs.Notes.{MayFind, before_words, change_words, changes_words, is_mended, last_words, lead_words, listed, mended_text, mends_words, number_words, put_lead, put_link, remark, remark_or_none};
 
 use crate::blocked::blocks_words;
 use crate::listing::separator;
@@ -22,55 +21,44 @@ const TOLD: usize = 3;
 /// Of how many changes some are told; of more none.
 const MOST: usize = 7;
 
-/// What stands before the words for a lexeme, where they have no article.
-fn article(class: Class) -> &'static str
-    ensures { result.now ≡ article class }
-{
-    match class {
-        Class::Sign(_) => "the ",
-        Class::Word(_) => "",
-        Class::Name => "",
-        Class::Number(_) => "",
-    }
-}
-
-/// Adds what the lexeme before a place is, where one stands there.
+/// Adds what the lexeme before a place is, where one stands there, and that it is the one before.
 fn add_last(words: &mut String, text: &str, last: Option<Lexeme>) -> Result<(), AllocError>
     requires { MayFind text.now last }
-    ensures { IfOk result (λ _. string_bytes words.new ≡ string_bytes words.old ++ last_words text.now last) }
+    ensures { IfOk result (λ _. string_bytes words.new ≡ string_bytes words.old ++ (last_words text.now last ++ codes " before it")) }
 {
     match last {
         Some(lexeme) => {
-            words.push_str(article(lexeme.what))?;
-            add_lexeme(words, text, lexeme)
+            add_lexeme(words, text, lexeme, "the ")?;
+            words.push_str(" before it")
         }
-        None => Ok(()),
+        None => words.push_str(" before it"),
     }
 }
 
-/// Adds that any of a class is put in the place of the lexeme before.
-fn add_in_place(
+/// What stands before that where it is left out, or another lexeme stands in its place.
+fn put_lead(put: Option<Class>) -> (&'static str, &'static str)
+    ensures lead { result.0.now ≡ put_lead put }
+    ensures link { result.1.now ≡ put_link put }
+{
+    match put {
+        Some(class) => (class_words(class), " in place of "),
+        None => ("leaving out ", ""),
+    }
+}
+
+/// Adds a change of the lexeme before a place.
+fn add_before(
     words: &mut String,
     text: &str,
     last: Option<Lexeme>,
-    class: Class,
+    put: Option<Class>,
 ) -> Result<(), AllocError>
     requires { MayFind text.now last }
-    ensures { IfOk result (λ _. string_bytes words.new ≡ string_bytes words.old ++ put_words text.now last Before (Some class)) }
+    ensures { IfOk result (λ _. string_bytes words.new ≡ string_bytes words.old ++ before_words text.now last put) }
 {
-    add(words, &[class_words(class), " in place of "])?;
-    add_last(words, text, last)?;
-    add(words, &[" before it"])
-}
-
-/// Adds that the lexeme before is left out.
-fn add_left_out(words: &mut String, text: &str, last: Option<Lexeme>) -> Result<(), AllocError>
-    requires { MayFind text.now last }
-    ensures { IfOk result (λ _. string_bytes words.new ≡ string_bytes words.old ++ put_words text.now last Before None) }
-{
-    add(words, &["leaving out "])?;
-    add_last(words, text, last)?;
-    add(words, &[" before it"])
+    let (lead, link) = put_lead(put);
+    add(words, &[lead, link])?;
+    add_last(words, text, last)
 }
 
 /// Adds a change of a place.
@@ -86,9 +74,8 @@ fn add_change(
     match (change.spot, change.put) {
         (Spot::Between, Some(class)) => add(words, &[class_words(class), " before it"]),
         (Spot::Here, Some(class)) => add(words, &[class_words(class), " in its place"]),
-        (Spot::Before, Some(class)) => add_in_place(words, text, last, class),
         (Spot::Here, None) => words.push_str("leaving it out"),
-        (Spot::Before, None) => add_left_out(words, text, last),
+        (Spot::Before, put) => add_before(words, text, last, put),
         (Spot::Between, None) => Ok(()),
     }
 }
@@ -125,35 +112,25 @@ fn number_words(count: usize) -> &'static str
     }
 }
 
-/// What stands behind how many changes there are, of which so many are told.
-fn change_lead(told: usize, count: usize) -> &'static str
-    ensures { result.now ≡ change_lead told count }
-{
-    if told != count {
-        " changes that mend it: "
-    } else if count == 1 {
-        " change mends it: "
-    } else {
-        " changes mend it: "
-    }
-}
-
-/// Adds how many are told, where that isn't all of them.
-fn add_some(words: &mut String, told: usize, count: usize) -> Result<(), AllocError>
-    ensures { IfOk result (λ _. string_bytes words.new ≡ string_bytes words.old ++ some_words told count) }
-{
-    if told == count {
-        return Ok(());
-    }
-    add(words, &[number_words(told), " of "])
-}
-
 /// Adds how many of so many changes are told.
 fn add_lead(words: &mut String, told: usize, count: usize) -> Result<(), AllocError>
     ensures { IfOk result (λ _. string_bytes words.new ≡ string_bytes words.old ++ lead_words told count) }
 {
-    add_some(words, told, count)?;
-    add(words, &[number_words(count), change_lead(told, count)])
+    if told != count {
+        add(
+            words,
+            &[
+                number_words(told),
+                " of ",
+                number_words(count),
+                " changes that mend it: ",
+            ],
+        )
+    } else if count == 1 {
+        add(words, &["one change mends it: "])
+    } else {
+        add(words, &[number_words(count), " changes mend it: "])
+    }
 }
 
 /// The first three changes, or all where there are fewer.

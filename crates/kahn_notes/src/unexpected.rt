@@ -17,10 +17,15 @@ use kahn_syntax::{Class, Lexeme, Span, What, lex};
 use kahn_wanted::{Unexpected, blocks_at, comment_before, mends_at, wanted_at};
 use std::alloc::{AllocError, Global};
 
-/// Adds what a lexeme is.
-pub(crate) fn add_lexeme(note: &mut String, text: &str, lexeme: Lexeme) -> Result<(), AllocError>
+/// Adds what a lexeme is, of a sign with an article.
+pub(crate) fn add_lexeme(
+    note: &mut String,
+    text: &str,
+    lexeme: Lexeme,
+    article: &'static str,
+) -> Result<(), AllocError>
     requires { IsProper text.now lexeme.what lexeme.span }
-    ensures { IfOk result (λ _. string_bytes note.new ≡ string_bytes note.old ++ lexeme_words text.now lexeme.what lexeme.span) }
+    ensures { IfOk result (λ _. string_bytes note.new ≡ string_bytes note.old ++ lexeme_words text.now article.now lexeme.what lexeme.span) }
 {
     match lexeme.what {
         Class::Word(keyword) => add(note, &["the keyword ", keyword_words(keyword)]),
@@ -32,7 +37,7 @@ pub(crate) fn add_lexeme(note: &mut String, text: &str, lexeme: Lexeme) -> Resul
             let mut buffer = Buffer::new();
             add(note, &["the number ", buffer.format(number)])
         }
-        Class::Sign(sign) => note.push_str(sign_words(sign)),
+        Class::Sign(sign) => add(note, &[article, sign_words(sign)]),
     }
 }
 
@@ -42,7 +47,7 @@ fn add_found(note: &mut String, text: &str, found: Option<Lexeme>) -> Result<(),
     ensures { IfOk result (λ _. string_bytes note.new ≡ string_bytes note.old ++ found_words text.now found) }
 {
     match found {
-        Some(lexeme) => add_lexeme(note, text, lexeme),
+        Some(lexeme) => add_lexeme(note, text, lexeme, ""),
         None => note.push_str("the end of the text"),
     }
 }

@@ -7,5 +7,5 @@ pub returns-in-Word : goal.returns-in-Word
 returns-in-Word c =
     let old = string_bytes c.args.note.now in
     let new = string_bytes c.add.new.text in
-    subst (λ w. IfOk c.add.result (λ _. new ≡ old ++ lexeme_words c.args.text.now w c.args.lexeme.span)) (sym c.in-Word.is)
+    subst (λ w. IfOk c.add.result (λ _. new ≡ old ++ lexeme_words c.args.text.now c.args.article.now w c.args.lexeme.span)) (sym c.in-Word.is)
     (subst (λ l. IfOk c.add.result (λ _. new ≡ old ++ concat (codes "the keyword " ∷ l ∷ []))) c.keyword_words.ensures c.add.ensures)
