@@ -4,12 +4,18 @@ ghost use Rattle.std.specs.Prelude.{◌≡◌, ◌++◌, IfOk, map, option_map, 
 ghost use Rattle.kahn_notes.specs.Blocked.{bare_words, begin_words, blocks_words, is_outside, last_few, listed_bare, listed_blocks, open_told, open_words, open_beside};
 
 use crate::listing::separator;
-use crate::wanting::{Needed, awaits, finds, has_fewer};
+use crate::wanting::{awaits, finds, has_fewer};
 use crate::words::class_words;
 use kahn_marks::add_spot;
-use kahn_syntax::{Class, Keyword, Lexeme};
-use kahn_wanted::{Block, Blocks, Unexpected};
+use kahn_syntax::{Class, Keyword, Lexeme, Sign};
+use kahn_wanted::{Block, Blocks, Group, Unexpected};
 use std::alloc::{AllocError, Global};
+
+/// The keyword `begin`.
+pub(crate) const BEGIN: Class = Class::Word(Keyword::Begin);
+
+/// The keyword `end`.
+pub(crate) const END: Class = Class::Word(Keyword::End);
 
 /// How many are told: the last ones.
 const FEW: usize = 3;
@@ -89,15 +95,7 @@ fn bare_words(alloc: Global, text: &str, heads: &[Lexeme]) -> Result<Option<Stri
 fn is_outside(found: Option<Lexeme>) -> bool
     ensures { result ≡ is_outside found }
 {
-    match found {
-        Some(lexeme) => match lexeme.what {
-            Class::Word(Keyword::Process) => true,
-            Class::Word(Keyword::Integer) => true,
-            Class::Word(Keyword::Logical) => true,
-            _ => false,
-        },
-        None => true,
-    }
+    found.is_none() || finds(Group::Declaration.members(), found)
 }
 
 /// The blocks of which one lacks its `end`: that of the program is open at whatever stands in it.
@@ -121,7 +119,7 @@ pub(crate) fn blocks_words(
 ) -> Result<Option<String>, AllocError>
     ensures { IfOk result (λ words. option_map string_bytes words ≡ blocks_words text.now found mended blocks.now) }
 {
-    if finds(Needed::End, found) {
+    if finds(&[END], found) {
         return bare_words(alloc, text, &blocks.bare);
     }
     if (found.is_none() || !mended) && is_outside(found) {
@@ -143,10 +141,13 @@ pub(crate) fn open_beside(
     ensures { IfOk result (λ words. option_map string_bytes words ≡ open_beside text.now lexemes.now unexpected.now mended blocks.now) }
 {
     let found = unexpected.found;
-    if mended || !finds(Needed::Open, found) || !awaits(Needed::Becomes, &unexpected.wanted) {
+    if mended
+        || !finds(&[Class::Sign(Sign::Open)], found)
+        || !awaits(Class::Sign(Sign::Becomes), &unexpected.wanted)
+    {
         return Ok(None);
     }
-    if has_fewer(Needed::End, Needed::Begin, lexemes) {
+    if has_fewer(END, BEGIN, lexemes) {
         return open_words(alloc, text, open_told(found, &blocks.unclosed));
     }
     Ok(None)

@@ -6,7 +6,8 @@ ghost use Rattle.kahn_notes.specs.declared.closed.Seam.TheVariants.{Ends};
 ghost use Rattle.kahn_notes.specs.Closed.{IsClosedEnd, IsLastEnd, before_place, early_words, seam_of};
 ghost use Rattle.kahn_notes.specs.inner.Closing.{KeepsEnd};
 
-use crate::wanting::{Needed, has_fewer};
+use crate::blocked::{BEGIN, END};
+use crate::wanting::has_fewer;
 use kahn_marks::{add, add_spot};
 use kahn_syntax::{Class, Keyword, Lexeme, Sign};
 use kahn_wanted::Blocks;
@@ -113,7 +114,7 @@ fn last_end(at: usize, lexemes: &[Lexeme]) -> Option<Lexeme>
 pub(crate) fn closed_end(lexemes: &[Lexeme], at: usize, blocks: &Blocks) -> Option<Lexeme>
     ensures { IsClosedEnd lexemes.now at blocks.now result }
 {
-    if blocks.unclosed.len() == 1 && has_fewer(Needed::Begin, Needed::End, lexemes) {
+    if blocks.unclosed.len() == 1 && has_fewer(BEGIN, END, lexemes) {
         return last_end(at, lexemes);
     }
     None
