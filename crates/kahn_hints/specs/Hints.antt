@@ -179,6 +179,12 @@ kind_words (Some K.Integer) = codes ": wanted logical, found integer"
 kind_words (Some K.Logical) = codes ": wanted integer, found logical"
 kind_words None = []
 
+-- how a value of the wanted kind is made of an expression
+abbrev pub made_words : Option Use → List ℕ
+made_words (Some (use_as.Expression K.Integer)) = codes "; `X <> 0` is a truth value of `X`"
+made_words (Some (use_as.Expression K.Logical)) = codes "; `if T then 1 else 0` is a number of `T`"
+made_words found = []
+
 abbrev pub direction_words : Option Use → List ℕ
 direction_words (Some use_as.Waited) = codes ": wanted `in`, found `out`"
 direction_words (Some use_as.Sent) = codes ": wanted `out`, found `in`"
@@ -255,7 +261,7 @@ unread_words _ = codes "; hand it to an `in` parameter"
 abbrev pub tail_of : List ℕ → Program → CheckFault → List ℕ
 tail_of text t (checked.Unknown at) = unknown_at text t at
 tail_of text t (checked.WrongCount at) = count_words t (named_instance t at)
-tail_of text t (checked.WrongKind at) = kind_words (found_kind text t at)
+tail_of text t (checked.WrongKind at) = kind_words (found_kind text t at) ++ made_words (use_at t at)
 tail_of text t (checked.WrongDirection at) = direction_at text t at
 tail_of text t (checked.ChannelExpected at) = channel_words (use_at t at)
 tail_of text t (checked.ValueExpected at) = value_tail text t at
@@ -264,7 +270,7 @@ tail_of text t (checked.TwoWriters at) = twice_at text t Out at
 tail_of text t (checked.TwoReaders at) = twice_at text t In at
 tail_of text t (checked.NoWriter at) = unwritten_at text t at
 tail_of text t (checked.NoReader at) = unread_words (channel_called t (word_at text at))
-tail_of text t (checked.TooMany at) = []
+tail_of text t (checked.TooMany at) = codes "; a program has at most 1024 channels and 256 instances"
 tail_of text t checked.NoMemory = []
 
 -- ---- the note

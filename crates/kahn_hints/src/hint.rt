@@ -2,7 +2,7 @@
 
 ghost use Rattle.std.specs.Prelude.{◌≡◌, ◌++◌, IfOk, option_map, string_bytes};
 ghost use Rattle.std.specs.List.{find};
-ghost use Rattle.kahn_hints.specs.Hints.{asked_sort, check_note, closed_reason, count_words, counted_words, declared_first, declared_here, declared_outside, direction_at, first_reason, found_kind, idle_place, meant_at, named_instance, next_there, place_in, second_place, second_text, taken_before, tail_of, unknown_at, unwritten_at, use_at, used_at, value_tail, valued_at, wanted_here};
+ghost use Rattle.kahn_hints.specs.Hints.{asked_sort, check_note, closed_reason, count_words, counted_words, declared_first, declared_here, declared_outside, direction_at, first_reason, found_kind, idle_place, kind_words, made_words, meant_at, named_instance, next_there, place_in, second_place, second_text, taken_before, tail_of, unknown_at, unwritten_at, use_at, used_at, value_tail, valued_at, wanted_here};
 
 use crate::exchange::twice_at;
 use crate::names::Sort;
@@ -11,8 +11,8 @@ use crate::places::{
     process_called, word_at,
 };
 use crate::said::{
-    channel_words, direction_words, handed_words, kind_words, other_words, reason_words,
-    unread_words, unwritten_words,
+    channel_words, direction_words, handed_words, kind_words, made_words, other_words,
+    reason_words, unread_words, unwritten_words,
 };
 use crate::sight::{add_unknown, add_used};
 use crate::uses::{Use, body_use, instances_use, same_span};
@@ -423,6 +423,14 @@ fn add_direction(
     add_meant(words, alloc, text, program, at)
 }
 
+/// Adds which kind is wanted, which is found, and how the one is made of the other.
+fn add_kinds(words: &mut String, text: &str, program: &Program, at: Span) -> Result<(), AllocError>
+    ensures { IfOk result (λ _. string_bytes words.new ≡ string_bytes words.old ++ (kind_words (found_kind text.now program.now at) ++ made_words (use_at program.now at))) }
+{
+    words.push_str(kind_words(found_kind(text, program, at)))?;
+    words.push_str(made_words(use_at(program, at)))
+}
+
 /// Adds what is told behind the words of a fault: the nearest name, what is wanted and what is found, or what to do.
 fn add_tail(
     words: &mut String,
@@ -436,7 +444,7 @@ fn add_tail(
     match fault {
         CheckFault::Unknown(at) => add_unknown_at(words, alloc, text, program, at),
         CheckFault::WrongCount(at) => add_count(words, program, at),
-        CheckFault::WrongKind(at) => words.push_str(kind_words(found_kind(text, program, at))),
+        CheckFault::WrongKind(at) => add_kinds(words, text, program, at),
         CheckFault::WrongDirection(at) => add_direction(words, alloc, text, program, at),
         CheckFault::ChannelExpected(at) => words.push_str(channel_words(use_at(program, at))),
         CheckFault::ValueExpected(at) => add_valued(words, alloc, text, program, at),
@@ -448,7 +456,10 @@ fn add_tail(
         CheckFault::NoReader(at) => {
             words.push_str(unread_words(channel_called(program, word_at(text, at))))
         }
-        CheckFault::DeclaredTwice(_) | CheckFault::TooMany(_) | CheckFault::NoMemory => Ok(()),
+        CheckFault::TooMany(_) => {
+            words.push_str("; a program has at most 1024 channels and 256 instances")
+        }
+        CheckFault::DeclaredTwice(_) | CheckFault::NoMemory => Ok(()),
     }
 }
 

@@ -1,7 +1,7 @@
 //! The words behind those of a fault: what is wanted, what is found, and what to do; and of another place.
 
 ghost use Rattle.std.specs.Prelude.{◌≡◌};
-ghost use Rattle.kahn_hints.specs.Hints.{channel_words, direction_words, handed_words, kind_words, other_words, reason_words, twice_words, unread_words, unwritten_words};
+ghost use Rattle.kahn_hints.specs.Hints.{channel_words, direction_words, handed_words, kind_words, made_words, other_words, reason_words, twice_words, unread_words, unwritten_words};
 
 use crate::hint::Reason;
 use crate::uses::Use;
@@ -43,6 +43,17 @@ pub(crate) fn kind_words(found: Option<Kind>) -> &'static str
         Some(Kind::Integer) => ": wanted logical, found integer",
         Some(Kind::Logical) => ": wanted integer, found logical",
         None => "",
+    }
+}
+
+/// How a value of the wanted kind is made of an expression.
+pub(crate) fn made_words(found: Option<Use>) -> &'static str
+    ensures { result.now ≡ made_words found }
+{
+    match found {
+        Some(Use::Expression(Kind::Integer)) => "; `X <> 0` is a truth value of `X`",
+        Some(Use::Expression(Kind::Logical)) => "; `if T then 1 else 0` is a number of `T`",
+        _ => "",
     }
 }
 
