@@ -24,7 +24,7 @@ LONG_CLAUSE, LONG_BODY, LONG_FILE = 160, 40, 500
 CLAUSE = re.compile(r"^ *(?:requires|ensures|(?:pub )?ghost \w+(?: =|:))[^{\n]*\{", re.M)
 FUNCTION = re.compile(r"^( *)(?:pub(?:\([a-z]+\))? )?(?:unsafe )?fn (\w+)")
 PUBLIC = re.compile(r"^ *pub (?:unsafe )?(fn|struct|enum|trait|type|const|static) (\w+)")
-DEFINED = re.compile(r"^(?: *abbrev pub |(?:abbrev )?(?:pub )?(?:record |data )?)([^\s:(={]+)(?: [^=]*)?:")
+DEFINED = re.compile(r"^(?: *abbrev pub |(?:abbrev |unfoldable )?(?:pub )?(?:record |data )?)([^\s:(={]+)(?: [^=]*)?:")
 
 
 def files(*patterns):

@@ -26,10 +26,10 @@ pub(crate) fn reason_words(reason: Reason) -> &'static str
 }
 
 /// As what a name is declared that should be that of a process.
-pub(crate) fn other_words(found: Option<Use>, kind: Option<Kind>) -> &'static str
-    ensures { result.now ≡ other_words found kind }
+pub(crate) fn other_words(found: Option<Use>, channel: Option<(Kind, Role)>) -> &'static str
+    ensures { result.now ≡ other_words found channel }
 {
-    match (found, kind) {
+    match (found, channel) {
         (Some(Use::Process), Some(_)) => " as a process, but as a channel",
         _ => "",
     }
@@ -99,24 +99,25 @@ pub(crate) fn twice_words(direction: Direction, interchanged: bool) -> &'static 
 }
 
 /// What to do about a channel without a writer, which is read or not.
-pub(crate) fn unwritten_words(role: Option<Role>, read: bool) -> &'static str
-    ensures { result.now ≡ unwritten_words role read }
+pub(crate) fn unwritten_words(channel: Option<(Kind, Role)>, read: bool) -> &'static str
+    ensures { result.now ≡ unwritten_words channel read }
 {
-    match (role, read) {
-        (Some(Role::Inner), true) => {
+    match (channel, read) {
+        (Some((_, Role::Inner)), true) => {
             "; hand it to an `out` parameter, or declare it `input` where its values come from outside"
         }
-        (Some(Role::Inner), false) => "; it is handed to no process: leave its declaration out",
+        (Some((_, Role::Inner)), false) =>
+            "; it is handed to no process: leave its declaration out",
         _ => "; hand it to an `out` parameter",
     }
 }
 
 /// What to do about a channel without a reader.
-pub(crate) fn unread_words(role: Option<Role>) -> &'static str
-    ensures { result.now ≡ unread_words role }
+pub(crate) fn unread_words(channel: Option<(Kind, Role)>) -> &'static str
+    ensures { result.now ≡ unread_words channel }
 {
-    match role {
-        Some(Role::Inner) =>
+    match channel {
+        Some((_, Role::Inner)) =>
             "; hand it to an `in` parameter, or declare it `output` where its values are to be reported",
         _ => "; hand it to an `in` parameter",
     }

@@ -1,30 +1,18 @@
 -- Believed. What is said of blocks where a text goes wrong.
-use Rattle.std.specs.Prelude.{ℕ, Bool, true, false, not, ◌&&◌, ◌||◌, ◌-◌, List, [], ◌∷◌, ◌++◌, Option, Some, None, codes, decimal, drop, is_some, if◌then◌else◌, length, min}
-use Rattle.std.specs.List.{concat}
-use Rattle.kahn_streams.specs.Place.{line_of, column_of}
+use Rattle.std.specs.Prelude.{ℕ, Bool, not, ◌&&◌, ◌||◌, ◌-◌, List, [], ◌∷◌, ◌++◌, Option, Some, None, codes, drop, is_some, if◌then◌else◌, length}
+use Rattle.kahn_marks.specs.Marks.{spot_text}
 use Rattle.kahn_syntax.specs.declared.lexeme.Class.{Class}
 use Rattle.kahn_syntax.specs.declared.lexeme.Class.TheVariants as class
 use Rattle.kahn_syntax.specs.declared.lexeme.Keyword.TheVariants as word
 use Rattle.kahn_syntax.specs.declared.lexeme.Lexeme.{Lexeme}
+use Rattle.kahn_syntax.specs.declared.lexeme.Sign.TheVariants as sign
+use Rattle.kahn_wanted.specs.Wanted.{members}
+use Rattle.kahn_wanted.specs.declared.groups.Group.TheVariants as group
 use Rattle.kahn_wanted.specs.declared.blocks.Block.{Block}
 use Rattle.kahn_wanted.specs.declared.blocks.Blocks.{Blocks}
 use Rattle.kahn_wanted.specs.declared.found.Unexpected.{Unexpected}
-use Rattle.kahn_notes.specs.declared.wanting.Needed.TheVariants.{Becomes, Begin, End, Open}
-use Rattle.kahn_notes.specs.Advice.{awaits, has_fewer}
-use Rattle.kahn_notes.specs.Order.{finds}
+use Rattle.kahn_notes.specs.Advice.{awaits, finds, has_fewer}
 use Rattle.kahn_notes.specs.Words.{any_words, separator}
-
--- ---- places
-
--- the line and the column of a byte, or of the end of the text
-abbrev pub line_there : List ℕ → ℕ → ℕ
-line_there text from = line_of text (min from (length text))
-
-abbrev pub column_there : List ℕ → ℕ → ℕ
-column_there text from = column_of text (min from (length text))
-
-abbrev pub at_words : List ℕ → ℕ → List ℕ
-at_words text from = concat (codes " at " ∷ decimal (line_there text from) ∷ codes ":" ∷ decimal (column_there text from) ∷ [])
 
 -- ---- lists of them
 
@@ -41,11 +29,11 @@ begin_words (Some x) = begin_class_words x.what
 begin_words None = codes "`begin`"
 
 abbrev pub block_item : List ℕ → Block → List ℕ
-block_item text b = begin_words b.before ++ at_words text b.begin.span.from
+block_item text b = begin_words b.before ++ spot_text (codes " at ") text b.begin.span.from
 
 -- what leads to a statement without a block
 abbrev pub bare_item : List ℕ → Lexeme → List ℕ
-bare_item text x = any_words x.what ++ at_words text x.span.from
+bare_item text x = any_words x.what ++ spot_text (codes " at ") text x.span.from
 
 -- with commas between, and `or` before the last
 abbrev pub listed_blocks : List ℕ → List Block → List ℕ
@@ -70,17 +58,9 @@ bare_words text (x ∷ xs) = Some (codes "no `begin` stands behind " ++ listed_b
 
 -- ---- when they are told
 
--- what stands outside of bodies alone: a declaration
-abbrev pub is_outer_class : Class → Bool
-is_outer_class (class.Word word.Process) = true
-is_outer_class (class.Word word.Integer) = true
-is_outer_class (class.Word word.Logical) = true
-is_outer_class _ = false
-
--- at these and at the end of the text: of open blocks
+-- what stands outside of bodies alone: the end of the text, or a declaration
 abbrev pub is_outside : Option Lexeme → Bool
-is_outside (Some x) = is_outer_class x.what
-is_outside None = true
+is_outside found = not (is_some found) || finds (members group.Declaration) found
 
 -- the block of the program is open at whatever stands in it
 abbrev pub open_told : Option Lexeme → List Block → List Block
@@ -91,7 +71,7 @@ open_told None bs = bs
 -- outside of bodies, of open ones: at the end of the text always, else where no change is told that mends the text
 abbrev pub blocks_words : List ℕ → Option Lexeme → Bool → Blocks → Option (List ℕ)
 blocks_words text found mended b =
-    if finds End found then bare_words text b.bare.items
+    if finds (class.Word word.End ∷ []) found then bare_words text b.bare.items
     else if (not (is_some found) || not mended) && is_outside found then open_words text (open_told found b.unclosed.items)
     else None
 
@@ -99,6 +79,6 @@ blocks_words text found mended b =
 -- text lacks an `end` and no change mends it
 abbrev pub open_beside : List ℕ → List Lexeme → Unexpected → Bool → Blocks → Option (List ℕ)
 open_beside text xs u mended b =
-    if mended || not (finds Open u.found) || not (awaits Becomes u.wanted) then None
-    else if has_fewer End Begin xs then open_words text (open_told u.found b.unclosed.items)
+    if mended || not (finds (class.Sign sign.Open ∷ []) u.found) || not (awaits (class.Sign sign.Becomes) u.wanted) then None
+    else if has_fewer (class.Word word.End) (class.Word word.Begin) xs then open_words text (open_told u.found b.unclosed.items)
     else None

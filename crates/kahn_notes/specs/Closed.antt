@@ -10,9 +10,8 @@ use Rattle.kahn_syntax.specs.declared.lexeme.Lexeme.{Lexeme}
 use Rattle.kahn_wanted.specs.declared.blocks.Blocks.{Blocks}
 use Rattle.kahn_notes.specs.declared.closed.Seam.{Seam}
 use Rattle.kahn_notes.specs.declared.closed.Seam.TheVariants.{Leads, Parts, Ends, Renews, Within}
-use Rattle.kahn_notes.specs.declared.wanting.Needed.TheVariants.{Begin, End}
 use Rattle.kahn_notes.specs.Advice.{has_fewer}
-use Rattle.kahn_notes.specs.Blocked.{at_words}
+use Rattle.kahn_marks.specs.Marks.{spot_text}
 
 -- what a lexeme is to the statements beside it
 abbrev pub seam_of : Class → Seam
@@ -58,9 +57,9 @@ before_place at xs = filter (λ x. nat_lt x.span.from at) xs
 -- such an `end`, where the place stands in no process and there are too many of them
 abbrev pub IsClosedEnd : List Lexeme → ℕ → Blocks → Option Lexeme → Type 0
 IsClosedEnd xs at b end =
-    MatchBool (length b.unclosed.items == 1 && has_fewer Begin End xs) ((sure : Bool) × IsLastEnd (before_place at xs) sure end) (end ≡ None)
+    MatchBool (length b.unclosed.items == 1 && has_fewer (class.Word word.Begin) (class.Word word.End) xs) ((sure : Bool) × IsLastEnd (before_place at xs) sure end) (end ≡ None)
 
 -- what is said of it
 abbrev pub early_words : List ℕ → Lexeme → List ℕ
 early_words text e =
-    concat (codes "the `end`" ∷ at_words text e.span.from ∷ codes " closes a block: an `if`, a `while` or a `repeat` has no `end` of its own" ∷ [])
+    concat (spot_text (codes "the `end` at ") text e.span.from ∷ codes " closes a block: an `if`, a `while` or a `repeat` has no `end` of its own" ∷ [])

@@ -1,18 +1,16 @@
 //! Words of other languages, and what this one has in their place.
 
-ghost use Rattle.std.specs.Prelude.{◌≡◌, option_map};
-ghost use Rattle.std.specs.List.{list_any};
-ghost use Rattle.std.specs.Str.{str_eq_ignore_ascii_case};
-ghost use Rattle.kahn_notes.specs.Foreign.{act_words, acting_words, advised, foreign, foreign_words, joins, lone_words, name_before, spelled_name};
+ghost use Rattle.std.specs.Prelude.{◌≡◌, map, option_map};
+ghost use Rattle.kahn_notes.specs.Foreign.{acting_words, advised, foreign, foreign_words, is_one_of, joins, name_before, spelled_name, told_word};
 
 use crate::advice::advice;
-use crate::wanting::{Needed, awaits};
+use crate::wanting::{awaits, finds};
 use kahn_syntax::{Class, Lexeme, Sign};
 use kahn_wanted::{Wanted, bytes_between};
 
 /// Whether a word is one of these, in any letter case.
 fn is_one_of(word: &[u8], others: &[&str]) -> bool
-    ensures { result ≡ list_any (λ other. str_eq_ignore_ascii_case word.now other.now) others.now }
+    ensures { result ≡ is_one_of word.now (map (λ other. other.now) others.now) }
 {
     for other in others {
         if word.eq_ignore_ascii_case(other.as_bytes()) {
@@ -22,57 +20,76 @@ fn is_one_of(word: &[u8], others: &[&str]) -> bool
     false
 }
 
-/// What is said of a word for a kind, for the end of a statement, for a constant or for an operator.
-fn lone_words(word: &[u8]) -> Option<&'static str>
-    ensures { option_map (λ words. words.now) result ≡ lone_words word.now }
+/// Words of other languages, and what is said of them.
+type Told = (&'static [&'static str], &'static str);
+
+/// Those that are told of wherever they stand.
+pub(crate) const FOREIGN: [Told; 9] = [
+    (
+        &["for", "until", "loop", "forever"],
+        "a loop is `while E do S`, or `repeat S`, which has no end",
+    ),
+    (
+        &["break", "exit"],
+        "a loop ends where the test of its `while` is false",
+    ),
+    (
+        &["return", "yield"],
+        "a process has no result: `send E on C` gives a value to another one",
+    ),
+    (&["elif", "elsif", "elseif"], "it is two words: `else if`"),
+    (
+        &["int", "bool", "boolean", "var", "real", "float"],
+        "the kinds are `integer` and `logical`; one stands before its names",
+    ),
+    (
+        &["endif", "endwhile", "fi", "od"],
+        "an `if`, a `while` or a `repeat` has no `end` of its own",
+    ),
+    (
+        &["const", "constant"],
+        "there are no constants: an instance hands a number over, `P(A, 10)`",
+    ),
+    (&["xor"], "there is no exclusive or: of logicals it is `<>`"),
+    (
+        &["inout"],
+        "one process reads a channel, and another one writes it: `in U`, `out W`",
+    ),
+];
+
+/// Those that are told of where they begin a statement.
+pub(crate) const ACTING: [Told; 3] = [
+    (
+        &["select", "alt"],
+        "there is no choice among channels, since timing can't matter: a process waits on one at a time",
+    ),
+    (
+        &["case", "switch"],
+        "a choice is `if E then S else if F then T else ..`",
+    ),
+    (
+        &["skip", "pass"],
+        "a statement that does nothing is empty, or `begin end`",
+    ),
+];
+
+/// What is said of a word, where it is one of these.
+fn told_word(told: &[Told], word: &[u8]) -> Option<&'static str>
+    ensures { option_map (λ words. words.now) result ≡ told_word word.now (map (λ t. (map (λ w. w.now) t.0.now, t.1.now)) told.now) }
 {
-    if is_one_of(word, &["int", "bool", "boolean", "var", "real", "float"]) {
-        Some("the kinds are `integer` and `logical`; one stands before its names")
-    } else if is_one_of(word, &["endif", "endwhile", "fi", "od"]) {
-        Some("an `if`, a `while` or a `repeat` has no `end` of its own")
-    } else if is_one_of(word, &["const", "constant"]) {
-        Some("there are no constants: an instance hands a number over, `P(A, 10)`")
-    } else if is_one_of(word, &["xor"]) {
-        Some("there is no exclusive or: of logicals it is `<>`")
-    } else if is_one_of(word, &["inout"]) {
-        Some("one process reads a channel, and another one writes it: `in U`, `out W`")
-    } else {
-        None
+    for row in told {
+        if is_one_of(word, row.0) {
+            return Some(row.1);
+        }
     }
+    None
 }
 
-/// What is said of a word for a loop, for its end, for a result or for a further test, or of one of those.
+/// What is said of a word wherever it stands.
 fn foreign_words(word: &[u8]) -> Option<&'static str>
     ensures { option_map (λ words. words.now) result ≡ foreign_words word.now }
 {
-    if is_one_of(word, &["for", "until", "loop", "forever"]) {
-        Some("a loop is `while E do S`, or `repeat S`, which has no end")
-    } else if is_one_of(word, &["break", "exit"]) {
-        Some("a loop ends where the test of its `while` is false")
-    } else if is_one_of(word, &["return", "yield"]) {
-        Some("a process has no result: `send E on C` gives a value to another one")
-    } else if is_one_of(word, &["elif", "elsif", "elseif"]) {
-        Some("it is two words: `else if`")
-    } else {
-        lone_words(word)
-    }
-}
-
-/// What is said of a word that begins a statement: for a choice among channels or among values, or for nothing.
-fn act_words(word: &[u8]) -> Option<&'static str>
-    ensures { option_map (λ words. words.now) result ≡ act_words word.now }
-{
-    if is_one_of(word, &["select", "alt"]) {
-        Some(
-            "there is no choice among channels, since timing can't matter: a process waits on one at a time",
-        )
-    } else if is_one_of(word, &["case", "switch"]) {
-        Some("a choice is `if E then S else if F then T else ..`")
-    } else if is_one_of(word, &["skip", "pass"]) {
-        Some("a statement that does nothing is empty, or `begin end`")
-    } else {
-        None
-    }
+    told_word(&FOREIGN, word)
 }
 
 /// The letters of a name.
@@ -92,12 +109,10 @@ fn spelled_name(text: &str, lexeme: Option<Lexeme>) -> &[u8]
 fn name_before(text: &str, before: Option<Lexeme>, found: Option<Lexeme>) -> &[u8]
     ensures { result.now ≡ name_before text.now before found }
 {
-    match found {
-        Some(lexeme) => match lexeme.what {
-            Class::Sign(Sign::Equal) => &[],
-            _ => spelled_name(text, before),
-        },
-        None => spelled_name(text, before),
+    if finds(&[Class::Sign(Sign::Equal)], found) {
+        &[]
+    } else {
+        spelled_name(text, before)
     }
 }
 
@@ -120,8 +135,8 @@ fn acting_words(
 ) -> Option<&'static str>
     ensures { option_map (λ words. words.now) result ≡ acting_words text.now before found wanted.now }
 {
-    if awaits(Needed::Becomes, wanted) {
-        return act_words(name_before(text, before, found));
+    if awaits(Class::Sign(Sign::Becomes), wanted) {
+        return told_word(&ACTING, name_before(text, before, found));
     }
     None
 }
@@ -133,9 +148,8 @@ fn joins(before: Option<Lexeme>, found: Option<Lexeme>, wanted: &Wanted) -> Opti
     match (before, found) {
         (Some(one), Some(other)) if one.span.to == other.span.from => match (one.what, other.what) {
             (Class::Number(_), Class::Name) => Some("a number has decimal digits alone"),
-            (Class::Name, Class::Sign(Sign::Minus)) if !awaits(Needed::Close, wanted) => {
-                Some("a name has letters, digits and `_`")
-            }
+            (Class::Name, Class::Sign(Sign::Minus)) if !awaits(Class::Sign(Sign::Close), wanted) =>
+                { Some("a name has letters, digits and `_`") }
             _ => None,
         },
         _ => None,

@@ -1,231 +1,454 @@
-//! What stands at a place and before it, as far as it tells of a habit, and what is said of one behind another.
+//! The words for what stands as in another language, or without what belongs to it, and where each is said.
 
-ghost use Rattle.std.specs.Prelude.{◌≡◌, option_map};
-ghost use Rattle.kahn_notes.specs.Advice.{habit_words, lead_of, sort_of, word_habit};
+use kahn_syntax::Class::{self, Name, Sign, Word};
+use kahn_syntax::Keyword::{
+    And, Begin, Channel, Div, Do, Else, End, False, If, In, Input, Integer, Logical, Mod, Not, On,
+    Or, Out, Output, Par, Print, Process, Repeat, Send, Then, True, Wait, While,
+};
+use kahn_syntax::Sign::{
+    AtLeast, AtMost, Becomes, Close, Comma, Equal, Greater, Less, Minus, Open, Plus, Semicolon,
+    Times, Unequal,
+};
+use kahn_wanted::Group::{self, Arithmetic, Declaration, Operand, Statement};
 
-use crate::order::is_operator_class;
-use kahn_syntax::{Class, Keyword, Lexeme, Sign};
-
-/// What stands before a place, as far as it tells what was meant there.
+/// What holds of a place, and of what may stand there.
 #[derive(Clone, Copy)]
-pub(crate) enum Lead {
-    /// The keyword `then`.
-    Then,
-    /// Another one or a `;`, behind which a statement begins.
-    Begins,
-    /// The keyword `repeat`, behind which one begins, too.
-    Repeat,
-    /// The keyword `wait`.
-    Wait,
-    /// The keyword `par`.
-    Par,
-    /// `=`.
-    Equal,
-    /// `-`.
-    Minus,
-    /// `*`.
-    Times,
-    /// `(`.
-    Open,
-    /// `:=`.
-    Becomes,
-    /// `<`.
-    Less,
-    /// `>`.
-    Greater,
-    /// Anything else, or nothing.
-    Other,
-}
-
-/// What stands at a place, in the same way.
-#[derive(Clone, Copy)]
-pub(crate) enum Habit {
-    /// The keyword `if`.
-    If,
-    /// The keyword `while`.
-    While,
-    /// The keyword `repeat`.
-    Repeat,
-    /// The keyword `wait`.
-    Wait,
-    /// `(`.
-    Open,
-    /// `:=`.
-    Becomes,
-    /// `=`.
-    Equal,
-    /// `<`.
-    Less,
-    /// `>`.
-    Greater,
-    /// `*`.
-    Times,
-    /// `+`.
-    Plus,
-    /// `-`.
-    Minus,
-    /// The keyword `and`, `div`, `mod` or `or`.
-    Logic,
-    /// Another operator.
-    Operates,
-    /// `,`.
-    Comma,
-    /// `;`.
-    Semicolon,
-    /// `end` or `else`, with which a statement ends.
-    Stops,
-    /// The keyword `send` or `print`.
-    Acts,
-    /// The keyword `par`.
-    Par,
-    /// The keyword `channel`.
-    Channel,
-    /// The keyword `begin`.
-    Begin,
-    /// The keyword `do`.
-    Do,
-    /// A name.
-    Name,
-    /// A number.
+pub(crate) enum Test {
+    /// Nothing stands before it.
+    First,
+    /// A number stands there.
     Number,
-    /// A kind.
-    Kind,
-    /// The keyword `process`.
-    Process,
-    /// The keyword `in` or `out`.
-    Direction,
-    /// The keyword `input` or `output`.
-    Port,
-    /// Another keyword.
-    Word,
-    /// Anything else.
-    Other,
+    /// One of this class may stand there, in no group.
+    May(Class),
+    /// None may, in no group.
+    MayNot(Class),
+    /// All of this group may.
+    All(Group),
+    /// This group isn't told.
+    NotAll(Group),
+    /// An operand may, or any expression.
+    Value,
+    /// An operator may, or an arithmetic one and no comparison.
+    Operator,
 }
 
-/// What stands before a place.
-pub(crate) fn lead_of(before: Option<Lexeme>) -> Lead
-    ensures { result ≡ lead_of before }
-{
-    match before {
-        Some(lexeme) => match lexeme.what {
-            Class::Word(Keyword::Then) => Lead::Then,
-            Class::Word(Keyword::Begin) => Lead::Begins,
-            Class::Word(Keyword::Do) => Lead::Begins,
-            Class::Word(Keyword::Else) => Lead::Begins,
-            Class::Word(Keyword::Repeat) => Lead::Repeat,
-            Class::Word(Keyword::Wait) => Lead::Wait,
-            Class::Word(Keyword::Par) => Lead::Par,
-            Class::Sign(Sign::Semicolon) => Lead::Begins,
-            Class::Sign(Sign::Equal) => Lead::Equal,
-            Class::Sign(Sign::Minus) => Lead::Minus,
-            Class::Sign(Sign::Times) => Lead::Times,
-            Class::Sign(Sign::Open) => Lead::Open,
-            Class::Sign(Sign::Becomes) => Lead::Becomes,
-            Class::Sign(Sign::Less) => Lead::Less,
-            Class::Sign(Sign::Greater) => Lead::Greater,
-            _ => Lead::Other,
-        },
-        None => Lead::Other,
-    }
-}
+use Test::{All, First, May, MayNot, NotAll, Number, Operator, Value};
 
-/// What a keyword is.
-fn word_habit(keyword: Keyword) -> Habit
-    ensures { result ≡ word_habit keyword }
-{
-    match keyword {
-        Keyword::If => Habit::If,
-        Keyword::While => Habit::While,
-        Keyword::Repeat => Habit::Repeat,
-        Keyword::Wait => Habit::Wait,
-        Keyword::End => Habit::Stops,
-        Keyword::Else => Habit::Stops,
-        Keyword::Send => Habit::Acts,
-        Keyword::Print => Habit::Acts,
-        Keyword::Par => Habit::Par,
-        Keyword::Channel => Habit::Channel,
-        Keyword::Integer => Habit::Kind,
-        Keyword::Logical => Habit::Kind,
-        Keyword::Process => Habit::Process,
-        Keyword::In => Habit::Direction,
-        Keyword::Out => Habit::Direction,
-        Keyword::Input => Habit::Port,
-        Keyword::Output => Habit::Port,
-        Keyword::And => Habit::Logic,
-        Keyword::Div => Habit::Logic,
-        Keyword::Mod => Habit::Logic,
-        Keyword::Or => Habit::Logic,
-        Keyword::Begin => Habit::Begin,
-        Keyword::Do => Habit::Do,
-        _ => Habit::Word,
-    }
-}
+/// Words; and what they are said of: one of the second classes, behind one of the first, where all of the tests hold. Where there are
+/// no classes, anything may stand there, or nothing.
+pub(crate) type Habit = (
+    &'static [Class],
+    &'static [Class],
+    &'static [Test],
+    &'static str,
+);
 
-/// What stands at a place.
-pub(crate) fn sort_of(found: Option<Lexeme>) -> Habit
-    ensures { result ≡ sort_of found }
-{
-    match found {
-        Some(lexeme) => match lexeme.what {
-            Class::Word(keyword) => word_habit(keyword),
-            Class::Name => Habit::Name,
-            Class::Number(_) => Habit::Number,
-            Class::Sign(Sign::Semicolon) => Habit::Semicolon,
-            Class::Sign(Sign::Open) => Habit::Open,
-            Class::Sign(Sign::Becomes) => Habit::Becomes,
-            Class::Sign(Sign::Equal) => Habit::Equal,
-            Class::Sign(Sign::Less) => Habit::Less,
-            Class::Sign(Sign::Greater) => Habit::Greater,
-            Class::Sign(Sign::Times) => Habit::Times,
-            Class::Sign(Sign::Plus) => Habit::Plus,
-            Class::Sign(Sign::Minus) => Habit::Minus,
-            Class::Sign(Sign::Comma) => Habit::Comma,
-            class if is_operator_class(class) => Habit::Operates,
-            _ => Habit::Other,
-        },
-        None => Habit::Other,
-    }
-}
+/// Behind these a statement begins.
+const BEGINS: &[Class] = &[
+    Word(Begin),
+    Word(Do),
+    Word(Else),
+    Sign(Semicolon),
+    Word(Repeat),
+];
 
-/// What is said of one behind another.
-pub(crate) fn habit_words(lead: Lead, habit: Habit) -> Option<&'static str>
-    ensures { option_map (λ words. words.now) result ≡ habit_words lead habit }
-{
-    match (lead, habit) {
-        (Lead::Then, Habit::If) => Some("an `if` behind `then` stands between `begin` and `end`"),
-        (Lead::Then, Habit::While) => {
-            Some("a `while` behind `then` stands between `begin` and `end`")
-        }
-        (Lead::Then, Habit::Repeat) => {
-            Some("a `repeat` behind `then` stands between `begin` and `end`")
-        }
-        (Lead::Then, Habit::Wait) | (Lead::Begins, Habit::Wait) | (Lead::Repeat, Habit::Wait) => {
-            Some("`wait(C)` is a value: a statement takes one by `X := wait(C)`")
-        }
-        (Lead::Begins, Habit::Open) => Some("a comment goes from `comment` to `;`"),
-        (Lead::Begins, Habit::Minus) => Some("a comment goes from `comment` to `;`"),
-        (Lead::Begins, Habit::Do) => Some(
-            "a loop is `while E do S`, or `repeat S`, which has no end",
-        ),
-        (Lead::Repeat, Habit::Open) => Some("a comment goes from `comment` to `;`"),
-        (Lead::Repeat, Habit::Minus) => Some("a comment goes from `comment` to `;`"),
-        (Lead::Repeat, Habit::Number) => Some(
-            "`repeat` goes on for ever: `while I < 10 do begin ..; I := I + 1 end` is ten turns",
-        ),
-        (Lead::Par, Habit::Stops) => Some("`par` stands between instances: `p(A) par q(B)`"),
-        (Lead::Par, Habit::Begin) => { Some("instances stand without `begin`: `p(A) par q(B)`") }
-        (Lead::Minus, Habit::Greater) => {
-            Some("there is no arrow: `send E on C`, `X := wait(C)`")
-        }
-        (Lead::Open, Habit::Times) => Some("a comment goes from `comment` to `;`"),
-        (Lead::Equal, Habit::Equal) => Some("equal is one `=`"),
-        (Lead::Equal, Habit::Less) => Some("at most is `<=`"),
-        (Lead::Equal, Habit::Greater) => Some("at least is `>=`"),
-        (Lead::Less, Habit::Less) => Some("there is no shift: `X * 16`, `X div 16`"),
-        (Lead::Greater, Habit::Greater) => Some("there is no shift: `X * 16`, `X div 16`"),
-        (Lead::Times, Habit::Times) => Some("there is no power: `X * X`"),
-        (Lead::Wait, _) => Some("brackets stand round the channel: `wait(C)`"),
-        (Lead::Becomes, Habit::Less) => Some("a value is taken by `wait(C)`"),
-        _ => None,
-    }
-}
+/// These begin a statement, or a value.
+const ACTS: &[Class] = &[
+    Word(If),
+    Word(While),
+    Word(Repeat),
+    Word(Wait),
+    Word(Send),
+    Word(Print),
+];
+
+/// With these a statement ends.
+const STOPS: &[Class] = &[Sign(Semicolon), Word(End), Word(Else), Word(Par)];
+
+/// All operators but `=`.
+const OPERATES: &[Class] = &[
+    Sign(Plus),
+    Sign(Minus),
+    Sign(Times),
+    Sign(Less),
+    Sign(Greater),
+    Sign(Unequal),
+    Sign(AtMost),
+    Sign(AtLeast),
+    Word(And),
+    Word(Div),
+    Word(Mod),
+    Word(Or),
+];
+
+/// The keywords of which no more is told where a name alone may stand.
+const WORDS: &[Class] = &[
+    Word(And),
+    Word(Div),
+    Word(Mod),
+    Word(Or),
+    Word(Not),
+    Word(False),
+    Word(True),
+    Word(If),
+    Word(Then),
+    Word(Else),
+    Word(While),
+    Word(Do),
+    Word(Repeat),
+    Word(Begin),
+    Word(End),
+    Word(Wait),
+    Word(Send),
+    Word(On),
+    Word(Print),
+];
+
+/// The first that holds is told.
+pub(crate) const HABITS: [Habit; 60] = [
+    (
+        &[Word(Then)],
+        &[Word(If)],
+        &[],
+        "an `if` behind `then` stands between `begin` and `end`",
+    ),
+    (
+        &[Word(Then)],
+        &[Word(While)],
+        &[],
+        "a `while` behind `then` stands between `begin` and `end`",
+    ),
+    (
+        &[Word(Then)],
+        &[Word(Repeat)],
+        &[],
+        "a `repeat` behind `then` stands between `begin` and `end`",
+    ),
+    (
+        &[Word(Then)],
+        &[Word(Wait)],
+        &[],
+        "`wait(C)` is a value: a statement takes one by `X := wait(C)`",
+    ),
+    (
+        BEGINS,
+        &[Word(Wait)],
+        &[],
+        "`wait(C)` is a value: a statement takes one by `X := wait(C)`",
+    ),
+    (
+        BEGINS,
+        &[Sign(Open), Sign(Minus)],
+        &[],
+        "a comment goes from `comment` to `;`",
+    ),
+    (
+        &[Sign(Open)],
+        &[Sign(Times)],
+        &[],
+        "a comment goes from `comment` to `;`",
+    ),
+    (
+        &[Word(Begin), Word(Do), Word(Else), Sign(Semicolon)],
+        &[Word(Do)],
+        &[],
+        "a loop is `while E do S`, or `repeat S`, which has no end",
+    ),
+    (
+        &[Word(Repeat)],
+        &[],
+        &[Number],
+        "`repeat` goes on for ever: `while I < 10 do begin ..; I := I + 1 end` is ten turns",
+    ),
+    (
+        &[Word(Par)],
+        &[Word(End), Word(Else)],
+        &[],
+        "`par` stands between instances: `p(A) par q(B)`",
+    ),
+    (
+        &[Word(Par)],
+        &[Word(Begin)],
+        &[],
+        "instances stand without `begin`: `p(A) par q(B)`",
+    ),
+    (
+        &[Sign(Minus)],
+        &[Sign(Greater)],
+        &[],
+        "there is no arrow: `send E on C`, `X := wait(C)`",
+    ),
+    (&[Sign(Equal)], &[Sign(Equal)], &[], "equal is one `=`"),
+    (&[Sign(Equal)], &[Sign(Less)], &[], "at most is `<=`"),
+    (&[Sign(Equal)], &[Sign(Greater)], &[], "at least is `>=`"),
+    (
+        &[Sign(Less)],
+        &[Sign(Less)],
+        &[],
+        "there is no shift: `X * 16`, `X div 16`",
+    ),
+    (
+        &[Sign(Greater)],
+        &[Sign(Greater)],
+        &[],
+        "there is no shift: `X * 16`, `X div 16`",
+    ),
+    (
+        &[Sign(Times)],
+        &[Sign(Times)],
+        &[],
+        "there is no power: `X * X`",
+    ),
+    (
+        &[Word(Wait)],
+        &[],
+        &[],
+        "brackets stand round the channel: `wait(C)`",
+    ),
+    (
+        &[Sign(Becomes)],
+        &[Sign(Less)],
+        &[],
+        "a value is taken by `wait(C)`",
+    ),
+    (
+        &[],
+        &[Word(Channel)],
+        &[],
+        "outside of processes `integer channel C` declares one; a process gets it by `integer in U` or `integer out W`",
+    ),
+    (
+        &[],
+        &[Word(In), Word(Out)],
+        &[],
+        "a keyword is no name, in any letter case: `in` and `out` stand behind a kind, `integer in U; integer out W`",
+    ),
+    (
+        &[],
+        &[Word(Input), Word(Output)],
+        &[],
+        "a keyword is no name, in any letter case: `input` and `output` stand behind a kind, `integer input channel C`",
+    ),
+    (
+        &[],
+        &[Name],
+        &[First],
+        "a program has no name: it goes from `begin` to `end`",
+    ),
+    (
+        &[],
+        &[Name],
+        &[May(Word(Channel))],
+        "variables are declared in processes; a channel is `integer channel C`",
+    ),
+    (
+        &[],
+        &[Name],
+        &[May(Sign(Becomes))],
+        "a statement begins with `send`, `print`, `if`, `while`, `repeat` or `begin`, or is `X := E`; `X := wait(C)` takes a value",
+    ),
+    (
+        &[],
+        &[Word(If)],
+        &[All(Operand)],
+        "an `if` among operators stands in brackets",
+    ),
+    (
+        &[],
+        &[Word(If)],
+        &[Operator, MayNot(Sign(Semicolon))],
+        "a choice among values is `if T then A else B`",
+    ),
+    (
+        &[],
+        ACTS,
+        &[All(Declaration)],
+        "statements stand in processes alone",
+    ),
+    (
+        &[],
+        ACTS,
+        &[May(Word(Par))],
+        "statements stand in processes alone",
+    ),
+    (
+        &[],
+        ACTS,
+        &[May(Word(End)), MayNot(Sign(Semicolon))],
+        "statements stand in processes alone",
+    ),
+    (
+        &[],
+        &[Word(Integer), Word(Logical)],
+        &[All(Statement)],
+        "variables are declared right behind the first `begin` of a process, channels outside of processes",
+    ),
+    (
+        &[],
+        &[Word(Integer), Word(Logical)],
+        &[Value],
+        "a kind changes no value: `if T then 1 else 0` makes a number of `T`, `X <> 0` a truth value of `X`",
+    ),
+    (
+        &[],
+        &[Word(Integer), Word(Logical), Word(Process)],
+        &[May(Word(Par))],
+        "channels and processes are declared before all instances",
+    ),
+    (
+        &[],
+        &[Word(Integer), Word(Logical), Word(Process)],
+        &[May(Word(End)), MayNot(Sign(Semicolon))],
+        "channels and processes are declared before all instances",
+    ),
+    (
+        &[],
+        &[Word(Begin)],
+        &[All(Declaration)],
+        "instances stand without `begin`: `p(A) par q(B)`",
+    ),
+    (
+        &[],
+        &[Word(Par)],
+        &[MayNot(Sign(Open))],
+        "`par` stands between instances: `p(A) par q(B)`",
+    ),
+    (
+        &[],
+        &[Sign(Semicolon)],
+        &[May(Sign(Becomes))],
+        "a statement that begins with a name assigns to it, `X := E`; names of one kind stand with commas, `integer I, J`",
+    ),
+    (
+        &[],
+        STOPS,
+        &[May(Word(On))],
+        "`on` and a channel stand behind the value: `send E on C`",
+    ),
+    (
+        &[],
+        STOPS,
+        &[May(Sign(Open))],
+        "brackets stand behind the name of a process, also where they are empty: `p()`",
+    ),
+    (
+        &[],
+        STOPS,
+        &[May(Word(Else)), MayNot(Word(End))],
+        "an `if` among values has its `else`: `if E then E else E`",
+    ),
+    (
+        &[],
+        STOPS,
+        &[May(Sign(Becomes))],
+        "a statement that begins with a name assigns to it, `X := E`; `send E on C` sends a value",
+    ),
+    (
+        &[],
+        &[Sign(Plus)],
+        &[Value],
+        "no `+` stands before a value: leave it out",
+    ),
+    (
+        &[],
+        &[Sign(Plus), Sign(Minus)],
+        &[May(Sign(Becomes))],
+        "there is no `++` and no `+=`: `X := X + 1`",
+    ),
+    (
+        &[],
+        OPERATES,
+        &[May(Sign(Comma)), May(Sign(Close))],
+        "an instance hands over channels and literals, by their places: `P(A, -1, true)`",
+    ),
+    (
+        &[],
+        &[Sign(Equal), Sign(Becomes)],
+        &[May(Sign(Comma)), May(Sign(Close))],
+        "an instance hands over channels and literals, by their places: `P(A, -1, true)`",
+    ),
+    (
+        &[],
+        OPERATES,
+        &[MayNot(Sign(Comma)), All(Arithmetic)],
+        "a comparison has two sides: `0 < X and X < 3`",
+    ),
+    (
+        &[],
+        &[Sign(Equal)],
+        &[MayNot(Sign(Comma)), All(Arithmetic)],
+        "a comparison has two sides: `0 < X and X < 3`",
+    ),
+    (
+        &[],
+        OPERATES,
+        &[MayNot(Sign(Comma)), May(Sign(Becomes))],
+        "a statement that begins with a name assigns to it, `X := E`; `send E on C` sends a value",
+    ),
+    (
+        &[],
+        &[Sign(Equal), Sign(Becomes)],
+        &[May(Sign(Comma)), NotAll(Arithmetic)],
+        "a variable begins as 0 or `false`; a statement assigns to it, `X := E`",
+    ),
+    (
+        &[],
+        &[Sign(Becomes)],
+        &[MayNot(Sign(Comma)), May(Sign(Open))],
+        "an instance is `P(A, B)`: its brackets hand over the channels; statements stand in processes alone",
+    ),
+    (
+        &[],
+        &[Sign(Becomes)],
+        &[MayNot(Sign(Comma))],
+        "equal is `=`; `:=` assigns to a name, in a statement of its own",
+    ),
+    (
+        &[],
+        &[Sign(Comma)],
+        &[May(Sign(Close))],
+        "one value or one channel stands between these brackets; `print E` and `send E on C` have one value",
+    ),
+    (
+        &[],
+        &[Sign(Comma)],
+        &[May(Sign(Becomes))],
+        "a statement assigns to one name: `X := E; Y := F`",
+    ),
+    (
+        &[],
+        &[Sign(Comma)],
+        &[May(Sign(Semicolon)), Operator],
+        "a statement has one value: `print E; print F`",
+    ),
+    (
+        &[Name],
+        &[Sign(Comma)],
+        &[May(Sign(Semicolon))],
+        "a value goes on one channel: `send E on C; send E on D`",
+    ),
+    (
+        &[Name],
+        &[Sign(Open)],
+        &[May(Sign(Becomes))],
+        "a body calls nothing and starts nothing: instances stand behind all processes",
+    ),
+    (
+        &[Name],
+        &[Sign(Open)],
+        &[Operator],
+        "a body calls nothing: there are no functions, and a value is taken by `wait(C)`",
+    ),
+    (
+        &[Name],
+        &[Sign(Open)],
+        &[May(Sign(Comma)), May(Sign(Close))],
+        "an instance hands over channels and literals, by their places: `P(A, -1, true)`",
+    ),
+    (
+        &[],
+        WORDS,
+        &[May(Name), NotAll(Declaration)],
+        "a keyword is no name, in any letter case: take another one",
+    ),
+];

@@ -1,105 +1,73 @@
 //! Which changes are told.
 
 ghost use Rattle.std.specs.Prelude.{◌≡◌, ◌++◌, IfOk};
-ghost use Rattle.kahn_notes.specs.Order.{is_operator_class, is_seldom, of_rank, change_rank, ranked, same_rank};
+ghost use Rattle.kahn_notes.specs.Order.{alike, is_odd, is_worth, names_operator, ranked};
 
-use crate::wanting::{Needed, finds, is_needed};
+use crate::wanting::finds;
 use kahn_syntax::{Class, Keyword, Lexeme, Sign};
-use kahn_wanted::{Change, Spot};
+use kahn_wanted::{Change, Group, Spot};
 use std::alloc::{AllocError, Global};
 
-/// How likely a change is meant.
-#[derive(Clone, Copy)]
-pub(crate) enum Rank {
-    /// It is told alone.
-    First,
-    /// It is told where no such one is there.
-    Then,
-    /// It isn't told.
-    Never,
+/// These are seldom meant anywhere: a name or a literal, of which what may stand tells as much, and `repeat`, which goes on for ever.
+pub(crate) const SELDOM: [Class; 5] = [
+    Class::Name,
+    Class::Number(0),
+    Class::Word(Keyword::False),
+    Class::Word(Keyword::True),
+    Class::Word(Keyword::Repeat),
+];
+
+/// Whether it is an operator in the place of a name.
+fn names_operator(class: Class, named: Option<Lexeme>) -> bool
+    ensures { result ≡ names_operator class named }
+{
+    Group::Operator.members().contains(&class) && finds(&[Class::Name], named)
 }
 
-/// Whether both are the same rank.
-fn same_rank(one: Rank, other: Rank) -> bool
-    ensures { result ≡ same_rank one other }
+/// Whether one that is put beside a lexeme that was found is seldom meant: one of those, an operator in the place of a name, or `print` for a
+/// `wait`.
+fn is_odd(class: Class, spot: Spot, before: Option<Lexeme>, found: Option<Lexeme>) -> bool
+    ensures { result ≡ is_odd class spot before found }
 {
-    match (one, other) {
-        (Rank::First, Rank::First) => true,
-        (Rank::Then, Rank::Then) => true,
-        (Rank::Never, Rank::Never) => true,
-        _ => false,
+    if SELDOM.contains(&class) {
+        return true;
+    }
+    let for_wait = class == Class::Word(Keyword::Print)
+        && finds(&[Class::Word(Keyword::Wait)], found);
+    match spot {
+        Spot::Between => for_wait,
+        Spot::Here => names_operator(class, found) || for_wait,
+        Spot::Before => names_operator(class, before),
     }
 }
 
-/// Whether one that is put anywhere is seldom meant: a name or a literal, of which what may stand tells as much, or `repeat`, which goes on
-/// for ever.
-fn is_seldom(class: Class) -> bool
-    ensures { result ≡ is_seldom class }
-{
-    match class {
-        Class::Name => true,
-        Class::Number(_) => true,
-        Class::Word(Keyword::False) => true,
-        Class::Word(Keyword::True) => true,
-        Class::Word(Keyword::Repeat) => true,
-        _ => false,
-    }
-}
-
-/// Whether it is an operator.
-pub(crate) fn is_operator_class(class: Class) -> bool
-    ensures { result ≡ is_operator_class class }
-{
-    match class {
-        Class::Word(Keyword::And) => true,
-        Class::Word(Keyword::Div) => true,
-        Class::Word(Keyword::Mod) => true,
-        Class::Word(Keyword::Or) => true,
-        Class::Sign(Sign::Plus) => true,
-        Class::Sign(Sign::Minus) => true,
-        Class::Sign(Sign::Times) => true,
-        Class::Sign(Sign::Equal) => true,
-        Class::Sign(Sign::Unequal) => true,
-        Class::Sign(Sign::Less) => true,
-        Class::Sign(Sign::AtMost) => true,
-        Class::Sign(Sign::Greater) => true,
-        Class::Sign(Sign::AtLeast) => true,
-        _ => false,
-    }
-}
-
-/// How likely a change beside a lexeme that was found is meant, where one stands before it.
-fn change_rank(before: Option<Lexeme>, found: Option<Lexeme>, change: Change) -> Rank
-    ensures { result ≡ change_rank before found change.spot change.put }
+/// Whether a change is told: first leaving out the `;` before an `else`, and then what isn't seldom meant.
+fn is_told(first: bool, before: Option<Lexeme>, found: Option<Lexeme>, change: Change) -> bool
+    ensures { result ≡ is_worth first before found change.spot change.put }
 {
     match (change.spot, change.put) {
-        (Spot::Before, None) if finds(Needed::Semicolon, before) && finds(Needed::Else, found) =>
-            Rank::First,
-        (_, Some(class)) if is_seldom(class) => Rank::Never,
-        (Spot::Before, Some(class)) if is_operator_class(class) && finds(Needed::Name, before) =>
-            Rank::Never,
-        (Spot::Here, Some(class)) if is_operator_class(class) && finds(Needed::Name, found) =>
-            Rank::Never,
-        (Spot::Here, Some(class))
-            if is_needed(Needed::Print, class) && finds(Needed::Wait, found) => Rank::Never,
-        (Spot::Between, Some(class))
-            if is_needed(Needed::Print, class) && finds(Needed::Wait, found) => Rank::Never,
-        _ => Rank::Then,
+        (spot, Some(class)) => !first && !is_odd(class, spot, before, found),
+        (Spot::Before, None) => {
+            !first
+                || (finds(&[Class::Sign(Sign::Semicolon)], before)
+                    && finds(&[Class::Word(Keyword::Else)], found))
+        }
+        _ => !first,
     }
 }
 
-/// Adds those of the changes that have a rank.
-fn add_ranked(
+/// Adds those of the changes that are.
+fn add_told(
     list: &mut Vec<Change>,
-    rank: Rank,
+    first: bool,
     before: Option<Lexeme>,
     found: Option<Lexeme>,
     changes: &[Change],
 ) -> Result<(), AllocError>
-    ensures { IfOk result (λ _. list.new.items ≡ list.old.items ++ of_rank rank before found changes.now) }
+    ensures { IfOk result (λ _. list.new.items ≡ list.old.items ++ alike first before found changes.now) }
 {
     for change in changes {
-        if same_rank(rank, change_rank(before, found, *change)) {
+        if is_told(first, before, found, *change) {
             list.push(*change)?;
         }
     }
@@ -116,10 +84,10 @@ pub(crate) fn ranked(
     ensures { IfOk result (λ list. list.items ≡ ranked before found changes.now) }
 {
     let mut list = Vec::new(alloc);
-    add_ranked(&mut list, Rank::First, before, found, changes)?;
+    add_told(&mut list, true, before, found, changes)?;
     if !list.is_empty() {
         return Ok(list);
     }
-    add_ranked(&mut list, Rank::Then, before, found, changes)?;
+    add_told(&mut list, false, before, found, changes)?;
     Ok(list)
 }

@@ -18,4 +18,4 @@ pub use parser::program::one_tree;
 pub use parser::{one_fault, parse};
 
 // For the crates above.
-pub use parser::program::parse_lexemes;
+pub use parser::program::lexemes_fault;

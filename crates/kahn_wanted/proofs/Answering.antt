@@ -6,13 +6,13 @@ use Rattle.kahn_syntax.specs.declared.lexeme.Lexeme.{Lexeme}
 use Rattle.kahn_syntax.specs.declared.fault.SyntaxFault.TheVariants.{Expected, TooDeep}
 use Rattle.kahn_syntax.specs.declared.fault.What.{What}
 use Rattle.kahn_syntax.specs.declared.fault.What.TheVariants.{More, Nothing, Other}
-use Rattle.kahn_syntax.specs.Grammar.{Terminal, ProgramTree, Spells}
-use Rattle.kahn_syntax.specs.Texts.{terminal, terminals, Begins, BeginsWithin, IsTooDeep, IsFault}
+use Rattle.kahn_syntax.specs.Grammar.{Terminal, Spells}
+use Rattle.kahn_syntax.specs.Texts.{terminal, terminals, Begins, BeginsWithin, IsWholeWithin, IsTooDeep, IsFault}
 use Rattle.kahn_syntax.proofs.Meaning.{terminals_append}
 use Rattle.kahn_wanted.specs.inner.Asked.{AreLed, AnswersBegin, is_more}
 
-pub whole : (ks : List Terminal) (t : ProgramTree) → Spells t ks → AnswersBegin ks true
-whole ks t h = (t, [], subst (Spells t) (sym (append-nil ks)) h)
+pub whole : (ks : List Terminal) → IsWholeWithin ks → AnswersBegin ks true
+whole ks (t, h, small) = (t, [], subst (Spells t) (sym (append-nil ks)) h)
 
 pub more : (text : List ℕ) (xs : List Lexeme) (at : Span) → IsFault text xs (Expected at More) → AnswersBegin (terminals text xs) true
 more text xs at (_, _, (t, after, h, _), _) = (t, after, h)

@@ -1,8 +1,8 @@
 -- The lexemes before a fault.
 use Rattle.std.proofs.Common.{◌≡◌, ℕ, ◌+◌, ◌≤◌, ◌<◌, zero, suc, List, [], ◌∷◌, ◌++◌, length, take, drop, get_or, slice_get, Some, sym, ap, ◌∙◌, subst, arith, append_assoc, append-nil, add-one, length-append, ⊎_elim}
 use Rattle.std.proofs.Math.Seq.{drop-cons, get_or-append_seam}
-use Rattle.std.proofs.lemmas.List.{take-append-le, take-append-drop}
-use Rattle.std.proofs.lemmas.Option.{slice_get-get_or}
+use Rattle.std.proofs.lemmas.List.{take_all, take-append-le, take-append-drop}
+use Rattle.std.proofs.lemmas.Option.{get_or_from_slice_get, slice_get-get_or, slice_get_past, slice_get_within}
 use Rattle.kahn_streams.specs.declared.span.Span.{Span}
 use Rattle.kahn_syntax.specs.declared.lexeme.Lexeme.{Lexeme}
 use Rattle.kahn_syntax.specs.declared.fault.SyntaxFault.TheVariants.{Expected}
@@ -13,6 +13,9 @@ use Rattle.kahn_syntax.specs.Grammar.{Spells}
 use Rattle.kahn_syntax.proofs.Meaning.{terminals_append}
 use Rattle.kahn_syntax.proofs.OneList.{same_lexemes}
 use Rattle.kahn_syntax.proofs.Reached.{le_or}
+use Rattle.kahn_wanted.specs.Mends.{IsPlace}
+use Rattle.kahn_wanted.specs.Wanted.{AreWanted, IsAtFault, IsInstead}
+use Rattle.kahn_wanted.specs.declared.found.Unexpected.{Unexpected}
 use Rattle.kahn_wanted.specs.inner.Asked.{StandsBehind}
 
 pub proper_front : (text : List ℕ) (n : ℕ) (xs : List Lexeme) → AreProper text xs → AreProper text (take n xs)
@@ -66,3 +69,16 @@ pub found_there : (text : List ℕ) (xs : List Lexeme) (span : Span) (n : ℕ) �
 found_there text xs span n (before, x, after, e, is, within) first most found =
     let below : n < length xs = below_all text xs span n (before, x, after, e, is, within) first most in
     (get_or xs n x, slice_get-get_or xs n x below, sym (found x below))
+
+-- a lexeme that stands there
+instead : (text : List ℕ) (xs : List Lexeme) (span : Span) (n : ℕ) (u : Unexpected) (x : Lexeme) → slice_get xs n ≡ Some x → span ≡ x.span → u.found ≡ slice_get xs n
+    → AreWanted (terminals text (take n xs)) u.wanted → IsInstead text xs span u
+instead text xs span n u x there same found wanted = (take n xs, x, drop (n + 1) xs, subst (λ y. xs ≡ take n xs ++ y ∷ drop (n + 1) xs) (get_or_from_slice_get xs n x x there) (cut_at xs n x (slice_get_within xs n x there)), same, found ∙ there, wanted)
+
+-- what stands where lexemes go wrong
+pub at_place : (text : List ℕ) (xs : List Lexeme) (span : Span) (what : What) (n : ℕ) (u : Unexpected) → IsPlace xs span what n → u.found ≡ slice_get xs n
+    → AreWanted (terminals text (take n xs)) u.wanted → IsAtFault text xs span what u
+at_place text xs span More n u is found wanted =
+    (found ∙ ap (slice_get xs) is ∙ slice_get_past xs (length xs) (omega arith), subst (λ l. AreWanted (terminals text l) u.wanted) (ap (λ k. take k xs) is ∙ take_all (length xs) xs (omega arith)) wanted)
+at_place text xs span Nothing n u (x, there, same) found wanted = instead text xs span n u x there same found wanted
+at_place text xs span Other n u (x, there, same) found wanted = instead text xs span n u x there same found wanted

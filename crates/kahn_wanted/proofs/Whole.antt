@@ -1,12 +1,11 @@
 -- What is a program with one lexeme is one with another lexeme of its class there.
-use Rattle.std.proofs.Common.{◌≡◌, ℕ, suc, ◌+◌, ◌≤◌, List, [], ◌∷◌, ◌++◌, length, Bool, true, false, cond, Option, Some, None, Result, Ok, IfOk, refl, sym, ap, ◌∙◌, subst, arith, ⊎_elim}
+use Rattle.std.proofs.Common.{◌≡◌, ℕ, suc, ◌+◌, ◌≤◌, List, [], ◌∷◌, ◌++◌, length, Bool, true, false, cond, Option, Some, None, refl, sym, ap, ◌∙◌, subst, arith, ⊎_elim}
 use Rattle.std.specs.Prelude.{nat_le}
-use Rattle.kahn_streams.specs.declared.tree.Program.{Program}
 use Rattle.kahn_syntax.specs.declared.fault.SyntaxFault.{SyntaxFault}
 use Rattle.kahn_syntax.specs.declared.fault.SyntaxFault.TheVariants as fault
-use Rattle.kahn_syntax.specs.Texts.{program_tree, IsWholeWithin}
+use Rattle.kahn_syntax.specs.Texts.{IsWholeWithin}
 use Rattle.kahn_syntax.specs.declared.lexeme.Sign.TheVariants as mark
-use Rattle.kahn_syntax.specs.Grammar.{Terminal, sign, ProgramTree, program, May, StandsFirst, Spells, nesting}
+use Rattle.kahn_syntax.specs.Grammar.{Terminal, sign, program, May, StandsFirst}
 use Rattle.kahn_syntax.specs.inner.Machine.{Part, ProgramPart, levels, may_end, step, Whole, Refuses, TooFar, fate, onward}
 use Rattle.kahn_syntax.proofs.Reached.{go_far, go_none, le_or, whole_far, whole_refuses}
 use Rattle.kahn_syntax.proofs.Steps.{go}
@@ -60,11 +59,5 @@ pub back_whole : (before after : List Terminal) (k l : Terminal) → Probed k l 
 back_whole before after k l (same e) h = subst (λ x. IsWholeWithin (before ++ x ∷ after)) (sym e) h
 back_whole before after k l (alike a b) h = alike_whole before after l k b h
 
--- what the parser's answer says
-pub parsed_whole : (ks : List Terminal) (r : Result Program SyntaxFault) (p : Program) → r ≡ Ok p → IfOk r (λ q. Spells (program_tree q) ks) → IfOk r (λ q. nesting (program_tree q) ≤ 64)
-    → IsWholeWithin ks
-parsed_whole ks r p e spells small =
-    (program_tree p, subst (λ (s : Result Program SyntaxFault). IfOk s (λ q. Spells (program_tree q) ks)) e spells, subst (λ (s : Result Program SyntaxFault). IfOk s (λ q. nesting (program_tree q) ≤ 64)) e small)
-
-pub refused_none : (ks : List Terminal) (f : SyntaxFault) → ((t : ProgramTree) → Spells t ks → nesting t ≤ 64 → f ≡ fault.NoMemory) → ¬ (f ≡ fault.NoMemory) → ¬ (IsWholeWithin ks)
-refused_none ks f found other (t, h, small) = other (found t h small)
+pub refused_none : (ks : List Terminal) (f : SyntaxFault) → (IsWholeWithin ks → f ≡ fault.NoMemory) → ¬ (f ≡ fault.NoMemory) → ¬ (IsWholeWithin ks)
+refused_none ks f found other h = other (found h)

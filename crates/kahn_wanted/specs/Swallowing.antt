@@ -1,5 +1,6 @@
 -- Believed. What a comment has behind its first line that reads like the beginning or the end of a statement.
 use Rattle.std.specs.Prelude.{◌≡◌, ℕ, zero, suc, ◌-◌, ◌≤◌, ◌<◌, Bool, true, false, ◌||◌, ◌&&◌, ◌==◌, not, IsTrue, List, [], ◌∷◌, codes, drop, slice_index}
+use Rattle.std.specs.List.{starts_with}
 use Rattle.std.specs.Char.{eq_ignore_ascii_case, is_ascii_alphanumeric}
 
 -- letters, digits and `_`
@@ -44,16 +45,10 @@ has_statement rest =
     has_word (codes "send") rest || has_word (codes "print") rest || has_word (codes "repeat") rest
     || (has_word (codes "if") rest && line_has (codes "then") rest) || (has_word (codes "while") rest && line_has (codes "do") rest)
 
--- it begins with these bytes
-abbrev pub has_bytes : List ℕ → List ℕ → Bool
-has_bytes [] rest = true
-has_bytes (c ∷ bytes) [] = false
-has_bytes (c ∷ bytes) (b ∷ rest) = c == b && has_bytes bytes rest
-
 -- `:=` begins at byte i, or a whole word `wait` with a bracket behind it, which the byte before isn't a part of, or a line with a statement
 abbrev pub is_statement_at : List ℕ → ℕ → Bool
 is_statement_at text i =
-    has_bytes (codes ":=") (drop i text)
+    starts_with ◌==◌ (drop i text) (codes ":=")
     || (not (is_of_word (slice_index text (i - 1))) && has_call (codes "wait") (drop i text))
     || (begins_line text i && has_statement (drop i text))
 

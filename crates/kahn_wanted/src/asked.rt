@@ -1,11 +1,11 @@
 //! Which classes of lexemes may stand behind lexemes: the parser is asked whether they begin a program.
 
-ghost use Rattle.std.specs.Prelude.{◌≡◌, ◌∷◌, ◌++◌, [], All, IfOk, IfErr};
+ghost use Rattle.std.specs.Prelude.{◌≡◌, ◌∷◌, ◌++◌, [], All, IfOk};
 ghost use Rattle.kahn_syntax.specs.Texts.{terminal, terminals, AreProper, IsProper, IsUnsigned, Begins, BeginsWithin, IsFault};
-ghost use Rattle.kahn_syntax.specs.declared.fault.SyntaxFault.TheVariants.{NoMemory};
 ghost use Rattle.kahn_wanted.specs.inner.Asked.{AreLed, AreOf, MayCome, AnswersBegin, is_more};
 
-use kahn_syntax::{Class, Keyword, Lexeme, Sign, Span, SyntaxFault, What, parse_lexemes};
+use kahn_streams::NoMemory;
+use kahn_syntax::{Class, Keyword, Lexeme, Sign, Span, SyntaxFault, What, lexemes_fault};
 use std::alloc::Global;
 
 /// The classes of lexemes; the one of the number 0 stands for all numbers. The sign for `not` is the word.
@@ -67,44 +67,36 @@ fn is_more(what: What) -> bool
 }
 
 // Whether lexemes begin a program that have this fault, where those before the last one do.
-fn said(text: &str, lexemes: &[Lexeme], fault: SyntaxFault) -> Result<bool, SyntaxFault>
+fn said(text: &str, lexemes: &[Lexeme], fault: SyntaxFault) -> Result<bool, NoMemory>
     requires led { AreLed text.now lexemes.now }
     requires fault { IsFault text.now lexemes.now fault }
-    ensures says { IfOk result (AnswersBegin (terminals text.now lexemes.now)) }
-    ensures memory { IfErr result (λ e. e ≡ NoMemory) }
+    ensures { IfOk result (AnswersBegin (terminals text.now lexemes.now)) }
 {
     match fault {
         SyntaxFault::Expected(_, what) => Ok(is_more(what)),
         SyntaxFault::TooDeep(_) => Ok(true),
-        _ => Err(SyntaxFault::NoMemory),
+        _ => Err(NoMemory),
     }
 }
 
 /// Whether the lexemes begin a program, where those before the last one do.
-fn begins(alloc: Global, text: &str, lexemes: &[Lexeme]) -> Result<bool, SyntaxFault>
+fn begins(alloc: Global, text: &str, lexemes: &[Lexeme]) -> Result<bool, NoMemory>
     requires proper { AreProper text.now lexemes.now }
     requires led { AreLed text.now lexemes.now }
-    ensures says { IfOk result (AnswersBegin (terminals text.now lexemes.now)) }
-    ensures memory { IfErr result (λ e. e ≡ NoMemory) }
+    ensures { IfOk result (AnswersBegin (terminals text.now lexemes.now)) }
 {
-    match parse_lexemes(alloc, text, lexemes) {
-        Ok(_) => Ok(true),
-        Err(fault) => said(text, lexemes, fault),
+    match lexemes_fault(alloc, text, lexemes) {
+        None => Ok(true),
+        Some(fault) => said(text, lexemes, fault),
     }
 }
 
 /// Whether a lexeme may come behind others that begin a program.
-fn may_come(
-    alloc: Global,
-    text: &str,
-    before: &[Lexeme],
-    lexeme: Lexeme,
-) -> Result<bool, SyntaxFault>
+fn may_come(alloc: Global, text: &str, before: &[Lexeme], lexeme: Lexeme) -> Result<bool, NoMemory>
     requires proper { AreProper text.now before.now }
     requires one { IsProper text.now lexeme.what lexeme.span }
     requires within { BeginsWithin (terminals text.now before.now) }
-    ensures says { IfOk result (AnswersBegin (terminals text.now before.now ++ terminal text.now lexeme.what lexeme.span ∷ [])) }
-    ensures memory { IfErr result (λ e. e ≡ NoMemory) }
+    ensures { IfOk result (AnswersBegin (terminals text.now before.now ++ terminal text.now lexeme.what lexeme.span ∷ [])) }
 {
     let mut lexemes = Vec::new(alloc);
     lexemes.extend_from_slice(before)?;
@@ -113,17 +105,16 @@ fn may_come(
 }
 
 /// Those of some classes of which one may come behind lexemes that begin a program.
-fn coming(
+pub(crate) fn coming(
     alloc: Global,
     text: &str,
     before: &[Lexeme],
     some: &[Class],
-) -> Result<Vec<Class>, SyntaxFault>
+) -> Result<Vec<Class>, NoMemory>
     requires proper { AreProper text.now before.now }
     requires unsigned { All IsUnsigned some.now }
     requires within { BeginsWithin (terminals text.now before.now) }
-    ensures told { IfOk result (λ ws. AreOf text.now before.now some.now ws.items) }
-    ensures memory { IfErr result (λ e. e ≡ NoMemory) }
+    ensures { IfOk result (λ ws. AreOf text.now before.now some.now ws.items) }
 {
     let mut wanted = Vec::new(alloc);
     for class in some {
@@ -136,18 +127,4 @@ fn coming(
         }
     }
     Ok(wanted)
-}
-
-/// The classes of which a lexeme may come behind lexemes that begin a program.
-pub(crate) fn classes(
-    alloc: Global,
-    text: &str,
-    before: &[Lexeme],
-) -> Result<Vec<Class>, SyntaxFault>
-    requires proper { AreProper text.now before.now }
-    requires within { BeginsWithin (terminals text.now before.now) }
-    ensures told { IfOk result (λ ws. AreOf text.now before.now CLASSES ws.items) }
-    ensures memory { IfErr result (λ e. e ≡ NoMemory) }
-{
-    coming(alloc, text, before, &CLASSES)
 }

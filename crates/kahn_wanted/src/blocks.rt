@@ -1,10 +1,9 @@
 //! The blocks that are open at a place of a text, and the statements before it that begin without one.
 
-ghost use Rattle.std.specs.Prelude.{◌≡◌, ◌≤◌, ◌==◌, IfOk, None, [], length, take};
-ghost use Rattle.std.specs.List.{list_any};
+ghost use Rattle.std.specs.Prelude.{◌≡◌, IfOk, None, take};
 ghost use Rattle.kahn_syntax.specs.declared.fault.SyntaxFault.TheVariants.{Expected};
 ghost use Rattle.kahn_syntax.specs.Texts.{IsFault, IsTextFault};
-ghost use Rattle.kahn_wanted.specs.Blocks.{AreBlocks, AreBlocksAt, AreBlocksOf, bare_heads, bytes_between, is_bare, is_begin, is_process, leads_on, open_blocks};
+ghost use Rattle.kahn_wanted.specs.Blocks.{AreBlocksAt, AreBlocksOf, bare_heads, bytes_between, is_bare, is_begin, is_process, leads_on, open_blocks};
 ghost use Rattle.kahn_wanted.specs.inner.Open.{bare_after, blocks_after, without_last};
 
 use crate::changes::lexeme_before;
@@ -118,23 +117,11 @@ pub fn bytes_between(text: &str, from: usize, to: usize) -> &[u8]
     }
 }
 
-/// Whether a line ends among bytes.
-pub(crate) fn is_broken(bytes: &[u8]) -> bool
-    ensures { result ≡ list_any (λ b. b == 10) bytes.now }
-{
-    for byte in bytes {
-        if *byte == b'\n' {
-            return true;
-        }
-    }
-    false
-}
-
 /// Whether the statement behind a lexeme begins with another one on a later line, and is no block.
 fn is_bare(text: &str, head: Lexeme, lexeme: Lexeme) -> bool
     ensures { result ≡ is_bare text.now head lexeme }
 {
-    let line = is_broken(bytes_between(text, head.span.to, lexeme.span.from));
+    let line = bytes_between(text, head.span.to, lexeme.span.from).contains(&b'\n');
     leads_on(head.what) && !is_begin(lexeme.what) && line
 }
 
@@ -175,25 +162,6 @@ fn bare_behind(alloc: Global, text: &str, lexemes: &[Lexeme]) -> Result<Vec<Lexe
     Ok(bare)
 }
 
-/// What the lexemes before a place leave open.
-fn blocks_before(
-    alloc: Global,
-    text: &str,
-    lexemes: &[Lexeme],
-    number: usize,
-) -> Result<Blocks, AllocError>
-    requires { number ≤ length lexemes.now }
-    ensures { IfOk result (AreBlocks text.now lexemes.now number) }
-{
-    let unclosed = open_behind(alloc, &lexemes[..number])?;
-    let bare = bare_behind(alloc, text, &lexemes[..number])?;
-    Ok(Blocks {
-        before: lexeme_before(lexemes, number),
-        unclosed,
-        bare,
-    })
-}
-
 /// What lexemes leave open before a fault of theirs.
 fn blocks_of(
     alloc: Global,
@@ -206,7 +174,13 @@ fn blocks_of(
     ensures { IfOk result (AreBlocksAt text.now lexemes.now span what) }
 {
     let number = place_of(text, lexemes, span, what);
-    Ok(blocks_before(alloc, text, lexemes, number)?)
+    let unclosed = open_behind(alloc, &lexemes[..number])?;
+    let bare = bare_behind(alloc, text, &lexemes[..number])?;
+    Ok(Blocks {
+        before: lexeme_before(lexemes, number),
+        unclosed,
+        bare,
+    })
 }
 
 /// What the lexemes leave open before the place where a text goes wrong. It refuses only where memory was refused.

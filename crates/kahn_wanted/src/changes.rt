@@ -6,7 +6,7 @@ ghost use Rattle.kahn_wanted.specs.inner.Tried.{put_lexemes};
 
 use crate::asked::CLASSES;
 use kahn_syntax::{Class, Lexeme, Span};
-use std::alloc::{AllocError, Global};
+use std::alloc::AllocError;
 
 /// Where a lexeme is put in or left out, beside a place of a list.
 #[derive(Clone, Copy)]
@@ -36,7 +36,7 @@ pub(crate) fn lexeme_before(lexemes: &[Lexeme], number: usize) -> Option<Lexeme>
 }
 
 /// The lexeme at a place.
-fn lexeme_at(lexemes: &[Lexeme], number: usize) -> Option<Lexeme>
+pub(crate) fn lexeme_at(lexemes: &[Lexeme], number: usize) -> Option<Lexeme>
     ensures { result ≡ slice_get lexemes.now number }
 {
     lexemes.get(number).copied()
@@ -84,40 +84,38 @@ fn add_put(lexemes: &mut Vec<Lexeme>, put: Option<Class>) -> Result<(), AllocErr
     }
 }
 
-/// The lexemes up to a place, the one that is put in, and those from another place on.
-fn spliced(
-    alloc: Global,
+/// Adds the lexemes up to a place, the one that is put in, and those from another place on.
+fn add_spliced(
+    all: &mut Vec<Lexeme>,
     lexemes: &[Lexeme],
     first: usize,
     rest: usize,
     put: Option<Class>,
-) -> Result<Vec<Lexeme>, AllocError>
+) -> Result<(), AllocError>
     requires first { first ≤ length lexemes.now }
     requires rest { rest ≤ length lexemes.now }
-    ensures { IfOk result (λ all. all.items ≡ take first lexemes.now ++ put_lexemes put ++ drop rest lexemes.now) }
+    ensures { IfOk result (λ _. all.new.items ≡ all.old.items ++ take first lexemes.now ++ put_lexemes put ++ drop rest lexemes.now) }
 {
-    let mut all = Vec::new(alloc);
     all.extend_from_slice(&lexemes[..first])?;
-    add_put(&mut all, put)?;
-    all.extend_from_slice(&lexemes[rest..])?;
-    Ok(all)
+    add_put(all, put)?;
+    all.extend_from_slice(&lexemes[rest..])
 }
 
-/// The lexemes with a change.
-pub(crate) fn changed(
-    alloc: Global,
+/// Adds the lexemes with a change.
+pub(crate) fn add_changed(
+    all: &mut Vec<Lexeme>,
     lexemes: &[Lexeme],
     number: usize,
     change: Change,
-) -> Result<Vec<Lexeme>, AllocError>
+) -> Result<(), AllocError>
     requires within { number ≤ length lexemes.now }
     requires spot { HasSpot lexemes.now number change.spot change.put }
-    ensures { IfOk result (λ all. all.items ≡ changed lexemes.now number change.spot (put_lexemes change.put)) }
+    ensures { IfOk result (λ _. all.new.items ≡ all.old.items ++ changed lexemes.now number change.spot (put_lexemes change.put)) }
 {
     match change.spot {
-        Spot::Between => spliced(alloc, lexemes, number, number, change.put),
-        Spot::Here => spliced(alloc, lexemes, number, number + 1, change.put),
-        Spot::Before => spliced(alloc, lexemes, number - 1, number, change.put),
+        Spot::Between => add_spliced(all, lexemes, number, number, change.put),
+        Spot::Here => add_spliced(all, lexemes, number, number + 1, change.put),
+        Spot::Before => add_spliced(all, lexemes, number - 1, number, change.put),
     }
 }
 
@@ -134,12 +132,11 @@ fn add_puts(changes: &mut Vec<Change>, spot: Spot) -> Result<(), AllocError>
     Ok(())
 }
 
-/// All changes at a place, in the order in which they are told.
-pub(crate) fn near_changes(alloc: Global) -> Result<Vec<Change>, AllocError>
-    ensures { IfOk result (λ changes. changes.items ≡ near_changes) }
+/// Adds all changes at a place, in the order in which they are told.
+pub(crate) fn add_near(changes: &mut Vec<Change>) -> Result<(), AllocError>
+    ensures { IfOk result (λ _. changes.new.items ≡ changes.old.items ++ near_changes) }
 {
-    let mut changes = Vec::new(alloc);
-    add_puts(&mut changes, Spot::Between)?;
+    add_puts(changes, Spot::Between)?;
     changes.push(Change {
         spot: Spot::Here,
         put: None,
@@ -148,7 +145,6 @@ pub(crate) fn near_changes(alloc: Global) -> Result<Vec<Change>, AllocError>
         spot: Spot::Before,
         put: None,
     })?;
-    add_puts(&mut changes, Spot::Here)?;
-    add_puts(&mut changes, Spot::Before)?;
-    Ok(changes)
+    add_puts(changes, Spot::Here)?;
+    add_puts(changes, Spot::Before)
 }

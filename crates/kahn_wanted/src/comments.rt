@@ -8,7 +8,6 @@ ghost use Rattle.kahn_wanted.specs.Comments.{AreComments, IsCommentBefore, IsLas
 ghost use Rattle.kahn_wanted.specs.Swallowing.{is_space};
 ghost use Rattle.kahn_wanted.specs.inner.Passing.{EndWithin, Passed};
 
-use crate::blocks::is_broken;
 use crate::swallowing::{is_blank, swallows};
 use kahn_streams::NoMemory;
 use kahn_syntax::{Span, lex};
@@ -82,7 +81,7 @@ fn is_beside(text: &[u8], at: usize) -> bool
     ensures { result ≡ is_beside text.now at }
 {
     let rest = &text[at..];
-    let broken = is_broken(rest);
+    let broken = rest.contains(&b'\n');
     !broken || are_blank(rest)
 }
 

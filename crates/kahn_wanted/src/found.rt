@@ -1,14 +1,15 @@
 //! What stands where a text goes wrong, and what may stand there.
 
-ghost use Rattle.std.specs.Prelude.{◌≡◌, ◌≤◌, ◌<◌, ℕ, IfOk, None, length, slice_index_or};
+ghost use Rattle.std.specs.Prelude.{◌≡◌, ◌≤◌, ◌<◌, ℕ, IfOk, length, slice_index_or};
 ghost use Rattle.kahn_syntax.specs.declared.fault.SyntaxFault.TheVariants.{Expected};
 ghost use Rattle.kahn_syntax.specs.declared.lexeme.Lexeme.{Lexeme};
 ghost use Rattle.kahn_syntax.specs.Texts.{BeginsWithin, IsFault, IsTextFault, terminals, AreProper};
-ghost use Rattle.kahn_wanted.specs.Wanted.{AreWanted, IsAtFault, IsInstead, IsUnexpected};
-ghost use Rattle.kahn_wanted.specs.inner.Asked.{StandsBehind};
+ghost use Rattle.kahn_wanted.specs.Wanted.{AreWanted, IsAtFault, IsUnexpected};
 
-use crate::asked::classes;
+use crate::asked::{CLASSES, coming};
+use crate::changes::lexeme_at;
 use crate::groups::{Wanted, grouped};
+use crate::mended::place_of;
 use kahn_streams::NoMemory;
 use kahn_syntax::{Lexeme, Span, What, lex};
 use std::alloc::Global;
@@ -28,9 +29,7 @@ fn wanted_behind(alloc: Global, text: &str, before: &[Lexeme]) -> Result<Wanted,
     requires within { BeginsWithin (terminals text.now before.now) }
     ensures { IfOk result (AreWanted (terminals text.now before.now)) }
 {
-    let Ok(classes) = classes(alloc, text, before) else {
-        return Err(NoMemory);
-    };
+    let classes = coming(alloc, text, before, &CLASSES)?;
     Ok(grouped(alloc, &classes)?)
 }
 
@@ -48,39 +47,6 @@ pub(crate) fn count_before(lexemes: &[Lexeme], span: Span) -> usize
     lexemes.len()
 }
 
-/// What stands at a lexeme, and what may stand there instead.
-fn instead(
-    alloc: Global,
-    text: &str,
-    lexemes: &[Lexeme],
-    span: Span,
-) -> Result<Unexpected, NoMemory>
-    requires proper { AreProper text.now lexemes.now }
-    requires standing { StandsBehind text.now lexemes.now span }
-    ensures { IfOk result (IsInstead text.now lexemes.now span) }
-{
-    let number = count_before(lexemes, span);
-    let found = lexemes[number];
-    let wanted = wanted_behind(alloc, text, &lexemes[..number])?;
-    Ok(Unexpected {
-        found: Some(found),
-        wanted,
-    })
-}
-
-/// What stands at the end of a text, and what may stand there.
-fn at_end(alloc: Global, text: &str, lexemes: &[Lexeme]) -> Result<Unexpected, NoMemory>
-    requires proper { AreProper text.now lexemes.now }
-    requires within { BeginsWithin (terminals text.now lexemes.now) }
-    ensures { IfOk result (λ u. (u.found ≡ None) × AreWanted (terminals text.now lexemes.now) u.wanted) }
-{
-    let wanted = wanted_behind(alloc, text, lexemes)?;
-    Ok(Unexpected {
-        found: None,
-        wanted,
-    })
-}
-
 /// What stands where lexemes go wrong, and what may stand there.
 fn wanted_of(
     alloc: Global,
@@ -93,11 +59,12 @@ fn wanted_of(
     requires fault { IsFault text.now lexemes.now (Expected span what) }
     ensures { IfOk result (IsAtFault text.now lexemes.now span what) }
 {
-    match what {
-        What::More => at_end(alloc, text, lexemes),
-        What::Nothing => instead(alloc, text, lexemes, span),
-        What::Other => instead(alloc, text, lexemes, span),
-    }
+    let number = place_of(text, lexemes, span, what);
+    let wanted = wanted_behind(alloc, text, &lexemes[..number])?;
+    Ok(Unexpected {
+        found: lexeme_at(lexemes, number),
+        wanted,
+    })
 }
 
 /// What stands where a text goes wrong, and what may stand there. It refuses only where memory was refused.

@@ -9,7 +9,7 @@ use kahn_syntax::{Class, Keyword, Sign};
 use std::alloc::{AllocError, Global};
 
 /// A group of lexemes, in a word of the grammar: those with which one may begin.
-#[derive(Clone, Copy)]
+#[derive(Clone, Copy, PartialEq)]
 pub enum Group {
     /// Any expression.
     Expression,

@@ -1,17 +1,15 @@
 //! The changes of one lexeme beside a fault with which a text is a program: each is tried.
 
-ghost use Rattle.std.specs.Prelude.{◌≡◌, ◌≤◌, All, IfOk, MatchBool, length};
+ghost use Rattle.std.specs.Prelude.{◌≡◌, ◌≤◌, All, IfOk, MatchBool, length, take};
 ghost use Rattle.kahn_syntax.specs.declared.fault.SyntaxFault.TheVariants.{Expected};
-ghost use Rattle.kahn_syntax.specs.declared.fault.SyntaxFault.TheVariants as SyntaxFault;
-ghost use Rattle.kahn_syntax.specs.Texts.{IsFault, IsWholeWithin, IsTextFault, terminals, AreProper};
-ghost use Rattle.kahn_syntax.specs.Grammar.{ProgramTree, Spells, nesting};
+ghost use Rattle.kahn_syntax.specs.Texts.{BeginsWithin, IsFault, IsWholeWithin, IsTextFault, terminals, AreProper};
 ghost use Rattle.kahn_wanted.specs.Mends.{AreMends, AreMendsAt, AreMendsOf, IsPlace};
 ghost use Rattle.kahn_wanted.specs.inner.Tried.{AreTried, IsPlain, Makes};
 
-use crate::changes::{Change, changed, has_spot, lexeme_before, near_changes};
+use crate::changes::{Change, add_changed, add_near, has_spot, lexeme_before};
 use crate::found::count_before;
 use kahn_streams::NoMemory;
-use kahn_syntax::{Lexeme, Span, SyntaxFault, What, lex, parse_lexemes};
+use kahn_syntax::{Lexeme, Span, SyntaxFault, What, lex, lexemes_fault};
 use std::alloc::Global;
 
 /// Of how many lexemes a text may be for which changes are looked for: each is tried by a parse of the whole text.
@@ -27,26 +25,20 @@ pub struct Mends {
     pub changes: Vec<Change>,
 }
 
-/// Whether lexemes that are refused are a program: they aren't, unless memory was.
-#[tactic(auto, using(crate::proofs::Whole::refused_none))]
-fn refused(_text: &str, _lexemes: &[Lexeme], fault: SyntaxFault) -> Result<bool, NoMemory>
-    requires { (t : ProgramTree) → Spells t (terminals _text.now _lexemes.now) → nesting t ≤ 64 → fault ≡ SyntaxFault.NoMemory }
-    ensures { IfOk result (λ whole. MatchBool whole (IsWholeWithin (terminals _text.now _lexemes.now)) (¬ (IsWholeWithin (terminals _text.now _lexemes.now)))) }
-{
-    if fault == SyntaxFault::NoMemory {
-        return Err(NoMemory);
-    }
-    Ok(false)
-}
-
 /// Whether lexemes are a program.
+#[tactic(auto, using(crate::proofs::Whole::refused_none))]
 fn is_whole(alloc: Global, text: &str, lexemes: &[Lexeme]) -> Result<bool, NoMemory>
     requires { AreProper text.now lexemes.now }
     ensures { IfOk result (λ whole. MatchBool whole (IsWholeWithin (terminals text.now lexemes.now)) (¬ (IsWholeWithin (terminals text.now lexemes.now)))) }
 {
-    match parse_lexemes(alloc, text, lexemes) {
-        Ok(_) => Ok(true),
-        Err(fault) => refused(text, lexemes, fault),
+    match lexemes_fault(alloc, text, lexemes) {
+        None => Ok(true),
+        Some(fault) => {
+            if fault == SyntaxFault::NoMemory {
+                return Err(NoMemory);
+            }
+            Ok(false)
+        }
     }
 }
 
@@ -66,7 +58,8 @@ fn makes(
     if !has_spot(lexemes, number, change) {
         return Ok(false);
     }
-    let changed = changed(alloc, lexemes, number, change)?;
+    let mut changed = Vec::new(alloc);
+    add_changed(&mut changed, lexemes, number, change)?;
     is_whole(alloc, text, &changed)
 }
 
@@ -103,7 +96,8 @@ fn all_mends(
     requires within { number ≤ length lexemes.now }
     ensures { IfOk result (λ changes. AreMends text.now lexemes.now number changes.items) }
 {
-    let near = near_changes(alloc)?;
+    let mut near = Vec::new(alloc);
+    add_near(&mut near)?;
     making(alloc, text, lexemes, number, &near)
 }
 
@@ -112,6 +106,7 @@ pub(crate) fn place_of(_text: &str, lexemes: &[Lexeme], span: Span, what: What) 
     requires { IsFault _text.now lexemes.now (Expected span what) }
     ensures place { IsPlace lexemes.now span what result }
     ensures within { result ≤ length lexemes.now }
+    ensures led { BeginsWithin (terminals _text.now (take result lexemes.now)) }
 {
     match what {
         What::More => lexemes.len(),

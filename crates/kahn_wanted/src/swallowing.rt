@@ -2,7 +2,7 @@
 
 ghost use Rattle.std.specs.Prelude.{◌≡◌, ◌↔◌, ℕ, ◌≤◌, ◌<◌, IfNone, IfSome, IsTrue, length, slice_index};
 ghost use Rattle.kahn_syntax.specs.Texts.{IsBlank};
-ghost use Rattle.kahn_wanted.specs.Swallowing.{Swallows, begins_line, has_bytes, has_call, has_statement, has_word, is_block_word_at, is_of_word, is_part_at, is_space, is_statement_at, line_has, opens};
+ghost use Rattle.kahn_wanted.specs.Swallowing.{Swallows, begins_line, has_call, has_statement, has_word, is_block_word_at, is_of_word, is_part_at, is_space, is_statement_at, line_has, opens};
 
 /// Whether it is a space, a tab, a CR or an LF.
 pub fn is_blank(b: u8) -> bool
@@ -107,19 +107,6 @@ fn has_statement(text: &[u8]) -> bool
         || (has_word(b"while", text) && line_has(b"do", text))
 }
 
-/// Whether a text begins with these bytes.
-fn has_bytes(bytes: &[u8], text: &[u8]) -> bool
-    ensures { result ≡ has_bytes bytes.now text.now }
-{
-    match (bytes.split_first(), text.split_first()) {
-        (None, _) => true,
-        (Some(_), None) => false,
-        (Some((wanted, others)), Some((byte, rest))) => {
-            *wanted == *byte && has_bytes(others, rest)
-        }
-    }
-}
-
 /// Whether `:=`, a whole word `wait` with a bracket behind it, or a line with a statement begins at a byte that isn't the first of the text.
 fn is_statement_at(text: &[u8], at: usize) -> bool
     requires low { 0 < at }
@@ -127,7 +114,7 @@ fn is_statement_at(text: &[u8], at: usize) -> bool
     ensures { result ≡ is_statement_at text.now at }
 {
     let rest = &text[at..];
-    has_bytes(b":=", rest)
+    rest.starts_with(b":=")
         || (!is_of_word(text[at - 1]) && has_call(b"wait", rest))
         || (begins_line(text, at) && has_statement(rest))
 }

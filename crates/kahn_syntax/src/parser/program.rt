@@ -4,7 +4,7 @@ ghost use Rattle.std.specs.Prelude.{◌≡◌, ◌≤◌, ◌<◌, ◌+◌, [], 
 ghost use Rattle.kahn_syntax.specs.declared.lexeme.Keyword.TheVariants as keyword;
 ghost use Rattle.kahn_syntax.specs.declared.lexeme.Sign.TheVariants as mark;
 ghost use Rattle.kahn_syntax.specs.Grammar.{Terminal, sign, numeral, ProgramTree, Spells, nesting, May};
-ghost use Rattle.kahn_syntax.specs.Texts.{terminals, AreProper, IsFault, program_tree, IsPast, Takes, ArgumentSpans, InstanceSpans, InstancesSpan, ProgramSpans};
+ghost use Rattle.kahn_syntax.specs.Texts.{terminals, AreProper, IsFault, program_tree, IsPast, Takes, ArgumentSpans, InstanceSpans, InstancesSpan, ProgramSpans, IsWholeWithin};
 ghost use Rattle.kahn_syntax.specs.inner.Machine.{leads, InstancePart, ArgumentsPart, ArgumentPart, InstancesTail, LastTail, a_number};
 ghost use Rattle.kahn_syntax.specs.declared.fault.SyntaxFault.TheVariants as SyntaxFault;
 ghost use Rattle.kahn_syntax.specs.declared.lexeme.Lexeme.{Lexeme};
@@ -35,6 +35,19 @@ pub fn parse_lexemes(alloc: Global, text: &str, lexemes: &[Lexeme]) -> Result<Pr
     match read_program(alloc, text, lexemes) {
         Ok(program) => Ok(program),
         Err(stop) => Err(fault_of(text, lexemes, stop)),
+    }
+}
+
+/// Where the lexemes of a text are no program.
+pub fn lexemes_fault(alloc: Global, text: &str, lexemes: &[Lexeme]) -> Option<SyntaxFault>
+    requires proper { AreProper text.now lexemes.now }
+    ensures whole { IfNone result (IsWholeWithin (terminals text.now lexemes.now)) }
+    ensures found { IfSome result (λ e. IsWholeWithin (terminals text.now lexemes.now) → e ≡ SyntaxFault.NoMemory) }
+    ensures fault { IfSome result (λ e. IsFault text.now lexemes.now e) }
+{
+    match parse_lexemes(alloc, text, lexemes) {
+        Ok(_) => None,
+        Err(fault) => Some(fault),
     }
 }
 

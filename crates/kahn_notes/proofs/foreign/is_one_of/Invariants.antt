@@ -1,9 +1,8 @@
 -- It is none of those so far.
-use Rattle.std.proofs.Common.{◌≡◌, drop}
-use Rattle.std.specs.List.{list_any}
-use Rattle.std.specs.Str.{str_eq_ignore_ascii_case}
+use Rattle.std.proofs.Common.{◌≡◌, drop, map}
+use Rattle.kahn_notes.specs.Foreign.{is_one_of}
 use Rattle.kahn_notes.proofs.foreign.is_one_of.Given as goal
 
 abbrev pub invariant-loop-other : goal.invariant-loop-other
 invariant-loop-other l =
-    list_any (λ other. str_eq_ignore_ascii_case l.word other.now) (drop l.other-index l.others) ≡ list_any (λ other. str_eq_ignore_ascii_case l.word other.now) l.others
+    is_one_of l.word (map (λ other. other.now) (drop l.other-index l.others)) ≡ is_one_of l.word (map (λ other. other.now) l.others)

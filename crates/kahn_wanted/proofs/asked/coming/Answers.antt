@@ -25,13 +25,13 @@ loop-class-preserved c =
     elim c.if-branch.branch [
       | then-branch+in_ok-push w ↦
           one_more P some i d c.loop-class.wanted.items c.if-branch.wanted.items below (cc (w.wanted-is, w.in_ok-push.ensures.items))
-          (subst (AnswersBegin ks) w.if-branch.true c.in_ok-may_come.ensures.says) c.loop-class.invariant
+          (subst (AnswersBegin ks) w.if-branch.true c.in_ok-may_come.ensures) c.loop-class.invariant
       | else-branch w ↦
           one_less P some i d c.loop-class.wanted.items c.if-branch.wanted.items below (cc (w.wanted-is))
-          (subst (AnswersBegin ks) w.if-branch.false c.in_ok-may_come.ensures.says) c.loop-class.invariant
+          (subst (AnswersBegin ks) w.if-branch.false c.in_ok-may_come.ensures) c.loop-class.invariant
     ]
 
-pub returns-clause-told : goal.returns-clause-told
-returns-clause-told c =
+pub returns : goal.returns
+returns c =
     let past : length c.args.some.now ≤ c.loop-class.class-index = omega arith in
     all_told (MayCome c.args.text.now c.args.before.now) c.args.some.now c.loop-class.class-index c.loop-class.wanted.items past c.loop-class.invariant

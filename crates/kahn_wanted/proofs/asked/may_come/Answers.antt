@@ -15,7 +15,7 @@ begins-requires-clause-proper c =
     let e = put c.deref.result.now c.args.before.now c.args.lexeme c.deref.ensures.value c.in_ok-push.ensures.items c.in_ok-extend_from_slice.ensures.items c.new-lexemes.ensures.items in
     subst (AreProper c.args.text.now) (sym e) (proper_more c.args.text.now c.args.before.now c.args.lexeme c.requires.proper c.requires.one)
 
-pub returns-clause-says : goal.returns-clause-says
-returns-clause-says c =
+pub returns : goal.returns
+returns c =
     let e = put c.deref.result.now c.args.before.now c.args.lexeme c.deref.ensures.value c.in_ok-push.ensures.items c.in_ok-extend_from_slice.ensures.items c.new-lexemes.ensures.items in
-    subst (λ ks. IfOk c.begins.result (AnswersBegin ks)) (ap (terminals c.args.text.now) e ∙ terminals_append c.args.text.now c.args.before.now (c.args.lexeme ∷ [])) c.begins.ensures.says
+    subst (λ ks. IfOk c.begins.result (AnswersBegin ks)) (ap (terminals c.args.text.now) e ∙ terminals_append c.args.text.now c.args.before.now (c.args.lexeme ∷ [])) c.begins.ensures
