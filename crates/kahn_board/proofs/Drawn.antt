@@ -1,9 +1,5 @@
 -- A seat that draws, and looks in vain.
-use Rattle.std.proofs.Common.{◌≡◌, ℕ, Option, get_or, ap, sym, refl, inl, ◌∙◌, subst}
-use Rattle.kahn_board.specs.Wires.{Wires}
-use Rattle.kahn_board.specs.Hands.{Carries}
-use Rattle.kahn_board.specs.Plays.{Sat, noted_view, with_draw}
-use Rattle.kahn_board.specs.inner.Turn.{InTurn, Knows}
+use Rattle.kahn_board.proofs.Common.{◌≡◌, ℕ, Option, get_or, ap, sym, refl, inl, ◌∙◌, subst, Wires, Carries, Sat, noted_view, with_draw, InTurn, Knows}
 
 module _ {T : Type 0} where
   -- nothing changed but how many steps it made

@@ -1,6 +1,5 @@
 -- Lists of slots that are all full.
-use Rattle.std.proofs.lemmas.List.{reverse-append, append_assoc}
-use Rattle.std.proofs.Common.{◌≡◌, ℕ, List, [], ◌∷◌, ◌++◌, map, drop, length, reverse, arith, sym, refl, ap, ◌∙◌, Option, Some, None}
+use Rattle.kahn_board.proofs.Common.{reverse-append, append_assoc, ◌≡◌, ℕ, List, [], ◌∷◌, ◌++◌, map, drop, length, reverse, arith, sym, refl, ap, ◌∙◌, Option, Some, None}
 
 pub is_full : {T : Type 0} (o : Option T) (y : T) → o ≡ Some y → o ≡ None → ⊥
 is_full o y e f = let one : ◌≡◌ {A = ℕ} 1 0 = ap (λ z. elim z [ None ↦ 0 | Some x ↦ 1 ]) (sym e ∙ f) in absurd (omega (arith, one))

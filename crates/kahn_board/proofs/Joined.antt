@@ -1,14 +1,9 @@
 -- Seats that are made one, and one that is made several.
-use Rattle.std.proofs.Common.{◌≡◌, ◌+◌, ◌≤◌, ◌<◌, List, [], ◌∷◌, ◌++◌, length, All, sym, refl, ap, ◌∙◌, arith, subst}
+use Rattle.kahn_board.proofs.Common.{◌≡◌, ◌+◌, ◌≤◌, ◌<◌, List, [], ◌∷◌, ◌++◌, length, All, sym, refl, ap, ◌∙◌, arith, subst, get_or_append_left, get_or_push, TableId, AreCut, joined_view, Sat, Seat, Rests}
 use Rattle.std.proofs.lemmas.List.Sums.{sum_by_push}
-use Rattle.std.proofs.lemmas.List.{get_or_append_left, length-append, get_or_push}
-use Rattle.atomic_table.specs.Seated.{TableId}
+use Rattle.std.proofs.lemmas.List.{length-append}
 use Rattle.std.proofs.lemmas.List.Elements.{All-push}
-use Rattle.kahn_board.specs.Cuts.{AreCut, joined_view}
-use Rattle.kahn_board.specs.Plays.{Sat}
-use Rattle.kahn_board.specs.declared.board.Seat.{Seat}
 use Rattle.kahn_board.proofs.Seats.{zeros}
-use Rattle.kahn_board.specs.inner.Turn.{Rests}
 use Rattle.kahn_board.specs.inner.Shared.{SitsAt, parts_of, done_of, raised_of}
 
 pub all_but_last : {A : Type 0} (P : A → Type 0) (xs : List A) (x : A) → All P (xs ++ x ∷ []) → All P xs × P x

@@ -1,13 +1,5 @@
 -- A seat that found another number than it looked for.
-use Rattle.std.proofs.Common.{◌≡◌, ◌≢◌, ℕ, ◌*◌, Option, Some, None, is_some, true≢false, false, get_or, ap, sym, ◌∙◌, subst}
-use Rattle.kahn_board.specs.Tale.{Tale}
-use Rattle.kahn_board.specs.Wires.{Wires}
-use Rattle.kahn_board.specs.Hands.{Carries}
-use Rattle.kahn_board.specs.Plays.{Sat, noted_view}
-use Rattle.kahn_board.specs.Calls.{Was, Claims}
-use Rattle.kahn_board.specs.declared.rule.Terms.{Terms}
-use Rattle.kahn_board.specs.declared.board.Seat.{Seat}
-use Rattle.kahn_board.specs.inner.Turn.{InTurn, Fits, IsBetween, RestsWith}
+use Rattle.kahn_board.proofs.Common.{◌≡◌, ◌≢◌, ℕ, ◌*◌, Option, Some, None, is_some, true≢false, false, get_or, ap, sym, ◌∙◌, subst, Tale, Wires, Carries, Sat, noted_view, Was, Claims, Terms, Seat, InTurn, Fits, IsBetween, RestsWith}
 
 module _ {T : Type 0} where
   -- it has what it had

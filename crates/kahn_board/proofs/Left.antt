@@ -1,15 +1,7 @@
 -- A seat that looks, and leaves.
-use Rattle.std.proofs.Common.{◌≡◌, ◌≢◌, ℕ, suc, cond, List, [], ◌∷◌, Option, length, get_or, ap, sym, refl, ◌∙◌, arith, eq-eqb, subst}
-use Rattle.kahn_board.specs.Tale.{Tale}
-use Rattle.kahn_board.specs.declared.rule.Terms.{Terms}
-use Rattle.kahn_board.specs.Place.{total}
-use Rattle.kahn_board.specs.Plays.{burden, leaves_as}
-use Rattle.kahn_board.specs.Calls.{Looks}
-use Rattle.kahn_board.specs.declared.view.View.{View}
-use Rattle.kahn_board.specs.declared.board.Seat.{Seat}
+use Rattle.kahn_board.proofs.Common.{◌≡◌, ◌≢◌, ℕ, suc, cond, List, [], ◌∷◌, Option, length, get_or, ap, sym, refl, ◌∙◌, arith, eq-eqb, subst, Tale, Terms, total, burden, leaves_as, Looks, View, Seat, Rests, IsBetweenTurns, IsSeatOf}
 use Rattle.kahn_board.specs.declared.board.Look.{Look}
 use Rattle.kahn_board.specs.declared.board.Look.TheVariants.{Halted, Quiet, NoBudget, Go}
-use Rattle.kahn_board.specs.inner.Turn.{Rests, IsBetweenTurns, IsSeatOf}
 
 none_total : (l : List ℕ) → ((p : ℕ) → get_or l p 0 ≡ 0) → total (λ x. x) l ≡ 0
 none_total [] h = refl

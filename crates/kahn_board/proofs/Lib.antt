@@ -1,3 +1,4 @@
+pub mod Common
 pub mod Keeps
 pub mod Moved
 pub mod Sums
@@ -9,7 +10,6 @@ pub mod Opens
 pub mod Reseats
 pub mod Closes
 pub mod Quiet
-pub mod Turns
 pub mod Changes
 pub mod Seconds
 pub mod Returns

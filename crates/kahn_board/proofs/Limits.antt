@@ -1,16 +1,12 @@
 -- A checked network is within its limits.
-use Rattle.std.proofs.Common.{◌≡◌, ℕ, ◌≤◌, List, [], ◌∷◌, map, length, length-append, refl, arith}
-use Rattle.std.proofs.lemmas.List.{length-map}
+use Rattle.kahn_board.proofs.Common.{◌≡◌, ℕ, ◌≤◌, List, [], ◌∷◌, map, length, length-append, refl, arith, length-map, Program, channels_of, network_of, wires}
 use Rattle.kahn_streams.specs.View.{bytes_of}
 use Rattle.kahn_streams.specs.declared.tree.Name.{Name}
-use Rattle.kahn_streams.specs.declared.tree.Program.{Program}
 use Rattle.kahn_streams.specs.declared.tree.Kind.{Kind}
 use Rattle.kahn_streams.specs.declared.tree.Role.{Role}
 use Rattle.kahn_streams.specs.declared.tree.Declaration.{Declaration}
-use Rattle.kahn_streams.specs.declared.tree.Declaration.TheVariants as D
-use Rattle.kahn_streams.specs.Network.{channels_of, network_of}
 use Rattle.kahn_streams.specs.Wiring.{IsWellWired, declared_channels}
-use Rattle.kahn_board.specs.Wires.{wires}
+use Rattle.kahn_streams.specs.declared.tree.Declaration.TheVariants as D
 
 abbrev with_bytes : Kind → Role → Name → List ℕ × (Kind × Role)
 with_bytes kind role n = (bytes_of n, (kind, role))

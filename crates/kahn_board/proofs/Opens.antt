@@ -1,25 +1,11 @@
 -- The rule holds of a new board.
-use Rattle.std.proofs.Common.{◌≡◌, ℕ, zero, suc, ◌+◌, ◌*◌, ◌%◌, ◌^◌, ◌<◌, ◌≤◌, subst, List, [], ◌∷◌, map, drop, length, get_or, sym, refl, ap, ◌∙◌, arith, Option, Some, None}
-use mathlib.Core.Option.{some, some-injective, some-ne-none}
-use lib.ListN.{get_elem?}
-use Rattle.std.proofs.lemmas.List.{length-map}
-use Rattle.atomic_table.specs.Table.{opening}
-use Rattle.atomic_table.proofs.Lists.{at_map}
-use Rattle.kahn_board.specs.Tale.{Tale, TellsEvents, events_past}
-use Rattle.kahn_board.specs.Wires.{Wires}
-use Rattle.kahn_board.specs.Place.{ready, mark_of}
-use Rattle.kahn_board.specs.Rule.{St, opening_view, published, Ruled, Whole}
-use Rattle.kahn_board.specs.Dealt.{events_told}
-use Rattle.kahn_board.specs.Counts.{Owes, below}
+use Rattle.kahn_board.proofs.Common.{◌≡◌, ℕ, zero, suc, ◌+◌, ◌*◌, ◌%◌, subst, List, [], ◌∷◌, map, drop, length, get_or, sym, refl, ap, ◌∙◌, arith, Option, Some, None, some, some-injective, some-ne-none, get_elem?, length-map, opening, at_map, Tale, TellsEvents, events_past, Wires, ready, mark_of, St, all_parts, opening_view, published, SeatIs, Whole, events_told, below, AreFirstWords, View, same_Some}
 use Rattle.kahn_board.proofs.Changes.{tells_past}
 use Rattle.kahn_board.specs.Opening.{Opens}
-use Rattle.kahn_board.specs.inner.First.{AreFirstWords}
-use Rattle.kahn_board.specs.declared.view.View.{View}
 use Rattle.kahn_board.proofs.Moved.{is_ready}
-use Rattle.kahn_board.proofs.Turns.{whole}
-use Rattle.kahn_board.proofs.Steps.{same_some}
+use Rattle.kahn_board.proofs.Quiet.{whole}
 use Rattle.kahn_board.proofs.Sums.{is_there}
-use Rattle.kahn_board.proofs.Seats.{zeros}
+use Rattle.kahn_board.proofs.Reseats.{bare}
 
 at_first : {A : Type 0} (a b : A) (j : ℕ) → get_elem? (a ∷ []) j ≡ some b → (j ≡ 0) × (a ≡ b)
 at_first a b zero e = (refl, some-injective a b e)
@@ -29,7 +15,7 @@ no_marks : (reader : Option ℕ) (c : ℕ) → mark_of (λ _. ready) reader c �
 no_marks None c = refl
 no_marks (Some p) c = refl
 
-below_first : (f : ℕ → ℕ) (n : ℕ) → below f (suc n) ≡ f 0 + below (λ q. f (suc q)) n
+pub below_first : (f : ℕ → ℕ) (n : ℕ) → below f (suc n) ≡ f 0 + below (λ q. f (suc q)) n
 below_first f zero = omega arith
 below_first f (suc n) = omega (arith, below_first f n)
 
@@ -42,12 +28,12 @@ module _ {T : Type 0} where
   map_some_once [] [] e = refl
   map_some_once [] (y ∷ ys) e = absurd (omega (arith, ap length e))
   map_some_once (x ∷ xs) [] e = absurd (omega (arith, ap length e))
-  map_some_once (x ∷ xs) (y ∷ ys) e = let head = same_some x y (ap (λ (l : List (Option T)). elim l [ [] ↦ Some x | z ∷ zs ↦ z ]) e) in let tail = map_some_once xs ys (ap (drop 1) e) in λ i. head i ∷ tail i
+  map_some_once (x ∷ xs) (y ∷ ys) e = let head = same_Some x y (ap (λ (l : List (Option T)). elim l [ [] ↦ Some x | z ∷ zs ↦ z ]) e) in let tail = map_some_once xs ys (ap (drop 1) e) in λ i. head i ∷ tail i
 
   -- a cell that is at home
   of_home : (cells : List T) (i : ℕ) (y : T) → get_elem? (map some (map Some cells)) i ≡ some (some (Some y)) → get_elem? cells i ≡ some y
   of_home [] i y e = absurd (some-ne-none (some (Some y)) (sym e))
-  of_home (x ∷ xs) zero y e = let same = same_some x y (some-injective (Some x) (Some y) (some-injective (some (Some x)) (some (Some y)) e)) in ap some same
+  of_home (x ∷ xs) zero y e = let same = same_Some x y (some-injective (Some x) (Some y) (some-injective (some (Some x)) (some (Some y)) e)) in ap some same
   of_home (x ∷ xs) (suc i) y e = of_home xs i y e
 
 module _ {T : Type 0} (told : T → Option Tale) where
@@ -78,60 +64,37 @@ module _ {T : Type 0} (told : T → Option Tale) (after : T → T → Type 0) (w
   abbrev start : List ℕ → List T → St T
   start words cells = opening words (map Some cells) (opening_view w)
 
-  opens_first : (bound : ℕ) (words numbers : List ℕ) (cells : List T) → Opens told after w bound numbers cells → AreFirstWords w.instances bound numbers words → Ruled told w (λ _. ready) (start words cells)
-  opens_first bound words numbers cells o b = record {
-    wide = omega (arith, b.long, o.numbers_are);
-    deep = length-map (map Some cells) some ∙ (length-map cells Some ∙ o.cells_are);
-    one_pair = record {
-      word_is = b.ready;
-      hands_are = λ j v e p h. let t = at_first (opening_view w) v j e in ap (λ (u : View). get_or u.hands p 0) (sym t.1) ∙ zeros w.instances p;
-      seated = λ p j h e. absurd (omega (arith, ap is_ready e));
-      cell_is = λ p h. let t = is_there cells p (omega (arith, o.cells_are)) in (t.0, at_map some (map Some cells) p (Some t.0) (at_map Some cells p t.0 t.1));
-    };
-    parking = record {
-      marks = λ c near. let t = b.twice c (omega (arith, o.numbers_are)) in let even : get_or words (8 * (w.instances + c)) 0 % 2 ≡ 0 = omega arith in even ∙ sym (no_marks (w.reader c) c);
-      reads = λ p c h e. absurd (omega (arith, ap is_ready e));
-      waits = λ p c y h e. absurd (omega (arith, ap is_ready e));
-      ends = λ p y h e. absurd (omega (arith, ap is_ready e));
-      flushes = λ p c k y h home tells. let t = o.flushes p c k y (of_home cells p y home) tells in let d = b.twice c (omega (arith, o.numbers_are, t.0)) in (t.0, t.1, omega (arith, t.2));
-    };
-    known = λ j v e p c h one. let t = at_first (opening_view w) v j e in absurd (omega (arith, ap (λ (u : View). get_or u.hands p 0) (sym t.1) ∙ zeros w.instances p, one));
-    parts = record {
-      all = refl;
-      none_spent = λ j v e none_left. let t = at_first (opening_view w) v j e in absurd (omega (arith, ap (λ (u : View). u.parts) t.1, none_left));
-    };
-  }
-
   pub opens : (bound : ℕ) (words numbers : List ℕ) (cells : List T) → Opens told after w bound numbers cells → AreFirstWords w.instances bound numbers words
       → Whole told (given after cells) w record { bound = bound; events = events_told told cells; published = published w words } (start words cells)
-  opens bound words numbers cells o b = let at : (k : ℕ) → get_or words (8 * (w.instances + length numbers) + k) 0 ≡ get_or words (8 * (w.instances + w.channels) + k) 0 = λ k. ap (λ (j : ℕ). get_or words (8 * (w.instances + j) + k) 0) o.numbers_are in (whole told (given after cells) w _ _ (λ _. ready)
-      (opens_first bound words numbers cells o b)
-      (record {
-        tally = tally_of told cells;
-        budgeted = record {
-          small = o.few;
-          adds_up = omega (arith, b.budget, ap (λ (j : ℕ). get_or words (8 * (w.instances + j)) 0) o.numbers_are);
-          tallied = omega (arith, all_events told cells, ap (below (tally_of told cells)) o.cells_are);
-          tells = λ p y h home. of_cell told cells p y (of_home cells p y home);
-          got_is = λ j v e p h one. let t = at_first (opening_view w) v j e in absurd (omega (arith, ap (λ (u : View). get_or u.hands p 0) (sym t.1) ∙ zeros w.instances p, one));
+  opens bound words numbers cells o b = let at : (k : ℕ) → get_or words (8 * (w.instances + length numbers) + k) 0 ≡ get_or words (8 * (w.instances + w.channels) + k) 0 = λ k. ap (λ (j : ℕ). get_or words (8 * (w.instances + j) + k) 0) o.numbers_are in
+      whole told (given after cells) w _ (λ _. ready) (tally_of told cells) (start words cells) record {
+        wide = omega (arith, b.long, o.numbers_are);
+        deep = length-map (map Some cells) some ∙ (length-map cells Some ∙ o.cells_are);
+        places = λ p h. record {
+          word_is = b.ready p h;
+          cell_is = let t = is_there cells p (omega (arith, o.cells_are)) in (t.0, at_map some (map Some cells) p (Some t.0) (at_map Some cells p t.0 t.1));
+          seated = λ j e. absurd (omega (arith, ap is_ready e));
+          reads = λ c e. absurd (omega (arith, ap is_ready e));
         };
-        counted = record {
-          adds_up = omega (arith, b.count, at 8, below_ones w.instances);
-          pairs = λ j v e. let t = at_first (opening_view w) v j e in subst (λ (u : View). Owes u.hands u.owed) t.1 tt;
-          inside = λ j v e p some_held. let t = at_first (opening_view w) v j e in absurd (omega (arith, ap (λ (u : View). get_or u.hands p 0) (sym t.1) ∙ zeros w.instances p));
-          few = λ j v e. let t = at_first (opening_view w) v j e in subst (λ (u : View). u.down ≤ 2 ^ 32 * u.parts) t.1 (omega arith);
+        channels = λ c near. record {
+          mark = let t = b.twice c (omega (arith, o.numbers_are)) in let even : get_or words (8 * (w.instances + c)) 0 % 2 ≡ 0 = omega arith in even ∙ sym (no_marks (w.reader c) c);
+          fixed = λ none_writes. refl;
         };
-        lasting = record {
-          saw_quiet = λ j v e one. let t = at_first (opening_view w) v j e in absurd (omega (arith, ap (λ (u : View). u.seen) t.1, one));
-          saw_halted = λ j v e two. let t = at_first (opening_view w) v j e in absurd (omega (arith, ap (λ (u : View). u.seen) t.1, two));
-          halter = λ ne. absurd (ne (sym (at 16) ∙ b.halted));
-          sights = λ j v e. let t = at_first (opening_view w) v j e in subst (λ (u : View). (u.seen ≤ 2) × (0 < u.raised → u.seen ≡ 2)) t.1 (omega arith, λ up. absurd (omega (arith, up)));
-          flushed_all = λ p y h home _. o.flushed_all p y (of_home cells p y home);
-          belonging = λ p y h home. (let there = of_home cells p y home in itself after cells p y there (o.selves p y there));
-          fixed = λ c near none_writes. refl;
+        cells = λ p y h home. let there = of_home cells p y home in record {
+          waits = λ c e. absurd (omega (arith, ap is_ready e));
+          ends = λ e. absurd (omega (arith, ap is_ready e));
+          flushes = λ c k tells. let t = o.flushes p c k y there tells in let d = b.twice c (omega (arith, o.numbers_are, t.0)) in (t.0, t.1, omega (arith, t.2));
+          flushed_all = λ _. o.flushed_all p y there;
+          tells = of_cell told cells p y there;
+          belonging = itself after cells p y there (o.selves p y there);
         };
-        leaving = record {
-          idle = λ j v e h. let t = at_first (opening_view w) v j e in sym (ap (λ (u : View). u.drawn) t.1);
-          left = λ a. let some_done = a.1 in let t = at_first (opening_view w) some_done.1 some_done.0 some_done.2 in absurd (omega (arith, ap (λ (u : View). u.stage) t.1, some_done.3));
-        };
-      }))
+        seats = λ j v e. let t = at_first (opening_view w) v j e in
+            subst (SeatIs w (λ _. ready) (tally_of told cells) words j) t.1 (bare w (λ _. ready) (tally_of told cells) words j w.instances w.channels all_parts (λ p h. refl) (λ none_left. absurd (omega (arith, none_left))));
+        parts = refl;
+        small = o.few;
+        budgeted = omega (arith, b.budget, ap (λ (j : ℕ). get_or words (8 * (w.instances + j)) 0) o.numbers_are);
+        tallied = omega (arith, all_events told cells, ap (below (tally_of told cells)) o.cells_are);
+        counted = omega (arith, b.count, at 8, below_ones w.instances);
+        halter = λ ne. absurd (ne (sym (at 16) ∙ b.halted));
+        left = λ a. let some_done = a.1 in let t = at_first (opening_view w) some_done.1 some_done.0 some_done.2 in absurd (omega (arith, ap (λ (u : View). u.stage) t.1, some_done.3));
+      }

@@ -1,14 +1,6 @@
 -- A seat that told a number and set down the reader that it woke.
-use Rattle.std.proofs.Common.{◌≡◌, ◌≢◌, ℕ, ◌+◌, ◌-◌, ◌*◌, ◌<◌, List, [], ◌∷◌, ◌++◌, drop, length, get_or, set, inl, inr, sym, refl, ap, ◌∙◌, subst, arith, Option, Some, None, get_or-set_same, get_or-set_other}
-use Rattle.atomic_table.specs.Seated.{TableId}
-use Rattle.kahn_board.specs.Tale.{Tale, TellsEvents, events_past}
-use Rattle.kahn_board.specs.Wires.{Wires}
-use Rattle.kahn_board.specs.Counts.{Owed}
-use Rattle.kahn_board.specs.Hands.{Facts, Carries}
-use Rattle.kahn_board.specs.Plays.{Sat, IsIn, Got, took, gave, waking, paid_up}
-use Rattle.kahn_board.specs.declared.view.View.{View}
+use Rattle.kahn_board.proofs.Common.{◌≡◌, ◌≢◌, ℕ, ◌+◌, ◌-◌, ◌*◌, ◌<◌, List, [], ◌∷◌, ◌++◌, drop, length, get_or, set, inl, inr, sym, refl, ap, ◌∙◌, subst, arith, Option, Some, None, get_or-set_same, get_or-set_other, TableId, Tale, TellsEvents, events_past, Wires, Owed, Facts, Carries, Sat, IsIn, Got, took, gave, waking, paid_up, View, InTurn, HasPublished}
 use Rattle.kahn_board.proofs.Woken.{hand_again}
-use Rattle.kahn_board.specs.inner.Turn.{InTurn, HasPublished}
 
 no_more : (t : Option Tale) (e k : ℕ) → TellsEvents t e → k ≡ e → events_past t k - k ≡ 0
 no_more None e k tells is = omega arith

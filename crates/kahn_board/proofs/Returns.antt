@@ -1,14 +1,5 @@
 -- What a seat has once it gave an instance up.
-use Rattle.std.proofs.Common.{◌≡◌, ℕ, arith, ◌*◌, ◌/◌, ◌%◌, ◌≢◌, List, ◌∷◌, inl, inr, sym, ap, ◌∙◌, subst, Option, Some}
-use Rattle.atomic_table.specs.Table.{rest, step}
-use mathlib.Core.Option.{none}
-use Rattle.kahn_board.specs.Tale.{Tale, TellsWait}
-use Rattle.kahn_board.specs.Wires.{Wires}
-use Rattle.kahn_board.specs.Hands.{Carries}
-use Rattle.kahn_board.specs.Plays.{Sat, gave, GaveUp, TheFirst, claimed, publishes, Got, waking}
-use Rattle.kahn_board.specs.Calls.{KeepsAll}
-use Rattle.kahn_board.specs.declared.board.Seat.{Seat}
-use Rattle.kahn_board.proofs.Steps.{same_some}
+use Rattle.kahn_board.proofs.Common.{◌≡◌, ℕ, arith, ◌*◌, ◌/◌, ◌%◌, ◌≢◌, List, ◌∷◌, inl, inr, sym, ap, ◌∙◌, subst, Option, Some, rest, step, none, Tale, TellsWait, Wires, Carries, Sat, gave, GaveUp, TheFirst, claimed, publishes, Got, waking, KeepsAll, Seat, same_Some}
 use Rattle.kahn_board.proofs.Seats.{front_is}
 
 carries_rest : {T : Type 0} (c : List (ℕ × Option T)) (p : ℕ) (x : Option T) (q : ℕ) (z : Option T) → q ≢ p → Carries ((p, x) ∷ c) q z → Carries c q z
@@ -20,7 +11,7 @@ module _ {T : Type 0} (told : T → Option Tale) (w : Wires) where
   pub gave_up : (s t : Seat T) (n : Sat T) (p more : ℕ) → t.seat.me.0 ≡ s.seat.me.0 → KeepsAll s t → (y : T) × TheFirst told w t.seat.me p y × GaveUp told w t.seat.me p more n y
       → ((y : T) → Carries s.seat.me.1 p (Some y) → n.0 ≡ gave s.seat.me.0 p (told y) more) × ((q : ℕ) (x : Option T) → q ≢ p → Carries s.seat.me.1 q x → Carries n.1 q x)
   gave_up s t n p more same keeps g = let y = g.0 in let m = t.seat.me in (
-    (λ u has. let e : y ≡ u = same_some y u (front_is m t.seat.table_id t.held.items _ p (Some y) (Some u) t.facts g.1 (keeps p (Some u) has)) in ap (λ (k : Sat T). k.0) g.2 ∙ λ i. gave (same i) p (told (e i)) more),
+    (λ u has. let e : y ≡ u = same_Some y u (front_is m t.seat.table_id t.held.items _ p (Some y) (Some u) t.facts g.1 (keeps p (Some u) has)) in ap (λ (k : Sat T). k.0) g.2 ∙ λ i. gave (same i) p (told (e i)) more),
     (λ q x ne has. subst (λ (k : Sat T). Carries k.1 q x) (sym g.2) (carries_rest (rest m.1) p (Some y) q x ne (subst (λ (l : List (ℕ × Option T)). Carries l q x) g.1 (keeps q x has)))),
   )
 
@@ -31,7 +22,7 @@ module _ {T : Type 0} (told : T → Option Tale) (belongs : ℕ → T → Type 0
   woke first m n c' c r reader count same play odd twice reads = let t = (subst (λ (k : ℕ). publishes told belongs w k (step 0 0 first 0 none) m r n) same play).1 odd in
       let half_is : first / 2 ≡ count = omega arith in
       let got = subst (λ (k : ℕ). Got told belongs w (waking m.0 c k t.0 t.1, m.1) t.0 n t.2) half_is t.6 in
-      (t.1, t.2, t.4, t.5, subst (λ (k : ℕ). Got told belongs w (waking m.0 c count k t.1, m.1) k n t.2) (same_some t.0 reader (sym t.3 ∙ reads)) got)
+      (t.1, t.2, t.4, t.5, subst (λ (k : ℕ). Got told belongs w (waking m.0 c count k t.1, m.1) k n t.2) (same_Some t.0 reader (sym t.3 ∙ reads)) got)
 
 -- what is told of the instance whose word it was is told of p
 pub claimed_here : {T : Type 0} (told : T → Option Tale) (belongs : ℕ → T → Type 0) (w : Wires) (m n : Sat T) (p r : ℕ) → claimed told belongs w (8 * p / 8) (step 0 0 0 0 none) m r n → claimed told belongs w p (step 0 0 0 0 none) m r n

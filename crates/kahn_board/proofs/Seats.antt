@@ -1,15 +1,8 @@
 -- What a seat's own facts give to its steps, and how each step keeps them.
-use Rattle.std.proofs.Common.{◌≡◌, ℕ, zero, suc, replicate, ◌+◌, ◌*◌, ◌<◌, ◌≤◌, List, [], ◌∷◌, ◌++◌, ◌≢◌, inl, inr, map, drop, length, get_or, length-set, arith, sym, refl, ap, ◌∙◌, subst, Option, Some}
-use Rattle.atomic_table.specs.Seated.{TableId}
-use Rattle.atomic_table.specs.Table.{rest, turned as shifted}
-use Rattle.kahn_board.specs.Tale.{Tale}
-use Rattle.kahn_board.specs.Wires.{Wires}
-use Rattle.kahn_board.specs.Hands.{ListsHands, Facts, Carries}
-use Rattle.kahn_board.specs.Place.{total, only}
+use Rattle.kahn_board.proofs.Common.{◌≡◌, ℕ, zero, suc, replicate, ◌+◌, ◌*◌, ◌<◌, ◌≤◌, List, [], ◌∷◌, ◌++◌, ◌≢◌, inl, inr, map, drop, length, get_or, length-set, arith, sym, refl, ap, ◌∙◌, subst, Option, Some, TableId, rest, Tale, Wires, ListsHands, Facts, Carries, total, only, Sat, noted_view, took, gave, waking, Got, GaveUp, HoldsNothing}
+use Rattle.atomic_table.specs.Table.{turned as shifted}
 use Rattle.kahn_board.proofs.Moved.{only_yes}
-use Rattle.kahn_board.specs.Plays.{Sat, noted_view, took, gave, waking, Got, GaveUp}
-use Rattle.kahn_board.specs.Cuts.{HoldsNothing}
-use Rattle.kahn_board.proofs.Steps.{Fit}
+use Rattle.kahn_board.proofs.Seconds.{Fit}
 use Rattle.kahn_board.proofs.Counting.{inside_of, has_room, took_one, put_once, gave_one, turned_one}
 
 lists_turned : (items hands : List ℕ) → 0 < length items → ListsHands items hands → ListsHands (drop 1 items ++ get_or items 0 0 ∷ []) hands
@@ -85,9 +78,9 @@ module _ {T : Type 0} where
       let now : Facts (m.0, shifted m.1) z (drop 1 items ++ get_or items 0 0 ∷ []) room = (f.0, f.1, f.2, numbers_shifted m.1 items f.3 some_left, lists_turned items m.0.hands some_left f.4, f.5, f.6, f.7) in
       subst (λ (k : TableId × Sat T × List ℕ × ℕ). Facts k.1 k.0 k.2 k.3) (λ i. (sym same i, sym is i, sym is_items i, sym same_room i)) now
 
-module _ {T : Type 0} (told : T → Option Tale) (w : Wires) where
-  pub fit : (m : Sat T) (z z' : TableId) (items : List ℕ) (room : ℕ) (n k : ℕ) → Facts m z items room → z ≡ z' → (z'.words ≡ 8 * (n + k) + 24) × (z'.slots ≡ n) → (w.instances ≡ n) × (w.channels ≡ k) → Fit told w m
-  fit m z z' items room n k f same sized wired = let a = ap (λ (k : TableId). k.words) same in let b = ap (λ (k : TableId). k.slots) same in
+module _ {T : Type 0} where
+  pub fit : (w : Wires) (m : Sat T) (z z' : TableId) (items : List ℕ) (room : ℕ) (n k : ℕ) → Facts m z items room → z ≡ z' → (z'.words ≡ 8 * (n + k) + 24) × (z'.slots ≡ n) → (w.instances ≡ n) × (w.channels ≡ k) → Fit w m
+  fit w m z z' items room n k f same sized wired = let a = ap (λ (k : TableId). k.words) same in let b = ap (λ (k : TableId). k.slots) same in
       record { alive = f.0; hands_long = f.1 ∙ (b ∙ (sized.1 ∙ sym wired.0)); flushed_long = omega (arith, f.2, sized.0, sized.1, wired.1); got_long = f.7 ∙ (b ∙ (sized.1 ∙ sym wired.0)) }
 
   pub facts_noted : (m m' : Sat T) (z z' : TableId) (items : List ℕ) (room : ℕ) → Facts m z items room → z' ≡ z → m' ≡ (noted_view m.0, m.1) → Facts m' z' items room
@@ -100,6 +93,7 @@ module _ {T : Type 0} (told : T → Option Tale) (w : Wires) where
   pub room_for : (m : Sat T) (z : TableId) (items : List ℕ) (room p : ℕ) → Facts m z items room → get_or m.0.hands p 0 ≡ 0 → p < z.slots → length items < room
   room_for m z items room p f free inside = omega (arith, has_room items m.0.hands p f.4 f.5 (omega (arith, f.1)) free, f.1, f.6)
 
+module _ {T : Type 0} (told : T → Option Tale) (w : Wires) where
   -- the slot that comes first is given back
   pub facts_gave : (m m' : Sat T) (z z' : TableId) (items items' : List ℕ) (room room' p more : ℕ) (x : Option T) (y : T) → Facts m z items room → z' ≡ z → m.1 ≡ (p, x) ∷ rest m.1 → GaveUp told w m p more m' y → items' ≡ drop 1 items → room' ≡ room → Facts m' z' items' room'
   facts_gave m m' z z' items items' room room' p more x y f same first given is_items same_room =

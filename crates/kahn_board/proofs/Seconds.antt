@@ -1,50 +1,65 @@
--- What is reckoned, over the steps that move no instance, that take one, and that give one up.
-use Rattle.std.proofs.Common.{◌≡◌, ℕ, zero, suc, ◌+◌, ◌*◌, ◌^◌, ◌<◌, ◌≤◌, ◌≢◌, ◌⊎◌, inl, ⊎_elim, List, length, get_or, set, sym, refl, ap, ◌∙◌, subst, arith, Option, Some, None, length-set, get_or-set_same, get_or-set_other}
-use mathlib.Core.Logic.{dite}
-use native.Mathlib.Decide.{ℕ_discrete}
-use mathlib.Core.Option.{some, none, some-injective, some-ne-none}
-use mathlib.Core.Option as maybe
-use lib.ListN.{get_elem?}
-use Rattle.atomic_table.proofs.Lists.{set_here, set_else}
-use Rattle.kahn_board.specs.Tale.{Tale, TellsEvents, FlushedAll, Accounts, events_past}
-use Rattle.kahn_board.specs.Wires.{Wires}
-use Rattle.kahn_board.specs.Counts.{Owed, Owes, is_up, below}
-use Rattle.kahn_board.specs.Calls.{Unowed}
-use Rattle.kahn_board.specs.Place.{Place, held, held_by, moved}
-use Rattle.kahn_board.specs.Plays.{Sat, IsIn, SeesMore, noted_view, took, gave}
-use Rattle.kahn_board.specs.Rule.{St, Deal, published, budget, count, halted, Ruled, IsHome, Reckoned}
-use Rattle.kahn_board.specs.declared.view.View.{View}
-use Rattle.kahn_board.proofs.Moved.{held_no}
+-- The steps that move no instance, that take one, and that give one up.
+use Rattle.kahn_board.proofs.Common.{◌≡◌, ℕ, zero, suc, ◌+◌, ◌*◌, ◌/◌, ◌%◌, ◌^◌, ◌<◌, ◌≤◌, ◌≢◌, ◌⊎◌, inl, ⊎_elim, List, [], ◌∷◌, length, get_or, set, sym, refl, ap, ◌∙◌, subst, arith, Option, Some, length-set, get_or-set_same, get_or-set_other, some, none, some-injective, some-ne-none, get_elem?, keeps, takes, gives, stepped, set_here, set_else, same_Some, Tale, TellsWait, TellsEnd, TellsEvents, events_past, Wires, Owed, Owes, is_up, Leaves, Place, held, parked, over, word_code, held_by, parked_on, mark_of, moved, Sat, IsIn, SeesMore, noted_view, took, gave, St, Deal, published, budget, count, halted, HasSlot, IsHome, HomeIs, Ruled, Whole, View}
+use Rattle.kahn_board.proofs.Moved.{at_moved, moved_here, moved_else, held_yes, held_no, held_apart, parked_yes}
 use Rattle.kahn_board.proofs.Counting.{inside_of}
-use Rattle.kahn_board.proofs.Keeps.{state}
-use Rattle.kahn_board.proofs.Turns.{turned_kept}
+use Rattle.kahn_board.proofs.Sums.{there}
+use Rattle.kahn_board.proofs.Keeps.{Stays, at_one, kept}
 use Rattle.kahn_board.proofs.Changes.{ups_moved, putting, put_here, put_else, sum_put, owes_less, tells_past, accounted}
+use mathlib.Core.Option as maybe
 
-same_some : {T : Type 0} (y z : T) → Some y ≡ Some z → y ≡ z
-same_some y z e = ap (λ o. elim o [ None ↦ y | Some x ↦ x ]) e
+abbrev pub half : ℕ → ℕ
+half x = x / 2
 
-ups_same : (place place' : ℕ → Place) → ((q : ℕ) → place q ≡ place' q) → (n : ℕ) → below (λ q. is_up (place q)) n ≡ below (λ q. is_up (place' q)) n
-ups_same place place' e zero = refl
-ups_same place place' e (suc n) = omega (arith, ups_same place place' e n, ap is_up (e n))
+-- the numbers f 0 .. f (n - 1)
+abbrev numbers : (ℕ → ℕ) → ℕ → List ℕ
+numbers f zero = []
+numbers f (suc n) = f 0 ∷ numbers (λ k. f (suc k)) n
 
-module _ {T : Type 0} (told : T → Option Tale) (belongs : ℕ → T → Type 0) (w : Wires) (d : Deal) where
-  -- what a step on a word of an instance or a channel leaves
-  pub record SameHot (ws ws' : List ℕ) : Type 0 where
-    pub budget_same : budget w ws' ≡ budget w ws
-    pub count_same : count w ws' ≡ count w ws
-    pub halted_same : halted w ws' ≡ halted w ws
+numbers_long : (f : ℕ → ℕ) (n : ℕ) → length (numbers f n) ≡ n
+numbers_long f zero = refl
+numbers_long f (suc n) = omega (arith, numbers_long (λ k. f (suc k)) n)
 
-  pub hot : (ws : List ℕ) (i k : ℕ) → i < 8 * (w.instances + w.channels) → SameHot ws (set ws i k)
-  hot ws i k h = record {
-    budget_same = get_or-set_other ws i (8 * (w.instances + w.channels)) k 0 (λ e. omega arith);
-    count_same = get_or-set_other ws i (8 * (w.instances + w.channels) + 8) k 0 (λ e. omega arith);
-    halted_same = get_or-set_other ws i (8 * (w.instances + w.channels) + 16) k 0 (λ e. omega arith);
-  }
+numbers_at : (f : ℕ → ℕ) (n c : ℕ) → c < n → get_or (numbers f n) c 0 ≡ f c
+numbers_at f zero c h = absurd (omega arith)
+numbers_at f (suc n) zero h = refl
+numbers_at f (suc n) (suc c) h = numbers_at (λ k. f (suc k)) n c (omega arith)
 
-  -- a step that moves no instance
-  pub record Idle (s : St T) (v v' : View) (ws : List ℕ) : Type 0 where
-    pub hands_same : v'.hands ≡ v.hands
-    pub got_same : v'.got ≡ v.got
+-- the numbers published by those words
+abbrev pub halves : Wires → List ℕ → List ℕ
+halves w ws = numbers (published w ws) w.channels
+
+pub half_at : (w : Wires) (ws : List ℕ) (c : ℕ) → c < w.channels → get_or (halves w ws) c 0 ≡ published w ws c
+half_at w ws c h = numbers_at (published w ws) w.channels c h
+
+pub halves_long : (w : Wires) (ws : List ℕ) → length (halves w ws) ≡ w.channels
+halves_long w ws = numbers_long (published w ws) w.channels
+
+-- what a seat keeps of its own view
+pub record Fit {T : Type 0} (w : Wires) (m : Sat T) : Type 0 where
+  pub alive : 0 < m.0.parts
+  pub hands_long : length m.0.hands ≡ w.instances
+  pub flushed_long : length m.0.flushed ≡ w.channels
+  pub got_long : length m.0.got ≡ w.instances
+
+-- what a step on a word of an instance or a channel leaves
+pub record SameHot (w : Wires) (ws ws' : List ℕ) : Type 0 where
+  pub budget_same : budget w ws' ≡ budget w ws
+  pub count_same : count w ws' ≡ count w ws
+  pub halted_same : halted w ws' ≡ halted w ws
+
+pub hot : (w : Wires) (ws : List ℕ) (i k : ℕ) → i < 8 * (w.instances + w.channels) → SameHot w ws (set ws i k)
+hot w ws i k h = record {
+  budget_same = get_or-set_other ws i (8 * (w.instances + w.channels)) k 0 (λ e. omega arith);
+  count_same = get_or-set_other ws i (8 * (w.instances + w.channels) + 8) k 0 (λ e. omega arith);
+  halted_same = get_or-set_other ws i (8 * (w.instances + w.channels) + 16) k 0 (λ e. omega arith);
+}
+
+module _ {T : Type 0} (told : T → Option Tale) (belongs : ℕ → T → Type 0) (w : Wires) (d : Deal) (s : St T) (place : ℕ → Place) (tally : ℕ → ℕ) (r : Ruled told belongs w d place tally s) where
+  -- a step that moves no instance, and leaves the words of instances and channels as they are
+  pub record Idle (v v' : View) (ws : List ℕ) : Type 0 where
+    pub wide : length ws ≡ length s.words
+    pub low : (q : ℕ) → q < w.instances + w.channels → get_or ws (8 * q) 0 ≡ get_or s.words (8 * q) 0
+    pub view_same : (v'.parts ≡ v.parts) × (v'.hands ≡ v.hands) × (v'.flushed ≡ v.flushed) × (v'.got ≡ v.got)
     pub drawing : budget w ws + v'.drawn + v'.done ≡ budget w s.words + v.drawn + v.done
     pub tallying : v'.loose + v.done ≡ v.loose + v'.done
     pub counting : count w ws + length v'.owed + v.down ≡ count w s.words + length v.owed + v'.down
@@ -58,154 +73,180 @@ module _ {T : Type 0} (told : T → Option Tale) (belongs : ℕ → T → Type 0
     pub raises : v.raised ≤ v'.raised
     pub halter : halted w ws ≢ 0 → (halted w s.words ≢ 0) ⊎ ((v'.seen ≡ 2) × (0 < v'.raised))
     pub sights : (v'.seen ≤ 2) × (0 < v'.raised → v'.seen ≡ 2)
-    pub fixed : (c : ℕ) → c < w.channels → w.writer c ≡ None → published w ws c ≡ published w s.words c
     pub leaves : v'.stage ≤ 1 → (v'.drawn ≡ 0) × ((halted w ws ≢ 0) ⊎ ((count w ws ≡ 0) ⊎ (budget w ws ≡ 0)))
 
-  pub idles : (s : St T) (place : ℕ → Place) (q₀ : Reckoned told belongs w d place s) (id : ℕ) (v v' : View) (ws : List ℕ) → get_elem? s.views id ≡ some v → Idle s v v' ws → Reckoned told belongs w d place (state told w ws s.homes (set s.views id v'))
-  idles s place q₀ id v v' ws me m = turned_kept told belongs w d s place place q₀ q₀.tally id v v' ws s.homes record {
-    mine = me;
-    drawing = m.drawing;
-    tallying = omega (arith, m.tallying);
-    tells = q₀.budgeted.tells;
-    got_mine = λ q h one. ap (λ (l : List ℕ). get_or l q 0) m.got_same ∙ q₀.budgeted.got_is id v me q h (ap (λ (l : List ℕ). get_or l q 0) (sym m.hands_same) ∙ one);
-    got_theirs = λ j u ne e q h one. refl;
-    counting = omega (arith, m.counting);
-    pairs = m.pairs;
-    inside = λ q h. q₀.counted.inside id v me q (subst (λ (l : List ℕ). 0 < get_or l q 0) m.hands_same h);
-    few = m.few;
-    still_quiet = m.still_quiet;
-    still_halted = m.still_halted;
-    saw_quiet = m.saw_quiet;
-    saw_halted = m.saw_halted;
-    knows = m.knows;
-    raises = m.raises;
-    halter = m.halter;
-    sights = m.sights;
-    flushed_all = λ q y h home zero_now. q₀.lasting.flushed_all q y h home (dite (ℕ_discrete (halted w s.words) 0) (λ e. e) (λ ne. absurd (m.still_halted ne zero_now)));
-    belonging = q₀.lasting.belonging;
-    fixed = m.fixed;
-    leaves = m.leaves;
-  }
+  pub idles : (id : ℕ) (m : Sat T) (v' : View) (ws : List ℕ) → get_elem? s.views id ≡ some m.0 → Fit w m → Idle m.0 v' ws → Whole told belongs w d record { words = ws; homes = s.homes; views = set s.views id v' }
+  idles id m v' ws me fit k = let v = m.0 in let o = r.seats id v me in let pub_same : (c : ℕ) → c < w.channels → published w ws c ≡ published w s.words c = λ c h. ap half (k.low (w.instances + c) (omega arith)) in
+      let held : (q : ℕ) → get_or v'.hands q 0 ≡ get_or v.hands q 0 = λ q. ap (λ (l : List ℕ). get_or l q 0) k.view_same.1 in
+      kept told belongs w d s place place tally tally r id w.instances v v' ws s.homes record {
+        mine = me;
+        wide = k.wide;
+        deep = refl;
+        elsewhere = λ q h ne. (k.low q (omega arith), refl, refl, refl);
+        its = λ h. absurd (omega arith);
+        theirs = λ h. absurd (omega arith);
+        cell = λ y h. absurd (omega arith);
+        own = record {
+          hands = λ q h. held q ∙ o.hands q h;
+          inside = λ q h. o.inside q (omega (arith, h, held q));
+          known = λ q c h one near writes. ap (λ (l : List ℕ). get_or l c 0) k.view_same.2 ∙ (o.known q c h (sym (held q) ∙ one) near writes ∙ sym (pub_same c near));
+          got = λ q h one. ap (λ (l : List ℕ). get_or l q 0) k.view_same.3 ∙ o.got q h (sym (held q) ∙ one);
+          pairs = k.pairs;
+          few = k.few;
+          saw_quiet = k.saw_quiet;
+          saw_halted = k.saw_halted;
+          sights = k.sights;
+          idle = λ h. (k.leaves h).0;
+          spends = λ none_left. absurd (omega (arith, none_left, k.view_same.0, fit.alive));
+        };
+        marks = λ c h. ap (λ (n : ℕ). n % 2) (k.low (w.instances + c) (omega arith)) ∙ (r.channels c h).mark;
+        same = λ c h. inl (pub_same c h);
+        parts = k.view_same.0;
+        drawing = k.drawing;
+        tallying = omega (arith, k.tallying);
+        counting = omega (arith, k.counting);
+        still_quiet = k.still_quiet;
+        still_halted = k.still_halted;
+        knows = k.knows;
+        raises = k.raises;
+        halter = k.halter;
+        leaves = λ h. (k.leaves h).1;
+      }
 
   -- a step of a seat that keeps its hands, and what it saw and halted
-  pub still : (s : St T) (place : ℕ → Place) (q₀ : Reckoned told belongs w d place s) (id : ℕ) (v : View) (flushed : List ℕ) (drawn done loose : ℕ) (owed : Owed) (down : ℕ) (ws : List ℕ) → get_elem? s.views id ≡ some v
+  pub still : (id : ℕ) (v : View) (drawn done loose : ℕ) (owed : Owed) (down : ℕ) (ws : List ℕ) → get_elem? s.views id ≡ some v → length ws ≡ length s.words → ((q : ℕ) → q < w.instances + w.channels → get_or ws (8 * q) 0 ≡ get_or s.words (8 * q) 0)
       → budget w ws + drawn + done ≡ budget w s.words + v.drawn + v.done → loose + v.done ≡ v.loose + done → count w ws + length owed + v.down ≡ count w s.words + length v.owed + down → Owes v.hands owed → down ≤ v.down
-      → (count w s.words ≡ 0 → count w ws ≡ 0) → halted w ws ≡ halted w s.words → ((c : ℕ) → c < w.channels → w.writer c ≡ None → published w ws c ≡ published w s.words c)
-      → Idle s v (record (noted_view v) { flushed = flushed; drawn = drawn; done = done; loose = loose; owed = owed; down = down }) ws
-  still s place q₀ id v flushed drawn done loose owed down ws me drawing tallying counting pairs less quiet halts fixed = record {
-    hands_same = refl;
-    got_same = refl;
+      → (count w s.words ≡ 0 → count w ws ≡ 0) → halted w ws ≡ halted w s.words → Idle v (record (noted_view v) { drawn = drawn; done = done; loose = loose; owed = owed; down = down }) ws
+  still id v drawn done loose owed down ws me wide low drawing tallying counting pairs less quiet halts = let o = r.seats id v me in record {
+    wide = wide;
+    low = low;
+    view_same = (refl, refl, refl, refl);
     drawing = drawing;
     tallying = tallying;
     counting = counting;
     pairs = pairs;
-    few = omega (arith, less, q₀.counted.few id v me);
+    few = omega (arith, less, o.few);
     still_quiet = quiet;
     still_halted = λ ne e. ne (sym halts ∙ e);
-    saw_quiet = λ e. quiet (q₀.lasting.saw_quiet id v me e);
-    saw_halted = λ e z. q₀.lasting.saw_halted id v me e (sym halts ∙ z);
+    saw_quiet = λ e. quiet (o.saw_quiet e);
+    saw_halted = λ e z. o.saw_halted e (sym halts ∙ z);
     knows = λ e. e;
     raises = omega arith;
     halter = λ ne. inl (λ z. ne (halts ∙ z));
-    sights = q₀.lasting.sights id v me;
-    fixed = fixed;
+    sights = o.sights;
     leaves = λ h. absurd (omega arith);
   }
 
-  -- a step that takes the instance p, with the counts up that are owed after it
-  pub takes_second : (s : St T) (place : ℕ → Place) (r : Ruled told w place s) (q₀ : Reckoned told belongs w d place s) (i k id : ℕ) (m : Sat T) (p : ℕ) (L : List ℕ) (owed : Owed) (seen : ℕ)
-      → get_elem? s.views id ≡ some m.0 → p < w.instances → length m.0.hands ≡ w.instances → length m.0.got ≡ w.instances → i < 8 * (w.instances + w.channels)
-      → get_or m.0.hands p 0 ≡ 0 → is_up (place p) + length owed ≡ length m.0.owed + 1 → Owes (set m.0.hands p 1) owed → SeesMore m.0.seen seen → (seen ≡ 2 → halted w s.words ≢ 0)
-      → ((c : ℕ) → c < w.channels → w.writer c ≡ None → published w (set s.words i k) c ≡ published w s.words c)
-      → Reckoned told belongs w d (moved place p (held id)) (state told w (set s.words i k) (set s.homes p none) (set s.views id (record (took m.0 p L (q₀.tally p) seen) { owed = owed })))
-  takes_second s place r q₀ i k id m p L owed seen me inside long got_long near free counts pairs sees halted_is fixed =
-      let ws = set s.words i k in let same = hot s.words i k near in let v = m.0 in let hs : List (maybe.Option (Option T)) = set s.homes p none in
-      let v' : View = record (took v p L (q₀.tally p) seen) { owed = owed } in
-      let was_home : (q : ℕ) (y : T) → get_elem? hs q ≡ some (some (Some y)) → IsHome s q y = λ q y home. dite (ℕ_discrete q p)
-      (λ e. absurd (some-ne-none (Some y) (some-injective (some (Some y)) none (sym home ∙ (ap (λ (j : ℕ). get_elem? hs j) e ∙ set_here s.homes p none (omega (arith, r.deep)))))))
-      (λ ne. sym (set_else s.homes p q none ne) ∙ home) in
-      turned_kept told belongs w d s place (moved place p (held id)) q₀ q₀.tally id v v' ws hs record {
+  -- the instance p comes into the hands of the seat id, which then knows all that is published, and owes these counts up
+  pub take_step : (i k id : ℕ) (m : Sat T) (p : ℕ) (y : T) (owed : Owed) (seen : ℕ) → get_elem? s.views id ≡ some m.0 → Fit w m → p < w.instances → IsHome s p y → i < 8 * (w.instances + w.channels) → ((j : ℕ) → held_by j (place p) ≡ 0)
+      → get_or (set s.words i k) (8 * p) 0 ≡ 1 → ((q : ℕ) → q < w.instances → q ≢ p → get_or (set s.words i k) (8 * q) 0 ≡ get_or s.words (8 * q) 0)
+      → ((c : ℕ) → c < w.channels → get_or (set s.words i k) (8 * (w.instances + c)) 0 % 2 ≡ mark_of (moved place p (held id)) (w.reader c) c) → ((c : ℕ) → c < w.channels → Stays w place s (set s.words i k) id p c)
+      → is_up (place p) + length owed ≡ length m.0.owed + 1 → Owes (set m.0.hands p 1) owed → SeesMore m.0.seen seen → (seen ≡ 2 → halted w s.words ≢ 0)
+      → Whole told belongs w d (stepped s i k id m.1 (record (took m.0 p (halves w (set s.words i k)) (tally p) seen) { owed = owed }) (takes p (Some y)))
+  take_step i k id m p y owed seen me fit inside home near free word_is words_are marks same ups pairs sees halted_is = let v = m.0 in let ws = set s.words i k in let hs : List (maybe.Option (Option T)) = set s.homes p none in let o = r.seats id v me in
+      let hots = hot w s.words i k near in let v' : View = record (took v p (halves w ws) (tally p) seen) { owed = owed } in let place' = moved place p (held id) in
+      let at_p : get_elem? hs p ≡ some none = set_here s.homes p none (omega (arith, r.deep)) in
+      let is : place' p ≡ held id = moved_here place p (held id) in
+      kept told belongs w d s place place' tally tally r id p v v' ws hs record {
         mine = me;
-        drawing = omega (arith, same.budget_same);
+        wide = length-set s.words i k;
+        deep = length-set s.homes p none;
+        elsewhere = λ q h ne. (words_are q h ne, moved_else place p (held id) q ne, refl, set_else s.homes p q none ne);
+        its = λ h. record {
+          word_is = word_is ∙ ap word_code (sym is);
+          cell_is = subst (λ (x : Place). HasSlot x (get_elem? hs p)) (sym is) at_p;
+          seated = λ j e. omega (arith, length-set s.views id v', held_apart j id (sym e ∙ is), there s.views id v me);
+          reads = λ c e. absurd (omega (arith, ap (parked_on c) (sym is ∙ e), parked_yes c));
+        };
+        theirs = λ h j ne. (free j, ap (held_by j) is ∙ held_no j id (λ e. ne (sym e)));
+        cell = λ z h e. absurd (some-ne-none (Some z) (some-injective (some (Some z)) none (sym e ∙ at_p)));
+        own = record {
+          hands = λ q. at_moved (λ l x. l < w.instances → get_or (set v.hands p 1) l 0 ≡ held_by id x) place p (held id) q (λ _. get_or-set_same v.hands p 1 0 (omega (arith, fit.hands_long)) ∙ sym (held_yes id)) (λ ne h. get_or-set_other v.hands p q 1 0 ne ∙ o.hands q h);
+          inside = λ q h. let t = inside_of (set v.hands p 1) q h in omega (arith, length-set v.hands p 1, fit.hands_long);
+          known = λ q c h one near_c writes. half_at w ws c near_c;
+          got = λ q. at_one (λ l. l < w.instances → get_or (set v.hands p 1) l 0 ≡ 1 → get_or (set v.got p (tally p)) l 0 ≡ tally l) q p (λ h one. get_or-set_same v.got p (tally p) 0 (omega (arith, fit.got_long)))
+              (λ ne h one. get_or-set_other v.got p q (tally p) 0 ne ∙ o.got q h (sym (get_or-set_other v.hands p q 1 0 ne) ∙ one));
+          pairs = pairs;
+          few = o.few;
+          saw_quiet = λ e. hots.count_same ∙ ⊎_elim (λ old. o.saw_quiet (sym old ∙ e)) (λ two. absurd (omega arith)) sees;
+          saw_halted = λ e z. halted_is e (sym hots.halted_same ∙ z);
+          sights = (⊎_elim (λ old. omega (arith, old, o.sights.0)) (λ two. omega (arith, two)) sees, λ up. ⊎_elim (λ old. old ∙ o.sights.1 up) (λ two. two) sees);
+          idle = λ h. absurd (omega arith);
+          spends = λ none_left. absurd (omega (arith, none_left, fit.alive));
+        };
+        marks = marks;
+        same = same;
+        parts = refl;
+        drawing = omega (arith, hots.budget_same);
         tallying = refl;
-        tells = λ q y h home. q₀.budgeted.tells q y h (was_home q y home);
-        got_mine = λ q h one. dite (ℕ_discrete q p)
-            (λ e. subst (λ (j : ℕ). get_or (set v.got p (q₀.tally p)) j 0 ≡ q₀.tally j) (sym e) (get_or-set_same v.got p (q₀.tally p) 0 (omega arith)))
-            (λ ne. get_or-set_other v.got p q (q₀.tally p) 0 ne ∙ q₀.budgeted.got_is id v me q h (sym (get_or-set_other v.hands p q 1 0 ne) ∙ one));
-        got_theirs = λ j u ne e q h one. refl;
-        counting = omega (arith, same.count_same, counts, ups_moved place p (held id) w.instances inside);
-        pairs = pairs;
-        inside = λ q h. let t = inside_of (set v.hands p 1) q h in omega (arith, length-set v.hands p 1);
-        few = q₀.counted.few id v me;
-        still_quiet = λ e. same.count_same ∙ e;
-        still_halted = λ ne e. ne (sym same.halted_same ∙ e);
-        saw_quiet = λ e. same.count_same ∙ ⊎_elim (λ is. q₀.lasting.saw_quiet id v me (sym is ∙ e)) (λ is. absurd (omega arith)) sees;
-        saw_halted = λ e z. halted_is e (sym same.halted_same ∙ z);
-        knows = λ e. ⊎_elim (λ is. is ∙ e) (λ is. is) sees;
+        counting = omega (arith, hots.count_same, ups, ups_moved place p (held id) w.instances inside);
+        still_quiet = λ e. hots.count_same ∙ e;
+        still_halted = λ ne e. ne (sym hots.halted_same ∙ e);
+        knows = λ e. ⊎_elim (λ old. old ∙ e) (λ two. two) sees;
         raises = omega arith;
-        halter = λ ne. inl (λ z. ne (same.halted_same ∙ z));
-        sights = let t = q₀.lasting.sights id v me in (⊎_elim (λ is. omega (arith, is, t.0)) (λ is. omega (arith, is)) sees, λ up. ⊎_elim (λ is. is ∙ t.1 up) (λ is. is) sees);
-        flushed_all = λ q y h home zero_now. q₀.lasting.flushed_all q y h (was_home q y home) (sym same.halted_same ∙ zero_now);
-        belonging = λ q y h home. q₀.lasting.belonging q y h (was_home q y home);
-        fixed = fixed;
+        halter = λ ne. inl (λ z. ne (hots.halted_same ∙ z));
         leaves = λ h. absurd (omega arith);
       }
 
-  -- a step that gives the instance p with the cell y up, which then stands at x, with `more` counts down to pay
-  pub gives_second : (s : St T) (place : ℕ → Place) (r : Ruled told w place s) (q₀ : Reckoned told belongs w d place s) (i k id : ℕ) (v : View) (p : ℕ) (y : T) (x : Place) (more : ℕ)
-      → get_elem? s.views id ≡ some v → p < w.instances → length v.hands ≡ w.instances → i < 8 * (w.instances + w.channels) → 0 < v.parts
-      → place p ≡ held id → IsIn v p → is_up x + more ≡ 1 → Unowed p v.owed → v.down < 2 ^ 32 → Accounts (told y) (get_or v.got p 0) v.loose → (v.seen ≡ 2) ⊎ FlushedAll (told y) → belongs p y
-      → ((c : ℕ) → c < w.channels → published w (set s.words i k) c ≡ published w s.words c)
-      → Reckoned told belongs w d (moved place p x) (state told w (set s.words i k) (set s.homes p (some (Some y))) (set s.views id (gave v p (told y) more)))
-  gives_second s place r q₀ i k id v p y x more me inside long near alive is is_in ups free few accounts flushed of_p fixed =
-      let ws = set s.words i k in let same = hot s.words i k near in let hs : List (maybe.Option (Option T)) = set s.homes p (some (Some y)) in
-      let v' : View = gave v p (told y) more in let g = get_or v.got p 0 in let e' = events_past (told y) g in
-      let g_is : g ≡ q₀.tally p = q₀.budgeted.got_is id v me p inside is_in in
-      let tally' : ℕ → ℕ = putting q₀.tally p e' in
-      let acc = accounted (told y) g v.loose accounts in let acc₀ = acc.0 in let acc₁ = acc.1 in
-      let here : get_elem? hs p ≡ some (some (Some y)) = set_here s.homes p (some (Some y)) (omega (arith, r.deep)) in
-      let the_cell : (z : T) → get_elem? hs p ≡ some (some (Some z)) → y ≡ z = λ z e. same_some y z (some-injective (Some y) (Some z) (some-injective (some (Some y)) (some (Some z)) (sym here ∙ e))) in
-      turned_kept told belongs w d s place (moved place p x) q₀ tally' id v v' ws hs record {
+  -- the seat id gives the instance p with the cell y up, which then stands at x, with `more` counts down to pay
+  pub give_step : (i k id : ℕ) (v : View) (rest : List (ℕ × Option T)) (p : ℕ) (y : T) (x : Place) (more : ℕ) → get_elem? s.views id ≡ some v → Fit w (v, (p, Some y) ∷ rest) → p < w.instances → IsIn v p → i < 8 * (w.instances + w.channels) → place p ≡ held id → ((j : ℕ) → held_by j x ≡ 0)
+      → get_or (set s.words i k) (8 * p) 0 ≡ word_code x → ((q : ℕ) → q < w.instances → q ≢ p → get_or (set s.words i k) (8 * q) 0 ≡ get_or s.words (8 * q) 0)
+      → ((c : ℕ) → c < w.channels → get_or (set s.words i k) (8 * (w.instances + c)) 0 % 2 ≡ mark_of (moved place p x) (w.reader c) c) → ((c : ℕ) → c < w.channels → published w (set s.words i k) c ≡ published w s.words c)
+      → HasSlot x (some (some (Some y))) → ((c : ℕ) → x ≡ parked c → (c < w.channels) × (w.reader c ≡ Some p) × TellsWait (told y) c (published w (set s.words i k) c)) → (x ≡ over → TellsEnd (told y))
+      → is_up x + more ≡ 1 → Leaves told belongs w v p y → v.down < 2 ^ 32
+      → Whole told belongs w d (stepped s i k id ((p, Some y) ∷ rest) (gave v p (told y) more) gives)
+  give_step i k id v rest p y x more me fit inside is_in near was free word_is words_are marks same stands waits ends ups leaves few = let ws = set s.words i k in let hs : List (maybe.Option (Option T)) = set s.homes p (some (Some y)) in let o = r.seats id v me in
+      let hots = hot w s.words i k near in let v' : View = gave v p (told y) more in let place' = moved place p x in let g = get_or v.got p 0 in let e' = events_past (told y) g in let tally' : ℕ → ℕ = putting tally p e' in
+      let acc = accounted (told y) g v.loose leaves.1 in let acc₀ = acc.0 in let acc₁ = acc.1 in
+      let at_p : get_elem? hs p ≡ some (some (Some y)) = set_here s.homes p (some (Some y)) (omega (arith, r.deep)) in
+      let is : place' p ≡ x = moved_here place p x in
+      kept told belongs w d s place place' tally tally' r id p v v' ws hs record {
         mine = me;
-        drawing = omega (arith, same.budget_same);
-        tallying = omega (arith, sum_put q₀.tally p e' w.instances inside, g_is);
-        tells = λ q z h home. dite (ℕ_discrete q p)
-            (λ e. let home' : get_elem? hs p ≡ some (some (Some z)) = ap (λ (j : ℕ). get_elem? hs j) (sym e) ∙ home in
-            subst (λ (j : ℕ). TellsEvents (told z) (tally' j)) (sym e) (subst (λ (j : ℕ). TellsEvents (told z) j) (sym (put_here q₀.tally p e')) (subst (λ (u : T). TellsEvents (told u) e') (the_cell z home') (tells_past (told y) g))))
-            (λ ne. subst (λ (j : ℕ). TellsEvents (told z) j) (sym (put_else q₀.tally p e' q ne)) (q₀.budgeted.tells q z h (sym (set_else s.homes p q (some (Some y)) ne) ∙ home)));
-        got_mine = λ q h one. dite (ℕ_discrete q p)
-            (λ e. absurd (omega (arith, ap (λ (l : ℕ). get_or (set v.hands p 0) l 0) e, get_or-set_same v.hands p 0 0 (omega arith))))
-            (λ ne. q₀.budgeted.got_is id v me q h (sym (get_or-set_other v.hands p q 0 0 ne) ∙ one) ∙ sym (put_else q₀.tally p e' q ne));
-        got_theirs = λ j u ne e q h one. put_else q₀.tally p e' q (λ at_p. absurd (omega (arith, one, r.one_pair.hands_are j u e q h, ap (λ (l : ℕ). held_by j (place l)) at_p, ap (held_by j) is, held_no j id (λ z. ne (sym z)))));
-        counting = omega (arith, same.count_same, ups, ups_moved place p x w.instances inside, ap is_up is);
-        pairs = owes_less v.hands p v.owed free (q₀.counted.pairs id v me);
-        inside = λ q h. let t = inside_of (set v.hands p 0) q h in omega (arith, length-set v.hands p 0);
-        few = omega (arith, alive, few, ups);
-        still_quiet = λ e. same.count_same ∙ e;
-        still_halted = λ ne e. ne (sym same.halted_same ∙ e);
-        saw_quiet = λ e. same.count_same ∙ q₀.lasting.saw_quiet id v me e;
-        saw_halted = λ e z. q₀.lasting.saw_halted id v me e (sym same.halted_same ∙ z);
+        wide = length-set s.words i k;
+        deep = length-set s.homes p (some (Some y));
+        elsewhere = λ q h ne. (words_are q h ne, moved_else place p x q ne, put_else tally p e' q ne, set_else s.homes p q (some (Some y)) ne);
+        its = λ h. record {
+          word_is = word_is ∙ ap word_code (sym is);
+          cell_is = subst (HasSlot (place' p)) (sym at_p) (subst (λ (z : Place). HasSlot z (some (some (Some y)))) (sym is) stands);
+          seated = λ j e. absurd (omega (arith, ap (held_by j) (sym is ∙ e), free j, held_yes j));
+          reads = λ c e. let t = waits c (sym is ∙ e) in (t.0, t.1);
+        };
+        theirs = λ h j ne. (ap (held_by j) was ∙ held_no j id (λ e. ne (sym e)), ap (held_by j) is ∙ free j);
+        cell = λ z h home. let same_cell : y ≡ z = same_Some y z (some-injective (Some y) (Some z) (some-injective (some (Some y)) (some (Some z)) (sym at_p ∙ home))) in subst (λ (u : T). HomeIs told belongs w place' tally' ws p u) same_cell record {
+          waits = λ c e. (waits c (sym is ∙ e)).2;
+          ends = λ e. ends (sym is ∙ e);
+          flushes = λ c l tells. let t = leaves.0 c l tells in (t.0, t.1, t.2 ∙ (o.known p c inside is_in t.0 t.1 ∙ sym (same c t.0)));
+          flushed_all = λ z. ⊎_elim (λ two. absurd (o.saw_halted two (sym hots.halted_same ∙ z))) (λ f. f) leaves.2;
+          tells = subst (TellsEvents (told y)) (sym (put_here tally p e')) (tells_past (told y) g);
+          belonging = leaves.4;
+        };
+        own = record {
+          hands = λ q. at_moved (λ l z. l < w.instances → get_or (set v.hands p 0) l 0 ≡ held_by id z) place p x q (λ _. get_or-set_same v.hands p 0 0 (omega (arith, fit.hands_long)) ∙ sym (free id)) (λ ne h. get_or-set_other v.hands p q 0 0 ne ∙ o.hands q h);
+          inside = λ q h. let t = inside_of (set v.hands p 0) q h in omega (arith, length-set v.hands p 0, fit.hands_long);
+          known = λ q c h one near_c writes. o.known q c h (still_in q one).1 near_c writes ∙ sym (same c near_c);
+          got = λ q h one. let t = still_in q one in o.got q h t.1 ∙ sym (put_else tally p e' q t.0);
+          pairs = owes_less v.hands p v.owed leaves.3 o.pairs;
+          few = omega (arith, fit.alive, few, ups);
+          saw_quiet = λ e. hots.count_same ∙ o.saw_quiet e;
+          saw_halted = λ e z. o.saw_halted e (sym hots.halted_same ∙ z);
+          sights = o.sights;
+          idle = λ h. absurd (omega arith);
+          spends = λ none_left. absurd (omega (arith, none_left, fit.alive));
+        };
+        marks = marks;
+        same = λ c h. inl (same c h);
+        parts = refl;
+        drawing = omega (arith, hots.budget_same);
+        tallying = omega (arith, sum_put tally p e' w.instances inside, o.got p inside is_in);
+        counting = omega (arith, hots.count_same, ups, ups_moved place p x w.instances inside, ap is_up was);
+        still_quiet = λ e. hots.count_same ∙ e;
+        still_halted = λ ne e. ne (sym hots.halted_same ∙ e);
         knows = λ e. e;
         raises = omega arith;
-        halter = λ ne. inl (λ z. ne (same.halted_same ∙ z));
-        sights = q₀.lasting.sights id v me;
-        flushed_all = λ q z h home zero_now. dite (ℕ_discrete q p)
-            (λ e. let home' : get_elem? hs p ≡ some (some (Some z)) = ap (λ (j : ℕ). get_elem? hs j) (sym e) ∙ home in
-            subst (λ (u : T). FlushedAll (told u)) (the_cell z home') (⊎_elim (λ two. absurd (q₀.lasting.saw_halted id v me two (sym same.halted_same ∙ zero_now))) (λ f. f) flushed))
-            (λ ne. q₀.lasting.flushed_all q z h (sym (set_else s.homes p q (some (Some y)) ne) ∙ home) (sym same.halted_same ∙ zero_now));
-        belonging = λ q z h home. dite (ℕ_discrete q p)
-            (λ e. subst (λ (j : ℕ). belongs j z) (sym e) (subst (λ (u : T). belongs p u) (the_cell z (ap (λ (j : ℕ). get_elem? hs j) (sym e) ∙ home)) of_p))
-            (λ ne. q₀.lasting.belonging q z h (sym (set_else s.homes p q (some (Some y)) ne) ∙ home));
-        fixed = λ c h none. fixed c h;
+        halter = λ ne. inl (λ z. ne (hots.halted_same ∙ z));
         leaves = λ h. absurd (omega arith);
       }
-
-  -- the same places, in other words
-  pub replaced : (s : St T) (place place' : ℕ → Place) → ((q : ℕ) → place q ≡ place' q) → Reckoned told belongs w d place s → Reckoned told belongs w d place' s
-  replaced s place place' same q₀ = record {
-    tally = q₀.tally;
-    budgeted = q₀.budgeted;
-    counted = record { adds_up = omega (arith, q₀.counted.adds_up, ups_same place place' same w.instances); pairs = q₀.counted.pairs; inside = q₀.counted.inside; few = q₀.counted.few };
-    lasting = q₀.lasting;
-    leaving = q₀.leaving;
-  }
+    where
+      -- what is still in the hands is another one
+      still_in : (q : ℕ) → get_or (set v.hands p 0) q 0 ≡ 1 → (q ≢ p) × (get_or v.hands q 0 ≡ 1)
+      still_in q one = let ne : q ≢ p = (λ e. absurd (omega (arith, one, ap (λ (l : ℕ). get_or (set v.hands p 0) l 0) e, get_or-set_same v.hands p 0 0 (omega (arith, fit.hands_long))))) in (ne, sym (get_or-set_other v.hands p q 0 0 ne) ∙ one)

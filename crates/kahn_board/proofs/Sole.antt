@@ -1,11 +1,8 @@
 -- The one instance to which a channel is handed to be read, or to be written, is the first one.
-use Rattle.std.proofs.Common.{◌≡◌, ℕ, zero, suc, ◌+◌, ◌<◌, List, [], ◌∷◌, length, ap, sym, refl, ◌∙◌, arith, eq-eqb, Bool, true, false, true≢false, if◌then◌else◌, Option, Some, None}
+use Rattle.kahn_board.proofs.Common.{◌≡◌, ℕ, zero, suc, ◌+◌, ◌<◌, List, [], ◌∷◌, length, ap, sym, refl, ◌∙◌, arith, eq-eqb, Bool, true, false, true≢false, if◌then◌else◌, Option, Some, None, Program, Network, Instance, Actual, Reads, Writes, Hands, idle, is_written, network_of, wires, is_read, any_is, first_with}
 use Rattle.std.specs.Prelude.{slice_index_or, pos}
 use Rattle.std.proofs.lemmas.Bool.{eqb-true}
 use Rattle.kahn_streams.specs.Syntax as S
-use Rattle.kahn_streams.specs.declared.tree.Program.{Program}
-use Rattle.kahn_streams.specs.Network.{Network, Instance, Actual, Reads, Writes, Hands, idle, is_written, network_of}
-use Rattle.kahn_board.specs.Wires.{wires, is_read, any_is, first_with}
 
 abbrev pub nothing : Actual
 nothing = Hands (S.Number (pos 0))

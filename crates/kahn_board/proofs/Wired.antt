@@ -1,8 +1,5 @@
 -- Readers and writers are instances of the network.
-use Rattle.std.proofs.Common.{◌≡◌, ℕ, suc, ◌+◌, ◌<◌, List, [], ◌∷◌, length, ap, arith, Bool, true, false, if◌then◌else◌, Option, Some, None}
-use Rattle.kahn_streams.specs.declared.tree.Program.{Program}
-use Rattle.kahn_streams.specs.Network.{Instance, Actual, is_written, network_of}
-use Rattle.kahn_board.specs.Wires.{wires, is_read, any_is, first_with}
+use Rattle.kahn_board.proofs.Common.{◌≡◌, ℕ, suc, ◌+◌, ◌<◌, List, [], ◌∷◌, length, ap, arith, Bool, true, false, if◌then◌else◌, Option, Some, None, Program, Instance, Actual, is_written, network_of, wires, is_read, any_is, first_with}
 
 abbrev number_of : ℕ → Option ℕ → ℕ
 number_of k None = k

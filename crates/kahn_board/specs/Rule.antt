@@ -91,6 +91,28 @@ IsHalter views = (j : ℕ) × (v : View) × (get_elem? views j ≡ some v) × (v
 abbrev pub Quiet : ℕ → (ℕ → Place) → List View → Type 0
 Quiet n place views = ((p : ℕ) → p < n → is_up (place p) ≡ 0) × (total (λ v. length v.owed) views ≡ 0) × (total (λ v. v.down) views ≡ 0)
 
+-- the channel c is marked where its reader is parked on it; one that no instance writes keeps its number
+pub record ChannelIs (w : Wires) (d : Deal) (place : ℕ → Place) (words : List ℕ) (c : ℕ) : Type 0 where
+  pub mark : slice_index words (8 * (w.instances + c)) % 2 ≡ mark_of place (w.reader c) c
+  pub fixed : w.writer c ≡ std.None → published w words c ≡ d.published c
+
+-- the view v of the seat j is right: it has what is in its hands, which no other seat has, and knows how much is published by the writers among them.
+-- Who owes a count up holds the woken reader and its waker. What it saw stays so, and who halted the run knows so. One that has left has no draw,
+-- and one without a part is spent
+pub record SeatIs (w : Wires) (place : ℕ → Place) (tally : ℕ → ℕ) (words : List ℕ) (j : ℕ) (v : View) : Type 0 where
+  pub hands : (p : ℕ) → p < w.instances → slice_index v.hands p ≡ held_by j (place p)
+  pub inside : (p : ℕ) → 0 < slice_index v.hands p → p < w.instances
+  pub known : (p c : ℕ) → p < w.instances → slice_index v.hands p ≡ 1 → c < w.channels → w.writer c ≡ Some p → slice_index v.flushed c ≡ published w words c
+  pub got : (p : ℕ) → p < w.instances → slice_index v.hands p ≡ 1 → slice_index v.got p ≡ tally p
+  pub pairs : Owes v.hands v.owed
+  -- so the count doesn't wrap
+  pub few : v.down ≤ 2 ^ 32 * v.parts
+  pub saw_quiet : v.seen ≡ 1 → count w words ≡ 0
+  pub saw_halted : v.seen ≡ 2 → halted w words ≢ 0
+  pub sights : (v.seen ≤ 2) × (0 < v.raised → v.seen ≡ 2)
+  pub idle : v.stage ≤ 1 → v.drawn ≡ 0
+  pub spends : v.parts ≡ 0 → v ≡ spent
+
 module _ {T : Type 0} where
   -- the cell y of the instance p is at home
   abbrev pub IsHome : St T → ℕ → T → Type 0
@@ -103,67 +125,12 @@ module _ {T : Type 0} where
   HasSlot (parked c) h = (y : T) × (h ≡ some (some (Some y)))
   HasSlot over h = (y : T) × (h ≡ some (some (Some y)))
 
-  -- each instance is in one state, and held by one seat only, which alone can reach its cell
-  pub record OnePair (w : Wires) (place : ℕ → Place) (s : St T) : Type 0 where
-    pub word_is : (p : ℕ) → p < w.instances → slice_index s.words (8 * p) ≡ word_code (place p)
-    pub hands_are : (j : ℕ) (v : View) → get_elem? s.views j ≡ some v → (p : ℕ) → p < w.instances → slice_index v.hands p ≡ held_by j (place p)
-    pub seated : (p j : ℕ) → p < w.instances → place p ≡ held j → j < length s.views
-    pub cell_is : (p : ℕ) → p < w.instances → HasSlot (place p) (get_elem? s.homes p)
-
-  -- where p is parked on c, p reads c, waits on it and took what is published; what a cell at home tells as flushed is published
-  pub record Parked (told : T → std.Option Tale) (w : Wires) (place : ℕ → Place) (s : St T) : Type 0 where
-    pub marks : (c : ℕ) → c < w.channels → slice_index s.words (8 * (w.instances + c)) % 2 ≡ mark_of place (w.reader c) c
-    pub reads : (p c : ℕ) → p < w.instances → place p ≡ parked c → (c < w.channels) × (w.reader c ≡ Some p)
-    pub waits : (p c : ℕ) (y : T) → p < w.instances → place p ≡ parked c → IsHome s p y → TellsWait (told y) c (published w s.words c)
-    pub ends : (p : ℕ) (y : T) → p < w.instances → place p ≡ over → IsHome s p y → TellsEnd (told y)
-    pub flushes : (p c k : ℕ) (y : T) → p < w.instances → IsHome s p y → flushed_of (told y) c ≡ Some k → (c < w.channels) × (w.writer c ≡ Some p) × (k ≡ published w s.words c)
-
-  -- a seat knows how much is published by the writers that it holds
-  abbrev pub Known : Wires → St T → Type 0
-  Known w s = (j : ℕ) (v : View) → get_elem? s.views j ≡ some v → (p c : ℕ) → p < w.instances → slice_index v.hands p ≡ 1 → c < w.channels → w.writer c ≡ Some p → slice_index v.flushed c ≡ published w s.words c
-
-  -- the parts add up, and a seat without a part is a spent one
-  pub record Parts (s : St T) : Type 0 where
-    pub all : total (λ v. v.parts) s.views ≡ all_parts
-    pub none_spent : (j : ℕ) (v : View) → get_elem? s.views j ≡ some v → v.parts ≡ 0 → v ≡ spent
-
-  -- where instances and cells stand
-  pub record Ruled (told : T → std.Option Tale) (w : Wires) (place : ℕ → Place) (s : St T) : Type 0 where
-    pub wide : length s.words ≡ 8 * (w.instances + w.channels) + 24
-    pub deep : length s.homes ≡ w.instances
-    pub one_pair : OnePair w place s
-    pub parking : Parked told w place s
-    pub known : Known w s
-    pub parts : Parts s
-
-  -- no event is drawn twice or lost: budget, undone draws and events told as done are the bound.
-  -- What is told as done is told by cells, but for those that no cell has told yet: `tally p` is what the cell of p told when it was last given up
-  pub record Budgeted (told : T → std.Option Tale) (w : Wires) (d : Deal) (tally : ℕ → ℕ) (s : St T) : Type 0 where
-    pub small : d.bound + d.events < 2 ^ 48
-    pub adds_up : budget w s.words + total (λ v. v.drawn) s.views + total (λ v. v.done) s.views ≡ d.bound
-    pub tallied : d.events + total (λ v. v.done) s.views ≡ below tally w.instances + total (λ v. v.loose) s.views
-    pub tells : (p : ℕ) (y : T) → p < w.instances → IsHome s p y → TellsEvents (told y) (tally p)
-    pub got_is : (j : ℕ) (v : View) → get_elem? s.views j ≡ some v → (p : ℕ) → p < w.instances → slice_index v.hands p ≡ 1 → slice_index v.got p ≡ tally p
-
-  -- the count is the number of instances neither parked nor over, but for what is owed to it; who owes a count up holds the woken reader and its waker
-  pub record CountIs (w : Wires) (place : ℕ → Place) (s : St T) : Type 0 where
-    pub adds_up : count w s.words + total (λ v. length v.owed) s.views ≡ below (λ p. is_up (place p)) w.instances + total (λ v. v.down) s.views
-    pub pairs : (j : ℕ) (v : View) → get_elem? s.views j ≡ some v → Owes v.hands v.owed
-    pub inside : (j : ℕ) (v : View) → get_elem? s.views j ≡ some v → (p : ℕ) → 0 < slice_index v.hands p → p < w.instances
-    -- so the count doesn't wrap
-    pub few : (j : ℕ) (v : View) → get_elem? s.views j ≡ some v → v.down ≤ 2 ^ 32 * v.parts
-
-  -- what a seat saw stays so; the words of channels that no instance writes stay; a cell at home has flushed all that it sent, unless halted, and belongs to its instance
-  pub record Lasting (told : T → std.Option Tale) (belongs : ℕ → T → Type 0) (w : Wires) (d : Deal) (s : St T) : Type 0 where
-    pub saw_quiet : (j : ℕ) (v : View) → get_elem? s.views j ≡ some v → v.seen ≡ 1 → count w s.words ≡ 0
-    pub saw_halted : (j : ℕ) (v : View) → get_elem? s.views j ≡ some v → v.seen ≡ 2 → halted w s.words ≢ 0
-    -- it is halted only where a seat did so
-    pub halter : halted w s.words ≢ 0 → IsHalter s.views
-    -- a seat that halted it knows so
-    pub sights : (j : ℕ) (v : View) → get_elem? s.views j ≡ some v → (v.seen ≤ 2) × (0 < v.raised → v.seen ≡ 2)
-    pub flushed_all : (p : ℕ) (y : T) → p < w.instances → IsHome s p y → halted w s.words ≡ 0 → FlushedAll (told y)
-    pub belonging : (p : ℕ) (y : T) → p < w.instances → IsHome s p y → belongs p y
-    pub fixed : (c : ℕ) → c < w.channels → w.writer c ≡ std.None → published w s.words c ≡ d.published c
+  -- the instance p stands at one place: its word and its slot say so, and where it is held there is the seat; it is parked on a channel that it reads
+  pub record PlaceIs (w : Wires) (place : ℕ → Place) (s : St T) (p : ℕ) : Type 0 where
+    pub word_is : slice_index s.words (8 * p) ≡ word_code (place p)
+    pub cell_is : HasSlot (place p) (get_elem? s.homes p)
+    pub seated : (j : ℕ) → place p ≡ held j → j < length s.views
+    pub reads : (c : ℕ) → place p ≡ parked c → (c < w.channels) × (w.reader c ≡ Some p)
 
   -- where one seat is done and all others are done or unused
   abbrev pub AllLeft : St T → Type 0
@@ -173,26 +140,46 @@ module _ {T : Type 0} where
   abbrev pub Stopped : Wires → St T → Type 0
   Stopped w s = (halted w s.words ≢ 0) ⊎ ((count w s.words ≡ 0) ⊎ ((budget w s.words ≡ 0) × (total (λ v. v.drawn) s.views ≡ 0)))
 
-  -- once all seats have left there is a reason; a seat that has left has no draw
-  pub record Leaving (w : Wires) (s : St T) : Type 0 where
-    pub idle : (j : ℕ) (v : View) → get_elem? s.views j ≡ some v → v.stage ≤ 1 → v.drawn ≡ 0
+module _ {T : Type 0} (told : T → std.Option Tale) (belongs : ℕ → T → Type 0) (w : Wires) where
+  -- the cell y of the instance p, which is at home: where it is parked it waits there and took what is published; where it is over it has ended. What it tells
+  -- as flushed is published, and is all that it sent, unless halted. It told so many events when it was last given up, and belongs to p
+  pub record HomeIs (place : ℕ → Place) (tally : ℕ → ℕ) (words : List ℕ) (p : ℕ) (y : T) : Type 0 where
+    pub waits : (c : ℕ) → place p ≡ parked c → TellsWait (told y) c (published w words c)
+    pub ends : place p ≡ over → TellsEnd (told y)
+    pub flushes : (c k : ℕ) → flushed_of (told y) c ≡ Some k → (c < w.channels) × (w.writer c ≡ Some p) × (k ≡ published w words c)
+    pub flushed_all : halted w words ≡ 0 → FlushedAll (told y)
+    pub tells : TellsEvents (told y) (tally p)
+    pub belonging : belongs p y
+
+  -- all that holds but Quiet, which follows from it
+  pub record Ruled (d : Deal) (place : ℕ → Place) (tally : ℕ → ℕ) (s : St T) : Type 0 where
+    pub wide : length s.words ≡ 8 * (w.instances + w.channels) + 24
+    pub deep : length s.homes ≡ w.instances
+    pub places : (p : ℕ) → p < w.instances → PlaceIs w place s p
+    pub channels : (c : ℕ) → c < w.channels → ChannelIs w d place s.words c
+    pub cells : (p : ℕ) (y : T) → p < w.instances → IsHome s p y → HomeIs place tally s.words p y
+    pub seats : (j : ℕ) (v : View) → get_elem? s.views j ≡ some v → SeatIs w place tally s.words j v
+    pub parts : total (λ v. v.parts) s.views ≡ all_parts
+    -- no event is drawn twice or lost: budget, undone draws and events told as done are the bound
+    pub small : d.bound + d.events < 2 ^ 48
+    pub budgeted : budget w s.words + total (λ v. v.drawn) s.views + total (λ v. v.done) s.views ≡ d.bound
+    -- what is told as done is told by cells, but for those that no cell has told yet
+    pub tallied : d.events + total (λ v. v.done) s.views ≡ below tally w.instances + total (λ v. v.loose) s.views
+    -- the count is the number of instances neither parked nor over, but for what is owed to it
+    pub counted : count w s.words + total (λ v. length v.owed) s.views ≡ below (λ p. is_up (place p)) w.instances + total (λ v. v.down) s.views
+    -- it is halted only where a seat did so
+    pub halter : halted w s.words ≢ 0 → IsHalter s.views
+    -- once all seats have left there is a reason
     pub left : AllLeft s → Stopped w s
 
-  -- budget, count, what lasts, and leaving
-  pub record Reckoned (told : T → std.Option Tale) (belongs : ℕ → T → Type 0) (w : Wires) (d : Deal) (place : ℕ → Place) (s : St T) : Type 0 where
-    pub tally : ℕ → ℕ
-    pub budgeted : Budgeted told w d tally s
-    pub counted : CountIs w place s
-    pub lasting : Lasting told belongs w d s
-    pub leaving : Leaving w s
-
   -- the rule
-  pub record Whole (told : T → std.Option Tale) (belongs : ℕ → T → Type 0) (w : Wires) (d : Deal) (s : St T) : Type 0 where
+  pub record Whole (d : Deal) (s : St T) : Type 0 where
     pub place : ℕ → Place
-    pub ruled : Ruled told w place s
-    pub reckoned : Reckoned told belongs w d place s
+    pub tally : ℕ → ℕ
+    pub ruled : Ruled d place tally s
     pub quiet : count w s.words ≡ 0 → Quiet w.instances place s.views
 
+module _ {T : Type 0} where
   -- there was a moment at which the rule held, the seat id had the view v, and the word i the number r
   abbrev pub WordWas : (St T → Type 0) → ℕ → View → ℕ → ℕ → Type 0
   WordWas holds id v i r = (s : St T) × Seen holds id v s × (slice_index s.words i ≡ r)

@@ -24,7 +24,7 @@ pub struct Board<T: Told> {
     pub channels: usize,
     pub readers: Vec<Option<usize>, Global>,
     // The room of the list that `close` hands out.
-    pub(crate) room: Vec<Option<T>, Global>,
+    pub(crate) room: Vec<T, Global>,
     ghost sized: { (table.shared.table_id.words ≡ 8 * (instances + channels) + 24) × (table.shared.table_id.slots ≡ instances) },
     ghost counts: { ((wired table.shared.key).instances ≡ instances) × ((wired table.shared.key).channels ≡ channels) },
     ghost limits: { (instances ≤ 256) × (channels ≤ 1024) },

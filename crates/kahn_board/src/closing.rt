@@ -102,7 +102,10 @@ impl<T: Told> Board<T> {
         let budget = closed.word(hot);
         let halted = closed.word(hot + 16);
         for i in 0..instances {
-            room.push_reserved(closed.take(i));
+            let Some(cell) = closed.take(i) else {
+                unreachable!()
+            };
+            room.push_reserved(cell);
         }
         closed.free();
         Closed {
@@ -115,7 +118,7 @@ impl<T: Told> Board<T> {
 
 /// What a closed board hands out.
 pub struct Closed<T> {
-    pub cells: Vec<Option<T>, Global>,
+    pub cells: Vec<T, Global>,
     pub budget: u64,
     pub halted: bool,
 }

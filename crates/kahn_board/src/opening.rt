@@ -74,7 +74,7 @@ struct Grown<T> {
     wiring: Wiring,
     words: Vec<u64, Global>,
     held: VecDeque<usize, Global>,
-    room: Vec<Option<T>, Global>,
+    room: Vec<T, Global>,
     slots: Vec<Option<T>, Global>,
 }
 

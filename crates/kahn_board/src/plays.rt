@@ -1,5 +1,7 @@
 //! What each step tells its seat.
 
+ghost use Rattle.kahn_board.specs.Plays.{looked, drew, gave_back, counted_up, counted_down, halts, sees_halted, sees_count, sees_budget};
+
 use crate::view::View;
 use atomic_table::Play;
 use std::marker::Brand;
@@ -14,8 +16,6 @@ impl<T> Play<Option<T>, View> for Brand {
 pub struct Notes;
 
 impl<T> Play<Option<T>, View> for Notes {
-    ghost use Rattle.kahn_board.specs.Plays.{looked};
-
     ghost then = { looked };
 }
 
@@ -23,8 +23,6 @@ impl<T> Play<Option<T>, View> for Notes {
 pub struct Drawing;
 
 impl<T> Play<Option<T>, View> for Drawing {
-    ghost use Rattle.kahn_board.specs.Plays.{drew};
-
     ghost then = { drew };
 }
 
@@ -32,8 +30,6 @@ impl<T> Play<Option<T>, View> for Drawing {
 pub struct GivingBack;
 
 impl<T> Play<Option<T>, View> for GivingBack {
-    ghost use Rattle.kahn_board.specs.Plays.{gave_back};
-
     ghost then = { gave_back };
 }
 
@@ -41,8 +37,6 @@ impl<T> Play<Option<T>, View> for GivingBack {
 pub struct CountingUp;
 
 impl<T> Play<Option<T>, View> for CountingUp {
-    ghost use Rattle.kahn_board.specs.Plays.{counted_up};
-
     ghost then = { counted_up };
 }
 
@@ -50,8 +44,6 @@ impl<T> Play<Option<T>, View> for CountingUp {
 pub struct CountingDown;
 
 impl<T> Play<Option<T>, View> for CountingDown {
-    ghost use Rattle.kahn_board.specs.Plays.{counted_down};
-
     ghost then = { counted_down };
 }
 
@@ -59,8 +51,6 @@ impl<T> Play<Option<T>, View> for CountingDown {
 pub struct Halting;
 
 impl<T> Play<Option<T>, View> for Halting {
-    ghost use Rattle.kahn_board.specs.Plays.{halts};
-
     ghost then = { halts };
 }
 
@@ -68,8 +58,6 @@ impl<T> Play<Option<T>, View> for Halting {
 pub struct SeesHalted;
 
 impl<T> Play<Option<T>, View> for SeesHalted {
-    ghost use Rattle.kahn_board.specs.Plays.{sees_halted};
-
     ghost then = { sees_halted };
 }
 
@@ -77,8 +65,6 @@ impl<T> Play<Option<T>, View> for SeesHalted {
 pub struct SeesCount;
 
 impl<T> Play<Option<T>, View> for SeesCount {
-    ghost use Rattle.kahn_board.specs.Plays.{sees_count};
-
     ghost then = { sees_count };
 }
 
@@ -86,7 +72,5 @@ impl<T> Play<Option<T>, View> for SeesCount {
 pub struct SeesBudget;
 
 impl<T> Play<Option<T>, View> for SeesBudget {
-    ghost use Rattle.kahn_board.specs.Plays.{sees_budget};
-
     ghost then = { sees_budget };
 }

@@ -1,5 +1,5 @@
 -- The operands of a level and the statements of a block, as lists; and no arguments.
-use Rattle.std.proofs.Common.{◌≡◌, ℕ, List, [], ◌∷◌, Option, None, refl, ap}
+use Rattle.std.proofs.Common.{◌≡◌, ℕ, List, [], ◌∷◌, Option, None, Some, refl, ap}
 use Rattle.std.specs.Option.{option_or}
 use Rattle.kahn_streams.specs.declared.span.Span.{Span}
 use Rattle.kahn_streams.specs.declared.tree.Direction.{Direction}
@@ -39,3 +39,8 @@ row_uses s at (more_of-Statement span a rest) = ap (λ r. option_or (statement_u
 pub none_passed : (d : Direction) (word : List ℕ) (qs : List Parameter) → passed_in d word qs [] ≡ None
 none_passed d word [] = refl
 none_passed d word (q ∷ qs) = refl
+
+-- what was found so far, or else what is found further on
+pub or_more : {A : Type 0} (found here rest : Option A) → option_or (option_or found here) rest ≡ option_or found (option_or here rest)
+or_more None here rest = refl
+or_more (Some x) here rest = refl

@@ -1,9 +1,10 @@
 -- Believed. Arguments of an instance that were perhaps interchanged.
-use Rattle.std.specs.Prelude.{ℕ, Bool, true, false, ◌&&◌, ◌||◌, List, [], ◌∷◌, Option, Some, None, is_some, not}
+use Rattle.std.specs.Prelude.{ℕ, Bool, true, false, ◌&&◌, ◌||◌, List, [], ◌∷◌, Option, Some, is_some, not}
 use Rattle.std.specs.List.{list_any}
 use Rattle.kahn_streams.specs.View.{bytes_of}
 use Rattle.kahn_streams.specs.declared.span.Span.{Span}
 use Rattle.kahn_streams.specs.declared.tree.Direction.{Direction}
+use Rattle.kahn_streams.specs.declared.tree.Kind.{Kind}
 use Rattle.kahn_streams.specs.declared.tree.Role.{Role}
 use Rattle.kahn_streams.specs.declared.tree.Taking.{Taking}
 use Rattle.kahn_streams.specs.declared.tree.Parameter.{Parameter}
@@ -15,24 +16,22 @@ use Rattle.kahn_streams.specs.declared.tree.Role.TheVariants.{Inner, Input, Outp
 use Rattle.kahn_streams.specs.declared.tree.Taking.TheVariants as T
 use Rattle.kahn_streams.specs.declared.tree.Argument.TheVariants as A
 use Rattle.kahn_streams.specs.Wiring.{same_direction}
-use Rattle.kahn_hints.specs.Places.{asked_of, passed, process_called, role_called, taken_by}
+use Rattle.kahn_hints.specs.Places.{asked_of, passed, process_called, channel_called, taken_by}
 
 abbrev pub opposite : Direction → Direction
 opposite In = Out
 opposite Out = In
 
--- a channel of that role may be handed over in a direction
-abbrev pub is_open : Direction → Option Role → Bool
-is_open d None = false
-is_open d (Some Inner) = true
-is_open In (Some Input) = true
-is_open In (Some Output) = false
-is_open Out (Some Input) = false
-is_open Out (Some Output) = true
+-- a channel may be handed over in a direction: an input isn't written, and an output isn't read
+abbrev pub is_open : Direction → Option (Kind × Role) → Bool
+is_open d (Some (k, Inner)) = true
+is_open In (Some (k, Input)) = true
+is_open Out (Some (k, Output)) = true
+is_open _ _ = false
 
 -- the channel of these letters may be, and no instance does
 abbrev pub is_free : Program → Direction → List ℕ → Bool
-is_free t d word = is_open d (role_called t word) && not (is_some (passed t d word))
+is_free t d word = is_open d (channel_called t word) && not (is_some (passed t d word))
 
 -- an argument hands over such a channel, in the other direction
 abbrev pub is_free_for : Program → Direction → Taking → Argument → Bool

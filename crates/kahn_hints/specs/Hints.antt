@@ -1,5 +1,5 @@
 -- Believed. What more is told of a fault of a network.
-use Rattle.std.specs.Prelude.{ℕ, Bool, true, false, List, [], ◌∷◌, ◌++◌, Option, Some, None, codes, decimal, if◌then◌else◌, is_some, length}
+use Rattle.std.specs.Prelude.{ℕ, Bool, true, false, List, [], ◌∷◌, ◌++◌, Option, Some, None, codes, decimal, if◌then◌else◌, is_some, length, option_map}
 use Rattle.std.specs.List.{concat, find}
 use Rattle.std.specs.Option.{option_or}
 use Rattle.kahn_streams.specs.View.{bytes_of}
@@ -21,10 +21,11 @@ use Rattle.kahn_hints.specs.declared.hint.Reason.{Reason}
 use Rattle.kahn_hints.specs.declared.hint.Reason.TheVariants as reason
 use Rattle.kahn_hints.specs.declared.names.Sort.{Sort}
 use Rattle.kahn_hints.specs.declared.names.Sort.TheVariants as sort
+use Rattle.kahn_hints.specs.declared.places.Sought.TheVariants as sought
 use Rattle.kahn_hints.specs.declared.uses.Use.{Use}
 use Rattle.kahn_hints.specs.declared.uses.Use.TheVariants as use_as
 use Rattle.kahn_hints.specs.Exchange.{are_interchanged}
-use Rattle.kahn_hints.specs.Places.{asked_name, called_first, channel_kind, names_seen, passed, process_called, process_declaring, process_using, process_without, role_called, word_at}
+use Rattle.kahn_hints.specs.Places.{asked_name, called_first, channel_called, first_process, names_seen, passed, process_called, word_at}
 use Rattle.kahn_hints.specs.Sight.{unknown_words, used_words}
 use Rattle.kahn_hints.specs.Uses.{body_use, instances_use, same_span}
 
@@ -47,7 +48,7 @@ use_of_place t at None = instances_use t at
 use_of_place t at (Some p) = body_use p at
 
 abbrev pub use_at : Program → Span → Option Use
-use_at t at = use_of_place t at (process_using t at)
+use_at t at = use_of_place t at (first_process t (sought.Using at))
 
 -- the sort of the names that may stand where a name is used
 abbrev pub asked_sort : Option Use → Option Sort
@@ -72,7 +73,7 @@ place_in r asked t p word = place_as r (called_first word (names_seen asked t p)
 
 -- the first of the names in sight at a place with the letters that stand there
 abbrev pub declared_here : List ℕ → Program → Span → Option (Span × Reason)
-declared_here text t at = place_in reason.Declared None t (process_using t at) (word_at text at)
+declared_here text t at = place_in reason.Declared None t (first_process t (sought.Using at)) (word_at text at)
 
 -- that, or else the parameter that takes what stands there
 abbrev pub wanted_here : List ℕ → Program → Span → Option (Span × Reason)
@@ -84,11 +85,11 @@ place_outside t word (Some p) = place_in reason.Outside None t None word
 place_outside t word None = place_in reason.NoProcess (Some sort.Channel) t None word
 
 abbrev pub declared_outside : List ℕ → Program → Span → Option (Span × Reason)
-declared_outside text t at = place_outside t (word_at text at) (process_using t at)
+declared_outside text t at = place_outside t (word_at text at) (first_process t (sought.Using at))
 
 -- the first of the names that are declared beside the one at a place, with the same letters
 abbrev pub declared_first : List ℕ → Program → Span → Option (Span × Reason)
-declared_first text t at = place_in reason.DeclaredFirst None t (process_declaring t at) (word_at text at)
+declared_first text t at = place_in reason.DeclaredFirst None t (first_process t (sought.Declaring at)) (word_at text at)
 
 abbrev pub first_reason : Direction → Reason
 first_reason Out = reason.WrittenFirst
@@ -116,7 +117,7 @@ place_if None = None
 place_if (Some p) = Some (p.name.span, reason.NoInstance)
 
 abbrev pub idle_place : Program → Option (Span × Reason)
-idle_place t = place_if (process_without t)
+idle_place t = place_if (first_process t sought.Idle)
 
 -- another place that has to do with a fault, and why
 abbrev pub second_place : List ℕ → Program → CheckFault → Option (Span × Reason)
@@ -138,15 +139,15 @@ second_place text t checked.NoMemory = None
 
 -- the name that was perhaps meant, of those in sight that may stand there
 abbrev pub meant_at : List ℕ → Program → Span → List ℕ
-meant_at text t at = unknown_words (word_at text at) (names_seen (asked_sort (use_at t at)) t (process_using t at))
+meant_at text t at = unknown_words (word_at text at) (names_seen (asked_sort (use_at t at)) t (first_process t (sought.Using at)))
 
 -- as what a name is declared that should be that of a process
-abbrev pub other_words : Option Use → Option Kind → List ℕ
-other_words (Some use_as.Process) (Some k) = codes " as a process, but as a channel"
+abbrev pub other_words : Option Use → Option (Kind × Role) → List ℕ
+other_words (Some use_as.Process) (Some c) = codes " as a process, but as a channel"
 other_words _ _ = []
 
 abbrev pub unknown_at : List ℕ → Program → Span → List ℕ
-unknown_at text t at = other_words (use_at t at) (channel_kind t (word_at text at)) ++ meant_at text t at
+unknown_at text t at = other_words (use_at t at) (channel_called t (word_at text at)) ++ meant_at text t at
 
 -- the instance whose process is named at a place, and how many arguments are wanted and found there
 abbrev pub named_instance : Program → Span → Option Instance
@@ -166,7 +167,7 @@ count_words t (Some i) = counted_for (process_called t (bytes_of i.process)) i
 -- the kind of what stands at a place: of an expression, or of the channel that is handed over
 abbrev pub kind_if : List ℕ → Program → Span → Option Use → Option Kind
 kind_if text t at (Some (use_as.Expression k)) = Some k
-kind_if text t at (Some use_as.Handed) = channel_kind t (word_at text at)
+kind_if text t at (Some use_as.Handed) = option_map (λ c. c.0) (channel_called t (word_at text at))
 kind_if text t at _ = None
 
 abbrev pub found_kind : List ℕ → Program → Span → Option Kind
@@ -177,6 +178,12 @@ abbrev pub kind_words : Option Kind → List ℕ
 kind_words (Some K.Integer) = codes ": wanted logical, found integer"
 kind_words (Some K.Logical) = codes ": wanted integer, found logical"
 kind_words None = []
+
+-- how a value of the wanted kind is made of an expression
+abbrev pub made_words : Option Use → List ℕ
+made_words (Some (use_as.Expression K.Integer)) = codes "; `X <> 0` is a truth value of `X`"
+made_words (Some (use_as.Expression K.Logical)) = codes "; `if T then 1 else 0` is a number of `T`"
+made_words found = []
 
 abbrev pub direction_words : Option Use → List ℕ
 direction_words (Some use_as.Waited) = codes ": wanted `in`, found `out`"
@@ -203,7 +210,7 @@ value_words (Some use_as.Handed) handed = handed
 value_words _ handed = []
 
 abbrev pub valued_at : List ℕ → Program → Span → List ℕ
-valued_at text t at = value_words (use_at t at) (handed_words (is_some (channel_kind t (word_at text at))) (is_some (process_called t (word_at text at))))
+valued_at text t at = value_words (use_at t at) (handed_words (is_some (channel_called t (word_at text at))) (is_some (process_called t (word_at text at))))
 
 -- how the next value is taken, or one is sent, where a parameter to be read or to be written stands for a value or is assigned to
 abbrev pub used_if : Sort → Option Name → List ℕ
@@ -211,7 +218,7 @@ used_if s (Some n) = used_words s n
 used_if s None = []
 
 abbrev pub used_at : List ℕ → Program → Span → Sort → List ℕ
-used_at text t at s = used_if s (called_first (word_at text at) (names_seen (Some s) t (process_using t at)))
+used_at text t at s = used_if s (called_first (word_at text at) (names_seen (Some s) t (first_process t (sought.Using at))))
 
 abbrev pub next_if : List ℕ → Program → Span → Option Use → List ℕ
 next_if text t at (Some (use_as.Expression k)) = used_at text t at sort.Source ++ used_at text t at sort.Target
@@ -239,22 +246,22 @@ twice_at text t d at = twice_words d (are_interchanged t d (word_at text at) at)
 
 -- what to do about a channel of that role without a writer, which is read or not, or without a reader: an input has its writer outside, an
 -- output its reader
-abbrev pub unwritten_words : Option Role → Bool → List ℕ
-unwritten_words (Some Inner) true = codes "; hand it to an `out` parameter, or declare it `input` where its values come from outside"
-unwritten_words (Some Inner) false = codes "; it is handed to no process: leave its declaration out"
+abbrev pub unwritten_words : Option (Kind × Role) → Bool → List ℕ
+unwritten_words (Some (k, Inner)) true = codes "; hand it to an `out` parameter, or declare it `input` where its values come from outside"
+unwritten_words (Some (k, Inner)) false = codes "; it is handed to no process: leave its declaration out"
 unwritten_words _ _ = codes "; hand it to an `out` parameter"
 
 abbrev pub unwritten_at : List ℕ → Program → Span → List ℕ
-unwritten_at text t at = unwritten_words (role_called t (word_at text at)) (is_some (passed t In (word_at text at)))
+unwritten_at text t at = unwritten_words (channel_called t (word_at text at)) (is_some (passed t In (word_at text at)))
 
-abbrev pub unread_words : Option Role → List ℕ
-unread_words (Some Inner) = codes "; hand it to an `in` parameter, or declare it `output` where its values are to be reported"
+abbrev pub unread_words : Option (Kind × Role) → List ℕ
+unread_words (Some (k, Inner)) = codes "; hand it to an `in` parameter, or declare it `output` where its values are to be reported"
 unread_words _ = codes "; hand it to an `in` parameter"
 
 abbrev pub tail_of : List ℕ → Program → CheckFault → List ℕ
 tail_of text t (checked.Unknown at) = unknown_at text t at
 tail_of text t (checked.WrongCount at) = count_words t (named_instance t at)
-tail_of text t (checked.WrongKind at) = kind_words (found_kind text t at)
+tail_of text t (checked.WrongKind at) = kind_words (found_kind text t at) ++ made_words (use_at t at)
 tail_of text t (checked.WrongDirection at) = direction_at text t at
 tail_of text t (checked.ChannelExpected at) = channel_words (use_at t at)
 tail_of text t (checked.ValueExpected at) = value_tail text t at
@@ -262,8 +269,8 @@ tail_of text t (checked.DeclaredTwice at) = []
 tail_of text t (checked.TwoWriters at) = twice_at text t Out at
 tail_of text t (checked.TwoReaders at) = twice_at text t In at
 tail_of text t (checked.NoWriter at) = unwritten_at text t at
-tail_of text t (checked.NoReader at) = unread_words (role_called t (word_at text at))
-tail_of text t (checked.TooMany at) = []
+tail_of text t (checked.NoReader at) = unread_words (channel_called t (word_at text at))
+tail_of text t (checked.TooMany at) = codes "; a program has at most 1024 channels and 256 instances"
 tail_of text t checked.NoMemory = []
 
 -- ---- the note

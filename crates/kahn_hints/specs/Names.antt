@@ -7,6 +7,8 @@ use Rattle.kahn_streams.specs.declared.tree.Variable.{Variable}
 use Rattle.kahn_streams.specs.declared.tree.Process.{Process}
 use Rattle.kahn_streams.specs.declared.tree.Declaration.{Declaration}
 use Rattle.kahn_streams.specs.declared.tree.Program.{Program}
+use Rattle.kahn_streams.specs.declared.tree.Role.{Role}
+use Rattle.kahn_streams.specs.declared.tree.Role.TheVariants.{Input, Output, Inner}
 use Rattle.kahn_streams.specs.declared.tree.Direction.TheVariants.{In, Out}
 use Rattle.kahn_streams.specs.declared.tree.Taking.TheVariants as T
 use Rattle.kahn_streams.specs.declared.tree.Declaration.TheVariants as D
@@ -19,11 +21,19 @@ taking_sort (T.Channel In k) = sort.Source
 taking_sort (T.Channel Out k) = sort.Target
 taking_sort (T.Value k) = sort.Value
 
--- whether a sort is the one that is asked for; each is where none is
+-- what a channel's name stands for
+abbrev pub channel_sort : Role → Sort
+channel_sort Input = sort.Input
+channel_sort Output = sort.Channel
+channel_sort Inner = sort.Channel
+
+-- whether a sort is the one that is asked for; each is where none is, and an input is a channel too
 abbrev pub is_sort : Option Sort → Sort → Bool
 is_sort None s = true
 is_sort (Some sort.Value) sort.Value = true
 is_sort (Some sort.Channel) sort.Channel = true
+is_sort (Some sort.Channel) sort.Input = true
+is_sort (Some sort.Input) sort.Input = true
 is_sort (Some sort.Source) sort.Source = true
 is_sort (Some sort.Target) sort.Target = true
 is_sort (Some sort.Process) sort.Process = true
@@ -46,7 +56,7 @@ process_names asked p = flat_map (kept_parameter asked) p.parameters.items ++ fl
 
 -- those that a declaration declares
 abbrev pub globals_of : Option Sort → Declaration → List Name
-globals_of asked (D.Channels kind role names) = flat_map (kept asked sort.Channel) names.items
+globals_of asked (D.Channels kind role names) = flat_map (kept asked (channel_sort role)) names.items
 globals_of asked (D.Process p) = kept asked sort.Process p.name
 
 -- those that a program declares, in order

@@ -21,6 +21,8 @@ use Rattle.kahn_streams.specs.declared.tree.Taking.TheVariants as T
 use Rattle.kahn_streams.specs.declared.tree.Argument.TheVariants as A
 use Rattle.kahn_streams.specs.Wiring.{processes_of, same_direction}
 use Rattle.kahn_hints.specs.declared.names.Sort.{Sort}
+use Rattle.kahn_hints.specs.declared.places.Sought.{Sought}
+use Rattle.kahn_hints.specs.declared.places.Sought.TheVariants as sought
 use Rattle.kahn_hints.specs.Names.{process_names, program_names}
 use Rattle.kahn_hints.specs.Uses.{argument_use, body_use, same_span}
 
@@ -39,49 +41,36 @@ called_first word names = find (is_called word) names
 abbrev pub process_called : Program → List ℕ → Option Process
 process_called t word = find (λ p. is_called word p.name) (processes_of t.declarations.items)
 
--- the first process that no instance names
+-- whether no instance names a process
 abbrev pub has_none : List Instance → Process → Bool
 has_none is p = not (list_any (λ i. is_called (bytes_of i.process) p.name) is)
 
-abbrev pub process_without : Program → Option Process
-process_without t = find (has_none t.instances.items) (processes_of t.declarations.items)
-
--- the process that declares a name at this place
+-- whether a process declares a name at this place
 abbrev pub declares : Span → Process → Bool
 declares at p = list_any (λ q. same_span q.name.span at) p.parameters.items || list_any (λ v. same_span v.name.span at) p.variables.items
 
-abbrev pub process_declaring : Program → Span → Option Process
-process_declaring t at = find (declares at) (processes_of t.declarations.items)
+-- the first process without an instance, the one that declares a name at a place, or the one whose body has a part there
+abbrev pub is_sought : Program → Sought → Process → Bool
+is_sought t sought.Idle p = has_none t.instances.items p
+is_sought t (sought.Declaring at) p = declares at p
+is_sought t (sought.Using at) p = is_some (body_use p at)
 
--- the process whose body has a part at this place
-abbrev pub has_use : Span → Process → Bool
-has_use at p = is_some (body_use p at)
-
-abbrev pub process_using : Program → Span → Option Process
-process_using t at = find (has_use at) (processes_of t.declarations.items)
+abbrev pub first_process : Program → Sought → Option Process
+first_process t s = find (is_sought t s) (processes_of t.declarations.items)
 
 -- the names of a process, or those of the program where there is none, of the sort that is asked for
 abbrev pub names_seen : Option Sort → Program → Option Process → List Name
 names_seen asked t None = program_names asked t
 names_seen asked t (Some p) = process_names asked p
 
--- the kind of the channel that a program declares under these letters
-abbrev pub declared_kind : List ℕ → List Declaration → Option Kind
-declared_kind word [] = None
-declared_kind word (D.Channels kind role names ∷ rest) = if list_any (is_called word) names.items then Some kind else declared_kind word rest
-declared_kind word (D.Process p ∷ rest) = declared_kind word rest
+-- the kind of the channel that a program declares under these letters, and what the outside has to do with it
+abbrev pub declared_channel : List ℕ → List Declaration → Option (Kind × Role)
+declared_channel word [] = None
+declared_channel word (D.Channels kind role names ∷ rest) = if list_any (is_called word) names.items then Some (kind, role) else declared_channel word rest
+declared_channel word (D.Process p ∷ rest) = declared_channel word rest
 
-abbrev pub channel_kind : Program → List ℕ → Option Kind
-channel_kind t word = declared_kind word t.declarations.items
-
--- what the outside has to do with it
-abbrev pub role_in : List ℕ → List Declaration → Option Role
-role_in word [] = None
-role_in word (D.Channels kind role names ∷ rest) = if list_any (is_called word) names.items then Some role else role_in word rest
-role_in word (D.Process p ∷ rest) = role_in word rest
-
-abbrev pub role_called : Program → List ℕ → Option Role
-role_called t word = role_in word t.declarations.items
+abbrev pub channel_called : Program → List ℕ → Option (Kind × Role)
+channel_called t word = declared_channel word t.declarations.items
 
 -- the name of an argument, where it hands the channel of these letters over in a direction
 abbrev pub passed_if : Direction → List ℕ → Taking → Argument → Option Name

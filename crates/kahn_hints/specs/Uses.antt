@@ -52,7 +52,7 @@ expression_use s at e = or_inside s at e.span e.form (use_inside s at e.form)
 
 -- a name, or inside an expression
 abbrev pub named_use : Scope → Span → Name → Use → Expression → Option Use
-named_use s at x u e = if same_span x.span at then Some u else expression_use s at e
+named_use s at x u e = option_or (use_if at x.span u) (expression_use s at e)
 
 abbrev mutual
   pub statement_use : Scope → Span → Action → Option Use

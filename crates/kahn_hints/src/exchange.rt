@@ -4,9 +4,9 @@ ghost use Rattle.std.specs.Prelude.{◌≡◌};
 ghost use Rattle.kahn_hints.specs.Hints.{twice_at};
 ghost use Rattle.kahn_hints.specs.Exchange.{are_interchanged, has_free, has_free_at, is_free, is_free_for, is_open, opposite};
 
-use crate::places::{asked_of, passed, process_called, role_called, same_direction, word_at};
+use crate::places::{asked_of, channel_called, passed, process_called, same_direction, word_at};
 use crate::said::twice_words;
-use kahn_streams::{Argument, Direction, Instance, Parameter, Program, Role, Span, Taking};
+use kahn_streams::{Argument, Direction, Instance, Kind, Parameter, Program, Role, Span, Taking};
 
 /// The other direction.
 fn opposite(direction: Direction) -> Direction
@@ -18,17 +18,15 @@ fn opposite(direction: Direction) -> Direction
     }
 }
 
-/// Whether a channel of that role may be handed over in a direction.
-fn is_open(direction: Direction, role: Option<Role>) -> bool
-    ensures { result ≡ is_open direction role }
+/// Whether a channel may be handed over in a direction.
+fn is_open(direction: Direction, channel: Option<(Kind, Role)>) -> bool
+    ensures { result ≡ is_open direction channel }
 {
-    match (direction, role) {
-        (_, None) => false,
-        (_, Some(Role::Inner)) => true,
-        (Direction::In, Some(Role::Input)) => true,
-        (Direction::In, Some(Role::Output)) => false,
-        (Direction::Out, Some(Role::Input)) => false,
-        (Direction::Out, Some(Role::Output)) => true,
+    match (direction, channel) {
+        (_, Some((_, Role::Inner))) => true,
+        (Direction::In, Some((_, Role::Input))) => true,
+        (Direction::Out, Some((_, Role::Output))) => true,
+        _ => false,
     }
 }
 
@@ -36,7 +34,7 @@ fn is_open(direction: Direction, role: Option<Role>) -> bool
 fn is_free(program: &Program, direction: Direction, word: &[u8]) -> bool
     ensures { result ≡ is_free program.now direction word.now }
 {
-    is_open(direction, role_called(program, word)) && passed(program, direction, word).is_none()
+    is_open(direction, channel_called(program, word)) && passed(program, direction, word).is_none()
 }
 
 /// Whether an argument hands over such a channel, in the other direction.

@@ -2,24 +2,23 @@
 
 ghost use Rattle.std.specs.Prelude.{◌≡◌, ◌++◌, IfOk, option_map, string_bytes};
 ghost use Rattle.std.specs.List.{find};
-ghost use Rattle.kahn_hints.specs.Hints.{asked_sort, check_note, closed_reason, count_words, counted_words, declared_first, declared_here, declared_outside, direction_at, first_reason, found_kind, idle_place, meant_at, named_instance, next_there, place_in, second_place, second_text, taken_before, tail_of, unknown_at, unwritten_at, use_at, used_at, value_tail, valued_at, wanted_here};
+ghost use Rattle.kahn_hints.specs.Hints.{asked_sort, check_note, closed_reason, count_words, counted_words, declared_first, declared_here, declared_outside, direction_at, first_reason, found_kind, idle_place, kind_words, made_words, meant_at, named_instance, next_there, place_in, second_place, second_text, taken_before, tail_of, unknown_at, unwritten_at, use_at, used_at, value_tail, valued_at, wanted_here};
 
 use crate::exchange::twice_at;
 use crate::names::Sort;
 use crate::places::{
-    asked_name, called_first, channel_kind, names_seen, passed, process_called, process_declaring,
-    process_using, process_without, role_called, word_at,
+    Sought, asked_name, called_first, channel_called, first_process, names_seen, passed,
+    process_called, word_at,
 };
 use crate::said::{
-    channel_words, direction_words, handed_words, kind_words, other_words, reason_words,
-    unread_words, unwritten_words,
+    channel_words, direction_words, handed_words, kind_words, made_words, other_words,
+    reason_words, unread_words, unwritten_words,
 };
 use crate::sight::{add_unknown, add_used};
 use crate::uses::{Use, body_use, instances_use, same_span};
 use itoa::Buffer;
-use kahn_check::CheckFault;
 use kahn_marks::{add, marked, marked_too};
-use kahn_streams::{Direction, Instance, Kind, NoMemory, Process, Program, Span};
+use kahn_streams::{CheckFault, Direction, Instance, Kind, NoMemory, Process, Program, Span};
 use std::alloc::{AllocError, Global};
 
 /// Why another place is told beside that of a fault.
@@ -51,7 +50,7 @@ pub(crate) enum Reason {
 fn use_at(program: &Program, at: Span) -> Option<Use>
     ensures { result ≡ use_at program.now at }
 {
-    match process_using(program, at) {
+    match first_process(program, Sought::Using(at)) {
         Some(process) => body_use(process, at),
         None => instances_use(program, at),
     }
@@ -101,7 +100,7 @@ fn declared_here(
 ) -> Result<Option<(Span, Reason)>, AllocError>
     ensures { IfOk result (λ place. place ≡ declared_here text.now program.now at) }
 {
-    let process = process_using(program, at);
+    let process = first_process(program, Sought::Using(at));
     placed(
         alloc,
         program,
@@ -140,7 +139,7 @@ fn declared_outside(
     ensures { IfOk result (λ place. place ≡ declared_outside text.now program.now at) }
 {
     let word = word_at(text, at);
-    match process_using(program, at) {
+    match first_process(program, Sought::Using(at)) {
         Some(_) => placed(alloc, program, None, None, word, Reason::Outside),
         None => placed(
             alloc,
@@ -162,7 +161,7 @@ fn declared_first(
 ) -> Result<Option<(Span, Reason)>, AllocError>
     ensures { IfOk result (λ place. place ≡ declared_first text.now program.now at) }
 {
-    let process = process_declaring(program, at);
+    let process = first_process(program, Sought::Declaring(at));
     placed(
         alloc,
         program,
@@ -218,7 +217,7 @@ fn taken_before(
 fn idle_place(program: &Program) -> Option<(Span, Reason)>
     ensures { result ≡ idle_place program.now }
 {
-    match process_without(program) {
+    match first_process(program, Sought::Idle) {
         Some(process) => Some((process.name.span, Reason::NoInstance)),
         None => None,
     }
@@ -237,16 +236,14 @@ fn second_place(
         CheckFault::DeclaredTwice(at) => declared_first(alloc, text, program, at),
         CheckFault::WrongKind(at) => declared_here(alloc, text, program, at),
         CheckFault::WrongCount(at) => declared_here(alloc, text, program, at),
-        CheckFault::ChannelExpected(at) => wanted_here(alloc, text, program, at),
         CheckFault::ValueExpected(at) => declared_here(alloc, text, program, at),
         CheckFault::WrongDirection(at) => declared_here(alloc, text, program, at),
+        CheckFault::ChannelExpected(at) => wanted_here(alloc, text, program, at),
         CheckFault::TwoWriters(at) => taken_before(alloc, text, program, Direction::Out, at),
         CheckFault::TwoReaders(at) => taken_before(alloc, text, program, Direction::In, at),
         CheckFault::Unknown(at) => declared_outside(alloc, text, program, at),
-        CheckFault::NoWriter(_) => Ok(idle_place(program)),
-        CheckFault::NoReader(_) => Ok(idle_place(program)),
-        CheckFault::TooMany(_) => Ok(None),
-        CheckFault::NoMemory => Ok(None),
+        CheckFault::NoWriter(_) | CheckFault::NoReader(_) => Ok(idle_place(program)),
+        CheckFault::TooMany(_) | CheckFault::NoMemory => Ok(None),
     }
 }
 
@@ -261,7 +258,12 @@ fn add_meant(
     ensures { IfOk result (λ _. string_bytes words.new ≡ string_bytes words.old ++ meant_at text.now program.now at) }
 {
     let asked = asked_sort(use_at(program, at));
-    let names = names_seen(alloc, program, process_using(program, at), asked)?;
+    let names = names_seen(
+        alloc,
+        program,
+        first_process(program, Sought::Using(at)),
+        asked,
+    )?;
     add_unknown(words, alloc, word_at(text, at), &names)
 }
 
@@ -276,7 +278,7 @@ fn add_unknown_at(
     ensures { IfOk result (λ _. string_bytes words.new ≡ string_bytes words.old ++ unknown_at text.now program.now at) }
 {
     let found = use_at(program, at);
-    words.push_str(other_words(found, channel_kind(program, word_at(text, at))))?;
+    words.push_str(other_words(found, channel_called(program, word_at(text, at))))?;
     add_meant(words, alloc, text, program, at)
 }
 
@@ -322,7 +324,10 @@ fn found_kind(text: &str, program: &Program, at: Span) -> Option<Kind>
 {
     match use_at(program, at) {
         Some(Use::Expression(kind)) => Some(kind),
-        Some(Use::Handed) => channel_kind(program, word_at(text, at)),
+        Some(Use::Handed) => match channel_called(program, word_at(text, at)) {
+            Some((kind, _)) => Some(kind),
+            None => None,
+        },
         _ => None,
     }
 }
@@ -336,7 +341,7 @@ fn valued_at(text: &str, program: &Program, at: Span) -> &'static str
         Some(Use::Assigned) => ", found a channel",
         Some(Use::Handed) => {
             let word = word_at(text, at);
-            let channel = channel_kind(program, word).is_some();
+            let channel = channel_called(program, word).is_some();
             handed_words(channel, process_called(program, word).is_some())
         }
         _ => "",
@@ -354,7 +359,7 @@ fn add_used_at(
 ) -> Result<(), AllocError>
     ensures { IfOk result (λ _. string_bytes words.new ≡ string_bytes words.old ++ used_at text.now program.now at sort) }
 {
-    let process = process_using(program, at);
+    let process = first_process(program, Sought::Using(at));
     let names = names_seen(alloc, program, process, Some(sort))?;
     match called_first(word_at(text, at), &names) {
         Some(name) => add_used(words, sort, name),
@@ -401,7 +406,7 @@ fn unwritten_at(text: &str, program: &Program, at: Span) -> &'static str
 {
     let word = word_at(text, at);
     let read = passed(program, Direction::In, word).is_some();
-    unwritten_words(role_called(program, word), read)
+    unwritten_words(channel_called(program, word), read)
 }
 
 /// Adds which direction is wanted, which is found, and which name was perhaps meant.
@@ -418,6 +423,14 @@ fn add_direction(
     add_meant(words, alloc, text, program, at)
 }
 
+/// Adds which kind is wanted, which is found, and how the one is made of the other.
+fn add_kinds(words: &mut String, text: &str, program: &Program, at: Span) -> Result<(), AllocError>
+    ensures { IfOk result (λ _. string_bytes words.new ≡ string_bytes words.old ++ (kind_words (found_kind text.now program.now at) ++ made_words (use_at program.now at))) }
+{
+    words.push_str(kind_words(found_kind(text, program, at)))?;
+    words.push_str(made_words(use_at(program, at)))
+}
+
 /// Adds what is told behind the words of a fault: the nearest name, what is wanted and what is found, or what to do.
 fn add_tail(
     words: &mut String,
@@ -431,21 +444,22 @@ fn add_tail(
     match fault {
         CheckFault::Unknown(at) => add_unknown_at(words, alloc, text, program, at),
         CheckFault::WrongCount(at) => add_count(words, program, at),
-        CheckFault::WrongKind(at) => words.push_str(kind_words(found_kind(text, program, at))),
+        CheckFault::WrongKind(at) => add_kinds(words, text, program, at),
         CheckFault::WrongDirection(at) => add_direction(words, alloc, text, program, at),
         CheckFault::ChannelExpected(at) => words.push_str(channel_words(use_at(program, at))),
         CheckFault::ValueExpected(at) => add_valued(words, alloc, text, program, at),
-        CheckFault::DeclaredTwice(_) => Ok(()),
         CheckFault::TwoWriters(at) => {
             words.push_str(twice_at(text, program, Direction::Out, at))
         }
         CheckFault::TwoReaders(at) => { words.push_str(twice_at(text, program, Direction::In, at)) }
         CheckFault::NoWriter(at) => words.push_str(unwritten_at(text, program, at)),
         CheckFault::NoReader(at) => {
-            words.push_str(unread_words(role_called(program, word_at(text, at))))
+            words.push_str(unread_words(channel_called(program, word_at(text, at))))
         }
-        CheckFault::TooMany(_) => Ok(()),
-        CheckFault::NoMemory => Ok(()),
+        CheckFault::TooMany(_) => {
+            words.push_str("; a program has at most 1024 channels and 256 instances")
+        }
+        CheckFault::DeclaredTwice(_) | CheckFault::NoMemory => Ok(()),
     }
 }
 

@@ -1,9 +1,9 @@
 //! The names of a process and of a program, by what they stand for.
 
-ghost use Rattle.std.specs.Prelude.{◌≡◌, ◌++◌, ◌==◌, IfOk, map};
-ghost use Rattle.kahn_hints.specs.Names.{globals_of, is_sort, kept, program_names, process_names, taking_sort};
+ghost use Rattle.std.specs.Prelude.{◌≡◌, ◌++◌, ◌==◌, IfOk, flat_map, map};
+ghost use Rattle.kahn_hints.specs.Names.{channel_sort, globals_of, is_sort, kept, program_names, process_names, taking_sort};
 
-use kahn_streams::{Declaration, Direction, Name, Process, Program, Taking};
+use kahn_streams::{Declaration, Direction, Name, Process, Program, Role, Taking};
 use std::alloc::{AllocError, Global};
 
 /// What a name stands for.
@@ -11,7 +11,9 @@ use std::alloc::{AllocError, Global};
 pub(crate) enum Sort {
     /// A variable, or a parameter that takes a value.
     Value,
-    /// A channel of the program.
+    /// A channel of the program that is an input.
+    Input,
+    /// Any other.
     Channel,
     /// A parameter that takes a channel to be read.
     Source,
@@ -21,14 +23,15 @@ pub(crate) enum Sort {
     Process,
 }
 
-/// Whether a sort is the one that is asked for; each is where none is.
+/// Whether a sort is the one that is asked for; each is where none is, and an input is a channel too.
 fn is_sort(asked: Option<Sort>, sort: Sort) -> bool
     ensures { result ≡ is_sort asked sort }
 {
     match (asked, sort) {
         (None, _) => true,
         (Some(Sort::Value), Sort::Value) => true,
-        (Some(Sort::Channel), Sort::Channel) => true,
+        (Some(Sort::Channel), Sort::Channel | Sort::Input) => true,
+        (Some(Sort::Input), Sort::Input) => true,
         (Some(Sort::Source), Sort::Source) => true,
         (Some(Sort::Target), Sort::Target) => true,
         (Some(Sort::Process), Sort::Process) => true,
@@ -44,6 +47,16 @@ fn taking_sort(taking: Taking) -> Sort
         Taking::Channel(Direction::In, _) => Sort::Source,
         Taking::Channel(Direction::Out, _) => Sort::Target,
         Taking::Value(_) => Sort::Value,
+    }
+}
+
+/// What a channel's name stands for.
+fn channel_sort(role: Role) -> Sort
+    ensures { result ≡ channel_sort role }
+{
+    match role {
+        Role::Input => Sort::Input,
+        Role::Output | Role::Inner => Sort::Channel,
     }
 }
 
@@ -81,6 +94,21 @@ pub(crate) fn process_names<'p>(
     Ok(names)
 }
 
+/// Adds the names of channels of a sort, where it is the one that is asked for.
+fn add_channels<'p>(
+    names: &mut Vec<&'p Name>,
+    asked: Option<Sort>,
+    sort: Sort,
+    channels: &'p [Name],
+) -> Result<(), AllocError>
+    ensures { IfOk result (λ _. map (λ n. n.now) names.new.items ≡ map (λ n. n.now) names.old.items ++ flat_map (kept asked sort) channels.now) }
+{
+    for channel in channels {
+        keep(names, asked, sort, channel)?;
+    }
+    Ok(())
+}
+
 /// Adds the names of a declaration, of the sort that is asked for.
 fn add_globals<'p>(
     names: &mut Vec<&'p Name>,
@@ -90,11 +118,8 @@ fn add_globals<'p>(
     ensures { IfOk result (λ _. map (λ n. n.now) names.new.items ≡ map (λ n. n.now) names.old.items ++ globals_of asked declaration.now) }
 {
     match declaration {
-        Declaration::Channels(_, _, channels) => {
-            for channel in channels {
-                keep(names, asked, Sort::Channel, channel)?;
-            }
-            Ok(())
+        Declaration::Channels(_, role, channels) => {
+            add_channels(names, asked, channel_sort(*role), channels)
         }
         Declaration::Process(process) => keep(names, asked, Sort::Process, &process.name),
     }

@@ -3,7 +3,7 @@
 ghost use Rattle.std.specs.Prelude.{◌≡◌, IfOk, map, option_map};
 ghost use Rattle.std.specs.List.{find, list_any};
 ghost use Rattle.kahn_streams.specs.Wiring.{processes_of, same_direction};
-ghost use Rattle.kahn_hints.specs.Places.{asked_of, asked_behind, asked_name, called_first, channel_kind, declares, has_none, is_called, names_seen, passed, passed_by, passed_if, passed_in, process_called, process_declaring, process_using, process_without, role_called, word_at};
+ghost use Rattle.kahn_hints.specs.Places.{asked_of, asked_behind, asked_name, called_first, channel_called, declares, first_process, has_none, is_called, is_sought, names_seen, passed, passed_by, passed_if, passed_in, process_called, word_at};
 
 use crate::names::{Sort, process_names, program_names};
 use crate::uses::{argument_use, body_use, same_span};
@@ -68,20 +68,6 @@ fn has_none(instances: &[Instance], process: &Process) -> bool
     true
 }
 
-/// The first process that no instance names.
-pub(crate) fn process_without(program: &Program) -> Option<&Process>
-    ensures { option_map (λ p. p.now) result ≡ process_without program.now }
-{
-    for declaration in &program.declarations {
-        if let Declaration::Process(process) = declaration {
-            if has_none(&program.instances, process) {
-                return Some(process);
-            }
-        }
-    }
-    None
-}
-
 /// Whether a process declares a name at this place.
 fn declares(at: Span, process: &Process) -> bool
     ensures { result ≡ declares at process.now }
@@ -99,27 +85,35 @@ fn declares(at: Span, process: &Process) -> bool
     false
 }
 
-/// The process that declares a name at this place.
-pub(crate) fn process_declaring(program: &Program, at: Span) -> Option<&Process>
-    ensures { option_map (λ p. p.now) result ≡ process_declaring program.now at }
-{
-    for declaration in &program.declarations {
-        if let Declaration::Process(process) = declaration {
-            if declares(at, process) {
-                return Some(process);
-            }
-        }
-    }
-    None
+/// Which process is looked for.
+#[derive(Clone, Copy)]
+pub(crate) enum Sought {
+    /// One that no instance names.
+    Idle,
+    /// The one that declares a name at this place.
+    Declaring(Span),
+    /// The one whose body has a part at this place.
+    Using(Span),
 }
 
-/// The process whose body has a part at this place.
-pub(crate) fn process_using(program: &Program, at: Span) -> Option<&Process>
-    ensures { option_map (λ p. p.now) result ≡ process_using program.now at }
+/// Whether it is this one.
+fn is_sought(program: &Program, sought: Sought, process: &Process) -> bool
+    ensures { result ≡ is_sought program.now sought process.now }
+{
+    match sought {
+        Sought::Idle => has_none(&program.instances, process),
+        Sought::Declaring(at) => declares(at, process),
+        Sought::Using(at) => body_use(process, at).is_some(),
+    }
+}
+
+/// The first one of a program.
+pub(crate) fn first_process(program: &Program, sought: Sought) -> Option<&Process>
+    ensures { option_map (λ p. p.now) result ≡ first_process program.now sought }
 {
     for declaration in &program.declarations {
         if let Declaration::Process(process) = declaration {
-            if body_use(process, at).is_some() {
+            if is_sought(program, sought, process) {
                 return Some(process);
             }
         }
@@ -154,28 +148,14 @@ fn is_among(word: &[u8], names: &[Name]) -> bool
     false
 }
 
-/// The kind of the channel that a program declares under these letters.
-pub(crate) fn channel_kind(program: &Program, word: &[u8]) -> Option<Kind>
-    ensures { result ≡ channel_kind program.now word.now }
+/// The kind of the channel that a program declares under these letters, and what the outside has to do with it.
+pub(crate) fn channel_called(program: &Program, word: &[u8]) -> Option<(Kind, Role)>
+    ensures { result ≡ channel_called program.now word.now }
 {
     for declaration in &program.declarations {
-        if let Declaration::Channels(kind, _, names) = declaration {
+        if let Declaration::Channels(kind, role, names) = declaration {
             if is_among(word, names) {
-                return Some(*kind);
-            }
-        }
-    }
-    None
-}
-
-/// What the outside has to do with the channel that a program declares under these letters.
-pub(crate) fn role_called(program: &Program, word: &[u8]) -> Option<Role>
-    ensures { result ≡ role_called program.now word.now }
-{
-    for declaration in &program.declarations {
-        if let Declaration::Channels(_, role, names) = declaration {
-            if is_among(word, names) {
-                return Some(*role);
+                return Some((*kind, *role));
             }
         }
     }

@@ -1,7 +1,7 @@
 //! The words behind those of a fault: what is wanted, what is found, and what to do; and of another place.
 
 ghost use Rattle.std.specs.Prelude.{◌≡◌};
-ghost use Rattle.kahn_hints.specs.Hints.{channel_words, direction_words, handed_words, kind_words, other_words, reason_words, twice_words, unread_words, unwritten_words};
+ghost use Rattle.kahn_hints.specs.Hints.{channel_words, direction_words, handed_words, kind_words, made_words, other_words, reason_words, twice_words, unread_words, unwritten_words};
 
 use crate::hint::Reason;
 use crate::uses::Use;
@@ -26,10 +26,10 @@ pub(crate) fn reason_words(reason: Reason) -> &'static str
 }
 
 /// As what a name is declared that should be that of a process.
-pub(crate) fn other_words(found: Option<Use>, kind: Option<Kind>) -> &'static str
-    ensures { result.now ≡ other_words found kind }
+pub(crate) fn other_words(found: Option<Use>, channel: Option<(Kind, Role)>) -> &'static str
+    ensures { result.now ≡ other_words found channel }
 {
-    match (found, kind) {
+    match (found, channel) {
         (Some(Use::Process), Some(_)) => " as a process, but as a channel",
         _ => "",
     }
@@ -43,6 +43,17 @@ pub(crate) fn kind_words(found: Option<Kind>) -> &'static str
         Some(Kind::Integer) => ": wanted logical, found integer",
         Some(Kind::Logical) => ": wanted integer, found logical",
         None => "",
+    }
+}
+
+/// How a value of the wanted kind is made of an expression.
+pub(crate) fn made_words(found: Option<Use>) -> &'static str
+    ensures { result.now ≡ made_words found }
+{
+    match found {
+        Some(Use::Expression(Kind::Integer)) => "; `X <> 0` is a truth value of `X`",
+        Some(Use::Expression(Kind::Logical)) => "; `if T then 1 else 0` is a number of `T`",
+        _ => "",
     }
 }
 
@@ -99,24 +110,25 @@ pub(crate) fn twice_words(direction: Direction, interchanged: bool) -> &'static 
 }
 
 /// What to do about a channel without a writer, which is read or not.
-pub(crate) fn unwritten_words(role: Option<Role>, read: bool) -> &'static str
-    ensures { result.now ≡ unwritten_words role read }
+pub(crate) fn unwritten_words(channel: Option<(Kind, Role)>, read: bool) -> &'static str
+    ensures { result.now ≡ unwritten_words channel read }
 {
-    match (role, read) {
-        (Some(Role::Inner), true) => {
+    match (channel, read) {
+        (Some((_, Role::Inner)), true) => {
             "; hand it to an `out` parameter, or declare it `input` where its values come from outside"
         }
-        (Some(Role::Inner), false) => "; it is handed to no process: leave its declaration out",
+        (Some((_, Role::Inner)), false) =>
+            "; it is handed to no process: leave its declaration out",
         _ => "; hand it to an `out` parameter",
     }
 }
 
 /// What to do about a channel without a reader.
-pub(crate) fn unread_words(role: Option<Role>) -> &'static str
-    ensures { result.now ≡ unread_words role }
+pub(crate) fn unread_words(channel: Option<(Kind, Role)>) -> &'static str
+    ensures { result.now ≡ unread_words channel }
 {
-    match role {
-        Some(Role::Inner) =>
+    match channel {
+        Some((_, Role::Inner)) =>
             "; hand it to an `in` parameter, or declare it `output` where its values are to be reported",
         _ => "; hand it to an `in` parameter",
     }

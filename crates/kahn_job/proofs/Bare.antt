@@ -1,16 +1,5 @@
 -- Jobs whose parameters have no ends yet.
-use Rattle.std.proofs.Common.{arith, ◌≡◌, inl, inr, ℕ, zero, suc, List, [], length, replicate, refl, sym, ap, ◌∙◌, subst, Option, slice_index_or}
-use Rattle.std.proofs.lemmas.List.{get_or_past}
-use Rattle.kahn_streams.specs.declared.tree.Program.{Program}
-use Rattle.kahn_streams.specs.Network.{network_of, instance_at, idle}
-use Rattle.kahn_streams.specs.Inputs.{Lists}
-use Rattle.kahn_job.specs.inner.Ends.{End}
-use Rattle.kahn_job.specs.inner.Ways.{no_end}
-use Rattle.kahn_job.specs.inner.Berths.{end_at}
-use Rattle.kahn_job.specs.inner.Idles.{rows_of}
-use Rattle.kahn_job.specs.inner.Lanes.{end_in}
-use Rattle.kahn_job.specs.inner.Openings.{HaveNoEnds, AreHanded, IsFresh}
-use Rattle.kahn_job.specs.inner.Works.{Work}
+use Rattle.kahn_job.proofs.Common.{arith, ◌≡◌, inl, inr, ℕ, zero, suc, List, [], length, replicate, refl, sym, ap, ◌∙◌, subst, Option, slice_index_or, get_or_past, Program, network_of, instance_at, idle, Lists, End, no_end, end_at, rows_of, end_in, HaveNoEnds, AreHanded, IsFresh, Work}
 use Rattle.kahn_job.proofs.Idles.{Here, here_or, rows_length}
 
 replicate_size : (n : ℕ) → length (replicate n no_end) ≡ n

@@ -1,20 +1,6 @@
 -- Jobs before their first events.
-use Rattle.std.proofs.Common.{arith, ◌≡◌, ℕ, ◌<◌, List, length, refl, sym, ap, ◌∙◌, subst, Option, Some, slice_get, slice_index_or}
-use Rattle.kahn_streams.specs.declared.tree.Program.{Program}
-use Rattle.kahn_streams.specs.Network.{Actual, Reads, Writes, Hands, network_of, instance_at, actual_at}
-use Rattle.kahn_streams.specs.Wiring.{IsWellWired}
-use Rattle.kahn_streams.proofs.Sourced.{reads_listed, writes_listed}
-use Rattle.kahn_streams.specs.Solution.{AreInputsExtended}
-use Rattle.kahn_streams.specs.Inputs.{Lists, inputs_of}
+use Rattle.kahn_job.proofs.Common.{arith, ◌≡◌, ℕ, ◌<◌, List, length, refl, sym, ap, ◌∙◌, subst, Option, Some, slice_get, slice_index_or, Program, Actual, Reads, Writes, Hands, network_of, instance_at, actual_at, IsWellWired, reads_listed, writes_listed, AreInputsExtended, Lists, inputs_of, prefix_refl, Joins, End, Serves, end_at, Work, HaveSettled, IsIdle, cells_of, rows_of, end_in, HaveNoEnds, AreHanded, AreOpening, IsOpening}
 use Rattle.kahn_streams.proofs.Entered.{none_of}
-use Rattle.kahn_streams.proofs.Proved.{prefix_refl}
-use Rattle.kahn_code.specs.Lines.{Joins}
-use Rattle.kahn_job.specs.inner.Ends.{End}
-use Rattle.kahn_job.specs.inner.Berths.{Serves, end_at}
-use Rattle.kahn_job.specs.inner.Works.{Work}
-use Rattle.kahn_job.specs.inner.Idles.{HaveSettled, IsIdle, cells_of, rows_of}
-use Rattle.kahn_job.specs.inner.Lanes.{end_in}
-use Rattle.kahn_job.specs.inner.Openings.{HaveNoEnds, AreHanded, AreOpening, IsOpening}
 use Rattle.kahn_job.proofs.Idles.{cell_there, cells_count, row_there, settled_rest}
 
 all_served : (t : Program) (wired : IsWellWired t) (lists : Lists) (p q : ℕ) (e : End) (a : Actual) → actual_at (instance_at (network_of t) p) q ≡ a →

@@ -1,20 +1,7 @@
 -- Ends of an instance's channels, one of which changes.
-use Rattle.std.proofs.Common.{arith, ◌≡◌, ◌⊎◌, inl, inr, ⊎_elim, ℕ, zero, suc, ◌<◌, ◌≤◌, List, [], ◌∷◌, length, refl, sym, ap, ◌∙◌, subst, true, false, Some, slice_set, slice_index_or, le_of_suc-le-suc}
-use Rattle.std.proofs.lemmas.Bool.{cases_eq, cases_lt}
-use Rattle.std.proofs.lemmas.List.{length-set, get_or_default, get_or_past, get_or-set_same, get_or-set_other}
-use Rattle.kahn_streams.specs.declared.tree.Program.{Program}
-use Rattle.kahn_streams.specs.Network.{Actual, Reads, Writes, Hands, network_of, instance_at, actual_at, role_at}
-use Rattle.kahn_streams.proofs.Sourced.{handed_within}
+use Rattle.kahn_job.proofs.Common.{arith, ◌≡◌, ◌⊎◌, inl, inr, ⊎_elim, ℕ, zero, suc, ◌<◌, ◌≤◌, List, [], ◌∷◌, length, refl, sym, ap, ◌∙◌, subst, true, false, Some, slice_set, slice_index_or, le_of_suc-le-suc, cases_eq, cases_lt, length-set, get_or_default, get_or_past, get_or-set_same, get_or-set_other, Program, Actual, Reads, Writes, Hands, network_of, instance_at, actual_at, role_at, handed_within, Lists, is_output, Joins, Grows, IsNext, lane_name, token_name, Advances, End, Identity, IsSame, IsFlushed, identity_of, no_end, AreServed, Serves, end_at, identities, HaveAdvanced, HasStayed}
 use Rattle.kahn_streams.specs.declared.token.Token.{Token}
-use Rattle.kahn_streams.specs.Inputs.{Lists}
-use Rattle.kahn_streams.specs.Answers.{is_output}
-use Rattle.kahn_code.specs.Lines.{Joins}
-use Rattle.kahn_code.specs.Seats.{Grows, IsNext}
-use Rattle.kahn_lane.specs.Places.{lane_name, token_name}
 use Rattle.kahn_lane.proofs.Places.{token_name-is_of, is_of-token_name}
-use Rattle.kahn_job.specs.inner.Ends.{Advances, End, Identity, IsSame, IsFlushed, identity_of}
-use Rattle.kahn_job.specs.inner.Ways.{no_end}
-use Rattle.kahn_job.specs.inner.Berths.{AreServed, Serves, end_at, identities, HaveAdvanced, HasStayed}
 
 pub set_here : (es : List End) (q : ℕ) (e : End) → q < length es → end_at (slice_set es q e) q ≡ e
 set_here es q e l = get_or-set_same es q e no_end l

@@ -1,34 +1,16 @@
 -- Ends of parameters that come and go.
-use Rattle.std.proofs.Common.{◌≡◌, ◌⊎◌, inl, inr, ℕ, ◌<◌, List, refl, sym, ap, ◌∙◌, subst, Some}
-use Rattle.std.proofs.lemmas.Option.{same_Some}
-use Rattle.kahn_streams.specs.declared.sides.Side.{Side}
-use Rattle.kahn_streams.specs.Wiring.{side_at}
-use Rattle.kahn_streams.specs.Inputs.{Lists}
-use Rattle.kahn_lane.specs.declared.name.LaneName.{LaneName}
-use Rattle.kahn_lane.specs.Places.{moved_to}
-use Rattle.kahn_job.specs.inner.Ends.{End, ShareLane}
-use Rattle.kahn_job.specs.inner.Berths.{HasStayed}
-use Rattle.kahn_job.specs.inner.Lanes.{HasPlace, HaveStayed, end_in, end_of_side}
-use Rattle.kahn_job.specs.inner.Ways.{no_end}
-use Rattle.kahn_job.specs.inner.Openings.{placed}
-use Rattle.kahn_job.specs.inner.Settling.{AreAlike, AreElsewhere, HasExchanged, HasSettled, HaveExchanged}
+use Rattle.kahn_job.proofs.Common.{◌≡◌, ◌⊎◌, inl, inr, ℕ, List, refl, sym, ap, ◌∙◌, subst, Some, same_Some, Side, side_at, Lists, LaneName, moved_to, End, ShareLane, HasStayed, HasPlace, HaveStayed, end_in, end_of_side, no_end, placed, AreAlike, AreElsewhere, HasExchanged, HasSettled, HaveExchanged}
 use Rattle.kahn_job.proofs.Berthed.{stayed_self}
+use Rattle.kahn_job.proofs.Handed.{found, placed_count, placed_sizes, still_place}
 use Rattle.kahn_job.proofs.Handed as handed
-use Rattle.kahn_job.proofs.Handed.{found, placed_count, placed_sizes}
 
 -- ---- ends that come and go
 
-option_place : (rows : List (List End)) (s : Side) → HasPlace rows s → handed.HasPlace rows (Some s)
-option_place rows s h u e = subst (HasPlace rows) (same_Some _ _ e) h
-
 pub kept_place : (rows : List (List End)) (s u : Side) (e : End) → HasPlace rows s → HasPlace rows u → HasPlace (placed rows (Some s) e) u
-kept_place rows s u e hs hu = (
-  subst (λ n. u.instance < n) (sym (placed_count rows (Some s) e)) hu.0,
-  subst (λ n. u.parameter < n) (sym (placed_sizes rows (Some s) e (option_place rows s hs) u.instance)) hu.1,
-)
+kept_place rows s u e hs hu = still_place rows (Some s) (Some u) e hs hu
 
 here_at : (rows : List (List End)) (s : Side) (e : End) → HasPlace rows s → end_of_side (placed rows (Some s) e) s ≡ e
-here_at rows s e h = by (found rows (Some s) e (option_place rows s h) s.instance s.parameter)
+here_at rows s e h = by (found rows (Some s) e h s.instance s.parameter)
   where
     by : handed.Found rows (Some s) e s.instance s.parameter → end_of_side (placed rows (Some s) e) s ≡ e
     by (inl a) = a.1
@@ -36,7 +18,7 @@ here_at rows s e h = by (found rows (Some s) e (option_place rows s h) s.instanc
 
 else_at : (rows : List (List End)) (s : Side) (e : End) → HasPlace rows s → (p q : ℕ) → (side_at p q ≡ s → ⊥) →
     end_in (placed rows (Some s) e) p q ≡ end_in rows p q
-else_at rows s e h p q n = by (found rows (Some s) e (option_place rows s h) p q)
+else_at rows s e h p q n = by (found rows (Some s) e h p q)
   where
     by : handed.Found rows (Some s) e p q → end_in (placed rows (Some s) e) p q ≡ end_in rows p q
     by (inl a) = absurd (n (sym (same_Some _ _ a.0)))
@@ -44,7 +26,7 @@ else_at rows s e h p q n = by (found rows (Some s) e (option_place rows s h) p q
 
 -- either it is this one or it isn't
 side_or : (rows : List (List End)) (s : Side) → HasPlace rows s → (p q : ℕ) → (side_at p q ≡ s) ⊎ (side_at p q ≡ s → ⊥)
-side_or rows s h p q = by (found rows (Some s) no_end (option_place rows s h) p q)
+side_or rows s h p q = by (found rows (Some s) no_end h p q)
   where
     by : handed.Found rows (Some s) no_end p q → (side_at p q ≡ s) ⊎ (side_at p q ≡ s → ⊥)
     by (inl a) = inl (sym (same_Some _ _ a.0))
@@ -91,8 +73,8 @@ module _ (rows : List (List End)) (w r : Side) (pw : HasPlace rows w) (pr : HasP
   pub elsewhere : AreElsewhere (λ s. (s ≡ w) ⊎ (s ≡ r)) rows four
   elsewhere = record {
     count = placed_count three (Some r) y ∙ placed_count two (Some w) x ∙ placed_count one (Some r) no_end ∙ placed_count rows (Some w) no_end;
-    sizes = λ p. placed_sizes three (Some r) y (option_place three r three_r) p ∙ placed_sizes two (Some w) x (option_place two w two_w) p ∙
-        placed_sizes one (Some r) no_end (option_place one r one_r) p ∙ placed_sizes rows (Some w) no_end (option_place rows w pw) p;
+    sizes = λ p. placed_sizes three (Some r) y three_r p ∙ placed_sizes two (Some w) x two_w p ∙
+        placed_sizes one (Some r) no_end one_r p ∙ placed_sizes rows (Some w) no_end pw p;
     others = λ p q n. else_at three r y three_r p q (λ e. n (inr e)) ∙ else_at two w x two_w p q (λ e. n (inl e)) ∙
         else_at one r no_end one_r p q (λ e. n (inr e)) ∙ else_at rows w no_end pw p q (λ e. n (inl e));
   }
@@ -112,7 +94,7 @@ module _ (rows : List (List End)) (w r : Side) (pw : HasPlace rows w) (pr : HasP
 
   -- the same two came back
   pub alike : x ≡ end_of_side rows w → y ≡ end_of_side rows r → AreAlike rows four
-  alike ex ey = record { count = elsewhere.count; sizes = elsewhere.sizes; same = each_end (λ a b. b ≡ a) (λ e. refl) ex ey }
+  alike ex ey = record { count = elsewhere.count; sizes = elsewhere.sizes; others = λ p q _. each_end (λ a b. b ≡ a) (λ e. refl) ex ey p q }
 
   -- they met meanwhile
   pub stayed : HasStayed (end_of_side rows w) x → HasStayed (end_of_side rows r) y → HaveStayed rows four
@@ -138,8 +120,8 @@ module _ (rows : List (List End)) (r : Side) (pr : HasPlace rows r) (y : End) wh
   fed_on lists settled = record {
     elsewhere = record {
       count = placed_count (placed rows (Some r) no_end) (Some r) y ∙ placed_count rows (Some r) no_end;
-      sizes = λ p. placed_sizes (placed rows (Some r) no_end) (Some r) y (option_place (placed rows (Some r) no_end) r gone_r) p ∙
-          placed_sizes rows (Some r) no_end (option_place rows r pr) p;
+      sizes = λ p. placed_sizes (placed rows (Some r) no_end) (Some r) y gone_r p ∙
+          placed_sizes rows (Some r) no_end pr p;
       others = λ p q n. else_at (placed rows (Some r) no_end) r y gone_r p q n ∙ else_at rows r no_end pr p q n;
     };
     reads = λ n e. subst (HasSettled (moved_to lists n) (end_of_side rows r)) (sym (here_at (placed rows (Some r) no_end) r y gone_r)) (settled n e);

@@ -1,12 +1,6 @@
 -- What is ready at the end of an input channel is a value of its list.
-use Rattle.std.proofs.Common.{arith, ◌≡◌, ℕ, length, ap, ◌∙◌, Some, None}
+use Rattle.kahn_job.proofs.Common.{arith, ◌≡◌, ℕ, length, ap, ◌∙◌, Some, None, inputs_of, LaneName, lane_name, Lane, IsWithinInput, end_of}
 use Rattle.kahn_streams.specs.declared.value.Line.TheVariants.{Channel}
-use Rattle.kahn_streams.specs.Inputs.{inputs_of}
-use Rattle.kahn_lane.specs.declared.name.LaneName.{LaneName}
-use Rattle.kahn_lane.specs.Places.{lane_name}
-use Rattle.kahn_job.specs.inner.Ends.{Lane}
-use Rattle.kahn_job.specs.inner.Berths.{IsWithinInput}
-use Rattle.kahn_job.specs.inner.Ways.{end_of}
 use Rattle.kahn_job.specs.declared.port.Way.{Way}
 use Rattle.kahn_job.specs.declared.port.Way.TheVariants as way
 

@@ -1,24 +1,6 @@
 -- The ends of a channel come to the parameters that it is handed to.
-use Rattle.std.proofs.Common.{arith, ◌≡◌, ◌⊎◌, inl, inr, ℕ, ◌+◌, ◌<◌, List, [], length, refl, sym, ap, ◌∙◌, subst, true, false, Option, Some, None, slice_set, slice_index_or}
-use Rattle.std.proofs.lemmas.Bool.{cases_eq}
+use Rattle.kahn_job.proofs.Common.{arith, ◌≡◌, ◌⊎◌, inl, inr, ℕ, ◌+◌, ◌<◌, List, [], length, refl, sym, ap, ◌∙◌, subst, true, false, Option, Some, None, IfSome, slice_set, slice_index_or, cases_eq, length-set, get_or-set_same, get_or-set_other, none-some, same_Some, Program, Role, Side, Inner, Input, Output, Network, Actual, Reads, Writes, Hands, network_of, instance_at, actual_at, role_at, IsWriter, IsReader, IsOnly, IsWithin, IsWellWired, side_at, IsFed, handed_within, reads, writes, Lists, is_output, Joins, End, ShareLane, Serves, end_at, AreJoinedOn, HasPlace, end_in, AreEndsOf, AreHanded, IsFresh, placed}
 pub use Rattle.std.proofs.lemmas.List.{replicate_more}
-use Rattle.std.proofs.lemmas.List.{length-set, get_or-set_same, get_or-set_other}
-use Rattle.std.proofs.lemmas.Option.{none-some, same_Some}
-use Rattle.kahn_streams.specs.declared.tree.Program.{Program}
-use Rattle.kahn_streams.specs.declared.tree.Role.{Role}
-use Rattle.kahn_streams.specs.declared.sides.Side.{Side}
-use Rattle.kahn_streams.specs.declared.tree.Role.TheVariants.{Inner, Input, Output}
-use Rattle.kahn_streams.specs.Network.{Network, Actual, Reads, Writes, Hands, network_of, instance_at, actual_at, role_at, IsWriter, IsReader, IsOnly, IsWithin}
-use Rattle.kahn_streams.specs.Wiring.{IsWellWired, side_at}
-use Rattle.kahn_streams.specs.inner.Sources.{IsFed}
-use Rattle.kahn_streams.proofs.Sourced.{handed_within, reads, writes}
-use Rattle.kahn_streams.specs.Inputs.{Lists}
-use Rattle.kahn_streams.specs.Answers.{is_output}
-use Rattle.kahn_code.specs.Lines.{Joins}
-use Rattle.kahn_job.specs.inner.Ends.{End, ShareLane}
-use Rattle.kahn_job.specs.inner.Berths.{Serves, end_at}
-use Rattle.kahn_job.specs.inner.Lanes.{AreJoinedOn, end_in}
-use Rattle.kahn_job.specs.inner.Openings.{AreEndsOf, AreHanded, IsFresh, placed}
 use Rattle.kahn_job.proofs.Berthed as ends
 
 pub row_here : (rows : List (List End)) (p : ℕ) (r : List End) → p < length rows → slice_index_or (slice_set rows p r) p [] ≡ r
@@ -27,44 +9,37 @@ row_here rows p r l = get_or-set_same rows p r [] l
 pub row_else : (rows : List (List End)) (p o : ℕ) (r : List End) → (o ≡ p → ⊥) → slice_index_or (slice_set rows p r) o [] ≡ slice_index_or rows o []
 row_else rows p o r n = get_or-set_other rows p o r [] n
 
--- where an end belongs there is a place for it
-abbrev pub HasPlace : List (List End) → Option Side → Type 0
-HasPlace rows side = (s : Side) → side ≡ Some s → (s.instance < length rows) × (s.parameter < length (slice_index_or rows s.instance []))
-
 -- a parameter has the new end or the old one
 abbrev pub Found : List (List End) → Option Side → End → ℕ → ℕ → Type 0
 Found rows side e p q =
     ((side ≡ Some (side_at p q)) × (end_in (placed rows side e) p q ≡ e))
     ⊎ ((side ≡ Some (side_at p q) → ⊥) × (end_in (placed rows side e) p q ≡ end_in rows p q))
 
-pub found : (rows : List (List End)) (side : Option Side) (e : End) → HasPlace rows side → (p q : ℕ) → Found rows side e p q
+pub found : (rows : List (List End)) (side : Option Side) (e : End) → IfSome side (HasPlace rows) → (p q : ℕ) → Found rows side e p q
 found rows None e h p q = inr (none-some (side_at p q), refl)
 found rows (Some s) e h p q = by (cases_eq p s.instance) (cases_eq q s.parameter)
   where
     row : List End
     row = slice_set (slice_index_or rows s.instance []) s.parameter e
 
-    l : (s.instance < length rows) × (s.parameter < length (slice_index_or rows s.instance []))
-    l = h s refl
-
     by : (p ≡ s.instance) ⊎ (p ≡ s.instance → ⊥) → (q ≡ s.parameter) ⊎ (q ≡ s.parameter → ⊥) → Found rows (Some s) e p q
     by (inr n) y = inr (λ i. n (ap (λ (u : Side). u.instance) (sym (same_Some _ _ i))), ap (λ r. end_at r q) (row_else rows s.instance p row n))
     by (inl x) (inr n) = inr (
       λ i. n (ap (λ (u : Side). u.parameter) (sym (same_Some _ _ i))),
-      ap (λ k. end_at (slice_index_or (slice_set rows s.instance row) k []) q) x ∙ ap (λ r. end_at r q) (row_here rows s.instance row l.0) ∙
+      ap (λ k. end_at (slice_index_or (slice_set rows s.instance row) k []) q) x ∙ ap (λ r. end_at r q) (row_here rows s.instance row h.0) ∙
           ends.set_else (slice_index_or rows s.instance []) s.parameter q e n ∙ ap (λ k. end_at (slice_index_or rows k []) q) (sym x),
     )
     by (inl x) (inl y) = inl (
       ap Some (λ i. record { instance = sym x i; parameter = sym y i }),
-      ap (λ k. end_at (slice_index_or (slice_set rows s.instance row) k []) q) x ∙ ap (λ r. end_at r q) (row_here rows s.instance row l.0) ∙
-          ap (end_at row) y ∙ ends.set_here (slice_index_or rows s.instance []) s.parameter e l.1,
+      ap (λ k. end_at (slice_index_or (slice_set rows s.instance row) k []) q) x ∙ ap (λ r. end_at r q) (row_here rows s.instance row h.0) ∙
+          ap (end_at row) y ∙ ends.set_here (slice_index_or rows s.instance []) s.parameter e h.1,
     )
 
 pub placed_count : (rows : List (List End)) (side : Option Side) (e : End) → length (placed rows side e) ≡ length rows
 placed_count rows None e = refl
 placed_count rows (Some s) e = length-set rows s.instance (slice_set (slice_index_or rows s.instance []) s.parameter e)
 
-pub placed_sizes : (rows : List (List End)) (side : Option Side) (e : End) → HasPlace rows side → (p : ℕ) →
+pub placed_sizes : (rows : List (List End)) (side : Option Side) (e : End) → IfSome side (HasPlace rows) → (p : ℕ) →
     length (slice_index_or (placed rows side e) p []) ≡ length (slice_index_or rows p [])
 placed_sizes rows None e h p = refl
 placed_sizes rows (Some s) e h p = by (cases_eq p s.instance)
@@ -72,23 +47,22 @@ placed_sizes rows (Some s) e h p = by (cases_eq p s.instance)
     row : List End
     row = slice_set (slice_index_or rows s.instance []) s.parameter e
 
-    l : (s.instance < length rows) × (s.parameter < length (slice_index_or rows s.instance []))
-    l = h s refl
-
     by : (p ≡ s.instance) ⊎ (p ≡ s.instance → ⊥) → length (slice_index_or (slice_set rows s.instance row) p []) ≡ length (slice_index_or rows p [])
     by (inr n) = ap (λ (r : List End). length r) (row_else rows s.instance p row n)
     by (inl x) =
-        ap (λ k. length (slice_index_or (slice_set rows s.instance row) k [])) x ∙ ap (λ (r : List End). length r) (row_here rows s.instance row l.0) ∙
+        ap (λ k. length (slice_index_or (slice_set rows s.instance row) k [])) x ∙ ap (λ (r : List End). length r) (row_here rows s.instance row h.0) ∙
         length-set (slice_index_or rows s.instance []) s.parameter e ∙ ap (λ k. length (slice_index_or rows k [])) (sym x)
 
 pub has_place : (t : Program) (lists : Lists) (k : ℕ) (rows : List (List End)) (side : Option Side) (P : Side → Type 0) → AreHanded t lists k rows →
-    ((s : Side) → P s → IsWithin (network_of t) s) → IsOnly P side → HasPlace rows side
-has_place t lists k rows side P h w only s e =
-    let i = w s (at side only e) in (subst (λ n. s.instance < n) (sym h.count) i.0, subst (λ n. s.parameter < n) (sym (h.sizes s.instance)) i.1)
-  where
-    at : (o : Option Side) → IsOnly P o → o ≡ Some s → P s
-    at None none e = absurd (none-some s e)
-    at (Some u) one e = subst P (same_Some _ _ e) one.0
+    ((s : Side) → P s → IsWithin (network_of t) s) → IsOnly P side → IfSome side (HasPlace rows)
+has_place t lists k rows None P h w only = tt
+has_place t lists k rows (Some s) P h w only =
+    let i = w s only.0 in (subst (λ n. s.instance < n) (sym h.count) i.0, subst (λ n. s.parameter < n) (sym (h.sizes s.instance)) i.1)
+
+-- a place is there after another end came
+pub still_place : (rows : List (List End)) (side other : Option Side) (e : End) → IfSome side (HasPlace rows) → IfSome other (HasPlace rows) → IfSome other (HasPlace (placed rows side e))
+still_place rows side None e h o = tt
+still_place rows side (Some u) e h o = (subst (λ n. u.instance < n) (sym (placed_count rows side e)) o.0, subst (λ n. u.parameter < n) (sym (placed_sizes rows side e h u.instance)) o.1)
 
 -- the one that passes is the one that was found
 only_one : (P : Side → Type 0) (side : Option Side) (s : Side) → IsOnly P side → P s → side ≡ Some s
@@ -131,15 +105,11 @@ module _ (t : Program) (wired : IsWellWired t) (lists : Lists) (c : ℕ) (x y : 
     abbrev first : List (List End)
     first = placed rows w x
 
-    pub place_w : HasPlace rows w
+    pub place_w : IfSome w (HasPlace rows)
     place_w = has_place t lists c rows w (IsWriter N c) h (λ s p. p.0) ow
 
-    pub place_r : HasPlace first r
-    place_r s i =
-        let l = has_place t lists c rows r (IsReader N c) h (λ s p. p.0) oo s i in (
-          subst (λ n. s.instance < n) (sym (placed_count rows w x)) l.0,
-          subst (λ n. s.parameter < n) (sym (placed_sizes rows w x place_w s.instance)) l.1,
-        )
+    pub place_r : IfSome r (HasPlace first)
+    place_r = still_place rows w r x place_w (has_place t lists c rows r (IsReader N c) h (λ s p. p.0) oo)
 
     -- what was handed over before is none of this channel
     before : (p q d : ℕ) (a : Actual) → actual_at (instance_at N p) q ≡ a → (w ≡ Some (side_at p q) → ⊥) → (r ≡ Some (side_at p q) → ⊥) →

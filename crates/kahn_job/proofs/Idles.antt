@@ -1,22 +1,5 @@
 -- Jobs on which nobody works: what changes where one of them gets another end, and which may go on.
-use Rattle.std.proofs.Common.{arith, ◌≡◌, ◌⊎◌, inl, inr, ℕ, zero, suc, ◌<◌, ◌≤◌, List, [], ◌∷◌, length, refl, sym, ap, ◌∙◌, subst, slice_set, slice_index_or, le_of_suc-le-suc, slice_get, Some}
-use Rattle.std.proofs.lemmas.List.{get_or_past}
-use Rattle.std.proofs.lemmas.Option.{slice_get_within}
-use Rattle.std.proofs.lemmas.Option.{none-some, same_Some}
-use Rattle.kahn_streams.specs.declared.tree.Program.{Program}
-use Rattle.kahn_streams.specs.Solution.{AreInputsExtended}
-use Rattle.kahn_streams.specs.Network.{Actual, Reads, Writes, Hands, network_of, instance_at, actual_at, idle}
-use Rattle.kahn_streams.specs.Wiring.{IsWellWired}
-use Rattle.kahn_streams.proofs.Sourced.{reads_listed, writes_listed}
-use Rattle.kahn_streams.specs.Inputs.{Lists, inputs_of}
-use Rattle.kahn_streams.proofs.Proved.{prefix_refl, prefix_trans}
-use Rattle.kahn_code.specs.Told.{Told, IsAt}
-use Rattle.kahn_job.specs.inner.Ends.{End}
-use Rattle.kahn_job.specs.inner.Berths.{AreServed, Serves, end_at}
-use Rattle.kahn_job.specs.inner.Lanes.{end_in}
-use Rattle.kahn_job.specs.inner.Works.{Work}
-use Rattle.kahn_job.specs.inner.Idles.{AreIdle, AreJoinedJobs, CanGoOn, HaveMet, HaveSettled, IsIdle, cells_of, rows_of}
-use Rattle.kahn_job.specs.inner.Settling.{ServedBefore, AreResting, HaveStood, IsOfBefore}
+use Rattle.kahn_job.proofs.Common.{arith, ◌≡◌, ◌⊎◌, inl, inr, ℕ, zero, suc, ◌<◌, ◌≤◌, List, [], ◌∷◌, length, refl, sym, ap, ◌∙◌, subst, slice_set, slice_index_or, le_of_suc-le-suc, slice_get, Some, get_or_past, slice_get_within, none-some, same_Some, Program, AreInputsExtended, Actual, Reads, Writes, Hands, network_of, instance_at, actual_at, idle, IsWellWired, reads_listed, writes_listed, Lists, inputs_of, prefix_refl, prefix_trans, Told, IsAt, End, AreServed, Serves, end_at, end_in, Work, AreIdle, AreJoinedJobs, CanGoOn, HaveMet, HaveSettled, IsIdle, cells_of, rows_of, ServedBefore, AreResting, HaveStood, IsOfBefore}
 use Rattle.kahn_job.proofs.Meeting_ends.{all_stayed, all_stayed_then, rests_met, stood_still}
 use Rattle.kahn_job.proofs.Settles.{AreGoing, carried_read, carried_write}
 
@@ -61,15 +44,15 @@ all_settled t wired lists old new g = record {
     each = λ q. serves p q (actual_at (instance_at (network_of t) p) q) refl (g.resting.each p q);
     behind = g.resting.behind p;
   };
-  flushed = λ p q d i o. (g.settled.each p q d (carried_write t wired lists new g.resting p q d i o) (writes_listed t wired p q d i)).flushed;
+  flushed = λ p q d i o. (g.done p q d (carried_write t wired lists new g.resting p q d i o) (writes_listed t wired p q d i)).1;
   joined = g.resting.joined;
 }
   where
     serves : (p q : ℕ) (a : Actual) → actual_at (instance_at (network_of t) p) q ≡ a → ServedBefore t lists a (end_in new p q) → Serves t lists a (end_in new p q)
     serves p q (Reads d) i b =
-        (b.0, (g.settled.each p q d (carried_read t wired lists new g.resting p q d i) (reads_listed t wired p q d i)).named, b.2)
+        (b.0, (g.done p q d (carried_read t wired lists new g.resting p q d i) (reads_listed t wired p q d i)).0, b.2)
     serves p q (Writes d) i b = λ o.
-        ((b o).0, (g.settled.each p q d (carried_write t wired lists new g.resting p q d i o) (writes_listed t wired p q d i)).named)
+        ((b o).0, (g.done p q d (carried_write t wired lists new g.resting p q d i o) (writes_listed t wired p q d i)).0)
     serves p q (Hands v) i b = tt
 
 -- ---- jobs come to rest

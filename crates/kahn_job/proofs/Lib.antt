@@ -1,3 +1,4 @@
+pub mod Common
 pub mod Berthed
 pub mod Manned
 pub mod Handed

@@ -1,11 +1,5 @@
 -- Cells with the ends of their channels, after a run and a flush.
-use Rattle.std.proofs.Common.{arith, ◌≡◌, ⊎_elim, ◌<◌, List, length, sym, ◌∙◌, subst}
-use Rattle.kahn_streams.specs.Network.{network_of, instance_at, actual_at}
-use Rattle.kahn_code.specs.Seats.{Seat}
-use Rattle.kahn_code.specs.Told.{Told, IsAt, IsSameProcess, IsStill, seat_of}
-use Rattle.kahn_job.specs.inner.Ends.{End}
-use Rattle.kahn_job.specs.inner.Berths.{AreFlushed, AreServed, HaveFlushed, end_at}
-use Rattle.kahn_job.specs.inner.Works.{Work, IsDelivered, IsJob}
+use Rattle.kahn_job.proofs.Common.{arith, ◌≡◌, ⊎_elim, ◌<◌, List, length, sym, ◌∙◌, subst, network_of, instance_at, actual_at, Seat, Told, IsAt, IsSameProcess, IsStill, seat_of, End, AreFlushed, AreServed, HaveFlushed, end_at, Work, IsDelivered, IsJob}
 use Rattle.kahn_job.proofs.Berthed.{serves_written, still_serves}
 
 abbrev seat_served : Seat → List End → Type 0

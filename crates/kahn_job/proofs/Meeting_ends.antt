@@ -1,12 +1,5 @@
 -- The two ends of channels that meet.
-use Rattle.std.proofs.Common.{arith, ℕ, List, refl, ◌∙◌}
-use Rattle.kahn_streams.specs.declared.tree.Program.{Program}
-use Rattle.kahn_streams.specs.Network.{Network, Actual, Reads, Writes, Hands, network_of, instance_at, actual_at}
-use Rattle.kahn_streams.specs.Inputs.{Lists}
-use Rattle.kahn_job.specs.inner.Ends.{End}
-use Rattle.kahn_job.specs.inner.Berths.{HasStayed}
-use Rattle.kahn_job.specs.inner.Lanes.{AreBehindOn, HaveStayed, end_in}
-use Rattle.kahn_job.specs.inner.Settling.{AreResting, HaveStood, ServedBefore}
+use Rattle.kahn_job.proofs.Common.{arith, ℕ, List, refl, ◌∙◌, Program, Network, Actual, Reads, Writes, Hands, network_of, instance_at, actual_at, Lists, End, HasStayed, AreBehindOn, HaveStayed, end_in, AreResting, HaveStood, ServedBefore}
 use Rattle.kahn_job.proofs.Berthed.{same_then, stayed_self}
 use Rattle.kahn_job.proofs.Settles.{same_lanes}
 

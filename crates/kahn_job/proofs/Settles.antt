@@ -1,23 +1,6 @@
 -- The ends of channels go on with an input that has grown, channel by channel.
-use Rattle.std.proofs.Common.{arith, ◌≡◌, ◌⊎◌, inl, inr, ⊎_elim, ℕ, ◌+◌, ◌<◌, ◌≤◌, Bool, true, false, List, length, refl, sym, ap, ◌∙◌, subst, None, Some, Result, Ok, Err, MatchResult}
-use Rattle.std.proofs.lemmas.Bool.{cases_eq}
-use Rattle.kahn_streams.specs.declared.tree.Program.{Program}
-use Rattle.kahn_streams.specs.declared.tree.Role.{Role}
-use Rattle.kahn_streams.specs.declared.sides.Side.{Side}
-use Rattle.kahn_streams.specs.declared.tree.Role.TheVariants.{Inner, Input, Output}
-use Rattle.kahn_streams.specs.Network.{Network, Actual, Reads, Writes, Hands, network_of, instance_at, actual_at, role_at, IsWriter, IsReader, IsOnly, IsServed}
-use Rattle.kahn_streams.specs.inner.Sources.{IsFed}
-use Rattle.kahn_streams.specs.Wiring.{IsWellWired, side_at}
+use Rattle.kahn_job.proofs.Common.{arith, ◌≡◌, ◌⊎◌, inl, inr, ⊎_elim, ℕ, ◌+◌, ◌<◌, ◌≤◌, Bool, true, false, List, length, refl, sym, ap, ◌∙◌, subst, None, Some, Result, Ok, Err, MatchResult, cases_eq, Program, Role, Side, Inner, Input, Output, Network, Actual, Reads, Writes, Hands, network_of, instance_at, actual_at, role_at, IsWriter, IsReader, IsOnly, IsServed, IsFed, IsWellWired, side_at, handed_within, reads, writes, Lists, inputs_of, prefix_refl, is_output, Joins, lane_name, End, IsFlushed, MayMeet, ShareLane, AreJoinedOn, AreSoOn, HasPlace, end_in, end_of_side, AreAlike, AreResting, AreSettled, CanFeed, CanSettle, HasExchanged, HasSettled, HaveExchanged, HasStood, HaveStood, IsCarried, IsOfBefore, ServedBefore}
 use Rattle.kahn_streams.proofs.Sided.{channel_served}
-use Rattle.kahn_streams.proofs.Sourced.{handed_within, reads, writes}
-use Rattle.kahn_streams.specs.Inputs.{Lists, inputs_of}
-use Rattle.kahn_streams.proofs.Proved.{prefix_refl}
-use Rattle.kahn_streams.specs.Answers.{is_output}
-use Rattle.kahn_code.specs.Lines.{Joins}
-use Rattle.kahn_lane.specs.Places.{lane_name}
-use Rattle.kahn_job.specs.inner.Ends.{End, MayMeet, ShareLane}
-use Rattle.kahn_job.specs.inner.Lanes.{AreJoinedOn, AreSoOn, HasPlace, end_in, end_of_side}
-use Rattle.kahn_job.specs.inner.Settling.{AreAlike, AreResting, AreSettled, CanFeed, CanSettle, HasExchanged, HasSettled, HaveExchanged, HasStood, HaveStood, IsCarried, IsOfBefore, ServedBefore}
 
 -- ---- one channel
 
@@ -25,6 +8,20 @@ pub joins_one : (a : Actual) (c d : ℕ) → Joins a c → Joins a d → c ≡ d
 joins_one (Reads b) c d i j = sym i ∙ j
 joins_one (Writes b) c d i j = sym i ∙ j
 joins_one (Hands v) c d i j = absurd i
+
+joins_or : (a : Actual) (c : ℕ) → Joins a c ⊎ (Joins a c → ⊥)
+joins_or (Reads d) c = cases_eq d c
+joins_or (Writes d) c = cases_eq d c
+joins_or (Hands v) c = inr (λ j. j)
+
+false_or : (b : Bool) → (b ≡ false) ⊎ (b ≡ false → ⊥)
+false_or false = inl refl
+false_or true = inr (λ e. absurd cc)
+
+both_or : {A B : Type 0} → A ⊎ (A → ⊥) → B ⊎ (B → ⊥) → (A × B) ⊎ (A × B → ⊥)
+both_or (inl a) (inl b) = inl (a, b)
+both_or (inr n) b = inr (λ x. n x.0)
+both_or (inl a) (inr n) = inr (λ x. n x.1)
 
 -- the two ends of a channel
 module _ (so : End → End → Type 0) (N : Network) where
@@ -148,13 +145,11 @@ module _ (t : Program) (wired : IsWellWired t) (lists : Lists) (rows : List (Lis
     side_of p q j = has_side p q (actual_at (instance_at N p) q) refl j
 
     pub lane_settled : (w r : Side) → IsOnly (IsWriter N c) (Some w) → IsOnly (IsReader N c) (Some r) → (new : List (List End)) →
-        HaveExchanged lists w r rows new → AreSettled t lists (λ d. d ≡ c) rows new
+        HaveExchanged lists w r rows new → AreSettled t lists c rows new
     lane_settled w r ow oo new x = record {
-      count = x.elsewhere.count;
-      sizes = x.elsewhere.sizes;
-      each = λ p q d j e. subst (λ k. HasSettled (lane_name t lists k) (end_in rows p q) (end_in new p q)) (sym e) (one p q (side_of p q (subst (Joins (actual_at (instance_at N p) q)) e j.0)));
-      others = λ p q n. x.elsewhere.others p q (never p q n);
-      joined = λ d e. subst (AreJoinedOn N new) (sym e) (on_only ShareLane N c new w r ow oo x.lane);
+      elsewhere = record { count = x.elsewhere.count; sizes = x.elsewhere.sizes; others = λ p q n. x.elsewhere.others p q (never p q n) };
+      each = λ p q j. one p q (side_of p q j.0);
+      joined = on_only ShareLane N c new w r ow oo x.lane;
     }
       where
         named : IsOfBefore t lists c (end_of_side rows w)
@@ -164,26 +159,26 @@ module _ (t : Program) (wired : IsWellWired t) (lists : Lists) (rows : List (Lis
         one p q (inl i) = subst (λ s. HasSettled (lane_name t lists c) (end_of_side rows s) (end_of_side new s)) (sym (oo.1 (side_at p q) i)) (x.reads _ named.1)
         one p q (inr i) = subst (λ s. HasSettled (lane_name t lists c) (end_of_side rows s) (end_of_side new s)) (sym (ow.1 (side_at p q) i)) (x.writes _ named.1)
 
-        never : (p q : ℕ) → ((d : ℕ) → IsCarried t (actual_at (instance_at N p) q) d → d ≡ c → ⊥) → (side_at p q ≡ w) ⊎ (side_at p q ≡ r) → ⊥
-        never p q n (inl e) = n c (carried_write p q c (ap (λ (s : Side). actual_at (instance_at N s.instance) s.parameter) e ∙ ow.0.1) (inner_role (is_inner w r ow.0 oo.0))) refl
-        never p q n (inr e) = n c (carried_read p q c (ap (λ (s : Side). actual_at (instance_at N s.instance) s.parameter) e ∙ oo.0.1)) refl
+        never : (p q : ℕ) → (IsCarried t (actual_at (instance_at N p) q) c → ⊥) → (side_at p q ≡ w) ⊎ (side_at p q ≡ r) → ⊥
+        never p q n (inl e) = n (carried_write p q c (ap (λ (s : Side). actual_at (instance_at N s.instance) s.parameter) e ∙ ow.0.1) (inner_role (is_inner w r ow.0 oo.0)))
+        never p q n (inr e) = n (carried_read p q c (ap (λ (s : Side). actual_at (instance_at N s.instance) s.parameter) e ∙ oo.0.1))
 
     -- it has settled, or memory was refused
     pub lane_or : (w r : Side) → IsOnly (IsWriter N c) (Some w) → IsOnly (IsReader N c) (Some r) → (new : List (List End)) {A E : Type 0} (result : Result A E) →
         MatchResult result (λ _. HaveExchanged lists w r rows new) (λ _. AreAlike rows new) →
-        MatchResult result (λ _. AreSettled t lists (λ d. d ≡ c) rows new) (λ _. AreAlike rows new)
+        MatchResult result (λ _. AreSettled t lists c rows new) (λ _. AreAlike rows new)
     lane_or w r ow oo new (Ok u) x = lane_settled w r ow oo new x
     lane_or w r ow oo new (Err f) x = x
 
-    pub feed_settled : (r : Side) → IsOnly (IsWriter N c) None → IsOnly (IsReader N c) (Some r) → (new : List (List End)) →
-        HasExchanged lists r rows new → AreSettled t lists (λ d. d ≡ c) rows new
+    pub feed_settled : (r : Side) → IsOnly (IsWriter N c) None → IsOnly (IsReader N c) (Some r) → (new : List (List End)) → HasExchanged lists r rows new → AreSettled t lists c rows new
     feed_settled r none oo new x = record {
-      count = x.elsewhere.count;
-      sizes = x.elsewhere.sizes;
-      each = λ p q d j e. subst (λ k. HasSettled (lane_name t lists k) (end_in rows p q) (end_in new p q)) (sym e) (one p q (side_of p q (subst (Joins (actual_at (instance_at N p) q)) e j.0)));
-      others = λ p q n. x.elsewhere.others p q
-          (λ e. n c (carried_read p q c (ap (λ (s : Side). actual_at (instance_at N s.instance) s.parameter) e ∙ oo.0.1)) refl);
-      joined = λ d e. subst (AreJoinedOn N new) (sym e) (none_writes ShareLane N c new none);
+      elsewhere = record {
+        count = x.elsewhere.count;
+        sizes = x.elsewhere.sizes;
+        others = λ p q n. x.elsewhere.others p q (λ e. n (carried_read p q c (ap (λ (s : Side). actual_at (instance_at N s.instance) s.parameter) e ∙ oo.0.1)));
+      };
+      each = λ p q j. one p q (side_of p q j.0);
+      joined = none_writes ShareLane N c new none;
     }
       where
         one : (p q : ℕ) → IsReader N c (side_at p q) ⊎ IsWriter N c (side_at p q) → HasSettled (lane_name t lists c) (end_in rows p q) (end_in new p q)
@@ -192,13 +187,11 @@ module _ (t : Program) (wired : IsWellWired t) (lists : Lists) (rows : List (Lis
         one p q (inr i) = absurd (none (side_at p q) i)
 
     -- a channel that nobody reads is an output, and nothing has to settle
-    pub output_settled : c < length N.channels → IsOnly (IsReader N c) None → AreSettled t lists (λ d. d ≡ c) rows rows
+    pub output_settled : c < length N.channels → IsOnly (IsReader N c) None → AreSettled t lists c rows rows
     output_settled lt none = record {
-      count = refl;
-      sizes = λ p. refl;
-      each = λ p q d j e. absurd (one p q (side_of p q (subst (Joins (actual_at (instance_at N p) q)) e j.0)) (subst (λ k. is_output (role_at N k) ≡ false) e j.1));
-      others = λ p q n. refl;
-      joined = λ d e. subst (AreJoinedOn N rows) (sym e) (none_reads ShareLane N c rows none);
+      elsewhere = record { count = refl; sizes = λ p. refl; others = λ p q n. refl };
+      each = λ p q j. absurd (one p q (side_of p q j.0) j.1);
+      joined = none_reads ShareLane N c rows none;
     }
       where
         by : (role : Role) → role_at N c ≡ role → IsServed N c role → is_output role ≡ false → ⊥
@@ -210,124 +203,62 @@ module _ (t : Program) (wired : IsWellWired t) (lists : Lists) (rows : List (Lis
         one p q (inl i) o = none (side_at p q) i
         one p q (inr i) o = by (role_at N c) refl (channel_served t wired c lt) o
 
-    -- either the end is one of this channel, and has settled, or it is as it was
-    end_or : (new : List (List End)) → AreSettled t lists (λ d. d ≡ c) rows new → (p q : ℕ) (a : Actual) → actual_at (instance_at N p) q ≡ a →
-        HasSettled (lane_name t lists c) (end_in rows p q) (end_in new p q) ⊎ (end_in new p q ≡ end_in rows p q)
-    end_or new s p q (Reads d) i = by (cases_eq d c)
-      where
-        by : (d ≡ c) ⊎ (d ≡ c → ⊥) → HasSettled (lane_name t lists c) (end_in rows p q) (end_in new p q) ⊎ (end_in new p q ≡ end_in rows p q)
-        by (inl e) = inl (s.each p q c (carried_read p q c (i ∙ ap Reads e)) refl)
-        by (inr n) = inr (s.others p q (λ b j e. n (subst (λ a. Joins a b) i j.0 ∙ e)))
-    end_or new s p q (Writes d) i = by (cases_eq d c) (is_output (role_at N d)) refl
-      where
-        by : (d ≡ c) ⊎ (d ≡ c → ⊥) → (b : Bool) → is_output (role_at N d) ≡ b →
-            HasSettled (lane_name t lists c) (end_in rows p q) (end_in new p q) ⊎ (end_in new p q ≡ end_in rows p q)
-        by (inl e) false o = inl (s.each p q c (carried_write p q c (i ∙ ap Writes e) (subst (λ k. is_output (role_at N k) ≡ false) e o)) refl)
-        by (inl e) true o = inr (s.others p q (λ b j e. absurd (true_false (sym o ∙ (subst (λ k. is_output (role_at N k) ≡ false) (sym (subst (λ a. Joins a b) i j.0)) j.1)))))
-          where
-            true_false : true ≡ false → ⊥
-            true_false e = absurd cc
-        by (inr n) b o = inr (s.others p q (λ b j e. n (subst (λ a. Joins a b) i j.0 ∙ e)))
-    end_or new s p q (Hands v) i = inr (s.others p q (λ b j e. subst (λ a. Joins a b) i j.0))
+    -- an end that has settled is one for this input
+    served_on : (a : Actual) (e f : End) → Joins a c → HasSettled (lane_name t lists c) e f → ServedBefore t lists a e → ServedBefore t lists a f
+    served_on (Reads d) e f j x b = (x.reads ∙ b.0, (lists, x.named ∙ ap (λ k. Some (lane_name t lists k)) (sym j), λ k. prefix_refl (inputs_of lists k)), λ r. x.bare (b.2 r))
+    served_on (Writes d) e f j x b = λ o. (x.writes ∙ (b o).0, (lists, x.named ∙ ap (λ k. Some (lane_name t lists k)) (sym j), λ k. prefix_refl (inputs_of lists k)))
+    served_on (Hands v) e f j x b = tt
 
-    pub stood_one : (new : List (List End)) → AreSettled t lists (λ d. d ≡ c) rows new → HaveStood rows new
-    stood_one new s p q = by (end_or new s p q (actual_at (instance_at N p) q) refl)
-      where
-        by : HasSettled (lane_name t lists c) (end_in rows p q) (end_in new p q) ⊎ (end_in new p q ≡ end_in rows p q) → HasStood (end_in rows p q) (end_in new p q)
-        by (inl x) = record {
-          next = x.next;
-          flushed = λ w. let b = h.behind p q in let n = x.next in let f = x.flushed (x.writes ∙ w) in omega (arith, b, n, f);
-          writes = x.writes;
-        }
-        by (inr e) = stood_same (end_in rows p q) (end_in new p q) e
+    module _ (new : List (List End)) (s : AreSettled t lists c rows new) where
+      -- either the end is one of this channel, and has settled, or it is as it was
+      abbrev Either : ℕ → ℕ → Type 0
+      Either p q = (IsCarried t (actual_at (instance_at N p) q) c × HasSettled (lane_name t lists c) (end_in rows p q) (end_in new p q)) ⊎ (end_in new p q ≡ end_in rows p q)
 
-    -- ends that go on with this input are still resting
-    pub rests_on : (new : List (List End)) → AreSettled t lists (λ d. d ≡ c) rows new → AreResting t lists new
-    rests_on new s = record {
-      count = s.count ∙ h.count;
-      sizes = λ p. s.sizes p ∙ h.sizes p;
-      each = λ p q. served p q (actual_at (instance_at N p) q) refl (h.each p q);
-      behind = λ p q. behind p q (end_or new s p q (actual_at (instance_at N p) q) refl);
-      joined = λ d. share d (cases_eq d c);
-    }
-      where
-        behind : (p q : ℕ) → HasSettled (lane_name t lists c) (end_in rows p q) (end_in new p q) ⊎ (end_in new p q ≡ end_in rows p q) →
-            (end_in new p q).flushed ≤ (end_in new p q).next
-        behind p q (inl x) = x.behind
-        behind p q (inr e) = subst (λ (x : End). x.flushed ≤ x.next) (sym e) (h.behind p q)
+      end_or : (p q : ℕ) → Either p q
+      end_or p q = ⊎_elim (λ j. inl (j, s.each p q j)) (λ n. inr (s.elsewhere.others p q n)) (both_or (joins_or (actual_at (instance_at N p) q) c) (false_or (is_output (role_at N c))))
 
-        now : (d : ℕ) (e : End) → e.name ≡ Some (lane_name t lists d) → IsOfBefore t lists d e
-        now d e n = (lists, n, λ k. prefix_refl (inputs_of lists k))
+      pub stood_one : HaveStood rows new
+      stood_one p q = by (end_or p q)
+        where
+          by : Either p q → HasStood (end_in rows p q) (end_in new p q)
+          by (inl (j, x)) = record {
+            next = x.next;
+            flushed = λ w. let b = h.behind p q in let n = x.next in let f = x.flushed (x.writes ∙ w) in omega (arith, b, n, f);
+            writes = x.writes;
+          }
+          by (inr e) = stood_same (end_in rows p q) (end_in new p q) e
 
-        served : (p q : ℕ) (a : Actual) → actual_at (instance_at N p) q ≡ a → ServedBefore t lists a (end_in rows p q) → ServedBefore t lists a (end_in new p q)
-        served p q (Reads d) i b = by (cases_eq d c)
-          where
-            by : (d ≡ c) ⊎ (d ≡ c → ⊥) → ServedBefore t lists (Reads d) (end_in new p q)
-            by (inl e) =
-                let x = s.each p q d (carried_read p q d i) e in
-                (x.reads ∙ b.0, now d (end_in new p q) x.named, λ r. x.bare (b.2 r))
-            by (inr n) = subst (ServedBefore t lists (Reads d)) (sym (s.others p q (λ k j e. n (subst (λ a. Joins a k) i j.0 ∙ e)))) b
-        served p q (Writes d) i b = λ o. by (cases_eq d c) o
-          where
-            by : (d ≡ c) ⊎ (d ≡ c → ⊥) → is_output (role_at N d) ≡ false → ((end_in new p q).writes ≡ true) × IsOfBefore t lists d (end_in new p q)
-            by (inl e) o =
-                let x = s.each p q d (carried_write p q d i o) e in
-                (x.writes ∙ (b o).0, now d (end_in new p q) x.named)
-            by (inr n) o = subst (ServedBefore t lists (Writes d)) (sym (s.others p q (λ k j e. n (subst (λ a. Joins a k) i j.0 ∙ e)))) b o
-        served p q (Hands v) i b = tt
+      -- ends that go on with this input are still resting
+      pub rests_on : AreResting t lists new
+      rests_on = record {
+        count = s.elsewhere.count ∙ h.count;
+        sizes = λ p. s.elsewhere.sizes p ∙ h.sizes p;
+        each = λ p q. served p q (end_or p q);
+        behind = λ p q. behind p q (end_or p q);
+        joined = λ d. ⊎_elim (λ e. subst (AreJoinedOn N new) (sym e) s.joined)
+            (λ n. so_still ShareLane N rows new d (λ p q j. s.elsewhere.others p q (λ z. n (joins_one (actual_at (instance_at N p) q) d c j z.0))) (h.joined d)) (cases_eq d c);
+      }
+        where
+          behind : (p q : ℕ) → Either p q → (end_in new p q).flushed ≤ (end_in new p q).next
+          behind p q (inl x) = x.1.behind
+          behind p q (inr e) = subst (λ (x : End). x.flushed ≤ x.next) (sym e) (h.behind p q)
 
-        share : (d : ℕ) → (d ≡ c) ⊎ (d ≡ c → ⊥) → AreJoinedOn N new d
-        share d (inl e) = s.joined d e
-        share d (inr n) = so_still ShareLane N rows new d (λ p q j. s.others p q (λ k z e. n (joins_one (actual_at (instance_at N p) q) d k j z.0 ∙ e))) (h.joined d)
+          served : (p q : ℕ) → Either p q → ServedBefore t lists (actual_at (instance_at N p) q) (end_in new p q)
+          served p q (inl x) = served_on (actual_at (instance_at N p) q) (end_in rows p q) (end_in new p q) x.0.0 x.1 (h.each p q)
+          served p q (inr e) = subst (ServedBefore t lists (actual_at (instance_at N p) q)) (sym e) (h.each p q)
 
 -- ---- channel after channel
 
 pub below_or : (d k : ℕ) → d < k + 1 → (d < k) ⊎ (d ≡ k)
 below_or d k l = ⊎_elim inr (λ n. inl (omega arith)) (cases_eq d k)
 
-pub none_settled : (t : Program) (lists : Lists) (rows : List (List End)) → AreSettled t lists (λ c. c < 0) rows rows
-none_settled t lists rows = record {
-  count = refl;
-  sizes = λ p. refl;
-  each = λ p q d j l. absurd (omega (arith, l));
-  others = λ p q n. refl;
-  joined = λ d l. absurd (omega (arith, l));
-}
-
-abbrev actual_in : Program → ℕ → ℕ → Actual
-actual_in t p q = actual_at (instance_at (network_of t) p) q
-
-pub more_settled : (t : Program) (lists : Lists) (k : ℕ) (old mid new : List (List End)) → AreSettled t lists (λ c. c < k) old mid →
-    AreSettled t lists (λ c. c ≡ k) mid new → AreSettled t lists (λ c. c < k + 1) old new
-more_settled t lists k old mid new a b = record {
-  count = b.count ∙ a.count;
-  sizes = λ p. b.sizes p ∙ a.sizes p;
-  each = λ p q d j l. one p q d j (below_or d k l);
-  others = λ p q n. b.others p q (λ d j e. n d j (omega (arith, e))) ∙ a.others p q (λ d j l. n d j (omega (arith, l)));
-  joined = λ d l. both d (below_or d k l);
-}
-  where
-    -- of another channel
-    later : (p q d : ℕ) → Joins (actual_in t p q) d → d < k → end_in new p q ≡ end_in mid p q
-    later p q d j l = b.others p q (λ c i e. let same = joins_one (actual_in t p q) c d i.0 j in absurd (omega (arith, e, same, l)))
-
-    one : (p q d : ℕ) → IsCarried t (actual_in t p q) d → (d < k) ⊎ (d ≡ k) → HasSettled (lane_name t lists d) (end_in old p q) (end_in new p q)
-    one p q d j (inl l) = subst (HasSettled (lane_name t lists d) (end_in old p q)) (sym (later p q d j.0 l)) (a.each p q d j l)
-    one p q d j (inr e) =
-        subst (λ x. HasSettled (lane_name t lists d) x (end_in new p q))
-        (a.others p q (λ c i l. let same = joins_one (actual_in t p q) c d i.0 j.0 in absurd (omega (arith, e, same, l)))) (b.each p q d j e)
-
-    both : (d : ℕ) → (d < k) ⊎ (d ≡ k) → AreJoinedOn (network_of t) new d
-    both d (inr e) = b.joined d e
-    both d (inl l) = so_still ShareLane (network_of t) mid new d (λ p q j. later p q d j l) (a.joined d l)
-
 pub rests_alike : (t : Program) (lists : Lists) (old new : List (List End)) → AreAlike old new → AreResting t lists old → AreResting t lists new
 rests_alike t lists old new a h = record {
   count = a.count ∙ h.count;
   sizes = λ p. a.sizes p ∙ h.sizes p;
-  each = λ p q. subst (ServedBefore t lists (actual_at (instance_at (network_of t) p) q)) (sym (a.same p q)) (h.each p q);
-  behind = λ p q. subst (λ (x : End). x.flushed ≤ x.next) (sym (a.same p q)) (h.behind p q);
-  joined = λ d. so_still ShareLane (network_of t) old new d (λ p q j. a.same p q) (h.joined d);
+  each = λ p q. subst (ServedBefore t lists (actual_at (instance_at (network_of t) p) q)) (sym (a.others p q (λ e. e))) (h.each p q);
+  behind = λ p q. subst (λ (x : End). x.flushed ≤ x.next) (sym (a.others p q (λ e. e))) (h.behind p q);
+  joined = λ d. so_still ShareLane (network_of t) old new d (λ p q j. a.others p q (λ e. e)) (h.joined d);
 }
 
 pub stood_then : (old mid new : List (List End)) → HaveStood old mid → HaveStood mid new → HaveStood old new
@@ -341,25 +272,36 @@ stood_then old mid new a b p q =
     }
 
 pub stood_alike : (old mid new : List (List End)) → HaveStood old mid → AreAlike mid new → HaveStood old new
-stood_alike old mid new a b = stood_then old mid new a (λ p q. stood_same (end_in mid p q) (end_in new p q) (b.same p q))
+stood_alike old mid new a b = stood_then old mid new a (λ p q. stood_same (end_in mid p q) (end_in new p q) (b.others p q (λ e. e)))
 
--- what settle_rows keeps, channel after channel
+abbrev actual_in : Program → ℕ → ℕ → Actual
+actual_in t p q = actual_at (instance_at (network_of t) p) q
+
+-- it is an end for this input, and what was put is flushed
+abbrev IsDone : Program → Lists → ℕ → End → Type 0
+IsDone t lists d e = (e.name ≡ Some (lane_name t lists d)) × IsFlushed e
+
+-- of the first k channels the ends have settled, and all rest, where they stood
 pub record AreGoing (t : Program) (lists : Lists) (k : ℕ) (old now : List (List End)) : Type 0 where
-  pub settled : AreSettled t lists (λ c. c < k) old now
+  pub done : (p q d : ℕ) → IsCarried t (actual_in t p q) d → d < k → IsDone t lists d (end_in now p q)
   pub resting : AreResting t lists now
   pub stood : HaveStood old now
 
 pub going_first : (t : Program) (lists : Lists) (rows : List (List End)) → AreResting t lists rows → AreGoing t lists 0 rows rows
 going_first t lists rows h = record {
-  settled = none_settled t lists rows;
+  done = λ p q d j l. absurd (omega (arith, l));
   resting = h;
   stood = λ p q. stood_same (end_in rows p q) (end_in rows p q) refl;
 }
 
 pub going_on : (t : Program) (wired : IsWellWired t) (lists : Lists) (k : ℕ) (old now new : List (List End)) → AreGoing t lists k old now →
-    AreSettled t lists (λ c. c ≡ k) now new → AreGoing t lists (k + 1) old new
+    AreSettled t lists k now new → AreGoing t lists (k + 1) old new
 going_on t wired lists k old now new g s = record {
-  settled = more_settled t lists k old now new g.settled s;
+  done = λ p q d j l. by p q d j (below_or d k l);
   resting = rests_on t wired lists now g.resting k new s;
   stood = stood_then old now new g.stood (stood_one t wired lists now g.resting k new s);
 }
+  where
+    by : (p q d : ℕ) → IsCarried t (actual_in t p q) d → (d < k) ⊎ (d ≡ k) → IsDone t lists d (end_in new p q)
+    by p q d j (inl l) = subst (IsDone t lists d) (sym (s.elsewhere.others p q (λ z. let same = joins_one (actual_in t p q) k d z.0 j.0 in absurd (omega (arith, same, l))))) (g.done p q d j l)
+    by p q d j (inr e) = let x = s.each p q (subst (IsCarried t (actual_in t p q)) e j) in subst (λ n. IsDone t lists n (end_in new p q)) (sym e) (x.named, x.flushed)

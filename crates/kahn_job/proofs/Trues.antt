@@ -1,14 +1,9 @@
 -- What a task's standing says of its process.
-use Rattle.std.proofs.Common.{◌≡◌, ℕ, length, sym, ap, ◌∙◌, subst}
-use Rattle.kahn_streams.specs.Network.{network_of, instance_at}
-use Rattle.kahn_streams.specs.Inputs.{inputs_of}
+use Rattle.kahn_job.proofs.Common.{◌≡◌, ℕ, length, sym, ap, ◌∙◌, subst, network_of, instance_at, inputs_of, told_view, Work, width_of, IsTrueOf, standing_after}
 use Rattle.kahn_code.specs.declared.progress.Pause.{Pause}
-use Rattle.kahn_code.specs.declared.progress.Pause.TheVariants as pause
 use Rattle.kahn_code.specs.Progress.{Paused, IsPause}
-use Rattle.kahn_code.specs.Told.{told_view}
-use Rattle.kahn_job.specs.inner.Works.{Work, width_of}
 use Rattle.kahn_job.specs.declared.standing.Standing.{Standing}
-use Rattle.kahn_job.specs.inner.Tasks.{IsTrueOf, standing_after}
+use Rattle.kahn_code.specs.declared.progress.Pause.TheVariants as pause
 
 -- after a run the standing is that of the process
 pub true_after : (w : Work) (s : Standing) (z : Pause) (dry ready : ℕ → Type 0) (spent : Type 0) → s ≡ standing_after z →

@@ -1,6 +1,5 @@
 pub mod Berths
 pub mod Ends
-pub mod Feeding
 pub mod Idles
 pub mod Lanes
 pub mod Openings

@@ -26,7 +26,7 @@ impl Model for Feed {
     ghost use Rattle.std.specs.Coded.{codes};
     ghost use Rattle.std.specs.Prelude.{◌≡◌, ◌<◌, length};
     ghost use Rattle.kahn_streams.specs.Network.{network_of, role_at};
-    ghost use Rattle.kahn_job.specs.inner.Feeding.{Feeding};
+    ghost use Rattle.kahn_job.specs.inner.Ends.{Feeding};
 
     ghost Value = { Feeding };
 

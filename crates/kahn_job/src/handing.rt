@@ -1,8 +1,7 @@
 //! The ends of all channels come to the parameters that they are handed to.
 
-ghost use Rattle.std.specs.Prelude.{◌≡◌, ◌+◌, ◌<◌, length, Some, IfOk, OnOk};
+ghost use Rattle.std.specs.Prelude.{◌≡◌, ◌+◌, ◌<◌, length, IfOk, IfSome, OnOk};
 ghost use Rattle.kahn_streams.specs.Network.{network_of};
-ghost use Rattle.kahn_streams.specs.declared.sides.Side.{Side as SideOf};
 ghost use Rattle.kahn_job.specs.inner.Idles.{cells_of, rows_of};
 ghost use Rattle.kahn_job.specs.inner.Lanes.{HasPlace};
 ghost use Rattle.kahn_job.specs.inner.Openings.{AreEndsOf, AreHanded, placed};
@@ -16,7 +15,7 @@ use std::alloc::Global;
 
 // Puts an end where it belongs.
 fn place(idles: &mut [Idle], side: Option<Side>, port: Port)
-    requires { (s : SideOf) → side ≡ Some s → HasPlace (rows_of idles.old) s }
+    requires { IfSome side (HasPlace (rows_of idles.old)) }
     ensures rows { rows_of idles.new ≡ placed (rows_of idles.old) side port }
     ensures cells { cells_of idles.new ≡ cells_of idles.old }
 {

@@ -234,34 +234,15 @@ impl Port {
         ensures settled { IfOk result (λ r. (n : LaneName) → self.name ≡ Some n → BothSettle (moved_to input.now n) self reader r.0 r.1) }
         ensures refused { IfErr result (λ e. (e.1 ≡ self) × (e.2 ≡ reader)) }
     {
-        let Way::Puts(sender) = self.way else {
+        let (Way::Puts(sender), Way::Takes(receiver, asked)) = (self.way, reader.way) else {
             unreachable!()
         };
-        reader.settle_sender(sender, input)
-    }
-
-    // The same, where this is the reader's end.
-    fn settle_sender(
-        self,
-        sender: Sender,
-        input: &Input,
-    ) -> Result<(Port, Port), (NoMemory, Port, Port)>
-        requires { CanSettle input.now (putting sender) self }
-        ensures lane { IfOk result (λ r. ShareLane r.0 r.1) }
-        ensures settled { IfOk result (λ r. (n : LaneName) → sender_name sender ≡ Some n → BothSettle (moved_to input.now n) (putting sender) self r.0 r.1) }
-        ensures refused { IfErr result (λ e. (e.1 ≡ putting sender) × (e.2 ≡ self)) }
-    {
-        match self.way {
-            Way::Takes(receiver, asked) => match settle(sender, receiver, input) {
-                Ok((sender, receiver)) => Ok((Port::puts(sender), Port::takes(receiver))),
-                Err((fault, sender, receiver)) => {
-                    let way = Way::Takes(receiver, asked);
-                    Err((fault, Port::puts(sender), Port { way }))
-                }
-            },
-            Way::Feeds(_) => unreachable!(),
-            Way::Puts(_) => unreachable!(),
-            Way::Nothing => unreachable!(),
+        match settle(sender, receiver, input) {
+            Ok((sender, receiver)) => Ok((Port::puts(sender), Port::takes(receiver))),
+            Err((fault, sender, receiver)) => {
+                let way = Way::Takes(receiver, asked);
+                Err((fault, Port::puts(sender), Port { way }))
+            }
         }
     }
 

@@ -58,7 +58,7 @@ fn settle_channel(
 ) -> Result<(), NoMemory>
     requires here { channel < length (network_of network.now).channels }
     requires resting { AreResting network.now input.now (rows_of idles.old) }
-    ensures ends { GoesOrStays result (AreSettled network.now input.now (λ c. c ≡ channel)) (rows_of idles.old) (rows_of idles.new) }
+    ensures ends { GoesOrStays result (AreSettled network.now input.now channel) (rows_of idles.old) (rows_of idles.new) }
     ensures cells { cells_of idles.new ≡ cells_of idles.old }
 {
     let _program = network.program();

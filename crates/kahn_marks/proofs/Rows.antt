@@ -1,5 +1,6 @@
 -- The characters of a line, one after another.
-use Rattle.std.proofs.Common.{◌≡◌, ℕ, ◌+◌, zero, suc, List, [], ◌∷◌, ◌++◌, length, refl, sym, ap, ◌∙◌, add-one, append_assoc, append-nil, arith, chars, encode_utf8, flat_map}
+use Rattle.std.proofs.Common.{◌≡◌, ℕ, ◌+◌, zero, suc, List, [], ◌∷◌, ◌++◌, length, refl, sym, ap, ◌∙◌, add-one, append_assoc, append-nil, arith, chars, encode_utf8, flat_map, Bor, Option, None, Some, option_map, slice_get, slice_index_or, unwrap_or}
+use Rattle.std.proofs.lemmas.Option.{unwrap_or-slice_get}
 use Rattle.std.proofs.lemmas.Str.{chars-nil}
 use Rattle.kahn_marks.specs.declared.columns.Row.{Row}
 use Rattle.kahn_marks.specs.Marks.{piece_of, with_places, times_over}
@@ -36,3 +37,9 @@ pub repeated_more : (n : ℕ) (piece old mid new : List ℕ) → mid ≡ old ++ 
 repeated_more n piece old mid new before added =
     added ∙ ap (λ l. l ++ piece) before ∙ append_assoc old (times_over n piece) piece
     ∙ ap (λ l. old ++ l) (sym (once_more n piece)) ∙ ap (λ k. old ++ times_over k piece) (sym (add-one n))
+
+-- the line that was found, or the empty one
+pub or_empty : (xs : List (List ℕ)) (n : ℕ) (r : Option (Bor (List ℕ))) (d w : Bor (List ℕ)) → option_map (λ (x : Bor (List ℕ)). x.now) r ≡ slice_get xs n → w ≡ unwrap_or r d → d.now ≡ []
+    → w.now ≡ slice_index_or xs n []
+or_empty xs n None d w at is none = ap (λ (x : Bor (List ℕ)). x.now) is ∙ none ∙ ap (λ o. unwrap_or o []) at ∙ unwrap_or-slice_get xs n []
+or_empty xs n (Some x) d w at is none = ap (λ (x : Bor (List ℕ)). x.now) is ∙ ap (λ o. unwrap_or o []) at ∙ unwrap_or-slice_get xs n []

@@ -1,5 +1,5 @@
 -- Believed. A note on a part of a text: where it stands and what is said, the source line, and carets under the part.
-use Rattle.std.specs.Prelude.{ℕ, zero, suc, ◌+◌, ◌-◌, ◌==◌, ◌&&◌, List, [], ◌∷◌, ◌++◌, Bool, false, if◌then◌else◌, nat_le, nat_lt, unwrap_or, codes, chars, decimal, encode_utf8, flat_map, length, min, slice_index_or}
+use Rattle.std.specs.Prelude.{ℕ, zero, suc, ◌+◌, ◌-◌, ◌==◌, ◌&&◌, List, [], ◌∷◌, ◌++◌, Bool, false, if◌then◌else◌, nat_le, nat_lt, unwrap_or, codes, chars, decimal, encode_utf8, flat_map, length, slice_index_or}
 use Rattle.std.specs.List.{concat}
 use Rattle.std.specs.Char.{is_control}
 use Rattle.std.specs.Str.Lines.{lines}
@@ -8,6 +8,10 @@ use Rattle.kahn_streams.specs.Place.{line_of, column_of}
 use Rattle.kahn_streams.specs.declared.span.Span.{Span}
 use Rattle.kahn_marks.specs.declared.columns.Row.{Row}
 use Rattle.kahn_marks.specs.declared.columns.Row.TheVariants.{Source, Blanks, Carets}
+
+-- the line and the column of a byte of a text, or of its end where the text has no such byte, behind a word
+abbrev pub spot_text : List ℕ → List ℕ → ℕ → List ℕ
+spot_text before text from = concat (before ∷ decimal (line_of text from) ∷ codes ":" ∷ decimal (column_of text from) ∷ [])
 
 -- the piece so many times
 abbrev pub times_over : ℕ → List ℕ → List ℕ
@@ -56,27 +60,29 @@ carets_of line from bytes = one_at_least (row_of Carets line from bytes)
 abbrev pub line_at : List ℕ → ℕ → List ℕ
 line_at text n = slice_index_or (lines text) n []
 
--- the source line with its number, and the carets below
+-- blanks and carets below it
+abbrev pub carets_text : List ℕ → ℕ → ℕ → List ℕ
+carets_text line from bytes = concat (row_of Blanks line from bytes ∷ carets_of line from bytes ∷ codes "\n" ∷ [])
+
+-- the source line with its number, and these
 abbrev pub rows_text : List ℕ → List ℕ → ℕ → ℕ → List ℕ
 rows_text line number from bytes =
     concat (codes " " ∷ number ∷ codes " | " ∷ row_of Source line from bytes ∷ codes "\n " ∷ [])
-    ++ times_over (length number) (codes " ")
-    ++ concat (codes " | " ∷ row_of Blanks line from bytes ∷ carets_of line from bytes ∷ codes "\n" ∷ [])
+    ++ times_over (length number) (codes " ") ++ codes " | " ++ carets_text line from bytes
 
 -- `PATH:LINE:COLUMN: SORT: WORDS`, where the sort is `error`, `note` or `warning`
 abbrev pub heading : List ℕ → List ℕ → List ℕ → List ℕ → List ℕ → List ℕ
 heading path line column sort words =
     concat (path ∷ codes ":" ∷ line ∷ codes ":" ∷ column ∷ codes ": " ∷ sort ∷ codes ": " ∷ words ∷ codes "\n" ∷ [])
 
--- what is said of a part that begins at byte `from` of the text and has so many bytes
+-- what is said of a part that begins at byte `from` of the text and has so many bytes; the end of the text is told where it has no such byte
 abbrev pub marked_at : List ℕ → List ℕ → List ℕ → ℕ → ℕ → List ℕ → List ℕ
 marked_at sort path text from bytes words =
     heading path (decimal (line_of text from)) (decimal (column_of text from)) sort words
     ++ rows_text (line_at text (line_of text from - 1)) (decimal (line_of text from)) (column_of text from - 1) bytes
 
--- the heading and the rows; a part that begins beyond the text is told as the text's end
 abbrev pub marked_as : List ℕ → List ℕ → List ℕ → Span → List ℕ → List ℕ
-marked_as sort path text span words = marked_at sort path text (min span.from (length text)) (span.to - min span.from (length text)) words
+marked_as sort path text span words = marked_at sort path text span.from (span.to - span.from) words
 
 -- the part that is at fault, one that has to do with it, and one that is allowed, and seldom meant
 abbrev pub marked : List ℕ → List ℕ → Span → List ℕ → List ℕ

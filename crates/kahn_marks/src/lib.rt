@@ -4,7 +4,9 @@
 mod columns;
 mod note;
 mod pieces;
+mod places;
 
 // For the crates above.
 pub use note::{marked, marked_too, marked_warning};
 pub use pieces::{add, add_repeated};
+pub use places::{add_spot, place};

@@ -1,28 +1,20 @@
 //! A note on a part of a text.
 
-ghost use Rattle.std.specs.Prelude.{◌≡◌, ◌-◌, ◌++◌, IfOk, map, slice_index_or, string_bytes};
-ghost use Rattle.std.specs.Str.Lines.{lines};
-ghost use Rattle.kahn_marks.specs.Marks.{carets_of, heading, line_at, marked, marked_as, marked_too, marked_warning, rows_text};
+ghost use Rattle.std.specs.Prelude.{◌≡◌, ◌-◌, ◌++◌, IfOk, slice_index_or, string_bytes};
+ghost use Rattle.kahn_marks.specs.Marks.{carets_text, carets_of, heading, line_at, marked, marked_as, marked_too, marked_warning, rows_text};
 
 use crate::columns::{Row, add_row};
 use crate::pieces::{add, add_repeated};
+use crate::places::place;
 use itoa::Buffer;
 use kahn_streams::Span;
 use std::alloc::{AllocError, Global};
 
-/// The lines of a text.
-fn lines(alloc: Global, text: &str) -> Result<Vec<&str>, AllocError>
-    ensures { IfOk result (λ v. map (λ line. line.now) v.items ≡ lines text.now) }
-{
-    text.lines().collect(alloc)
-}
-
 /// A line of a text, from 0; the empty one where it has not so many.
-fn line_at(alloc: Global, text: &str, number: usize) -> Result<&str, AllocError>
-    ensures { IfOk result (λ line. line.now ≡ line_at text.now number) }
+fn line_at(text: &str, number: usize) -> &str
+    ensures { result.now ≡ line_at text.now number }
 {
-    let lines = lines(alloc, text)?;
-    Ok(lines.get(number).copied().unwrap_or(""))
+    text.lines().nth(number).unwrap_or("")
 }
 
 /// The carets below a part of a line: one at least.
@@ -35,6 +27,21 @@ fn carets(alloc: Global, line: &str, from: usize, bytes: usize) -> Result<String
         text.push_str("^")?;
     }
     Ok(text)
+}
+
+/// Adds blanks below what stands before the part of a line, and carets below the part.
+fn add_carets(
+    note: &mut String,
+    alloc: Global,
+    line: &str,
+    from: usize,
+    bytes: usize,
+) -> Result<(), AllocError>
+    ensures { IfOk result (λ _. string_bytes note.new ≡ string_bytes note.old ++ carets_text line.now from bytes) }
+{
+    add_row(note, line, Row::Blanks, from, bytes)?;
+    let carets = carets(alloc, line, from, bytes)?;
+    add(note, &[carets.as_str(), "\n"])
 }
 
 /// Adds a source line with its number, and carets under the part that begins at a byte of it and has so many bytes.
@@ -53,9 +60,7 @@ fn add_rows(
     note.push_str("\n ")?;
     add_repeated(note, " ", number.len())?;
     note.push_str(" | ")?;
-    add_row(note, line, Row::Blanks, from, bytes)?;
-    let carets = carets(alloc, line, from, bytes)?;
-    add(note, &[carets.as_str(), "\n"])
+    add_carets(note, alloc, line, from, bytes)
 }
 
 /// Adds the heading of a note.
@@ -86,15 +91,14 @@ fn marked_as(
 ) -> Result<String, AllocError>
     ensures { IfOk result (λ note. string_bytes note ≡ marked_as sort.now path.now text.now span words.now) }
 {
-    let from = span.from.min(text.len());
-    let (line, column) = Span { from, to: from }.place(text);
+    let (line, column) = place(text, span.from);
     let mut first = Buffer::new();
     let mut second = Buffer::new();
     let number = first.format(line);
-    let source = line_at(alloc, text, line - 1)?;
     let mut note = String::new(alloc);
     add_heading(&mut note, path, number, second.format(column), sort, words)?;
-    let bytes = span.to.saturating_sub(from);
+    let bytes = span.to.saturating_sub(span.from);
+    let source = line_at(text, line - 1);
     add_rows(&mut note, alloc, source, number, column - 1, bytes)?;
     Ok(note)
 }

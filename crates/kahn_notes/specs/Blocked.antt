@@ -1,7 +1,6 @@
 -- Believed. What is said of blocks where a text goes wrong.
-use Rattle.std.specs.Prelude.{ℕ, Bool, not, ◌&&◌, ◌||◌, ◌-◌, List, [], ◌∷◌, ◌++◌, Option, Some, None, codes, decimal, drop, is_some, if◌then◌else◌, length, min}
-use Rattle.std.specs.List.{concat}
-use Rattle.kahn_streams.specs.Place.{line_of, column_of}
+use Rattle.std.specs.Prelude.{ℕ, Bool, not, ◌&&◌, ◌||◌, ◌-◌, List, [], ◌∷◌, ◌++◌, Option, Some, None, codes, drop, is_some, if◌then◌else◌, length}
+use Rattle.kahn_marks.specs.Marks.{spot_text}
 use Rattle.kahn_syntax.specs.declared.lexeme.Class.{Class}
 use Rattle.kahn_syntax.specs.declared.lexeme.Class.TheVariants as class
 use Rattle.kahn_syntax.specs.declared.lexeme.Keyword.TheVariants as word
@@ -14,18 +13,6 @@ use Rattle.kahn_wanted.specs.declared.blocks.Blocks.{Blocks}
 use Rattle.kahn_wanted.specs.declared.found.Unexpected.{Unexpected}
 use Rattle.kahn_notes.specs.Advice.{awaits, finds, has_fewer}
 use Rattle.kahn_notes.specs.Words.{any_words, separator}
-
--- ---- places
-
--- the line and the column of a byte, or of the end of the text
-abbrev pub line_there : List ℕ → ℕ → ℕ
-line_there text from = line_of text (min from (length text))
-
-abbrev pub column_there : List ℕ → ℕ → ℕ
-column_there text from = column_of text (min from (length text))
-
-abbrev pub at_words : List ℕ → ℕ → List ℕ
-at_words text from = concat (codes " at " ∷ decimal (line_there text from) ∷ codes ":" ∷ decimal (column_there text from) ∷ [])
 
 -- ---- lists of them
 
@@ -42,11 +29,11 @@ begin_words (Some x) = begin_class_words x.what
 begin_words None = codes "`begin`"
 
 abbrev pub block_item : List ℕ → Block → List ℕ
-block_item text b = begin_words b.before ++ at_words text b.begin.span.from
+block_item text b = begin_words b.before ++ spot_text (codes " at ") text b.begin.span.from
 
 -- what leads to a statement without a block
 abbrev pub bare_item : List ℕ → Lexeme → List ℕ
-bare_item text x = any_words x.what ++ at_words text x.span.from
+bare_item text x = any_words x.what ++ spot_text (codes " at ") text x.span.from
 
 -- with commas between, and `or` before the last
 abbrev pub listed_blocks : List ℕ → List Block → List ℕ

@@ -11,7 +11,7 @@ use Rattle.kahn_wanted.specs.declared.blocks.Blocks.{Blocks}
 use Rattle.kahn_notes.specs.declared.closed.Seam.{Seam}
 use Rattle.kahn_notes.specs.declared.closed.Seam.TheVariants.{Leads, Parts, Ends, Renews, Within}
 use Rattle.kahn_notes.specs.Advice.{has_fewer}
-use Rattle.kahn_notes.specs.Blocked.{at_words}
+use Rattle.kahn_marks.specs.Marks.{spot_text}
 
 -- what a lexeme is to the statements beside it
 abbrev pub seam_of : Class → Seam
@@ -62,4 +62,4 @@ IsClosedEnd xs at b end =
 -- what is said of it
 abbrev pub early_words : List ℕ → Lexeme → List ℕ
 early_words text e =
-    concat (codes "the `end`" ∷ at_words text e.span.from ∷ codes " closes a block: an `if`, a `while` or a `repeat` has no `end` of its own" ∷ [])
+    concat (spot_text (codes "the `end` at ") text e.span.from ∷ codes " closes a block: an `if`, a `while` or a `repeat` has no `end` of its own" ∷ [])

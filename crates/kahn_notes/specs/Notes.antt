@@ -25,9 +25,9 @@ use Rattle.kahn_wanted.specs.Blocks.{AreBlocksOf}
 use Rattle.kahn_wanted.specs.Comments.{IsCommentBefore}
 use Rattle.kahn_wanted.specs.Mends.{AreMendsOf}
 use Rattle.kahn_wanted.specs.Wanted.{IsUnexpected}
-use Rattle.kahn_marks.specs.Marks.{marked, times_over}
+use Rattle.kahn_marks.specs.Marks.{marked, spot_text, times_over}
 use Rattle.kahn_notes.specs.Foreign.{advised}
-use Rattle.kahn_notes.specs.Blocked.{at_words, blocks_words, line_there, open_beside}
+use Rattle.kahn_notes.specs.Blocked.{blocks_words, open_beside}
 use Rattle.kahn_notes.specs.Closed.{IsClosedEnd, early_words}
 use Rattle.kahn_notes.specs.Order.{ranked}
 use Rattle.kahn_notes.specs.Words.{any_words, keyword_words, separator, sign_words}
@@ -173,10 +173,11 @@ help_text text xs span u m b None = advised_text text xs span u m b
 
 -- what is said of a comment before it
 abbrev pub comment_verb : List ℕ → Span → List ℕ
-comment_verb text c = if line_there text c.from == line_there text (c.to - 1) then codes " ends with" else codes " goes on to"
+comment_verb text c = if line_of text c.from == line_of text (c.to - 1) then codes " ends with" else codes " goes on to"
 
 abbrev pub comment_words : List ℕ → Span → List ℕ
-comment_words text c = concat (codes "the comment" ∷ at_words text c.from ∷ comment_verb text c ∷ codes " the `;`" ∷ at_words text (c.to - 1) ∷ [])
+comment_words text c =
+    concat (codes "the comment" ∷ spot_text (codes " at ") text c.from ∷ comment_verb text c ∷ codes " the `;`" ∷ spot_text (codes " at ") text (c.to - 1) ∷ [])
 
 abbrev pub comment_text : List ℕ → Span → Option Span → List ℕ
 comment_text text span c = remark_or_none text span (option_map (comment_words text) c)

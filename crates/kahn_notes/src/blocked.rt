@@ -1,15 +1,13 @@
 //! What is said of blocks where a text goes wrong: of those that no `end` has closed, and of statements without one.
 
 ghost use Rattle.std.specs.Prelude.{◌≡◌, ◌++◌, IfOk, map, option_map, string_bytes};
-ghost use Rattle.kahn_streams.specs.Place.{line_of, column_of};
-ghost use Rattle.kahn_notes.specs.Blocked.{at_words, bare_words, begin_words, blocks_words, column_there, is_outside, last_few, line_there, listed_bare, listed_blocks, open_told, open_words, open_beside};
+ghost use Rattle.kahn_notes.specs.Blocked.{bare_words, begin_words, blocks_words, is_outside, last_few, listed_bare, listed_blocks, open_told, open_words, open_beside};
 
 use crate::listing::separator;
 use crate::wanting::{awaits, finds, has_fewer};
 use crate::words::class_words;
-use itoa::Buffer;
-use kahn_marks::add;
-use kahn_syntax::{Class, Keyword, Lexeme, Sign, Span};
+use kahn_marks::add_spot;
+use kahn_syntax::{Class, Keyword, Lexeme, Sign};
 use kahn_wanted::{Block, Blocks, Group, Unexpected};
 use std::alloc::{AllocError, Global};
 
@@ -21,28 +19,6 @@ pub(crate) const END: Class = Class::Word(Keyword::End);
 
 /// How many are told: the last ones.
 const FEW: usize = 3;
-
-/// The line and the column of a byte of a text, or of its end where the text has no such byte.
-pub(crate) fn place(text: &str, from: usize) -> (usize, usize)
-    ensures line { result.0 ≡ line_there text.now from }
-    ensures column { result.1 ≡ column_there text.now from }
-{
-    let from = from.min(text.len());
-    let span = Span { from, to: from };
-    span.place(text)
-}
-
-/// Adds where a byte of a text stands, or its end where the text has no such byte: ` at LINE:COLUMN`.
-pub fn add_at(words: &mut String, text: &str, from: usize) -> Result<(), AllocError>
-    ensures { IfOk result (λ _. string_bytes words.new ≡ string_bytes words.old ++ at_words text.now from) }
-{
-    let (line, column) = place(text, from);
-    let mut first = Buffer::new();
-    let mut second = Buffer::new();
-    let line = first.format(line);
-    let column = second.format(column);
-    add(words, &[" at ", line, ":", column])
-}
 
 /// What a `begin` is called behind a lexeme.
 fn begin_words(before: Option<Lexeme>) -> &'static str
@@ -66,7 +42,7 @@ fn add_blocks(words: &mut String, text: &str, blocks: &[Block]) -> Result<(), Al
 {
     for (number, block) in blocks.iter().enumerate() {
         words.push_str(begin_words(block.before))?;
-        add_at(words, text, block.begin.span.from)?;
+        add_spot(words, " at ", text, block.begin.span.from)?;
         words.push_str(separator(blocks.len() - number - 1))?;
     }
     Ok(())
@@ -78,7 +54,7 @@ fn add_heads(words: &mut String, text: &str, heads: &[Lexeme]) -> Result<(), All
 {
     for (number, head) in heads.iter().enumerate() {
         words.push_str(class_words(head.what))?;
-        add_at(words, text, head.span.from)?;
+        add_spot(words, " at ", text, head.span.from)?;
         words.push_str(separator(heads.len() - number - 1))?;
     }
     Ok(())

@@ -39,8 +39,16 @@ pub(crate) const CHARACTERS: [Told; 47] = [
         b"'",
         "; there are no texts, and a name has letters, digits and `_`",
     ),
-    (false, b"[", "; there are no arrays"),
-    (false, b"{", "; a block goes from `begin` to `end`"),
+    (
+        false,
+        b"[",
+        "; there are no arrays; a channel that one process writes and reads is a queue",
+    ),
+    (
+        false,
+        b"{",
+        "; a block goes from `begin` to `end`, a comment from `comment` to `;`",
+    ),
     (false, b"&&", "; it is the word `and`"),
     (
         false,

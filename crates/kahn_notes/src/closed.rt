@@ -6,8 +6,9 @@ ghost use Rattle.kahn_notes.specs.declared.closed.Seam.TheVariants.{Ends};
 ghost use Rattle.kahn_notes.specs.Closed.{IsClosedEnd, IsLastEnd, before_place, early_words, seam_of};
 ghost use Rattle.kahn_notes.specs.inner.Closing.{KeepsEnd};
 
-use crate::blocked::{BEGIN, END, add_at};
+use crate::blocked::{BEGIN, END};
 use crate::wanting::has_fewer;
+use kahn_marks::{add, add_spot};
 use kahn_syntax::{Class, Keyword, Lexeme, Sign};
 use kahn_wanted::Blocks;
 use std::alloc::AllocError;
@@ -123,7 +124,9 @@ pub(crate) fn closed_end(lexemes: &[Lexeme], at: usize, blocks: &Blocks) -> Opti
 pub(crate) fn add_early(words: &mut String, text: &str, end: Lexeme) -> Result<(), AllocError>
     ensures { IfOk result (λ _. string_bytes words.new ≡ string_bytes words.old ++ early_words text.now end) }
 {
-    words.push_str("the `end`")?;
-    add_at(words, text, end.span.from)?;
-    words.push_str(" closes a block: an `if`, a `while` or a `repeat` has no `end` of its own")
+    add_spot(words, "the `end` at ", text, end.span.from)?;
+    add(
+        words,
+        &[" closes a block: an `if`, a `while` or a `repeat` has no `end` of its own"],
+    )
 }

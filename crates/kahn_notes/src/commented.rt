@@ -3,9 +3,8 @@
 ghost use Rattle.std.specs.Prelude.{◌≡◌, ◌++◌, IfOk, string_bytes};
 ghost use Rattle.kahn_notes.specs.Notes.{IsCommented, comment_text, comment_verb, comment_words};
 
-use crate::blocked::{add_at, place};
 use crate::mended::add_remark;
-use kahn_marks::marked;
+use kahn_marks::{add_spot, marked, place};
 use kahn_streams::NoMemory;
 use kahn_syntax::Span;
 use kahn_wanted::comment_before;
@@ -29,10 +28,10 @@ fn comment_words(alloc: Global, text: &str, comment: Span) -> Result<String, All
     ensures { IfOk result (λ words. string_bytes words ≡ comment_words text.now comment) }
 {
     let mut words = String::from_str(alloc, "the comment")?;
-    add_at(&mut words, text, comment.from)?;
+    add_spot(&mut words, " at ", text, comment.from)?;
     words.push_str(comment_verb(text, comment))?;
     words.push_str(" the `;`")?;
-    add_at(&mut words, text, comment.to.saturating_sub(1))?;
+    add_spot(&mut words, " at ", text, comment.to.saturating_sub(1))?;
     Ok(words)
 }
 

@@ -24,7 +24,7 @@ fn is_one_of(word: &[u8], others: &[&str]) -> bool
 type Told = (&'static [&'static str], &'static str);
 
 /// Those that are told of wherever they stand.
-pub(crate) const FOREIGN: [Told; 9] = [
+pub(crate) const FOREIGN: [Told; 10] = [
     (
         &["for", "until", "loop", "forever"],
         "a loop is `while E do S`, or `repeat S`, which has no end",
@@ -54,6 +54,10 @@ pub(crate) const FOREIGN: [Told; 9] = [
     (
         &["inout"],
         "one process reads a channel, and another one writes it: `in U`, `out W`",
+    ),
+    (
+        &["go", "spawn", "cobegin", "parbegin"],
+        "nothing starts an instance: it is `p(A, B)`, and `par` stands between two",
     ),
 ];
 

@@ -105,7 +105,7 @@ const WORDS: &[Class] = &[
 ];
 
 /// The first that holds is told.
-pub(crate) const HABITS: [Habit; 60] = [
+pub(crate) const HABITS: [Habit; 66] = [
     (
         &[Word(Then)],
         &[Word(If)],
@@ -249,6 +249,18 @@ pub(crate) const HABITS: [Habit; 60] = [
     ),
     (
         &[],
+        &[Name],
+        &[May(Sign(Open))],
+        "an instance is `P(A, B)`: brackets stand round what it is handed",
+    ),
+    (
+        &[],
+        &[Name],
+        &[May(Word(Integer)), NotAll(Declaration), NotAll(Statement)],
+        "a parameter has its kind: `integer in U` is read, `integer out W` is written, `integer N` is a number",
+    ),
+    (
+        &[],
         &[Word(If)],
         &[All(Operand)],
         "an `if` among operators stands in brackets",
@@ -286,6 +298,12 @@ pub(crate) const HABITS: [Habit; 60] = [
     (
         &[],
         &[Word(Integer), Word(Logical)],
+        &[May(Word(Begin)), NotAll(Statement)],
+        "variables are declared right behind the first `begin` of a process, channels outside of processes",
+    ),
+    (
+        &[],
+        &[Word(Integer), Word(Logical)],
         &[Value],
         "a kind changes no value: `if T then 1 else 0` makes a number of `T`, `X <> 0` a truth value of `X`",
     ),
@@ -300,6 +318,12 @@ pub(crate) const HABITS: [Habit; 60] = [
         &[Word(Integer), Word(Logical), Word(Process)],
         &[May(Word(End)), MayNot(Sign(Semicolon))],
         "channels and processes are declared before all instances",
+    ),
+    (
+        &[],
+        &[Word(End)],
+        &[All(Declaration)],
+        "a program ends with its instances: `p(A, B) par q(B, C)`",
     ),
     (
         &[],
@@ -318,6 +342,12 @@ pub(crate) const HABITS: [Habit; 60] = [
         &[Sign(Semicolon)],
         &[May(Sign(Becomes))],
         "a statement that begins with a name assigns to it, `X := E`; names of one kind stand with commas, `integer I, J`",
+    ),
+    (
+        &[Word(Send)],
+        &[Word(On)],
+        &[],
+        "`on` and a channel stand behind the value: `send E on C`",
     ),
     (
         &[],
@@ -418,6 +448,12 @@ pub(crate) const HABITS: [Habit; 60] = [
     (
         &[],
         &[Sign(Comma)],
+        &[May(Word(On)), Operator],
+        "a statement has one value: `send E on C; send F on C`",
+    ),
+    (
+        &[],
+        &[Sign(Comma)],
         &[May(Sign(Semicolon)), Operator],
         "a statement has one value: `print E; print F`",
     ),
@@ -431,13 +467,13 @@ pub(crate) const HABITS: [Habit; 60] = [
         &[Name],
         &[Sign(Open)],
         &[May(Sign(Becomes))],
-        "a body calls nothing and starts nothing: instances stand behind all processes",
+        "a body calls nothing and starts nothing: `send E on C` sends a value, and instances stand behind all processes",
     ),
     (
         &[Name],
         &[Sign(Open)],
         &[Operator],
-        "a body calls nothing: there are no functions, and a value is taken by `wait(C)`",
+        "a body calls nothing: there are no functions, `wait(C)` takes a value, and nothing tells whether one is there",
     ),
     (
         &[Name],

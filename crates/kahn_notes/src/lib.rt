@@ -19,7 +19,6 @@ mod wanting;
 mod words;
 
 // For the crates above.
-pub use blocked::add_at;
 pub use characters::character_help;
 pub use commented::commented_note;
 pub use held::held_remark;

@@ -1,6 +1,8 @@
 -- Inner. What contracts see of the end of a channel that a parameter has.
 use Rattle.std.specs.Prelude.{◌≡◌, ◌⊎◌, ℕ, ◌+◌, ◌<◌, ◌≤◌, Bool, true, Option, Some}
 use Rattle.std.specs.declared.alloc.Global.{Global}
+use Rattle.kahn_streams.specs.declared.tree.Program.{Program}
+use Rattle.kahn_streams.specs.Inputs.{Lists}
 use Rattle.kahn_lane.specs.Places.{Named}
 
 -- which lane it is an end of
@@ -26,6 +28,13 @@ pub record End : Type 0 where
   pub flushed : ℕ
   pub filled : ℕ
   pub capacity : ℕ
+
+-- what is read of an input channel: of which network and input, and the place of the next token
+pub record Feeding : Type 0 where
+  pub network : Program
+  pub input : Lists
+  pub channel : ℕ
+  pub next : ℕ
 
 -- what of an end never changes
 pub record Identity : Type 0 where

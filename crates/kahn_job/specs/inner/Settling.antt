@@ -51,14 +51,17 @@ AreAtRest t rows = (lists : Lists) × AreResting t lists rows
 abbrev pub IsCarried : Program → Actual → ℕ → Type 0
 IsCarried t a d = Joins a d × (is_output (role_at (network_of t) d) ≡ false)
 
--- the ends of the channels that pass have become ends for this input, and all others are as they were
-pub record AreSettled (t : Program) (lists : Lists) (passes : ℕ → Type 0) (old new : List (List End)) : Type 0 where
+-- the ends of the others are as they were
+pub record AreElsewhere (here : Side → Type 0) (old new : List (List End)) : Type 0 where
   pub count : length new ≡ length old
   pub sizes : (p : ℕ) → length (slice_index_or new p []) ≡ length (slice_index_or old p [])
-  pub each : (p q d : ℕ) → IsCarried t (actual_at (instance_at (network_of t) p) q) d → passes d →
-      HasSettled (lane_name t lists d) (end_in old p q) (end_in new p q)
-  pub others : (p q : ℕ) → ((d : ℕ) → IsCarried t (actual_at (instance_at (network_of t) p) q) d → passes d → ⊥) → end_in new p q ≡ end_in old p q
-  pub joined : (d : ℕ) → passes d → AreJoinedOn (network_of t) new d
+  pub others : (p q : ℕ) → (here (side_at p q) → ⊥) → end_in new p q ≡ end_in old p q
+
+-- the ends of the channel d have become ends for this input, and all others are as they were
+pub record AreSettled (t : Program) (lists : Lists) (d : ℕ) (old new : List (List End)) : Type 0 where
+  pub elsewhere : AreElsewhere (λ s. IsCarried t (actual_at (instance_at (network_of t) s.instance) s.parameter) d) old new
+  pub each : (p q : ℕ) → IsCarried t (actual_at (instance_at (network_of t) p) q) d → HasSettled (lane_name t lists d) (end_in old p q) (end_in new p q)
+  pub joined : AreJoinedOn (network_of t) new d
 
 -- the end stands where it stood, and nothing that was flushed there is taken back
 pub record HasStood (old new : End) : Type 0 where
@@ -85,12 +88,6 @@ pub record CanFeed (lists : Lists) (reader : End) : Type 0 where
   pub bare : reader.lane ≡ None
   pub grown : (n : LaneName) × (reader.name ≡ Some n) × IsGrown n lists
 
--- the ends of the others are as they were
-pub record AreElsewhere (here : Side → Type 0) (old new : List (List End)) : Type 0 where
-  pub count : length new ≡ length old
-  pub sizes : (p : ℕ) → length (slice_index_or new p []) ≡ length (slice_index_or old p [])
-  pub others : (p q : ℕ) → (here (side_at p q) → ⊥) → end_in new p q ≡ end_in old p q
-
 -- both ends of a lane have
 abbrev pub BothSettle : LaneName → End → End → End → End → Type 0
 BothSettle name writer reader sender receiver = HasSettled name writer sender × HasSettled name reader receiver
@@ -107,11 +104,9 @@ pub record HasExchanged (lists : Lists) (reader : Side) (old new : List (List En
   pub elsewhere : AreElsewhere (λ s. s ≡ reader) old new
   pub reads : (n : LaneName) → (end_of_side old reader).name ≡ Some n → HasSettled (moved_to lists n) (end_of_side old reader) (end_of_side new reader)
 
--- the ends are the same
-pub record AreAlike (old new : List (List End)) : Type 0 where
-  pub count : length new ≡ length old
-  pub sizes : (p : ℕ) → length (slice_index_or new p []) ≡ length (slice_index_or old p [])
-  pub same : (p q : ℕ) → end_in new p q ≡ end_in old p q
+-- all are as they were
+abbrev pub AreAlike : List (List End) → List (List End) → Type 0
+AreAlike = AreElsewhere (λ s. ⊥)
 
 -- it goes so, or where memory was refused the ends are the same
 abbrev pub GoesOrStays : {A E : Type 0} → Result A E → (List (List End) → List (List End) → Type 0) → List (List End) → List (List End) → Type 0

@@ -6,61 +6,9 @@ use Rattle.kahn_lane.specs.declared.segments.Sender.{Sender}
 use Rattle.kahn_lane.specs.declared.segments.Receiver.{Receiver}
 use Rattle.kahn_lane.specs.LaneEnds.{sender_lane, receiver_lane, sender_name, receiver_name, flushed, sent, filled, capacity, received, waiting, heard, left}
 use Rattle.kahn_lane.specs.Places.{lane_name}
-use Rattle.kahn_job.specs.inner.Ends.{End}
-use Rattle.kahn_job.specs.inner.Feeding.{Feeding}
+use Rattle.kahn_job.specs.inner.Ends.{End, Feeding}
 use Rattle.kahn_job.specs.declared.port.Way.{Way}
 use Rattle.kahn_job.specs.declared.port.Way.TheVariants as way
-
--- the reader's end of a lane, and how many segments it knew to have left when it was last asked
-abbrev pub taking : Receiver Global → ℕ → End
-taking r asked = record {
-  reads = true;
-  writes = false;
-  lane = Some (receiver_lane r);
-  name = receiver_name r;
-  next = received r;
-  waiting = waiting r;
-  known = heard r;
-  left = left r;
-  asked = asked;
-  flushed = 0;
-  filled = 0;
-  capacity = 0;
-}
-
--- an input channel, whose list is known whole
-abbrev pub feeding : Feeding → End
-feeding f = record {
-  reads = true;
-  writes = false;
-  lane = None;
-  name = Some (lane_name f.network f.input f.channel);
-  next = f.next;
-  waiting = length (inputs_of f.input f.channel) - f.next;
-  known = length (inputs_of f.input f.channel);
-  left = 0;
-  asked = 0;
-  flushed = 0;
-  filled = 0;
-  capacity = 0;
-}
-
--- the writer's end of a lane
-abbrev pub putting : Sender Global → End
-putting s = record {
-  reads = false;
-  writes = true;
-  lane = Some (sender_lane s);
-  name = sender_name s;
-  next = sent s;
-  waiting = 0;
-  known = 0;
-  left = 0;
-  asked = 0;
-  flushed = flushed s;
-  filled = filled s;
-  capacity = capacity s;
-}
 
 -- no end
 abbrev pub no_end : End
@@ -77,6 +25,41 @@ no_end = record {
   flushed = 0;
   filled = 0;
   capacity = 0;
+}
+
+-- the reader's end of a lane, and how many segments it knew to have left when it was last asked
+abbrev pub taking : Receiver Global → ℕ → End
+taking r asked = record no_end {
+  reads = true;
+  lane = Some (receiver_lane r);
+  name = receiver_name r;
+  next = received r;
+  waiting = waiting r;
+  known = heard r;
+  left = left r;
+  asked = asked;
+}
+
+-- an input channel, whose list is known whole
+abbrev pub feeding : Feeding → End
+feeding f = record no_end {
+  reads = true;
+  name = Some (lane_name f.network f.input f.channel);
+  next = f.next;
+  waiting = length (inputs_of f.input f.channel) - f.next;
+  known = length (inputs_of f.input f.channel);
+}
+
+-- the writer's end of a lane
+abbrev pub putting : Sender Global → End
+putting s = record no_end {
+  writes = true;
+  lane = Some (sender_lane s);
+  name = sender_name s;
+  next = sent s;
+  flushed = flushed s;
+  filled = filled s;
+  capacity = capacity s;
 }
 
 abbrev pub end_of : Way → End

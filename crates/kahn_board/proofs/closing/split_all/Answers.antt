@@ -1,4 +1,4 @@
-use Rattle.std.proofs.Common.{arith, length, ap}
+use Rattle.kahn_board.proofs.Common.{arith, length, ap}
 use Rattle.kahn_board.proofs.Joined.{split_one, split_all}
 use Rattle.kahn_board.proofs.closing.split_all.Goals as goal
 

@@ -1,5 +1,4 @@
-use Rattle.std.proofs.Common.{◌≡◌, ◌≤◌, ◌+◌, length}
-use Rattle.std.specs.Vec.{vec_capacity}
+use Rattle.kahn_board.proofs.Common.{◌≡◌, ◌≤◌, ◌+◌, length, vec_capacity}
 use Rattle.kahn_board.proofs.Joined.{Splitting}
 use Rattle.kahn_board.proofs.closing.split_all.Given as goal
 

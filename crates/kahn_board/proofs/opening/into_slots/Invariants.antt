@@ -1,5 +1,4 @@
-use Rattle.std.proofs.Common.{◌≡◌, ◌≤◌, ◌+◌, ◌++◌, length, map, reverse, Some}
-use Rattle.std.specs.Vec.{vec_capacity}
+use Rattle.kahn_board.proofs.Common.{◌≡◌, ◌≤◌, ◌+◌, ◌++◌, length, map, reverse, Some, vec_capacity}
 use Rattle.kahn_board.proofs.opening.into_slots.Given as goal
 
 abbrev pub invariant-loop-cell : goal.invariant-loop-cell

@@ -1,4 +1,4 @@
-use Rattle.std.proofs.Common.{◌≡◌, ℕ, ◌+◌, ◌*◌, ◌<◌, length, slice_index}
+use Rattle.kahn_board.proofs.Common.{◌≡◌, ℕ, ◌+◌, ◌*◌, ◌<◌, length, slice_index}
 use Rattle.kahn_board.proofs.opening.lay_words.Given as goal
 
 abbrev pub invariant-loop-c : goal.invariant-loop-c

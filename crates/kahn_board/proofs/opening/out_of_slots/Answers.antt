@@ -1,4 +1,4 @@
-use Rattle.std.proofs.Common.{rules, ◌++◌, ◌∷◌, [], List, Some, map, reverse, sym, ap, ◌∙◌}
+use Rattle.kahn_board.proofs.Common.{rules, ◌++◌, ◌∷◌, [], List, Some, map, reverse, sym, ap, ◌∙◌}
 use Rattle.kahn_board.proofs.Emptied.{is_full, last_full, one_back}
 use Rattle.kahn_board.proofs.opening.out_of_slots.Goals as goal
 

@@ -1,5 +1,4 @@
-use Rattle.std.proofs.Common.{◌≡◌, ◌≤◌, ◌+◌, ◌++◌, List, length, map, reverse, Some}
-use Rattle.std.specs.Vec.{vec_capacity}
+use Rattle.kahn_board.proofs.Common.{◌≡◌, ◌≤◌, ◌+◌, ◌++◌, List, length, map, reverse, Some, vec_capacity}
 use Rattle.kahn_board.proofs.opening.out_of_slots.Given as goal
 
 abbrev pub invariant-loop-slot : goal.invariant-loop-slot

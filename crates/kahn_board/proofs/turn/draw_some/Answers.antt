@@ -1,5 +1,4 @@
-use Rattle.std.proofs.Common.{arith, ◌∙◌, ◌≡◌, ℕ, suc, ◌+◌, ◌-◌, subst}
-use Rattle.kahn_board.specs.inner.Drawn.{AreLost}
+use Rattle.kahn_board.proofs.Common.{arith, ◌∙◌, ◌≡◌, ℕ, suc, ◌+◌, ◌-◌, subst, AreLost}
 use Rattle.kahn_board.proofs.Drawn.{same_noted_twice}
 use Rattle.kahn_board.proofs.turn.draw_some.Goals as goal
 

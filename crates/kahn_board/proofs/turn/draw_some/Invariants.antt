@@ -1,5 +1,4 @@
-use Rattle.std.proofs.Common.{◌≡◌, ◌-◌}
-use Rattle.kahn_board.specs.inner.Drawn.{AreLost}
+use Rattle.kahn_board.proofs.Common.{◌≡◌, ◌-◌, AreLost}
 use Rattle.kahn_board.proofs.Drawn.{Same}
 use Rattle.kahn_board.proofs.turn.draw_some.Given as goal
 

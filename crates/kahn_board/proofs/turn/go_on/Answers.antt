@@ -1,4 +1,4 @@
-use Rattle.std.proofs.Common.{rules}
+use Rattle.kahn_board.proofs.Common.{rules}
 use Rattle.kahn_board.proofs.Left.{left}
 use Rattle.kahn_board.proofs.turn.go_on.Goals as goal
 

@@ -1,4 +1,4 @@
-use Rattle.std.proofs.Common.{sym, ◌∙◌}
+use Rattle.kahn_board.proofs.Common.{sym, ◌∙◌}
 use Rattle.kahn_board.proofs.Kept.{missed}
 use Rattle.kahn_board.proofs.turn.pick.Goals as goal
 

@@ -1,7 +1,5 @@
-use Rattle.std.proofs.Common.{refl, ap, ◌∙◌}
-use Rattle.kahn_board.specs.Dealt.{belongs, holds, wired}
-use Rattle.kahn_board.specs.Plays.{gave, paid_down}
-use Rattle.kahn_board.proofs.Turns.{was_at}
+use Rattle.kahn_board.proofs.Common.{refl, ap, ◌∙◌, belongs, holds, wired, gave, paid_down}
+use Rattle.kahn_board.proofs.Keeps.{was_at}
 use Rattle.kahn_board.proofs.Kept.{kept_turn, kept_fits}
 use Rattle.kahn_board.proofs.turn.rest_dry.Goals as goal
 

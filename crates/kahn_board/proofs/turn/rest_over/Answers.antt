@@ -1,7 +1,5 @@
-use Rattle.std.proofs.Common.{ap, refl, ◌∙◌}
-use Rattle.kahn_board.specs.Dealt.{holds}
-use Rattle.kahn_board.specs.Plays.{paid_down}
-use Rattle.kahn_board.proofs.Turns.{was_at}
+use Rattle.kahn_board.proofs.Common.{ap, refl, ◌∙◌, holds, paid_down}
+use Rattle.kahn_board.proofs.Keeps.{was_at}
 use Rattle.kahn_board.proofs.turn.rest_over.Goals as goal
 
 pub returns-clause-over : goal.returns-clause-over

@@ -1,6 +1,4 @@
-use Rattle.std.proofs.Common.{◌∙◌, ap, arith}
-use Rattle.kahn_board.specs.Dealt.{belongs, wired}
-use Rattle.kahn_board.specs.Rest.{downs_of}
+use Rattle.kahn_board.proofs.Common.{◌∙◌, ap, arith, belongs, wired, downs_of}
 use Rattle.kahn_board.proofs.Wired.{reader_in, writer_in}
 use Rattle.kahn_board.proofs.Woken.{woken_ready}
 use Rattle.kahn_board.proofs.Passed.{passes, woke}

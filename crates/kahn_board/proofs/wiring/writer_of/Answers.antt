@@ -1,5 +1,4 @@
-use Rattle.std.proofs.Common.{◌<◌, ℕ, sym, ap, subst}
-use Rattle.kahn_streams.specs.declared.sides.Side.{Side}
+use Rattle.kahn_board.proofs.Common.{◌<◌, ℕ, sym, ap, subst, Side}
 use Rattle.kahn_board.proofs.Limits.{counts_are}
 use Rattle.kahn_board.proofs.Sole.{sole_writer, no_writer}
 use Rattle.kahn_board.proofs.wiring.writer_of.Goals as goal

@@ -1,5 +1,4 @@
-use Rattle.std.proofs.Common.{◌≡◌, ◌≤◌, length, take}
-use Rattle.std.specs.Vec.{vec_capacity}
+use Rattle.kahn_job.proofs.Common.{◌≡◌, ◌≤◌, length, take, vec_capacity}
 use Rattle.kahn_job.proofs.copies.copied.Given as goal
 
 abbrev pub invariant-loop-place : goal.invariant-loop-place

@@ -1,5 +1,4 @@
-use Rattle.std.proofs.Common.{◌≡◌, ◌≤◌, length, map, take}
-use Rattle.std.specs.Vec.{vec_capacity}
+use Rattle.kahn_job.proofs.Common.{◌≡◌, ◌≤◌, length, map, take, vec_capacity}
 use Rattle.kahn_job.proofs.copies.kept_of.Given as goal
 
 abbrev pub invariant-loop-parameter : goal.invariant-loop-parameter

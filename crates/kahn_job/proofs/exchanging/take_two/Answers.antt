@@ -1,8 +1,4 @@
-use Rattle.std.proofs.Common.{ap, ◌∙◌, Some}
-use Rattle.kahn_job.specs.inner.Idles.{rows_of}
-use Rattle.kahn_job.specs.inner.Lanes.{end_of_side}
-use Rattle.kahn_job.specs.inner.Openings.{placed}
-use Rattle.kahn_job.specs.inner.Ways.{no_end}
+use Rattle.kahn_job.proofs.Common.{ap, ◌∙◌, Some, rows_of, end_of_side, placed, no_end}
 use Rattle.kahn_job.proofs.Exchanged.{reader_kept}
 use Rattle.kahn_job.proofs.exchanging.take_two.Goals as goal
 

@@ -1,7 +1,4 @@
-use Rattle.std.proofs.Common.{rules, refl, sym, ap, subst, Some}
-use Rattle.kahn_lane.specs.LaneEnds.{receiver_lane}
-use Rattle.kahn_job.specs.inner.Openings.{AreEndsOf}
-use Rattle.kahn_job.specs.inner.Ways.{putting}
+use Rattle.kahn_job.proofs.Common.{rules, refl, sym, ap, subst, Some, receiver_lane, AreEndsOf, putting}
 use Rattle.kahn_job.proofs.Handed.{inner_is_not_input}
 use Rattle.kahn_job.proofs.handing.ends_of.Goals as goal
 

@@ -1,6 +1,4 @@
-use Rattle.std.proofs.Common.{◌+◌, sym, ap, ◌∙◌, subst}
-use Rattle.kahn_job.specs.inner.Idles.{rows_of}
-use Rattle.kahn_job.specs.inner.Openings.{AreHanded, placed}
+use Rattle.kahn_job.proofs.Common.{◌+◌, sym, ap, ◌∙◌, subst, rows_of, AreHanded, placed}
 use Rattle.kahn_job.proofs.Handed.{handed_more}
 use Rattle.kahn_job.proofs.handing.hand.Goals as goal
 

@@ -1,6 +1,4 @@
-use Rattle.std.proofs.Common.{◌≡◌}
-use Rattle.kahn_job.specs.inner.Idles.{cells_of, rows_of}
-use Rattle.kahn_job.specs.inner.Openings.{AreHanded}
+use Rattle.kahn_job.proofs.Common.{◌≡◌, cells_of, rows_of, AreHanded}
 use Rattle.kahn_job.proofs.handing.hand_each.Given as goal
 
 abbrev pub invariant-loop-channel : goal.invariant-loop-channel

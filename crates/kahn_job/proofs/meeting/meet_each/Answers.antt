@@ -1,8 +1,4 @@
-use Rattle.std.proofs.Common.{arith, ⊎_elim, sym, subst}
-use Rattle.kahn_streams.specs.Network.{network_of}
-use Rattle.kahn_streams.proofs.Sourced.{reads_listed}
-use Rattle.kahn_job.specs.inner.Idles.{rows_of}
-use Rattle.kahn_job.specs.inner.Lanes.{AreBehindOn}
+use Rattle.kahn_job.proofs.Common.{arith, ⊎_elim, sym, subst, network_of, reads_listed, rows_of, AreBehindOn}
 use Rattle.kahn_job.proofs.Idles.{met_self, met_then}
 use Rattle.kahn_job.proofs.Meeting_ends.{behind_before, rests_met}
 use Rattle.kahn_job.proofs.Settles.{below_or}

@@ -1,7 +1,4 @@
-use Rattle.std.proofs.Common.{ℕ, ◌<◌}
-use Rattle.kahn_streams.specs.Network.{network_of}
-use Rattle.kahn_job.specs.inner.Idles.{HaveMet, rows_of}
-use Rattle.kahn_job.specs.inner.Lanes.{AreBehindOn}
+use Rattle.kahn_job.proofs.Common.{ℕ, ◌<◌, network_of, HaveMet, rows_of, AreBehindOn}
 use Rattle.kahn_job.proofs.meeting.meet_each.Given as goal
 
 abbrev pub invariant-loop-channel : goal.invariant-loop-channel

@@ -1,6 +1,4 @@
-use Rattle.kahn_streams.specs.Network.{network_of}
-use Rattle.kahn_job.specs.inner.Ends.{IsBehind}
-use Rattle.kahn_job.specs.inner.Idles.{rows_of}
+use Rattle.kahn_job.proofs.Common.{network_of, IsBehind, rows_of}
 use Rattle.kahn_job.proofs.Settles.{may_meet, none_reads, none_writes, on_only}
 use Rattle.kahn_job.proofs.meeting.meet_on.Goals as goal
 

@@ -1,9 +1,4 @@
-use Rattle.std.proofs.Common.{arith, sym, ap, ◌∙◌, subst, Some}
-use Rattle.kahn_job.specs.inner.Berths.{HasStayed}
-use Rattle.kahn_job.specs.inner.Ends.{IsBehind, MayMeet}
-use Rattle.kahn_job.specs.inner.Idles.{rows_of}
-use Rattle.kahn_job.specs.inner.Lanes.{HaveStayed, end_of_side}
-use Rattle.kahn_job.specs.inner.Openings.{placed}
+use Rattle.kahn_job.proofs.Common.{arith, sym, ap, ◌∙◌, subst, Some, HasStayed, IsBehind, MayMeet, rows_of, HaveStayed, end_of_side, placed}
 use Rattle.kahn_job.proofs.Exchanged.{stayed}
 use Rattle.kahn_job.proofs.meeting.meet_sides.Goals as goal
 

@@ -1,6 +1,4 @@
-use Rattle.std.proofs.Common.{◌≡◌, ◌≤◌, length, replicate}
-use Rattle.std.specs.Vec.{vec_capacity}
-use Rattle.kahn_job.specs.inner.Ways.{no_end}
+use Rattle.kahn_job.proofs.Common.{◌≡◌, ◌≤◌, length, replicate, vec_capacity, no_end}
 use Rattle.kahn_job.proofs.opening.bare_job.Given as goal
 
 abbrev pub invariant-loop : goal.invariant-loop

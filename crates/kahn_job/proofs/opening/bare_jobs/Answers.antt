@@ -1,6 +1,4 @@
-use Rattle.std.proofs.Common.{arith}
-use Rattle.kahn_code.proofs.Lists.{none_first, one_first}
-use Rattle.kahn_job.specs.inner.Openings.{HasNoEnds}
+use Rattle.kahn_job.proofs.Common.{arith, none_first, one_first, HasNoEnds}
 use Rattle.kahn_job.proofs.opening.bare_jobs.Goals as goal
 
 pub loop-instance-init : goal.loop-instance-init

@@ -1,5 +1,4 @@
-use Rattle.kahn_code.proofs.Lists.{AreFirst}
-use Rattle.kahn_job.specs.inner.Openings.{HasNoEnds}
+use Rattle.kahn_job.proofs.Common.{AreFirst, HasNoEnds}
 use Rattle.kahn_job.proofs.opening.bare_jobs.Given as goal
 
 abbrev pub invariant-loop-instance : goal.invariant-loop-instance

@@ -1,4 +1,4 @@
-use Rattle.kahn_lane.specs.LaneEnds.{left}
+use Rattle.kahn_job.proofs.Common.{left}
 use Rattle.kahn_job.proofs.port.left_of.Given as goal
 
 abbrev pub ghost-named_count : goal.ghost-named_count

@@ -1,4 +1,4 @@
-use Rattle.kahn_job.specs.inner.Berths.{HaveFlushed}
+use Rattle.kahn_job.proofs.Common.{HaveFlushed}
 use Rattle.kahn_job.proofs.Berthed.{UpTo}
 use Rattle.kahn_job.proofs.ports.flush_all.Given as goal
 

@@ -1,6 +1,4 @@
-use Rattle.std.proofs.Common.{arith, ◌≡◌, length, refl, ◌∙◌, subst}
-use Rattle.kahn_streams.specs.Network.{network_of}
-use Rattle.kahn_job.specs.inner.Idles.{rows_of}
+use Rattle.kahn_job.proofs.Common.{arith, ◌≡◌, length, refl, ◌∙◌, subst, network_of, rows_of}
 use Rattle.kahn_job.proofs.Idles.{all_settled}
 use Rattle.kahn_job.proofs.Settles.{AreGoing, going_first, going_on, rests_alike, stood_alike}
 use Rattle.kahn_job.proofs.settling.settle.Goals as goal

@@ -1,5 +1,4 @@
-use Rattle.std.proofs.Common.{◌≡◌}
-use Rattle.kahn_job.specs.inner.Idles.{cells_of, rows_of}
+use Rattle.kahn_job.proofs.Common.{◌≡◌, cells_of, rows_of}
 use Rattle.kahn_job.proofs.Settles.{AreGoing}
 use Rattle.kahn_job.proofs.settling.settle.Given as goal
 

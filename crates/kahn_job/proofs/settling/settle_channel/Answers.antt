@@ -1,6 +1,4 @@
-use Rattle.std.proofs.Common.{subst}
-use Rattle.kahn_streams.specs.Network.{network_of, IsOnly, IsReader, IsWriter}
-use Rattle.kahn_job.specs.inner.Idles.{rows_of}
+use Rattle.kahn_job.proofs.Common.{subst, network_of, IsOnly, IsReader, IsWriter, rows_of}
 use Rattle.kahn_job.proofs.Settles.{can_feed, can_settle, feed_settled, lane_or, output_settled}
 use Rattle.kahn_job.proofs.settling.settle_channel.Goals as goal
 

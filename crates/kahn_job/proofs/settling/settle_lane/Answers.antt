@@ -1,9 +1,4 @@
-use Rattle.std.proofs.Common.{sym, ap, ◌∙◌, subst, Some}
-use Rattle.kahn_lane.specs.Places.{moved_to}
-use Rattle.kahn_job.specs.inner.Idles.{rows_of}
-use Rattle.kahn_job.specs.inner.Lanes.{end_of_side}
-use Rattle.kahn_job.specs.inner.Openings.{placed}
-use Rattle.kahn_job.specs.inner.Settling.{AreAlike, CanSettle, HasSettled, HaveExchanged}
+use Rattle.kahn_job.proofs.Common.{sym, ap, ◌∙◌, subst, Some, moved_to, rows_of, end_of_side, placed, AreAlike, CanSettle, HasSettled, HaveExchanged}
 use Rattle.kahn_job.proofs.Exchanged.{alike, exchanged}
 use Rattle.kahn_job.proofs.settling.settle_lane.Goals as goal
 

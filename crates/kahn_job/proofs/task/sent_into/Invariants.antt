@@ -1,5 +1,4 @@
-use Rattle.std.proofs.Common.{◌≡◌, length, take}
-use Rattle.kahn_streams.specs.Network.{network_of, instance_at}
+use Rattle.kahn_job.proofs.Common.{◌≡◌, length, take, network_of, instance_at}
 use Rattle.kahn_job.proofs.task.sent_into.Given as goal
 
 abbrev pub invariant-loop-parameter : goal.invariant-loop-parameter

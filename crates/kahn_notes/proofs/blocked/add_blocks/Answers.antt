@@ -4,7 +4,7 @@ use Rattle.kahn_notes.proofs.blocked.add_blocks.Goals as goal
 
 pub loop-number-preserved : goal.loop-number-preserved
 loop-number-preserved c =
-    grind (arith, common_steps, c.loop-number.invariant, c.begin_words.ensures, c.in_ok-push_str.ensures.bytes, c.in_ok-add_at.ensures, c.separator.ensures, c.in_ok-push_str-2.ensures.bytes)
+    grind (arith, common_steps, c.loop-number.invariant, c.begin_words.ensures, c.in_ok-push_str.ensures.bytes, c.in_ok-add_spot.ensures, c.separator.ensures, c.in_ok-push_str-2.ensures.bytes)
 
 pub returns : goal.returns
 returns c = grind (arith, common_steps, c.loop-number.invariant)

@@ -1,5 +1,4 @@
-use Rattle.std.proofs.Common.{arith}
-use Rattle.kahn_board.specs.Dealt.{belongs, dealt, wired}
+use Rattle.kahn_board.proofs.Common.{arith, belongs, dealt, wired}
 use Rattle.kahn_board.proofs.Reseats.{joins}
 use Rattle.kahn_board.proofs.Seats.{empty_handed}
 use Rattle.kahn_board.proofs.board.Board.join.Goals as goal

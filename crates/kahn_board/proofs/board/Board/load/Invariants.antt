@@ -1,5 +1,4 @@
-use Rattle.kahn_board.specs.Plays.{at_moment}
-use Rattle.kahn_board.specs.Dealt.{holds}
+use Rattle.kahn_board.proofs.Common.{at_moment, holds}
 use Rattle.kahn_board.proofs.board.Board.load.Given as goal
 
 abbrev pub ghosts-load : goal.ghosts-load

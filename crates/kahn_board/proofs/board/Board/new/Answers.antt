@@ -1,11 +1,4 @@
-use Rattle.std.proofs.Common.{◌≡◌, ℕ, ◌+◌, ◌*◌, get_or, Option, Some, List, length, arith, sym, ap, ◌∙◌, subst}
-use Rattle.std.proofs.lemmas.List.{length-map}
-use Rattle.atomic_table.specs.Table.{opening}
-use Rattle.kahn_streams.specs.declared.tree.Program.{Program}
-use Rattle.kahn_board.specs.Wires.{wires}
-use Rattle.kahn_board.specs.Rule.{Whole, opening_view, published}
-use Rattle.kahn_board.specs.Dealt.{wired, events_told}
-use Rattle.kahn_board.specs.inner.First.{AreFirstWords}
+use Rattle.kahn_board.proofs.Common.{◌≡◌, ℕ, ◌+◌, ◌*◌, get_or, Option, Some, List, length, arith, sym, ap, ◌∙◌, subst, length-map, opening, Program, wires, Whole, opening_view, published, wired, events_told, AreFirstWords}
 use Rattle.kahn_board.proofs.Opens.{given, opens, map_some_once}
 use Rattle.kahn_board.proofs.board.Board.new.Goals as goal
 

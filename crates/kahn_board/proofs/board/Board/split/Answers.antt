@@ -1,5 +1,4 @@
-use Rattle.std.proofs.Common.{rules, arith}
-use Rattle.kahn_board.specs.Dealt.{belongs, dealt, wired}
+use Rattle.kahn_board.proofs.Common.{rules, arith, belongs, dealt, wired}
 use Rattle.kahn_board.proofs.Reseats.{splits}
 use Rattle.kahn_board.proofs.board.Board.split.Goals as goal
 

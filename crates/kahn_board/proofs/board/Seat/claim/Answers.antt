@@ -1,6 +1,4 @@
-use Rattle.std.proofs.Common.{rules, arith}
-use mathlib.Core.Option.{none}
-use Rattle.kahn_board.specs.Dealt.{belongs, wired}
+use Rattle.kahn_board.proofs.Common.{rules, arith, none, belongs, wired}
 use Rattle.kahn_board.proofs.Steps.{claims_at}
 use Rattle.kahn_board.proofs.Returns.{claimed_here}
 use Rattle.kahn_board.proofs.Placed.{placed}
@@ -11,17 +9,17 @@ pub compare_exchange-found-requires : goal.compare_exchange-found-requires
 compare_exchange-found-requires g c = let b = c.args.board.now in (
   search rules,
   omega (arith, b.sized.0, c.requires.1),
-  claims_at _ _ _ _ _ _ _ c.args.p _ none (placed g.T.Told.told b c.args.self.now c.requires.0) (omega (arith, b.counts.0, c.requires.1)) (omega arith),
+  claims_at _ _ _ _ _ _ _ c.args.p _ none (placed b c.args.self.now c.requires.0) (omega (arith, b.counts.0, c.requires.1)) (omega arith),
 )
 
 pub push_front_reserved-requires : goal.push_front_reserved-requires
 push_front_reserved-requires g c = let me = c.args.self.now in let k = c.args.board.now.table.shared.key in let told = g.T.Told.told in let w = wired k in
     let got = (claimed_here told (belongs g.T.Told.after k) w c.args.self.now.seat.me _ c.args.p _ c.compare_exchange-found.ensures.2.0).0 c.if-found-ne0.false in
-    omega (arith, me.held.ok.0, room_for told w me.seat.me me.seat.table_id _ _ c.args.p me.facts got.1.4 (search rules))
+    omega (arith, me.held.ok.0, room_for me.seat.me me.seat.table_id _ _ c.args.p me.facts got.1.4 (search rules))
 
 pub invariant_of-self : goal.invariant_of-self
 invariant_of-self g c = let me = c.args.self.now in let k = c.args.board.now.table.shared.key in let told = g.T.Told.told in let w = wired k in let e = c.compare_exchange-found.ensures in
-    record { facts = facts_noted told w me.seat.me _ _ _ _ _ me.facts e.0 ((claimed_here told (belongs g.T.Told.after k) w c.args.self.now.seat.me _ c.args.p _ e.2.0).1 c.if-found-ne0.true) }
+    record { facts = facts_noted me.seat.me _ _ _ _ _ me.facts e.0 ((claimed_here told (belongs g.T.Told.after k) w c.args.self.now.seat.me _ c.args.p _ e.2.0).1 c.if-found-ne0.true) }
 
 pub returns-then-found-ne0 : goal.returns-then-found-ne0
 returns-then-found-ne0 g c = let e = c.compare_exchange-found.ensures in let k = c.args.board.now.table.shared.key in

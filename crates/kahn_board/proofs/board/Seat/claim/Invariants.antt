@@ -1,6 +1,4 @@
-use Rattle.std.proofs.Common.{◌/◌}
-use Rattle.kahn_board.specs.Plays.{claimed}
-use Rattle.kahn_board.specs.Dealt.{belongs, wired}
+use Rattle.kahn_board.proofs.Common.{◌/◌, claimed, belongs, wired}
 use Rattle.kahn_board.proofs.board.Seat.claim.Given as goal
 
 abbrev pub ghosts-compare_exchange : goal.ghosts-compare_exchange

@@ -1,7 +1,6 @@
-use Rattle.std.proofs.Common.{rules, arith, refl}
-use Rattle.kahn_board.specs.Dealt.{holds}
+use Rattle.kahn_board.proofs.Common.{rules, arith, refl, holds}
 use Rattle.kahn_board.proofs.Hot.{counts_down}
-use Rattle.kahn_board.proofs.Turns.{was_at}
+use Rattle.kahn_board.proofs.Keeps.{was_at}
 use Rattle.kahn_board.proofs.Placed.{placed}
 use Rattle.kahn_board.proofs.board.Seat.count_down.Goals as goal
 
@@ -9,7 +8,7 @@ pub fetch_sub-requires : goal.fetch_sub-requires
 fetch_sub-requires g c = let b = c.args.board.now in (
   search rules,
   omega (arith, b.sized.0),
-  counts_down _ _ _ _ _ _ _ _ (placed g.T.Told.told b c.args.self.now c.requires.board) (omega (arith, b.counts.0, b.counts.1)) c.requires.owes,
+  counts_down _ _ _ _ _ _ _ _ (placed b c.args.self.now c.requires.board) (omega (arith, b.counts.0, b.counts.1)) c.requires.owes,
 )
 
 pub returns : goal.returns

@@ -1,4 +1,4 @@
-use Rattle.std.proofs.Common.{rules, arith}
+use Rattle.kahn_board.proofs.Common.{rules, arith}
 use Rattle.kahn_board.proofs.Hot.{counts_up}
 use Rattle.kahn_board.proofs.Placed.{placed}
 use Rattle.kahn_board.proofs.board.Seat.count_up.Goals as goal
@@ -7,5 +7,5 @@ pub fetch_add-requires : goal.fetch_add-requires
 fetch_add-requires g c = let b = c.args.board.now in (
   search rules,
   omega (arith, b.sized.0),
-  counts_up _ _ _ _ _ _ _ _ (placed g.T.Told.told b c.args.self.now c.requires.board) (omega (arith, b.counts.0, b.counts.1)) (omega (arith, b.counts.0, b.limits.0)) c.requires.owes,
+  counts_up _ _ _ _ _ _ _ _ (placed b c.args.self.now c.requires.board) (omega (arith, b.counts.0, b.counts.1)) (omega (arith, b.counts.0, b.limits.0)) c.requires.owes,
 )

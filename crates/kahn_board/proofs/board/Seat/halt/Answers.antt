@@ -1,4 +1,4 @@
-use Rattle.std.proofs.Common.{rules, refl, arith}
+use Rattle.kahn_board.proofs.Common.{rules, refl, arith}
 use Rattle.kahn_board.proofs.Hot.{stops}
 use Rattle.kahn_board.proofs.Placed.{placed}
 use Rattle.kahn_board.proofs.board.Seat.halt.Goals as goal
@@ -7,5 +7,5 @@ pub store-requires : goal.store-requires
 store-requires g c = let b = c.args.board.now in (
   search rules,
   omega (arith, b.sized.0),
-  stops _ _ _ _ _ _ _ _ _ (placed g.T.Told.told b c.args.self.now c.requires.board) (omega (arith, b.counts.0, b.counts.1)) refl,
+  stops _ _ _ _ _ _ _ _ _ (placed b c.args.self.now c.requires.board) (omega (arith, b.counts.0, b.counts.1)) refl,
 )

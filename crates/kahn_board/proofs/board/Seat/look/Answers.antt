@@ -1,8 +1,6 @@
-use Rattle.std.proofs.Common.{rules, ◌≡◌, refl, sym, arith, ap, ◌∙◌}
-use Rattle.kahn_board.specs.Dealt.{holds}
-use Rattle.kahn_board.specs.Plays.{noted_view}
+use Rattle.kahn_board.proofs.Common.{rules, ◌≡◌, refl, sym, arith, ap, ◌∙◌, holds, noted_view}
 use Rattle.kahn_board.proofs.Hot.{looks_halted, looks_count, looks_budget}
-use Rattle.kahn_board.proofs.Turns.{was_at}
+use Rattle.kahn_board.proofs.Keeps.{was_at}
 use Rattle.kahn_board.proofs.Placed.{placed, noted}
 use Rattle.kahn_board.proofs.board.Seat.look.Goals as goal
 
@@ -10,21 +8,21 @@ pub load-requires : goal.load-requires
 load-requires g c = let b = c.args.board.now in (
   search rules,
   omega (arith, b.sized.0),
-  looks_halted _ _ _ _ _ _ _ _ (placed g.T.Told.told b c.args.self.now c.requires.board) (omega (arith, b.counts.0, b.counts.1)),
+  looks_halted _ _ _ _ _ _ _ _ (placed b c.args.self.now c.requires.board) (omega (arith, b.counts.0, b.counts.1)),
 )
 
 pub load-requires-2 : goal.load-requires-2
 load-requires-2 g c = let b = c.args.board.now in let z = c.load.ensures.2.0.1 c.if-load-ne0.false in (
   search rules,
   omega (arith, b.sized.0),
-  looks_count _ _ _ _ _ _ _ _ (noted g.T.Told.told _ _ _ z.1 (placed _ b c.args.self.now c.requires.board)) (λ two. z.0 (ap (λ k. k.0.seen) (sym z.1) ∙ two)) (omega (arith, b.counts.0, b.counts.1)),
+  looks_count _ _ _ _ _ _ _ _ (noted _ _ _ z.1 (placed b c.args.self.now c.requires.board)) (λ two. z.0 (ap (λ k. k.0.seen) (sym z.1) ∙ two)) (omega (arith, b.counts.0, b.counts.1)),
 )
 
 pub load-requires-3 : goal.load-requires-3
 load-requires-3 g c = let b = c.args.board.now in let z = c.load.ensures.2.0.1 c.if-load-ne0.false in let z' = c.load-2.ensures.2.0.1 c.if-load-eq0.false in (
   search rules,
   omega (arith, b.sized.0),
-  looks_budget _ _ _ _ _ _ _ _ (noted g.T.Told.told _ _ _ z'.1 (noted _ _ _ _ z.1 (placed _ b c.args.self.now c.requires.board))) (omega (arith, b.counts.0, b.counts.1)),
+  looks_budget _ _ _ _ _ _ _ _ (noted _ _ _ z'.1 (noted _ _ _ z.1 (placed b c.args.self.now c.requires.board))) (omega (arith, b.counts.0, b.counts.1)),
 )
 
 pub returns-else-load-eq0-2 : goal.returns-else-load-eq0-2

@@ -1,7 +1,4 @@
-use Rattle.std.proofs.Common.{rules, ◌≡◌, true≢false, ap, ◌∙◌, subst, refl, arith}
-use mathlib.Core.Option.{none}
-use Rattle.kahn_board.specs.Dealt.{wired}
-use Rattle.kahn_board.specs.Plays.{TheFirst, GaveUp, first_of}
+use Rattle.kahn_board.proofs.Common.{rules, ◌≡◌, true≢false, ap, ◌∙◌, subst, refl, arith, none, wired, TheFirst, GaveUp, first_of}
 use Rattle.kahn_board.proofs.Returns.{gave_up}
 use Rattle.kahn_board.proofs.Owed.{brought, parks_at}
 use Rattle.kahn_board.proofs.board.Seat.park.Goals as goal

@@ -1,5 +1,4 @@
-use Rattle.kahn_board.specs.Plays.{parked_or_not, first_of}
-use Rattle.kahn_board.specs.Dealt.{wired}
+use Rattle.kahn_board.proofs.Common.{parked_or_not, first_of, wired}
 use Rattle.kahn_board.proofs.board.Seat.park.Given as goal
 
 abbrev pub ghosts-compare_exchange : goal.ghosts-compare_exchange

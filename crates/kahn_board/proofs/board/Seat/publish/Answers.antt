@@ -1,19 +1,16 @@
-use Rattle.std.proofs.Common.{rules, Some, ◌≡◌, ap, refl, arith, ◌%◌, ◌∙◌}
-use Rattle.kahn_board.specs.Dealt.{belongs, wired}
+use Rattle.kahn_board.proofs.Common.{rules, Some, ◌≡◌, ap, refl, arith, ◌%◌, ◌∙◌, belongs, wired, waking, TableId}
 use Rattle.kahn_board.proofs.Owed.{publishes_at}
 use Rattle.kahn_board.proofs.Returns.{woke}
 use Rattle.kahn_board.proofs.Wired.{reader_in, writer_in}
 use Rattle.kahn_board.proofs.Placed.{placed}
 use Rattle.kahn_board.proofs.Seats.{room_for, facts_took, facts_waking}
-use Rattle.kahn_board.specs.Plays.{waking}
-use Rattle.atomic_table.specs.Seated.{TableId}
 use Rattle.kahn_board.proofs.board.Seat.publish.Goals as goal
 
 pub swap-found-requires : goal.swap-found-requires
 swap-found-requires g c = let b = c.args.board.now in let k = b.table.shared.key in let few = c.requires.few in let writer = c.requires.writer in (
   search rules,
   omega (arith, few.0, b.sized.0),
-  publishes_at _ _ _ _ _ _ _ c.args.channel _ _ writer.0 c.args.count _ (placed g.T.Told.told b c.args.self.now c.requires.board) (omega (arith, b.counts.0)) (omega (arith, b.counts.0)) (omega (arith, few.0, b.counts.1)) writer.1
+  publishes_at _ _ _ _ _ _ _ c.args.channel _ _ writer.0 c.args.count _ (placed b c.args.self.now c.requires.board) (omega (arith, b.counts.0)) (omega (arith, b.counts.0)) (omega (arith, few.0, b.counts.1)) writer.1
       (writer_in k.network.value _ _ writer.1) writer.2 (reader_in k.network.value c.args.channel) (omega (arith, b.counts.0)),
 )
 
@@ -24,7 +21,7 @@ reader-reader-requires g c = let b = c.args.board.now in let k = b.table.shared.
 pub push_front_reserved-requires : goal.push_front_reserved-requires
 push_front_reserved-requires g c = let b = c.args.board.now in let k = b.table.shared.key in let me = c.args.self.now in
     let odd : c.swap-found.result % 2 ≡ 1 = (let ne = c.if-found-eq0.false in omega arith) in let t = c.swap-found.ensures.2.1 odd in let inside = reader_in k.network.value _ _ t.3 in
-    omega (arith, me.held.ok.0, room_for g.T.Told.told (wired k) me.seat.me me.seat.table_id _ _ t.0 me.facts t.6.4 (omega (arith, inside, b.counts.0, b.sized.1, ap (λ (z : TableId). z.slots) c.requires.board)))
+    omega (arith, me.held.ok.0, room_for me.seat.me me.seat.table_id _ _ t.0 me.facts t.6.4 (omega (arith, inside, b.counts.0, b.sized.1, ap (λ (z : TableId). z.slots) c.requires.board)))
 
 pub invariant_of-self-2 : goal.invariant_of-self-2
 invariant_of-self-2 g c = let b = c.args.board.now in let k = b.table.shared.key in let own = belongs g.T.Told.after k in let w = wired k in let f = c.swap-found.ensures in let told = g.T.Told.told in let me = c.args.self.now in
@@ -33,7 +30,7 @@ invariant_of-self-2 g c = let b = c.args.board.now in let k = b.table.shared.key
     let t = woke told own w _ me.seat.me c.swap-found.new.seat.me _ c.args.channel c.swap-found.result c.reader-reader.result c.args.count (omega (arith, b.counts.0)) f.2 odd refl reads in
     let inside = reader_in k.network.value c.args.channel c.reader-reader.result reads in record {
       facts = facts_took told own w (waking me.seat.me.0 c.args.channel c.args.count c.reader-reader.result t.0, me.seat.me.1) c.swap-found.new.seat.me me.seat.table_id _ me.held.items _ _ _ _ t.1
-          (facts_waking told w me.seat.me me.seat.table_id me.held.items _ c.args.channel c.args.count c.reader-reader.result t.0 me.facts) f.0 t.4 c.push_front_reserved.ensures.items c.push_front_reserved.ensures.capacity
+          (facts_waking me.seat.me me.seat.table_id me.held.items _ c.args.channel c.args.count c.reader-reader.result t.0 me.facts) f.0 t.4 c.push_front_reserved.ensures.items c.push_front_reserved.ensures.capacity
           (omega (arith, inside, b.counts.0, b.sized.1, ap (λ (z : TableId). z.slots) c.requires.board));
     }
 

@@ -1,6 +1,4 @@
-use Rattle.std.proofs.Common.{◌-◌, ◌/◌}
-use Rattle.kahn_board.specs.Plays.{publishes}
-use Rattle.kahn_board.specs.Dealt.{belongs, wired}
+use Rattle.kahn_board.proofs.Common.{◌-◌, ◌/◌, publishes, belongs, wired}
 use Rattle.kahn_board.proofs.board.Seat.publish.Given as goal
 
 abbrev pub ghosts-swap : goal.ghosts-swap

@@ -1,7 +1,4 @@
-use Rattle.std.proofs.Common.{rules, ◌≡◌, ℕ, ◌*◌, ◌/◌, ap, ◌∙◌, subst, arith}
-use Rattle.kahn_board.specs.Dealt.{wired}
-use Rattle.kahn_board.specs.Plays.{TheFirst, GaveUp}
-use Rattle.kahn_board.specs.Rest.{downs_of}
+use Rattle.kahn_board.proofs.Common.{rules, ◌≡◌, ℕ, ◌*◌, ◌/◌, ap, ◌∙◌, subst, arith, wired, TheFirst, GaveUp, downs_of}
 use Rattle.kahn_board.proofs.Returns.{gave_up}
 use Rattle.kahn_board.proofs.Owed.{brought, readies, ends}
 use Rattle.kahn_board.proofs.board.Seat.set_down.Goals.{in-Ready, in-Over}

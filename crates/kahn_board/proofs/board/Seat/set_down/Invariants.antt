@@ -1,6 +1,4 @@
-use Rattle.std.proofs.Common.{◌/◌}
-use Rattle.kahn_board.specs.Plays.{set_down}
-use Rattle.kahn_board.specs.Dealt.{wired}
+use Rattle.kahn_board.proofs.Common.{◌/◌, set_down, wired}
 use Rattle.kahn_board.proofs.board.Seat.set_down.Given as goal
 
 abbrev pub ghosts-store : goal.ghosts-store

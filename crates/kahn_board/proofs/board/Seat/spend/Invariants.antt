@@ -1,4 +1,4 @@
-use Rattle.kahn_board.specs.Plays.{uses}
+use Rattle.kahn_board.proofs.Common.{uses}
 use Rattle.kahn_board.proofs.board.Seat.spend.Given as goal
 
 abbrev pub ghosts-load_for : goal.ghosts-load_for

@@ -1,4 +1,4 @@
-use Rattle.std.proofs.Common.{rules, ◌≤◌, ◌<◌, ℕ, ◌∙◌, subst, sym}
+use Rattle.kahn_board.proofs.Common.{rules, ◌≤◌, ◌<◌, ℕ, ◌∙◌, subst, sym}
 use Rattle.kahn_board.proofs.Limits.{counts_are, few_instances, few_channels}
 use Rattle.kahn_board.proofs.wiring.Wiring.of.Goals as goal
 

@@ -1,6 +1,4 @@
-use Rattle.std.proofs.Common.{◌≡◌, ◌<◌, ℕ, length, slice_index_or, None}
-use Rattle.std.specs.Vec.{vec_capacity}
-use Rattle.kahn_board.specs.Wires.{wires}
+use Rattle.kahn_board.proofs.Common.{◌≡◌, ◌<◌, ℕ, length, slice_index_or, None, vec_capacity, wires}
 use Rattle.kahn_board.proofs.wiring.Wiring.of.Given as goal
 
 abbrev pub invariant-loop-channel : goal.invariant-loop-channel

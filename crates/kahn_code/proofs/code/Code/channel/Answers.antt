@@ -1,13 +1,10 @@
-use Rattle.std.proofs.Common.{sym, ◌∙◌}
+use Rattle.std.proofs.Common.{None, Some}
 use Rattle.kahn_code.proofs.Common.{network_of}
 use Rattle.kahn_code.proofs.Uses.{routed}
 use Rattle.kahn_code.proofs.code.Code.channel.Goals as goal
 
-pub returns-in-Reads : goal.returns-in-Reads
-returns-in-Reads g c = routed (network_of c.args.self.now.network.value) _ (sym c.in-Reads.is ∙ c.use_at.ensures _ _ c.body.ensures)
+pub returns-in-Some : goal.returns-in-Some
+returns-in-Some g c = routed (network_of c.args.self.now.network.value) _ c.use_at-found.result (Some c.in-Some.field-0) (c.use_at-found.ensures _ _ c.body.ensures) c.in-Some.is
 
-pub returns-in-Writes : goal.returns-in-Writes
-returns-in-Writes g c = routed (network_of c.args.self.now.network.value) _ (sym c.in-Writes.is ∙ c.use_at.ensures _ _ c.body.ensures)
-
-pub returns-in-Value : goal.returns-in-Value
-returns-in-Value g c = routed (network_of c.args.self.now.network.value) _ (sym c.in-Value.is ∙ c.use_at.ensures _ _ c.body.ensures)
+pub returns-in-None : goal.returns-in-None
+returns-in-None g c = routed (network_of c.args.self.now.network.value) _ c.use_at-found.result None (c.use_at-found.ensures _ _ c.body.ensures) c.in-None.is

@@ -1,5 +1,4 @@
-use Rattle.std.proofs.Common.{ap, subst}
-use Rattle.kahn_job.specs.inner.Ends.{IsSame}
+use Rattle.kahn_job.proofs.Common.{ap, subst, IsSame}
 use Rattle.kahn_job.proofs.Berthed.{identities_written}
 use Rattle.kahn_job.proofs.ports.EndsPorts.put.Goals as goal
 

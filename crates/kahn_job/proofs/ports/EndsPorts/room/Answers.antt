@@ -1,6 +1,5 @@
+use Rattle.kahn_job.proofs.Common.{HasRoom, IsSame, ap, subst}
 use Rattle.std.specs.Prelude.{OnErr}
-use Rattle.kahn_job.specs.inner.Ends.{HasRoom, IsSame}
-use Rattle.std.proofs.Common.{ap, subst}
 use Rattle.kahn_job.proofs.Berthed.{identities_written, written_at}
 use Rattle.kahn_job.proofs.ports.EndsPorts.room.Goals as goal
 

@@ -1,7 +1,4 @@
-use Rattle.std.proofs.Common.{ℕ, List, sym, ap, ◌∙◌, subst}
-use Rattle.kahn_job.specs.inner.Ends.{Identity}
-use Rattle.kahn_job.specs.inner.Tasks.{Continues, Tasked}
-use Rattle.kahn_job.specs.inner.Works.{HasPaused}
+use Rattle.kahn_job.proofs.Common.{ℕ, List, sym, ap, ◌∙◌, subst, Identity, Continues, Tasked, HasPaused}
 use Rattle.kahn_job.proofs.Berthed.{advanced}
 use Rattle.kahn_job.proofs.Manned.{ran, same_cell}
 use Rattle.kahn_job.proofs.Trues.{same_width, true_after}

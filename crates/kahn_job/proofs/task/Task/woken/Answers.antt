@@ -1,7 +1,4 @@
-use Rattle.std.proofs.Common.{sym, subst}
-use Rattle.kahn_streams.specs.Solution.{AreInputsExtended}
-use Rattle.kahn_streams.specs.Inputs.{inputs_of}
-use Rattle.kahn_job.specs.inner.Works.{Work}
+use Rattle.kahn_job.proofs.Common.{sym, subst, AreInputsExtended, inputs_of, Work}
 use Rattle.kahn_job.proofs.task.Task.woken.Goals as goal
 
 pub grown-cell-requires : goal.grown-cell-requires

@@ -1,9 +1,0 @@
--- The channels so far.
-use Rattle.std.proofs.Common.{◌≡◌, ◌++◌, flat_map, map, take}
-use Rattle.kahn_hints.specs.Names.{kept}
-use Rattle.kahn_hints.specs.declared.names.Sort.TheVariants as sort
-use Rattle.kahn_hints.proofs.names.add_globals.Given as goal
-
-abbrev pub invariant-loop-channel : goal.invariant-loop-channel
-invariant-loop-channel l =
-    map (λ n. n.now) l.names.items ≡ map (λ n. n.now) l.initial.names.items ++ flat_map (kept l.asked sort.Channel) (take l.channel-index l.channel-items)
