@@ -1,5 +1,5 @@
 -- The steps on the words budget, count and halted.
-use Rattle.kahn_board.proofs.Common.{◌≡◌, ℕ, ◌+◌, ◌-◌, ◌*◌, ◌%◌, ◌^◌, ◌<◌, ◌≤◌, ◌≢◌, ◌⊎◌, inl, inr, eqb, List, drop, length, get_or, set, sym, refl, ap, ◌∙◌, subst, arith, Option, length-set, get_or-set_same, get_or-set_other, dite, ℕ_discrete, some, none, get_elem?, set-get_or, either, step, keeps, stepped, Allows, exchanged, Tale, Wires, Owed, Owes, is_up, Place, ready, held, parked, over, St, Deal, Whole, budget, count, halted, Sat, noted_view, saw, leaves_as, with_draw, used, undrawn, paid_up, paid_down, halting, looked, drew, uses, gave_back, counted_up, counted_down, halts, sees_halted, sees_count, sees_budget, View}
+use Rattle.kahn_board.proofs.Common.{◌≡◌, ℕ, ◌+◌, ◌-◌, ◌*◌, ◌%◌, ◌^◌, ◌<◌, ◌≤◌, ◌≢◌, ◌⊎◌, inl, inr, eqb, List, drop, length, get_or, set, sym, refl, ap, ◌∙◌, subst, arith, Option, length-set, get_or-set_same, get_or-set_other, dite, ℕ_discrete, some, none, get_elem?, set-get_or, either, step, keeps, stepped, Allows, exchanged, Tale, Wires, Owed, Owes, is_up, Place, ready, held, parked, over, St, Deal, Whole, budget, count, halted, Sat, noted_view, saw, leaves_as, with_draw, used, undrawn, paid_up, paid_down, halting, drew, sees_halted, sees_count, sees_budget, View, becomes}
 use Rattle.kahn_board.proofs.Sums.{term_le}
 use Rattle.kahn_board.proofs.Counting.{below-le, below-term}
 use Rattle.kahn_board.proofs.Quiet.{owed_less, downs_few}
@@ -66,7 +66,7 @@ module _ {T : Type 0} (told : T → Option Tale) (belongs : ℕ → T → Type 0
       (λ z. (saw m.0 m.0.seen (leaves_as m.0), keeps, tt, sights s a i id m m.0.seen me fit ((a.ruled.seats id m.0 me).saw_quiet) ((a.ruled.seats id m.0 me).saw_halted) (λ e. e) (a.ruled.seats id m.0 me).sights.0 (inr (inr (sym is ∙ z))), ((λ _. refl), λ ne. absurd (ne z))))
       (λ ne. (noted_view m.0, keeps, tt, unchanged told belongs w d s a i id m me fit, ((λ z. absurd (ne z)), λ _. refl)))
 
-  pub notes : (n id : ℕ) (m : Sat T) (i : ℕ) → Fit w m → Allows (Whole told belongs w d) n id m i (λ y. y) (looked (step n i 0 0 none) m)
+  pub notes : (n id : ℕ) (m : Sat T) (i : ℕ) → Fit w m → Allows (Whole told belongs w d) n id m i (λ y. y) (becomes (λ _. noted_view) (step n i 0 0 none) m)
   notes n id m i fit s a wide me _ = (noted_view m.0, keeps, tt, unchanged told belongs w d s a i id m me fit, refl)
 
   -- a step that moves events between the budget, the draw and those done
@@ -100,11 +100,11 @@ module _ {T : Type 0} (told : T → Option Tale) (belongs : ℕ → T → Type 0
       ))
       (λ miss. (noted_view m.0, keeps, tt, unchanged told belongs w d s a i id m me fit, ((λ hit. absurd (miss hit)), λ _. refl)))
 
-  pub uses_some : (n id : ℕ) (m : Sat T) (i k : ℕ) → Fit w m → i ≡ 8 * (w.instances + w.channels) → k ≤ m.0.drawn → Allows (Whole told belongs w d) n id m i (λ y. y) (uses k (step n i 0 0 none) m)
+  pub uses_some : (n id : ℕ) (m : Sat T) (i k : ℕ) → Fit w m → i ≡ 8 * (w.instances + w.channels) → k ≤ m.0.drawn → Allows (Whole told belongs w d) n id m i (λ y. y) (becomes (λ _ v. used v k) (step n i 0 0 none) m)
   uses_some n id m i k fit at less s a wide me _ = let r : ℕ = get_or s.words i 0 in
       (used m.0 k, keeps, tt, budgets s a i r id m (m.0.drawn - k) (m.0.done + k) (m.0.loose + k) me fit at (omega (arith, less)) (omega arith), refl)
 
-  pub gives_back : (n id : ℕ) (m : Sat T) (i k : ℕ) → Fit w m → i ≡ 8 * (w.instances + w.channels) → k ≤ m.0.drawn → Allows (Whole told belongs w d) n id m i (λ y. (y + k) % 2 ^ 64) (gave_back (step n i k 0 none) m)
+  pub gives_back : (n id : ℕ) (m : Sat T) (i k : ℕ) → Fit w m → i ≡ 8 * (w.instances + w.channels) → k ≤ m.0.drawn → Allows (Whole told belongs w d) n id m i (λ y. (y + k) % 2 ^ 64) (becomes (λ n v. undrawn v n) (step n i k 0 none) m)
   gives_back n id m i k fit at less s a wide me _ = let r : ℕ = get_or s.words i 0 in let new : ℕ = (r + k) % 2 ^ 64 in let small = a.ruled.small in let sum = a.ruled.budgeted in
       let mine = term_le (λ (v : View). v.drawn) s.views id m.0 me in
       let was : budget w s.words ≡ r = ap (λ (j : ℕ). get_or s.words j 0) (sym at) in
@@ -123,7 +123,7 @@ module _ {T : Type 0} (told : T → Option Tale) (belongs : ℕ → T → Type 0
       at_hot s a i k id m (record (noted_view m.0) { owed = owed; down = down }) me fit (still told belongs w d s a.place a.tally a.ruled id m.0 m.0.drawn m.0.done m.0.loose owed down ws me (length-set s.words i k) (low s i k (omega arith))
       (omega (arith, budgets_same)) refl (omega (arith, now, was, sum)) pairs less (λ e. absurd (some_left (sym was ∙ e))) halts_same)
 
-  pub counts_up : (n id : ℕ) (m : Sat T) (i : ℕ) → Fit w m → i ≡ 8 * (w.instances + w.channels) + 8 → w.instances ≤ 256 → 0 < length m.0.owed → Allows (Whole told belongs w d) n id m i (λ y. (y + 1) % 2 ^ 64) (counted_up (step n i 1 0 none) m)
+  pub counts_up : (n id : ℕ) (m : Sat T) (i : ℕ) → Fit w m → i ≡ 8 * (w.instances + w.channels) + 8 → w.instances ≤ 256 → 0 < length m.0.owed → Allows (Whole told belongs w d) n id m i (λ y. (y + 1) % 2 ^ 64) (becomes (λ _. paid_up) (step n i 1 0 none) m)
   counts_up n id m i fit at few owes s a wide me _ = let r : ℕ = get_or s.words i 0 in let new : ℕ = (r + 1) % 2 ^ 64 in let c = a.ruled in let sum = c.counted in
       let was : count w s.words ≡ r = ap (λ (j : ℕ). get_or s.words j 0) (sym at) in
       let downs = downs_few told belongs w d a.place a.tally s c in let ups = below-le (λ p. is_up (a.place p)) w.instances (λ q. up_small (a.place q)) in
@@ -131,14 +131,14 @@ module _ {T : Type 0} (told : T → Option Tale) (belongs : ℕ → T → Type 0
       let some_left : r ≢ 0 = (λ z. let q = a.quiet (was ∙ z) in absurd (omega (arith, q.1))) in
       (paid_up m.0, keeps, tt, counts s a i new id m (drop 1 m.0.owed) m.0.down me fit at (omega (arith, one_less m.0.owed owes)) (owes_paid m.0.hands m.0.owed (c.seats id m.0 me).pairs) (omega arith) some_left, refl)
 
-  pub counts_down : (n id : ℕ) (m : Sat T) (i : ℕ) → Fit w m → i ≡ 8 * (w.instances + w.channels) + 8 → 0 < m.0.down → Allows (Whole told belongs w d) n id m i (λ y. (y + (2 ^ 64 - 1)) % 2 ^ 64) (counted_down (step n i 1 0 none) m)
+  pub counts_down : (n id : ℕ) (m : Sat T) (i : ℕ) → Fit w m → i ≡ 8 * (w.instances + w.channels) + 8 → 0 < m.0.down → Allows (Whole told belongs w d) n id m i (λ y. (y + (2 ^ 64 - 1)) % 2 ^ 64) (becomes (λ _. paid_down) (step n i 1 0 none) m)
   counts_down n id m i fit at owes s a wide me small = let r : ℕ = get_or s.words i 0 in let new : ℕ = (r + (2 ^ 64 - 1)) % 2 ^ 64 in let c = a.ruled in let sum = c.counted in
       let was : count w s.words ≡ r = ap (λ (j : ℕ). get_or s.words j 0) (sym at) in
       let mine = term_le (λ (v : View). v.down) s.views id m.0 me in let less = (owed_less told belongs w d a.place a.tally s c).0 in
       let is : new + 1 ≡ r = omega arith in
       (paid_down m.0, keeps, tt, counts s a i new id m m.0.owed (m.0.down - 1) me fit at (omega arith) (c.seats id m.0 me).pairs (omega arith) (λ z. omega arith), refl)
 
-  pub stops : (n id : ℕ) (m : Sat T) (i new : ℕ) → Fit w m → i ≡ 8 * (w.instances + w.channels) + 16 → new ≡ 1 → Allows (Whole told belongs w d) n id m i (λ _. new) (λ _. halts (step n i new 0 none) m new)
+  pub stops : (n id : ℕ) (m : Sat T) (i new : ℕ) → Fit w m → i ≡ 8 * (w.instances + w.channels) + 16 → new ≡ 1 → Allows (Whole told belongs w d) n id m i (λ _. new) (λ _. becomes (λ _. halting) (step n i new 0 none) m new)
   stops n id m i new fit at one s a wide me _ = let long = a.ruled.wide in let ws = set s.words i new in
       let now : halted w ws ≢ 0 = (λ z. absurd (omega (arith, z, one, ap (λ (j : ℕ). get_or ws j 0) (sym at), get_or-set_same s.words i new 0 (omega arith)))) in
       let counts_same : count w ws ≡ count w s.words = get_or-set_other s.words i (8 * (w.instances + w.channels) + 8) new 0 (λ e. omega arith) in

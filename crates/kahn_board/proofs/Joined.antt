@@ -4,7 +4,7 @@ use Rattle.std.proofs.lemmas.List.Sums.{sum_by_push}
 use Rattle.std.proofs.lemmas.List.{length-append}
 use Rattle.std.proofs.lemmas.List.Elements.{All-push}
 use Rattle.kahn_board.proofs.Seats.{zeros}
-use Rattle.kahn_board.specs.inner.Shared.{SitsAt, parts_of, done_of, raised_of}
+use Rattle.kahn_board.specs.inner.Turn.{SitsAt, parts_of, done_of, raised_of}
 
 pub all_but_last : {A : Type 0} (P : A → Type 0) (xs : List A) (x : A) → All P (xs ++ x ∷ []) → All P xs × P x
 all_but_last P xs x all = (

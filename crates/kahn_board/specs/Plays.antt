@@ -1,5 +1,5 @@
--- Believed. What each step tells its seat: of the step, the seat before, the number found and the seat after.
-use Rattle.std.specs.Prelude.{◌≡◌, ◌≢◌, ◌⊎◌, ℕ, ◌+◌, ◌-◌, ◌/◌, ◌%◌, ◌^◌, ◌<◌, ◌==◌, cond, List, [], ◌∷◌, ◌++◌, drop, length, slice_index, slice_set, Option, Some}
+-- Believed. What a seat knows of its own view and slots, and what each step tells it: of the step, the seat before, the number found and the seat after.
+use Rattle.std.specs.Prelude.{◌≡◌, ◌≢◌, ◌⊎◌, ℕ, ◌+◌, ◌-◌, ◌*◌, ◌/◌, ◌%◌, ◌^◌, ◌<◌, ◌≤◌, ◌==◌, cond, List, [], ◌∷◌, ◌++◌, map, drop, length, slice_index, slice_set, Option, Some}
 use mathlib.Core.Option.{none}
 use Rattle.atomic_table.specs.Seated.{TableId}
 use Rattle.atomic_table.specs.Table.{Allows, Me, Step, rest, step}
@@ -7,8 +7,26 @@ use Rattle.atomic_table.specs.declared.shared.Seat as shared
 use Rattle.kahn_board.specs.Tale.{Tale, TellsWait, TellsEvents, FlushedAll, flushed_of, events_past}
 use Rattle.kahn_board.specs.Wires.{Wires}
 use Rattle.kahn_board.specs.Rule.{St, WordWas}
-use Rattle.kahn_board.specs.Place.{total}
+use Rattle.kahn_board.specs.Place.{total, only}
 use Rattle.kahn_board.specs.declared.view.View.{View}
+
+-- each instance that the seat has is in the list, once
+abbrev pub ListsHands : List ℕ → List ℕ → Type 0
+ListsHands items hands = (p : ℕ) → total (only p) items ≡ slice_index hands p
+
+abbrev pub AtMostOnce : List ℕ → Type 0
+AtMostOnce hands = (p : ℕ) → slice_index hands p ≤ 1
+
+module _ {T : Type 0} where
+  -- it isn't spent; its lists are as long as the table is; the instances are listed in the order of the slots; there is room for all of them
+  abbrev pub Facts : Me (Option T) View → TableId → List ℕ → ℕ → Type 0
+  Facts m z items room = (0 < m.0.parts) × (length m.0.hands ≡ z.slots) × (8 * (z.slots + length m.0.flushed) + 24 ≡ z.words)
+      × (map (λ x. x.0) m.1 ≡ items) × ListsHands items m.0.hands × AtMostOnce m.0.hands × (z.slots ≤ room) × (length m.0.got ≡ z.slots)
+
+  -- the slot p is out with the seat, with x in it
+  abbrev pub Carries : List (ℕ × Option T) → ℕ → Option T → Type 0
+  Carries [] p x = ⊥
+  Carries (c ∷ cs) p x = (c ≡ (p, x)) ⊎ Carries cs p x
 
 abbrev pub Sat : Type 0 → Type 0
 Sat T = Me (Option T) View
@@ -127,27 +145,13 @@ module _ {T : Type 0} where
   HasPlayed holds z s t word old new play r =
       (t.table_id ≡ s.table_id) × (t.id ≡ s.id) × at_moment holds s.id play (step z.slots word old new none) s.me r t.me
 
-  abbrev pub looked : Play T
-  looked st m r n = n ≡ (noted_view m.0, m.1)
+  -- its view becomes f of the step's number and of what it was
+  abbrev pub becomes : (ℕ → View → View) → Play T
+  becomes f st m r n = n ≡ (f st.first m.0, m.1)
 
   -- it drew the difference where the budget was still what it had found
   abbrev pub drew : Play T
   drew st m r n = (r ≡ st.first → (n ≡ (with_draw m.0 (st.first - st.second), m.1)) × ((p : ℕ) → IsIn m.0 p → slice_index m.0.got p + (st.first - st.second) < 2 ^ 48)) × (r ≢ st.first → n ≡ (noted_view m.0, m.1))
-
-  abbrev pub uses : ℕ → Play T
-  uses k st m r n = n ≡ (used m.0 k, m.1)
-
-  abbrev pub gave_back : Play T
-  gave_back st m r n = n ≡ (undrawn m.0 st.first, m.1)
-
-  abbrev pub counted_up : Play T
-  counted_up st m r n = n ≡ (paid_up m.0, m.1)
-
-  abbrev pub counted_down : Play T
-  counted_down st m r n = n ≡ (paid_down m.0, m.1)
-
-  abbrev pub halts : Play T
-  halts st m r n = n ≡ (halting m.0, m.1)
 
   abbrev pub sees_halted : Play T
   sees_halted st m r n = (r ≢ 0 → n ≡ (saw m.0 2 (leaves_as m.0), m.1)) × (r ≡ 0 → (m.0.seen ≢ 2) × (n ≡ (noted_view m.0, m.1)))

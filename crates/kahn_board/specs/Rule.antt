@@ -11,8 +11,7 @@ use lib.ListN.{get_elem?}
 use Rattle.atomic_table.specs.Table.{State, Seen}
 use Rattle.kahn_board.specs.Tale.{Tale, TellsWait, TellsEnd, TellsEvents, FlushedAll, flushed_of}
 use Rattle.kahn_board.specs.Wires.{Wires}
-use Rattle.kahn_board.specs.Place.{Place, ready, held, parked, over, word_code, held_by, mark_of, total}
-use Rattle.kahn_board.specs.Counts.{Owes, is_up, below}
+use Rattle.kahn_board.specs.Place.{Place, ready, held, parked, over, Owes, word_code, held_by, mark_of, is_up, total, below}
 use Rattle.kahn_board.specs.declared.view.View.{View}
 
 -- the parts of a board's first seat

@@ -1,4 +1,2 @@
-pub mod Drawn
 pub mod First
-pub mod Shared
 pub mod Turn

@@ -3,7 +3,7 @@
 ghost use Rattle.std.specs.Prelude.{◌≡◌, ◌≢◌, ℕ, ◌+◌, ◌-◌, ◌*◌, ◌%◌, ◌^◌, ◌<◌, ◌≤◌, ◌==◌, [], map, length, Option, slice_index, slice_index_or, None, Some};
 ghost use Rattle.std.specs.VecDeque.{deque_capacity};
 ghost use Rattle.std.specs.Vec.{vec_capacity};
-ghost use Rattle.kahn_board.specs.Hands.{Facts};
+ghost use Rattle.kahn_board.specs.Plays.{Facts};
 ghost use Rattle.kahn_board.specs.Dealt.{holds, wired};
 
 use crate::plays::{
@@ -120,14 +120,12 @@ pub struct Seat<T> {
 }
 
 impl<T: Told> Seat<T> {
-    ghost use Rattle.kahn_board.specs.Calls.{Claims, LooksAt, IsSameSeat, IsFirstSlot, KeepsAll, Swaps, MayLeave, OwesFew, GivesUp, Parks, Publishes, Draws, Uses, GivesBack, CountsUp, CountsDown, HasRaisedHalt, Looks};
+    ghost use Rattle.kahn_board.specs.Calls.{Becomes, Claims, LooksAt, IsSameSeat, IsFirstSlot, KeepsAll, Swaps, MayLeave, OwesFew, GivesUp, Parks, Publishes, Draws, CountsDown, Looks, downs_of};
     ghost use Rattle.kahn_board.specs.Tale.{TellsEnd, TellsWait};
     ghost use Rattle.kahn_board.specs.declared.board.Rest.TheVariants.{Over};
-    ghost use Rattle.kahn_board.specs.Plays.{IsIn};
-    ghost use Rattle.kahn_board.specs.Hands.{Carries};
+    ghost use Rattle.kahn_board.specs.Plays.{Carries, IsIn, halting, paid_up, undrawn, used};
     ghost use Rattle.atomic_table.specs.Table.{turned as shifted};
     ghost use Rattle.kahn_board.specs.Dealt.{belongs, wired};
-    ghost use Rattle.kahn_board.specs.Rest.{downs_of};
 
     /// Whether the instance is ready: it was so, or it wasn't, at a moment of the call. An idle worker looks before it claims,
     /// since a claim writes a word.
@@ -269,7 +267,7 @@ impl<T: Told> Seat<T> {
     pub fn count_up(&mut self, board: &Board<T>)
         requires board { self.old.seat.table_id ≡ board.now.table.shared.table_id }
         requires owes { 0 < length self.old.seat.me.0.owed }
-        ensures { CountsUp self.old self.new }
+        ensures { Becomes (paid_up self.old.seat.me.0) self.old self.new }
     {
         let word = 8 * (board.instances + board.channels) + 8;
         board
@@ -311,7 +309,7 @@ impl<T: Told> Seat<T> {
     pub fn spend(&mut self, board: &Board<T>, n: u64)
         requires board { self.old.seat.table_id ≡ board.now.table.shared.table_id }
         requires drawn { n ≤ self.old.seat.me.0.drawn }
-        ensures { Uses self.old self.new n }
+        ensures { Becomes (used self.old.seat.me.0 n) self.old self.new }
     {
         let word = 8 * (board.instances + board.channels);
         board.load_for::<Brand>(&mut self.seat, word, n);
@@ -321,7 +319,7 @@ impl<T: Told> Seat<T> {
     pub fn give_back(&mut self, board: &Board<T>, n: u64)
         requires board { self.old.seat.table_id ≡ board.now.table.shared.table_id }
         requires drawn { n ≤ self.old.seat.me.0.drawn }
-        ensures { GivesBack self.old self.new n }
+        ensures { Becomes (undrawn self.old.seat.me.0 n) self.old self.new }
     {
         let word = 8 * (board.instances + board.channels);
         board
@@ -333,7 +331,7 @@ impl<T: Told> Seat<T> {
     /// The run is to stop.
     pub fn halt(&mut self, board: &Board<T>)
         requires board { self.old.seat.table_id ≡ board.now.table.shared.table_id }
-        ensures { HasRaisedHalt self.old self.new }
+        ensures { Becomes (halting self.old.seat.me.0) self.old self.new }
     {
         let word = 8 * (board.instances + board.channels) + 16;
         board.table.shared.store::<Halting>(&mut self.seat, word, 1);

@@ -8,7 +8,7 @@ ghost use Rattle.kahn_board.specs.Calls.{IsSameSeat};
 ghost use Rattle.kahn_board.specs.Closing.{Closes};
 ghost use Rattle.kahn_board.specs.Cuts.{AreCut, IsFree, joined_view};
 ghost use Rattle.kahn_board.specs.Rule.{all_parts};
-ghost use Rattle.kahn_board.specs.inner.Shared.{AddUp, IsDoneAt, IsLoneSeat, SitsAt, parts_of, done_of, raised_of};
+ghost use Rattle.kahn_board.specs.inner.Turn.{AddUp, IsDoneAt, IsLoneSeat, SitsAt, parts_of, done_of, raised_of};
 
 use crate::board::{Board, Seat};
 use crate::rule::Told;

@@ -1,6 +1,6 @@
 //! What each step tells its seat.
 
-ghost use Rattle.kahn_board.specs.Plays.{looked, drew, gave_back, counted_up, counted_down, halts, sees_halted, sees_count, sees_budget};
+ghost use Rattle.kahn_board.specs.Plays.{becomes, drew, noted_view, undrawn, paid_up, paid_down, halting, sees_halted, sees_count, sees_budget};
 
 use crate::view::View;
 use atomic_table::Play;
@@ -16,7 +16,7 @@ impl<T> Play<Option<T>, View> for Brand {
 pub struct Notes;
 
 impl<T> Play<Option<T>, View> for Notes {
-    ghost then = { looked };
+    ghost then = { becomes (λ _. noted_view) };
 }
 
 /// What the exchange of a draw tells.
@@ -30,28 +30,28 @@ impl<T> Play<Option<T>, View> for Drawing {
 pub struct GivingBack;
 
 impl<T> Play<Option<T>, View> for GivingBack {
-    ghost then = { gave_back };
+    ghost then = { becomes (λ n v. undrawn v n) };
 }
 
 /// What a count up tells.
 pub struct CountingUp;
 
 impl<T> Play<Option<T>, View> for CountingUp {
-    ghost then = { counted_up };
+    ghost then = { becomes (λ _. paid_up) };
 }
 
 /// What a count down tells.
 pub struct CountingDown;
 
 impl<T> Play<Option<T>, View> for CountingDown {
-    ghost then = { counted_down };
+    ghost then = { becomes (λ _. paid_down) };
 }
 
 /// What halting tells.
 pub struct Halting;
 
 impl<T> Play<Option<T>, View> for Halting {
-    ghost then = { halts };
+    ghost then = { becomes (λ _. halting) };
 }
 
 /// What a look at the word halted tells.

@@ -3,11 +3,11 @@
 ghost use Rattle.std.specs.Prelude.{◌≡◌, ◌≢◌, ℕ, ◌+◌, ◌-◌, ◌*◌, ◌^◌, ◌<◌, ◌≤◌, slice_index, true, false, Option, Some, None, IfSome, IfNone};
 ghost use Rattle.kahn_board.specs.Dealt.{wired};
 ghost use Rattle.kahn_board.specs.Tale.{TellsEnd, TellsWait};
-ghost use Rattle.kahn_board.specs.Calls.{Was, Looks, LooksAt, Uses, GivesBack};
+ghost use Rattle.kahn_board.specs.Calls.{Becomes, Was, Looks, LooksAt};
+ghost use Rattle.kahn_board.specs.Plays.{undrawn, used};
 ghost use Rattle.kahn_board.specs.declared.board.Look.{Look};
 ghost use Rattle.kahn_board.specs.declared.board.Look.TheVariants.{Go};
-ghost use Rattle.kahn_board.specs.inner.Drawn.{DrawsAgain, FitsDraw, drawn_of};
-ghost use Rattle.kahn_board.specs.inner.Turn.{BeginsTurn, EndsTurn, IsBetween, IsBetweenTurns, IsSeatOf, HasHalted, HoldsInTurn, Knows, HasPublished, SetsLate, SetsReady, SetsStill};
+ghost use Rattle.kahn_board.specs.inner.Turn.{DrawsAgain, FitsDraw, drawn_of, BeginsTurn, EndsTurn, IsBetween, IsBetweenTurns, IsSeatOf, HasHalted, HoldsInTurn, Knows, HasPublished, SetsLate, SetsReady, SetsStill};
 
 use crate::board::{Board, Draw, Look, Rest, Seat};
 use crate::rule::Told;
@@ -127,7 +127,7 @@ pub fn tell_done<T: Told>(seat: &mut Seat<T>, board: &Board<T>, p: usize, done: 
     ensures same { IsSeatOf seat.old seat.new }
     ensures knows { Knows (wired board.now.table.shared.key) p seat.old.seat.me.0 seat.new.seat.me.0 }
     ensures holds { (n : ℕ) (x : Option T) → HoldsInTurn p n 0 x seat.old → HoldsInTurn p (n - done) done x seat.new }
-    ensures used { Uses seat.old seat.new done }
+    ensures used { Becomes (used seat.old.seat.me.0 done) seat.old seat.new }
 {
     seat.spend(board, done);
 }
@@ -138,7 +138,7 @@ pub fn give<T: Told>(seat: &mut Seat<T>, board: &Board<T>, undone: u64)
     requires rests { IsBetween undone seat.old }
     ensures same { IsSeatOf seat.old seat.new }
     ensures idle { IsBetweenTurns seat.new }
-    ensures back { GivesBack seat.old seat.new undone }
+    ensures back { Becomes (undrawn seat.old.seat.me.0 undone) seat.old seat.new }
 {
     seat.give_back(board, undone);
 }

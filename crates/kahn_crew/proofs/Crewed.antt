@@ -1,16 +1,8 @@
 -- Workers with their seats.
-use Rattle.std.proofs.Common.{arith, ◌≡◌, ◌⊎◌, inl, inr, ⊎_elim, ℕ, zero, suc, ◌+◌, ◌<◌, ◌≤◌, Bool, true, false, true≢false, ◌||◌, List, [], ◌∷◌, ◌++◌, length, All, sum_by, slice_index_or, refl, sym, ap, ◌∙◌, subst, Option, Some, option_to_list}
-use mathlib.Core.Logic.{dite}
-use native.Mathlib.Decide.{ℕ_discrete}
-use Rattle.std.proofs.lemmas.List.{length-append}
-use Rattle.std.proofs.lemmas.List.Elements.{All-push}
-use Rattle.std.proofs.lemmas.List.Sums.{sum_by_push, sum_by-cons}
+use Rattle.kahn_crew.proofs.Common.{arith, ◌≡◌, ◌⊎◌, inl, inr, ⊎_elim, ℕ, zero, suc, ◌+◌, ◌<◌, ◌≤◌, Bool, true, false, true≢false, ◌||◌, List, [], ◌∷◌, ◌++◌, length, All, sum_by, slice_index_or, refl, sym, ap, ◌∙◌, subst, Option, Some, option_to_list, dite, ℕ_discrete, length-append, All-push, sum_by_push, sum_by-cons, Seat, Heeds, Tasked}
 use Rattle.atomic_table.specs.Seated.{TableId}
-use Rattle.kahn_board.specs.declared.board.Seat.{Seat}
-use Rattle.kahn_board.specs.inner.Shared.{IsDoneAt, SitsAt, parts_of, raised_of}
+use Rattle.kahn_board.specs.inner.Turn.{IsDoneAt, SitsAt, parts_of, raised_of}
 use Rattle.kahn_crew.specs.inner.Crews.{HasCause, HasGone, HasSeat, crew_parts, crew_raised}
-use Rattle.kahn_crew.specs.inner.Turns.{Heeds}
-use Rattle.kahn_job.specs.inner.Tasks.{Tasked}
 use Rattle.kahn_crew.specs.declared.worker.Worker.{Worker}
 use Rattle.kahn_board.proofs.Joined.{all_but_last}
 

@@ -3,6 +3,7 @@
 --     empty_sync      threads may share an empty list, also where they may not share what it is for
 --     board_sync      threads may share a board of what may go from one to another
 --     run_sync      threads may share what the workers of a run share
+use Rattle.kahn_crew.proofs.Common.{IsSend, IsSync, SyncAt, FieldsAt, sendable, struct_sync, struct_sync_at, array_sync_at, recorded_sync, shr_sync}
 use mathlib.Core.Path.{◌≡◌, sym, subst}
 use mathlib.Core.List.{[], ◌∷◌}
 use base.Fml.{ftrue}
@@ -11,14 +12,15 @@ use denote.Builtin.{usize}
 use denote.Exit.{Entries}
 use denote.RattleType.{RattleType, Denots}
 use denote.RawPtr.{Ptr, block_ptr, null_ptr, block_of, count_of, in_block}
+use denote.Ref.{NamedLft}
+use Rattle.std.specs.contracts.impls.GlobalAllocator.TheImpl.{ghosts}
+use Rattle.kahn_job.proofs.Crossing.{network_sync}
+use Rattle.kahn_board.specs.declared.rule.Told.{Ghosts}
 use denote.Struct.Declared as S
 use denote.Struct.Owning as owning
-use denote.Ref.{NamedLft}
-use denote.Param.Send.{IsSend, IsSync, SyncAt, FieldsAt, sendable, struct_sync, struct_sync_at, array_sync_at, recorded_sync, shr_sync}
 use Rattle.std.proofs.Crossing as std
 use Rattle.std.proofs.option.Option.TheSendSync as option
 use Rattle.std.specs.contracts.alloc.Global as Heap
-use Rattle.std.specs.contracts.impls.GlobalAllocator.TheImpl.{ghosts}
 use Rattle.std.specs.contracts.option.Option as Option
 use Rattle.std.specs.contracts.vec.Vec as Vec
 use Rattle.atomic_table.specs.contracts.owned.Table as Table
@@ -26,13 +28,11 @@ use Rattle.atomic_table.proofs.owned.Table.TheSendSync as table
 use Rattle.kahn_code.specs.contracts.code.Code as Code
 use Rattle.kahn_code.proofs.code.Code.TheSendSync as code
 use Rattle.kahn_streams.proofs.input.Input.TheSendSync as input
-use Rattle.kahn_job.proofs.Crossing.{network_sync}
 use Rattle.kahn_board.specs.contracts.board.Board as Board
 use Rattle.kahn_board.specs.contracts.rule.Rule as Rule
 use Rattle.kahn_board.specs.contracts.rule.RuleTableRuleOptionViewTerms.TheImpl as rule
 use Rattle.kahn_board.specs.contracts.rule.Terms as Terms
 use Rattle.kahn_board.specs.contracts.view.View as View
-use Rattle.kahn_board.specs.declared.rule.Told.{Ghosts}
 use Rattle.kahn_crew.specs.contracts.boxes.Boxed as Boxed
 use Rattle.kahn_crew.proofs.boxes.Boxed.TheSendSync as boxed
 use Rattle.kahn_crew.specs.contracts.boxes.BoxedTold.TheImpl as told
@@ -72,8 +72,8 @@ module _ (T : RattleType) (g : Ghosts T.Denot) (s : IsSend T) where
   pub board_sync : IsSync (Board.the_row T g)
   board_sync = let B = Board.the_type T g in record {
     shared = λ d. struct_sync_at (S.shape B) (B.to d)
-        (with_last in_table usize usize (Vec.the_row (Option.the_row usize) Heap.the_row ghosts) (Vec.the_row (Option.the_row T) Heap.the_row ghosts) table_sync (search sendable) (search sendable) readers_sync (B.to d)
-        (empty_sync (Option.the_row T) d.room d.roomy.0));
+        (with_last in_table usize usize (Vec.the_row (Option.the_row usize) Heap.the_row ghosts) (Vec.the_row T Heap.the_row ghosts) table_sync (search sendable) (search sendable) readers_sync (B.to d)
+        (empty_sync T d.room d.roomy.0));
   }
 
 code_sync : IsSync (Code.the_row Heap.the_row ghosts)

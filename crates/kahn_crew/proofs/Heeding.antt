@@ -1,9 +1,5 @@
 -- A worker that halts the run where memory is wanted, and nowhere else.
-use Rattle.std.proofs.Common.{arith, ◌≡◌, inl, inr, ℕ, Bool, ◌∙◌}
-use Rattle.kahn_board.specs.declared.board.Seat.{Seat}
-use Rattle.kahn_board.specs.inner.Turn.{IsSeatOf}
-use Rattle.kahn_crew.specs.inner.Turns.{Heeds, RaisesAsWanted}
-use Rattle.kahn_job.specs.inner.Tasks.{Tasked}
+use Rattle.kahn_crew.proofs.Common.{arith, ◌≡◌, inl, inr, ℕ, Bool, ◌∙◌, Seat, IsSeatOf, Heeds, RaisesAsWanted, Tasked}
 
 raises_then : (a b c : Bool) (i j k : ℕ) → RaisesAsWanted a i b j → RaisesAsWanted b j c k → RaisesAsWanted a i c k
 raises_then a b c i j k (inl x) (inl y) = inl (y.0 ∙ x.0, y.1 ∙ x.1)

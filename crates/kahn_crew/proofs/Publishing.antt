@@ -1,26 +1,5 @@
 -- What is published agrees with what the seat knows.
-use Rattle.std.proofs.Common.{arith, ◌≡◌, ◌≢◌, inl, inr, ℕ, ◌+◌, ◌<◌, ◌≤◌, ◌^◌, Bool, true, false, length, refl, sym, ap, ◌∙◌, subst, Some, None, slice_set, if◌then◌else◌}
-use mathlib.Core.Logic.{dite}
-use native.Mathlib.Decide.{ℕ_discrete}
-use Rattle.std.proofs.lemmas.List.{get_or-set_same, get_or-set_other}
-use Rattle.kahn_streams.specs.declared.tree.Program.{Program}
-use Rattle.kahn_streams.specs.Network.{Network, Actual, Reads, Writes, Hands, network_of, instance_at, actual_at, role_at}
-use Rattle.kahn_streams.specs.Wiring.{IsWellWired}
-use Rattle.kahn_streams.specs.Answers.{is_output}
-use Rattle.kahn_code.specs.Standing.{count}
-use Rattle.kahn_code.specs.Lines.{Joins}
-use Rattle.kahn_code.proofs.Readers.{joins_parameter, driven}
-use Rattle.kahn_board.specs.Wires.{wires}
-use Rattle.kahn_board.specs.declared.view.View.{View}
-use Rattle.kahn_job.specs.inner.Berths.{end_at}
-use Rattle.kahn_job.specs.inner.Works.{Work, width_of}
-use Rattle.kahn_board.specs.inner.Turn.{HasPublished}
-use Rattle.kahn_board.specs.Plays.{SeesMore}
-use Rattle.kahn_job.specs.inner.Works.{IsJob}
-use Rattle.kahn_code.specs.Told.{AreCounts}
-use Rattle.kahn_crew.specs.inner.Lent.{IsTaskOf}
-use Rattle.kahn_job.specs.inner.Tasks.{Tasked}
-use Rattle.kahn_crew.specs.inner.Tasks.{AgreesWith, IsPublished, handed_to_task, written_by}
+use Rattle.kahn_crew.proofs.Common.{arith, ◌≡◌, ◌≢◌, inl, inr, ℕ, ◌+◌, ◌<◌, ◌≤◌, ◌^◌, Bool, true, false, length, refl, sym, ap, ◌∙◌, subst, Some, None, slice_set, if◌then◌else◌, dite, ℕ_discrete, get_or-set_same, get_or-set_other, Program, Network, Actual, Reads, Writes, Hands, network_of, instance_at, actual_at, role_at, IsWellWired, is_output, count, Joins, joins_parameter, driven, wires, View, end_at, Work, width_of, HasPublished, SeesMore, IsJob, AreCounts, IsTaskOf, Tasked, AgreesWith, IsPublished, handed_to_task, written_by}
 use Rattle.kahn_crew.proofs.Wirings.{target, writer_is, written_inside}
 use Rattle.kahn_crew.proofs.Found.{none_some, some_same}
 

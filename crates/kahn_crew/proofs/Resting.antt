@@ -1,33 +1,13 @@
 -- A task that is set down.
-use Rattle.std.proofs.Common.{arith, ◌≡◌, ◌⊎◌, inl, inr, ⊎_elim, ℕ, zero, suc, ◌+◌, ◌<◌, ◌^◌, List, [], ◌∷◌, length, refl, sym, ap, ◌∙◌, subst, Option, Some, None, slice_index}
-use mathlib.Core.Option.{some}
-use lib.ListN.{get_elem?}
-use Rattle.kahn_streams.specs.declared.tree.Program.{Program}
-use Rattle.kahn_streams.specs.Network.{Reads, Writes, network_of, instance_at, actual_at, role_at}
-use Rattle.kahn_streams.specs.Wiring.{IsWellWired}
-use Rattle.kahn_streams.specs.Answers.{is_output}
-use Rattle.kahn_code.specs.Lines.{route_of}
-use Rattle.kahn_code.specs.Standing.{count}
-use Rattle.kahn_code.specs.Told.{AreCounts}
+use Rattle.kahn_crew.proofs.Common.{arith, ◌≡◌, ◌⊎◌, inl, inr, ⊎_elim, ℕ, ◌+◌, ◌<◌, ◌^◌, List, length, refl, sym, ap, ◌∙◌, subst, Option, Some, None, slice_index, Program, Reads, Writes, network_of, instance_at, actual_at, role_at, IsWellWired, is_output, route_of, count, AreCounts, belongs, wired, wires, SeesMore, Terms, View, Fits, Knows, end_at, Work, IsDelivered, FitTogether, IsTaskOf, IsDue, Tasked, Continues, HasStanding, AgreesWith, IsLater, IsPublished, count_on, handed_to_task, read_by, reads_at, told_tale, waits_on, writes_at, wrote_by, is_there}
 use Rattle.kahn_streams.proofs.Dry.{dry_reads}
-use Rattle.kahn_board.specs.Dealt.{belongs, wired}
-use Rattle.kahn_board.specs.Wires.{wires}
-use Rattle.kahn_board.specs.Plays.{SeesMore}
 use Rattle.kahn_board.specs.Tale.{FlushedAll, flushed_of, second_of}
-use Rattle.kahn_board.specs.declared.rule.Terms.{Terms}
-use Rattle.kahn_board.specs.declared.view.View.{View}
-use Rattle.kahn_board.specs.inner.Turn.{Fits, Knows}
-use Rattle.kahn_job.specs.inner.Berths.{end_at}
-use Rattle.kahn_job.specs.inner.Works.{Work, IsDelivered}
-use Rattle.kahn_job.specs.declared.standing.Standing.TheVariants as standing
-use Rattle.kahn_crew.specs.declared.turn.Due.TheVariants as due
-use Rattle.kahn_crew.specs.inner.Lent.{FitTogether, IsTaskOf}
-use Rattle.kahn_crew.specs.inner.Rests.{IsDue}
-use Rattle.kahn_job.specs.inner.Tasks.{Tasked, Continues, HasStanding}
-use Rattle.kahn_crew.specs.inner.Tasks.{AgreesWith, IsLater, IsPublished, count_on, handed_to_task, read_by, reads_at, told_tale, waits_on, writes_at, wrote_by}
 use Rattle.kahn_crew.proofs.Wirings.{reads_first, writes_first, first_writes, reader_is, writer_is, read_inside, written_inside}
 use Rattle.kahn_crew.proofs.Publishing.{handed_is}
+use Rattle.kahn_job.proofs.Berthed.{same_self, same_then}
 use Rattle.kahn_crew.proofs.Found.{none_some, some_same}
+use Rattle.kahn_job.specs.declared.standing.Standing.TheVariants as standing
+use Rattle.kahn_crew.specs.declared.turn.Due.TheVariants as due
 
 -- ---- later states
 
@@ -39,7 +19,7 @@ continues_here x = record {
   watch = refl;
   ends = record {
     count = refl;
-    same = λ q. record { reads = refl; writes = refl; lane = refl; name = refl };
+    same = λ q. same_self (end_at x.work.ends q);
     flushed = λ q. omega arith;
   };
   events = omega arith;
@@ -54,12 +34,7 @@ continues_still x y z a b = record {
   watch = b.watch ∙ a.watch;
   ends = record {
     count = b.ends.count ∙ a.ends.count;
-    same = λ q. record {
-      reads = (b.ends.same q).reads ∙ (a.ends.same q).reads;
-      writes = (b.ends.same q).writes ∙ (a.ends.same q).writes;
-      lane = (b.ends.same q).lane ∙ (a.ends.same q).lane;
-      name = (b.ends.same q).name ∙ (a.ends.same q).name;
-    };
+    same = λ q. same_then (end_at x.work.ends q) (end_at y.work.ends q) (end_at z.work.ends q) (a.ends.same q) (b.ends.same q);
     flushed = λ q. omega (arith, a.ends.flushed q, b.ends.flushed q);
   };
   events = let f = a.events in let g = b.events in omega (arith, f, g);
@@ -71,16 +46,11 @@ continues_still x y z a b = record {
       b.still second ∙ a.still first;
 }
 
-pub found_at : {A : Type 0} (xs : List A) (p : ℕ) → p < length xs → (x : A) × (get_elem? xs p ≡ some x)
-found_at [] p h = absurd (omega (arith, h))
-found_at (x ∷ xs) zero h = (x, refl)
-found_at (x ∷ xs) (suc p) h = found_at xs p (omega (arith, h))
-
 -- a task that continues that of p is that of p
 pub task_of : (key : Terms Tasked) (lent code : Program) (p : ℕ) (x : Tasked) → FitTogether key lent code → p < (wired key).instances →
     belongs Continues key p x → IsTaskOf key.network.value p x
 task_of key lent code p x fit lt b =
-    let f = found_at key.cells.value.items p (omega (arith, fit.count, lt)) in
+    let f = is_there key.cells.value.items p (omega (arith, fit.count, lt)) in
     let l = b f.0 f.1 in
     let is = fit.cells p f.0 f.1 in
     (l.network ∙ is.0, l.instance ∙ is.1)
@@ -88,7 +58,7 @@ task_of key lent code p x fit lt b =
 -- and of a later one all that it flushed is published
 pub is_published : (key : Terms Tasked) (lent code : Program) (p : ℕ) (y : Tasked) → FitTogether key lent code → p < (wired key).instances →
     belongs IsLater key p y → (o : ℕ) → IsPublished y o
-is_published key lent code p y fit lt b = let f = found_at key.cells.value.items p (omega (arith, fit.count, lt)) in (b f.0 f.1).published
+is_published key lent code p y fit lt b = let f = is_there key.cells.value.items p (omega (arith, fit.count, lt)) in (b f.0 f.1).published
 
 -- ---- what is told
 

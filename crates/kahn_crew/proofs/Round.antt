@@ -1,15 +1,6 @@
 -- A worker that goes round all instances, and finds none that is ready.
-use Rattle.std.proofs.Common.{arith, ◌≡◌, ℕ, ◌+◌, ◌-◌, ◌*◌, ◌%◌, ◌<◌, refl, ap, ◌∙◌, subst}
-use mathlib.Core.Logic.{dite}
-use native.Mathlib.Decide.{ℕ_discrete}
-use Rattle.std.proofs.Math.Nat.{add-mod_left, mod-eq_of_lt, mod-lt}
-use Rattle.kahn_board.specs.Dealt.{holds}
-use Rattle.kahn_board.specs.declared.board.Seat.{Seat}
-use Rattle.kahn_board.proofs.Turns.{was_at}
-use Rattle.kahn_crew.specs.declared.run.Run.{Run}
-use Rattle.kahn_crew.specs.inner.Turns.{WasNotReady, terms_of}
-use Rattle.kahn_job.specs.inner.Tasks.{Tasked}
-use Rattle.kahn_crew.specs.inner.Tasks.{IsLater, told_tale}
+use Rattle.kahn_crew.proofs.Common.{arith, ◌≡◌, ℕ, ◌+◌, ◌-◌, ◌*◌, ◌%◌, ◌<◌, refl, ap, ◌∙◌, subst, dite, ℕ_discrete, add-mod_left, mod-eq_of_lt, mod-lt, holds, Seat, Run, WasNotReady, terms_of, Tasked, IsLater, told_tale}
+use Rattle.kahn_board.proofs.Keeps.{was_at}
 
 -- each is met once
 met : (n a p : ℕ) → a < n → p < n → (k : ℕ) × (k < n) × ((a + k) % n ≡ p)

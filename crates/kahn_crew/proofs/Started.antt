@@ -1,41 +1,18 @@
 -- The first tasks, and the board that is made of them.
-use Rattle.std.proofs.Common.{arith, ◌≡◌, ℕ, zero, suc, ◌+◌, ◌<◌, ◌≤◌, ◌^◌, List, [], ◌∷◌, ◌++◌, length, map, reverse, refl, sym, ap, ◌∙◌, subst, true, false, Option, Some, None, slice_get, slice_index, slice_index_or}
-use mathlib.Core.Option.{some, some-injective, some-ne-none}
-use lib.ListN.{get_elem?}
-use Rattle.std.proofs.lemmas.List.{append_assoc, append-nil, length-map, map-append, reverse-append, reverse-reverse}
-use Rattle.std.proofs.lemmas.Option.{slice_get_within}
-use Rattle.kahn_streams.specs.declared.tree.Program.{Program}
-use Rattle.kahn_streams.specs.declared.sides.Side.{Side}
-use Rattle.kahn_streams.specs.Network.{Writes, network_of, instance_at, actual_at, role_at, IsOnly, IsWriter}
+use Rattle.kahn_crew.proofs.Common.{arith, ◌≡◌, ℕ, zero, suc, ◌+◌, ◌<◌, ◌≤◌, ◌^◌, List, [], ◌∷◌, ◌++◌, length, map, reverse, refl, sym, ap, ◌∙◌, subst, true, false, Option, Some, None, slice_get, slice_index, slice_index_or, some, some-injective, some-ne-none, get_elem?, append_assoc, length-map, map-append, reverse-append, reverse-reverse, slice_get_within, Program, Side, Writes, network_of, instance_at, actual_at, role_at, IsOnly, IsWriter, IsWellWired, side_at, Lists, inputs_of, is_output, Joins, count, AreCounts, Serves, end_at, IsDelivered, Work, events_told, Opens, wires, Terms, View, woken_task, Tasked, AreReadyTasks, HasBegun, IsNumber, IsReadyTask, AreOnInput, FitTogether, AgreesWith, IsLater, IsPublished, task_rows, told_tale}
+use Rattle.std.proofs.lemmas.List.{append-nil}
 use Rattle.kahn_streams.specs.declared.tree.Role.TheVariants.{Inner, Input}
-use Rattle.kahn_streams.specs.Wiring.{IsWellWired, side_at}
-use Rattle.kahn_streams.proofs.Sourced
-use Rattle.kahn_streams.specs.Inputs.{Lists, inputs_of}
-use Rattle.kahn_streams.specs.Answers.{is_output}
-use Rattle.kahn_code.specs.Lines.{Joins}
-use Rattle.kahn_code.specs.Standing.{count}
-use Rattle.kahn_code.specs.Told.{AreCounts}
-use Rattle.kahn_job.specs.inner.Berths.{Serves, end_at}
 use Rattle.kahn_job.specs.inner.Idles.{AreIdle, CanGoOn, HaveSettled, rows_of}
 use Rattle.kahn_job.specs.inner.Lanes.{AreJoinedOn}
 use Rattle.kahn_job.specs.inner.Openings.{AreOpening}
-use Rattle.kahn_job.specs.inner.Works.{IsDelivered, Work}
 use Rattle.kahn_job.proofs.Idles.{idle_goes_on, row_there}
 use Rattle.kahn_job.proofs.Settles.{stood_same}
-use Rattle.kahn_board.specs.Dealt.{events_told}
-use Rattle.kahn_board.specs.Opening.{Opens}
 use Rattle.kahn_board.specs.Rule.{spent}
-use Rattle.kahn_board.specs.Wires.{wires}
-use Rattle.kahn_board.specs.declared.rule.Terms.{Terms}
-use Rattle.kahn_board.specs.declared.view.View.{View}
-use Rattle.kahn_job.specs.inner.Tasks.{woken_task, Tasked}
-use Rattle.kahn_crew.specs.inner.Begins.{AreReadyTasks, HasBegun, IsNumber, IsReadyTask}
-use Rattle.kahn_crew.specs.inner.Lent.{AreOnInput, FitTogether}
-use Rattle.kahn_crew.specs.inner.Tasks.{AgreesWith, IsLater, IsPublished, task_rows, told_tale}
 use Rattle.kahn_crew.proofs.Found.{none_some, some_same}
 use Rattle.kahn_crew.proofs.Publishing.{handed_is}
 use Rattle.kahn_crew.proofs.Resting.{flushed_all, instances_of, continues_here, published_is}
 use Rattle.kahn_crew.proofs.Wirings.{channels_are, instances_are}
+use Rattle.kahn_streams.proofs.Sourced
 
 -- ---- lists
 

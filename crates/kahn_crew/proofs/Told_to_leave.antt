@@ -1,8 +1,5 @@
 -- One of several that was told to leave.
-use Rattle.std.proofs.Common.{arith, ◌≡◌, ◌==◌, ℕ, ◌<◌, Bool, false, true≢false, List, [], ◌∷◌, ◌++◌, length, slice_index_or, sym, ap, ◌∙◌, subst}
-use mathlib.Core.Logic.{dite}
-use native.Mathlib.Decide.{ℕ_discrete}
-use Rattle.std.proofs.lemmas.List.{get_or_append_left, length-append}
+use Rattle.kahn_crew.proofs.Common.{arith, ◌≡◌, ◌==◌, ℕ, ◌<◌, Bool, false, true≢false, List, [], ◌∷◌, ◌++◌, length, slice_index_or, sym, ap, ◌∙◌, subst, dite, ℕ_discrete, get_or_append_left, length-append}
 
 -- a list that isn't empty
 pub some_there : {A : Type 0} (b : Bool) (n : ℕ) (xs : List A) → b ≡ (n == 0) → n ≡ length xs → b ≡ false → 0 < length xs

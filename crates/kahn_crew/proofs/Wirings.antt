@@ -1,18 +1,9 @@
 -- Who reads and who writes a channel, by the numbers of instances and parameters.
-use Rattle.std.proofs.Common.{arith, ◌≡◌, ℕ, ◌+◌, ◌<◌, ◌==◌, Bool, true, false, length, refl, sym, ap, ◌∙◌, subst, Option, Some, None, eqb-true, pos, if◌then◌else◌}
-use Rattle.kahn_streams.specs.declared.tree.Program.{Program}
-use Rattle.kahn_streams.specs.declared.sides.Side.{Side}
+use Rattle.kahn_crew.proofs.Common.{arith, ◌≡◌, ℕ, ◌+◌, ◌<◌, ◌==◌, Bool, true, false, length, refl, sym, ap, ◌∙◌, subst, Option, Some, None, eqb-true, pos, if◌then◌else◌, Program, Side, Network, Actual, Reads, Writes, Hands, Written, network_of, instance_at, actual_at, role_at, IsOnly, IsWriter, IsWellWired, is_output, Joins, route_of, joins_within, joins_parameter, reads_once, driven, wires, read_by, written_by, is_channel, first_that, sole_reader, sole_writer}
 use Rattle.kahn_streams.specs.Syntax.{Number}
-use Rattle.kahn_streams.specs.Network.{Network, Actual, Reads, Writes, Hands, Written, is_written, network_of, instance_at, actual_at, role_at, IsOnly, IsWriter}
-use Rattle.kahn_streams.specs.Wiring.{IsWellWired}
 use Rattle.kahn_streams.proofs.Sourced.{reads_listed, writes_listed}
-use Rattle.kahn_streams.specs.Answers.{is_output}
-use Rattle.kahn_code.specs.Lines.{Joins, route_of}
-use Rattle.kahn_code.proofs.Readers.{joins_within, joins_parameter, reads_once, driven}
-use Rattle.kahn_board.specs.Wires.{wires, is_read}
-use Rattle.kahn_crew.specs.inner.Tasks.{read_by, written_by, is_channel, first_that}
-use Rattle.kahn_crew.proofs.Found
 use Rattle.kahn_crew.proofs.Found.{apart, none_some, some_same}
+use Rattle.kahn_crew.proofs.Found
 
 eqb_refl : (d : ℕ) → (d == d) ≡ true
 eqb_refl d = grind arith
@@ -32,22 +23,6 @@ reads_so (Hands v) c e = absurd (apart (sym e))
 
 so_reads : (a : Actual) (c : ℕ) → a ≡ Reads c → is_channel (read_by a) c ≡ true
 so_reads a c e = subst (λ b. is_channel (read_by b) c ≡ true) (sym e) (eqb_refl c)
-
-is_read_so : (a : Actual) (c : ℕ) → is_read a c ≡ true → a ≡ Reads c
-is_read_so (Reads d) c e = ap Reads (eqb-true d c e)
-is_read_so (Writes d) c e = absurd (apart (sym e))
-is_read_so (Hands v) c e = absurd (apart (sym e))
-
-so_is_read : (a : Actual) (c : ℕ) → a ≡ Reads c → is_read a c ≡ true
-so_is_read a c e = subst (λ b. is_read b c ≡ true) (sym e) (eqb_refl c)
-
-pub is_written_so : (a : Actual) (c : ℕ) → is_written a c ≡ true → a ≡ Writes c
-is_written_so (Reads d) c e = absurd (apart (sym e))
-is_written_so (Writes d) c e = ap Writes (eqb-true d c e)
-is_written_so (Hands v) c e = absurd (apart (sym e))
-
-so_is_written : (a : Actual) (c : ℕ) → a ≡ Writes c → is_written a c ≡ true
-so_is_written a c e = subst (λ b. is_written b c ≡ true) (sym e) (eqb_refl c)
 
 in_so : (b : Bool) (d c : ℕ) → is_channel (if b then None else Some d) c ≡ true → (d ≡ c) × (b ≡ false)
 in_so true d c e = absurd (apart (sym e))
@@ -107,23 +82,14 @@ module _ (t : Program) (wired : IsWellWired t) where
 
   -- the board's reader and writer of a channel
   pub reader_is : (p q c : ℕ) → actual_at (instance_at N p) q ≡ Reads c → (wires t).reader c ≡ Some p
-  unfolding wires
-  reader_is p q c e =
-      Found.with_found (λ a. is_read a c) N.instances 0 p (joins_within N p q c (joins_read p q c e))
-      (Found.any_found (λ a. is_read a c) none (instance_at N p).actuals q (joins_parameter N p q c (joins_read p q c e)) (so_is_read (actual_at (instance_at N p) q) c e))
-      (λ r l y. let f = Found.any_passes (λ a. is_read a c) none (instance_at N r).actuals y in
-      (reads_once t wired r f.0 p q c (is_read_so (actual_at (instance_at N r) f.0) c f.2) e).0) ∙ from_zero p
+  reader_is p q c e = sole_reader t c p q (joins_within N p q c (joins_read p q c e), joins_parameter N p q c (joins_read p q c e), e) (λ r o x. (reads_once t wired r o p q c x.2 e).0)
 
   written_same : (p r : ℕ) → Written p ≡ Written r → p ≡ r
   written_same p r e = cc
 
   pub writer_is : (p o c : ℕ) → actual_at (instance_at N p) o ≡ Writes c → (wires t).writer c ≡ Some p
-  unfolding wires
-  writer_is p o c e =
-      Found.with_found (λ a. is_written a c) N.instances 0 p (joins_within N p o c (joins_write p o c e))
-      (Found.any_found (λ a. is_written a c) none (instance_at N p).actuals o (joins_parameter N p o c (joins_write p o c e)) (so_is_written (actual_at (instance_at N p) o) c e))
-      (λ r l y. let f = Found.any_passes (λ a. is_written a c) none (instance_at N r).actuals y in
-      written_same r p (sym ((driven t wired).writer r f.0 c (is_written_so (actual_at (instance_at N r) f.0) c f.2)) ∙ (driven t wired).writer p o c e)) ∙ from_zero p
+  writer_is p o c e = sole_writer t c p o (joins_within N p o c (joins_write p o c e), joins_parameter N p o c (joins_write p o c e), e)
+      (λ r q x. written_same r p (sym ((driven t wired).writer r q c x.2) ∙ (driven t wired).writer p o c e))
 
   pub channels_are : (wires t).channels ≡ length N.channels
   unfolding wires

@@ -1,23 +1,8 @@
 -- A worker in a turn.
-use Rattle.std.proofs.Common.{arith, ◌≡◌, ◌⊎◌, inl, inr, ⊎_elim, ℕ, ◌+◌, ◌-◌, ◌<◌, ◌≤◌, ◌^◌, List, length, refl, sym, ap, ◌∙◌, subst, Option, Some, None, slice_index, slice_set}
-use Rattle.kahn_streams.specs.declared.tree.Program.{Program}
-use Rattle.kahn_streams.specs.Network.{network_of, instance_at, actual_at}
-use Rattle.kahn_streams.specs.Wiring.{IsWellWired}
-use Rattle.kahn_board.specs.Dealt.{belongs, wired}
-use Rattle.kahn_board.specs.declared.board.Seat.{Seat}
-use Rattle.kahn_board.specs.declared.rule.Terms.{Terms}
-use Rattle.kahn_board.specs.declared.view.View.{View}
-use Rattle.kahn_job.specs.inner.Works.{IsDelivered}
-use Rattle.kahn_board.specs.inner.Turn.{Fits, HasPublished, HoldsInTurn, Knows}
-use Rattle.kahn_crew.specs.declared.run.Run.{Run}
+use Rattle.kahn_crew.proofs.Common.{arith, ◌≡◌, ◌⊎◌, inl, inr, ⊎_elim, ℕ, ◌+◌, ◌-◌, ◌<◌, ◌≤◌, ◌^◌, List, length, refl, sym, ap, ◌∙◌, subst, Option, Some, None, slice_index, slice_set, Program, network_of, instance_at, actual_at, IsWellWired, belongs, wired, Seat, Terms, View, IsDelivered, Fits, HasPublished, HoldsInTurn, Knows, Run, IsTaskOf, CanRest, IsDue, Tasked, Continues, AgreesWith, IsLater, IsPublished, told_tale, written_by, HasTask, IsAtWork, IsTaskIn, StandsStill, terms_of, is_there}
 use Rattle.kahn_crew.specs.declared.turn.Due.{Due}
-use Rattle.kahn_crew.specs.inner.Lent.{IsTaskOf}
-use Rattle.kahn_crew.specs.inner.Rests.{CanRest, IsDue}
-use Rattle.kahn_job.specs.inner.Tasks.{Tasked, Continues}
-use Rattle.kahn_crew.specs.inner.Tasks.{AgreesWith, IsLater, IsPublished, told_tale, written_by}
-use Rattle.kahn_crew.specs.inner.Turns.{HasTask, IsAtWork, IsTaskIn, StandsStill, terms_of}
 use Rattle.kahn_crew.proofs.Publishing.{agrees_told}
-use Rattle.kahn_crew.proofs.Resting.{agrees_known, agrees_later, agrees_with, continues_here, continues_still, fits_after, fits_still, found_at, instances_of, is_published, sees_two, task_of}
+use Rattle.kahn_crew.proofs.Resting.{agrees_known, agrees_later, agrees_with, continues_here, continues_still, fits_after, fits_still, instances_of, is_published, sees_two, task_of}
 
 module _ (run : Run) where
   abbrev key : Terms Tasked
@@ -33,7 +18,7 @@ module _ (run : Run) where
   pub is_lent : (p : ℕ) (x : Tasked) → p < (wired key).instances → belongs Continues key p x →
       (run.network.now ≡ x.work.cell.network) × (run.input.now ≡ x.work.cell.input)
   is_lent p x lt b =
-      let f = found_at key.cells.value.items p (omega (arith, run.fits.count, lt)) in
+      let f = is_there key.cells.value.items p (omega (arith, run.fits.count, lt)) in
       (run.fits.network ∙ sym (is_task p x lt b).0, sym ((b f.0 f.1).input ∙ run.given p f.0 f.1))
 
   -- it was run, by a seat that stands still

@@ -1,32 +1,17 @@
 //! How a run ends: the board hands out its tasks.
 
-ghost use Rattle.std.specs.Prelude.{◌≡◌, ◌<◌, ◌≤◌, [], true, List, length, map, Some};
+ghost use Rattle.std.specs.Prelude.{◌≡◌, ◌<◌, ◌≤◌, [], true, length};
 ghost use Rattle.std.specs.Vec.{vec_capacity};
 ghost use Rattle.kahn_streams.specs.Network.{network_of};
-ghost use Rattle.kahn_board.specs.inner.Shared.{IsLoneSeat};
+ghost use Rattle.kahn_board.specs.inner.Turn.{IsLoneSeat};
 ghost use Rattle.kahn_crew.specs.inner.Begins.{HasBegun};
 ghost use Rattle.kahn_crew.specs.inner.Left.{IsLeftOf, IsOver, IsUntouched};
-ghost use Rattle.kahn_job.specs.inner.Tasks.{Tasked};
 
-use crate::boxes::Boxed;
+use crate::boxes::{Boxed, unbox_all};
 use crate::left::Left;
 use kahn_board::{Board, Closed, Seat};
 use kahn_job::Task;
 use kahn_streams::{Input, Network};
-
-// The tasks of cells that are all there, in their order.
-fn out_of_cells(mut cells: Vec<Option<Boxed>>, mut tasks: Vec<Task>) -> Vec<Task>
-    requires full { (xs : List Tasked) × (cells.items ≡ map Some xs) }
-    requires room { (tasks.items ≡ []) × (length cells.items ≤ vec_capacity tasks) }
-    ensures { cells.items ≡ map Some result.items }
-{
-    while let Some(cell) = cells.pop() {
-        let Some(boxed) = cell else { unreachable!() };
-        tasks.push_reserved(boxed.open());
-    }
-    tasks.reverse();
-    tasks
-}
 
 /// What is left of a run on whose board nobody works. Where all workers have left by themselves the run is over. It takes no
 /// memory.
@@ -55,7 +40,7 @@ pub(crate) fn leave(
         halted,
     } = board.close(seat);
     Left {
-        tasks: out_of_cells(cells, room),
+        tasks: unbox_all(cells, room),
         budget,
         halted,
         wanted,

@@ -4,7 +4,7 @@ ghost use Rattle.std.specs.Prelude.{◌≡◌, ◌+◌, ◌<◌, ◌≤◌, ◌^
 ghost use Rattle.std.specs.Vec.{vec_capacity};
 ghost use Rattle.kahn_streams.specs.Network.{network_of};
 ghost use Rattle.kahn_board.specs.Dealt.{events_told};
-ghost use Rattle.kahn_board.specs.inner.Shared.{IsDoneAt, IsLoneSeat, SitsAt, parts_of, raised_of};
+ghost use Rattle.kahn_board.specs.inner.Turn.{IsDoneAt, IsLoneSeat, SitsAt, parts_of, raised_of};
 ghost use Rattle.kahn_crew.specs.inner.Crews.{HasCause, HasGone, HasSeat, crew_parts, crew_raised};
 ghost use Rattle.kahn_crew.specs.inner.Begins.{AreReadyTasks};
 ghost use Rattle.kahn_crew.specs.inner.Left.{AreUntouched, IsLeftBy, HaveLeft, IsOver};

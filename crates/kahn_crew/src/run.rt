@@ -1,7 +1,7 @@
 //! The run that its workers are lent.
 
 ghost use Rattle.std.specs.Prelude.{◌<◌};
-ghost use Rattle.kahn_crew.specs.inner.Lent.{AreOnInput, FitTogether};
+ghost use Rattle.kahn_crew.specs.inner.Begins.{AreOnInput, FitTogether};
 
 use crate::boxes::Boxed;
 use kahn_board::Board;

@@ -5,9 +5,8 @@ ghost use Rattle.kahn_board.specs.Dealt.{wired};
 ghost use Rattle.kahn_code.specs.declared.progress.Pause.TheVariants.{NoMemory as IsWant};
 ghost use Rattle.kahn_job.specs.inner.Works.{IsDelivered};
 ghost use Rattle.kahn_board.specs.inner.Turn.{IsBetweenTurns};
-ghost use Rattle.kahn_crew.specs.inner.Rests.{CanRest, IsDue, IsSetDown};
+ghost use Rattle.kahn_crew.specs.inner.Turns.{CanRest, IsDue, IsSetDown, HasTask, Heeds, IsAtWork, IsTaskIn, SitsIn, SitsWith, StandsStill};
 ghost use Rattle.kahn_crew.specs.inner.Tasks.{IsPublished};
-ghost use Rattle.kahn_crew.specs.inner.Turns.{HasTask, Heeds, IsAtWork, IsTaskIn, SitsIn, SitsWith, StandsStill};
 ghost use Rattle.kahn_job.specs.declared.standing.Standing.TheVariants.{Going as IsGoing};
 
 use crate::boxes::Boxed;

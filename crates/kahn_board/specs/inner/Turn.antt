@@ -1,15 +1,17 @@
--- Inner. What a worker's seat has and knows between two turns and in a turn.
-use Rattle.std.specs.Prelude.{◌≡◌, ◌≢◌, ◌⊎◌, ℕ, ◌+◌, ◌/◌, ◌<◌, [], slice_index, Option, Some}
-use Rattle.kahn_board.specs.Calls.{Was}
+-- Inner. What a worker's seat has and knows between two turns and in a turn, what it drew, and what the seats of a crew have together.
+use Rattle.std.specs.Prelude.{◌≡◌, ◌≢◌, ◌⊎◌, ℕ, suc, zero, ◌+◌, ◌/◌, ◌^◌, ◌<◌, ◌≤◌, List, [], slice_index, sum_by, Option, Some}
+use Rattle.atomic_table.specs.Seated.{TableId}
+use Rattle.kahn_board.specs.Calls.{Draws, Was}
 use Rattle.kahn_board.specs.Dealt.{belongs, wired}
-use Rattle.kahn_board.specs.Rule.{channel_at, count_at}
+use Rattle.kahn_board.specs.Rule.{all_parts, channel_at, count_at}
 use Rattle.kahn_board.specs.declared.rule.Terms.{Terms}
 use Rattle.kahn_board.specs.Tale.{Tale, FlushedAll, flushed_of, events_past}
 use Rattle.kahn_board.specs.Wires.{Wires}
 use Rattle.kahn_board.specs.Cuts.{HoldsNothing}
-use Rattle.kahn_board.specs.Hands.{Carries}
-use Rattle.kahn_board.specs.Plays.{Sat, IsIn, SeesMore, gave, noted_view, paid_down}
+use Rattle.kahn_board.specs.Plays.{Carries, Sat, IsIn, SeesMore, gave, noted_view, paid_down}
 use Rattle.kahn_board.specs.declared.view.View.{View}
+use Rattle.kahn_board.specs.declared.board.Draw.{Draw}
+use Rattle.kahn_board.specs.declared.board.Draw.TheVariants.{Got, Lost, Empty}
 use Rattle.kahn_board.specs.declared.board.Seat.{Seat}
 
 -- it has no instance, drew n events and owes nothing, and each event that it told as done was told by a cell
@@ -97,3 +99,55 @@ module _ {T : Type 0} (told : T → Option Tale) (after : T → T → Type 0) (k
   abbrev pub EndsTurn : ℕ → (T → Type 0) → Seat T → Type 0
   EndsTurn p is s =
       (n : ℕ) × (l : ℕ) × (y : T) × HoldsInTurn p n l (Some y) s × Fits told (belongs after key) (wired key) p y s.seat.me.0 × is y
+
+  -- so many draws one after another, each of which was lost
+  abbrev pub AreLost : ℕ → ℕ → Seat T → Seat T → Type 0
+  AreLost quantum zero s t = t ≡ s
+  AreLost quantum (suc k) s t = (m : Seat T) × AreLost quantum k s m × Draws told after key m t quantum Lost
+
+  -- fewer than n draws that were lost, and then one which was so, the n-th where that is lost too
+  abbrev pub DrawsAgain : ℕ → ℕ → Seat T → Seat T → Draw → Type 0
+  DrawsAgain n quantum s t draw =
+      (k : ℕ) × (m : Seat T) × (k < n) × AreLost quantum k s m × Draws told after key m t quantum draw × (draw ≡ Lost → suc k ≡ n)
+
+-- how many events were drawn
+abbrev pub drawn_of : Draw → ℕ
+drawn_of (Got n) = n
+drawn_of Lost = 0
+drawn_of Empty = 0
+
+-- what was got is no more than the quantum, and a number of 48 bits with the `told` events of the instance
+abbrev pub FitsDraw : ℕ → ℕ → Draw → Type 0
+FitsDraw quantum told (Got n) = (0 < n) × (n ≤ quantum) × (told + n < 2 ^ 48)
+FitsDraw quantum told Lost = Unit {0}
+FitsDraw quantum told Empty = Unit {0}
+
+module _ {T : Type 0} where
+  -- their parts, the events that they told as done, and how often they halted the run
+  abbrev pub parts_of : List (Seat T) → ℕ
+  parts_of seats = sum_by (λ s. s.seat.me.0.parts) seats
+
+  abbrev pub done_of : List (Seat T) → ℕ
+  done_of seats = sum_by (λ s. s.seat.me.0.done) seats
+
+  abbrev pub raised_of : List (Seat T) → ℕ
+  raised_of seats = sum_by (λ s. s.seat.me.0.raised) seats
+
+  -- the third has all of these that the first and the others have together
+  abbrev pub AddUp : Seat T → List (Seat T) → Seat T → Type 0
+  AddUp s others t =
+      (t.seat.me.0.parts ≡ s.seat.me.0.parts + parts_of others)
+      × (t.seat.me.0.done ≡ s.seat.me.0.done + done_of others)
+      × (t.seat.me.0.raised ≡ s.seat.me.0.raised + raised_of others)
+
+  -- a seat at that board, between two turns
+  abbrev pub SitsAt : TableId → Seat T → Type 0
+  SitsAt z s = (s.seat.table_id ≡ z) × IsBetweenTurns s
+
+  -- which has left
+  abbrev pub IsDoneAt : TableId → Seat T → Type 0
+  IsDoneAt z s = (s.seat.table_id ≡ z) × IsBetweenTurns s × (s.seat.me.0.stage ≡ 1)
+
+  -- which is the board's one seat
+  abbrev pub IsLoneSeat : TableId → Seat T → Type 0
+  IsLoneSeat z s = (s.seat.table_id ≡ z) × IsBetweenTurns s × (s.seat.me.0.parts ≡ all_parts)

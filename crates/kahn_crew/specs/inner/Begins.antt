@@ -1,4 +1,4 @@
--- Inner. A run before its next events.
+-- Inner. A run before its next events, and what its workers are lent.
 use Rattle.std.specs.Prelude.{◌≡◌, ℕ, ◌+◌, ◌^◌, ◌<◌, false, List, length, Option, Some, slice_get, slice_index}
 use Rattle.kahn_streams.specs.declared.tree.Program.{Program}
 use Rattle.kahn_streams.specs.declared.tree.Role.TheVariants as role
@@ -8,7 +8,9 @@ use Rattle.kahn_streams.specs.Answers.{is_output}
 use Rattle.kahn_code.specs.Standing.{count}
 use Rattle.kahn_job.specs.inner.Lanes.{AreJoinedOn}
 use Rattle.kahn_job.specs.inner.Works.{IsDelivered}
-use Rattle.kahn_board.specs.Dealt.{dealt, events_told}
+use mathlib.Core.Option.{some}
+use lib.ListN.{get_elem?}
+use Rattle.kahn_board.specs.Dealt.{dealt, events_told, wired}
 use Rattle.kahn_board.specs.declared.rule.Terms.{Terms}
 use Rattle.kahn_job.specs.inner.Tasks.{Tasked}
 use Rattle.kahn_crew.specs.inner.Tasks.{task_rows, told_tale}
@@ -48,3 +50,18 @@ pub record HasBegun (t : Program) (lists : Lists) (watch : Option ℕ) (key : Te
   pub network : key.network.value ≡ t
   pub ready : AreReadyTasks t lists watch key.cells.value.items
   pub numbers : (c : ℕ) → c < length (network_of t).channels → IsNumber t lists key.cells.value.items c ((dealt told_tale key).published c)
+
+-- the task is that of the instance p of this program
+abbrev pub IsTaskOf : Program → ℕ → Tasked → Type 0
+IsTaskOf t p x = (x.work.cell.network ≡ t) × (x.work.cell.instance ≡ p)
+
+-- the board was made with the tasks of a program's instances in order, and the network and the code are of that program
+pub record FitTogether (key : Terms Tasked) (lent compiled : Program) : Type 0 where
+  pub network : lent ≡ key.network.value
+  pub code : compiled ≡ key.network.value
+  pub count : length key.cells.value.items ≡ (wired key).instances
+  pub cells : (p : ℕ) (x : Tasked) → get_elem? key.cells.value.items p ≡ some x → IsTaskOf key.network.value p x
+
+-- and the input is that of each task
+abbrev pub AreOnInput : Terms Tasked → Lists → Type 0
+AreOnInput key lists = (p : ℕ) (x : Tasked) → get_elem? key.cells.value.items p ≡ some x → x.work.cell.input ≡ lists

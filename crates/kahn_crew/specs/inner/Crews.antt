@@ -1,7 +1,7 @@
 -- Inner. What the workers of a run have together.
 use Rattle.std.specs.Prelude.{◌≡◌, ◌⊎◌, ℕ, ◌<◌, Bool, true, false, List, length, slice_index_or, sum_by}
 use Rattle.atomic_table.specs.Seated.{TableId}
-use Rattle.kahn_board.specs.inner.Shared.{IsDoneAt, SitsAt}
+use Rattle.kahn_board.specs.inner.Turn.{IsDoneAt, SitsAt}
 use Rattle.kahn_crew.specs.declared.worker.Worker.{Worker}
 
 -- it did its work; or it quit, where one couldn't be started

@@ -1,7 +1,7 @@
 -- Inner. What a worker knows of its seat between two calls.
 use Rattle.std.specs.Prelude.{◌≡◌, ◌≢◌, ℕ, [], Some}
 use Rattle.atomic_table.specs.Seated.{TableId}
-use Rattle.kahn_board.specs.Hands.{Carries}
+use Rattle.kahn_board.specs.Plays.{Carries}
 use Rattle.kahn_board.specs.Plays.{IsIn}
 use Rattle.kahn_board.specs.declared.board.Seat.{Seat}
 

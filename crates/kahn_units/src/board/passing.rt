@@ -3,7 +3,7 @@
 ghost use Rattle.std.specs.Prelude.{◌≡◌, ℕ, ◌^◌, ◌<◌, [], slice_index, Option, Some};
 ghost use Rattle.kahn_board.specs.Calls.{IsSameSeat, OwesFew};
 ghost use Rattle.kahn_board.specs.Dealt.{wired};
-ghost use Rattle.kahn_board.specs.Hands.{Carries};
+ghost use Rattle.kahn_board.specs.Plays.{Carries};
 ghost use Rattle.kahn_board.specs.Plays.{IsIn};
 
 use kahn_board::{Board, Rest, Seat, Told};

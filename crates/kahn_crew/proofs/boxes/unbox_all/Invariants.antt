@@ -1,5 +1,4 @@
-use Rattle.std.proofs.Common.{◌≡◌, ◌≤◌, ◌+◌, ◌++◌, length, reverse}
-use Rattle.std.specs.Vec.{vec_capacity}
+use Rattle.kahn_crew.proofs.Common.{◌≡◌, ◌≤◌, ◌+◌, ◌++◌, length, reverse, vec_capacity}
 use Rattle.kahn_crew.proofs.boxes.unbox_all.Given as goal
 
 abbrev pub invariant-loop-boxed : goal.invariant-loop-boxed

@@ -1,4 +1,4 @@
-use Rattle.std.proofs.Common.{arith, refl}
+use Rattle.kahn_crew.proofs.Common.{arith, refl}
 use Rattle.kahn_crew.proofs.Crewed.{none_dismissed, one_dismissed, or_either, or_left, or_right}
 use Rattle.kahn_crew.proofs.crew.dismiss.Goals as goal
 

@@ -1,5 +1,4 @@
-use Rattle.std.proofs.Common.{◌≤◌, length}
-use Rattle.std.specs.Vec.{vec_capacity}
+use Rattle.kahn_crew.proofs.Common.{◌≤◌, length, vec_capacity}
 use Rattle.kahn_crew.proofs.Crewed.{Dismissed}
 use Rattle.kahn_crew.proofs.crew.dismiss.Given as goal
 

@@ -1,4 +1,4 @@
-use Rattle.std.proofs.Common.{arith, refl}
+use Rattle.kahn_crew.proofs.Common.{arith, refl}
 use Rattle.kahn_crew.proofs.Crewed.{none_manned, one_less, one_manned}
 use Rattle.kahn_crew.proofs.crew.man.Goals as goal
 

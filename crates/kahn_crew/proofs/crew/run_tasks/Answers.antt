@@ -1,4 +1,4 @@
-use Rattle.std.proofs.Common.{◌∙◌}
+use Rattle.kahn_crew.proofs.Common.{◌∙◌}
 use Rattle.kahn_crew.proofs.Ended.{untouched_gone, untouched_here}
 use Rattle.kahn_crew.proofs.Started.{fits_of, on_input}
 use Rattle.kahn_crew.proofs.crew.run_tasks.Goals as goal

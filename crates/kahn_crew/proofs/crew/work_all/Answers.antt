@@ -1,5 +1,4 @@
-use Rattle.std.proofs.Common.{arith, ⊎_elim, true≢false, sym, ◌∙◌}
-use denote.Param.Send.{sendable}
+use Rattle.kahn_crew.proofs.Common.{arith, ⊎_elim, true≢false, sym, ◌∙◌, sendable}
 use Rattle.kahn_crew.proofs.Crewed.{all_caused, all_gone, one_raised}
 use Rattle.kahn_crew.proofs.Crossing.{run_sync, worker_send}
 use Rattle.kahn_crew.proofs.crew.work_all.Goals as goal

@@ -1,4 +1,4 @@
-use Rattle.std.proofs.Common.{◌<◌, length}
+use Rattle.kahn_crew.proofs.Common.{◌<◌, length}
 use Rattle.kahn_crew.proofs.Told_to_leave.{some_there, told_among}
 use Rattle.kahn_crew.proofs.labor.+labor_from.Goals as goal
 

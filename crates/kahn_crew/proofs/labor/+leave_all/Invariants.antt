@@ -1,4 +1,4 @@
-use Rattle.std.proofs.Common.{length}
+use Rattle.kahn_crew.proofs.Common.{length}
 use Rattle.kahn_crew.proofs.labor.+leave_all.Given as goal
 
 abbrev pub decreases-leave_all : goal.decreases-leave_all

@@ -1,4 +1,4 @@
-use Rattle.std.proofs.Common.{arith}
+use Rattle.kahn_crew.proofs.Common.{arith}
 use Rattle.kahn_crew.proofs.Started.{first_ready, first_silent}
 use Rattle.kahn_crew.proofs.opening.first_tasks.Goals as goal
 

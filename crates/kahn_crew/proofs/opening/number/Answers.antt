@@ -1,5 +1,4 @@
-use Rattle.std.proofs.Common.{sym, ◌∙◌, subst}
-use Rattle.kahn_streams.specs.Network.{network_of, IsOnly, IsWriter}
+use Rattle.kahn_crew.proofs.Common.{sym, ◌∙◌, subst, network_of, IsOnly, IsWriter}
 use Rattle.kahn_crew.proofs.Started.{number_few, number_given, number_none, number_sent, writer_there}
 use Rattle.kahn_crew.proofs.opening.number.Goals as goal
 

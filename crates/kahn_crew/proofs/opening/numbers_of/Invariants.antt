@@ -1,7 +1,4 @@
-use Rattle.std.proofs.Common.{◌≡◌, ◌≤◌, ◌<◌, ◌^◌, ℕ, length, slice_index}
-use Rattle.std.specs.Vec.{vec_capacity}
-use Rattle.kahn_streams.specs.Network.{network_of}
-use Rattle.kahn_crew.specs.inner.Begins.{IsNumber}
+use Rattle.kahn_crew.proofs.Common.{◌≡◌, ◌≤◌, ◌<◌, ◌^◌, ℕ, length, slice_index, vec_capacity, network_of, IsNumber}
 use Rattle.kahn_crew.proofs.opening.numbers_of.Given as goal
 
 abbrev pub invariant-loop-channel : goal.invariant-loop-channel

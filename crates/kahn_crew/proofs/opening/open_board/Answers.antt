@@ -1,9 +1,4 @@
-use Rattle.std.proofs.Common.{sym, subst, List, ℕ, slice_index}
-use Rattle.kahn_board.specs.Opening.{Opens}
-use Rattle.kahn_board.specs.Wires.{wires}
-use Rattle.kahn_crew.specs.inner.Begins.{IsNumber}
-use Rattle.kahn_job.specs.inner.Tasks.{Tasked}
-use Rattle.kahn_crew.specs.inner.Tasks.{IsLater, told_tale}
+use Rattle.kahn_crew.proofs.Common.{sym, subst, List, ℕ, slice_index, Opens, wires, IsNumber, Tasked, IsLater, told_tale}
 use Rattle.kahn_crew.proofs.Started.{opens}
 use Rattle.kahn_crew.proofs.opening.open_board.Goals as goal
 

@@ -1,8 +1,4 @@
-use Rattle.std.proofs.Common.{arith, ◌+◌, ◌%◌, ◌∙◌, sym, subst}
-use mathlib.Core.Logic.{dite}
-use native.Mathlib.Decide.{ℕ_discrete}
-use Rattle.std.proofs.Math.Nat.{mod-lt}
-use Rattle.kahn_crew.specs.inner.Turns.{WasNotReady}
+use Rattle.kahn_crew.proofs.Common.{arith, ◌+◌, ◌%◌, ◌∙◌, sym, subst, dite, ℕ_discrete, mod-lt, WasNotReady}
 use Rattle.kahn_crew.proofs.Round.{not_ready_of, none_ready}
 use Rattle.kahn_crew.proofs.pick.pick_any.Goals as goal
 

@@ -1,6 +1,4 @@
-use Rattle.std.proofs.Common.{ℕ, ◌+◌, ◌%◌, ◌<◌}
-use Rattle.kahn_board.specs.inner.Turn.{IsSeatOf}
-use Rattle.kahn_crew.specs.inner.Turns.{SitsWith, WasNotReady}
+use Rattle.kahn_crew.proofs.Common.{ℕ, ◌+◌, ◌%◌, ◌<◌, IsSeatOf, SitsWith, WasNotReady}
 use Rattle.kahn_crew.proofs.pick.pick_any.Given as goal
 
 abbrev pub invariant-loop-step : goal.invariant-loop-step

@@ -1,4 +1,4 @@
-use Rattle.std.proofs.Common.{◌∙◌}
+use Rattle.kahn_crew.proofs.Common.{◌∙◌}
 use Rattle.kahn_crew.proofs.pick.pick_hinted.Goals as goal
 
 pub pick_one-requires : goal.pick_one-requires

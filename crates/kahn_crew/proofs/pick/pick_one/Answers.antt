@@ -1,4 +1,4 @@
-use Rattle.std.proofs.Common.{arith, refl, ◌∙◌}
+use Rattle.kahn_crew.proofs.Common.{arith, refl, ◌∙◌}
 use Rattle.kahn_crew.proofs.Round.{not_ready_of}
 use Rattle.kahn_crew.proofs.pick.pick_one.Goals as goal
 

@@ -1,4 +1,4 @@
-use Rattle.std.proofs.Common.{◌∙◌, refl}
+use Rattle.kahn_crew.proofs.Common.{◌∙◌, refl}
 use Rattle.kahn_crew.proofs.Heeding.{heeds_then, heeds_still}
 use Rattle.kahn_crew.proofs.Publishing.{published_more, sees_still}
 use Rattle.kahn_crew.proofs.Working.{stood}

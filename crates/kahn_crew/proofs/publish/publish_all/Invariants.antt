@@ -1,7 +1,4 @@
-use Rattle.std.proofs.Common.{◌≡◌, ℕ, ◌<◌}
-use Rattle.kahn_board.specs.Plays.{SeesMore}
-use Rattle.kahn_crew.specs.inner.Tasks.{IsPublished}
-use Rattle.kahn_crew.specs.inner.Turns.{Heeds, IsAtWork}
+use Rattle.kahn_crew.proofs.Common.{◌≡◌, ℕ, ◌<◌, SeesMore, IsPublished, Heeds, IsAtWork}
 use Rattle.kahn_crew.proofs.publish.publish_all.Given as goal
 
 abbrev pub invariant-loop-parameter : goal.invariant-loop-parameter

@@ -1,8 +1,4 @@
-use Rattle.std.proofs.Common.{arith, ◌≡◌, ◌∙◌, sym, subst, Some, None}
-use Rattle.kahn_streams.specs.Wiring.{IsWellWired}
-use Rattle.kahn_streams.specs.Network.{Writes, network_of, instance_at, actual_at}
-use Rattle.kahn_job.specs.inner.Tasks.{Tasked}
-use Rattle.kahn_crew.specs.inner.Turns.{IsAtWork, terms_of}
+use Rattle.kahn_crew.proofs.Common.{arith, ◌≡◌, ◌∙◌, sym, subst, Some, None, IsWellWired, Writes, network_of, instance_at, actual_at, Tasked, IsAtWork, terms_of}
 use Rattle.kahn_crew.proofs.Wirings.{writer_is, written_inside}
 use Rattle.kahn_crew.proofs.Publishing.{flushed_few, nothing_written, written_so}
 use Rattle.kahn_crew.proofs.Working.{in_hand, inside_lent, told, written_here}

@@ -1,5 +1,4 @@
-use Rattle.std.proofs.Common.{◌≡◌, ⊎_elim, sym, ◌∙◌, ap, Some}
-use Rattle.kahn_streams.specs.declared.sides.Side.{Side}
+use Rattle.kahn_crew.proofs.Common.{◌≡◌, ⊎_elim, sym, ◌∙◌, ap, Some, Side}
 use Rattle.kahn_crew.proofs.Found.{none_some, some_same}
 use Rattle.kahn_crew.proofs.Wirings.{routed_as, routed_inside, no_target}
 use Rattle.kahn_crew.proofs.target.target.Goals as goal

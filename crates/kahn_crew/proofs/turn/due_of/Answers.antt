@@ -1,14 +1,9 @@
-use Rattle.std.proofs.Common.{◌≡◌, sym, ◌∙◌, subst, ℕ}
-use Rattle.kahn_streams.specs.Wiring.{IsWellWired}
-use Rattle.kahn_board.specs.Wires.{wires}
-use Rattle.kahn_job.specs.declared.standing.Standing.TheVariants as standing
-use Rattle.kahn_crew.specs.declared.turn.Due.TheVariants as due
-use Rattle.kahn_crew.specs.inner.Rests.{IsDue}
-use Rattle.kahn_job.specs.inner.Tasks.{HasStanding, IsTrueOf}
-use Rattle.kahn_crew.specs.inner.Turns.{terms_of}
+use Rattle.kahn_crew.proofs.Common.{◌≡◌, sym, ◌∙◌, subst, ℕ, IsWellWired, wires, IsDue, HasStanding, IsTrueOf, terms_of}
 use Rattle.kahn_crew.proofs.Resting.{due_waits, dry_routed}
 use Rattle.kahn_crew.proofs.Wirings.{routed_as}
 use Rattle.kahn_crew.proofs.Working.{inside_code}
+use Rattle.kahn_job.specs.declared.standing.Standing.TheVariants as standing
+use Rattle.kahn_crew.specs.declared.turn.Due.TheVariants as due
 use Rattle.kahn_crew.proofs.turn.due_of.Goals as goal
 
 pub channel-requires : goal.channel-requires

@@ -1,7 +1,4 @@
-use Rattle.std.proofs.Common.{arith, refl, subst, sym, inr, ◌∙◌}
-use Rattle.kahn_board.specs.Dealt.{wired}
-use Rattle.kahn_crew.specs.inner.Rests.{IsDue, IsSetDown}
-use Rattle.kahn_crew.specs.inner.Turns.{terms_of}
+use Rattle.kahn_crew.proofs.Common.{arith, refl, subst, sym, inr, ◌∙◌, wired, IsDue, IsSetDown, terms_of}
 use Rattle.kahn_crew.proofs.turn.rest.Goals as goal
 
 pub rest_ready-requires-clause-holds : goal.rest_ready-requires-clause-holds

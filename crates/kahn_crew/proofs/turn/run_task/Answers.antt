@@ -1,19 +1,14 @@
-use Rattle.std.proofs.Common.{arith, ◌≡◌, ◌⊎◌, ℕ, ◌+◌, ◌-◌, inl, inr, ⊎_elim, refl, sym, ap, ◌∙◌, subst, Result, Ok, Err, OnOk, OnErr}
-use Rattle.kahn_streams.specs.Network.{Network, network_of}
+use Rattle.kahn_crew.proofs.Common.{arith, ◌≡◌, ◌⊎◌, ℕ, ◌+◌, ◌-◌, inl, inr, ⊎_elim, refl, sym, ap, ◌∙◌, subst, Result, Ok, Err, OnOk, OnErr, Network, network_of, end_at, IsDelivered, Work, standing_after, IsAtWork}
 use Rattle.kahn_streams.specs.Meaning.{Store}
 use Rattle.kahn_streams.specs.Script.{Outcome}
 use Rattle.kahn_code.specs.declared.progress.Pause.{Pause}
-use Rattle.kahn_code.specs.declared.progress.Pause.TheVariants as pause
 use Rattle.kahn_code.specs.Cells.{exec_on}
 use Rattle.kahn_code.specs.Progress.{IsPause}
 use Rattle.kahn_job.specs.inner.Ends.{IsDry, IsReady}
-use Rattle.kahn_job.specs.inner.Berths.{end_at}
-use Rattle.kahn_job.specs.inner.Works.{IsDelivered, Work}
-use Rattle.kahn_job.specs.declared.standing.Standing.TheVariants as standing
-use Rattle.kahn_job.specs.inner.Tasks.{standing_after}
-use Rattle.kahn_crew.specs.inner.Turns.{IsAtWork}
 use Rattle.kahn_crew.proofs.Resting.{sees_two}
 use Rattle.kahn_crew.proofs.Working.{in_hand, is_lent, went}
+use Rattle.kahn_code.specs.declared.progress.Pause.TheVariants as pause
+use Rattle.kahn_job.specs.declared.standing.Standing.TheVariants as standing
 use Rattle.kahn_crew.proofs.turn.run_task.Goals as goal
 
 either_of : {E : Type 0} (r : Result (Unit {0}) E) {P Q : Type 0} → OnOk r P → OnErr r Q → Q ⊎ P

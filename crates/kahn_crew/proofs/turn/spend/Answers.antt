@@ -1,11 +1,4 @@
-use Rattle.std.proofs.Common.{sym, ◌∙◌, subst, ℕ, Some}
-use Rattle.kahn_streams.specs.Wiring.{IsWellWired}
-use Rattle.kahn_board.specs.Dealt.{wired}
-use Rattle.kahn_board.specs.declared.view.View.{View}
-use Rattle.kahn_board.specs.inner.Turn.{IsBetween, Knows}
-use Rattle.kahn_crew.specs.inner.Rests.{IsDue}
-use Rattle.kahn_job.specs.inner.Tasks.{Tasked}
-use Rattle.kahn_crew.specs.inner.Turns.{IsTaskIn, terms_of}
+use Rattle.kahn_crew.proofs.Common.{sym, ◌∙◌, subst, ℕ, Some, IsWellWired, wired, View, IsBetween, Knows, IsDue, Tasked, IsTaskIn, terms_of}
 use Rattle.kahn_crew.proofs.Working.{can_rest, in_hand, taken}
 use Rattle.kahn_crew.proofs.turn.spend.Goals as goal
 

@@ -1,4 +1,4 @@
-use Rattle.std.proofs.Common.{◌-◌}
+use Rattle.kahn_crew.proofs.Common.{◌-◌}
 use Rattle.kahn_crew.proofs.Heeding.{heeds_then, heeds_still}
 use Rattle.kahn_crew.proofs.turn.spend_all.Goals as goal
 

@@ -1,4 +1,4 @@
-use Rattle.kahn_crew.specs.inner.Turns.{HasTask, Heeds}
+use Rattle.kahn_crew.proofs.Common.{HasTask, Heeds}
 use Rattle.kahn_crew.proofs.turn.spend_all.Given as goal
 
 abbrev pub invariant-loop-first : goal.invariant-loop-first

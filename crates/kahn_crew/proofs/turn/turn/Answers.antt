@@ -1,6 +1,4 @@
-use Rattle.std.proofs.Common.{arith, subst, Some}
-use Rattle.kahn_streams.specs.Wiring.{IsWellWired}
-use Rattle.kahn_board.specs.inner.Turn.{RestsWith}
+use Rattle.kahn_crew.proofs.Common.{arith, subst, Some, IsWellWired, RestsWith}
 use Rattle.kahn_crew.proofs.Working.{still_has}
 use Rattle.kahn_crew.proofs.turn.turn.Goals as goal
 

@@ -1,8 +1,4 @@
-use Rattle.std.proofs.Common.{rules, ◌≡◌, List, [], ◌∷◌, ◌++◌, All, map, sym, ap, ◌∙◌, subst}
-use Rattle.std.proofs.lemmas.List.{map-append}
-use Rattle.std.proofs.lemmas.List.Elements.{All-push}
-use Rattle.kahn_job.specs.inner.Works.{IsJob, Work}
-use Rattle.kahn_crew.specs.inner.Tasks.{work_of}
+use Rattle.kahn_crew.proofs.Common.{rules, ◌≡◌, List, [], ◌∷◌, ◌++◌, All, map, sym, ap, ◌∙◌, subst, map-append, All-push, IsJob, Work, work_of}
 use Rattle.kahn_crew.proofs.waking.rest_all.Goals as goal
 
 pub loop-task-preserved : goal.loop-task-preserved

@@ -1,6 +1,5 @@
-use Rattle.std.proofs.Common.{◌≡◌, All, map, vec_capacity}
-use Rattle.kahn_job.specs.inner.Works.{IsJob}
-use Rattle.kahn_crew.specs.inner.Tasks.{work_of}
+use Rattle.kahn_crew.proofs.Common.{◌≡◌, All, map, IsJob, work_of}
+use Rattle.std.proofs.Common.{vec_capacity}
 use Rattle.kahn_crew.proofs.waking.rest_all.Given as goal
 
 abbrev pub invariant-loop-task : goal.invariant-loop-task

@@ -1,5 +1,4 @@
-use Rattle.std.proofs.Common.{arith, rules, length}
-use Rattle.kahn_job.specs.inner.Tasks.{woken_task}
+use Rattle.kahn_crew.proofs.Common.{arith, rules, length, woken_task}
 use Rattle.kahn_crew.proofs.Started.{all_taken, goes_on, next_at, none_taken, one_taken, room_for}
 use Rattle.kahn_crew.proofs.waking.wake_all.Goals as goal
 

@@ -1,6 +1,4 @@
-use Rattle.std.proofs.Common.{◌≤◌, length}
-use Rattle.std.specs.Vec.{vec_capacity}
-use Rattle.kahn_job.specs.inner.Tasks.{woken_task}
+use Rattle.kahn_crew.proofs.Common.{◌≤◌, length, vec_capacity, woken_task}
 use Rattle.kahn_crew.proofs.Started.{Taking}
 use Rattle.kahn_crew.proofs.waking.wake_all.Given as goal
 

@@ -1,4 +1,4 @@
-use Rattle.kahn_crew.specs.inner.Turns.{Heeds, SitsWith}
+use Rattle.kahn_crew.proofs.Common.{Heeds, SitsWith}
 use Rattle.kahn_crew.proofs.worker.turns.Given as goal
 
 abbrev pub invariant-loop : goal.invariant-loop
