@@ -76,16 +76,21 @@ impl<A: Allocator> Queue<A> {
         ensures spare { IfSome result (λ _. self.new.spare ≡ self.old.spare + 1) }
         ensures none { IfNone result ((self.new ≡ self.old) × (self.old.waiting ≡ 0)) }
     {
-        let carried = self.tokens.pop_front()?;
-        let token = lifted(
+        if self.tokens.is_empty() {
+            return None;
+        }
+        let line = Line::Channel(self.channel);
+        let place = self.taken;
+        // It is counted first, so that nothing is written between its way out of the queue and where the caller puts it.
+        self.taken += 1;
+        let carried = self.tokens.pop_front().unwrap();
+        Some(lifted(
             &self.network,
             &self.input,
-            carried.token(Line::Channel(self.channel), self.taken),
-            Line::Channel(self.channel),
-            self.taken,
-        );
-        self.taken += 1;
-        Some(token)
+            carried.token(line, place),
+            line,
+            place,
+        ))
     }
 
     /// Goes on for an input whose lists begin with those of its own. It takes no memory.

@@ -1,7 +1,10 @@
+use Rattle.std.proofs.Common.{ap, ◌∙◌, ◌++◌, option_to_list}
 use Rattle.kahn_code.proofs.Begin.{first_begins}
 use Rattle.kahn_code.proofs.queue.Queue.take.Goals as goal
 
-pub lifted-token-requires-clause-names : goal.lifted-token-requires-clause-names
-lifted-token-requires-clause-names g c =
+pub lifted-requires-clause-names : goal.lifted-requires-clause-names
+lifted-requires-clause-names g c =
     let q = c.self.inside in
-    first_begins q.network.value q.input.value q.tokens.items c.pop_front.new.self.items c.in_ok-carried.carried c.token.result c.in_ok-carried.ensures.items c.token.ensures c.self.invariant.1
+    let rest = c.pop_front.new.self.items in
+    first_begins q.network.value q.input.value q.tokens.items rest c.unwrap-carried.result c.token.result
+    (c.pop_front.ensures.items ∙ ap (λ o. option_to_list o ++ rest) c.unwrap-carried.ensures) c.token.ensures c.self.invariant.1
