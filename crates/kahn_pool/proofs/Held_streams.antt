@@ -1,30 +1,11 @@
 -- The streams of a held run so far: what is lent of them, and that they are those of a right answer.
-use Rattle.std.proofs.Common.{arith, ◌≡◌, ℕ, ◌+◌, ◌<◌, length, slice_get, Some, Bool, true, List, [], map, sum_by, sym, ap, ◌∙◌, subst, Option, slice_index_or}
-use Rattle.kahn_streams.specs.declared.tree.Program.{Program}
-use Rattle.kahn_streams.specs.declared.value.Line.{Line}
-use Rattle.kahn_streams.specs.Network.{Network, Given, Written, Writes, channel_source, network_of, instance_at, actual_at}
-use Rattle.kahn_streams.specs.declared.token.Token.{Token}
-use Rattle.kahn_streams.specs.declared.value.Line.TheVariants.{Channel, Print}
-use Rattle.kahn_streams.specs.Solution.{Inputs, source, AreInputsExtended}
-use Rattle.kahn_streams.proofs.Proved.{prefix_trans}
-use Rattle.kahn_streams.specs.Inputs.{Lists, inputs_of}
-use Rattle.kahn_code.specs.Cells.{is_streamed}
-use Rattle.kahn_streams.specs.Tokens.{token_value}
-use Rattle.kahn_job.specs.inner.Idles.{AreIdle, cells_of}
-use Rattle.kahn_job.specs.inner.Works.{Work, width_of}
-use Rattle.kahn_crew.specs.declared.plan.Plan.{Plan}
-use Rattle.kahn_pool.specs.inner.Concluded.{IsConcluded}
-use Rattle.kahn_pool.specs.inner.Streams.{AreAllGiven, AreGiven}
-use Rattle.kahn_pool.specs.inner.Holding.{held_state, run_of, work_events}
-use Rattle.kahn_pool.specs.HeldRuns.{HasSoFar, HeldRun, IsLineOf, IsRightSoFar, IsSoFar, Seen}
-use Rattle.kahn_streams.specs.declared.answer.End.{End}
-use Rattle.kahn_streams.specs.declared.answer.Verdict.{Verdict}
-use Rattle.kahn_pool.proofs.Held_runs.{all_seen, seen_there}
-use Rattle.kahn_pool.proofs.Giving.{input_role}
+use Rattle.std.proofs.Common.{◌≡◌, ℕ, ◌<◌, length, slice_get, Some, true, List, [], map, sym, ap, ◌∙◌, subst, Option, slice_index_or}
+use Rattle.kahn_pool.proofs.Common.{Program, Line, Network, Given, Written, Writes, channel_source, network_of, instance_at, actual_at, Token, Channel, Print, Inputs, source, AreInputsExtended, prefix_trans, Lists, inputs_of, is_streamed, token_value, AreIdle, cells_of, Work, width_of, Plan, AreAllGiven, AreGiven, run_of, HasSoFar, HeldRun, IsLineOf, IsSoFar, Seen, Verdict, idle, seen_at, seen_of, unseen, at_mapped}
 pub use Rattle.kahn_pool.proofs.Once_written.{so_far_is}
+use Rattle.kahn_pool.proofs.Giving.{input_role}
 use Rattle.kahn_pool.proofs.Once_written.{input_watched}
-use Rattle.kahn_pool.proofs.Righted.{right_with}
 use Rattle.kahn_pool.proofs.Named.{HasLine, has_line}
+use Rattle.kahn_pool.proofs.Benched.{mapped}
 
 -- ---- the list of a watched input channel
 
@@ -39,6 +20,9 @@ given_on N I J watch ts longer given c w =
     }
 
 -- ---- what is lent
+
+cell_seen : (ws : List Work) (p : ℕ) (w : Work) → slice_get ws p ≡ Some w → seen_at (map seen_of (cells_of ws)) p ≡ seen_of w.cell
+cell_seen ws p w e = mapped seen_of (cells_of ws) p w.cell unseen (at_mapped (λ (z : Work). z.cell) ws p w e)
 
 module _ (t : Program) (lists : Lists) (plan : Plan) (ws : List Work) (verdict : Option Verdict) where
   abbrev lent : HeldRun
@@ -64,11 +48,11 @@ module _ (t : Program) (lists : Lists) (plan : Plan) (ws : List Work) (verdict :
   kept_so_far line c p q w ts e here source writes at is =
       subst (λ l. HasSoFar lent l (map token_value ts)) (sym e)
       (subst (λ s. IsSoFar lent s (Channel c) (map token_value ts)) (sym source)
-      (q, writes, (streamed_here line c e here).1, ap (map token_value) (is ∙ ap (λ (z : Seen). slice_index_or z.kept q []) (sym (seen_there ws p w at)))))
+      (q, writes, (streamed_here line c e here).1, ap (map token_value) (is ∙ ap (λ (z : Seen). slice_index_or z.kept q []) (sym (cell_seen ws p w at)))))
 
   pub printed_so_far : (line : Line) (p : ℕ) (w : Work) (ts : List Token) → line ≡ Print p → slice_get ws p ≡ Some w → ts ≡ w.cell.printed → HasSoFar lent line (map token_value ts)
   printed_so_far line p w ts e at is =
-      subst (λ l. HasSoFar lent l (map token_value ts)) (sym e) (ap (map token_value) (is ∙ ap (λ (z : Seen). z.printed) (sym (seen_there ws p w at))))
+      subst (λ l. HasSoFar lent l (map token_value ts)) (sym e) (ap (map token_value) (is ∙ ap (λ (z : Seen). z.printed) (sym (cell_seen ws p w at))))
 
   pub given_so_far_here : (line : Line) (c : ℕ) (ts : List Token) → line ≡ Channel c → IsLineOf lent line → channel_source (network_of t) c ≡ Given →
       AreAllGiven (network_of t) (inputs_of lists) plan.watch ts → HasSoFar lent line (map token_value ts)
@@ -77,12 +61,3 @@ module _ (t : Program) (lists : Lists) (plan : Plan) (ws : List Work) (verdict :
       subst (λ l. HasSoFar lent l (map token_value ts)) (sym e)
       (subst (λ s. IsSoFar lent s (Channel c) (map token_value ts)) (sym source)
       (all c (input_watched (network_of t) plan.watch c role (streamed_here line c e here).1) role))
-
--- ---- they are right
-
-pub right_so_far : (t : Program) (lists : Lists) (plan : Plan) (ws : List Work) (verdict : Option Verdict) (budget : ℕ) →
-    budget + sum_by work_events ws ≡ plan.bound → (halted : Bool) (v : Verdict) (ends : List End) → IsConcluded (held_state t lists plan.watch ws) plan.bound budget halted v ends →
-    IsRightSoFar (run_of t lists plan ws verdict) v ends
-right_so_far t lists plan ws verdict budget left halted v ends c =
-    let sum = all_seen ws in
-    right_with t lists plan.watch plan.workers plan.quantum plan.bound (cells_of ws) verdict budget (omega (arith, left, sum)) halted v ends c

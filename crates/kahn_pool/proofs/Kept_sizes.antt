@@ -1,11 +1,6 @@
 -- What the cells kept has a list for each parameter.
 use Rattle.std.proofs.Common.{◌≡◌, ℕ, ◌<◌, List, length, sym, ap, ◌∙◌, subst, Some, slice_get}
-use Rattle.std.proofs.lemmas.List.{length-map}
-use Rattle.kahn_streams.specs.Network.{network_of, instance_at}
-use Rattle.kahn_code.specs.declared.cell.Kept.{Kept}
-use Rattle.kahn_code.specs.Told.{Told}
-use Rattle.kahn_pool.specs.inner.Streams.{AreLists, kept_lists}
-use Rattle.kahn_pool.specs.inner.Workbench.{Table, IsLaid, AreKeptOf, parameter_count, actual_count}
+use Rattle.kahn_pool.proofs.Common.{length-map, network_of, instance_at, Kept, Told, AreLists, kept_lists, Table, IsLaid, AreKeptOf, parameter_count, actual_count}
 use Rattle.kahn_pool.proofs.Benched.{got, get_map, some_one, within_get}
 
 pub are_lists : {A : Type 0} (b : Table) → IsLaid b → (kept : List (Kept A)) → AreKeptOf b.cells kept → AreLists (network_of b.network) kept

@@ -1,17 +1,6 @@
 -- The lines of an answer: each is of the network, and none stands twice.
-use Rattle.std.proofs.Common.{arith, ◌≡◌, ◌⊎◌, inl, inr, ℕ, zero, suc, ◌+◌, ◌<◌, ◌||◌, Bool, true, false, if◌then◌else◌, List, [], ◌∷◌, ◌++◌, length, map, Option, Some, None, refl, sym, ap, ◌∙◌, subst, slice_get, slice_index_or}
-use Rattle.kahn_streams.specs.declared.tree.Kind.{Kind}
-use Rattle.kahn_streams.specs.declared.tree.Role.{Role}
-use Rattle.kahn_streams.specs.declared.value.Line.{Line}
-use Rattle.kahn_streams.specs.declared.tree.Kind.TheVariants.{Integer}
-use Rattle.kahn_streams.specs.declared.tree.Role.TheVariants.{Inner}
-use Rattle.kahn_streams.specs.Syntax.{prints_in}
-use Rattle.kahn_streams.specs.declared.value.Line.TheVariants.{Channel, Print}
-use Rattle.kahn_streams.specs.Network.{Network, Instance}
-use Rattle.kahn_code.specs.Cells.{is_streamed}
-use Rattle.kahn_streams.specs.Answers.{is_output, is_watched, stream_line, channel_lines, print_lines, stream_lines}
-use Rattle.kahn_streams.specs.declared.answer.Stream.{Stream}
-use Rattle.kahn_pool.specs.inner.Streams.{AreNamed, IsDeclared}
+use Rattle.std.proofs.Common.{arith, ◌≡◌, ◌⊎◌, inl, inr, ℕ, zero, suc, ◌+◌, ◌<◌, ◌||◌, Bool, true, false, if◌then◌else◌, List, [], ◌∷◌, ◌++◌, length, map, Option, Some, refl, sym, ap, ◌∙◌, subst, slice_get, slice_index_or}
+use Rattle.kahn_pool.proofs.Common.{Kind, Role, Line, Integer, Inner, prints_in, Channel, Print, Network, Instance, is_streamed, is_output, is_watched, stream_line, channel_lines, print_lines, stream_lines, Stream, AreNamed, IsDeclared}
 
 -- ---- what the lines are
 
@@ -164,23 +153,6 @@ line_at streams lines j x e f = subst (λ l. slice_get l j ≡ Some x.line) e (a
         same : Some y ≡ Some x → y ≡ x
         same h = cc
     at (y ∷ ys) (suc j) g = at ys j g
-
--- the stream of the same line in a list of the same lines
-pub stream_before : (old new : List Stream) (j : ℕ) (y : Stream) → map stream_line new ≡ map stream_line old → slice_get new j ≡ Some y →
-    (x : Stream) × (slice_get old j ≡ Some x) × (x.line ≡ y.line)
-stream_before old new j y lines e = by (slice_get old j) refl
-  where
-    never : (xs : List Stream) (j : ℕ) → slice_get xs j ≡ None → slice_get (map stream_line xs) j ≡ Some y.line → ⊥
-    never [] j g h = cc
-    never (x ∷ xs) zero g h = cc
-    never (x ∷ xs) (suc j) g h = never xs j g h
-
-    by : (o : Option Stream) → slice_get old j ≡ o → (x : Stream) × (slice_get old j ≡ Some x) × (x.line ≡ y.line)
-    by (Some x) f = (x, f, same (sym (line_at old (map stream_line old) j x refl f) ∙ line_at new (map stream_line old) j y lines e))
-      where
-        same : Some x.line ≡ Some y.line → x.line ≡ y.line
-        same g = cc
-    by None f = absurd (never old j f (line_at new (map stream_line old) j y lines e))
 
 pub declared : (N : Network) (streams : List Stream) (j : ℕ) (x : Stream) → AreNamed N streams → slice_get streams j ≡ Some x → IsDeclared N x.line
 declared N streams j x (watch, e) f = by x.line (has_line N watch j x.line (line_at streams (stream_lines N watch) j x e f))

@@ -1,23 +1,7 @@
 -- A flow that is given more input.
 use Rattle.std.proofs.Common.{arith, ◌≡◌, ℕ, zero, suc, ◌+◌, ◌≤◌, ◌==◌, Bool, true, false, if◌then◌else◌, eqb-true, eq-eqb, true≢false, List, [], ◌∷◌, ◌++◌, length, map, sum_by, refl, sym, ap, ◌∙◌, subst, append-nil, append_assoc, Option, Some, None, slice_get, slice_index_or}
-use Rattle.kahn_streams.specs.Network.{Source, Given, Written, Nobody, network_of, role_at}
-use Rattle.kahn_streams.specs.declared.token.Token.{Token}
-use Rattle.kahn_streams.specs.declared.value.Value.{Value}
-use Rattle.kahn_streams.specs.declared.value.Line.{Line}
-use Rattle.kahn_streams.specs.declared.value.Line.TheVariants.{Channel, Print}
-use Rattle.kahn_streams.specs.Inputs.{Entry, channel_of, most_values, Lists, inputs_of}
-use Rattle.kahn_streams.specs.Feeds.{IsMeant}
-use Rattle.kahn_streams.specs.Solution.{source}
-use Rattle.kahn_streams.specs.Answers.{is_watched, stream_lines}
-use Rattle.kahn_streams.specs.Tokens.{token_value}
-use Rattle.kahn_code.specs.Lines.{AreQueued, IsPoured, waiting_of}
-use Rattle.kahn_code.specs.Queues.{Waiting}
+use Rattle.kahn_pool.proofs.Common.{Source, Given, Written, Nobody, network_of, role_at, Token, Value, Line, Channel, Print, Entry, channel_of, most_values, Lists, inputs_of, IsMeant, source, is_watched, stream_lines, token_value, AreQueued, IsPoured, waiting_of, Waiting, Verdict, view_events, HasPouredIn, AreLent, IsFlowing, flow_of, let_go_by, let_go_of, waits_of, AllStandBy, HasTakenIn, IsLaid, Table, sight_of}
 use Rattle.kahn_streams.specs.declared.answer.End.{End}
-use Rattle.kahn_streams.specs.declared.answer.Verdict.{Verdict}
-use Rattle.kahn_pool.specs.inner.Bench.{view_events}
-use Rattle.kahn_pool.specs.Flows.{HasPouredIn}
-use Rattle.kahn_pool.specs.inner.FlowBench.{AreLent, IsFlowing, flow_of, let_go_by, let_go_of, waits_of}
-use Rattle.kahn_pool.specs.inner.Workbench.{AllStandBy, HasTakenIn, IsLaid, Table, sight_of}
 use Rattle.kahn_pool.proofs.Flowed.{flowing_same, front_of, lent_same, let_go_same, map_on, poured_goes_on}
 use Rattle.kahn_pool.proofs.Giving.{input_role}
 use Rattle.kahn_pool.proofs.Named.{HasLine, has_line}

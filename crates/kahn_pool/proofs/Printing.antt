@@ -1,18 +1,7 @@
 -- The lines that are still to come, and which processes print.
 use Rattle.std.proofs.Common.{arith, ◌≡◌, ℕ, zero, suc, ◌<◌, Bool, true, false, if◌then◌else◌, List, [], ◌∷◌, ◌++◌, length, drop, map, Option, Some, refl, sym, ap, ◌∙◌, slice_get, slice_index_or, append_assoc}
-use Rattle.kahn_streams.specs.declared.tree.Kind.TheVariants.{Integer}
-use Rattle.kahn_streams.specs.declared.tree.Role.TheVariants.{Inner}
-use Rattle.kahn_streams.specs.declared.tree.Declaration.{Declaration}
-use Rattle.kahn_streams.specs.declared.tree.Process.{Process}
-use Rattle.kahn_streams.specs.declared.value.Line.{Line}
+use Rattle.kahn_pool.proofs.Common.{Integer, Inner, Declaration, Process, Line, declaration_prints, process_prints, prints_in, Channel, Print, Network, instance_at, idle, process_at, is_streamed, channel_lines, print_lines}
 use Rattle.kahn_streams.specs.declared.tree.Declaration.TheVariants as D
-use Rattle.kahn_streams.specs.Prints.{declaration_prints, process_prints}
-use Rattle.kahn_streams.specs.Syntax.{prints_in}
-use Rattle.kahn_streams.specs.declared.value.Line.TheVariants.{Channel, Print}
-use Rattle.kahn_streams.specs.Network.{Network, instance_at, idle}
-use Rattle.kahn_streams.specs.Wires.{process_at}
-use Rattle.kahn_code.specs.Cells.{is_streamed}
-use Rattle.kahn_streams.specs.Answers.{channel_lines, print_lines}
 
 -- ---- processes
 

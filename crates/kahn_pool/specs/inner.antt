@@ -1,10 +1,9 @@
 pub mod Bench
+pub mod Changed
 pub mod Concluded
 pub mod FlowBench
 pub mod Gathered
-pub mod Gathers
 pub mod Holding
-pub mod Parameters
 pub mod Rested
 pub mod Streams
 pub mod Workbench

@@ -2,8 +2,7 @@
 use Rattle.std.specs.Prelude.{ℕ, Bool, List}
 use Rattle.kahn_pool.specs.inner.Bench.{RunState, IsLast, IsVerdict}
 use Rattle.kahn_pool.specs.inner.Gathered.{TookNoMore}
-use Rattle.kahn_streams.specs.declared.answer.End.{End}
-use Rattle.kahn_streams.specs.declared.answer.Verdict.{Verdict}
+use Rattle.kahn_streams.specs.declared.{answer.End.End, answer.Verdict.Verdict}
 
 -- with so much left of the bound: each end is that of its instance, the verdict goes by the ends, and no reader took more
 -- than was given

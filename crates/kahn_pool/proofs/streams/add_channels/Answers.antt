@@ -1,5 +1,5 @@
 use Rattle.std.proofs.Common.{rules, ◌<◌, length, refl, sym, ◌∙◌, true≢false, add-one}
-use Rattle.kahn_streams.specs.Network.{network_of}
+use Rattle.kahn_pool.proofs.Common.{network_of}
 use Rattle.kahn_pool.proofs.Printing.{channel_more}
 use Rattle.kahn_pool.proofs.streams.add_channels.Goals as goal
 use Rattle.kahn_pool.proofs.streams.add_channels.Goals.{then-has_stream+in_ok-add_stream, else-has_stream}

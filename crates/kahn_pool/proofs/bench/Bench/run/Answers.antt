@@ -1,6 +1,5 @@
-use Rattle.std.proofs.Common.{arith, refl, subst}
-use Rattle.kahn_pool.specs.inner.Bench.{HasRunCell}
-use Rattle.kahn_pool.specs.inner.Workbench.{IsLaid, Table, sight_of, table_of}
+use Rattle.std.proofs.Common.{arith, refl, subst, ◌∙◌}
+use Rattle.kahn_pool.proofs.Common.{HasRunCell, IsLaid, Table, sight_of, table_of, length-map}
 use Rattle.kahn_pool.proofs.Benched
 use Rattle.kahn_pool.proofs.Tapping as Tapping
 use Rattle.kahn_pool.proofs.bench.Bench.run.Goals as goal
@@ -52,6 +51,7 @@ returns g c =
     (subst (λ (x : Table). HasRunCell (sight_of x) (sight_of (Benched.ran b c.args.instance new ports)) c.args.instance n z) c.self.view_is
     (record {
       same = (refl, refl, refl);
+      known = length-map _ _ ∙ (Benched.laid_now laid c.args.instance at new c.at.new.self ports c.at.ensures e.names e.ports e.at e.others).count;
       only = Benched.views_after b c.args.instance _ new ports at;
       events = Benched.events_now laid c.args.instance at new c.at.new.self ports c.at.ensures e.names e.ports e.at e.others n e.events;
       still = Benched.still_now laid c.args.instance at new c.at.new.self ports c.at.ensures e.names e.ports e.at e.others e.still;

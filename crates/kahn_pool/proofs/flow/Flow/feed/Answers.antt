@@ -1,16 +1,5 @@
 use Rattle.std.proofs.Common.{arith, ◌≡◌, ◌++◌, false, true, List, drop, length, map, None, refl, sym, ap, ◌∙◌, subst}
-use Rattle.std.proofs.lemmas.Result.{err_from_is_err_and}
-use Rattle.kahn_streams.specs.declared.tree.Role.TheVariants.{Input}
-use Rattle.kahn_streams.specs.Network.{network_of, role_at}
-use Rattle.kahn_streams.specs.Inputs.{Entry, channel_of, Lists, inputs_of}
-use Rattle.kahn_streams.specs.Feeds.{IsMeant}
-use Rattle.kahn_streams.specs.declared.token.Token.{Token}
-use Rattle.kahn_streams.specs.Answers.{is_watched}
-use Rattle.kahn_streams.specs.Tokens.{token_value}
-use Rattle.kahn_streams.proofs.Fed.{meant_input}
-use Rattle.kahn_code.proofs.Poured.{poured_length, poured_rest}
-use Rattle.kahn_pool.specs.Flows.{Flowing, HasPouredIn}
-use Rattle.kahn_pool.specs.inner.FlowBench.{flow_of}
+use Rattle.kahn_pool.proofs.Common.{err_from_is_err_and, Input, network_of, role_at, Entry, channel_of, Lists, inputs_of, IsMeant, Token, is_watched, token_value, meant_input, poured_length, poured_rest, Flowing, HasPouredIn, flow_of}
 use Rattle.kahn_pool.proofs.Poured_in.{is_poured, poured_flow, poured_flowing, poured_lent, poured_lists, refused_same}
 use Rattle.kahn_pool.proofs.flow.Flow.feed.Goals as goal
 

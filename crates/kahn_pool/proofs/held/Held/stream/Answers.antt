@@ -1,9 +1,6 @@
 use Rattle.std.proofs.Common.{arith, ◌≡◌, length, map, Some, sym, ap, ◌∙◌, subst, slice_get}
+use Rattle.kahn_pool.proofs.Common.{slice_get-get_or, token_value, Work, HasSoFar, HeldRun, IsLineOf}
 use Rattle.std.specs.Vec.{vec_len}
-use Rattle.std.proofs.lemmas.Option.{slice_get-get_or}
-use Rattle.kahn_streams.specs.Tokens.{token_value}
-use Rattle.kahn_job.specs.inner.Works.{Work}
-use Rattle.kahn_pool.specs.HeldRuns.{HasSoFar, HeldRun, IsLineOf}
 use Rattle.kahn_streams.specs.declared.answer.Verdict.{Verdict as VerdictOf}
 use Rattle.kahn_pool.proofs.Held_streams.{given_so_far_here, kept_so_far, printed_here, printed_so_far, streamed_here, width_there}
 use Rattle.kahn_pool.proofs.held.Held.stream.Goals as goal

@@ -1,9 +1,5 @@
 use Rattle.std.proofs.Common.{arith, ap, sym, ◌∙◌, subst, length}
-use Rattle.std.proofs.lemmas.List.{length-map}
-use Rattle.kahn_streams.specs.Network.{network_of}
-use Rattle.kahn_pool.specs.inner.Bench.{AreStreams}
-use Rattle.kahn_streams.specs.Answers.{stream_lines}
-use Rattle.kahn_pool.specs.inner.Workbench.{IsLaid, Table, sight_of, told_in}
+use Rattle.kahn_pool.proofs.Common.{length-map, network_of, AreStreams, stream_lines, IsLaid, Table, sight_of, told_in}
 use Rattle.kahn_pool.proofs.Filled.{are_streams}
 use Rattle.kahn_pool.proofs.Kept_sizes.{are_lists}
 use Rattle.kahn_pool.proofs.Seen.{kept_seen, printed_seen}
