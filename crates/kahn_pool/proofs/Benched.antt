@@ -1,6 +1,6 @@
 -- Cells that stand where their queues stand.
 use Rattle.std.proofs.Common.{arith, ◌≡◌, inl, inr, ℕ, ◌+◌, ◌<◌, ◌≤◌, List, length, map, refl, sym, ap, ◌∙◌, subst, Some, slice_get, slice_set, slice_index_or, false, length-set, ◌⊎◌}
-use Rattle.kahn_pool.proofs.Common.{map-set_same, map-set, get_or_from_slice_get, slice_get_read, Network, Reads, Writes, network_of, instance_at, actual_at, role_at, IsFed, reads, reads_listed, Channel, Inputs, source, inputs_of, View, exec_on, is_output, AreQueued, Joins, queue_of, actual_here, place_at, next_at, taken_of, given_of, waiting_of, Waiting, Seat, LeavesOthers, count, Told, told_view, seat_of, IsAt, IsStill, set_each, set_here, joins_within, IsGiven, TookNoMore, TookAll, view_at, no_view, RunState, PausedAt, events_at, Value, Table, IsLaid, IsSeated, sight_of, Pause, IsPause, dry_reads, Store, IsPaused, Cut, Dry}
+use Rattle.kahn_pool.proofs.Common.{map-set_same, map-set, get_or_from_slice_get, slice_get_read, Network, Reads, Writes, network_of, instance_at, actual_at, role_at, IsFed, reads, reads_listed, Channel, Inputs, source, inputs_of, View, exec_on, is_output, AreQueued, Joins, queue_of, actual_here, place_at, next_at, taken_of, given_of, waiting_of, Waiting, Seat, LeavesOthers, count, Told, told_view, seat_of, IsAt, IsStill, set_each, set_here, joins_within, IsGiven, TookNoMore, TookAll, view_at, no_view, RunState, PausedAt, Value, Table, IsLaid, IsSeated, sight_of, Pause, IsPause, dry_reads, Store, IsPaused, Cut, Dry, writes, HasRunCell, length-map}
 pub use Rattle.kahn_streams.proofs.By_number.{there as got, within as within_get, mapped as get_map}
 use Rattle.kahn_streams.specs.Script.{Outcome}
 use Rattle.kahn_code.specs.Lines.{Lines as Queues}
@@ -232,6 +232,12 @@ module _ {b : Table} (laid : IsLaid b) (p : ℕ) {c : Told} (at : slice_get b.ce
         ap (λ t. actual_at (instance_at (network_of t) c'.instance) r) mine.network ∙
         ap (λ i. actual_at (instance_at (network_of b.network) i) r) mine.instance
 
+    before : (view_at (sight_of b).cells p).events ≡ c.events
+    before = ap (λ v. v.events) (viewed b laid p c at)
+
+    after : (view_at (sight_of (ran b p c' q')).cells p).events ≡ c'.events
+    after = ap (λ v. v.events) (view_after b p c c' q' at)
+
     module _ (counted : AreQueued q') (quantum : ℕ) (z : Pause)
         (paused : code.Paused (network_of c'.network) (inputs_of c'.input) c'.watch c'.instance (told_view c')
         (IsPause (network_of c'.network) c'.instance
@@ -275,45 +281,27 @@ module _ {b : Table} (laid : IsLaid b) (p : ℕ) {c : Told} (at : slice_get b.ce
               let g = left_some (ran b p c' q') laid_now counted p r d e (subst (λ a. 0 < waiting_of (queue_of q'.queues a)) (own_actual r ∙ e) h) in
               inr (r, d, g.0, e, dry, g.1, g.2)
 
-      pub paused_now : PausedAt now p z
+      paused_now : PausedAt now p z
       paused_now =
           subst (λ v. code.Paused (network_of b.network) (inputs_of b.input) b.watch p v (IsPaused now p z)) (sym (view_after b p c c' q' at))
           (record { stood = paused_here.stood; is = is_paused z paused_here.is })
 
-    before : (view_at (sight_of b).cells p).events ≡ c.events
-    before = ap (λ v. v.events) (viewed b laid p c at)
+      paused_as : {k : Pause} → z ≡ k → IsPause (network_of b.network) p dry ready (c'.events ≡ c.events + quantum) k o
+      paused_as e = subst (λ k. IsPause (network_of b.network) p dry ready (c'.events ≡ c.events + quantum) k o) e paused_here.is
 
-    after : (view_at (sight_of (ran b p c' q')).cells p).events ≡ c'.events
-    after = ap (λ v. v.events) (view_after b p c c' q' at)
-
-    pub events_now : (quantum : ℕ) → (c.events ≤ c'.events) × (c'.events ≤ c.events + quantum) →
-        (events_at (sight_of b) p ≤ events_at (sight_of (ran b p c' q')) p) × (events_at (sight_of (ran b p c' q')) p ≤ events_at (sight_of b) p + quantum)
-    events_now quantum h =
-        let x = before in
-        let y = after in
-        let l = h.0 in
-        let m = h.1 in
-        (omega (arith, x, y, l), omega (arith, x, y, m))
-
-    pub still_now : (c'.events ≡ c.events → IsStill c c') → events_at (sight_of (ran b p c' q')) p ≡ events_at (sight_of b) p →
-        sight_of (ran b p c' q') ≡ sight_of b
-    still_now h e = let s = sym after ∙ e ∙ before in still_after b p c c' q' at s (h s)
-
-    pub spent_now : (quantum : ℕ) (dry ready : ℕ → Type 0) (z : Pause) →
-        code.Paused (network_of c'.network) (inputs_of c'.input) c'.watch c'.instance (told_view c') (IsPause (network_of c'.network) c'.instance dry ready (c'.events ≡ c.events + quantum) z) →
-        z ≡ pause.Spent → events_at (sight_of (ran b p c' q')) p ≡ events_at (sight_of b) p + quantum
-    spent_now quantum dry ready z h e =
-        let s = (subst (λ z. IsPause (network_of c'.network) c'.instance dry ready (c'.events ≡ c.events + quantum) z (exec_on (network_of c'.network) c'.events c'.instance h.stood.tapes).outcome) e h.is).0 in
-        let x = before in
-        let y = after in
-        omega (arith, s, x, y)
-
-    pub wanted_now : (quantum : ℕ) (dry ready : ℕ → Type 0) (z : Pause) →
-        code.Paused (network_of c'.network) (inputs_of c'.input) c'.watch c'.instance (told_view c') (IsPause (network_of c'.network) c'.instance dry ready (c'.events ≡ c.events + quantum) z) →
-        c'.events ≤ c.events + quantum → z ≡ pause.NoMemory → events_at (sight_of (ran b p c' q')) p < events_at (sight_of b) p + quantum
-    wanted_now quantum dry ready z h most e =
-        let s = (subst (λ z. IsPause (network_of c'.network) c'.instance dry ready (c'.events ≡ c.events + quantum) z (exec_on (network_of c'.network) c'.events c'.instance h.stood.tapes).outcome) e h.is).1 in
-        let x = before in
-        let y = after in
-        let l : c'.events < c.events + quantum = omega (arith, most, s) in
-        omega (arith, l, x, y)
+      pub ran_now : (c.events ≤ c'.events) × (c'.events ≤ c.events + quantum) → (c'.events ≡ c.events → IsStill c c') → HasRunCell (sight_of b) now p quantum z
+      ran_now events still =
+          let x = before in
+          let y = after in
+          let l = events.0 in
+          let m = events.1 in
+          record {
+            same = (refl, refl, refl);
+            known = length-map (slice_set b.cells p c') told_view ∙ laid_now.count;
+            only = views_after b p c c' q' at;
+            events = (omega (arith, x, y, l), omega (arith, x, y, m));
+            still = λ e. let s = sym after ∙ e ∙ before in still_after b p c c' q' at s (still s);
+            paused = paused_now;
+            spent = λ e. let s = (paused_as e).0 in omega (arith, s, x, y);
+            wanted = λ e. let s = (paused_as e).1 in let n : c'.events < c.events + quantum = omega (arith, m, s) in omega (arith, n, x, y);
+          }

@@ -1,5 +1,5 @@
 -- A held run goes on: its streams grow, and no instance has fewer events.
-use Rattle.std.proofs.Common.{◌≡◌, ℕ, ◌+◌, ◌<◌, ◌^◌, List, length, map, refl, sym, ap, ◌∙◌, subst, Bool, Option, Some, None, Ok, Err}
+use Rattle.std.proofs.Common.{◌≡◌, ℕ, ◌+◌, ◌<◌, ◌^◌, List, length, map, refl, sym, ap, ◌∙◌, subst, Bool, Option, Some, None, Ok, Err, arith, ◌≤◌, ◌-◌}
 use Rattle.kahn_pool.proofs.Common.{length-map, Program, Line, IsInRange, IsRight, stream_lines, Source, Given, Written, Nobody, network_of, IsWellWired, Token, Channel, Print, AreInputsExtended, source, Lists, inputs_of, prefix_refl, token_value, cells_of, NoMemory, NoThread, Plan, Stopped, Work, AreStreams, IsConcluded, IsFrom, GoesOn, HasResumed, HeldRun, IsAnswerOf, IsResumed, IsSoFar, Seen, AreHeld, HasStopped, HaveRisen, IsGiving, IsHolding, cells_seen, held_state, run_of, Answer, Verdict}
 use Rattle.kahn_streams.specs.declared.answer.End.{End}
 use Rattle.kahn_pool.proofs.Held_jobs.{ended_alike, held_again, held_grown, same_seen}
@@ -57,7 +57,14 @@ module _ (t : Program) (wired : IsWellWired t) {compiled : Program} (lists : Lis
     goes_on_fed = goes_on after grown (held_grown h.held after grown) (risen_here (cells_of ws)) None
 
   -- a part with so many events more
-  module _ (more : ℕ) (few : plan.bound + more < 2 ^ 48) {r : Stopped} (s : HasStopped t lists plan.watch plan.workers (plan.bound + more) ws (budget + more) r) where
+  module _ (more : ℕ) {us : List Work} {r : Stopped} (part : HasStopped t lists plan.watch plan.workers (plan.bound + more) us (budget + more) r) (same : us ≡ ws)
+      (below : more ≤ 281474976710655 - plan.bound) where
+    s : HasStopped t lists plan.watch plan.workers (plan.bound + more) ws (budget + more) r
+    s = subst (λ l. HasStopped t lists plan.watch plan.workers (plan.bound + more) l (budget + more) r) same part
+
+    pub few : plan.bound + more < 2 ^ 48
+    few = let b = h.range.4 in omega (arith, below, b)
+
     pub resumed : (next : Option Verdict) → HasResumed more (held_run plan.bound ws verdict) (held_run (plan.bound + more) r.idles.items next)
     resumed next = record { goes_on = goes_on lists (λ c. prefix_refl (inputs_of lists c)) s.held s.risen next; input = refl; bound = refl; few = few }
 

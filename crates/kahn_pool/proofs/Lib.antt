@@ -17,7 +17,6 @@ pub mod Filled
 pub mod Giving
 pub mod Printing
 pub mod Seen
-pub mod Kept_sizes
 pub mod Settled
 pub mod Ended
 pub mod Rests
