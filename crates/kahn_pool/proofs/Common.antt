@@ -42,9 +42,8 @@ pub use Rattle.kahn_pool.specs.declared.held_fault.HeldFault.{HeldFault}
 pub use Rattle.kahn_pool.specs.declared.part.Part.{Part}
 pub use Rattle.kahn_pool.specs.declared.part.Stopped.{Stopped}
 pub use Rattle.kahn_pool.specs.declared.rounds.Round.{Round}
-pub use Rattle.kahn_pool.specs.inner.Bench.{AreEnds, AreStreams, Goes, HasEndIn, HasRunCell, IsLast, IsPaused, IsSameRun, IsVerdict, LacksMemory, Marked, PausedAt, RunState, all_events, events_at, view_events, weight}
+pub use Rattle.kahn_pool.specs.inner.Bench.{AreEnds, AreStreams, Goes, HasEndIn, HasRunCell, IsConcluded, IsLast, IsPaused, IsSameRun, IsVerdict, LacksMemory, Marked, PausedAt, RunState, all_events, events_at, view_events, weight}
 pub use Rattle.kahn_pool.specs.inner.Changed.{HaveChanged}
-pub use Rattle.kahn_pool.specs.inner.Concluded.{IsConcluded}
 pub use Rattle.kahn_pool.specs.inner.FlowBench.{AreLast, AreLent, IsFlowing, flow_of, let_go_by, let_go_of, run_of_bench, waits_of}
 pub use Rattle.kahn_pool.specs.inner.Gathered.{EndsWith, IsFrom, IsGathered, IsGiven, IsOutcomeOf, IsStopped, TookAll, TookNoMore, no_view, view_at}
 pub use Rattle.kahn_pool.specs.inner.Holding.{AreEnded, AreHeld, AreHeldBy, AreWatched, HasRisen, HasStopped, HasStoppedPart, HaveRisen, IsGiving, IsHolding, cell_alone, cells_seen, held_state, run_of}

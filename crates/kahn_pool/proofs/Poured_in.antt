@@ -96,8 +96,14 @@ poured_flowing b d c n input h {bound = bound} {budget = budget} {room = room} g
 }
 
 module _ (b d : Table) (c : ℕ) (values : List Value) (input : Lists) (poured : IsPoured b.input c values input) (h : HasTakenIn c (length values) input b d)
-    (ts us : List Token) (lent : AreLent b ts)
-    (grown : is_watched b.watch c ≡ true → map token_value us ≡ map token_value ts ++ values) (same : is_watched b.watch c ≡ false → us ≡ ts) where
+    (ts mid us : List Token) (lent : AreLent b ts) (kept : mid ≡ ts) (lends : Bool) (is : lends ≡ is_watched b.watch c)
+    (longer_by : lends ≡ true → map token_value us ≡ map token_value mid ++ values) (still : lends ≡ false → us ≡ mid) where
+  grown : is_watched b.watch c ≡ true → map token_value us ≡ map token_value ts ++ values
+  grown e = longer_by (is ∙ e) ∙ ap (λ (l : List Token). map token_value l ++ values) kept
+
+  same : is_watched b.watch c ≡ false → us ≡ ts
+  same e = still (is ∙ e) ∙ kept
+
   watched_as : (k : ℕ) → b.watch ≡ Some k → (x : Bool) → (k == c) ≡ x → is_watched b.watch c ≡ x
   watched_as k w x e = ap (λ o. is_watched o c) w ∙ e
 

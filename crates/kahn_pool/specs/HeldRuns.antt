@@ -10,7 +10,7 @@ use Rattle.kahn_streams.specs.Tokens.{token_value}
 use Rattle.kahn_code.specs.Told.{Told}
 use Rattle.kahn_streams.specs.Answers.{Settles, AreRight, IsRight, HasStream, HasEndAt, stream_lines, values_of, IsAllowed, IsUndeclared, IsWatched}
 use Rattle.kahn_streams.specs.declared.fault.RunFault.TheVariants as fault
-use Rattle.kahn_pool.specs.declared.{held_fault.HeldFault.HeldFault}
+use Rattle.kahn_pool.specs.declared.held_fault.HeldFault.{HeldFault}
 use Rattle.kahn_pool.specs.declared.held_fault.HeldFault.TheVariants as held
 
 -- the events of a process, the tokens that its cell kept of what it sent by each parameter, and those that it printed

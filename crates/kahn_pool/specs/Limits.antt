@@ -1,6 +1,6 @@
 -- Believed. Why a run is refused.
 use Rattle.std.specs.Prelude.{ℕ, ◌≤◌, ◌<◌, ◌^◌}
-use Rattle.kahn_streams.specs.declared.{fault.RunFault.RunFault}
+use Rattle.kahn_streams.specs.declared.fault.RunFault.{RunFault}
 use Rattle.kahn_streams.specs.declared.fault.RunFault.TheVariants as fault
 
 -- why a run on one thread is refused

@@ -6,12 +6,12 @@ use Rattle.kahn_streams.specs.Meaning.{Store}
 use Rattle.kahn_streams.specs.Solution as net
 use Rattle.kahn_streams.specs.Network.{Network, Reads, instance_at, actual_at}
 use Rattle.kahn_streams.specs.Solution.{Inputs, source, ending}
-use Rattle.kahn_code.specs.declared.{progress.Pause.Pause}
+use Rattle.kahn_code.specs.declared.progress.Pause.{Pause}
 use Rattle.kahn_code.specs.declared.progress.Pause.TheVariants as pause
 use Rattle.kahn_code.specs.Cells.{View}
 use Rattle.kahn_code.specs.Progress.{Paused}
 use Rattle.kahn_streams.specs.declared.{answer.End.End, answer.Outcome.TheVariants.More, answer.Verdict.Verdict, answer.Stream.Stream, answer.Verdict.TheVariants.Finished, answer.Verdict.TheVariants.Bound, answer.Verdict.TheVariants.Memory, value.Line.Line}
-use Rattle.kahn_pool.specs.inner.Gathered.{view_at, TookAll, HasUntaken, EndsWith, IsFrom}
+use Rattle.kahn_pool.specs.inner.Gathered.{view_at, TookAll, TookNoMore, HasUntaken, EndsWith, IsFrom}
 use Rattle.kahn_streams.specs.Answers.{stream_line}
 
 pub record RunState : Type 0 where
@@ -113,6 +113,13 @@ abbrev pub IsVerdict : Bool → List End → Verdict → Type 0
 IsVerdict memory ends Memory = memory ≡ true
 IsVerdict memory ends Finished = (memory ≡ false) × ((p : ℕ) (x : End) → slice_get ends p ≡ Some x → x.outcome ≡ More → ⊥)
 IsVerdict memory ends Bound = (memory ≡ false) × ((p : ℕ) × (x : End) × (slice_get ends p ≡ Some x) × (x.outcome ≡ More))
+
+-- with so much left of the bound: each end is that of its instance, the verdict goes by the ends, and no reader took more
+-- than was given
+pub record IsConcluded (s : RunState) (bound budget : ℕ) (halted : Bool) (v : Verdict) (ends : List End) : Type 0 where
+  pub last : IsLast s bound budget halted ends
+  pub rule : IsVerdict halted ends v
+  pub within : TookNoMore s.network s.input s.cells
 
 -- these are the streams of the answer
 pub record AreStreams (s : RunState) (streams : List Stream) (lines : List Line) : Type 0 where

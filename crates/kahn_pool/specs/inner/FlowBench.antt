@@ -10,10 +10,9 @@ use Rattle.kahn_code.specs.inner.Gone.{nothing_gone}
 use Rattle.kahn_code.specs.Lines.{Lines as Queues}
 use Rattle.kahn_pool.specs.HeldRuns.{HeldRun, seen_of, writing}
 use Rattle.kahn_streams.specs.Answers.{stream_lines}
-use Rattle.kahn_pool.specs.inner.Bench.{all_events}
-use Rattle.kahn_crew.specs.declared.{plan.Plan.Plan}
-use Rattle.kahn_pool.specs.declared.{part_alone.PartEnd.PartEnd}
-use Rattle.kahn_pool.specs.inner.Concluded.{IsConcluded}
+use Rattle.kahn_pool.specs.inner.Bench.{IsConcluded, all_events}
+use Rattle.kahn_crew.specs.declared.plan.Plan.{Plan}
+use Rattle.kahn_pool.specs.declared.part_alone.PartEnd.{PartEnd}
 use Rattle.kahn_pool.specs.inner.Holding.{AreEnded}
 use Rattle.kahn_pool.specs.inner.Workbench.{Table, sight_of}
 use Rattle.kahn_pool.specs.Flows.{Flowing}

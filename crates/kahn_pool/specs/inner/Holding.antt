@@ -9,9 +9,8 @@ use Rattle.kahn_code.specs.Told.{Told, told_view}
 use Rattle.kahn_job.specs.inner.Idles.{AreIdle, cells_of}
 use Rattle.kahn_job.specs.inner.Works.{Work}
 use Rattle.kahn_pool.specs.HeldRuns.{HeldRun, seen_of}
-use Rattle.kahn_pool.specs.inner.Bench.{RunState, all_events}
+use Rattle.kahn_pool.specs.inner.Bench.{IsConcluded, RunState, all_events}
 use Rattle.kahn_pool.specs.inner.Streams.{AreAllGiven, AreGiven}
-use Rattle.kahn_pool.specs.inner.Concluded.{IsConcluded}
 use Rattle.kahn_pool.specs.inner.Workbench.{AllStandBy}
 use Rattle.kahn_streams.specs.Answers.{IsInRange}
 use Rattle.kahn_pool.specs.declared.{conclude.Conclusion.Conclusion, part.Part.Part, part.PartRoom.PartRoom, part.Stopped.Stopped}
@@ -74,12 +73,9 @@ pub record HasRisen (c d : Told) : Type 0 where
 abbrev pub HaveRisen : List Told → List Told → Type 0
 HaveRisen old new = (p : ℕ) (c d : Told) → slice_get old p ≡ Some c → slice_get new p ≡ Some d → HasRisen c d
 
--- the jobs of a part at rest, with so much left of the bound of all, and what rounds see of them
+-- the jobs of a part at rest, with so much left of the bound of all
 abbrev pub AreHeldBy : Part → List Work → ℕ → Type 0
 AreHeldBy part ws budget = AreHeld part.network.now part.input.now part.plan.watch part.bound ws budget
-
-abbrev pub seen_by : Part → List Work → RunState
-seen_by part ws = held_state part.network.now part.input.now part.plan.watch ws
 
 -- such a part may run: the code is the network's, the numbers are within their limits, and the jobs are those of a held run
 pub record IsHeldPart (part : Part) (ws : List Work) : Type 0 where
@@ -99,7 +95,7 @@ pub record HaveAllLeft (part : Part) (left : Left) : Type 0 where
 -- so a part that is over has stopped
 pub record IsConclusion (part : Part) (halted : Bool) (r : Conclusion) : Type 0 where
   pub held : AreHeldBy part r.idles.items r.budget
-  pub rule : IsConcluded (seen_by part r.idles.items) part.bound r.budget halted r.verdict r.ends.items
+  pub rule : IsConcluded (held_state part.network.now part.input.now part.plan.watch r.idles.items) part.bound r.budget halted r.verdict r.ends.items
 
 -- a part goes by the plan of its run: with its workers and its quantum
 abbrev pub IsPartOf : Plan → Plan → Type 0

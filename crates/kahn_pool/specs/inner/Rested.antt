@@ -12,7 +12,7 @@ use Rattle.kahn_code.specs.Told.{Told, told_view}
 use Rattle.kahn_job.specs.inner.Ends.{IsReady}
 use Rattle.kahn_job.specs.inner.Berths.{IsWithinInput, end_at}
 use Rattle.kahn_job.specs.inner.Works.{Work, IsJob}
-use Rattle.kahn_job.specs.declared.{standing.Standing.Standing}
+use Rattle.kahn_job.specs.declared.standing.Standing.{Standing}
 use Rattle.kahn_job.specs.declared.standing.Standing.TheVariants as standing
 use Rattle.kahn_job.specs.inner.Tasks.{Tasked, Continues, TellsOutcome}
 use Rattle.kahn_crew.specs.inner.Tasks.{handed_to_task}

@@ -3,7 +3,7 @@ use Rattle.std.specs.Prelude.{◌≡◌, ℕ, ◌<◌, List, [], length, map, Op
 use Rattle.kahn_streams.specs.declared.{tree.Role.TheVariants.Input, value.Value.Value, value.Line.Line, value.Line.TheVariants.Channel, value.Line.TheVariants.Print, token.Token.Token, answer.Stream.Stream}
 use Rattle.kahn_streams.specs.Solution.{Inputs, IsPrefix, source}
 use Rattle.kahn_streams.specs.Network.{Network, Writes, Source, Given, Written, Nobody, instance_at, actual_at, role_at}
-use Rattle.kahn_code.specs.declared.{cell.Kept.Kept}
+use Rattle.kahn_code.specs.declared.cell.Kept.{Kept}
 use Rattle.kahn_code.specs.Cells.{AreKeptTokens}
 use Rattle.kahn_streams.specs.Tokens.{IsOwn, token_value}
 use Rattle.kahn_streams.specs.Answers.{stream_line, stream_lines}

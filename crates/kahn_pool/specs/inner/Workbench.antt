@@ -14,7 +14,7 @@ use Rattle.kahn_code.specs.inner.Tapped.{Tapped}
 use Rattle.kahn_job.specs.inner.Openings.{IsOpening}
 use Rattle.kahn_pool.specs.inner.Bench.{Goes, HasEndIn, HasRunCell, LacksMemory, Marked, RunState, all_events, events_at, turn_of, weight}
 use Rattle.kahn_code.specs.declared.progress.Pause.TheVariants as pause
-use Rattle.kahn_pool.specs.declared.{rounds.Round.Round}
+use Rattle.kahn_pool.specs.declared.rounds.Round.{Round}
 use Rattle.kahn_pool.specs.HeldRuns.{seen_at, seen_of}
 use Rattle.kahn_streams.specs.Answers.{stream_line, stream_lines}
 use Rattle.kahn_pool.specs.inner.Streams.{HasInputs, kept_lists, printed_list}
