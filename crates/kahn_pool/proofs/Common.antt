@@ -11,15 +11,12 @@ pub use Rattle.kahn_code.specs.Queues.{Waiting}
 pub use Rattle.kahn_code.specs.Seats.{LeavesOthers, Seat}
 pub use Rattle.kahn_code.specs.Standing.{count, tokens}
 pub use Rattle.kahn_code.specs.Told.{IsAt, IsStill, Told, seat_of, told_view}
-pub use Rattle.kahn_code.specs.declared.cell.Kept.{Kept}
-pub use Rattle.kahn_code.specs.declared.progress.Pause.{Pause}
+pub use Rattle.kahn_code.specs.declared.{cell.Kept.Kept, progress.Pause.Pause}
 pub use Rattle.kahn_code.specs.inner.Gone.{Gone, kept_behind, nothing_gone}
 pub use Rattle.kahn_code.specs.inner.Tapped.{HasForgotten, Tapped, regrown_tap}
 pub use Rattle.kahn_crew.proofs.Ended.{all_told, untouched_gone}
 pub use Rattle.kahn_crew.proofs.Started.{at_mapped, at_most_all, mapped_at, woken_ready}
-pub use Rattle.kahn_crew.specs.declared.fault.CrewFault.{CrewFault}
-pub use Rattle.kahn_crew.specs.declared.fault.CrewFault.TheVariants.{NoMemory, NoThread}
-pub use Rattle.kahn_crew.specs.declared.plan.Plan.{Plan}
+pub use Rattle.kahn_crew.specs.declared.{fault.CrewFault.CrewFault, fault.CrewFault.TheVariants.NoMemory, fault.CrewFault.TheVariants.NoThread, plan.Plan.Plan}
 pub use Rattle.kahn_crew.specs.inner.Begins.{AreReadyTasks}
 pub use Rattle.kahn_crew.specs.inner.Left.{AreAll, AreUntouched, HaveGone, IsOver, IsQuietTask, task_events}
 pub use Rattle.kahn_crew.specs.inner.Tasks.{handed_to_task, is_over, task_rows, told_tale, work_of}
@@ -27,7 +24,7 @@ pub use Rattle.kahn_crew.specs.inner.Wants.{IsLack}
 pub use Rattle.kahn_job.proofs.Berthed.{past_none}
 pub use Rattle.kahn_job.proofs.Idles.{all_idle, idle_grown, idle_met, idle_still, row_there}
 pub use Rattle.kahn_job.proofs.Settles.{same_lanes}
-pub use Rattle.kahn_job.specs.declared.standing.Standing.{Standing}
+pub use Rattle.kahn_job.specs.declared.{standing.Standing.Standing}
 pub use Rattle.kahn_job.specs.inner.Berths.{IsWithinInput, Serves, end_at}
 pub use Rattle.kahn_job.specs.inner.Ends.{IsBehind, IsReady}
 pub use Rattle.kahn_job.specs.inner.Idles.{AreIdle, AreJoinedJobs, HaveMet, cells_of, rows_of}
@@ -38,10 +35,7 @@ pub use Rattle.kahn_job.specs.inner.Ways.{no_end}
 pub use Rattle.kahn_job.specs.inner.Works.{IsJob, Work, width_of}
 pub use Rattle.kahn_pool.specs.Flows.{AreNew, Flowing, HasLetGo, HasPouredIn, IsRunOn}
 pub use Rattle.kahn_pool.specs.HeldRuns.{AreCalls, GoesOn, HasFed, HasResumed, HasSoFar, HeldRun, IsAnswerOf, IsCall, IsLineOf, IsResumed, IsRightSoFar, IsSoFar, IsUnfed, IsUnresumed, SaysNoLess, Seen, given_so_far, last_of, seen_at, seen_events, seen_of, so_far, unseen, writing}
-pub use Rattle.kahn_pool.specs.declared.held_fault.HeldFault.{HeldFault}
-pub use Rattle.kahn_pool.specs.declared.part.Part.{Part}
-pub use Rattle.kahn_pool.specs.declared.part.Stopped.{Stopped}
-pub use Rattle.kahn_pool.specs.declared.rounds.Round.{Round}
+pub use Rattle.kahn_pool.specs.declared.{held_fault.HeldFault.HeldFault, part.Part.Part, part.Stopped.Stopped, rounds.Round.Round}
 pub use Rattle.kahn_pool.specs.inner.Bench.{AreEnds, AreStreams, Goes, HasEndIn, HasRunCell, IsConcluded, IsLast, IsPaused, IsSameRun, IsVerdict, LacksMemory, Marked, PausedAt, RunState, all_events, events_at, view_events, weight}
 pub use Rattle.kahn_pool.specs.inner.Changed.{HaveChanged}
 pub use Rattle.kahn_pool.specs.inner.FlowBench.{AreLast, AreLent, IsFlowing, flow_of, let_go_by, let_go_of, run_of_bench, waits_of}
@@ -76,30 +70,14 @@ pub use Rattle.kahn_streams.specs.Tokens.{IsOwn, token_value}
 pub use Rattle.kahn_streams.specs.View.{Scope, place_of}
 pub use Rattle.kahn_streams.specs.Wires.{process_at}
 pub use Rattle.kahn_streams.specs.Wiring.{IsWellWired, side_at}
-pub use Rattle.kahn_streams.specs.declared.answer.Answer.{Answer}
-pub use Rattle.kahn_streams.specs.declared.answer.Outcome.TheVariants.{Ended, Faulted, More}
-pub use Rattle.kahn_streams.specs.declared.answer.Stream.{Stream}
-pub use Rattle.kahn_streams.specs.declared.answer.Verdict.{Verdict}
-pub use Rattle.kahn_streams.specs.declared.answer.Verdict.TheVariants.{Bound, Finished, Memory}
-pub use Rattle.kahn_streams.specs.declared.sides.Side.{Side}
-pub use Rattle.kahn_streams.specs.declared.token.Token.{Token}
-pub use Rattle.kahn_streams.specs.declared.tree.Declaration.{Declaration}
-pub use Rattle.kahn_streams.specs.declared.tree.Kind.{Kind}
-pub use Rattle.kahn_streams.specs.declared.tree.Kind.TheVariants.{Integer}
-pub use Rattle.kahn_streams.specs.declared.tree.Process.{Process}
-pub use Rattle.kahn_streams.specs.declared.tree.Program.{Program}
-pub use Rattle.kahn_streams.specs.declared.tree.Role.{Role}
-pub use Rattle.kahn_streams.specs.declared.tree.Role.TheVariants.{Inner, Input, Output}
-pub use Rattle.kahn_streams.specs.declared.value.Line.{Line}
-pub use Rattle.kahn_streams.specs.declared.value.Line.TheVariants.{Channel, Print}
-pub use Rattle.kahn_streams.specs.declared.value.Value.{Value}
+pub use Rattle.kahn_streams.specs.declared.{answer.Answer.Answer, answer.Outcome.TheVariants.Ended, answer.Outcome.TheVariants.Faulted, answer.Outcome.TheVariants.More, answer.Stream.Stream, answer.Verdict.Verdict, answer.Verdict.TheVariants.Bound, answer.Verdict.TheVariants.Finished, answer.Verdict.TheVariants.Memory, sides.Side.Side, token.Token.Token, tree.Declaration.Declaration, tree.Kind.Kind, tree.Kind.TheVariants.Integer, tree.Process.Process, tree.Program.Program, tree.Role.Role, tree.Role.TheVariants.Inner, tree.Role.TheVariants.Input, tree.Role.TheVariants.Output, value.Line.Line, value.Line.TheVariants.Channel, value.Line.TheVariants.Print, value.Value.Value}
 pub use Rattle.kahn_streams.specs.inner.Sources.{IsFed}
 pub use Rattle.std.proofs.Math.Nat.{le-max_left, le-max_right}
 pub use Rattle.std.proofs.Math.Seq.{map-set_same}
 pub use Rattle.std.proofs.lemmas.Bool.{cases_eq, cases_lt}
-pub use Rattle.std.proofs.lemmas.List.{get_or-map, get_or-set_other, get_or-set_same, get_or_past, length-map, map-append, map-set, replicate-append-replicate, take_all, take_at}
 pub use Rattle.std.proofs.lemmas.List.Folds.{fold-map}
 pub use Rattle.std.proofs.lemmas.List.Sums.{get_or-le-sum_by, sum_by-cons, sum_by-set}
+pub use Rattle.std.proofs.lemmas.List.{get_or-map, get_or-set_other, get_or-set_same, get_or_past, length-map, map-append, map-set, replicate-append-replicate, take_all, take_at}
 pub use Rattle.std.proofs.lemmas.Option.{get_or_from_slice_get, none-some, same_Some, slice_get-get_or, slice_get_read, slice_get_within}
 pub use Rattle.std.proofs.lemmas.Result.{err_from_is_err_and}
 pub use Rattle.std.specs.List.{All}

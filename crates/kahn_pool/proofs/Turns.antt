@@ -105,9 +105,6 @@ module _ {b d : Table} {r r' : Round} {p : ℕ} {z : Pause} (within : p < length
     goes_moved : r'.moved ≡ true → weight r'.left r'.memory < weight r.left r.memory → Goes s0 w0 t0 s' r'.left r'.memory r'.moved (r.ends.items ++ x ∷ []) (suc p)
     goes_moved m l =
         record {
-          network = v.ran.same.0 ∙ go.network;
-          input = v.ran.same.1 ∙ go.input;
-          watch = v.ran.same.2 ∙ go.watch;
           known = v.ran.known;
           total = total_on ∙ go.total;
           size = size;
@@ -122,9 +119,6 @@ module _ {b d : Table} {r r' : Round} {p : ℕ} {z : Pause} (within : p < length
         Goes s0 w0 t0 s' r'.left r'.memory r'.moved (r.ends.items ++ x ∷ []) (suc p)
     goes_still d never m u =
         record {
-          network = v.ran.same.0 ∙ go.network;
-          input = v.ran.same.1 ∙ go.input;
-          watch = v.ran.same.2 ∙ go.watch;
           known = v.ran.known;
           total = total_on ∙ go.total;
           size = size;

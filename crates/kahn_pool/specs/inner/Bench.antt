@@ -80,9 +80,6 @@ AreEnds s left memory ends =
 
 -- a round from s0 with so much to do and so many events in all, at instance k
 pub record Goes (s0 : RunState) (w0 t0 : ℕ) (s : RunState) (left : ℕ) (memory moved : Bool) (ends : List End) (k : ℕ) : Type 0 where
-  pub network : s.network ≡ s0.network
-  pub input : s.input ≡ s0.input
-  pub watch : s.watch ≡ s0.watch
   pub known : length s.cells ≡ length s.network.instances
   pub total : all_events s + left ≡ t0
   pub size : length ends ≡ k
