@@ -1,34 +1,15 @@
 -- An answer put together from cells at rest is right.
 use mathlib.Core.Path.{fun_ext}
-use Rattle.std.proofs.Common.{arith, ◌≡◌, ◌⊎◌, inl, inr, ℕ, zero, suc, ◌<◌, ◌≤◌, max, List, [], ◌∷◌, length, map, refl, sym, ap, ◌∙◌, subst, true, le_refl, not-suc-le-zero, Option, Some, None, slice_get, slice_index_or, pos}
-use Rattle.kahn_streams.specs.declared.value.Line.{Line}
-use Rattle.kahn_streams.specs.declared.value.Line.TheVariants.{Channel, Print}
-use Rattle.kahn_streams.specs.Syntax.{Number}
-use Rattle.kahn_streams.specs.Script as script
-use Rattle.kahn_streams.specs.Script.{Dry, Cut, Got, Fault}
-use Rattle.kahn_streams.specs.Meaning.{Store}
-use Rattle.kahn_streams.specs.Solution as net
-use Rattle.kahn_streams.specs.Network.{Network, Instance, idle, Reads, Writes, Hands, instance_at, actual_at, Source, Given, Written, Nobody}
-use Rattle.kahn_streams.specs.Solution.{Histories, Inputs, tapes_of, exec_at, out, values_at, goes_to, source, fed, input_list, iterate, IsPrefix, Stands, IsWhole, HasEnd, Ending, ending, IsExtended}
-use Rattle.kahn_streams.specs.Laws.{IsQuiet, IsSettled, KeepsTape}
-use Rattle.kahn_streams.proofs.Framed.{begins_nil}
-use Rattle.kahn_streams.proofs.Proved.{prefix_refl, prefix_trans, Feeds, out_grows, chain, solves, fits_all}
-use Rattle.kahn_streams.proofs.Finished.{settled}
-use Rattle.kahn_code.specs.Cells.{AllStand, View, AreKeptTokens, is_streamed}
-use Rattle.kahn_streams.specs.Tokens.{token_value}
-use Rattle.kahn_streams.specs.declared.answer.Answer.{Answer}
-use Rattle.kahn_streams.specs.declared.answer.Stream.{Stream}
+use Rattle.std.proofs.Common.{arith, ◌≡◌, ◌⊎◌, inl, inr, ℕ, ◌<◌, ◌≤◌, List, [], length, map, refl, sym, ap, ◌∙◌, subst, true, Option, Some, None, slice_get, pos}
+use Rattle.kahn_pool.proofs.Common.{Line, Channel, Print, Number, Dry, Cut, Got, Fault, Store, Network, idle, Reads, Writes, Hands, instance_at, actual_at, Source, Given, Written, Nobody, Histories, Inputs, tapes_of, exec_at, out, values_at, goes_to, source, fed, input_list, iterate, IsPrefix, Stands, IsWhole, HasEnd, Ending, ending, IsQuiet, IsSettled, begins_nil, prefix_refl, settled, AllStand, View, AreKeptTokens, is_streamed, token_value, Answer, Stream, Token, Verdict, Finished, Bound, Memory, Ended, Faulted, More, AreRight, IsRight, IsOutcome, IsWaiting, IsDryOn, IsEnd, HasStream, values_of, IsGathered, IsStopped, no_view, view_at, EndsWith, IsFrom, IsGiven, IsOutcomeOf, stand_in, StoodBy, cases_lt, there, none-some, get_or_past, Tapes, sent_on, sent_stands, exec_on, Stays}
 use Rattle.kahn_streams.specs.declared.answer.End.{End}
-use Rattle.kahn_streams.specs.declared.token.Token.{Token}
-use Rattle.kahn_streams.specs.declared.answer.Verdict.{Verdict}
-use Rattle.kahn_streams.specs.declared.answer.Verdict.TheVariants.{Finished, Bound, Memory}
 use Rattle.kahn_streams.specs.declared.answer.Outcome.{Outcome}
-use Rattle.kahn_streams.specs.declared.answer.Outcome.TheVariants.{Ended, Waits, Faulted, More}
-use Rattle.kahn_streams.specs.Answers.{AreRight, IsRight, IsOutcome, IsWaiting, IsDryOn, IsEnd, HasStream, values_of}
-use Rattle.kahn_pool.specs.inner.Gathered.{IsGathered, IsStopped, Stood, no_view, view_at, EndsWith, IsFrom, IsGiven, IsOutcomeOf, tapes_from}
-use Rattle.kahn_code.proofs.Lists.{stand_in}
-use Rattle.kahn_pool.proofs.Lists.{prefix_stands, both_stand, all_of_it, more_of_it, map_get}
-use Rattle.kahn_pool.proofs.Events.{same_sends, same_outcome, next_event, Moves}
+use Rattle.kahn_streams.specs.declared.answer.Outcome.TheVariants.{Waits}
+use Rattle.kahn_pool.proofs.Lists.{prefix_stands, both_stand, reads_or, nothing_more}
+use Rattle.kahn_pool.proofs.Events.{more, same_sends, same_outcome, next_event}
+use Rattle.kahn_pool.proofs.Benched.{get_map}
+use Rattle.kahn_streams.specs.Script as script
+use Rattle.kahn_streams.specs.Solution as net
 
 -- ---- the ends of a run that stopped
 
@@ -39,58 +20,44 @@ module _ (N : Network) (I : Inputs) (bound : ℕ) (watch : Option ℕ) (said : V
 
   -- ---- every instance, and what lies beyond them, is at rest
 
-  idle_at : (is : List Instance) (p : ℕ) → length is ≤ p → slice_index_or is p idle ≡ idle
-  idle_at [] p le = refl
-  idle_at (i ∷ is) zero le = absurd (not-suc-le-zero le)
-  idle_at (i ∷ is) (suc p) le = idle_at is p (omega (arith, le))
-
-  nothing_at : (cs : List View) (p : ℕ) → length cs ≤ p → slice_index_or cs p no_view ≡ no_view
-  nothing_at [] p le = refl
-  nothing_at (c ∷ cs) zero le = absurd (not-suc-le-zero le)
-  nothing_at (c ∷ cs) (suc p) le = nothing_at cs p (omega (arith, le))
-
-  none_at : (xs : List End) (p : ℕ) → slice_get xs p ≡ None → length xs ≤ p
-  none_at [] p h = omega arith
-  none_at (x ∷ xs) zero h = absurd cc
-  none_at (x ∷ xs) (suc p) h = let r : length xs ≤ p = none_at xs p h in omega (arith, r)
-
-  idle_end : End
-  idle_end = record { outcome = Ended; events = 0 }
-
   abbrev Rests : ℕ → Type 0
   Rests p = (x : End) × EndsWith N I watch g.cells p x
 
-  idle_stood : (p : ℕ) (c : View) → c ≡ no_view → instance_at N p ≡ idle → Stood N I watch p c
+  idle_stood : (p : ℕ) (c : View) → c ≡ no_view → instance_at N p ≡ idle → StoodBy N I watch p c
   idle_stood p c v i =
       record {
-        tapes = λ c. [];
+        tapes = λ q. [];
         does = rw (i, v) refl;
         all = rw i (fun_ext (λ q. refl));
-        stand = λ d k v h. absurd cc;
-        took = λ q d r. absurd (no_read d (subst (λ j. actual_at j q ≡ Reads d) i r));
-        only = λ d. inl refl;
+        stand = λ q d r k w h. absurd cc;
+        took = λ q. rw v refl;
+        none = λ q n. refl;
         gave = λ q d r. absurd (no_write d (subst (λ j. actual_at j q ≡ Writes d) i r));
         kept = λ q d r s. absurd (no_write d (subst (λ j. actual_at j q ≡ Writes d) i r));
+        bare = λ q n. rw v refl;
         printed = record { values = rw (i, v) refl; places = λ k t h. absurd (no_print k t h); own = λ k t h. absurd (no_print k t h) };
       }
     where
-      no_read : (d : ℕ) → Hands (Number (pos 0)) ≡ Reads d → ⊥
-      no_read d h = cc
-
       no_write : (d : ℕ) → Hands (Number (pos 0)) ≡ Writes d → ⊥
       no_write d h = cc
 
       no_print : (k : ℕ) (t : Token) → slice_get c.printed k ≡ Some t → ⊥
       no_print k t h = let f : slice_get [] k ≡ Some t = subst (λ w. slice_get w.printed k ≡ Some t) v h in cc
 
+  past : (p : ℕ) → slice_get ends p ≡ None → length N.instances ≤ p
+  past p h = by (cases_lt p (length ends))
+    where
+      by : (p < length ends) ⊎ (length ends ≤ p) → length N.instances ≤ p
+      by (inl l) = let x = there ends p l in absurd (none-some x.0 (sym h ∙ x.1))
+      by (inr l) = let n = g.instances in omega (arith, l, n)
+
   rests_by : (p : ℕ) (r : Option End) → slice_get ends p ≡ r → Rests p
   rests_by p (Some x) h = (x, g.each p x h)
   rests_by p None h =
-      let l : length ends ≤ p = none_at ends p h in
-      let n : length ends ≡ length N.instances = g.instances in
-      let m : length g.cells ≡ length N.instances = g.known in
-      let i : instance_at N p ≡ idle = idle_at N.instances p (omega (arith, l, n)) in
-      let v : view_at g.cells p ≡ no_view = nothing_at g.cells p (omega (arith, l, n, m)) in (
+      let l = past p h in
+      let m = g.known in
+      let i : instance_at N p ≡ idle = get_or_past N.instances p idle l in
+      let v : view_at g.cells p ≡ no_view = get_or_past g.cells p no_view (omega (arith, l, m)) in (
         record { outcome = Ended; events = 0 },
         record {
           stood = idle_stood p (view_at g.cells p) v i;
@@ -113,45 +80,33 @@ module _ (N : Network) (I : Inputs) (bound : ℕ) (watch : Option ℕ) (said : V
       by (Some y) f k = same_end k
       by None f k = absurd cc
 
-  pub stood : (p : ℕ) → Stood N I watch p (view_at g.cells p)
+  pub stood : (p : ℕ) → StoodBy N I watch p (view_at g.cells p)
   stood p = (rest p).1.stood
 
   -- what each cell took
-  abbrev pub T : ℕ → Histories
+  abbrev pub T : ℕ → Tapes
   T p = (stood p).tapes
 
-  -- what was given to each line
+  -- what was given to each line, by the input and the writers
   abbrev pub A : Histories
-  A = tapes_from N I e T
+  A c = fed (source N c) I (λ p. sent_on N (e p) p (T p) c) c
 
   -- ---- what was given stands
 
-  feeds_one : (p : ℕ) → (j : ℕ) × Feeds (instance_at N p) (T p) (iterate N I j)
-  feeds_one p =
-      fits_all (iterate N I) (T p) (chain N I) (λ c. stand_in N I c (T p c) ((stood p).stand c))
-      (Hands (Number (pos 0))) (instance_at N p).actuals
-
-  reached_by : (c : Line) (src : Source) → source N c ≡ src →
-      (n : ℕ) × IsPrefix (fed src I (λ p. out N (e p) p (T p) c) c) (iterate N I n c)
-  reached_by c Given s = (0, rw s (prefix_refl (input_list I c)))
-  reached_by c Nobody s = (0, begins_nil _)
-  reached_by c (Written p) s =
-      let f = feeds_one p in (
-        suc (max (e p) f.0),
-        prefix_trans _ _ _
-            (out_grows N (e p) (e p) p (T p) (iterate N I f.0) c (le_refl (e p)) f.1)
-            (solves N I c p (e p) f.0 s),
-      )
+  pub stands : (c : Line) → AllStand N I c (A c)
+  stands c = by (source N c) refl
+    where
+      by : (src : Source) → source N c ≡ src → AllStand N I c (fed src I (λ p. sent_on N (e p) p (T p) c) c)
+      by Given s = prefix_stands N I c (input_list I c) (0, rw s (prefix_refl (input_list I c)))
+      by (Written p) s = λ k v h. sent_stands N I p (T p) (stood p).stand (stood p).none (e p) k c v s h
+      by Nobody s = λ k v h. absurd cc
 
   reached : (c : Line) → (n : ℕ) × IsPrefix (A c) (iterate N I n c)
-  reached c = reached_by c (source N c) refl
-
-  pub stands : (c : Line) → AllStand N I c (A c)
-  stands c = prefix_stands N I c (A c) (reached c)
+  reached c = stand_in N I c (A c) (stands c)
 
   -- ---- nobody took more than was given
 
-  given_long : (c n : ℕ) (src : Source) → IsGiven N I g.cells c src n → length (fed src I (λ p. out N (e p) p (T p) (Channel c)) (Channel c)) ≡ n
+  given_long : (c n : ℕ) (src : Source) → IsGiven N I g.cells c src n → length (fed src I (λ p. sent_on N (e p) p (T p) (Channel c)) (Channel c)) ≡ n
   given_long c n Given h = h
   given_long c n (Written w) h = (stood w).gave h.0 c h.1 ∙ h.2
   given_long c n Nobody h = absurd h
@@ -159,98 +114,75 @@ module _ (N : Network) (I : Inputs) (bound : ℕ) (watch : Option ℕ) (said : V
   long : (c n : ℕ) → IsGiven N I g.cells c (source N (Channel c)) n → length (A (Channel c)) ≡ n
   long c n h = given_long c n (source N (Channel c)) h
 
-  took_within : (p q c : ℕ) → actual_at (instance_at N p) q ≡ Reads c → IsPrefix (T p (Channel c)) (A (Channel c))
+  took_within : (p q c : ℕ) → actual_at (instance_at N p) q ≡ Reads c → IsPrefix (T p q) (A (Channel c))
   took_within p q c r =
       let h = g.channels p q c r in
-      let x : length (T p (Channel c)) ≡ (view_at g.cells p).taken q = (stood p).took q c r in
+      let x : length (T p q) ≡ (view_at g.cells p).taken q = (stood p).took q in
       let y : length (A (Channel c)) ≡ h.0 = long c h.0 h.1 in
       let z : (view_at g.cells p).taken q ≤ h.0 = h.2 in
-      both_stand N I (Channel c) (T p (Channel c)) (A (Channel c)) ((stood p).stand (Channel c)) (stands (Channel c)) (omega (arith, x, y, z))
+      both_stand N I (Channel c) (T p q) (A (Channel c)) ((stood p).stand q c r) (stands (Channel c)) (omega (arith, x, y, z))
 
-  extended_by : (p : ℕ) (c : Line) → (T p c ≡ []) ⊎ ((q d : ℕ) × (c ≡ Channel d) × (actual_at (instance_at N p) q ≡ Reads d)) →
-      IsPrefix (T p c) (A c)
-  extended_by p c (inl h) = subst (λ l. IsPrefix l (A c)) (sym h) (begins_nil (A c))
-  extended_by p c (inr h) = subst (λ d. IsPrefix (T p d) (A d)) (sym h.2) (took_within p h.0 h.1 h.3)
+  abbrev tapes : ℕ → Tapes
+  tapes p = tapes_of (instance_at N p) A
 
-  extended : (p : ℕ) → IsExtended (T p) A
-  extended p c = extended_by p c ((stood p).only c)
+  extended : (p q : ℕ) → IsPrefix (T p q) (tapes p q)
+  extended p q = by (reads_or (actual_at (instance_at N p) q))
+    where
+      by : ((c : ℕ) × (actual_at (instance_at N p) q ≡ Reads c)) ⊎ ((c : ℕ) → actual_at (instance_at N p) q ≡ Reads c → ⊥) → IsPrefix (T p q) (tapes p q)
+      by (inl (c, r)) = rw r (took_within p q c r)
+      by (inr n) = subst (λ l. IsPrefix l (tapes p q)) (sym ((stood p).none q n)) (begins_nil (tapes p q))
 
-  same : (p : ℕ) → ((exec_at N (e p) p A).events ≡ (exec_at N (e p) p (T p)).events) × ((exec_at N (e p) p A).sent ≡ (exec_at N (e p) p (T p)).sent)
-  same p = same_sends N p (e p) (T p) A (extended p) (stood p).does
+  same : (p : ℕ) → ((exec_at N (e p) p A).events ≡ (exec_on N (e p) p (T p)).events) × ((exec_at N (e p) p A).sent ≡ (exec_on N (e p) p (T p)).sent)
+  same p = same_sends N p (e p) (T p) (tapes p) (extended p) (stood p).does
 
   does : (p : ℕ) → (exec_at N (e p) p A).events ≡ e p
   does p = (same p).0 ∙ (stood p).does
 
-  sends_by : (c : Line) (p : ℕ) (src : Source) → src ≡ Written p →
-      out N (e p) p A c ≡ fed src I (λ r. out N (e r) r (T r) c) c
-  sends_by c p src s = rw s (ap (values_at (goes_to N p c)) (same p).1)
-
   sends : (c : Line) (p : ℕ) → source N c ≡ Written p → out N (e p) p A c ≡ A c
-  sends c p s = sends_by c p (source N c) s
-
-  inputs_by : (c : Line) (src : Source) → src ≡ Given → fed src I (λ r. out N (e r) r (T r) c) c ≡ input_list I c
-  inputs_by c src s = rw s refl
+  sends c p s = ap (values_at (goes_to N p c)) (same p).1 ∙ sym (ap (λ x. fed x I (λ r. sent_on N (e r) r (T r) c) c) s)
 
   inputs : (c : Line) → source N c ≡ Given → A c ≡ input_list I c
-  inputs c s = inputs_by c (source N c) s
+  inputs c s = ap (λ x. fed x I (λ r. sent_on N (e r) r (T r) c) c) s
 
   -- ---- outcomes
 
   abbrev o : ℕ → script.Outcome Store
-  o p = (exec_at N (e p) p (T p)).outcome
+  o p = (exec_on N (e p) p (T p)).outcome
 
-  -- took all: the tape has no more
-  same_tape : (p q c : ℕ) → actual_at (instance_at N p) q ≡ Reads c → IsGiven N I g.cells c (source N (Channel c)) ((view_at g.cells p).taken q) →
-      tapes_of (instance_at N p) A q ≡ tapes_of (instance_at N p) (T p) q
-  same_tape p q c r h =
-      rw r (all_of_it (T p (Channel c)) (A (Channel c)) (took_within p q c r) ((stood p).took q c r ∙ sym (long c ((view_at g.cells p).taken q) h)))
-
-  kept_end : (p : ℕ) (x : script.Outcome Store) (y : Ending) → o p ≡ x → ending x ≡ Some y → KeepsTape (instance_at N p) (T p) A x →
-      ending (exec_at N (e p) p A).outcome ≡ Some y
-  kept_end p x y d f k =
-      ap ending (same_outcome N p (e p) (T p) A (extended p) (stood p).does x d k (not_cut x f)) ∙ f
+  -- one that is over stays so
+  lasts : (y : Ending) → ((q : ℕ) → y ≡ net.Waiting q → ⊥) → (p : ℕ) (z : script.Outcome Store) → o p ≡ z → ending z ≡ Some y → ending (exec_at N (e p) p A).outcome ≡ Some y
+  lasts y n p z d f = ap ending (same_outcome N p (e p) (T p) (tapes p) (extended p) z d (stays z f)) ∙ f
     where
-      not_cut : (z : script.Outcome Store) → ending z ≡ Some y → z ≡ Cut → ⊥
-      not_cut (Got s) f h = absurd cc
-      not_cut (Dry q) f h = absurd cc
-      not_cut (Fault k) f h = absurd cc
-      not_cut Cut f h = absurd cc
+      stays : (z : script.Outcome Store) → ending z ≡ Some y → Stays (more N p (e p) (T p) (tapes p) (extended p)) z
+      stays (Got s) f = tt
+      stays (Dry q) f = absurd (n q cc)
+      stays (Fault k) f = tt
+      stays Cut f = tt
 
   outcome_by : (v : Verdict) (p : ℕ) (out : Outcome) → IsOutcomeOf N I g.cells p (o p) out → IsOutcome v N A p (e p) out
-  outcome_by v p Ended h = kept_end p (o p) net.Ended refl h (keeps (o p) h)
+  outcome_by v p Ended h = lasts net.Ended (λ q f. absurd cc) p (o p) refl h
+  outcome_by v p (Faulted k) h = lasts (net.Faulted k) (λ q f. absurd cc) p (o p) refl h
+  outcome_by v p (Waits c) (q, r, d, all) = waits v
     where
-      keeps : (z : script.Outcome Store) → ending z ≡ Some net.Ended → KeepsTape (instance_at N p) (T p) A z
-      keeps (Got s) f = tt
-      keeps (Dry q) f = absurd cc
-      keeps (Fault k) f = tt
-      keeps Cut f = tt
-  outcome_by v p (Faulted k) h = kept_end p (o p) (net.Faulted k) refl h (keeps (o p) h)
-    where
-      keeps : (z : script.Outcome Store) → ending z ≡ Some (net.Faulted k) → KeepsTape (instance_at N p) (T p) A z
-      keeps (Got s) f = tt
-      keeps (Dry q) f = absurd cc
-      keeps (Fault k) f = tt
-      keeps Cut f = tt
-  outcome_by v p (Waits c) h = waits v
-    where
+      -- took all: the tape has no more
+      none : (extended p q).0 ≡ []
+      none = nothing_more (T p q) (tapes p q) (extended p q) ((stood p).took q ∙ rw r (sym (long c ((view_at g.cells p).taken q) all)))
+
       dry : IsDryOn N A p (e p) c
-      dry =
-          (h.0, h.1, same_outcome N p (e p) (T p) A (extended p) (stood p).does (Dry h.0) h.2 (same_tape p h.0 c h.1 h.3) (λ f. absurd cc), does p)
+      dry = (q, r, same_outcome N p (e p) (T p) (tapes p) (extended p) (Dry q) d none, does p)
 
       waits : (v : Verdict) → IsWaiting v N A p (e p) c
       waits Memory = (A, (λ d. prefix_refl (A d)), dry)
       waits Finished = dry
       waits Bound = dry
-  outcome_by v p More h = next_event N p (e p) (T p) A (extended p) (stood p).does (stood p).all (moves h)
+  outcome_by v p More h = next_event N p (e p) (T p) (tapes p) (extended p) (stood p).does (stood p).all (moves h)
     where
-      moves : IsOutcomeOf N I g.cells p (o p) More → Moves N p (T p) A (o p)
+      moves : IsOutcomeOf N I g.cells p (o p) More → (o p ≡ Cut) ⊎ ((q : ℕ) × (o p ≡ Dry q) × (length (T p q) < length (tapes p q)))
       moves (inl c) = inl c
-      moves (inr m) =
-          let x : length (T p (Channel m.1)) ≡ (view_at g.cells p).taken m.0 = (stood p).took m.0 m.1 m.3 in
-          let y : length (A (Channel m.1)) ≡ m.2 = long m.1 m.2 m.5 in
-          let z : (view_at g.cells p).taken m.0 < m.2 = m.6 in
-          let r = more_of_it (T p (Channel m.1)) (A (Channel m.1)) (took_within p m.0 m.1 m.3) (omega (arith, x, y, z)) in
-          inr (m.0, m.4, r.0, r.1, rw m.3 r.2)
+      moves (inr (q, c, n, r, d, given, less)) =
+          let x : length (T p q) ≡ (view_at g.cells p).taken q = (stood p).took q in
+          let y : length (A (Channel c)) ≡ n = long c n given in
+          inr (q, d, rw r (omega (arith, x, y, less)))
 
   ends_with : (p : ℕ) (x : End) → slice_get ends p ≡ Some x → (x.events ≡ e p) × IsOutcome said N A p (e p) x.outcome
   unfolding stood
@@ -282,9 +214,7 @@ module _ (N : Network) (I : Inputs) (bound : ℕ) (watch : Option ℕ) (said : V
     over_at : (p : ℕ) (r : Option End) → slice_get ends p ≡ r → Over p
     over_at p (Some x) h = over_as p x.outcome (finished_outcome p x h) (g.finished f p x h)
     over_at p None h =
-        let l : length ends ≤ p = none_at ends p h in
-        let n : length ends ≡ length N.instances = g.instances in
-        let i : instance_at N p ≡ idle = idle_at N.instances p (omega (arith, l, n)) in
+        let i : instance_at N p ≡ idle = get_or_past N.instances p idle (past p h) in
         (net.Ended, rw i refl)
 
     pub over : (p : ℕ) → Over p
@@ -334,7 +264,7 @@ module _ (N : Network) (I : Inputs) (bound : ℕ) (watch : Option ℕ) (said : V
       map token_value ((view_at g.cells p).kept q) ≡ are_right.tapes (Channel d)
   unfolding are_right
   kept_values p q d s w streamed =
-      ((stood p).kept q d w streamed).values ∙ sym (ap (λ x. fed x I (λ r. out N (e r) r (T r) (Channel d)) (Channel d)) s)
+      ((stood p).kept q d w streamed).values ∙ sym (ap (λ x. fed x I (λ r. sent_on N (e r) r (T r) (Channel d)) (Channel d)) s)
 
   pub printed_values : (p : ℕ) → map token_value (view_at g.cells p).printed ≡ are_right.tapes (Print p)
   unfolding are_right
@@ -353,10 +283,10 @@ module _ (N : Network) (I : Inputs) (bound : ℕ) (watch : Option ℕ) (a : Answ
   abbrev done_by : ℕ → ℕ
   done_by = e N I bound watch a.verdict a.ends.items a.events g.stopped
 
-  abbrev took : ℕ → Histories
+  abbrev took : ℕ → Tapes
   took = T N I bound watch a.verdict a.ends.items a.events g.stopped
 
-  stands_for : (p : ℕ) → Stood N I watch p (view_at g.stopped.cells p)
+  stands_for : (p : ℕ) → StoodBy N I watch p (view_at g.stopped.cells p)
   stands_for = stood N I bound watch a.verdict a.ends.items a.events g.stopped
 
   -- ---- streams
@@ -365,15 +295,15 @@ module _ (N : Network) (I : Inputs) (bound : ℕ) (watch : Option ℕ) (a : Answ
   same_writer h = cc
 
   kept_by : (src : Source) (c : Line) (ts : List Token) → source N c ≡ src → IsFrom N I watch g.stopped.cells src c ts →
-      AreKeptTokens N I c (fed src I (λ p. out N (done_by p) p (took p) c) c) ts
+      AreKeptTokens N I c (fed src I (λ p. sent_on N (done_by p) p (took p) c) c) ts
   unfolding stood stands_for
   kept_by Given (Channel c) ts s h = h
   kept_by Given (Print r) ts s h = absurd h
   kept_by (Written p) (Channel c) ts s h =
-      subst (AreKeptTokens N I (Channel c) (out N (done_by p) p (took p) (Channel c))) (sym h.3) ((stands_for p).kept h.0 c h.1 h.2)
+      subst (AreKeptTokens N I (Channel c) (sent_on N (done_by p) p (took p) (Channel c))) (sym h.3) ((stands_for p).kept h.0 c h.1 h.2)
   kept_by (Written p) (Print r) ts s h =
-      subst (λ d. AreKeptTokens N I (Print d) (out N (done_by p) p (took p) (Print d)) ts) (sym (same_writer s))
-      (subst (AreKeptTokens N I (Print p) (out N (done_by p) p (took p) (Print p))) (sym h) (stands_for p).printed)
+      subst (λ d. AreKeptTokens N I (Print d) (sent_on N (done_by p) p (took p) (Print d)) ts) (sym (same_writer s))
+      (subst (AreKeptTokens N I (Print p) (sent_on N (done_by p) p (took p) (Print p))) (sym h) (stands_for p).printed)
   kept_by Nobody c ts s h = absurd h
 
   kept : (s : Stream) → HasStream a s → AreKeptTokens N I s.line (given s.line) s.tokens.items
@@ -386,7 +316,7 @@ module _ (N : Network) (I : Inputs) (bound : ℕ) (watch : Option ℕ) (a : Answ
       (t.line ≡ s.line) × (t.place ≡ k) × Stands N I s.line k t.value
   tokens s k t h x =
       let at = (kept s h).places k t x in
-      (at.0, at.1, stands N I bound watch a.verdict a.ends.items a.events g.stopped s.line k t.value (subst (λ l. slice_get l k ≡ Some t.value) (kept s h).values (map_get s.tokens.items k t x)))
+      (at.0, at.1, stands N I bound watch a.verdict a.ends.items a.events g.stopped s.line k t.value (subst (λ l. slice_get l k ≡ Some t.value) (kept s h).values (get_map token_value s.tokens.items k t x)))
 
   pub assembled : IsRight N I bound watch a
   unfolding are_right

@@ -1,34 +1,11 @@
 -- Cells that stand where their queues stand.
-use Rattle.std.proofs.Common.{arith, ◌≡◌, inl, inr, ℕ, ◌+◌, ◌<◌, ◌≤◌, List, length, map, refl, sym, ap, ◌∙◌, subst, Option, Some, slice_get, slice_set, slice_index_or, false, length-set}
-use Rattle.std.proofs.Math.Seq.{map-set_same}
-use Rattle.std.proofs.lemmas.List.{map-set}
-use Rattle.std.proofs.lemmas.Option.{get_or_from_slice_get, slice_get_read}
-use Rattle.kahn_streams.specs.Network.{Network, Reads, Writes, network_of, instance_at, actual_at, role_at}
-use Rattle.kahn_streams.specs.inner.Sources.{IsFed}
+use Rattle.std.proofs.Common.{arith, ◌≡◌, inl, inr, ℕ, ◌+◌, ◌<◌, ◌≤◌, List, length, map, refl, sym, ap, ◌∙◌, subst, Some, slice_get, slice_set, slice_index_or, false, length-set, ◌⊎◌}
+use Rattle.kahn_pool.proofs.Common.{map-set_same, map-set, get_or_from_slice_get, slice_get_read, Network, Reads, Writes, network_of, instance_at, actual_at, role_at, IsFed, reads, reads_listed, Channel, Inputs, source, inputs_of, View, exec_on, is_output, AreQueued, Joins, queue_of, actual_here, place_at, next_at, taken_of, given_of, waiting_of, Waiting, Seat, LeavesOthers, count, Told, told_view, seat_of, IsAt, IsStill, set_each, set_here, joins_within, IsGiven, TookNoMore, TookAll, view_at, no_view, RunState, PausedAt, Value, Table, IsLaid, IsSeated, sight_of, Pause, IsPause, dry_reads, Store, IsPaused, Cut, Dry, writes, HasRunCell, length-map}
 pub use Rattle.kahn_streams.proofs.By_number.{there as got, within as within_get, mapped as get_map}
-use Rattle.kahn_streams.proofs.Sourced.{reads, reads_listed}
-use Rattle.kahn_streams.specs.declared.value.Line.TheVariants.{Channel}
-use Rattle.kahn_streams.specs.Solution.{Inputs, source}
-use Rattle.kahn_streams.specs.Inputs.{inputs_of}
-use Rattle.kahn_code.specs.Cells.{View, exec_on}
-use Rattle.kahn_streams.specs.Answers.{is_output}
-use Rattle.kahn_code.specs.Lines.{Lines as Queues, AreQueued, Joins, queue_of, route_of, actual_here, place_at, next_at, taken_of, given_of, waiting_of}
-use Rattle.kahn_code.specs.Queues.{Waiting}
-use Rattle.kahn_code.specs.Seats.{Seat, LeavesOthers}
-use Rattle.kahn_code.specs.Standing.{count}
-use Rattle.kahn_code.specs.Told.{Told, told_view, seat_of, IsAt, IsStill}
-use Rattle.kahn_code.proofs.Queued.{set_each, set_here}
-use Rattle.kahn_code.proofs.Readers.{joins_within, reads_once}
-use Rattle.kahn_pool.specs.inner.Gathered.{IsGiven, TookNoMore, TookAll, view_at, no_view}
-use Rattle.kahn_pool.specs.inner.Bench.{RunState, PausedAt, events_at}
-use Rattle.kahn_streams.specs.declared.value.Value.{Value}
-use Rattle.kahn_pool.specs.inner.Workbench.{Table, IsLaid, IsSeated, sight_of}
-use Rattle.kahn_code.specs.declared.progress.Pause.{Pause}
+use Rattle.kahn_streams.specs.Script.{Outcome}
+use Rattle.kahn_code.specs.Lines.{Lines as Queues}
 use Rattle.kahn_code.specs.declared.progress.Pause.TheVariants as pause
 use Rattle.kahn_code.specs.Progress as code
-use Rattle.kahn_code.specs.Progress.{IsPause}
-use Rattle.kahn_streams.proofs.Dry.{dry_reads}
-use Rattle.kahn_pool.proofs.Bridged.{bridge}
 
 -- ---- lists
 
@@ -210,17 +187,10 @@ still_after b p c c' q at e s =
     ap (λ l. let r : RunState = record { network = network_of b.network; input = inputs_of b.input; watch = b.watch; cells = l } in r)
     (map-set_same told_view b.cells p c' c (view_same c c' e s ∙ ap told_view (sym (get_or_from_slice_get b.cells p c c at))))
 
--- ---- the channel that a parameter reads
+-- ---- what is handed to a parameter
 
-module _ {b n : Table} (is : b ≡ n) (laid : IsLaid b) (p q d : ℕ) (reads : actual_at (instance_at (network_of n.network) p) q ≡ Reads d) where
-  same : b.code ≡ n.network
-  same = laid.code ∙ ap (λ (x : Table). x.network) is
-
-  pub channel_within : p < length (network_of b.code).instances
-  channel_within = subst (λ t. p < length (network_of t).instances) (sym same) (joins_within (network_of n.network) p q d (subst (λ a. Joins a d) (sym reads) refl))
-
-  pub channel_is : (o : Option ℕ) → o ≡ route_of (actual_at (instance_at (network_of b.code) p) q) → o ≡ Some d
-  channel_is o e = e ∙ ap (λ t. route_of (actual_at (instance_at (network_of t) p) q)) same ∙ ap route_of reads
+pub same_actual : {b n : Table} → b ≡ n → IsLaid b → (p q : ℕ) → actual_at (instance_at (network_of b.code) p) q ≡ actual_at (instance_at (network_of n.network) p) q
+same_actual is laid p q = ap (λ t. actual_at (instance_at (network_of t) p) q) (laid.code ∙ ap (λ (x : Table). x.network) is)
 
 -- ---- one run of a cell
 
@@ -262,6 +232,12 @@ module _ {b : Table} (laid : IsLaid b) (p : ℕ) {c : Told} (at : slice_get b.ce
         ap (λ t. actual_at (instance_at (network_of t) c'.instance) r) mine.network ∙
         ap (λ i. actual_at (instance_at (network_of b.network) i) r) mine.instance
 
+    before : (view_at (sight_of b).cells p).events ≡ c.events
+    before = ap (λ v. v.events) (viewed b laid p c at)
+
+    after : (view_at (sight_of (ran b p c' q')).cells p).events ≡ c'.events
+    after = ap (λ v. v.events) (view_after b p c c' q' at)
+
     module _ (counted : AreQueued q') (quantum : ℕ) (z : Pause)
         (paused : code.Paused (network_of c'.network) (inputs_of c'.input) c'.watch c'.instance (told_view c')
         (IsPause (network_of c'.network) c'.instance
@@ -285,49 +261,47 @@ module _ {b : Table} (laid : IsLaid b) (p : ℕ) {c : Told} (at : slice_get b.ce
           (subst (λ l. code.Paused (network_of b.network) (inputs_of l) c'.watch c'.instance (told_view c') (IsPause (network_of b.network) c'.instance dry ready (c'.events ≡ c.events + quantum) z)) mine.input
           (subst (λ t. code.Paused (network_of t) (inputs_of c'.input) c'.watch c'.instance (told_view c') (IsPause (network_of t) c'.instance dry ready (c'.events ≡ c.events + quantum) z)) mine.network paused)))
 
-      pub paused_now : PausedAt now p z
+      abbrev o : Outcome Store
+      o = (exec_on (network_of b.network) c'.events p paused_here.stood.tapes).outcome
+
+      -- what a pause says by the queues it says by what was given and taken
+      is_paused : (z : Pause) → IsPause (network_of b.network) p dry ready (c'.events ≡ c.events + quantum) z o → IsPaused now p z o
+      is_paused pause.Ended h = h
+      is_paused (pause.Fault k) h = h
+      is_paused (pause.Dry q) h =
+          let r = dry_reads b.network laid.wired c'.events p q paused_here.stood.tapes h.0 in
+          let none = subst (λ a. waiting_of (queue_of q'.queues a) ≡ 0) (own_actual q ∙ r.1) (h.1 r.0 r.1) in
+          (r.0, r.1, h.0, took_all (ran b p c' q') laid_now counted p q r.0 r.1 none)
+      is_paused pause.NoMemory h = h.0
+      is_paused pause.Spent h = by h.1
+        where
+          by : (o ≡ Cut) ⊎ ((r d : ℕ) × (actual_at (instance_at (network_of b.network) p) r ≡ Reads d) × (o ≡ Dry r) × ready r) → IsPaused now p pause.Spent o
+          by (inl cut) = inl cut
+          by (inr (r, d, e, dry, h)) =
+              let g = left_some (ran b p c' q') laid_now counted p r d e (subst (λ a. 0 < waiting_of (queue_of q'.queues a)) (own_actual r ∙ e) h) in
+              inr (r, d, g.0, e, dry, g.1, g.2)
+
+      paused_now : PausedAt now p z
       paused_now =
-          bridge now p dry ready (c'.events ≡ c.events + quantum)
-          (λ n r T e. dry_reads b.network laid.wired n p r T e)
-          (λ r d e h. took_all (ran b p c' q') laid_now counted p r d e (subst (λ a. waiting_of (queue_of q'.queues a) ≡ 0) (own_actual r ∙ e) h))
-          (λ r d e h. left_some (ran b p c' q') laid_now counted p r d e (subst (λ a. 0 < waiting_of (queue_of q'.queues a)) (own_actual r ∙ e) h))
-          (told_view c') z (view_after b p c c' q' at)
-          (λ r s d e f. (reads_once b.network laid.wired p r p s d e f).1) paused_here
+          subst (λ v. code.Paused (network_of b.network) (inputs_of b.input) b.watch p v (IsPaused now p z)) (sym (view_after b p c c' q' at))
+          (record { stood = paused_here.stood; is = is_paused z paused_here.is })
 
-    before : (view_at (sight_of b).cells p).events ≡ c.events
-    before = ap (λ v. v.events) (viewed b laid p c at)
+      paused_as : {k : Pause} → z ≡ k → IsPause (network_of b.network) p dry ready (c'.events ≡ c.events + quantum) k o
+      paused_as e = subst (λ k. IsPause (network_of b.network) p dry ready (c'.events ≡ c.events + quantum) k o) e paused_here.is
 
-    after : (view_at (sight_of (ran b p c' q')).cells p).events ≡ c'.events
-    after = ap (λ v. v.events) (view_after b p c c' q' at)
-
-    pub events_now : (quantum : ℕ) → (c.events ≤ c'.events) × (c'.events ≤ c.events + quantum) →
-        (events_at (sight_of b) p ≤ events_at (sight_of (ran b p c' q')) p) × (events_at (sight_of (ran b p c' q')) p ≤ events_at (sight_of b) p + quantum)
-    events_now quantum h =
-        let x = before in
-        let y = after in
-        let l = h.0 in
-        let m = h.1 in
-        (omega (arith, x, y, l), omega (arith, x, y, m))
-
-    pub still_now : (c'.events ≡ c.events → IsStill c c') → events_at (sight_of (ran b p c' q')) p ≡ events_at (sight_of b) p →
-        sight_of (ran b p c' q') ≡ sight_of b
-    still_now h e = let s = sym after ∙ e ∙ before in still_after b p c c' q' at s (h s)
-
-    pub spent_now : (quantum : ℕ) (dry ready : ℕ → Type 0) (z : Pause) →
-        code.Paused (network_of c'.network) (inputs_of c'.input) c'.watch c'.instance (told_view c') (IsPause (network_of c'.network) c'.instance dry ready (c'.events ≡ c.events + quantum) z) →
-        z ≡ pause.Spent → events_at (sight_of (ran b p c' q')) p ≡ events_at (sight_of b) p + quantum
-    spent_now quantum dry ready z h e =
-        let s = (subst (λ z. IsPause (network_of c'.network) c'.instance dry ready (c'.events ≡ c.events + quantum) z (exec_on (network_of c'.network) c'.events c'.instance h.stood.tapes).outcome) e h.is).0 in
-        let x = before in
-        let y = after in
-        omega (arith, s, x, y)
-
-    pub wanted_now : (quantum : ℕ) (dry ready : ℕ → Type 0) (z : Pause) →
-        code.Paused (network_of c'.network) (inputs_of c'.input) c'.watch c'.instance (told_view c') (IsPause (network_of c'.network) c'.instance dry ready (c'.events ≡ c.events + quantum) z) →
-        c'.events ≤ c.events + quantum → z ≡ pause.NoMemory → events_at (sight_of (ran b p c' q')) p < events_at (sight_of b) p + quantum
-    wanted_now quantum dry ready z h most e =
-        let s = (subst (λ z. IsPause (network_of c'.network) c'.instance dry ready (c'.events ≡ c.events + quantum) z (exec_on (network_of c'.network) c'.events c'.instance h.stood.tapes).outcome) e h.is).1 in
-        let x = before in
-        let y = after in
-        let l : c'.events < c.events + quantum = omega (arith, most, s) in
-        omega (arith, l, x, y)
+      pub ran_now : (c.events ≤ c'.events) × (c'.events ≤ c.events + quantum) → (c'.events ≡ c.events → IsStill c c') → HasRunCell (sight_of b) now p quantum z
+      ran_now events still =
+          let x = before in
+          let y = after in
+          let l = events.0 in
+          let m = events.1 in
+          record {
+            same = (refl, refl, refl);
+            known = length-map (slice_set b.cells p c') told_view ∙ laid_now.count;
+            only = views_after b p c c' q' at;
+            events = (omega (arith, x, y, l), omega (arith, x, y, m));
+            still = λ e. let s = sym after ∙ e ∙ before in still_after b p c c' q' at s (still s);
+            paused = paused_now;
+            spent = λ e. let s = (paused_as e).0 in omega (arith, s, x, y);
+            wanted = λ e. let s = (paused_as e).1 in let n : c'.events < c.events + quantum = omega (arith, m, s) in omega (arith, n, x, y);
+          }

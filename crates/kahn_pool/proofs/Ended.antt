@@ -1,30 +1,13 @@
 -- The ends of tasks.
 use Rattle.std.proofs.Common.{arith, ◌≡◌, ◌⊎◌, inl, inr, ℕ, suc, ◌<◌, List, [], ◌∷◌, ◌++◌, length, refl, sym, ap, ◌∙◌, subst, Some, None, slice_get, length-append}
-use Rattle.kahn_streams.specs.declared.tree.Program.{Program}
-use Rattle.kahn_streams.specs.declared.sides.Side.{Side}
-use Rattle.kahn_streams.specs.Network.{Reads, Writes, network_of, instance_at, actual_at, IsWriter, IsReader, IsOnly}
-use Rattle.kahn_streams.specs.inner.Sources.{IsFed}
-use Rattle.kahn_streams.specs.Wiring.{IsWellWired, side_at}
-use Rattle.kahn_streams.proofs.Sourced.{handed_within, reads, reads_listed, writes}
-use Rattle.kahn_streams.specs.Inputs.{Lists, inputs_of}
-use Rattle.kahn_code.specs.Lines.{Joins}
-use Rattle.kahn_code.proofs.Lists.{at_last}
-use Rattle.kahn_code.proofs.Readers.{joins_parameter}
-use Rattle.kahn_code.specs.Standing.{count}
-use Rattle.kahn_job.specs.declared.standing.Standing.TheVariants as standing
-use Rattle.kahn_job.specs.inner.Tasks.{Tasked}
-use Rattle.kahn_crew.specs.inner.Tasks.{handed_to_task}
-use Rattle.kahn_crew.specs.inner.Left.{AreAll}
-use Rattle.kahn_pool.specs.inner.Rested.{AreEndsOfTasks, AreTold, IsEndOf, IsToldAs}
+use Rattle.kahn_pool.proofs.Common.{Program, Side, Reads, Writes, network_of, instance_at, actual_at, IsWriter, IsOnly, IsFed, IsWellWired, side_at, handed_within, reads, writes, Lists, inputs_of, Joins, at_last, joins_parameter, count, Tasked, handed_to_task, AreAll, AreEndsOfTasks, AreTold, IsEndOf, IsToldAs, same_Some}
 use Rattle.kahn_streams.specs.declared.answer.End.{End}
-use Rattle.kahn_streams.specs.declared.answer.Outcome.TheVariants as outcome
 use Rattle.kahn_pool.proofs.Benched.{got, some_one}
+use Rattle.kahn_job.specs.declared.standing.Standing.TheVariants as standing
+use Rattle.kahn_streams.specs.declared.answer.Outcome.TheVariants as outcome
 
 pub writer_side : (t : Program) (p q c : ℕ) → actual_at (instance_at (network_of t) p) q ≡ Writes c → IsWriter (network_of t) c (side_at p q)
 writer_side t p q c e = (handed_within (network_of t) p q c (subst (λ a. Joins a c) (sym e) refl), e)
-
-pub reader_side : (t : Program) (p q c : ℕ) → actual_at (instance_at (network_of t) p) q ≡ Reads c → IsReader (network_of t) c (side_at p q)
-reader_side t p q c e = (handed_within (network_of t) p q c (subst (λ a. Joins a c) (sym e) refl), e)
 
 -- what is handed to a task of instance p
 pub handed_to : (t : Program) (p q : ℕ) (x : Tasked) → x.work.cell.network ≡ t → x.work.cell.instance ≡ p → handed_to_task x.work q ≡ actual_at (instance_at (network_of t) p) q
@@ -66,29 +49,16 @@ one_number t lists tasks p q d k n wired h r a b = by (reads t wired p q d r)
         let at = handed_as t tasks h f.0 f.1 g.0 g.1 ∙ f.3 in
         sym (b.sent f.0 f.1 g.0 g.1 at) ∙ a.sent f.0 f.1 g.0 g.1 at
 
--- ---- the channel that a parameter reads
-
-pub is_reader : (t : Program) (c p q : ℕ) (s : Side) → IsOnly (IsReader (network_of t) c) (Some s) → s.instance ≡ p → s.parameter ≡ q →
-    actual_at (instance_at (network_of t) p) q ≡ Reads c
-is_reader t c p q s only i k =
-    ap (λ n. actual_at (instance_at (network_of t) n) q) (sym i) ∙ ap (actual_at (instance_at (network_of t) s.instance)) (sym k) ∙ only.0.1
-
-pub no_reader : (t : Program) (c p q : ℕ) → IsOnly (IsReader (network_of t) c) None → actual_at (instance_at (network_of t) p) q ≡ Reads c → ⊥
-no_reader t c p q none e = none (side_at p q) (reader_side t p q c e)
-
-pub none_all : (t : Program) (p q n : ℕ) → IsWellWired t → n ≡ length (network_of t).channels →
-    ((c : ℕ) → c < n → actual_at (instance_at (network_of t) p) q ≡ Reads c → ⊥) → (c : ℕ) → actual_at (instance_at (network_of t) p) q ≡ Reads c → ⊥
-none_all t p q n wired is h c e = let l = reads_listed t wired p q c e in h c (omega (arith, l, is)) e
-
 -- ---- what stands in the answer
 
 pub dry_told : (t : Program) (lists : Lists) (tasks : List Tasked) (p q c n k : ℕ) → IsWellWired t → AreTold t tasks →
-    actual_at (instance_at (network_of t) p) q ≡ Reads c → AreAll t lists tasks c n → (x : Tasked) → slice_get tasks p ≡ Some x → k ≡ count x.work.cell.taken q →
-    x.standing ≡ standing.Dry q → (k ≡ n → IsToldAs t lists tasks x (outcome.Waits c)) × ((k ≡ n → ⊥) → IsToldAs t lists tasks x outcome.More)
-dry_told t lists tasks p q c n k wired h r all x at is s = (
-  λ e. (q, s, handed_as t tasks h p q x at ∙ r, subst (AreAll t lists tasks c) (sym e ∙ is) all),
-  λ n'. inr (q, c, s, handed_as t tasks h p q x at ∙ r, λ a. n' (is ∙ one_number t lists tasks p q c _ n wired h r all a)),
-)
+    actual_at (instance_at (network_of t) p) q ≡ Reads c → AreAll t lists tasks c n → (y x : Tasked) → slice_get tasks p ≡ Some y → slice_get tasks p ≡ Some x →
+    k ≡ count y.work.cell.taken q → x.standing ≡ standing.Dry q → (k ≡ n → IsToldAs t lists tasks x (outcome.Waits c)) × ((k ≡ n → ⊥) → IsToldAs t lists tasks x outcome.More)
+dry_told t lists tasks p q c n k wired h r all y x here at taken s =
+    let is = taken ∙ ap (λ (z : Tasked). count z.work.cell.taken q) (same_Some y x (sym here ∙ at)) in (
+      λ e. (q, s, handed_as t tasks h p q x at ∙ r, subst (AreAll t lists tasks c) (sym e ∙ is) all),
+      λ n'. inr (q, c, s, handed_as t tasks h p q x at ∙ r, λ a. n' (is ∙ one_number t lists tasks p q c _ n wired h r all a)),
+    )
 
 -- ---- all ends
 
@@ -112,8 +82,3 @@ taken_long t tasks p q d n x h at e is =
     ap (λ i. length (instance_at (network_of t) i).actuals) (h.instance p x at)
     in
     omega (arith, l, same, is)
-
-pub reader_at : (t : Program) (c p q : ℕ) (s : Side) → IsOnly (IsReader (network_of t) c) (Some s) →
-    actual_at (instance_at (network_of t) p) q ≡ Reads c → (s.instance ≡ p) × (s.parameter ≡ q)
-reader_at t c p q s only e =
-    let h = only.1 (side_at p q) (reader_side t p q c e) in (sym (ap (λ (u : Side). u.instance) h), sym (ap (λ (u : Side). u.parameter) h))

@@ -1,32 +1,15 @@
 -- Streams filled from the lists of the cells, one by one.
-use Rattle.std.proofs.Common.{arith, ◌≡◌, ◌⊎◌, inl, inr, ℕ, zero, suc, ◌<◌, ◌≤◌, List, [], ◌∷◌, length, map, Some, refl, sym, ap, ◌∙◌, subst, slice_get, slice_set, slice_index_or}
-use Rattle.std.proofs.lemmas.Bool.{cases_eq}
-use Rattle.std.proofs.lemmas.List.{map-set, length-map, length-set, get_or-set_same, get_or-set_other, get_or-map}
-use Rattle.std.proofs.lemmas.Option.{slice_get_within, slice_get-get_or}
-use Rattle.kahn_streams.specs.declared.value.Line.{Line}
-use Rattle.kahn_streams.specs.declared.value.Line.TheVariants.{Channel, Print}
-use Rattle.kahn_streams.specs.declared.token.Token.{Token}
-use Rattle.kahn_streams.specs.Solution.{source}
-use Rattle.kahn_streams.specs.Network.{Network, Writes, Source, Given, Written, Nobody, instance_at, actual_at}
-use Rattle.kahn_code.specs.declared.cell.Kept.{Kept}
-use Rattle.kahn_code.specs.Cells.{AreKeptTokens}
-use Rattle.kahn_streams.specs.declared.answer.Stream.{Stream}
-use Rattle.kahn_pool.specs.inner.Bench.{RunState, AreStreams}
-use Rattle.kahn_pool.specs.inner.Gathered.{view_at, IsFrom}
-use Rattle.kahn_streams.specs.Answers.{stream_line, stream_lines}
-use Rattle.kahn_pool.specs.inner.Streams.{AreNamed, IsDeclared, IsFilled, HasBecome, HaveBecome, AreLists, KeepsOtherLines, HasInputs, kept_lists, kept_in, printed_list, printed_in}
-use Rattle.kahn_pool.proofs.Lists.{set_get, set_else}
-use Rattle.kahn_pool.proofs.Named.{HasLine, has_line, line_at, stream_before, declared, once}
+use Rattle.std.proofs.Common.{arith, ◌≡◌, ◌⊎◌, inl, inr, ℕ, ◌<◌, ◌≤◌, List, [], length, map, Some, refl, sym, ap, ◌∙◌, subst, slice_get, slice_set, slice_index_or, ◌+◌}
+use Rattle.kahn_pool.proofs.Common.{cases_eq, map-set, length-map, get_or-set_same, get_or-set_other, get_or-map, slice_get-get_or, Line, Channel, Print, Token, source, Network, Writes, Source, Given, Written, Nobody, instance_at, actual_at, Kept, AreKeptTokens, Stream, RunState, AreStreams, view_at, IsFrom, stream_line, stream_lines, AreNamed, IsDeclared, IsFilled, HasBecome, HaveBecome, AreLists, KeepsOtherLines, HasInputs, kept_lists, kept_in, printed_list, printed_in, count}
+use Rattle.std.proofs.lemmas.List.{length-set}
+use Rattle.kahn_pool.proofs.Lists.{set_get, map_changed, ChangedTo, next_old, one_changed, old_item}
+use Rattle.kahn_pool.proofs.Named.{HasLine, has_line, line_at, declared, once}
 
--- ---- lists of which one changed
+-- ---- lines
 
-pub set_lines : (xs : List Stream) (n : ℕ) (x y : Stream) → slice_get xs n ≡ Some x → y.line ≡ x.line → map stream_line (slice_set xs n y) ≡ map stream_line xs
-set_lines [] n x y e f = refl
-set_lines (z ∷ xs) zero x y e f = let g : x ≡ z = same e in ap (λ l. l ∷ map stream_line xs) (f ∙ ap (λ s. s.line) g)
-  where
-    same : Some z ≡ Some x → x ≡ z
-    same h = cc
-set_lines (z ∷ xs) (suc n) x y e f = ap (λ ls. z.line ∷ ls) (set_lines xs n x y e f)
+pub lines_kept : (N : Network) (right : Source → Line → List Token → List Token → Type 0) (old new : List Stream) → HaveBecome N right old new →
+    map stream_line new ≡ map stream_line old
+lines_kept N right old new h = map_changed stream_line stream_line (λ x y e. e.0) old new h
 
 -- ---- one list of a cell changed
 
@@ -121,50 +104,32 @@ module _ {A : Type 0} (N : Network) (ls : List (Kept A)) (p : ℕ) (l l' : Kept 
 
 pub record Filling {A : Type 0} (N : Network) (ls : List (Kept A)) (old : List Stream) (ks : List (Kept A)) (now : List Stream) (n : ℕ) : Type 0 where
   pub named : AreNamed N old
-  pub lines : map stream_line now ≡ map stream_line old
   pub lists : AreLists N ks
-  pub done : (j : ℕ) (x y : Stream) → j < n → slice_get old j ≡ Some x → slice_get now j ≡ Some y → HasBecome N (IsFilled N ls) x y
-  pub rest : (j : ℕ) → n ≤ j → slice_get now j ≡ slice_get old j
+  pub changed : ChangedTo (λ x y. (y.line ≡ x.line) × HasBecome N (IsFilled N ls) x y) old now n
   -- the lists of the further lines are as at first
   pub held : (j : ℕ) (x : Stream) → n ≤ j → slice_get old j ≡ Some x → (ts us : List Token) →
       IsFilled N ks (source N x.line) x.line ts us → IsFilled N ls (source N x.line) x.line ts us
 
-module _ {A : Type 0} (N : Network) (ls : List (Kept A)) (old : List Stream) (ks : List (Kept A)) (now : List Stream) (n : ℕ) (f : Filling N ls old ks now n) where
-  pub next_declared : (x : Stream) → slice_get now n ≡ Some x → IsDeclared N x.line
-  next_declared x e = declared N old n x f.named (sym (f.rest n (omega arith)) ∙ e)
+module _ {A : Type 0} {N : Network} {ls : List (Kept A)} {old : List Stream} {ks : List (Kept A)} {now : List Stream} {n : ℕ} (f : Filling N ls old ks now n)
+    {x : Stream} (here : n < length now) (value : x ≡ slice_index_or now n x) where
+  pub next_declared : IsDeclared N x.line
+  next_declared = declared N old n x f.named (next_old f.changed here value)
 
-  pub filling_goes : (ks' : List (Kept A)) (x y : Stream) → slice_get now n ≡ Some x → y.line ≡ x.line → AreLists N ks' →
-      HasBecome N (IsFilled N ks) x y → KeepsOtherLines N x.line ks ks' → Filling N ls old ks' (slice_set now n y) (suc n)
-  filling_goes ks' x y e same lists filled others = record {
+  pub filling_goes : (ks' : List (Kept A)) (y : Stream) → y.line ≡ x.line → AreLists N ks' → HasBecome N (IsFilled N ks) x y → KeepsOtherLines N x.line ks ks' →
+      Filling N ls old ks' (slice_set now n y) (n + 1)
+  filling_goes ks' y same lists filled others = record {
     named = f.named;
-    lines = set_lines now n x y e same ∙ f.lines;
     lists = lists;
-    done = λ j u v l a b. done_at j u v l a (set_get now n j y v b);
-    rest = λ j l. set_else now n j y (λ k. omega (arith, k, l)) ∙ f.rest j (omega (arith, l));
+    changed = one_changed f.changed here value (
+      same,
+      subst (λ d. (ts us : List Token) → IsFilled N ks (source N d) d ts us → IsFilled N ls (source N d) d ts us) (sym same)
+          (f.held n x (omega arith) (next_old f.changed here value)) x.tokens.items y.tokens.items filled,
+    );
     held = λ j u l a ts us h. f.held j u (omega (arith, l)) a ts us (others u.line (λ k. apart j u l a k) ts us h);
   }
     where
-      at_first : slice_get old n ≡ Some x
-      at_first = sym (f.rest n (omega arith)) ∙ e
-
-      apart : (j : ℕ) (u : Stream) → suc n ≤ j → slice_get old j ≡ Some u → u.line ≡ x.line → ⊥
-      apart j u l a k = let m : j ≡ n = once N old j n u x f.named a at_first k in omega (arith, l, m)
-
-      done_at : (j : ℕ) (u v : Stream) → j < suc n → slice_get old j ≡ Some u → ((j ≡ n) × (y ≡ v)) ⊎ ((j ≡ n → ⊥) × (slice_get now j ≡ Some v)) → HasBecome N (IsFilled N ls) u v
-      done_at j u v l a (inr h) = f.done j u v (let o = h.0 in omega (arith, l, o)) a h.1
-      done_at j u v l a (inl h) =
-          subst (HasBecome N (IsFilled N ls) u) h.1
-          (subst (λ w. HasBecome N (IsFilled N ls) w y) one
-          (subst (λ d. (ts us : List Token) → IsFilled N ks (source N d) d ts us → IsFilled N ls (source N d) d ts us) (sym same) (f.held n x (omega arith) at_first) x.tokens.items y.tokens.items filled))
-        where
-          one : x ≡ u
-          one = some_stream (sym at_first ∙ (ap (slice_get old) (sym h.0) ∙ a))
-            where
-              some_stream : Some x ≡ Some u → x ≡ u
-              some_stream k = cc
-
-  pub filling_ends : n ≡ length now → HaveBecome N (IsFilled N ls) old now
-  filling_ends e = record { lines = f.lines; each = λ j x y a b. f.done j x y (let l : j < length now = slice_get_within now j y b in omega (arith, e, l)) a b }
+      apart : (j : ℕ) (u : Stream) → n + 1 ≤ j → slice_get old j ≡ Some u → u.line ≡ x.line → ⊥
+      apart j u l a k = let m : j ≡ n = once N old j n u x f.named a (next_old f.changed here value) k in omega (arith, l, m)
 
 -- ---- the streams of an answer
 
@@ -176,8 +141,11 @@ module _ {A : Type 0} (s : RunState) (ls : List (Kept A)) (old new : List Stream
     (printed : (p : ℕ) → printed_in ls p ≡ (view_at s.cells p).printed)
     (given : HasInputs s.network s.input old) where
   pub are_streams : AreStreams s new (stream_lines s.network s.watch)
-  are_streams = record { named = filled.lines ∙ named; each = each }
+  are_streams = record { named = lines ∙ named; each = each }
     where
+      lines : map stream_line new ≡ map stream_line old
+      lines = lines_kept s.network (IsFilled s.network ls) old new filled
+
       turn : (j : ℕ) (x y : Stream) (d : Line) (o : Source) → slice_get old j ≡ Some x → x.line ≡ d → source s.network d ≡ o → HasLine s.network s.watch d →
           IsFilled s.network ls o d x.tokens.items y.tokens.items → IsFrom s.network s.input s.watch s.cells o d y.tokens.items
       turn j x y (Channel c) Given a b e l h = subst (AreKeptTokens s.network s.input (Channel c) (s.input c)) (sym h) (given j c x a b e)
@@ -192,7 +160,6 @@ module _ {A : Type 0} (s : RunState) (ls : List (Kept A)) (old new : List Stream
 
       each : (j : ℕ) (y : Stream) → slice_get new j ≡ Some y → IsFrom s.network s.input s.watch s.cells (source s.network y.line) y.line y.tokens.items
       each j y e =
-          let x = stream_before old new j y filled.lines e in
-          turn j x.0 y y.line (source s.network y.line) x.1 x.2 refl
-          (has_line s.network s.watch j y.line (line_at new (stream_lines s.network s.watch) j y (filled.lines ∙ named) e))
-          (filled.each j x.0 y x.1 e)
+          let x = old_item filled j y e in
+          turn j x.0 y y.line (source s.network y.line) x.1 (sym x.2.0) refl
+          (has_line s.network s.watch j y.line (line_at new (stream_lines s.network s.watch) j y (lines ∙ named) e)) x.2.1

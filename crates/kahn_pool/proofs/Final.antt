@@ -1,17 +1,7 @@
 -- The answer after the last round.
 use Rattle.std.proofs.Common.{arith, ◌≡◌, ◌⊎◌, inl, inr, ℕ, zero, suc, ◌+◌, List, [], ◌∷◌, ◌++◌, length, map, sum_by, take, refl, sym, ap, ◌∙◌, subst, Some, slice_get, Bool, true, false}
-use Rattle.std.proofs.lemmas.List.Sums.{sum_by-cons}
-use Rattle.kahn_streams.specs.declared.value.Line.{Line}
-use Rattle.kahn_code.specs.Cells.{View}
-use Rattle.kahn_streams.specs.declared.answer.Answer.{Answer}
+use Rattle.kahn_pool.proofs.Common.{sum_by-cons, Line, View, Answer, Stream, More, Verdict, Finished, Bound, end_events, stream_line, stream_lines, view_at, TookNoMore, IsGathered, IsStopped, RunState, view_events, IsLast, IsVerdict, AreStreams}
 use Rattle.kahn_streams.specs.declared.answer.End.{End}
-use Rattle.kahn_streams.specs.declared.answer.Stream.{Stream}
-use Rattle.kahn_streams.specs.declared.answer.Outcome.TheVariants.{More}
-use Rattle.kahn_streams.specs.declared.answer.Verdict.{Verdict}
-use Rattle.kahn_streams.specs.declared.answer.Verdict.TheVariants.{Finished, Bound}
-use Rattle.kahn_streams.specs.Answers.{end_events, stream_line, stream_lines}
-use Rattle.kahn_pool.specs.inner.Gathered.{view_at, TookNoMore, IsGathered, IsStopped}
-use Rattle.kahn_pool.specs.inner.Bench.{RunState, view_events, IsLast, IsVerdict, AreStreams}
 
 same_sums : (cs : List View) (xs : List End) → length xs ≡ length cs →
     ((p : ℕ) (x : End) → slice_get xs p ≡ Some x → x.events ≡ (view_at cs p).events) → sum_by end_events xs ≡ sum_by view_events cs

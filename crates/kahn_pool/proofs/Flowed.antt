@@ -1,42 +1,15 @@
 -- A flow: what its parts, more input and letting go make of it.
-use Rattle.std.proofs.Common.{arith, ◌≡◌, ℕ, zero, suc, ◌+◌, ◌-◌, ◌<◌, ◌≤◌, ◌^◌, Bool, List, [], ◌∷◌, ◌++◌, length, map, replicate, take, sum_by, refl, sym, ap, ◌∙◌, subst, append-nil, Option, Some, slice_get, slice_index_or}
-use Rattle.std.proofs.lemmas.List.{length-append, length-map, map-append, take_all, take_at}
-use Rattle.std.proofs.lemmas.List.Sums.{sum_by-cons}
-use Rattle.kahn_streams.specs.Network.{Source, Given, Written, Nobody, Writes, channel_source, network_of, instance_at, actual_at, role_at}
-use Rattle.kahn_streams.specs.declared.token.Token.{Token}
-use Rattle.kahn_streams.specs.declared.value.Value.{Value}
-use Rattle.kahn_streams.specs.declared.value.Line.{Line}
-use Rattle.kahn_streams.specs.declared.value.Line.TheVariants.{Channel, Print}
-use Rattle.kahn_streams.specs.Solution.{AreInputsExtended, source}
-use Rattle.kahn_streams.specs.Inputs.{Lists, inputs_of}
-use Rattle.kahn_streams.proofs.Entered.{none_of}
-use Rattle.kahn_streams.proofs.Proved.{prefix_refl}
-use Rattle.kahn_code.specs.Cells.{View}
-use Rattle.kahn_streams.specs.Tokens.{token_value}
-use Rattle.kahn_code.specs.Lines.{IsPoured}
-use Rattle.kahn_code.specs.Standing.{tokens}
-use Rattle.kahn_code.specs.Told.{Told, told_view}
-use Rattle.kahn_code.specs.inner.Gone.{Gone, nothing_gone}
-use Rattle.kahn_code.proofs.Poured.{poured_grown}
-use Rattle.kahn_pool.specs.HeldRuns.{GoesOn, IsLineOf, HeldRun, given_so_far, seen_at, seen_of, so_far, writing}
-use Rattle.kahn_streams.specs.Answers.{stream_lines}
-use Rattle.kahn_streams.specs.declared.answer.Verdict.{Verdict}
-use Rattle.kahn_pool.specs.inner.Bench.{RunState, all_events, view_events}
-use Rattle.kahn_pool.specs.inner.Concluded.{IsConcluded}
-use Rattle.kahn_pool.specs.inner.Holding.{AreEnded}
+use Rattle.std.proofs.Common.{arith, ◌≡◌, ℕ, zero, suc, ◌+◌, ◌-◌, ◌<◌, ◌≤◌, ◌^◌, Bool, List, [], ◌∷◌, ◌++◌, length, map, replicate, take, refl, sym, ap, ◌∙◌, subst, append-nil, Option, Some, slice_get, slice_index_or}
+use Rattle.kahn_pool.proofs.Common.{length-map, map-append, take_all, take_at, Source, Given, Written, Nobody, Writes, channel_source, network_of, instance_at, actual_at, role_at, Token, Value, Line, Channel, Print, AreInputsExtended, source, Lists, inputs_of, none_of, prefix_refl, View, token_value, IsPoured, tokens, Told, told_view, Gone, nothing_gone, poured_grown, GoesOn, IsLineOf, HeldRun, given_so_far, seen_at, seen_of, so_far, writing, stream_lines, Verdict, RunState, all_events, IsConcluded, AreEnded, AreNew, HasLetGo, IsRunOn, AreLast, AreLent, IsFlowing, flow_of, let_go_by, let_go_of, run_of_bench, waits_of, no_view, AreAllGiven, AllStandBy, AreWhole, HasEmptied, HasTakenIn, HasWorked, IsLaid, Table, all_of, sight_of, writes, HaveRisen}
+use Rattle.std.proofs.lemmas.List.{length-append}
 use Rattle.kahn_streams.specs.declared.answer.End.{End}
-use Rattle.kahn_pool.specs.Flows.{AreNew, HasLetGo, IsRunOn}
-use Rattle.kahn_pool.specs.inner.FlowBench.{AreLast, AreLent, IsFlowing, flow_of, let_go_by, let_go_of, run_of_bench, waits_of}
-use Rattle.kahn_pool.specs.inner.Gathered.{no_view}
-use Rattle.kahn_pool.specs.inner.Streams.{AreAllGiven}
-use Rattle.kahn_pool.specs.inner.Workbench.{AllStandBy, AreWhole, HasEmptied, HasTakenIn, HasWorked, IsLaid, Table, all_of, sight_of}
-use Rattle.kahn_pool.proofs.Benched.{mapped, some_one}
+use Rattle.kahn_pool.proofs.Benched.{mapped}
 use Rattle.kahn_pool.proofs.Giving.{input_role}
-use Rattle.kahn_pool.proofs.Going_on as Going
-use Rattle.kahn_pool.proofs.Going_on.{HasRisenTo, run_with}
+use Rattle.kahn_pool.proofs.Going_on.{run_with, risen_here}
 use Rattle.kahn_pool.proofs.Once_written.{input_watched, written_once}
 use Rattle.kahn_pool.proofs.Named.{HasLine, has_line}
 use Rattle.kahn_pool.proofs.Righted.{settled_by}
+use Rattle.kahn_pool.proofs.Going_on as Going
 
 -- ---- it goes on
 
@@ -62,24 +35,21 @@ worked_goes_on b d laid later old new h workers quantum bound total said next =
     laid.count (later.count ∙ ap (λ t. length (network_of t).instances) h.network) old
     (subst (λ t. AllStandBy t b.watch d.cells) h.network (subst (λ w. AllStandBy d.network w d.cells) h.watch new)) risen said next)
   where
-    risen : (p : ℕ) (x y : Told) → slice_get b.cells p ≡ Some x → slice_get d.cells p ≡ Some y → HasRisenTo x y
+    risen : HaveRisen b.cells d.cells
     risen p x y e f =
         let a = ap (λ (v : View). v.events) (mapped told_view b.cells p x no_view e) in
         let z = ap (λ (v : View). v.events) (mapped told_view d.cells p y no_view f) in
         let l = h.events p in
         let same : y.input ≡ x.input = (later.each p y f).input ∙ h.input ∙ sym (laid.each p x e).input in
-        (omega (arith, a, z, l), λ c. subst (λ k. AreInputsExtended (inputs_of x.input) (inputs_of k)) (sym same) (λ c. prefix_refl (inputs_of x.input c)) c)
+        record { events = omega (arith, a, z, l); input = subst (λ k. AreInputsExtended (inputs_of x.input) (inputs_of k)) (sym same) (λ c. prefix_refl (inputs_of x.input c)) }
 
 pub poured_goes_on : (b d : Table) → IsLaid b → AllStandBy b.network b.watch b.cells → (c n : ℕ) (values : List Value) (input : Lists) → IsPoured b.input c values input →
     HasTakenIn c n input b d → (workers quantum bound : ℕ) (said next : Option Verdict) → GoesOn (run_of_bench b workers quantum bound said) (run_of_bench d workers quantum bound next)
 poured_goes_on b d laid old c n values input poured h workers quantum bound said next =
     subst (GoesOn (run_of_bench b workers quantum bound said)) named
     (Going.goes_on b.network laid.wired b.input input (poured_grown b.input c values input poured) b.watch workers quantum bound bound b.cells b.cells
-    laid.count laid.count old old (λ p x y e f. same (some_one (sym e ∙ f))) said next)
+    laid.count laid.count old old (risen_here b.cells) said next)
   where
-    same : {x y : Told} → x ≡ y → HasRisenTo x y
-    same {x} e = subst (HasRisenTo x) e (omega arith, λ c. prefix_refl (inputs_of x.input c))
-
     named : run_with b.network input b.watch workers quantum bound b.cells next ≡ run_of_bench d workers quantum bound next
     named = λ i. record {
       network = sym h.network i;
@@ -91,16 +61,6 @@ poured_goes_on b d laid old c n values input poured h workers quantum bound said
       cells = sym h.seen i;
       verdict = next;
     }
-
--- before the first event
-pub none_done : (cells : List Told) → sum_by view_events (map told_view cells) ≡ 0 → (p : ℕ) → (seen_at (map seen_of cells) p).events ≡ 0
-none_done [] e p = refl
-none_done (c ∷ cells) e zero =
-    let s : sum_by view_events (map told_view (c ∷ cells)) ≡ c.events + sum_by view_events (map told_view cells) = sum_by-cons view_events (told_view c) (map told_view cells) in
-    omega (arith, s, e)
-none_done (c ∷ cells) e (suc p) =
-    let s : sum_by view_events (map told_view (c ∷ cells)) ≡ c.events + sum_by view_events (map told_view cells) = sum_by-cons view_events (told_view c) (map told_view cells) in
-    none_done cells (omega (arith, s, e)) p
 
 -- ---- what was let go of
 
@@ -288,7 +248,7 @@ module _ (b d : Table) (laid : IsLaid b) (later : IsLaid d) (old : AllStandBy b.
         few = few;
       },
       refl,
-      settled_by (sight_of d) (bound + more) left part_left part_ended.0 v ends part_ended.1,
+      settled_by part_ended.1,
     ),
     let_go_same b d h.network h.input h.watch b.gone h.gone n,
   )

@@ -1,25 +1,8 @@
 -- Streams of input channels, which get the whole list of the input.
-use Rattle.std.proofs.Common.{arith, ◌≡◌, ◌⊎◌, inl, inr, ℕ, suc, ◌-◌, ◌<◌, ◌≤◌, Bool, true, false, if◌then◌else◌, List, [], ◌∷◌, ◌++◌, length, map, Some, None, refl, sym, ap, ◌∙◌, subst, slice_get, slice_set, append_assoc}
-use Rattle.std.specs.List.{All}
-use Rattle.std.proofs.lemmas.List.{length-map, map-append}
-use Rattle.std.proofs.lemmas.Option.{slice_get_within, get_or_from_slice_get}
-use Rattle.kahn_streams.specs.declared.tree.Role.{Role}
-use Rattle.kahn_streams.specs.declared.value.Value.{Value}
-use Rattle.kahn_streams.specs.declared.value.Line.{Line}
-use Rattle.kahn_streams.specs.declared.tree.Role.TheVariants.{Inner, Input, Output}
-use Rattle.kahn_streams.specs.declared.value.Line.TheVariants.{Channel, Print}
-use Rattle.kahn_streams.specs.declared.token.Token.{Token}
-use Rattle.kahn_streams.specs.Solution.{Inputs, source, IsPrefix}
-use Rattle.kahn_streams.specs.Network.{Network, Instance, Source, Given, Written, Nobody, any_written, first_writer, source_by, channel_source, role_at}
-use Rattle.kahn_code.specs.Cells.{AreKeptTokens}
-use Rattle.kahn_streams.specs.Tokens.{IsOwn, token_value}
-use Rattle.kahn_streams.specs.declared.answer.Stream.{Stream}
-use Rattle.kahn_streams.specs.Answers.{stream_line}
-use Rattle.kahn_pool.specs.inner.Streams.{AreNamed, AreAllOf, HasBecome, HaveBecome, IsBegun, IsDeclared, IsBare, HasInput, HasInputs}
-use Rattle.kahn_pool.proofs.Named.{declared, stream_before}
-use Rattle.kahn_code.proofs.Lists.{at_last}
-use Rattle.kahn_pool.proofs.Lists.{set_get, set_else}
-use Rattle.kahn_pool.proofs.Filled.{set_lines}
+use Rattle.std.proofs.Common.{arith, ◌≡◌, ◌⊎◌, inl, inr, ℕ, suc, ◌-◌, ◌<◌, Bool, true, false, if◌then◌else◌, List, [], ◌∷◌, ◌++◌, length, map, Some, None, refl, sym, ap, ◌∙◌, subst, slice_get, slice_set, append_assoc, slice_index_or, ◌+◌}
+use Rattle.kahn_pool.proofs.Common.{All, length-map, map-append, slice_get_within, get_or_from_slice_get, Role, Value, Inner, Input, Output, Channel, Token, Inputs, source, IsPrefix, Network, Instance, Source, Given, Written, Nobody, any_written, first_writer, source_by, channel_source, role_at, IsOwn, token_value, Stream, AreNamed, AreAllOf, HasBecome, HaveBecome, IsBegun, IsDeclared, IsBare, HasInput, HasInputs, at_last}
+use Rattle.kahn_pool.proofs.Named.{declared}
+use Rattle.kahn_pool.proofs.Lists.{ChangedTo, next_old, one_changed, old_item}
 
 -- ---- the list of a channel, token by token
 
@@ -97,58 +80,22 @@ channel_given N I c before after f g = by (source N (Channel c)) refl
 pub record Giving (N : Network) (I : Inputs) (old now : List Stream) (n : ℕ) : Type 0 where
   pub named : AreNamed N old
   pub bare : All IsBare old
-  pub lines : map stream_line now ≡ map stream_line old
-  pub done : (j : ℕ) (x y : Stream) → j < n → slice_get old j ≡ Some x → slice_get now j ≡ Some y → HasBecome N (HasInput N I) x y
-  pub rest : (j : ℕ) → n ≤ j → slice_get now j ≡ slice_get old j
+  pub changed : ChangedTo (λ x y. (y.line ≡ x.line) × HasBecome N (HasInput N I) x y) old now n
 
-module _ (N : Network) (I : Inputs) (old now : List Stream) (n : ℕ) (f : Giving N I old now n) where
-  at_first : (x : Stream) → slice_get now n ≡ Some x → slice_get old n ≡ Some x
-  at_first x e = sym (f.rest n (omega arith)) ∙ e
+module _ {N : Network} {I : Inputs} {old now : List Stream} {n : ℕ} (f : Giving N I old now n) {x : Stream} (here : n < length now) (value : x ≡ slice_index_or now n x) where
+  pub giving_declared : IsDeclared N x.line
+  giving_declared = declared N old n x f.named (next_old f.changed here value)
 
-  pub giving_declared : (x : Stream) → slice_get now n ≡ Some x → IsDeclared N x.line
-  giving_declared x e = declared N old n x f.named (at_first x e)
-
-  pub giving_bare : (x : Stream) → slice_get now n ≡ Some x → IsBare x
-  giving_bare x e =
-      let g = at_first x e in
+  pub giving_bare : IsBare x
+  giving_bare =
+      let g = next_old f.changed here value in
       subst IsBare (get_or_from_slice_get old n x x g) (f.bare n x (slice_get_within old n x g))
 
-  pub giving_goes : (x y : Stream) → slice_get now n ≡ Some x → y.line ≡ x.line → HasBecome N (HasInput N I) x y → Giving N I old (slice_set now n y) (suc n)
-  giving_goes x y e same given = record {
-    named = f.named;
-    bare = f.bare;
-    lines = set_lines now n x y e same ∙ f.lines;
-    done = λ j u v l a b. done_at j u v l a (set_get now n j y v b);
-    rest = λ j l. set_else now n j y (λ k. omega (arith, k, l)) ∙ f.rest j (omega (arith, l));
-  }
-    where
-      done_at : (j : ℕ) (u v : Stream) → j < suc n → slice_get old j ≡ Some u → ((j ≡ n) × (y ≡ v)) ⊎ ((j ≡ n → ⊥) × (slice_get now j ≡ Some v)) → HasBecome N (HasInput N I) u v
-      done_at j u v l a (inr h) = f.done j u v (let o = h.0 in omega (arith, l, o)) a h.1
-      done_at j u v l a (inl h) = subst (HasBecome N (HasInput N I) u) h.1 (subst (λ w. HasBecome N (HasInput N I) w y) one given)
-        where
-          one : x ≡ u
-          one = some_stream (sym (at_first x e) ∙ (ap (slice_get old) (sym h.0) ∙ a))
-            where
-              some_stream : Some x ≡ Some u → x ≡ u
-              some_stream k = cc
-
-  pub giving_ends : n ≡ length now → HaveBecome N (HasInput N I) old now
-  giving_ends e = record { lines = f.lines; each = λ j x y a b. f.done j x y (let l : j < length now = slice_get_within now j y b in omega (arith, e, l)) a b }
+  pub giving_goes : (y : Stream) → y.line ≡ x.line → HasBecome N (HasInput N I) x y → Giving N I old (slice_set now n y) (n + 1)
+  giving_goes y same given = record { named = f.named; bare = f.bare; changed = one_changed f.changed here value (same, given) }
 
 -- each stream of an input channel has the whole list
 pub have_inputs : (N : Network) (I : Inputs) (old new : List Stream) → HaveBecome N (HasInput N I) old new → HasInputs N I new
 have_inputs N I old new h j c y e at given =
-    let x = stream_before old new j y h.lines e in
-    by (source N y.line) (subst (λ d. source N d ≡ Given) (sym at) given) (h.each j x.0 y x.1 e)
-  where
-    by : (o : Source) → o ≡ Given → HasInput N I o y.line (stream_before old new j y h.lines e).0.tokens.items y.tokens.items → AreKeptTokens N I (Channel c) (I c) y.tokens.items
-    by Given f k = on y.line at k
-      where
-        on : (d : Line) → d ≡ Channel c → HasInput N I Given d (stream_before old new j y h.lines e).0.tokens.items y.tokens.items → AreKeptTokens N I (Channel c) (I c) y.tokens.items
-        on (Channel b) g k = subst (λ n. AreKeptTokens N I (Channel n) (I n) y.tokens.items) (same g) k
-          where
-            same : Channel b ≡ Channel c → b ≡ c
-            same m = cc
-        on (Print r) g k = absurd cc
-    by (Written p) f k = absurd cc
-    by Nobody f k = absurd cc
+    let x = old_item h j y e in
+    subst (λ s. HasInput N I s (Channel c) x.0.tokens.items y.tokens.items) given (subst (λ d. HasInput N I (source N d) d x.0.tokens.items y.tokens.items) at x.2.1)

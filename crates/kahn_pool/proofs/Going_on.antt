@@ -1,24 +1,8 @@
 -- Cells that have done no fewer events: their streams have grown.
 use Rattle.std.proofs.Common.{arith, ◌≡◌, ◌⊎◌, inl, inr, ℕ, zero, suc, ◌≤◌, List, [], ◌∷◌, length, map, refl, sym, ap, ◌∙◌, subst, Option, Some, slice_get, slice_index_or, true}
-use Rattle.kahn_streams.specs.declared.tree.Program.{Program}
-use Rattle.kahn_streams.specs.declared.value.Value.{Value}
-use Rattle.kahn_streams.specs.declared.value.Line.{Line}
-use Rattle.kahn_streams.specs.Network.{Network, Source, Given, Written, Nobody, Writes, network_of, instance_at, actual_at}
-use Rattle.kahn_streams.specs.Wiring.{IsWellWired}
-use Rattle.kahn_streams.specs.declared.value.Line.TheVariants.{Channel, Print}
-use Rattle.kahn_streams.specs.Solution.{AreInputsExtended, IsPrefix, source}
-use Rattle.kahn_streams.specs.Inputs.{Lists, inputs_of}
-use Rattle.kahn_streams.proofs.Framed.{begins_nil}
-use Rattle.kahn_code.specs.Cells.{is_streamed}
-use Rattle.kahn_streams.specs.Tokens.{token_value}
-use Rattle.kahn_code.specs.Lines.{Joins}
-use Rattle.kahn_code.specs.Told.{Told, told_view}
-use Rattle.kahn_code.proofs.Readers.{joins_within}
-use Rattle.kahn_pool.specs.HeldRuns.{GoesOn, HeldRun, IsSoFar, Seen, seen_at, seen_of, unseen}
-use Rattle.kahn_pool.specs.inner.Workbench.{AllStandBy}
-use Rattle.kahn_streams.specs.declared.answer.Verdict.{Verdict}
+use Rattle.kahn_pool.proofs.Common.{Program, Value, Line, Network, Source, Given, Written, Nobody, Writes, network_of, instance_at, actual_at, IsWellWired, Channel, Print, AreInputsExtended, IsPrefix, source, Lists, inputs_of, begins_nil, is_streamed, token_value, Joins, Told, told_view, joins_within, GoesOn, HeldRun, IsSoFar, Seen, seen_at, seen_of, unseen, AllStandBy, Verdict, HaveRisen, HasRisen, same_Some, prefix_refl}
 use Rattle.kahn_pool.proofs.Benched.{got, mapped, within_get}
-use Rattle.kahn_pool.proofs.Growing.{kept_grows, printed_grows, stood_by_channel}
+use Rattle.kahn_pool.proofs.Growing.{kept_grows, printed_grows}
 
 -- what contracts see of a run with these cells
 abbrev pub run_with : Program → Lists → Option ℕ → ℕ → ℕ → ℕ → List Told → Option Verdict → HeldRun
@@ -42,15 +26,14 @@ there_or [] p = inr refl
 there_or (c ∷ cells) zero = inl (c, refl)
 there_or (c ∷ cells) (suc p) = there_or cells p
 
--- a later state of a cell
-abbrev pub HasRisenTo : Told → Told → Type 0
-HasRisenTo c d = (c.events ≤ d.events) × AreInputsExtended (inputs_of c.input) (inputs_of d.input)
+pub risen_here : (cells : List Told) → HaveRisen cells cells
+risen_here cells p c d e f = subst (HasRisen c) (same_Some c d (sym e ∙ f)) (record { events = omega arith; input = λ k. prefix_refl (inputs_of c.input k) })
 
 module _ (t : Program) (wired : IsWellWired t) (lists after : Lists) (grown : AreInputsExtended (inputs_of lists) (inputs_of after))
     (watch : Option ℕ) (workers quantum bound total : ℕ) (cells later : List Told)
     (count : length cells ≡ length (network_of t).instances) (same : length later ≡ length (network_of t).instances)
     (old : AllStandBy t watch cells) (new : AllStandBy t watch later)
-    (risen : (p : ℕ) (c d : Told) → slice_get cells p ≡ Some c → slice_get later p ≡ Some d → HasRisenTo c d) (said next : Option Verdict) where
+    (risen : HaveRisen cells later) (said next : Option Verdict) where
   abbrev N : Network
   N = network_of t
 
@@ -68,16 +51,14 @@ module _ (t : Program) (wired : IsWellWired t) (lists after : Lists) (grown : Ar
       IsPrefix (map token_value (slice_index_or c.kept q [])) (map token_value (slice_index_or d.kept r []))
   kept p q r k c d e f a b s =
       let x = risen p c d e f in
-      kept_grows N (inputs_of c.input) (inputs_of d.input) x.1 watch p (told_view c) (told_view d)
-      (stood_by_channel t wired (inputs_of c.input) watch p (told_view c) (old p c e))
-      (stood_by_channel t wired (inputs_of d.input) watch p (told_view d) (new p d f)) x.0 q r k a b s
+      kept_grows N (inputs_of c.input) (inputs_of d.input) x.input watch p (told_view c) (told_view d)
+      (old p c e) (new p d f) x.events q r k a b s
 
   printed : (p : ℕ) (c d : Told) → slice_get cells p ≡ Some c → slice_get later p ≡ Some d → IsPrefix (map token_value c.printed) (map token_value d.printed)
   printed p c d e f =
       let x = risen p c d e f in
-      printed_grows N (inputs_of c.input) (inputs_of d.input) x.1 watch p (told_view c) (told_view d)
-      (stood_by_channel t wired (inputs_of c.input) watch p (told_view c) (old p c e))
-      (stood_by_channel t wired (inputs_of d.input) watch p (told_view d) (new p d f)) x.0
+      printed_grows N (inputs_of c.input) (inputs_of d.input) x.input watch p (told_view c) (told_view d)
+      (old p c e) (new p d f) x.events
 
   there_written : (p q k : ℕ) → actual_at (instance_at N p) q ≡ Writes k → (c : Told) × (slice_get cells p ≡ Some c)
   there_written p q k e =
@@ -120,7 +101,7 @@ module _ (t : Program) (wired : IsWellWired t) (lists after : Lists) (grown : Ar
       let v = also p w.0 w.1 in
       let a : (seen_at before.cells p).events ≡ w.0.events = ap (λ (z : Seen). z.events) (seen_there cells p w.0 w.1) in
       let b : (seen_at now.cells p).events ≡ v.0.events = ap (λ (z : Seen). z.events) (seen_there later p v.0 v.1) in
-      let l = (risen p w.0 v.0 w.1 v.1).0 in
+      let l = (risen p w.0 v.0 w.1 v.1).events in
       omega (arith, a, b, l)
   events p (inr n) =
       let a : (seen_at before.cells p).events ≡ 0 = ap (λ (z : Seen). z.events) n in

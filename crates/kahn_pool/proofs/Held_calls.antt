@@ -1,19 +1,6 @@
 -- What many calls make of a held run: it goes on, so each answer says no less than those before it.
 use Rattle.std.proofs.Common.{arith, ◌≡◌, inl, inr, ℕ, List, [], ◌∷◌, map, refl, sym, ap, ◌∙◌, subst, slice_index_or}
-use Rattle.kahn_streams.specs.Network.{Source, Given, Written, Nobody, network_of}
-use Rattle.kahn_streams.specs.Wiring.{IsWellWired}
-use Rattle.kahn_streams.specs.declared.value.Value.{Value}
-use Rattle.kahn_streams.specs.declared.value.Line.{Line}
-use Rattle.kahn_streams.specs.declared.value.Line.TheVariants.{Channel, Print}
-use Rattle.kahn_streams.specs.Solution.{IsPrefix, source}
-use Rattle.kahn_streams.specs.Inputs.{inputs_of}
-use Rattle.kahn_streams.proofs.Proved.{prefix_refl, prefix_trans}
-use Rattle.kahn_streams.specs.Tokens.{token_value}
-use Rattle.kahn_code.proofs.Readers.{driven}
-use Rattle.kahn_pool.specs.HeldRuns.{AreCalls, GoesOn, HasSoFar, HeldRun, IsAnswerOf, IsCall, IsSoFar, IsUnresumed, SaysNoLess, last_of, seen_at}
-use Rattle.kahn_streams.specs.Answers.{values_of}
-use Rattle.kahn_streams.specs.declared.answer.Answer.{Answer}
-use Rattle.kahn_pool.specs.declared.held_fault.HeldFault.{HeldFault}
+use Rattle.kahn_pool.proofs.Common.{Source, Given, Written, Nobody, network_of, IsWellWired, Value, Line, Channel, Print, IsPrefix, source, inputs_of, prefix_refl, prefix_trans, token_value, driven, AreCalls, GoesOn, HasSoFar, HeldRun, IsAnswerOf, IsCall, IsSoFar, IsUnresumed, SaysNoLess, last_of, seen_at, values_of, Answer, HeldFault}
 use Rattle.kahn_pool.specs.declared.held_fault.HeldFault.TheVariants as held
 
 -- a line has one list of values so far

@@ -1,16 +1,6 @@
 -- What the cells of jobs keep.
 use Rattle.std.proofs.Common.{◌≡◌, ℕ, ◌<◌, List, length, sym, ap, ◌∙◌, subst, Some, slice_get}
-use Rattle.std.proofs.lemmas.List.{length-map}
-use Rattle.kahn_streams.specs.declared.tree.Program.{Program}
-use Rattle.kahn_streams.specs.Network.{network_of, instance_at}
-use Rattle.kahn_streams.specs.Inputs.{Lists}
-use Rattle.kahn_code.specs.declared.cell.Kept.{Kept}
-use Rattle.kahn_code.specs.Told.{Told}
-use Rattle.kahn_job.specs.inner.Idles.{AreIdle, cells_of}
-use Rattle.kahn_job.specs.inner.Works.{Work}
-use Rattle.kahn_crew.proofs.Started.{mapped_at}
-use Rattle.kahn_pool.specs.inner.Streams.{AreLists, kept_lists}
-use Rattle.kahn_pool.specs.inner.Workbench.{AreKeptOf, actual_count, parameter_count}
+use Rattle.kahn_pool.proofs.Common.{length-map, Program, network_of, instance_at, Lists, Kept, Told, AreIdle, cells_of, Work, mapped_at, AreLists, kept_lists, AreKeptOf, actual_count, parameter_count, count, idle}
 use Rattle.kahn_pool.proofs.Benched.{get_map, got, some_one, within_get}
 
 -- of cells that are those of the instances, in order

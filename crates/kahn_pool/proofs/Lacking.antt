@@ -1,45 +1,23 @@
 -- An answer that want of memory cut short.
 use mathlib.Core.Path.{fun_ext}
-use Rattle.std.proofs.Common.{arith, ◌≡◌, ◌⊎◌, inl, inr, ℕ, ◌+◌, [], length, refl, sym, ap, ◌∙◌, subst, Option, Bool, true}
-use Rattle.std.proofs.lemmas.Option.{none-some}
-use Rattle.kahn_streams.proofs.By_number.{there}
-use Rattle.kahn_streams.specs.Network.{Network, Reads, instance_at, actual_at}
-use Rattle.kahn_streams.specs.declared.value.Line.{Line}
-use Rattle.kahn_streams.specs.declared.value.Line.TheVariants.{Channel}
-use Rattle.kahn_streams.specs.Script as script
-use Rattle.kahn_streams.specs.Script.{Cut}
-use Rattle.kahn_streams.specs.Meaning.{Store}
-use Rattle.kahn_streams.specs.Solution.{Histories, Inputs, exec_at, ending}
-use Rattle.kahn_code.specs.Cells.{View}
-use Rattle.kahn_code.specs.declared.progress.Pause.TheVariants as pause
-use Rattle.kahn_streams.specs.declared.answer.Answer.{Answer}
+use Rattle.std.proofs.Common.{arith, ◌≡◌, ◌⊎◌, inl, inr, ℕ, ◌+◌, refl, sym, ap, ◌∙◌, subst, Option, Bool, true}
+use Rattle.kahn_pool.proofs.Common.{none-some, there, Network, Reads, instance_at, actual_at, Channel, Cut, Store, Inputs, ending, View, Answer, Ended, Faulted, More, IsCutShort, view_at, IsOutcomeOf, RunState, events_at, IsLast, IsVerdict, LacksMemory, PausedAt, HasEndIn, StoodBy, exec_on, Tapes}
 use Rattle.kahn_streams.specs.declared.answer.End.{End}
 use Rattle.kahn_streams.specs.declared.answer.Outcome.{Outcome}
-use Rattle.kahn_streams.specs.declared.answer.Outcome.TheVariants.{Ended, Waits, Faulted, More}
-use Rattle.kahn_streams.specs.Answers.{IsCutShort}
-use Rattle.kahn_pool.specs.inner.Gathered.{view_at, IsOutcomeOf, Stood}
-use Rattle.kahn_pool.specs.inner.Bench.{RunState, events_at, IsLast, IsVerdict, LacksMemory, PausedAt, HasEndIn}
-use Rattle.kahn_pool.proofs.Lists.{all_of_it, both_stand}
+use Rattle.kahn_streams.specs.declared.answer.Outcome.TheVariants.{Waits}
+use Rattle.kahn_pool.proofs.Lists.{all_of_it, both_stand, reads_or}
+use Rattle.kahn_streams.specs.Script as script
+use Rattle.kahn_code.specs.declared.progress.Pause.TheVariants as pause
 
 -- a cell stands on one family of tapes
-module _ (N : Network) (I : Inputs) (watch : Option ℕ) (p : ℕ) (c : View) (a b : Stood N I watch p c) where
-  one_list : (d : Line) → length (a.tapes d) ≡ length (b.tapes d) → a.tapes d ≡ b.tapes d
-  one_list d e = sym (all_of_it (a.tapes d) (b.tapes d) (both_stand N I d (a.tapes d) (b.tapes d) (a.stand d) (b.stand d) (omega (arith, e))) e)
-
-  one_tape : (d : Line) → a.tapes d ≡ b.tapes d
-  one_tape d = by (a.only d) (b.only d)
-    where
-      read : (q e : ℕ) → d ≡ Channel e → actual_at (instance_at N p) q ≡ Reads e → a.tapes d ≡ b.tapes d
-      read q e is r = one_list d (subst (λ l. length (a.tapes l) ≡ length (b.tapes l)) (sym is) (a.took q e r ∙ sym (b.took q e r)))
-
-      by : (a.tapes d ≡ []) ⊎ ((q e : ℕ) × (d ≡ Channel e) × (actual_at (instance_at N p) q ≡ Reads e)) →
-          (b.tapes d ≡ []) ⊎ ((q e : ℕ) × (d ≡ Channel e) × (actual_at (instance_at N p) q ≡ Reads e)) → a.tapes d ≡ b.tapes d
-      by (inl x) (inl y) = x ∙ sym y
-      by (inl x) (inr (q, e, is, r)) = read q e is r
-      by (inr (q, e, is, r)) y = read q e is r
-
-  one_tapes : a.tapes ≡ b.tapes
-  one_tapes = fun_ext one_tape
+one_tapes : (N : Network) (I : Inputs) (watch : Option ℕ) (p : ℕ) (c : View) (a b : StoodBy N I watch p c) → a.tapes ≡ b.tapes
+one_tapes N I watch p c a b = fun_ext (λ q. by q (reads_or (actual_at (instance_at N p) q)))
+  where
+    by : (q : ℕ) → ((d : ℕ) × (actual_at (instance_at N p) q ≡ Reads d)) ⊎ ((d : ℕ) → actual_at (instance_at N p) q ≡ Reads d → ⊥) → a.tapes q ≡ b.tapes q
+    by q (inl (d, r)) =
+        let e = a.took q ∙ sym (b.took q) in
+        sym (all_of_it (a.tapes q) (b.tapes q) (both_stand N I (Channel d) (a.tapes q) (b.tapes q) (a.stand q d r) (b.stand q d r) (omega (arith, e))) e)
+    by q (inr n) = a.none q n ∙ sym (b.none q n)
 
 -- what is told of an instance that has a next event
 next_told : (s : RunState) (p : ℕ) (o : script.Outcome Store) (y : Outcome) → o ≡ Cut → IsOutcomeOf s.network s.input s.cells p o y → y ≡ More
@@ -51,9 +29,9 @@ next_told s p o More cut h = refl
 -- one that is paused for want of memory has a next event, so its end says so
 wants_more : (s : RunState) (p : ℕ) (x : End) → PausedAt s p pause.NoMemory → HasEndIn s p x → x.outcome ≡ More
 wants_more s p x paused rests =
-    next_told s p (exec_at s.network (events_at s p) p rests.stood.tapes).outcome x.outcome
-    (ap (λ (T : Histories). (exec_at s.network (events_at s p) p T).outcome) (one_tapes s.network s.input s.watch p (view_at s.cells p) rests.stood paused.stood)
-    ∙ paused.told)
+    next_told s p (exec_on s.network (events_at s p) p rests.stood.tapes).outcome x.outcome
+    (ap (λ (T : Tapes). (exec_on s.network (events_at s p) p T).outcome) (one_tapes s.network s.input s.watch p (view_at s.cells p) rests.stood paused.stood)
+    ∙ paused.is)
     rests.told
 
 pub cut_short : (s : RunState) (bound left : ℕ) (memory : Bool) (a : Answer) → IsLast s bound left memory a.ends.items → LacksMemory s left memory →

@@ -1,23 +1,7 @@
 -- Cells at their openings over queues from which nothing was taken.
 use Rattle.std.proofs.Common.{arith, ◌≡◌, ℕ, zero, suc, ◌+◌, List, [], ◌∷◌, ◌++◌, length, map, replicate, sum_by, refl, sym, ap, ◌∙◌, Option, Some, slice_get, slice_index_or}
-use Rattle.std.proofs.lemmas.List.{map-append, replicate-append-replicate}
-use Rattle.std.proofs.lemmas.List.Sums.{sum_by-cons}
-use Rattle.kahn_streams.specs.declared.tree.Program.{Program}
-use Rattle.kahn_streams.specs.Network.{Writes, network_of, instance_at, actual_at, role_at}
-use Rattle.kahn_streams.specs.Wiring.{IsWellWired}
-use Rattle.kahn_streams.proofs.Sourced.{writes}
-use Rattle.kahn_streams.specs.Inputs.{Lists}
-use Rattle.kahn_streams.proofs.Entered.{none_of}
-use Rattle.kahn_streams.specs.Answers.{is_output}
-use Rattle.kahn_code.specs.Lines.{Lines as Queues, AreFirst, place_at, next_at}
-use Rattle.kahn_code.specs.Told.{Told, told_view, IsAt}
-use Rattle.kahn_code.proofs.Lists.{one_first}
-use Rattle.kahn_code.proofs.Queued.{given_zero, taken_zero}
-use Rattle.kahn_pool.specs.inner.Bench.{view_events}
-use Rattle.kahn_code.specs.inner.Gone.{nothing_gone}
-use Rattle.kahn_code.specs.inner.Tapped.{Tapped}
-use Rattle.kahn_job.specs.inner.Openings.{IsOpening}
-use Rattle.kahn_pool.specs.inner.Workbench.{IsLaid, IsSeated, AreOpeningCells, gone_in, table_of, told_in}
+use Rattle.kahn_pool.proofs.Common.{map-append, replicate-append-replicate, sum_by-cons, Program, Writes, network_of, instance_at, actual_at, role_at, IsWellWired, writes, Lists, none_of, is_output, AreFirst, place_at, next_at, Told, told_view, IsAt, one_first, given_zero, taken_zero, view_events, nothing_gone, Tapped, IsOpening, IsLaid, IsSeated, AreOpeningCells, gone_in, table_of, told_in, reads}
+use Rattle.kahn_code.specs.Lines.{Lines as Queues}
 
 pub laid_first : (t code : Program) (lists : Lists) (watch : Option ℕ) (taps : List Tapped) (q : Queues) → IsWellWired t → code ≡ t →
     AreOpeningCells t lists watch (map told_in taps) (length (network_of t).instances) → (q.network ≡ t) × (q.input ≡ lists) → AreFirst t lists q.queues →

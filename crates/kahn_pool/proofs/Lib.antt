@@ -1,13 +1,12 @@
+pub mod Common
 pub mod Lists
 pub mod Events
 pub mod Assembling
 pub mod Turns
 pub mod Final
 pub mod Lacking
-pub mod Channels
 pub mod Unique
 pub mod Sizes
-pub mod Bridged
 pub mod Benched
 pub mod Tapping
 pub mod Taking_in
@@ -18,7 +17,6 @@ pub mod Filled
 pub mod Giving
 pub mod Printing
 pub mod Seen
-pub mod Kept_sizes
 pub mod Settled
 pub mod Ended
 pub mod Rests

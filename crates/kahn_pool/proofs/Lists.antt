@@ -1,14 +1,7 @@
 -- Lists whose values stand.
-use Rattle.std.proofs.Common.{arith, ◌≡◌, ◌⊎◌, inl, inr, ⊎_elim, subst, slice_set, ℕ, zero, suc, ◌+◌, ◌<◌, ◌≤◌, List, [], ◌∷◌, ◌++◌, length, map, refl, sym, ap, ◌∙◌, Some, slice_get, append-nil, le_of_suc-le-suc, not-suc-le-zero, length-append}
-use Rattle.std.proofs.lemmas.Bool.{cases_eq}
-use Rattle.kahn_streams.specs.declared.value.Value.{Value}
-use Rattle.kahn_streams.specs.declared.value.Line.{Line}
-use Rattle.kahn_streams.specs.Network.{Network}
-use Rattle.kahn_streams.specs.Solution.{Inputs, iterate, IsPrefix}
-use Rattle.kahn_streams.proofs.Proved.{prefix_get, one_value}
-use Rattle.kahn_streams.specs.declared.token.Token.{Token}
-use Rattle.kahn_code.specs.Cells.{AllStand}
-use Rattle.kahn_streams.specs.Tokens.{token_value}
+use Rattle.std.proofs.Common.{arith, ◌≡◌, ◌⊎◌, inl, inr, subst, slice_set, slice_index_or, sum_by, ℕ, zero, suc, ◌+◌, ◌<◌, ◌≤◌, List, [], ◌∷◌, ◌++◌, length, map, refl, sym, ap, ◌∙◌, Some, slice_get, append-nil, le_of_suc-le-suc, not-suc-le-zero, length-append, le_refl}
+use Rattle.kahn_pool.proofs.Common.{cases_lt, get_or_past, fold-map, get_or-le-sum_by, same_Some, slice_get_read, slice_get_within, there, HaveChanged, Value, Line, Network, Inputs, iterate, IsPrefix, prefix_get, one_value, AllStand, Actual, Reads, Writes, Hands}
+use Rattle.std.proofs.lemmas.List.{length-set}
 
 -- a list that agrees with a longer one begins it
 pub agree : (xs ys : List Value) → length xs ≤ length ys →
@@ -27,37 +20,27 @@ pub both_stand : (N : Network) (I : Inputs) (c : Line) (xs ys : List Value) → 
     length xs ≤ length ys → IsPrefix xs ys
 both_stand N I c xs ys h g le = agree xs ys le (λ k v w e f. one_value N I c k v w (h k v e) (g k w f))
 
--- a prefix of the same length is all
+-- behind a prefix of the same length nothing stands
+pub nothing_more : (xs ys : List Value) (h : IsPrefix xs ys) → length xs ≡ length ys → h.0 ≡ []
+nothing_more xs ys h e = by h.0 (ap length h.1 ∙ length-append xs h.0)
+  where
+    by : (zs : List Value) → length ys ≡ length xs + length zs → zs ≡ []
+    by [] l = refl
+    by (z ∷ zs) l = absurd (omega (arith, l, e))
+
+-- so it is all
 pub all_of_it : (xs ys : List Value) → IsPrefix xs ys → length xs ≡ length ys → ys ≡ xs
-all_of_it xs ys h e = by h.0 h.1
-  where
-    by : (zs : List Value) → ys ≡ xs ++ zs → ys ≡ xs
-    by [] f = f ∙ append-nil xs
-    by (z ∷ zs) f =
-        let l : length ys ≡ length xs + suc (length zs) = ap length f ∙ length-append xs (z ∷ zs) in
-        absurd (omega (arith, l, e))
+all_of_it xs ys h e = h.1 ∙ ap (λ l. xs ++ l) (nothing_more xs ys h e) ∙ append-nil xs
 
--- a longer list has a value more
-pub more_of_it : (xs ys : List Value) → IsPrefix xs ys → length xs < length ys →
-    (z : Value) × (zs : List Value) × (ys ≡ xs ++ z ∷ zs)
-more_of_it xs ys h l = by h.0 h.1
-  where
-    by : (zs : List Value) → ys ≡ xs ++ zs → (z : Value) × (zs : List Value) × (ys ≡ xs ++ z ∷ zs)
-    by [] f = let e : length ys ≡ length xs = ap length (f ∙ append-nil xs) in absurd (omega (arith, l, e))
-    by (z ∷ zs) f = (z, zs, f)
+-- ---- parameters
 
-pub map_get : (ts : List Token) (k : ℕ) (t : Token) → slice_get ts k ≡ Some t → slice_get (map token_value ts) k ≡ Some t.value
-map_get [] k t e = absurd cc
-map_get (x ∷ ts) zero t e = let same : x ≡ t = some_token e in ap (λ y. Some y.value) same
-  where
-    some_token : Some x ≡ Some t → x ≡ t
-    some_token e = cc
-map_get (x ∷ ts) (suc k) t e = map_get ts k t e
+-- a parameter reads a channel, or none
+pub reads_or : (a : Actual) → ((d : ℕ) × (a ≡ Reads d)) ⊎ ((d : ℕ) → a ≡ Reads d → ⊥)
+reads_or (Reads d) = inl (d, refl)
+reads_or (Writes d) = inr (λ b e. absurd cc)
+reads_or (Hands v) = inr (λ b e. absurd cc)
 
--- ---- numbers up to one, and lists of which one place is set
-
-pub below_more : (P : ℕ → Type 0) (n : ℕ) → ((c : ℕ) → c < n → P c) → P n → (c : ℕ) → c < suc n → P c
-below_more P n h last c l = ⊎_elim (λ e. subst P (sym e) last) (λ o. h c (omega arith)) (cases_eq c n)
+-- ---- lists of which one place is set
 
 pub set_get : {X : Type 0} (xs : List X) (n j : ℕ) (y z : X) → slice_get (slice_set xs n y) j ≡ Some z → ((j ≡ n) × (y ≡ z)) ⊎ ((j ≡ n → ⊥) × (slice_get xs j ≡ Some z))
 set_get [] n j y z e = absurd cc
@@ -79,3 +62,68 @@ set_else (x ∷ xs) zero zero y f = absurd (f refl)
 set_else (x ∷ xs) zero (suc j) y f = refl
 set_else (x ∷ xs) (suc n) zero y f = refl
 set_else (x ∷ xs) (suc n) (suc j) y f = set_else xs n j y (λ e. f (ap suc e))
+
+-- ---- lists that change item by item
+
+-- the first n have changed so, and the others are as they were
+pub record ChangedTo {X : Type 0} (R : X → X → Type 0) (old new : List X) (n : ℕ) : Type 0 where
+  pub count : length new ≡ length old
+  pub done : (p : ℕ) (x y : X) → p < n → slice_get old p ≡ Some x → slice_get new p ≡ Some y → R x y
+  pub rest : (p : ℕ) → n ≤ p → slice_get new p ≡ slice_get old p
+
+module _ {X : Type 0} {R : X → X → Type 0} {old new : List X} {n : ℕ} (h : ChangedTo R old new n) where
+  -- the next one
+  pub next_old : {x : X} → n < length new → x ≡ slice_index_or new n x → slice_get old n ≡ Some x
+  next_old here value = sym (h.rest n (le_refl n)) ∙ slice_get_read new (length new) n _ refl here value
+
+  pub one_changed : {x y : X} → n < length new → x ≡ slice_index_or new n x → R x y → ChangedTo R old (slice_set new n y) (n + 1)
+  one_changed {x} {y} here value s = record {
+    count = length-set new n y ∙ h.count;
+    done = λ p u v l a b. by p u v l a (set_get new n p y v b);
+    rest = λ p l. set_else new n p y (λ e. absurd (omega (arith, e, l))) ∙ h.rest p (omega (arith, l));
+  }
+    where
+      by : (p : ℕ) (u v : X) → p < n + 1 → slice_get old p ≡ Some u → ((p ≡ n) × (y ≡ v)) ⊎ ((p ≡ n → ⊥) × (slice_get new p ≡ Some v)) → R u v
+      by p u v l a (inl k) = subst (R u) k.1 (subst (λ w. R w y) (same_Some x u (sym (next_old here value) ∙ ap (slice_get old) (sym k.0) ∙ a)) s)
+      by p u v l a (inr k) = h.done p u v (let o = k.0 in omega (arith, l, o)) a k.1
+
+  pub all_changed : length new ≤ n → HaveChanged R old new
+  all_changed e = record {
+    count = h.count;
+    each = λ p x y a b. h.done p x y (let l = slice_get_within new p y b in omega (arith, l, e)) a b;
+  }
+
+-- what is read of each item, where it is what was read of it before
+pub map_changed : {X Z : Type 0} {R : X → X → Type 0} (f g : X → Z) → ((x y : X) → R x y → f y ≡ g x) → (old new : List X) → HaveChanged R old new → map f new ≡ map g old
+map_changed f g e [] [] h = refl
+map_changed f g e [] (y ∷ new) h = absurd (let n = h.count in omega (arith, n))
+map_changed f g e (x ∷ old) [] h = absurd (let n = h.count in omega (arith, n))
+map_changed f g e (x ∷ old) (y ∷ new) h =
+    let a = e x y (h.each 0 x y refl refl) in
+    let r = map_changed f g e old new (record { count = let n = h.count in omega (arith, n); each = λ p. h.each (suc p) }) in
+    λ i. a i ∷ r i
+
+-- the item that was read there
+pub old_item : {X : Type 0} {R : X → X → Type 0} {old new : List X} → HaveChanged R old new → (p : ℕ) (y : X) → slice_get new p ≡ Some y →
+    (x : X) × (slice_get old p ≡ Some x) × R x y
+old_item {old = old} {new = new} h p y e =
+    let l = slice_get_within new p y e in
+    let n = h.count in
+    let x = there old p (omega (arith, l, n)) in
+    (x.0, x.1, h.each p x.0 y x.1 e)
+
+pub map_map : {X Y Z : Type 0} (f : Y → Z) (g : X → Y) (xs : List X) → map f (map g xs) ≡ map (λ x. f (g x)) xs
+map_map f g [] = refl
+map_map f g (x ∷ xs) = ap (λ l. f (g x) ∷ l) (map_map f g xs)
+
+-- ---- sums
+
+pub sum_over : {X Y : Type 0} (f : Y → ℕ) (g : X → Y) (xs : List X) → sum_by f (map g xs) ≡ sum_by (λ x. f (g x)) xs
+sum_over f g xs = fold-map (λ s y. s + f y) g 0 xs
+
+pub one_of_sum : {X : Type 0} (f : X → ℕ) (xs : List X) (p : ℕ) (d : X) → f d ≡ 0 → f (slice_index_or xs p d) ≤ sum_by f xs
+one_of_sum f xs p d none = by (cases_lt p (length xs))
+  where
+    by : (p < length xs) ⊎ (length xs ≤ p) → f (slice_index_or xs p d) ≤ sum_by f xs
+    by (inl l) = get_or-le-sum_by f xs p d l
+    by (inr l) = let e = ap f (get_or_past xs p d l) ∙ none in omega (arith, e)

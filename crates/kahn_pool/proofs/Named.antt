@@ -1,69 +1,16 @@
 -- The lines of an answer: each is of the network, and none stands twice.
-use Rattle.std.proofs.Common.{arith, ◌≡◌, ◌⊎◌, inl, inr, ℕ, zero, suc, ◌+◌, ◌<◌, ◌||◌, Bool, true, false, if◌then◌else◌, List, [], ◌∷◌, ◌++◌, length, map, Option, Some, None, refl, sym, ap, ◌∙◌, subst, slice_get, slice_index_or}
-use Rattle.kahn_streams.specs.declared.tree.Kind.{Kind}
-use Rattle.kahn_streams.specs.declared.tree.Role.{Role}
-use Rattle.kahn_streams.specs.declared.value.Line.{Line}
-use Rattle.kahn_streams.specs.declared.tree.Kind.TheVariants.{Integer}
-use Rattle.kahn_streams.specs.declared.tree.Role.TheVariants.{Inner}
-use Rattle.kahn_streams.specs.Syntax.{prints_in}
-use Rattle.kahn_streams.specs.declared.value.Line.TheVariants.{Channel, Print}
-use Rattle.kahn_streams.specs.Network.{Network, Instance}
-use Rattle.kahn_code.specs.Cells.{is_streamed}
-use Rattle.kahn_streams.specs.Answers.{is_output, is_watched, stream_line, channel_lines, print_lines, stream_lines}
-use Rattle.kahn_streams.specs.declared.answer.Stream.{Stream}
-use Rattle.kahn_pool.specs.inner.Streams.{AreNamed, IsDeclared}
+use Rattle.std.proofs.Common.{arith, ◌≡◌, ◌⊎◌, inl, inr, ℕ, zero, suc, ◌+◌, ◌<◌, ◌||◌, Bool, true, false, if◌then◌else◌, List, [], ◌∷◌, ◌++◌, length, map, Option, Some, refl, sym, ap, ◌∙◌, subst, slice_get}
+use Rattle.kahn_pool.proofs.Common.{slice_get_within, Kind, Role, Line, Integer, Inner, prints_in, Channel, Print, Network, Instance, is_streamed, is_output, is_watched, stream_line, channel_lines, print_lines, stream_lines, Stream, AreNamed, IsDeclared, same_Some, get_or_from_slice_get}
 
--- ---- what the lines are
+-- ---- the lines of the items that are kept, by their numbers from c on
 
-abbrev role_in : List (Kind × Role) → ℕ → Role
-role_in rows k = (slice_index_or rows k (Integer, Inner)).1
+abbrev kept_lines : {X : Type 0} → (X → ℕ → Bool) → (ℕ → Line) → List X → ℕ → List Line
+kept_lines keep line [] c = []
+kept_lines keep line (x ∷ xs) c = if keep x c then line c ∷ kept_lines keep line xs (suc c) else kept_lines keep line xs (suc c)
 
--- one of the channels from c on, which has a stream
-abbrev IsChannel : Option ℕ → List (Kind × Role) → ℕ → Line → Type 0
-IsChannel watch rows c d =
-    (k : ℕ) × (d ≡ Channel (c + k)) × (k < length rows) × ((is_output (role_in rows k) || is_watched watch (c + k)) ≡ true)
-
--- one of the instances from p on
-abbrev IsPrint : List Instance → ℕ → Line → Type 0
-IsPrint is p d = (k : ℕ) × (d ≡ Print (p + k)) × (k < length is)
-
-next_channel : (watch : Option ℕ) (r : Kind × Role) (rest : List (Kind × Role)) (c : ℕ) (d : Line) → IsChannel watch rest (suc c) d → IsChannel watch (r ∷ rest) c d
-next_channel watch r rest c d (k, e, l, h) =
-    let n : suc c + k ≡ c + suc k = omega arith in
-    (suc k, e ∙ ap Channel n, omega (arith, l), subst (λ m. (is_output (role_in rest k) || is_watched watch m) ≡ true) n h)
-
-channel_line : (watch : Option ℕ) (rows : List (Kind × Role)) (c j : ℕ) (d : Line) → slice_get (channel_lines watch rows c) j ≡ Some d → IsChannel watch rows c d
-channel_line watch [] c j d e = absurd cc
-channel_line watch (r ∷ rest) c j d e = by (λ i. channel_line watch rest (suc c) i d) (is_output r.1 || is_watched watch c) refl j e
-  where
-    by : ((i : ℕ) → slice_get (channel_lines watch rest (suc c)) i ≡ Some d → IsChannel watch rest (suc c) d) →
-        (b : Bool) → (is_output r.1 || is_watched watch c) ≡ b → (j : ℕ) →
-        slice_get (if b then Channel c ∷ channel_lines watch rest (suc c) else channel_lines watch rest (suc c)) j ≡ Some d → IsChannel watch (r ∷ rest) c d
-    by go false f j g = next_channel watch r rest c d (go j g)
-    by go true f zero g =
-        let n : c ≡ c + 0 = omega arith in
-        (0, sym (same g) ∙ ap Channel n, omega arith, subst (λ m. (is_output r.1 || is_watched watch m) ≡ true) n f)
-      where
-        same : Some (Channel c) ≡ Some d → Channel c ≡ d
-        same h = cc
-    by go true f (suc j) g = next_channel watch r rest c d (go j g)
-
-next_print : (i : Instance) (rest : List Instance) (p : ℕ) (d : Line) → IsPrint rest (suc p) d → IsPrint (i ∷ rest) p d
-next_print i rest p d (k, e, l) =
-    let n : suc p + k ≡ p + suc k = omega arith in
-    (suc k, e ∙ ap Print n, omega (arith, l))
-
-print_line : (is : List Instance) (p j : ℕ) (d : Line) → slice_get (print_lines is p) j ≡ Some d → IsPrint is p d
-print_line [] p j d e = absurd cc
-print_line (i ∷ rest) p j d e = by (λ k. print_line rest (suc p) k d) (prints_in i.body) j e
-  where
-    by : ((k : ℕ) → slice_get (print_lines rest (suc p)) k ≡ Some d → IsPrint rest (suc p) d) → (b : Bool) (j : ℕ) → slice_get (if b then Print p ∷ print_lines rest (suc p) else print_lines rest (suc p)) j ≡ Some d → IsPrint (i ∷ rest) p d
-    by go false j g = next_print i rest p d (go j g)
-    by go true zero g = let n : p ≡ p + 0 = omega arith in (0, sym (same g) ∙ ap Print n, omega arith)
-      where
-        same : Some (Print p) ≡ Some d → Print p ≡ d
-        same h = cc
-    by go true (suc j) g = next_print i rest p d (go j g)
+-- it is the line of one of them
+abbrev IsKept : {X : Type 0} → (X → ℕ → Bool) → (ℕ → Line) → List X → ℕ → Line → Type 0
+IsKept {X} keep line xs c d = (k : ℕ) × (x : X) × (d ≡ line (c + k)) × (slice_get xs k ≡ Some x) × (keep x (c + k) ≡ true)
 
 -- ---- none stands twice
 
@@ -76,33 +23,34 @@ once_more x ls none once zero (suc k) d e f = absurd (none k (f ∙ sym e))
 once_more x ls none once (suc j) zero d e f = absurd (none j (e ∙ sym f))
 once_more x ls none once (suc j) (suc k) d e f = ap suc (once j k d e f)
 
-once_channels : (watch : Option ℕ) (rows : List (Kind × Role)) (c : ℕ) → IsOnce (channel_lines watch rows c)
-once_channels watch [] c = λ j k d e f. absurd cc
-once_channels watch (r ∷ rest) c = by (is_output r.1 || is_watched watch c) (once_channels watch rest (suc c))
-  where
-    none : (j : ℕ) → slice_get (channel_lines watch rest (suc c)) j ≡ Some (Channel c) → ⊥
-    none j e = let h = channel_line watch rest (suc c) j (Channel c) e in let n : c ≡ suc c + h.0 = number h.1 in omega (arith, n)
-      where
-        number : {a b : ℕ} → Channel a ≡ Channel b → a ≡ b
-        number g = cc
+module _ {X : Type 0} (keep : X → ℕ → Bool) (line : ℕ → Line) (one : (a b : ℕ) → line a ≡ line b → a ≡ b) where
+  next_kept : (x : X) (xs : List X) (c : ℕ) (d : Line) → IsKept keep line xs (suc c) d → IsKept keep line (x ∷ xs) c d
+  next_kept x xs c d (k, y, e, at, h) =
+      let n : suc c + k ≡ c + suc k = omega arith in
+      (suc k, y, e ∙ ap line n, at, subst (λ m. keep y m ≡ true) n h)
 
-    by : (b : Bool) → IsOnce (channel_lines watch rest (suc c)) → IsOnce (if b then Channel c ∷ channel_lines watch rest (suc c) else channel_lines watch rest (suc c))
-    by true h = once_more (Channel c) (channel_lines watch rest (suc c)) none h
-    by false h = h
+  kept_line : (xs : List X) (c j : ℕ) (d : Line) → slice_get (kept_lines keep line xs c) j ≡ Some d → IsKept keep line xs c d
+  kept_line [] c j d e = absurd cc
+  kept_line (x ∷ xs) c j d e = by (λ i. kept_line xs (suc c) i d) (keep x c) refl j e
+    where
+      by : ((i : ℕ) → slice_get (kept_lines keep line xs (suc c)) i ≡ Some d → IsKept keep line xs (suc c) d) → (b : Bool) → keep x c ≡ b → (j : ℕ) →
+          slice_get (if b then line c ∷ kept_lines keep line xs (suc c) else kept_lines keep line xs (suc c)) j ≡ Some d → IsKept keep line (x ∷ xs) c d
+      by go false f j g = next_kept x xs c d (go j g)
+      by go true f zero g =
+          let n : c ≡ c + 0 = omega arith in
+          (0, x, sym (same_Some (line c) d g) ∙ ap line n, refl, subst (λ m. keep x m ≡ true) n f)
+      by go true f (suc j) g = next_kept x xs c d (go j g)
 
-once_prints : (is : List Instance) (p : ℕ) → IsOnce (print_lines is p)
-once_prints [] p = λ j k d e f. absurd cc
-once_prints (i ∷ rest) p = by (prints_in i.body) (once_prints rest (suc p))
-  where
-    none : (j : ℕ) → slice_get (print_lines rest (suc p)) j ≡ Some (Print p) → ⊥
-    none j e = let h = print_line rest (suc p) j (Print p) e in let n : p ≡ suc p + h.0 = number h.1 in omega (arith, n)
-      where
-        number : {a b : ℕ} → Print a ≡ Print b → a ≡ b
-        number g = cc
+  once_kept : (xs : List X) (c : ℕ) → IsOnce (kept_lines keep line xs c)
+  once_kept [] c = λ j k d e f. absurd cc
+  once_kept (x ∷ xs) c = by (keep x c) (once_kept xs (suc c))
+    where
+      none : (j : ℕ) → slice_get (kept_lines keep line xs (suc c)) j ≡ Some (line c) → ⊥
+      none j e = let h = kept_line xs (suc c) j (line c) e in let n = one c (suc c + h.0) h.2 in omega (arith, n)
 
-    by : (b : Bool) → IsOnce (print_lines rest (suc p)) → IsOnce (if b then Print p ∷ print_lines rest (suc p) else print_lines rest (suc p))
-    by true h = once_more (Print p) (print_lines rest (suc p)) none h
-    by false h = h
+      by : (b : Bool) → IsOnce (kept_lines keep line xs (suc c)) → IsOnce (if b then line c ∷ kept_lines keep line xs (suc c) else kept_lines keep line xs (suc c))
+      by true h = once_more (line c) (kept_lines keep line xs (suc c)) none h
+      by false h = h
 
 abbrev Side : List Line → List Line → ℕ → Line → Type 0
 Side xs ys j d = (slice_get xs j ≡ Some d) ⊎ ((i : ℕ) × (j ≡ length xs + i) × (slice_get ys i ≡ Some d))
@@ -125,15 +73,44 @@ once_append xs ys a b apart j k d e f = by (side_of xs ys j d e) (side_of xs ys 
     by (inr (i, n, g)) (inl h) = absurd (apart k i d h g)
     by (inr (i, n, g)) (inr (i', n', h)) = n ∙ (ap (λ m. length xs + m) (b i i' d g h) ∙ sym n')
 
+-- ---- the lines of channels and of prints
+
+abbrev keeps_channel : Option ℕ → Kind × Role → ℕ → Bool
+keeps_channel watch r c = is_output r.1 || is_watched watch c
+
+abbrev keeps_print : Instance → ℕ → Bool
+keeps_print i p = prints_in i.body
+
+channels_kept : (watch : Option ℕ) (rows : List (Kind × Role)) (c : ℕ) → channel_lines watch rows c ≡ kept_lines (keeps_channel watch) Channel rows c
+channels_kept watch [] c = refl
+channels_kept watch (r ∷ rows) c = ap (λ l. if keeps_channel watch r c then Channel c ∷ l else l) (channels_kept watch rows (suc c))
+
+prints_kept : (is : List Instance) (p : ℕ) → print_lines is p ≡ kept_lines keeps_print Print is p
+prints_kept [] p = refl
+prints_kept (i ∷ is) p = ap (λ l. if keeps_print i p then Print p ∷ l else l) (prints_kept is (suc p))
+
+one_channel : (a b : ℕ) → Channel a ≡ Channel b → a ≡ b
+one_channel a b e = cc
+
+one_print : (a b : ℕ) → Print a ≡ Print b → a ≡ b
+one_print a b e = cc
+
 module _ (N : Network) (watch : Option ℕ) where
+  channel_line : (j : ℕ) (d : Line) → slice_get (channel_lines watch N.channels 0) j ≡ Some d → IsKept (keeps_channel watch) Channel N.channels 0 d
+  channel_line j d e = kept_line (keeps_channel watch) Channel one_channel N.channels 0 j d (subst (λ l. slice_get l j ≡ Some d) (channels_kept watch N.channels 0) e)
+
+  print_line : (j : ℕ) (d : Line) → slice_get (print_lines N.instances 0) j ≡ Some d → IsKept keeps_print Print N.instances 0 d
+  print_line j d e = kept_line keeps_print Print one_print N.instances 0 j d (subst (λ l. slice_get l j ≡ Some d) (prints_kept N.instances 0) e)
+
   once_lines : IsOnce (stream_lines N watch)
-  once_lines = once_append (channel_lines watch N.channels 0) (print_lines N.instances 0) (once_channels watch N.channels 0) (once_prints N.instances 0) apart
+  once_lines =
+      once_append (channel_lines watch N.channels 0) (print_lines N.instances 0)
+      (subst IsOnce (sym (channels_kept watch N.channels 0)) (once_kept (keeps_channel watch) Channel one_channel N.channels 0))
+      (subst IsOnce (sym (prints_kept N.instances 0)) (once_kept keeps_print Print one_print N.instances 0))
+      (λ j k d e f. differ (sym (channel_line j d e).2 ∙ (print_line k d f).2))
     where
       differ : {a b : ℕ} → Channel a ≡ Print b → ⊥
       differ e = cc
-
-      apart : (j k : ℕ) (d : Line) → slice_get (channel_lines watch N.channels 0) j ≡ Some d → slice_get (print_lines N.instances 0) k ≡ Some d → ⊥
-      apart j k d e f = differ (sym (channel_line watch N.channels 0 j d e).1 ∙ (print_line N.instances 0 k d f).1)
 
   -- the network has that channel, which has a stream; or that instance
   abbrev pub HasLine : Line → Type 0
@@ -143,14 +120,16 @@ module _ (N : Network) (watch : Option ℕ) where
   pub has_line : (j : ℕ) (d : Line) → slice_get (stream_lines N watch) j ≡ Some d → HasLine d
   has_line j d e = by (side_of (channel_lines watch N.channels 0) (print_lines N.instances 0) j d e)
     where
+      channel_at : (k n : ℕ) (x : Kind × Role) → k ≡ n → slice_get N.channels k ≡ Some x → keeps_channel watch x n ≡ true → HasLine (Channel n)
+      channel_at k n x e at s =
+          let here = subst (λ m. slice_get N.channels m ≡ Some x) e at in
+          (slice_get_within N.channels n x here, subst (λ (r : Kind × Role). keeps_channel watch r n ≡ true) (sym (get_or_from_slice_get N.channels n x (Integer, Inner) here)) s)
+
       by : Side (channel_lines watch N.channels 0) (print_lines N.instances 0) j d → HasLine d
-      by (inl f) = let h = channel_line watch N.channels 0 j d f in subst HasLine (sym h.1) (channel_at h.0 (0 + h.0) (omega arith) h.2 h.3)
-        where
-          channel_at : (k n : ℕ) → k ≡ n → k < length N.channels → (is_output (role_in N.channels k) || is_watched watch n) ≡ true → HasLine (Channel n)
-          channel_at k n e l s = (subst (λ m. m < length N.channels) e l, subst (λ m. (is_output (role_in N.channels m) || is_watched watch n) ≡ true) e s)
+      by (inl f) = let h = channel_line j d f in subst HasLine (sym h.2) (channel_at h.0 (0 + h.0) h.1 (omega arith) h.3 h.4)
       by (inr f) =
-          let h = print_line N.instances 0 f.0 d f.2 in
-          subst HasLine (sym h.1) (let l : h.0 < length N.instances = h.2 in let t : 0 + h.0 < length N.instances = omega (arith, l) in t)
+          let h = print_line f.0 d f.2 in
+          subst HasLine (sym h.2) (let l = slice_get_within N.instances h.0 h.1 h.3 in let t : 0 + h.0 < length N.instances = omega (arith, l) in t)
 
 -- ---- the streams that have these lines
 
@@ -164,23 +143,6 @@ line_at streams lines j x e f = subst (λ l. slice_get l j ≡ Some x.line) e (a
         same : Some y ≡ Some x → y ≡ x
         same h = cc
     at (y ∷ ys) (suc j) g = at ys j g
-
--- the stream of the same line in a list of the same lines
-pub stream_before : (old new : List Stream) (j : ℕ) (y : Stream) → map stream_line new ≡ map stream_line old → slice_get new j ≡ Some y →
-    (x : Stream) × (slice_get old j ≡ Some x) × (x.line ≡ y.line)
-stream_before old new j y lines e = by (slice_get old j) refl
-  where
-    never : (xs : List Stream) (j : ℕ) → slice_get xs j ≡ None → slice_get (map stream_line xs) j ≡ Some y.line → ⊥
-    never [] j g h = cc
-    never (x ∷ xs) zero g h = cc
-    never (x ∷ xs) (suc j) g h = never xs j g h
-
-    by : (o : Option Stream) → slice_get old j ≡ o → (x : Stream) × (slice_get old j ≡ Some x) × (x.line ≡ y.line)
-    by (Some x) f = (x, f, same (sym (line_at old (map stream_line old) j x refl f) ∙ line_at new (map stream_line old) j y lines e))
-      where
-        same : Some x.line ≡ Some y.line → x.line ≡ y.line
-        same g = cc
-    by None f = absurd (never old j f (line_at new (map stream_line old) j y lines e))
 
 pub declared : (N : Network) (streams : List Stream) (j : ℕ) (x : Stream) → AreNamed N streams → slice_get streams j ≡ Some x → IsDeclared N x.line
 declared N streams j x (watch, e) f = by x.line (has_line N watch j x.line (line_at streams (stream_lines N watch) j x e f))

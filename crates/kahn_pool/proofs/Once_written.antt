@@ -1,19 +1,6 @@
 -- What a run has of a line so far: the parameter that writes a channel is one, and an input channel with a stream is watched.
 use Rattle.std.proofs.Common.{◌≡◌, ℕ, zero, suc, ◌||◌, eqb-true, eq-eqb, Some, None, Bool, true, false, true≢false, List, [], ◌∷◌, map, refl, sym, ap, ◌∙◌, subst, Option, slice_index_or, pos, if◌then◌else◌}
-use Rattle.kahn_streams.specs.Syntax.{Number}
-use Rattle.kahn_streams.specs.declared.tree.Program.{Program}
-use Rattle.kahn_streams.specs.declared.value.Value.{Value}
-use Rattle.kahn_streams.specs.declared.value.Line.{Line}
-use Rattle.kahn_streams.specs.declared.tree.Role.TheVariants.{Input}
-use Rattle.kahn_streams.specs.Network.{Network, Actual, Hands, Reads, Source, Given, Written, Nobody, Writes, network_of, instance_at, actual_at, is_written, role_at}
-use Rattle.kahn_streams.specs.Wiring.{IsWellWired}
-use Rattle.kahn_streams.specs.declared.value.Line.TheVariants.{Channel, Print}
-use Rattle.kahn_streams.specs.Solution.{source}
-use Rattle.kahn_code.specs.Cells.{is_streamed}
-use Rattle.kahn_streams.specs.Answers.{is_output, is_watched}
-use Rattle.kahn_streams.specs.Tokens.{token_value}
-use Rattle.kahn_code.proofs.Readers.{driven}
-use Rattle.kahn_pool.specs.HeldRuns.{HasSoFar, HeldRun, IsSoFar, seen_at, so_far, given_so_far, writing}
+use Rattle.kahn_pool.proofs.Common.{Number, Program, Value, Line, Input, Network, Actual, Hands, Reads, Source, Given, Written, Nobody, Writes, network_of, instance_at, actual_at, is_written, role_at, IsWellWired, Channel, Print, source, is_streamed, is_output, is_watched, token_value, driven, HasSoFar, HeldRun, IsSoFar, seen_at, so_far, given_so_far, writing}
 
 -- ---- the parameter that writes a channel
 

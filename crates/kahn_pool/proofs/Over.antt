@@ -1,30 +1,12 @@
 -- A run that is over.
-use Rattle.std.proofs.Common.{arith, ◌≡◌, ◌⊎◌, inl, inr, ℕ, zero, suc, ◌+◌, ◌^◌, ◌<◌, ◌≤◌, Bool, true, false, List, [], ◌∷◌, length, map, sum_by, refl, sym, ap, ◌∙◌, subst, Option, Some, slice_get}
-use Rattle.std.proofs.lemmas.List.{length-map}
-use Rattle.std.proofs.lemmas.List.Sums.{sum_by-cons}
-use Rattle.kahn_streams.specs.declared.tree.Program.{Program}
-use Rattle.kahn_streams.specs.Network.{Reads, network_of}
-use Rattle.kahn_streams.specs.Wiring.{IsWellWired}
-use Rattle.kahn_streams.specs.Inputs.{Lists}
-use Rattle.kahn_code.specs.Standing.{count}
-use Rattle.kahn_code.specs.Told.{told_view}
-use Rattle.kahn_job.specs.inner.Berths.{end_at}
-use Rattle.kahn_job.specs.inner.Lanes.{AreBehindOn, AreJoinedOn, end_in}
-use Rattle.kahn_job.specs.inner.Works.{Work}
-use Rattle.kahn_job.proofs.Idles.{Here, here_or}
-use Rattle.kahn_job.proofs.Settles.{same_lanes}
-use Rattle.kahn_job.specs.declared.standing.Standing.TheVariants as standing
-use Rattle.kahn_job.specs.inner.Tasks.{Tasked}
-use Rattle.kahn_crew.specs.inner.Tasks.{handed_to_task, is_over, task_rows, work_of}
-use Rattle.kahn_crew.specs.inner.Left.{AreAll, HaveGone, IsQuietTask, IsOver, task_events}
-use Rattle.kahn_pool.specs.inner.Rested.{IsLentTo, AreEndsOfTasks, AreTasks, HaveSettledTasks, IsInstanceTask, IsSettledTask, IsToldAs, SettlesTo, cell_of, state_of_tasks}
+use Rattle.std.proofs.Common.{arith, ◌≡◌, ◌⊎◌, inl, inr, ℕ, ◌+◌, ◌^◌, ◌<◌, ◌≤◌, Bool, true, false, List, [], length, map, sum_by, sym, ap, ◌∙◌, subst, Option, Some, slice_get}
+use Rattle.kahn_pool.proofs.Common.{length-map, Program, Reads, network_of, IsWellWired, Lists, count, told_view, end_at, AreBehindOn, AreJoinedOn, end_in, Work, same_lanes, Tasked, handed_to_task, is_over, task_rows, work_of, AreAll, HaveGone, IsQuietTask, IsOver, task_events, IsLentTo, AreEndsOfTasks, AreTasks, IsInstanceTask, IsSettledTask, IsToldAs, SettlesTo, cell_of, state_of_tasks, Verdict, IsVerdict, HasEndIn, view_events, IsConcluded, get_or_from_slice_get, get_or-le-sum_by, HaveChanged, cases_lt, get_or_past, all_events, Told}
 use Rattle.kahn_streams.specs.declared.answer.End.{End}
+use Rattle.kahn_pool.proofs.Benched.{got, within_get}
+use Rattle.kahn_job.specs.inner.Ends.{End as LaneEnd}
+use Rattle.kahn_pool.proofs.Lists.{old_item, map_changed, sum_over}
+use Rattle.kahn_job.specs.declared.standing.Standing.TheVariants as standing
 use Rattle.kahn_streams.specs.declared.answer.Outcome.TheVariants as outcome
-use Rattle.kahn_streams.specs.declared.answer.Verdict.{Verdict}
-use Rattle.kahn_streams.specs.declared.answer.Verdict.TheVariants as verdict
-use Rattle.kahn_pool.specs.inner.Bench.{IsLast, IsVerdict, HasEndIn, view_events}
-use Rattle.kahn_crew.proofs.Started.{mapped_at}
-use Rattle.kahn_pool.proofs.Benched.{got, some_one, within_get}
 use Rattle.kahn_pool.proofs.Rests as rests
 
 going_over : true ≡ false → ⊥
@@ -32,35 +14,7 @@ going_over e = cc
 
 -- ---- after each was asked
 
--- one did no more than all
-pub at_most : (xs : List Tasked) (p : ℕ) (x : Tasked) → slice_get xs p ≡ Some x → x.work.cell.events ≤ sum_by task_events xs
-at_most [] p x e = absurd cc
-at_most (y ∷ xs) zero x e =
-    let b : sum_by task_events (y ∷ xs) ≡ y.work.cell.events + sum_by task_events xs = sum_by-cons task_events y xs in
-    let s : y.work.cell.events ≡ x.work.cell.events = ap task_events (some_one e) in
-    let l : x.work.cell.events ≤ sum_by task_events (y ∷ xs) = omega (arith, b, s) in
-    l
-at_most (y ∷ xs) (suc p) x e =
-    let b : sum_by task_events (y ∷ xs) ≡ y.work.cell.events + sum_by task_events xs = sum_by-cons task_events y xs in
-    let r : x.work.cell.events ≤ sum_by task_events xs = at_most xs p x e in
-    let l : x.work.cell.events ≤ sum_by task_events (y ∷ xs) = omega (arith, b, r) in
-    l
-
-same_sum : (xs ys : List Tasked) → length ys ≡ length xs →
-    ((p : ℕ) (x y : Tasked) → slice_get xs p ≡ Some x → slice_get ys p ≡ Some y → y.work.cell.events ≡ x.work.cell.events) → sum_by task_events ys ≡ sum_by task_events xs
-same_sum [] [] l h = refl
-same_sum [] (y ∷ ys) l h = absurd (omega (arith, l))
-same_sum (x ∷ xs) [] l h = absurd (omega (arith, l))
-same_sum (x ∷ xs) (y ∷ ys) l h =
-    let r : sum_by task_events ys ≡ sum_by task_events xs = same_sum xs ys (omega (arith, l)) (λ p. h (suc p)) in
-    let a : sum_by task_events (y ∷ ys) ≡ y.work.cell.events + sum_by task_events ys = sum_by-cons task_events y ys in
-    let b : sum_by task_events (x ∷ xs) ≡ x.work.cell.events + sum_by task_events xs = sum_by-cons task_events x xs in
-    let e : y.work.cell.events ≡ x.work.cell.events = h zero x y refl refl in
-    let s : sum_by task_events (y ∷ ys) ≡ sum_by task_events (x ∷ xs) = omega (arith, a, b, e, r) in
-    s
-
-module _ (t : Program) (lists : Lists) (watch : Option ℕ) (bound : ℕ) (first old : List Tasked) (budget : ℕ)
-    (gone : HaveGone t lists watch bound first old budget) where
+module _ {t : Program} {lists : Lists} {watch : Option ℕ} {bound : ℕ} {first old : List Tasked} {budget : ℕ} (gone : HaveGone t lists watch bound first old budget) where
   first_at : (p : ℕ) (x : Tasked) → slice_get old p ≡ Some x → (y : Tasked) × (slice_get first p ≡ Some y)
   first_at p x e =
       let l = within_get old p x e in
@@ -73,58 +27,45 @@ module _ (t : Program) (lists : Lists) (watch : Option ℕ) (bound : ℕ) (first
       let y = first_at p x e in
       let l = gone.later p y.0 x y.1 e in
       let o = gone.ready.each p y.0 y.1 in
-      record {
-        network = l.network ∙ o.network;
-        input = l.input ∙ o.input;
-        instance = l.instance ∙ o.instance;
-        watched = l.watch ∙ o.watched;
-      }
+      record { network = l.network ∙ o.network; input = l.input ∙ o.input; instance = l.instance ∙ o.instance; watched = l.watch ∙ o.watched }
 
   -- it may be asked once more
-  pub left_lent : (compiled : Program) → compiled ≡ t → bound < 2 ^ 48 → (p : ℕ) (x : Tasked) → slice_get old p ≡ Some x → IsLentTo compiled t lists x
-  left_lent compiled same b p x e =
+  pub left_lent : {compiled : Program} → compiled ≡ t → bound < 2 ^ 48 → (p : ℕ) (x : Tasked) → slice_get old p ≡ Some x → IsLentTo compiled t lists x
+  left_lent same b p x e =
       let k = left_task p x e in
-      (same ∙ sym k.network, sym k.network, sym k.input, let m = at_most old p x e in let s = gone.events in omega (arith, b, m, s))
+      let m : x.work.cell.events ≤ sum_by task_events old = subst (λ (z : Tasked). z.work.cell.events ≤ sum_by task_events old) (get_or_from_slice_get old p x x e) (get_or-le-sum_by task_events old p x (within_get old p x e)) in
+      let s = gone.events in
+      (same ∙ sym k.network, sym k.network, sym k.input, omega (arith, b, m, s))
 
-  lane_of : (p q : ℕ) (x y : Tasked) (at : slice_get first p ≡ Some y) (e : slice_get old p ≡ Some x) → (end_at x.work.ends q).lane ≡ (end_at y.work.ends q).lane
-  lane_of p q x y at e = ((gone.later p y x at e).ends.same q).lane
-
-  module _ (new : List Tasked) (h : HaveSettledTasks old new) where
-    pub was : (p : ℕ) (y : Tasked) → slice_get new p ≡ Some y → (x : Tasked) × (slice_get old p ≡ Some x)
-    was p y e = let l = within_get new p y e in let n = h.count in got old p (omega (arith, l, n))
-
-    pub step : (p : ℕ) (y : Tasked) (e : slice_get new p ≡ Some y) → SettlesTo (was p y e).0 y
-    step p y e = h.each p (was p y e).0 y (was p y e).1 e
-
+  module _ {new : List Tasked} (h : HaveChanged SettlesTo old new) where
     pub of_new : (p : ℕ) (y : Tasked) → slice_get new p ≡ Some y → IsInstanceTask t lists watch p y
     of_new p y e =
-        let x = was p y e in
+        let x = old_item h p y e in
         let o = left_task p x.0 x.1 in
-        let l = (step p y e).later in
+        let l = x.2.later in
         record { network = l.network ∙ o.network; input = l.input ∙ o.input; instance = l.instance ∙ o.instance; watched = l.watch ∙ o.watched }
 
-    lane_new : (p q : ℕ) (y : Tasked) (e : slice_get new p ≡ Some y) → (end_at y.work.ends q).lane ≡ (end_at (first_at p (was p y e).0 (was p y e).1).0.work.ends q).lane
-    lane_new p q y e =
-        let x = was p y e in
-        ((step p y e).later.ends.same q).lane ∙ lane_of p q x.0 (first_at p x.0 x.1).0 (first_at p x.0 x.1).1 x.1
-
     pub joined_new : (d : ℕ) → AreJoinedOn (network_of t) (task_rows new) d
-    joined_new d = same_lanes (network_of t) (task_rows first) (task_rows new) d (λ p q. lanes p q (here_or (map work_of new) p) (here_or (map work_of first) p)) (gone.ready.joined d)
+    joined_new d = same_lanes (network_of t) (task_rows first) (task_rows new) d (λ p q. by p q (cases_lt p (length new))) (gone.ready.joined d)
       where
-        long : length (map work_of new) ≡ length (map work_of first)
-        long = length-map new work_of ∙ h.count ∙ gone.count ∙ sym gone.ready.count ∙ sym (length-map first work_of)
+        none : (xs : List Tasked) (p q : ℕ) → length xs ≤ p → end_in (task_rows xs) p q ≡ end_at [] q
+        none xs p q l =
+            let n = length-map (map work_of xs) (λ (w : Work). w.ends) ∙ length-map xs work_of in
+            ap (λ es. end_at es q) (get_or_past (task_rows xs) p [] (omega (arith, l, n)))
 
-        lanes : (p q : ℕ) → Here (map work_of new) p → Here (map work_of first) p → (end_in (task_rows new) p q).lane ≡ (end_in (task_rows first) p q).lane
-        lanes p q (inl a) (inl b) =
-            let y = mapped_at work_of new p a.0 a.1 in
-            let x = was p y.0 y.1 in
-            let f = first_at p x.0 x.1 in
-            let z = mapped_at work_of first p b.0 b.1 in
-            ap (λ es. (end_at es q).lane) (a.2 ∙ ap (λ (w : Work). w.ends) y.2) ∙ lane_new p q y.0 y.1 ∙
-            ap (λ (v : Tasked). (end_at v.work.ends q).lane) (some_one (sym f.1 ∙ z.1)) ∙ sym (ap (λ es. (end_at es q).lane) (b.2 ∙ ap (λ (w : Work). w.ends) z.2))
-        lanes p q (inl a) (inr b) = absurd (let l = within_get (map work_of new) p a.0 a.1 in let k = b.0 in let n = long in omega (arith, l, k, n))
-        lanes p q (inr a) (inl b) = absurd (let l = within_get (map work_of first) p b.0 b.1 in let k = a.0 in let n = long in omega (arith, l, k, n))
-        lanes p q (inr a) (inr b) = ap (λ es. (end_at es q).lane) (a.1 ∙ sym b.1)
+        by : (p q : ℕ) → (p < length new) ⊎ (length new ≤ p) → (end_in (task_rows new) p q).lane ≡ (end_in (task_rows first) p q).lane
+        by p q (inl l) =
+            let y = got new p l in
+            let x = old_item h p y.0 y.1 in
+            let z = first_at p x.0 x.1 in
+            ap (λ (e : LaneEnd). e.lane) (rests.row_at new p q y.0 y.1) ∙ (x.2.later.ends.same q).lane ∙ ((gone.later p z.0 x.0 z.1 x.1).ends.same q).lane
+            ∙ sym (ap (λ (e : LaneEnd). e.lane) (rests.row_at first p q z.0 z.1))
+        by p q (inr l) =
+            let n = h.count ∙ gone.count ∙ sym gone.ready.count in
+            ap (λ (e : LaneEnd). e.lane) (none new p q l ∙ sym (none first p q (omega (arith, l, n))))
+
+    pub cells_same : map cell_of new ≡ map cell_of old
+    cells_same = map_changed cell_of cell_of (λ x y s. s.later.still s.events) old new h
 
     going_apart : (x : Tasked) → IsQuietTask t lists old x → x.standing ≡ standing.Going → ⊥
     going_apart x (inl o) g = going_over (sym o ∙ ap is_over g)
@@ -135,17 +76,17 @@ module _ (t : Program) (lists : Lists) (watch : Option ℕ) (bound : ℕ) (first
 
     rest_new : ((p : ℕ) (x : Tasked) → slice_get old p ≡ Some x → IsQuietTask t lists old x) → (p : ℕ) (y : Tasked) → slice_get new p ≡ Some y → IsQuietTask t lists new y
     rest_new rest p y e =
-        let x = was p y e in
+        let x = old_item h p y e in
         subst (IsQuietTask t lists new) (sym (same p y e)) (by x.0 (rest p x.0 x.1))
       where
-        same : (p : ℕ) (y : Tasked) (e : slice_get new p ≡ Some y) → y ≡ (was p y e).0
-        same p y e = (step p y e).still (going_apart (was p y e).0 (rest p (was p y e).0 (was p y e).1))
+        same : (p : ℕ) (y : Tasked) (e : slice_get new p ≡ Some y) → y ≡ (old_item h p y e).0
+        same p y e = let x = old_item h p y e in x.2.still (going_apart x.0 (rest p x.0 x.1))
 
         all : (d k : ℕ) → AreAll t lists old d k → AreAll t lists new d k
         all d k a = record {
           given = a.given;
           sent = λ r o z f w.
-              let u = was r z f in
+              let u = old_item h r z f in
               let s = same r z f in
               ap (λ (v : Tasked). count v.work.cell.sent o) s ∙ a.sent r o u.0 u.1 (ap (λ (v : Tasked). handed_to_task v.work o) (sym s) ∙ w);
         }
@@ -158,33 +99,25 @@ module _ (t : Program) (lists : Lists) (watch : Option ℕ) (bound : ℕ) (first
     tasks_new = record { count = h.count ∙ gone.count; each = of_new }
 
     pub settled_new : (p : ℕ) (y : Tasked) → slice_get new p ≡ Some y → IsSettledTask y
-    settled_new p y e = (step p y e).settled
+    settled_new p y e = (old_item h p y e).2.settled
 
-    pub events_new : budget + sum_by task_events new ≡ bound
-    events_new = let a = gone.events in let b = same_sum old new h.count (λ p x y e f. (h.each p x y e f).events) in omega (arith, a, b)
+    pub events_new : budget + all_events (state_of_tasks t lists watch new) ≡ bound
+    events_new =
+        let a = gone.events in
+        let b = ap (λ cs. sum_by view_events (map told_view cs)) cells_same ∙ sum_over view_events told_view (map cell_of old) ∙ sum_over (λ (c : Told). c.events) cell_of old in
+        omega (arith, a, b)
 
-    pub over_new : (halted : Bool) → IsOver t lists old budget halted → IsOver t lists new budget halted
-    over_new halted (inl a) = inl a
-    over_new halted (inr (inl b)) = inr (inl b)
-    over_new halted (inr (inr c)) = inr (inr (rest_new c))
+    pub over_new : {halted : Bool} → IsOver t lists old budget halted → IsOver t lists new budget halted
+    over_new (inl a) = inl a
+    over_new (inr (inl b)) = inr (inl b)
+    over_new (inr (inr c)) = inr (inr (rest_new c))
 
 -- ---- the answer
 
-sum_views : (xs : List Tasked) → sum_by view_events (map told_view (map cell_of xs)) ≡ sum_by task_events xs
-sum_views [] = refl
-sum_views (x ∷ xs) =
-    let r : sum_by view_events (map told_view (map cell_of xs)) ≡ sum_by task_events xs = sum_views xs in
-    let a : sum_by view_events (map told_view (map cell_of (x ∷ xs))) ≡ x.work.cell.events + sum_by view_events (map told_view (map cell_of xs)) =
-    sum_by-cons view_events (told_view x.work.cell) (map told_view (map cell_of xs))
-    in
-    let b : sum_by task_events (x ∷ xs) ≡ x.work.cell.events + sum_by task_events xs = sum_by-cons task_events x xs in
-    let s : sum_by view_events (map told_view (map cell_of (x ∷ xs))) ≡ sum_by task_events (x ∷ xs) = omega (arith, a, b, r) in
-    s
-
-module _ (t : Program) (wired : IsWellWired t) (lists : Lists) (watch : Option ℕ) (bound : ℕ) (tasks : List Tasked) (budget : ℕ) (halted : Bool)
+module _ {t : Program} (wired : IsWellWired t) {lists : Lists} {watch : Option ℕ} {bound : ℕ} {tasks : List Tasked} {budget : ℕ} {halted : Bool}
     (of : AreTasks t lists watch tasks) (settled : (p : ℕ) (x : Tasked) → slice_get tasks p ≡ Some x → IsSettledTask x)
-    (sum : budget + sum_by task_events tasks ≡ bound) (over : IsOver t lists tasks budget halted) (behind : (c : ℕ) → AreBehindOn (network_of t) (task_rows tasks) c) (ends : List End)
-    (are : AreEndsOfTasks t lists tasks ends (length tasks)) where
+    (sum : budget + all_events (state_of_tasks t lists watch tasks) ≡ bound) (over : IsOver t lists tasks budget halted)
+    (behind : (c : ℕ) → AreBehindOn (network_of t) (task_rows tasks) c) {ends : List End} (are : AreEndsOfTasks t lists tasks ends (length tasks)) where
   -- a task at rest wants no more
   no_more : (x : Tasked) → IsQuietTask t lists tasks x → IsToldAs t lists tasks x outcome.More → ⊥
   no_more x (inl o) (inl g) = going_over (sym o ∙ ap is_over g)
@@ -204,12 +137,16 @@ module _ (t : Program) (wired : IsWellWired t) (lists : Lists) (watch : Option �
       channel : {c d : ℕ} → Reads c ≡ Reads d → c ≡ d
       channel f = cc
 
-  pub is_last : IsLast (state_of_tasks t lists watch tasks) bound budget halted ends
-  is_last = record {
-    known = length-map (map cell_of tasks) told_view ∙ length-map tasks cell_of ∙ of.count;
-    total = let a = sum_views tasks in omega (arith, a, sum);
-    size = are.count ∙ of.count;
-    ends = λ p y e. one p y e (task p y e);
+  pub concluded : {v : Verdict} → IsVerdict halted ends v → IsConcluded (state_of_tasks t lists watch tasks) bound budget halted v ends
+  concluded rule = record {
+    last = record {
+      known = length-map (map cell_of tasks) told_view ∙ length-map tasks cell_of ∙ of.count;
+      total = omega (arith, sum);
+      size = are.count ∙ of.count;
+      ends = λ p y e. one p y e (task p y e);
+    };
+    rule = rule;
+    within = rests.within t wired lists watch tasks of settled behind;
   }
     where
       task : (p : ℕ) (y : End) → slice_get ends p ≡ Some y → (x : Tasked) × (slice_get tasks p ≡ Some x)
@@ -226,9 +163,3 @@ module _ (t : Program) (wired : IsWellWired t) (lists : Lists) (watch : Option �
       one p y e x =
           let k = are.each p x.0 y x.1 e in
           (rests.rests t wired lists watch tasks of settled behind p x.0 y x.1 k, λ m. more x.0 p x.1 (subst (IsToldAs t lists tasks x.0) m k.told) over)
-
--- the verdict is that of want of memory exactly where memory was refused
-pub memory_alone : (memory : Bool) (ends : List End) (v : Verdict) → IsVerdict memory ends v → (v ≡ verdict.Memory → memory ≡ true) × (memory ≡ true → v ≡ verdict.Memory)
-memory_alone memory ends verdict.Memory h = (λ e. h, λ m. refl)
-memory_alone memory ends verdict.Finished h = (λ e. absurd cc, λ m. absurd (going_over (sym m ∙ h.0)))
-memory_alone memory ends verdict.Bound h = (λ e. absurd cc, λ m. absurd (going_over (sym m ∙ h.0)))

@@ -1,24 +1,8 @@
 -- A flow that is given more input.
 use Rattle.std.proofs.Common.{arith, ◌≡◌, ℕ, zero, suc, ◌+◌, ◌≤◌, ◌==◌, Bool, true, false, if◌then◌else◌, eqb-true, eq-eqb, true≢false, List, [], ◌∷◌, ◌++◌, length, map, sum_by, refl, sym, ap, ◌∙◌, subst, append-nil, append_assoc, Option, Some, None, slice_get, slice_index_or}
-use Rattle.kahn_streams.specs.Network.{Source, Given, Written, Nobody, network_of, role_at}
-use Rattle.kahn_streams.specs.declared.token.Token.{Token}
-use Rattle.kahn_streams.specs.declared.value.Value.{Value}
-use Rattle.kahn_streams.specs.declared.value.Line.{Line}
-use Rattle.kahn_streams.specs.declared.value.Line.TheVariants.{Channel, Print}
-use Rattle.kahn_streams.specs.Inputs.{Entry, channel_of, most_values, Lists, inputs_of}
-use Rattle.kahn_streams.specs.Feeds.{IsMeant}
-use Rattle.kahn_streams.specs.Solution.{source}
-use Rattle.kahn_streams.specs.Answers.{is_watched, stream_lines}
-use Rattle.kahn_streams.specs.Tokens.{token_value}
-use Rattle.kahn_code.specs.Lines.{AreQueued, IsPoured, waiting_of}
-use Rattle.kahn_code.specs.Queues.{Waiting}
+use Rattle.kahn_pool.proofs.Common.{Source, Given, Written, Nobody, network_of, role_at, Token, Value, Line, Channel, Print, Entry, channel_of, most_values, Lists, inputs_of, IsMeant, source, is_watched, stream_lines, token_value, AreQueued, IsPoured, waiting_of, Waiting, Verdict, view_events, HasPouredIn, AreLent, IsFlowing, flow_of, let_go_by, let_go_of, waits_of, AllStandBy, HasTakenIn, IsLaid, Table}
 use Rattle.kahn_streams.specs.declared.answer.End.{End}
-use Rattle.kahn_streams.specs.declared.answer.Verdict.{Verdict}
-use Rattle.kahn_pool.specs.inner.Bench.{view_events}
-use Rattle.kahn_pool.specs.Flows.{HasPouredIn}
-use Rattle.kahn_pool.specs.inner.FlowBench.{AreLent, IsFlowing, flow_of, let_go_by, let_go_of, waits_of}
-use Rattle.kahn_pool.specs.inner.Workbench.{AllStandBy, HasTakenIn, IsLaid, Table, sight_of}
-use Rattle.kahn_pool.proofs.Flowed.{flowing_same, front_of, lent_same, let_go_same, map_on, poured_goes_on}
+use Rattle.kahn_pool.proofs.Flowed.{front_of, let_go_same, map_on, poured_goes_on}
 use Rattle.kahn_pool.proofs.Giving.{input_role}
 use Rattle.kahn_pool.proofs.Named.{HasLine, has_line}
 use Rattle.kahn_pool.proofs.Once_written.{input_watched}
@@ -70,15 +54,6 @@ same_waits (x ∷ xs) (y ∷ ys) n h = let a = h 0 in let r = same_waits xs ys (
 -- ---- nothing was poured
 
 module _ (b d : Table) (c : ℕ) (h : HasTakenIn c 0 b.input b d) where
-  refused_state : sight_of d ≡ sight_of b
-  refused_state = λ i. record { network = network_of (h.network i); input = inputs_of (h.lists i); watch = h.watch i; cells = h.views i }
-
-  pub refused_flowing : {quantum bound budget room : ℕ} {ends : List End} {said : Option Verdict} → IsFlowing b quantum bound budget room ends said → IsFlowing d quantum bound budget room ends said
-  refused_flowing = flowing_same b d h.network refused_state
-
-  pub refused_lent : (ts us : List Token) → us ≡ ts → AreLent b ts → AreLent d us
-  refused_lent ts us e g = subst (AreLent d) (sym e) (lent_same b d h.network h.lists h.watch ts g)
-
   nothing_more : (k : ℕ) → waiting_of (slice_get d.queues.queues k) ≡ waiting_of (slice_get b.queues.queues k)
   nothing_more k = by (c == k) (h.waiting k)
     where
@@ -121,8 +96,14 @@ poured_flowing b d c n input h {bound = bound} {budget = budget} {room = room} g
 }
 
 module _ (b d : Table) (c : ℕ) (values : List Value) (input : Lists) (poured : IsPoured b.input c values input) (h : HasTakenIn c (length values) input b d)
-    (ts us : List Token) (lent : AreLent b ts)
-    (grown : is_watched b.watch c ≡ true → map token_value us ≡ map token_value ts ++ values) (same : is_watched b.watch c ≡ false → us ≡ ts) where
+    (ts mid us : List Token) (lent : AreLent b ts) (kept : mid ≡ ts) (lends : Bool) (is : lends ≡ is_watched b.watch c)
+    (longer_by : lends ≡ true → map token_value us ≡ map token_value mid ++ values) (still : lends ≡ false → us ≡ mid) where
+  grown : is_watched b.watch c ≡ true → map token_value us ≡ map token_value ts ++ values
+  grown e = longer_by (is ∙ e) ∙ ap (λ (l : List Token). map token_value l ++ values) kept
+
+  same : is_watched b.watch c ≡ false → us ≡ ts
+  same e = still (is ∙ e) ∙ kept
+
   watched_as : (k : ℕ) → b.watch ≡ Some k → (x : Bool) → (k == c) ≡ x → is_watched b.watch c ≡ x
   watched_as k w x e = ap (λ o. is_watched o c) w ∙ e
 

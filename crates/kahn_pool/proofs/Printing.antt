@@ -1,18 +1,7 @@
 -- The lines that are still to come, and which processes print.
-use Rattle.std.proofs.Common.{arith, ◌≡◌, ℕ, zero, suc, ◌<◌, Bool, true, false, if◌then◌else◌, List, [], ◌∷◌, ◌++◌, length, drop, map, Option, Some, refl, sym, ap, ◌∙◌, slice_get, slice_index_or, append_assoc}
-use Rattle.kahn_streams.specs.declared.tree.Kind.TheVariants.{Integer}
-use Rattle.kahn_streams.specs.declared.tree.Role.TheVariants.{Inner}
-use Rattle.kahn_streams.specs.declared.tree.Declaration.{Declaration}
-use Rattle.kahn_streams.specs.declared.tree.Process.{Process}
-use Rattle.kahn_streams.specs.declared.value.Line.{Line}
+use Rattle.std.proofs.Common.{arith, ◌≡◌, ℕ, zero, suc, ◌<◌, Bool, true, false, if◌then◌else◌, List, [], ◌∷◌, ◌++◌, length, drop, map, Option, Some, refl, sym, ap, ◌∙◌, slice_get, slice_index_or, append_assoc, cond, append-nil}
+use Rattle.kahn_pool.proofs.Common.{Integer, Inner, Declaration, Process, Line, declaration_prints, process_prints, prints_in, Channel, Print, Network, instance_at, idle, process_at, is_streamed, channel_lines, print_lines}
 use Rattle.kahn_streams.specs.declared.tree.Declaration.TheVariants as D
-use Rattle.kahn_streams.specs.Prints.{declaration_prints, process_prints}
-use Rattle.kahn_streams.specs.Syntax.{prints_in}
-use Rattle.kahn_streams.specs.declared.value.Line.TheVariants.{Channel, Print}
-use Rattle.kahn_streams.specs.Network.{Network, instance_at, idle}
-use Rattle.kahn_streams.specs.Wires.{process_at}
-use Rattle.kahn_code.specs.Cells.{is_streamed}
-use Rattle.kahn_streams.specs.Answers.{channel_lines, print_lines}
 
 -- ---- processes
 
@@ -40,23 +29,20 @@ drop_one (x ∷ xs) (suc n) d l = drop_one xs n d (omega (arith, l))
 add_one : (before after rest whole : List Line) (x : Line) → after ≡ before ++ x ∷ [] → before ++ x ∷ rest ≡ whole → after ++ rest ≡ whole
 add_one before after rest whole x e f = ap (λ l. l ++ rest) e ∙ (append_assoc before (x ∷ []) rest ∙ f)
 
-one_line : (b : Bool) (x : Line) (rest : List Line) (before after whole : List Line) → before ++ (if b then x ∷ rest else rest) ≡ whole →
-    (b ≡ true → after ≡ before ++ x ∷ []) → (b ≡ false → after ≡ before) → after ++ rest ≡ whole
-one_line true x rest before after whole e f g = add_one before after rest whole x (f refl) e
-one_line false x rest before after whole e f g = ap (λ l. l ++ rest) (g refl) ∙ e
+one_line : (b : Bool) (x : Line) (rest before after whole : List Line) → before ++ (if b then x ∷ rest else rest) ≡ whole → after ≡ before ++ cond b (x ∷ []) [] → after ++ rest ≡ whole
+one_line true x rest before after whole e f = add_one before after rest whole x f e
+one_line false x rest before after whole e f = ap (λ l. l ++ rest) (f ∙ append-nil before) ∙ e
 
 pub channel_more : (N : Network) (watch : Option ℕ) (c : ℕ) (before after whole : List Line) → c < length N.channels →
-    before ++ channel_lines watch (drop c N.channels) c ≡ whole →
-    (is_streamed N watch c ≡ true → after ≡ before ++ Channel c ∷ []) → (is_streamed N watch c ≡ false → after ≡ before) →
+    before ++ channel_lines watch (drop c N.channels) c ≡ whole → after ≡ before ++ cond (is_streamed N watch c) (Channel c ∷ []) [] →
     after ++ channel_lines watch (drop (suc c) N.channels) (suc c) ≡ whole
-channel_more N watch c before after whole l e f g =
+channel_more N watch c before after whole l e f =
     one_line (is_streamed N watch c) (Channel c) (channel_lines watch (drop (suc c) N.channels) (suc c)) before after whole
-    (ap (λ rows. before ++ channel_lines watch rows c) (sym (drop_one N.channels c (Integer, Inner) l)) ∙ e) f g
+    (ap (λ rows. before ++ channel_lines watch rows c) (sym (drop_one N.channels c (Integer, Inner) l)) ∙ e) f
 
 pub print_more : (N : Network) (p : ℕ) (before after whole : List Line) → p < length N.instances →
-    before ++ print_lines (drop p N.instances) p ≡ whole →
-    (prints_in (instance_at N p).body ≡ true → after ≡ before ++ Print p ∷ []) → (prints_in (instance_at N p).body ≡ false → after ≡ before) →
+    before ++ print_lines (drop p N.instances) p ≡ whole → after ≡ before ++ cond (prints_in (instance_at N p).body) (Print p ∷ []) [] →
     after ++ print_lines (drop (suc p) N.instances) (suc p) ≡ whole
-print_more N p before after whole l e f g =
+print_more N p before after whole l e f =
     one_line (prints_in (instance_at N p).body) (Print p) (print_lines (drop (suc p) N.instances) (suc p)) before after whole
-    (ap (λ is. before ++ print_lines is p) (sym (drop_one N.instances p idle l)) ∙ e) f g
+    (ap (λ is. before ++ print_lines is p) (sym (drop_one N.instances p idle l)) ∙ e) f

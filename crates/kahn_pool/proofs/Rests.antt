@@ -1,46 +1,15 @@
 -- What settled tasks whose ends have met say of the cells.
 use Rattle.std.proofs.Common.{arith, ◌≡◌, inl, inr, ℕ, zero, suc, ◌+◌, ◌<◌, ◌≤◌, List, [], length, map, refl, sym, ap, ◌∙◌, subst, Option, Some, slice_get, length-append}
-use Rattle.kahn_streams.specs.declared.tree.Program.{Program}
-use Rattle.kahn_streams.specs.declared.tree.Role.{Role}
-use Rattle.kahn_streams.specs.declared.value.Value.{Value}
-use Rattle.kahn_streams.specs.declared.tree.Role.TheVariants.{Inner, Input}
-use Rattle.kahn_streams.specs.Network.{Network, Reads, Writes, Given, Written, network_of, instance_at, actual_at, role_at}
+use Rattle.kahn_pool.proofs.Common.{Program, Role, Value, Inner, Input, Network, Reads, Writes, Given, Written, network_of, instance_at, actual_at, role_at, IsWellWired, reads, writes, Channel, Store, Inputs, fed, iterate, out, source, Lists, inputs_of, dry_reads, AllStand, View, exec_on, is_output, Joins, count, told_view, joins_within, driven, IsBehind, IsReady, AreBehindOn, end_in, row_there, Serves, end_at, Tasked, handed_to_task, task_rows, work_of, at_mapped, AreAll, AreTasks, AreTold, IsDryOf, IsEndOf, IsSaid, IsSettledTask, IsInstanceTask, IsToldAs, cell_of, state_of_tasks, HasEndIn, TookNoMore, IsGiven, IsOutcomeOf, no_view, view_at, stand_in, StoodBy}
 use Rattle.kahn_streams.specs.inner.Sources.{IsFed as IsFedBy}
-use Rattle.kahn_streams.specs.Wiring.{IsWellWired}
-use Rattle.kahn_streams.proofs.Sourced.{reads, writes}
-use Rattle.kahn_streams.specs.declared.value.Line.TheVariants.{Channel}
-use Rattle.kahn_streams.specs.Meaning.{Store}
-use Rattle.kahn_streams.specs.Script as script
-use Rattle.kahn_streams.specs.Script.{Dry}
-use Rattle.kahn_streams.specs.Solution.{Inputs, exec_at, fed, iterate, out, source}
-use Rattle.kahn_streams.specs.Inputs.{Lists, inputs_of}
-use Rattle.kahn_streams.proofs.Dry.{dry_reads}
-use Rattle.kahn_code.specs.Cells.{AllStand, View, exec_on}
-use Rattle.kahn_streams.specs.Answers.{is_output}
-use Rattle.kahn_code.specs.Lines.{Joins}
-use Rattle.kahn_code.specs.Progress as code
-use Rattle.kahn_code.specs.Standing.{count}
-use Rattle.kahn_code.specs.Told.{told_view}
-use Rattle.kahn_code.proofs.Readers.{joins_within, reads_once, driven}
-use Rattle.kahn_job.specs.inner.Ends.{IsBehind, IsReady}
-use Rattle.kahn_job.specs.inner.Lanes.{AreBehindOn, end_in}
-use Rattle.kahn_job.proofs.Idles.{row_there}
-use Rattle.kahn_job.specs.inner.Berths.{Serves, end_at}
-use Rattle.kahn_job.specs.declared.standing.Standing.TheVariants as standing
-use Rattle.kahn_job.specs.inner.Tasks.{Tasked}
-use Rattle.kahn_crew.specs.inner.Tasks.{handed_to_task, task_rows, work_of}
-use Rattle.kahn_crew.proofs.Started.{at_mapped}
-use Rattle.kahn_crew.specs.inner.Left.{AreAll}
-use Rattle.kahn_pool.specs.inner.Rested.{AreTasks, AreTold, IsDryOf, IsEndOf, IsSaid, IsSettledTask, IsInstanceTask, IsToldAs, cell_of, state_of_tasks}
 use Rattle.kahn_streams.specs.declared.answer.End.{End}
 use Rattle.kahn_streams.specs.declared.answer.Outcome.{Outcome}
-use Rattle.kahn_streams.specs.declared.answer.Outcome.TheVariants as outcome
-use Rattle.kahn_pool.specs.inner.Bench.{HasEndIn}
-use Rattle.kahn_pool.specs.inner.Gathered.{TookNoMore, IsGiven, IsOutcomeOf, Stood, no_view, view_at}
 use Rattle.kahn_pool.proofs.Benched.{get_map, got, mapped, some_one}
-use Rattle.kahn_pool.proofs.Channels.{told_by_channel}
-use Rattle.kahn_code.proofs.Lists.{stand_in}
 use Rattle.kahn_pool.proofs.Ended.{handed_to, one_number}
+use Rattle.kahn_streams.specs.Script as script
+use Rattle.kahn_code.specs.Progress as code
+use Rattle.kahn_job.specs.declared.standing.Standing.TheVariants as standing
+use Rattle.kahn_streams.specs.declared.answer.Outcome.TheVariants as outcome
 
 -- what stands on an input channel is of its list
 iter_given : (N : Network) (I : Inputs) (d n : ℕ) → source N (Channel d) ≡ Given → iterate N I n (Channel d) ≡ I d
@@ -52,6 +21,10 @@ list_long N I d xs e h =
     let p = stand_in N I (Channel d) xs h in
     let l : length (I d) ≡ length xs + length p.1.0 = ap length (sym (iter_given N I d p.0 e) ∙ p.1.1) ∙ length-append xs p.1.0 in
     omega (arith, l)
+
+-- the end that a task has
+pub row_at : (xs : List Tasked) (p q : ℕ) (x : Tasked) → slice_get xs p ≡ Some x → end_in (task_rows xs) p q ≡ end_at x.work.ends q
+row_at xs p q x e = ap (λ es. end_at es q) (row_there (map work_of xs) p x.work (at_mapped work_of xs p x e))
 
 role_apart : {r : Role} → r ≡ Inner → r ≡ Input → ⊥
 role_apart a b = let e : Inner ≡ Input = sym a ∙ b in absurd cc
@@ -109,9 +82,6 @@ module _ (t : Program) (wired : IsWellWired t) (lists : Lists) (watch : Option �
   }
 
   module _ (behind : (c : ℕ) → AreBehindOn N (task_rows tasks) c) where
-    row_end : (p q : ℕ) (x : Tasked) → slice_get tasks p ≡ Some x → end_in (task_rows tasks) p q ≡ end_at x.work.ends q
-    row_end p q x e = ap (λ es. end_at es q) (row_there (map work_of tasks) p x.work (at_mapped work_of tasks p x e))
-
     -- what was given to a channel that is read, and what its reader took of it
     record IsCounted (p q d : ℕ) (x : Tasked) (n : ℕ) : Type 0 where
       pub given : IsGiven N I cells d (source N (Channel d)) n
@@ -162,7 +132,7 @@ module _ (t : Program) (wired : IsWellWired t) (lists : Lists) (watch : Option �
         by (inr f) =
             let y = task_at f.0 (joins_write f.0 f.1 d f.3) in
             let h : IsBehind (end_at y.0.work.ends f.1) (end_at x.work.ends q) =
-            subst (λ z. IsBehind z (end_at x.work.ends q)) (row_end f.0 f.1 y.0 y.1) (subst (IsBehind (end_in (task_rows tasks) f.0 f.1)) (row_end p q x e) (behind d f.0 p f.1 q f.3 r))
+            subst (λ z. IsBehind z (end_at x.work.ends q)) (row_at tasks f.0 f.1 y.0 y.1) (subst (IsBehind (end_in (task_rows tasks) f.0 f.1)) (row_at tasks p q x e) (behind d f.0 p f.1 q f.3 r))
             in
             let k = (settled f.0 y.0 y.1).job in
             let few = k.served.behind f.1 in
@@ -232,8 +202,7 @@ module _ (t : Program) (wired : IsWellWired t) (lists : Lists) (watch : Option �
         paused : code.Paused N I watch p (told_view x.work.cell) (IsSaid x.work x.standing)
         paused = says_here p x e
 
-        told : (k : Stood N I watch p (view_at cells p)) × IsOutcomeOf N I cells p (exec_at N (view_at cells p).events p k.tapes).outcome y.outcome
+        told : (k : StoodBy N I watch p (view_at cells p)) × IsOutcomeOf N I cells p (exec_on N (view_at cells p).events p k.tapes).outcome y.outcome
         told =
-            subst (λ u. (k : Stood N I watch p u) × IsOutcomeOf N I cells p (exec_at N u.events p k.tapes).outcome y.outcome) (sym (viewed p x e))
-            (told_by_channel N I watch p (told_view x.work.cell) (λ r s d f g. (reads_once t wired p r p s d f g).1) paused.stood
-            (λ o. IsOutcomeOf N I cells p o y.outcome) (told_as p x e y.outcome h.told _ paused.is))
+            subst (λ u. (k : StoodBy N I watch p u) × IsOutcomeOf N I cells p (exec_on N u.events p k.tapes).outcome y.outcome) (sym (viewed p x e))
+            (paused.stood, told_as p x e y.outcome h.told _ paused.is)

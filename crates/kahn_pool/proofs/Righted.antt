@@ -1,41 +1,34 @@
 -- A run with these cells is right so far: what its streams have are the tapes of the right answer.
-use Rattle.std.proofs.Common.{arith, ◌≡◌, ℕ, zero, suc, ◌+◌, Bool, List, [], ◌∷◌, map, sum_by, refl, sym, ap, ◌∙◌, subst, Option, slice_index_or}
-use Rattle.std.proofs.lemmas.List.Sums.{sum_by-cons}
-use Rattle.kahn_streams.specs.declared.tree.Program.{Program}
-use Rattle.kahn_streams.specs.declared.value.Value.{Value}
-use Rattle.kahn_streams.specs.declared.value.Line.{Line}
-use Rattle.kahn_streams.specs.Network.{Network, Source, Given, Written, Nobody, network_of}
-use Rattle.kahn_streams.specs.declared.value.Line.TheVariants.{Channel, Print}
-use Rattle.kahn_streams.specs.Solution.{Inputs, IsWhole, source}
-use Rattle.kahn_streams.specs.Inputs.{Lists, inputs_of}
-use Rattle.kahn_code.specs.Cells.{View}
-use Rattle.kahn_streams.specs.Tokens.{token_value}
-use Rattle.kahn_code.specs.Told.{Told, told_view}
-use Rattle.kahn_streams.specs.Answers.{Settles, AreRight}
-use Rattle.kahn_pool.specs.HeldRuns.{HasSoFar, HeldRun, IsRightSoFar, IsSoFar, seen_at, seen_events, seen_of}
-use Rattle.kahn_pool.specs.inner.Bench.{RunState, all_events, view_events}
-use Rattle.kahn_pool.specs.inner.Concluded.{IsConcluded}
-use Rattle.kahn_pool.specs.inner.Gathered.{IsStopped, view_at}
+use Rattle.std.proofs.Common.{arith, ◌≡◌, ℕ, zero, suc, ◌+◌, Bool, List, [], ◌∷◌, map, sum_by, refl, sym, ap, ◌∙◌, subst, Option, slice_index_or, ◌-◌}
+use Rattle.kahn_pool.proofs.Common.{Program, Value, Line, Network, Source, Given, Written, Nobody, network_of, Channel, Print, Inputs, IsWhole, source, Lists, inputs_of, View, token_value, Told, told_view, Settles, AreRight, HasSoFar, HeldRun, IsRightSoFar, IsSoFar, seen_at, seen_events, seen_of, RunState, all_events, view_events, IsConcluded, IsStopped, view_at, Verdict, unseen, IsRight, stream_lines, Answer, AreStreams}
 use Rattle.kahn_streams.specs.declared.answer.End.{End}
-use Rattle.kahn_streams.specs.declared.answer.Verdict.{Verdict}
-use Rattle.kahn_pool.proofs.Assembling.{are_right, kept_values, printed_values, whole_tapes}
-use Rattle.kahn_pool.proofs.Final.{stopped, stopped_cells}
+use Rattle.kahn_pool.proofs.Assembling.{are_right, kept_values, printed_values, whole_tapes, assembled}
+use Rattle.kahn_pool.proofs.Final.{stopped, stopped_cells, gathered}
 use Rattle.kahn_pool.proofs.Going_on.{run_with}
 use Rattle.kahn_pool.proofs.Sizes.{settles_ends}
+use Rattle.kahn_pool.proofs.Lists.{sum_over, one_of_sum}
 
 -- the verdict of a part goes by the size of the solution
-pub settled_by : (s : RunState) (bound left : ℕ) → left + all_events s ≡ bound → (halted : Bool) (v : Verdict) (ends : List End) →
-    IsConcluded s bound left halted v ends → Settles s.network s.input bound v
-settled_by s bound left sum halted v ends c =
+pub settled_by : {s : RunState} {bound left : ℕ} {halted : Bool} {v : Verdict} {ends : List End} → IsConcluded s bound left halted v ends → Settles s.network s.input bound v
+settled_by {s} {bound} {left} {halted} {v} {ends} c =
     settles_ends s.network s.input bound v ends (all_events s)
     (are_right s.network s.input bound s.watch v ends (all_events s)
-    (stopped s bound left halted v ends (all_events s) c.last c.rule c.within (omega (arith, sum))))
+    (stopped s bound left halted v ends (all_events s) c.last c.rule c.within c.last.total))
+
+-- an answer that is put together from them is right
+pub answer_right : {s : RunState} {bound left : ℕ} {halted : Bool} (a : Answer) → IsConcluded s bound left halted a.verdict a.ends.items →
+    AreStreams s a.streams.items (stream_lines s.network s.watch) → a.events ≡ bound - left → IsRight s.network s.input bound s.watch a
+answer_right {s} {bound} {left} {halted} a c streams e =
+    let t = c.last.total in
+    assembled s.network s.input bound s.watch a (gathered s bound left halted a c.last streams c.rule c.within (omega (arith, t, e)))
 
 -- the events that contracts see are those of the cells
 pub events_seen : (cells : List Told) → sum_by seen_events (map seen_of cells) ≡ sum_by view_events (map told_view cells)
-events_seen [] = refl
-events_seen (c ∷ cells) =
-    sum_by-cons seen_events (seen_of c) (map seen_of cells) ∙ ap (λ n. c.events + n) (events_seen cells) ∙ sym (sum_by-cons view_events (told_view c) (map told_view cells))
+events_seen cells = sum_over seen_events seen_of cells ∙ sym (sum_over view_events told_view cells)
+
+-- where there are none, no process has any
+pub none_done : (cells : List Told) → sum_by view_events (map told_view cells) ≡ 0 → (p : ℕ) → (seen_at (map seen_of cells) p).events ≡ 0
+none_done cells none p = let m = one_of_sum seen_events (map seen_of cells) p unseen refl in let s = events_seen cells in omega (arith, m, s, none)
 
 -- what is seen of a cell is what its view says
 pub seen_there : (cells : List Told) (p : ℕ) →
@@ -46,7 +39,7 @@ seen_there [] p = (refl, λ q. refl, refl)
 seen_there (c ∷ cells) zero = (refl, λ q. refl, refl)
 seen_there (c ∷ cells) (suc p) = seen_there cells p
 
-module _ (t : Program) (lists : Lists) (watch : Option ℕ) (workers quantum bound : ℕ) (cells : List Told) (verdict : Option Verdict) (left : ℕ) where
+module _ (t : Program) (lists : Lists) (watch : Option ℕ) (workers quantum bound : ℕ) (cells : List Told) (verdict : Option Verdict) where
   abbrev N : Network
   N = network_of t
 
@@ -62,15 +55,18 @@ module _ (t : Program) (lists : Lists) (watch : Option ℕ) (workers quantum bou
   abbrev done : ℕ
   done = sum_by seen_events run.cells
 
-  module _ (sum : left + done ≡ bound) (halted : Bool) (v : Verdict) (ends : List End) (c : IsConcluded state bound left halted v ends) where
+  module _ {left : ℕ} {halted : Bool} {v : Verdict} {ends : List End} (c : IsConcluded state bound left halted v ends) where
+    sum : done + left ≡ bound
+    sum = ap (λ n. n + left) (events_seen cells) ∙ c.last.total
+
     abbrev stop : IsStopped N I bound watch v ends done
-    stop = stopped state bound left halted v ends done c.last c.rule c.within (omega (arith, sum))
+    stop = stopped state bound left halted v ends done c.last c.rule c.within sum
 
     abbrev right : AreRight N I bound v ends done
     right = are_right N I bound watch v ends done stop
 
     cells_are : stop.cells ≡ map told_view cells
-    cells_are = stopped_cells state bound left halted v ends done c.last c.rule c.within (omega (arith, sum))
+    cells_are = stopped_cells state bound left halted v ends done c.last c.rule c.within sum
 
     same_writer : {r p : ℕ} → Written r ≡ Written p → r ≡ p
     same_writer h = cc

@@ -1,9 +1,6 @@
 -- What cells keep, as lists and as it is seen.
 use Rattle.std.proofs.Common.{◌≡◌, ℕ, zero, suc, List, [], ◌∷◌, map, refl, ap, ◌∙◌, slice_index_or}
-use Rattle.kahn_code.specs.declared.cell.Kept.{Kept}
-use Rattle.kahn_code.specs.Told.{Told, told_view}
-use Rattle.kahn_pool.specs.inner.Gathered.{view_at}
-use Rattle.kahn_pool.specs.inner.Streams.{kept_lists, kept_in, printed_list, printed_in}
+use Rattle.kahn_pool.proofs.Common.{Kept, Told, told_view, view_at, kept_lists, kept_in, printed_list, printed_in}
 
 kept_told : (cells : List Told) (p q : ℕ) → slice_index_or (slice_index_or (map (λ c. c.kept) cells) p []) q [] ≡ (view_at (map told_view cells) p).kept q
 kept_told [] p q = refl

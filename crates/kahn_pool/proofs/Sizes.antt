@@ -1,25 +1,12 @@
 -- The events of an answer and the size of the solution.
 use mathlib.Core.Path.{fun_ext}
 use Rattle.std.proofs.Common.{arith, ◌≡◌, ◌≢◌, ◌↔◌, ℕ, zero, suc, ◌+◌, ◌≤◌, max, List, [], ◌∷◌, ◌++◌, length, sum_by, refl, sym, subst, le_trans, le_of_suc-le-suc, suc-le-suc, not-suc-le-zero, Option, Some, slice_get, pos}
-use Rattle.std.proofs.Math.Nat.{le-max_left, le-max_right}
-use Rattle.std.proofs.lemmas.List.Sums.{sum_by-cons}
-use Rattle.kahn_streams.specs.declared.value.Value.{Value}
-use Rattle.kahn_streams.specs.declared.value.Line.{Line}
-use Rattle.kahn_streams.specs.Syntax.{Number}
-use Rattle.kahn_streams.specs.Script.{Tapes, Script, Give, Fail, Waits, Sends, Turns, Rest, Reached, wait_at, play}
-use Rattle.kahn_streams.specs.Network.{Network, Instance, Hands, instance_at}
-use Rattle.kahn_streams.specs.Solution as net
-use Rattle.kahn_streams.specs.Solution.{Histories, Inputs, tapes_of, exec_at, iterate, IsPrefix, Ending, HasEnd, HasSizes, none_left, one_more, HasSize}
-use Rattle.kahn_streams.proofs.Framed.{and_more, put_more}
-use Rattle.kahn_streams.proofs.Fuel.{play_alike}
-use Rattle.kahn_streams.proofs.Proved.{prefix_trans, Feeds, feeds, script_at, exec_alike, chain, iterates_rise, fits_all}
-use Rattle.kahn_streams.specs.declared.answer.Answer.{Answer}
+use Rattle.kahn_pool.proofs.Common.{le-max_left, le-max_right, sum_by-cons, Value, Line, Number, Tapes, Script, Give, Fail, Sends, Turns, Rest, Reached, wait_at, play, Network, Instance, Hands, instance_at, Histories, Inputs, tapes_of, exec_at, iterate, IsPrefix, Ending, HasEnd, HasSizes, none_left, one_more, HasSize, and_more, put_more, play_alike, prefix_trans, Feeds, feeds, script_at, exec_alike, chain, iterates_rise, fits_all, Answer, Verdict, Finished, Bound, Memory, Ended, Faulted, More, AreRight, IsRight, IsOutcome, IsEnd, end_events, IsWithinBound, Settles, AreBegun}
+use Rattle.kahn_streams.specs.Script.{Waits}
 use Rattle.kahn_streams.specs.declared.answer.End.{End}
-use Rattle.kahn_streams.specs.declared.answer.Verdict.{Verdict}
-use Rattle.kahn_streams.specs.declared.answer.Verdict.TheVariants.{Finished, Bound, Memory}
 use Rattle.kahn_streams.specs.declared.answer.Outcome.{Outcome}
-use Rattle.kahn_streams.specs.declared.answer.Outcome.TheVariants.{Ended, Waits, Faulted, More}
-use Rattle.kahn_streams.specs.Answers.{AreRight, IsRight, IsOutcome, IsEnd, end_events, IsWithinBound, Settles, AreBegun}
+use Rattle.kahn_streams.specs.declared.answer.Outcome.TheVariants.{Waits}
+use Rattle.kahn_streams.specs.Solution as net
 
 -- ---- on longer tapes and with more events allowed no fewer events are done
 

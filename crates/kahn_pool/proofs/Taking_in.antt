@@ -1,18 +1,7 @@
 -- A bench that goes on for a longer input.
 use Rattle.std.proofs.Common.{arith, ◌≡◌, ℕ, zero, suc, ◌+◌, ◌==◌, Bool, true, false, List, [], ◌∷◌, map, refl, sym, ap, ◌∙◌, subst, eqb-true, Option, Some, None, slice_get, if◌then◌else◌}
-use Rattle.std.proofs.lemmas.List.{length-map}
-use Rattle.kahn_streams.specs.declared.tree.Program.{Program}
-use Rattle.kahn_streams.specs.declared.tree.Role.TheVariants.{Input}
-use Rattle.kahn_streams.specs.Network.{Actual, Reads, Writes, Hands, network_of, instance_at, actual_at, role_at}
-use Rattle.kahn_streams.proofs.Sourced.{writes}
-use Rattle.kahn_streams.specs.Solution.{AreInputsExtended}
-use Rattle.kahn_streams.specs.Inputs.{Lists, inputs_of}
-use Rattle.kahn_code.specs.Lines.{Lines as Queues, HasPoured, given_of, next_at, place_at, taken_of, waiting_of}
-use Rattle.kahn_code.specs.Queues.{Waiting}
-use Rattle.kahn_code.specs.Told.{Told, told_view}
-use Rattle.kahn_code.specs.inner.Tapped.{Tapped, regrown_tap}
-use Rattle.kahn_pool.specs.HeldRuns.{seen_of}
-use Rattle.kahn_pool.specs.inner.Workbench.{HasTakenIn, IsLaid, IsSeated, Table, gone_in, table_of, told_in}
+use Rattle.kahn_pool.proofs.Common.{length-map, Program, Input, Actual, Reads, Writes, Hands, network_of, instance_at, actual_at, role_at, writes, AreInputsExtended, Lists, inputs_of, HasPoured, given_of, next_at, place_at, taken_of, waiting_of, Waiting, Told, told_view, Tapped, regrown_tap, seen_of, HasTakenIn, IsLaid, IsSeated, Table, gone_in, table_of, told_in, count, reads}
+use Rattle.kahn_code.specs.Lines.{Lines as Queues}
 
 given_sum : (o : Option Waiting) → given_of o ≡ taken_of o + waiting_of o
 given_sum None = refl

@@ -1,23 +1,7 @@
 -- Taps over plain queues, one of which runs.
 use Rattle.std.proofs.Common.{arith, ◌≡◌, ◌⊎◌, inl, inr, ℕ, ◌<◌, ◌≤◌, List, [], ◌∷◌, ◌++◌, length, map, replicate, refl, sym, ap, ◌∙◌, subst, zero, suc, Option, Some, slice_get, slice_set, slice_index_or}
-use Rattle.std.proofs.Math.Seq.{map-set_same}
-use Rattle.std.proofs.lemmas.List.{get_or-set_other, length-map, map-set}
-use Rattle.std.proofs.lemmas.Bool.{cases_eq}
-use Rattle.std.proofs.lemmas.Option.{slice_get_read}
-use Rattle.kahn_streams.specs.declared.tree.Program.{Program}
-use Rattle.kahn_streams.specs.Network.{network_of}
-use Rattle.kahn_streams.specs.Inputs.{Lists}
-use Rattle.kahn_code.specs.inner.Gone.{Gone, kept_behind, nothing_gone}
-use Rattle.kahn_code.specs.inner.Tapped.{Tapped}
+use Rattle.kahn_pool.proofs.Common.{map-set_same, get_or-set_other, length-map, map-set, cases_eq, slice_get_read, Program, network_of, Lists, Gone, kept_behind, nothing_gone, Tapped, View, Told, Pause, Kept, HasRunCell, RunState, events_at, no_view, view_at, kept_lists, printed_list, AreKeptOf, AreLeft, AreWhole, IsLaid, IsLeft, HasWorked, Table, actual_count, gone_in, parameter_count, sight_of, table_of, told_in, IsSameRun, inputs_of}
 use Rattle.kahn_code.specs.Lines.{Lines as Queues}
-use Rattle.kahn_code.specs.Cells.{View}
-use Rattle.kahn_code.specs.Told.{Told}
-use Rattle.kahn_code.specs.declared.progress.Pause.{Pause}
-use Rattle.kahn_code.specs.declared.cell.Kept.{Kept}
-use Rattle.kahn_pool.specs.inner.Bench.{HasRunCell, RunState, events_at}
-use Rattle.kahn_pool.specs.inner.Gathered.{no_view, view_at}
-use Rattle.kahn_pool.specs.inner.Streams.{kept_lists, printed_list}
-use Rattle.kahn_pool.specs.inner.Workbench.{AreKeptOf, AreLeft, AreWhole, IsLaid, IsLeft, HasWorked, Table, actual_count, gone_in, parameter_count, sight_of, table_of, told_in}
 use Rattle.kahn_pool.proofs.Benched.{get_map, ran, viewed}
 
 -- ---- later states of a bench
@@ -30,6 +14,9 @@ worked_on h k = record {
   gone = k.gone ∙ h.gone;
   events = λ p. let a = h.events p in let b = k.events p in omega (arith, a, b);
 }
+
+pub same_run : {b d : Table} → HasWorked b d → IsSameRun (sight_of b) (sight_of d)
+same_run h = ((λ i. network_of (h.network i)), (λ i. inputs_of (h.input i)), h.watch)
 
 -- the events of an instance that ran, and of the others
 ran_events : (s t : RunState) (p quantum : ℕ) (z : Pause) → HasRunCell s t p quantum z → (o : ℕ) → events_at s o ≤ events_at t o

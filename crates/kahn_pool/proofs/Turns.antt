@@ -1,20 +1,14 @@
 -- Rounds over cells.
-use Rattle.std.proofs.Common.{arith, ◌≡◌, ◌⊎◌, inl, inr, ℕ, zero, suc, ◌+◌, ◌^◌, ◌<◌, ◌≤◌, List, [], ◌∷◌, ◌++◌, length, sum_by, refl, sym, ap, ◌∙◌, subst, Some, slice_get, slice_set, le_of_suc-le-suc, length-append, Bool, true, false, cond}
+use Rattle.std.proofs.Common.{arith, ◌≡◌, ◌⊎◌, inl, inr, ℕ, suc, ◌+◌, ◌^◌, ◌<◌, ◌≤◌, List, [], ◌∷◌, ◌++◌, length, sum_by, refl, sym, ap, ◌∙◌, subst, Some, slice_get, slice_set, length-append, Bool, true, false, cond}
+use Rattle.kahn_pool.proofs.Common.{Store, View, at_last, Pause, More, Reads, actual_at, instance_at, view_at, IsOutcomeOf, TookAll, Round, RunState, IsPaused, HasEndIn, events_at, view_events, all_events, weight, AreEnds, Goes, HasMoved, HasTakenTurn, HasRunCell, LacksMemory, Marked, PausedAt, no_view, Table, sight_of, sum_by-set, HasWorked}
 use Rattle.std.proofs.lemmas.List.{length-set}
-use Rattle.std.proofs.lemmas.List.Sums.{sum_by-cons}
-use Rattle.kahn_streams.specs.Script as script
-use Rattle.kahn_streams.specs.Meaning.{Store}
-use Rattle.kahn_code.specs.Cells.{View}
-use Rattle.kahn_code.proofs.Lists.{at_last}
 use Rattle.kahn_streams.specs.declared.answer.End.{End}
 use Rattle.kahn_streams.specs.declared.answer.Outcome.{Outcome}
-use Rattle.kahn_code.specs.declared.progress.Pause.{Pause}
+use Rattle.kahn_streams.specs.declared.answer.Outcome.TheVariants.{Waits}
+use Rattle.kahn_pool.proofs.Tapping.{worked_on}
+use Rattle.kahn_pool.proofs.Lists.{one_of_sum}
+use Rattle.kahn_streams.specs.Script as script
 use Rattle.kahn_code.specs.declared.progress.Pause.TheVariants as pause
-use Rattle.kahn_streams.specs.declared.answer.Outcome.TheVariants.{More, Waits}
-use Rattle.kahn_streams.specs.Network.{Reads, actual_at, instance_at}
-use Rattle.kahn_pool.specs.inner.Gathered.{view_at, IsOutcomeOf, TookAll}
-use Rattle.kahn_pool.specs.declared.rounds.Round.{Round}
-use Rattle.kahn_pool.specs.inner.Bench.{RunState, IsPaused, HasEndIn, events_at, view_events, all_events, weight, AreEnds, Goes, HasMoved, HasTakenTurn, HasRunCell, LacksMemory, Marked, PausedAt}
 
 -- a pause and an outcome that say the same
 pub told_as : (s : RunState) (p : ℕ) (o : script.Outcome Store) (z z' : Pause) (x x' : Outcome) → z ≡ z' → x ≡ x' →
@@ -28,54 +22,31 @@ told_dry s p o q c r h = (q, r, h.2, subst (TookAll s.network s.input s.cells p 
     same_channel : {c d : ℕ} → Reads c ≡ Reads d → c ≡ d
     same_channel e = cc
 
--- ---- sums
-
-sum_set : (cs : List View) (p : ℕ) (v : View) → p < length cs →
-    sum_by view_events (slice_set cs p v) + (view_at cs p).events ≡ sum_by view_events cs + v.events
-sum_set [] p v l = absurd (omega (arith, l))
-sum_set (c ∷ cs) zero v l =
-    let a : sum_by view_events (v ∷ cs) ≡ v.events + sum_by view_events cs = sum_by-cons view_events v cs in
-    let b : sum_by view_events (c ∷ cs) ≡ c.events + sum_by view_events cs = sum_by-cons view_events c cs in
-    let t : sum_by view_events (v ∷ cs) + c.events ≡ sum_by view_events (c ∷ cs) + v.events = omega (arith, a, b) in
-    t
-sum_set (c ∷ cs) (suc p) v l =
-    let r : sum_by view_events (slice_set cs p v) + (view_at cs p).events ≡ sum_by view_events cs + v.events =
-    sum_set cs p v (le_of_suc-le-suc l)
-    in
-    let a : sum_by view_events (c ∷ slice_set cs p v) ≡ c.events + sum_by view_events (slice_set cs p v) = sum_by-cons view_events c (slice_set cs p v) in
-    let b : sum_by view_events (c ∷ cs) ≡ c.events + sum_by view_events cs = sum_by-cons view_events c cs in
-    let t : sum_by view_events (c ∷ slice_set cs p v) + (view_at cs p).events ≡ sum_by view_events (c ∷ cs) + v.events =
-    omega (arith, a, b, r)
-    in
-    t
-
--- one instance did no more than all
-pub at_most_all : (cs : List View) (p : ℕ) → (view_at cs p).events ≤ sum_by view_events cs
-at_most_all [] p = omega arith
-at_most_all (c ∷ cs) zero =
-    let b : sum_by view_events (c ∷ cs) ≡ c.events + sum_by view_events cs = sum_by-cons view_events c cs in
-    let t : c.events ≤ sum_by view_events (c ∷ cs) = omega (arith, b) in
-    t
-at_most_all (c ∷ cs) (suc p) =
-    let b : sum_by view_events (c ∷ cs) ≡ c.events + sum_by view_events cs = sum_by-cons view_events c cs in
-    let r : (view_at cs p).events ≤ sum_by view_events cs = at_most_all cs p in
-    let t : (view_at cs p).events ≤ sum_by view_events (c ∷ cs) = omega (arith, b, r) in
-    t
+-- ---- events
 
 pub run_bound : (cs : List View) (p left quantum : ℕ) (b : Bool) → sum_by view_events cs + left < 2 ^ 48 → quantum ≤ cond b 0 left → (view_at cs p).events + quantum < 2 ^ 48
-run_bound cs p left quantum true h most = let r = at_most_all cs p in omega (arith, h, most, r)
-run_bound cs p left quantum false h most = let r = at_most_all cs p in omega (arith, h, most, r)
+run_bound cs p left quantum true h most = let r = one_of_sum view_events cs p no_view refl in omega (arith, h, most, r)
+run_bound cs p left quantum false h most = let r = one_of_sum view_events cs p no_view refl in omega (arith, h, most, r)
 
 -- ---- one instance more
 
-module _ (s s' : RunState) (r r' : Round) (p : ℕ) (z : Pause) (here : p < length s.cells) (v : HasTakenTurn s s' r r' p z) where
-  known_on : length s.cells ≡ length s.network.instances → length s'.cells ≡ length s'.network.instances
-  known_on k = ap length v.ran.only ∙ (length-set s.cells p (view_at s'.cells p) ∙ (k ∙ ap (λ n. length n.instances) (sym v.ran.same.0)))
+module _ {b d : Table} {r r' : Round} {p : ℕ} {z : Pause} (within : p < length (sight_of b).network.instances) (v : HasTakenTurn b d r r' p z) where
+  abbrev s : RunState
+  s = sight_of b
+
+  abbrev s' : RunState
+  s' = sight_of d
+
+  long : length s'.cells ≡ length s.cells
+  long = ap length v.ran.only ∙ length-set s.cells p (view_at s'.cells p)
+
+  here : p < length s.cells
+  here = let k = sym long ∙ v.ran.known ∙ ap (λ n. length n.instances) v.ran.same.0 in omega (arith, k, within)
 
   total_on : all_events s' + r'.left ≡ all_events s + r.left
   total_on =
       let a : all_events s' ≡ sum_by view_events (slice_set s.cells p (view_at s'.cells p)) = ap (λ l. sum_by view_events l) v.ran.only in
-      let b = sum_set s.cells p (view_at s'.cells p) here in
+      let b = sum_by-set view_events s.cells p (view_at s'.cells p) no_view here in
       let c = v.counts in
       let l = v.left in
       omega (arith, a, b, c, l)
@@ -91,18 +62,19 @@ module _ (s s' : RunState) (r r' : Round) (p : ℕ) (z : Pause) (here : p < leng
   lacks_on : LacksMemory s r.left r.memory → LacksMemory s' r'.left r'.memory
   lacks_on before m = by v.marked
     where
-      within : (b : Bool) → v.quantum ≤ cond b 0 r.left → v.quantum ≤ r.left
-      within true h = omega (arith, h)
-      within false h = h
+      at_most : (b : Bool) → v.quantum ≤ cond b 0 r.left → v.quantum ≤ r.left
+      at_most true h = omega (arith, h)
+      at_most false h = h
 
       by : Marked z v.done r.memory r.moved r'.memory r'.moved → (0 < r'.left) × ((k : ℕ) × (k < length s'.cells) × PausedAt s' k pause.NoMemory)
       by (inl h) =
           let w = v.ran.wanted h.0 in
-          let q = within r.memory v.most in
+          let q = at_most r.memory v.most in
           let c = v.counts in
           let l = v.left in
-          let long : length s'.cells ≡ length s.cells = ap length v.ran.only ∙ length-set s.cells p (view_at s'.cells p) in
-          (omega (arith, w, q, c, l), (p, omega (arith, here, long), subst (PausedAt s' p) h.0 v.ran.paused))
+          let m = long in
+          let k = here in
+          (omega (arith, w, q, c, l), (p, omega (arith, k, m), subst (PausedAt s' p) h.0 v.ran.paused))
       by (inr h) =
           let was : r.memory ≡ true = sym h.1 ∙ m in
           let none : v.quantum ≤ 0 = subst (λ b. v.quantum ≤ cond b 0 r.left) was v.most in
@@ -115,13 +87,14 @@ module _ (s s' : RunState) (r r' : Round) (p : ℕ) (z : Pause) (here : p < leng
           (subst (λ n. 0 < n) (sym same_left) old.0, subst (λ z. (k : ℕ) × (k < length z.cells) × PausedAt z k pause.NoMemory) (sym same_state) old.1)
 
   -- a visit more of those that may go on
-  pub moves_on : (s0 : RunState) (left : ℕ) (memory : Bool) → HasMoved s0 s left memory r.left r.memory → HasMoved s0 s' left memory r'.left r'.memory
-  moves_on s0 left memory h = record {
-    same = (v.ran.same.0 ∙ h.same.0, v.ran.same.1 ∙ h.same.1, v.ran.same.2 ∙ h.same.2);
-    known = known_on h.known;
+  pub moves_on : {b0 : Table} {r0 : Round} → HasMoved b0 b r0 r → HasMoved b0 d r0 r'
+  moves_on h = record {
+    worked = worked_on h.worked v.worked;
     total = total_on ∙ h.total;
     lighter = let a = lighter_on in let b = h.lighter in omega (arith, a, b);
     lacks = λ f. lacks_on (h.lacks f);
+    ends = v.ends ∙ h.ends;
+    share = v.share ∙ h.share;
   }
 
   module _ (x : End) (rests : HasEndIn s' p x) (more : x.outcome ≡ More → (z ≡ pause.Spent) ⊎ (z ≡ pause.NoMemory)) (s0 : RunState) (w0 t0 : ℕ) (go : Goes s0 w0 t0 s r.left r.memory r.moved r.ends.items p) where
@@ -132,10 +105,7 @@ module _ (s s' : RunState) (r r' : Round) (p : ℕ) (z : Pause) (here : p < leng
     goes_moved : r'.moved ≡ true → weight r'.left r'.memory < weight r.left r.memory → Goes s0 w0 t0 s' r'.left r'.memory r'.moved (r.ends.items ++ x ∷ []) (suc p)
     goes_moved m l =
         record {
-          network = v.ran.same.0 ∙ go.network;
-          input = v.ran.same.1 ∙ go.input;
-          watch = v.ran.same.2 ∙ go.watch;
-          known = known_on go.known;
+          known = v.ran.known;
           total = total_on ∙ go.total;
           size = size;
           still = λ f. absurd (let g : true ≡ false = sym m ∙ f in cc);
@@ -149,10 +119,7 @@ module _ (s s' : RunState) (r r' : Round) (p : ℕ) (z : Pause) (here : p < leng
         Goes s0 w0 t0 s' r'.left r'.memory r'.moved (r.ends.items ++ x ∷ []) (suc p)
     goes_still d never m u =
         record {
-          network = v.ran.same.0 ∙ go.network;
-          input = v.ran.same.1 ∙ go.input;
-          watch = v.ran.same.2 ∙ go.watch;
-          known = known_on go.known;
+          known = v.ran.known;
           total = total_on ∙ go.total;
           size = size;
           still = λ f. still (sym u ∙ f);
@@ -213,17 +180,25 @@ module _ (s s' : RunState) (r r' : Round) (p : ℕ) (z : Pause) (here : p < leng
         by (inr (never, m, inr h)) = goes_still h.0 never m h.1
 
 -- those that were visited, and then more
-pub moved_on : (s0 s t : RunState) (l l' l'' : ℕ) (m m' m'' : Bool) → HasMoved s0 s l m l' m' → HasMoved s t l' m' l'' m'' → HasMoved s0 t l m l'' m''
-moved_on s0 s t l l' l'' m m' m'' a b = record {
-  same = (b.same.0 ∙ a.same.0, b.same.1 ∙ a.same.1, b.same.2 ∙ a.same.2);
-  known = b.known;
-  total = b.total ∙ a.total;
-  lighter = let f = a.lighter in let g = b.lighter in omega (arith, f, g);
-  lacks = λ h. b.lacks (a.lacks h);
+pub moved_on : {a b d : Table} {q r r' : Round} → HasMoved a b q r → HasMoved b d r r' → HasMoved a d q r'
+moved_on h k = record {
+  worked = worked_on h.worked k.worked;
+  total = k.total ∙ h.total;
+  lighter = let f = h.lighter in let g = k.lighter in omega (arith, f, g);
+  lacks = λ f. k.lacks (h.lacks f);
+  ends = k.ends ∙ h.ends;
+  share = k.share ∙ h.share;
 }
 
-pub moved_none : (s t : RunState) (l : ℕ) (m : Bool) → t ≡ s → length s.cells ≡ length s.network.instances → HasMoved s t l m l m
-moved_none s t l m e k = subst (λ u. HasMoved s u l m l m) (sym e) (record { same = (refl, refl, refl); known = k; total = refl; lighter = omega arith; lacks = λ h. h })
+pub moved_none : {b d : Table} (r : Round) → HasWorked b d → sight_of d ≡ sight_of b → HasMoved b d r r
+moved_none r w e = record {
+  worked = w;
+  total = ap (λ s. all_events s + r.left) e;
+  lighter = omega arith;
+  lacks = subst (λ s. LacksMemory s r.left r.memory) (sym e);
+  ends = refl;
+  share = refl;
+}
 
 -- an instance that was asked how it stands
 pub asked : (s t : RunState) (p : ℕ) (z : Pause) → HasRunCell s t p 0 z → t ≡ s

@@ -1,17 +1,10 @@
 -- Finished answers say the same.
 use Rattle.std.proofs.Common.{arith, ◌≡◌, ℕ, zero, suc, List, [], ◌∷◌, length, map, sum_by, refl, sym, ap, ◌∙◌, subst, Option, Some, slice_get}
-use Rattle.kahn_streams.specs.declared.value.Line.{Line}
-use Rattle.kahn_streams.specs.Solution as net
-use Rattle.kahn_streams.specs.Network.{Network, Actual, Reads, Writes, Hands, instance_at, actual_at}
-use Rattle.kahn_streams.specs.Solution.{Inputs, HasEnd, IsWhole, Ending}
-use Rattle.kahn_streams.proofs.Finished.{determined}
-use Rattle.kahn_streams.specs.declared.answer.Answer.{Answer}
-use Rattle.kahn_streams.specs.declared.answer.Stream.{Stream}
+use Rattle.kahn_pool.proofs.Common.{Line, Network, Actual, Reads, Writes, Hands, instance_at, actual_at, Inputs, HasEnd, IsWhole, Ending, determined, Answer, Stream, Finished, Ended, Faulted, More, IsRight, IsEnd, AreOne, stream_line, values_of, end_events}
 use Rattle.kahn_streams.specs.declared.answer.End.{End}
-use Rattle.kahn_streams.specs.declared.answer.Verdict.TheVariants.{Finished}
 use Rattle.kahn_streams.specs.declared.answer.Outcome.{Outcome}
-use Rattle.kahn_streams.specs.declared.answer.Outcome.TheVariants.{Ended, Waits, Faulted, More}
-use Rattle.kahn_streams.specs.Answers.{IsRight, IsEnd, AreOne, stream_line, values_of, end_events}
+use Rattle.kahn_streams.specs.declared.answer.Outcome.TheVariants.{Waits}
+use Rattle.kahn_streams.specs.Solution as net
 
 -- the channel of a parameter
 channel_of : Actual → ℕ

@@ -1,13 +1,7 @@
 -- Believed. A run that is held between its parts: what contracts see of it, and what its calls make of it (this project's profile).
 use Rattle.std.specs.Prelude.{◌≡◌, ◌⊎◌, ℕ, suc, ◌+◌, ◌<◌, ◌≤◌, ◌^◌, true, List, [], ◌∷◌, map, sum_by, Option, Some, None, slice_get, slice_index_or, if◌then◌else◌}
-use Rattle.kahn_streams.specs.declared.tree.Program.{Program}
-use Rattle.kahn_streams.specs.declared.value.Value.{Value}
-use Rattle.kahn_streams.specs.declared.value.Line.{Line}
-use Rattle.kahn_streams.specs.declared.feeds.FeedFault.{FeedFault}
-use Rattle.kahn_streams.specs.declared.config.Config.{Config}
+use Rattle.kahn_streams.specs.declared.{tree.Program.Program, value.Value.Value, value.Line.Line, feeds.FeedFault.FeedFault, config.Config.Config, token.Token.Token, value.Line.TheVariants.Channel, value.Line.TheVariants.Print, answer.Answer.Answer, answer.End.End, answer.Stream.Stream, answer.Verdict.Verdict, answer.Verdict.TheVariants.Finished, fault.RunFault.RunFault}
 use Rattle.kahn_streams.specs.Network.{Network, Actual, Source, Given, Written, Nobody, Writes, network_of, instance_at, actual_at, is_written}
-use Rattle.kahn_streams.specs.declared.token.Token.{Token}
-use Rattle.kahn_streams.specs.declared.value.Line.TheVariants.{Channel, Print}
 use Rattle.kahn_streams.specs.Inputs.{Entry, Lists, inputs_of}
 use Rattle.kahn_streams.specs.Feeds.{IsEntryFed, IsUnwelcome}
 use Rattle.kahn_streams.specs.Solution.{AreInputsExtended, Inputs, IsPrefix, IsWhole, source}
@@ -15,12 +9,6 @@ use Rattle.kahn_code.specs.Cells.{is_streamed}
 use Rattle.kahn_streams.specs.Tokens.{token_value}
 use Rattle.kahn_code.specs.Told.{Told}
 use Rattle.kahn_streams.specs.Answers.{Settles, AreRight, IsRight, HasStream, HasEndAt, stream_lines, values_of, IsAllowed, IsUndeclared, IsWatched}
-use Rattle.kahn_streams.specs.declared.answer.Answer.{Answer}
-use Rattle.kahn_streams.specs.declared.answer.End.{End}
-use Rattle.kahn_streams.specs.declared.answer.Stream.{Stream}
-use Rattle.kahn_streams.specs.declared.answer.Verdict.{Verdict}
-use Rattle.kahn_streams.specs.declared.answer.Verdict.TheVariants.{Finished}
-use Rattle.kahn_streams.specs.declared.fault.RunFault.{RunFault}
 use Rattle.kahn_streams.specs.declared.fault.RunFault.TheVariants as fault
 use Rattle.kahn_pool.specs.declared.held_fault.HeldFault.{HeldFault}
 use Rattle.kahn_pool.specs.declared.held_fault.HeldFault.TheVariants as held

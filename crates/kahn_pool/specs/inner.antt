@@ -1,10 +1,8 @@
 pub mod Bench
-pub mod Concluded
+pub mod Changed
 pub mod FlowBench
 pub mod Gathered
-pub mod Gathers
 pub mod Holding
-pub mod Parameters
 pub mod Rested
 pub mod Streams
 pub mod Workbench

@@ -4,14 +4,16 @@ ghost use Rattle.kahn_streams.specs.Network.{Reads, network_of, instance_at, act
 ghost use Rattle.kahn_streams.specs.Inputs.{Lists, inputs_of};
 ghost use Rattle.kahn_code.specs.Lines.{AreQueued, IsPoured};
 ghost use Rattle.kahn_code.specs.Standing.{tokens};
-ghost use Rattle.kahn_code.specs.inner.Tapped.{Tapped};
+ghost use Rattle.kahn_code.specs.inner.Tapped.{HasForgotten, Tapped};
 ghost use Rattle.kahn_streams.specs.declared.tree.Role.TheVariants.{Input as InputRole};
 ghost use Rattle.kahn_pool.specs.inner.Bench.{HasRunCell, all_events, events_at};
+ghost use Rattle.kahn_pool.specs.inner.Changed.{HaveChanged};
 ghost use Rattle.kahn_pool.specs.inner.Gathered.{TookNoMore};
-ghost use Rattle.kahn_pool.specs.inner.Workbench.{AllStandBy, AreOpeningCells, AreWhole, HasEmptied, HasFresh, HasFreshPrints, HasTakenIn, HasWorked, HaveForgotten, IsCrowded, IsLaid, IsNextPlace, StandsAsTold, gone_in, sight_of, table_of, told_in};
+ghost use Rattle.kahn_pool.specs.inner.Workbench.{AllStandBy, AreOpeningCells, AreWhole, HasEmptied, HasFresh, HasFreshPrints, HasTakenIn, HasWorked, IsCrowded, IsLaid, IsNextPlace, StandsAsTold, gone_in, sight_of, table_of, told_in};
 ghost use Rattle.std.specs.Prelude.{◌≡◌, ◌<◌, ◌+◌, ◌++◌, ◌^◌, ℕ, Some, length, map, slice_get, IfOk, IfErr, IfSome, MatchOption, SomeIff};
 
 use crate::awake::Awake;
+use crate::ends::channel_read;
 use crate::looks::Looks;
 use kahn_code::{Code, CodeFault, Pause, Plain, Steps, Tap, compile, regrow_taps};
 use kahn_streams::{About, Carried, Input, MOST_BOUND, Network, NoMemory, Outcome, Value};
@@ -87,7 +89,7 @@ fn opening_taps(
 
 // All taps let go of what they keep.
 fn forget_all(taps: &mut Vec<Tap>)
-    ensures { HaveForgotten taps.old.items taps.new.items }
+    ensures { HaveChanged HasForgotten taps.old.items taps.new.items }
 {
     for instance in 0..taps.len() {
         taps[instance].forget();
@@ -196,12 +198,9 @@ impl<'n> Bench<'n> {
     /// The channel that a parameter reads.
     pub(crate) fn channel(&self, instance: usize, parameter: usize) -> usize
         requires { (c : ℕ) × (actual_at (instance_at (sight_of self.now).network instance) parameter ≡ Reads c) }
-        ensures { (c : ℕ) → actual_at (instance_at (sight_of self.now).network instance) parameter ≡ Reads c → result ≡ c }
+        ensures { actual_at (instance_at (sight_of self.now).network instance) parameter ≡ Reads result }
     {
-        match self.code.channel(instance, parameter) {
-            Some(channel) => channel,
-            None => unreachable!(),
-        }
+        channel_read(&self.code, instance, parameter)
     }
 
     /// Remembers a visit of so many events, for `is_wide`.

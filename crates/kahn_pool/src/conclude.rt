@@ -27,8 +27,8 @@ pub(crate) struct Conclusion {
     pub(crate) verdict: Verdict,
 }
 
-/// The jobs, the ends and the verdict of a run that is over: `Memory` exactly where it was halted. The lists that are given
-/// have room for the jobs and for the ends. It takes no memory.
+/// The jobs, the ends and the verdict of a run that is over: `Memory` exactly where it was halted, which it was only where
+/// memory was refused to a worker. The lists that are given have room for the jobs and for the ends. It takes no memory.
 pub(crate) fn conclude<L: Ledger>(
     part: &Part<'_>,
     mut left: Left,
@@ -38,15 +38,17 @@ pub(crate) fn conclude<L: Ledger>(
 ) -> Conclusion
     requires left { HaveAllLeft part.now left }
     requires over { IsOver part.now.network.now part.now.input.now left.tasks.items left.budget left.halted }
+    requires cause { left.halted ≡ true → left.wanted ≡ true }
     requires idles { (idles.items ≡ []) × (length (network_of part.now.network.now).instances ≤ vec_capacity idles) }
     requires ends { length (network_of part.now.network.now).instances ≤ vec_capacity ends }
     ensures concluded { IsConclusion part.now left.halted result }
     ensures cells { cells_of result.idles.items ≡ map cell_of left.tasks.items }
     ensures verdict { result.verdict ≡ verdict.Memory ↔ left.halted ≡ true }
+    ensures memory { result.verdict ≡ verdict.Memory → left.wanted ≡ true }
 {
     let _program = part.network.program();
     settle_all(&mut left.tasks, part.code, part.network, part.input, steps);
-    let ends = ends_of(part.network, part.input, &left.tasks, ends);
+    let ends = ends_of(part.network, part.input, part.code, &left.tasks, ends);
     let verdict = verdict_of(left.halted, &ends);
     let idles = rest_all(left.tasks, idles);
     Conclusion {

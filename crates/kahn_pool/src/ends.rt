@@ -1,45 +1,25 @@
 //! The ends of all instances, from where their tasks stand.
 
-ghost use Rattle.std.specs.Prelude.{◌≡◌, ◌↔◌, ℕ, ◌<◌, ◌≤◌, length, Some, IfSome, IfNone, IsTrue, slice_get, vec_capacity};
+ghost use Rattle.std.specs.Prelude.{◌≡◌, ℕ, ◌<◌, ◌≤◌, length, Some, slice_get, vec_capacity};
 ghost use Rattle.kahn_streams.specs.Network.{network_of, instance_at, actual_at, Reads};
 ghost use Rattle.kahn_crew.specs.inner.Left.{AreAll};
 ghost use Rattle.kahn_job.specs.inner.Tasks.{Tasked};
 ghost use Rattle.kahn_pool.specs.inner.Rested.{AreEndsOfTasks, AreTold, IsDryOf, IsEndOf, IsToldAs};
 ghost use Rattle.kahn_job.specs.declared.standing.Standing.TheVariants as standing;
 
+use kahn_code::Code;
 use kahn_job::{Standing, Task};
-use kahn_streams::{End, Input, Network, Outcome, Side};
+use kahn_streams::{End, Input, Network, Outcome};
 
-// Whether it is this parameter of this instance.
-fn is_side(side: Side, instance: usize, parameter: usize) -> bool
-    ensures { IsTrue result ↔ ((side.instance ≡ instance) × (side.parameter ≡ parameter)) }
+/// The channel that a parameter reads.
+pub(crate) fn channel_read(code: &Code, instance: usize, parameter: usize) -> usize
+    requires { (c : ℕ) × (actual_at (instance_at (network_of code.now.network.value) instance) parameter ≡ Reads c) }
+    ensures { actual_at (instance_at (network_of code.now.network.value) instance) parameter ≡ Reads result }
 {
-    side.instance == instance && side.parameter == parameter
-}
-
-// Whether a parameter reads a channel.
-fn does_read(network: &Network, channel: usize, instance: usize, parameter: usize) -> bool
-    requires { channel < length (network_of network.now).channels }
-    ensures { IsTrue result ↔ (actual_at (instance_at (network_of network.now) instance) parameter ≡ Reads channel) }
-{
-    match network.reader(channel) {
-        Some(side) => is_side(side, instance, parameter),
-        None => false,
+    match code.channel(instance, parameter) {
+        Some(channel) => channel,
+        None => unreachable!(),
     }
-}
-
-// The channel that a parameter reads.
-fn channel_read(network: &Network, instance: usize, parameter: usize) -> Option<usize>
-    ensures some { IfSome result (λ c. actual_at (instance_at (network_of network.now) instance) parameter ≡ Reads c) }
-    ensures none { IfNone result ((c : ℕ) → actual_at (instance_at (network_of network.now) instance) parameter ≡ Reads c → ⊥) }
-{
-    let _program = network.program();
-    for channel in 0..network.channels() {
-        if does_read(network, channel, instance, parameter) {
-            return Some(channel);
-        }
-    }
-    None
 }
 
 // How many tokens were given to a channel: its writer sent them, or the input has them.
@@ -63,33 +43,32 @@ fn given(network: &Network, input: &Input, tasks: &[Task], channel: usize) -> u6
 fn dry_outcome(
     network: &Network,
     input: &Input,
+    code: &Code,
     tasks: &[Task],
     instance: usize,
     parameter: usize,
 ) -> Outcome
+    requires code { code.now.network.value ≡ network.now }
     requires here { instance < length tasks.now }
     requires told { AreTold network.now tasks.now }
     requires reads { IsDryOf network.now instance parameter }
     ensures { (x : Tasked) → slice_get tasks.now instance ≡ Some x → x.standing ≡ standing.Dry parameter → IsToldAs network.now input.now tasks.now x result }
 {
-    match channel_read(network, instance, parameter) {
-        Some(channel) => {
-            let task = &tasks[instance];
-            let _program = network.program();
-            let _parameters = task.parameters();
-            let taken = task.taken(parameter);
-            if taken == given(network, input, tasks, channel) {
-                Outcome::Waits(channel)
-            } else {
-                Outcome::More
-            }
-        }
-        None => unreachable!(),
+    let channel = channel_read(code, instance, parameter);
+    let task = &tasks[instance];
+    let _program = network.program();
+    let _parameters = task.parameters();
+    let taken = task.taken(parameter);
+    if taken == given(network, input, tasks, channel) {
+        Outcome::Waits(channel)
+    } else {
+        Outcome::More
     }
 }
 
 // The end of an instance.
-fn end_of(network: &Network, input: &Input, tasks: &[Task], instance: usize) -> End
+fn end_of(network: &Network, input: &Input, code: &Code, tasks: &[Task], instance: usize) -> End
+    requires code { code.now.network.value ≡ network.now }
     requires here { instance < length tasks.now }
     requires told { AreTold network.now tasks.now }
     ensures { (x : Tasked) → slice_get tasks.now instance ≡ Some x → IsEndOf network.now input.now tasks.now x result }
@@ -99,7 +78,9 @@ fn end_of(network: &Network, input: &Input, tasks: &[Task], instance: usize) -> 
         Standing::Going => Outcome::More,
         Standing::Ended => Outcome::Ended,
         Standing::Faulted(failure) => Outcome::Faulted(failure),
-        Standing::Dry(parameter) => dry_outcome(network, input, tasks, instance, parameter),
+        Standing::Dry(parameter) => {
+            dry_outcome(network, input, code, tasks, instance, parameter)
+        },
     };
     End {
         outcome,
@@ -108,14 +89,21 @@ fn end_of(network: &Network, input: &Input, tasks: &[Task], instance: usize) -> 
 }
 
 /// The ends of all instances. The list that is given has room for all.
-pub fn ends_of(network: &Network, input: &Input, tasks: &[Task], mut ends: Vec<End>) -> Vec<End>
+pub(crate) fn ends_of(
+    network: &Network,
+    input: &Input,
+    code: &Code,
+    tasks: &[Task],
+    mut ends: Vec<End>,
+) -> Vec<End>
+    requires code { code.now.network.value ≡ network.now }
     requires told { AreTold network.now tasks.now }
     requires room { length tasks.now ≤ vec_capacity ends }
     ensures { AreEndsOfTasks network.now input.now tasks.now result.items (length tasks.now) }
 {
     ends.clear();
     for instance in 0..tasks.len() {
-        ends.push_reserved(end_of(network, input, tasks, instance));
+        ends.push_reserved(end_of(network, input, code, tasks, instance));
     }
     ends
 }

@@ -9,7 +9,6 @@ ghost use Rattle.kahn_streams.specs.declared.answer.Verdict.{Verdict as VerdictO
 
 use crate::copies::{copied_ends, copied_streams};
 use crate::held_fault::HeldFault;
-use crate::laws;
 use crate::part::{Part, PartRoom, first_idles, run_part};
 use crate::plan::plan_of;
 use crate::running::watched;
@@ -261,7 +260,6 @@ impl<'n> Held<'n> {
             &self.idles,
         )?;
         let ends = copied_ends(self.alloc, &self.ends)?;
-        laws::assembled();
         Ok(Answer {
             verdict,
             streams,

@@ -5,25 +5,12 @@ ghost use Rattle.kahn_streams.specs.Wiring.{IsWellWired};
 ghost use Rattle.kahn_streams.specs.Solution.{HasSize, Inputs};
 ghost use Rattle.kahn_streams.specs.declared.value.Line.{Line};
 ghost use Rattle.kahn_streams.specs.declared.value.Value.{Value};
-ghost use Rattle.kahn_code.specs.Cells.{StoodBy, View};
-ghost use Rattle.kahn_pool.specs.inner.Gathered.{IsGathered, Stood};
 ghost use Rattle.kahn_streams.specs.Answers.{AreBegun, Settles, AreOne, IsRight};
 ghost use Rattle.kahn_pool.specs.HeldRuns.{AreCalls, GoesOn, HasFinished, HeldRun, IsAnswerOf, SaysNoLess, last_of};
-ghost use Rattle.kahn_pool.specs.inner.Parameters.{ReadsOnce};
 ghost use Rattle.kahn_streams.specs.declared.answer.Answer.{Answer};
 ghost use Rattle.kahn_streams.specs.declared.answer.Verdict.{Verdict};
 ghost use Rattle.kahn_streams.specs.declared.answer.Verdict.TheVariants.{Finished, Memory};
 ghost use Rattle.std.specs.Prelude.{◌≡◌, ◌≢◌, ℕ, List, Option};
-
-/// What a cell says by the numbers of its parameters says the same by channels.
-pub fn by_channel()
-    ensures { (N : Network) (I : Inputs) (watch : Option ℕ) (p : ℕ) (c : View) → ReadsOnce N p → StoodBy N I watch p c → Stood N I watch p c }
-{}
-
-/// An answer put together from cells at rest is right.
-pub fn assembled()
-    ensures { (N : Network) (I : Inputs) (bound : ℕ) (watch : Option ℕ) (a : Answer) → IsGathered N I bound watch a → IsRight N I bound watch a }
-{}
 
 /// Finished answers for one network, input and watch say the same, whatever their bounds.
 pub fn finished_is_one()

@@ -7,7 +7,6 @@ mod conclude;
 mod copies;
 mod ends;
 mod flow;
-mod gather;
 mod held;
 mod held_fault;
 mod laws;
@@ -40,4 +39,3 @@ pub use running::run;
 
 // For the crates above.
 pub use flow::Flow;
-pub use laws::{assembled, by_channel};

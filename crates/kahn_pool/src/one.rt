@@ -10,7 +10,7 @@ use crate::laws;
 use crate::rounds::run_bench;
 use crate::workbench::Workbench;
 use kahn_code::{CodeFault, Steps};
-use kahn_crew::{Gate, Open};
+use kahn_crew::{Gate, Open, Plan};
 use kahn_streams::{Answer, Input, MOST_BOUND, Network, RunFault};
 use std::alloc::Global;
 use std::marker::Brand;
@@ -26,55 +26,42 @@ fn run_opened<G: Gate, L: Ledger>(
     gate: &G,
     network: &Network,
     input: &Input,
-    watch: Option<usize>,
-    quantum: u64,
-    bound: u64,
+    plan: Plan,
     may_leave: bool,
 ) -> Result<Option<Answer>, CodeFault>
-    requires quantum { 0 < quantum }
+    requires quantum { 0 < plan.quantum }
     requires name { blank.name ≡ L.name }
     requires parts { blank.parts ≡ L.parts }
     requires some { 0 < blank.parts }
-    requires bound { bound < 2 ^ 48 }
-    ensures right { IfOk result (λ a. MatchOption a (may_leave ≡ true) (IsRight (network_of network.now) (inputs_of input.now) bound watch)) }
-    ensures short { IfOk result (λ a. IfSome a (IsCutShort bound)) }
+    requires bound { plan.bound < 2 ^ 48 }
+    ensures right { IfOk result (λ a. MatchOption a (may_leave ≡ true) (IsRight (network_of network.now) (inputs_of input.now) plan.bound plan.watch)) }
+    ensures short { IfOk result (λ a. IfSome a (IsCutShort plan.bound)) }
 {
     let mut steps = Steps::<L>::open(blank);
     let ends = Vec::with_capacity(alloc, network.instances())?;
-    let bench = Workbench::new(alloc, network, input, watch)?;
+    let bench = Workbench::new(alloc, network, input, plan.watch)?;
+    let (quantum, bound) = (plan.quantum, plan.bound);
     Ok(run_bench(bench, &mut steps, gate, ends, quantum, bound, may_leave))
 }
 
 /// Runs a network on the caller's thread over plain queues, with a watched channel or none, each process for at most
-/// `quantum` events before the next one. Before each quantum the gate is entered. It answers nothing where the run may be left
+/// the quantum of events before the next one. Before each quantum the gate is entered. It answers nothing where the run may be left
 /// and there is work for several. It refuses only where memory was refused before the first event.
 pub(crate) fn run_alone<G: Gate>(
     alloc: Global,
     gate: &G,
     network: &Network,
     input: &Input,
-    watch: Option<usize>,
-    quantum: u64,
-    bound: u64,
+    plan: Plan,
     may_leave: bool,
 ) -> Result<Option<Answer>, CodeFault>
-    requires quantum { 0 < quantum }
+    requires quantum { 0 < plan.quantum }
     requires fits { length input.now ≡ length (network_of network.now).channels }
-    requires bound { bound < 2 ^ 48 }
-    ensures right { IfOk result (λ a. MatchOption a (may_leave ≡ true) (IsRight (network_of network.now) (inputs_of input.now) bound watch)) }
-    ensures short { IfOk result (λ a. IfSome a (IsCutShort bound)) }
+    requires bound { plan.bound < 2 ^ 48 }
+    ensures right { IfOk result (λ a. MatchOption a (may_leave ≡ true) (IsRight (network_of network.now) (inputs_of input.now) plan.bound plan.watch)) }
+    ensures short { IfOk result (λ a. IfSome a (IsCutShort plan.bound)) }
 {
-    run_opened::<G, Brand>(
-        alloc,
-        Blank::new(1),
-        gate,
-        network,
-        input,
-        watch,
-        quantum,
-        bound,
-        may_leave,
-    )
+    run_opened::<G, Brand>(alloc, Blank::new(1), gate, network, input, plan, may_leave)
 }
 
 /// The same to the end.
@@ -83,17 +70,15 @@ pub(crate) fn run_watched<G: Gate>(
     gate: &G,
     network: &Network,
     input: &Input,
-    watch: Option<usize>,
-    quantum: u64,
-    bound: u64,
+    plan: Plan,
 ) -> Result<Answer, CodeFault>
-    requires quantum { 0 < quantum }
+    requires quantum { 0 < plan.quantum }
     requires fits { length input.now ≡ length (network_of network.now).channels }
-    requires bound { bound < 2 ^ 48 }
-    ensures right { IfOk result (IsRight (network_of network.now) (inputs_of input.now) bound watch) }
-    ensures short { IfOk result (IsCutShort bound) }
+    requires bound { plan.bound < 2 ^ 48 }
+    ensures right { IfOk result (IsRight (network_of network.now) (inputs_of input.now) plan.bound plan.watch) }
+    ensures short { IfOk result (IsCutShort plan.bound) }
 {
-    match run_alone(alloc, gate, network, input, watch, quantum, bound, false)? {
+    match run_alone(alloc, gate, network, input, plan, false)? {
         Some(answer) => Ok(answer),
         None => unreachable!(),
     }
@@ -123,5 +108,11 @@ pub fn run_one(
         return Err(RunFault::BadConfig);
     }
     laws::finished_exactly();
-    Ok(run_watched(alloc, &Open, network, &input, None, QUANTUM, bound)?)
+    let plan = Plan {
+        watch: None,
+        workers: 1,
+        quantum: QUANTUM,
+        bound,
+    };
+    Ok(run_watched(alloc, &Open, network, &input, plan)?)
 }

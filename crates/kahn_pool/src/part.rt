@@ -4,7 +4,6 @@ ghost use Rattle.std.specs.Prelude.{◌≡◌, ℕ, ◌≤◌, ◌<◌, [], Err,
 ghost use Rattle.kahn_streams.specs.Network.{network_of};
 ghost use Rattle.kahn_job.specs.inner.Idles.{HaveSettled, cells_of, rows_of};
 ghost use Rattle.kahn_job.specs.inner.Settling.{AreResting, HaveStood};
-ghost use Rattle.kahn_job.specs.inner.Works.{Work};
 ghost use Rattle.kahn_pool.specs.inner.Holding.{AreHeld, AreHeldBy, HasStoppedPart, HaveAllLeft, IsHeldPart, IsPartOf, IsRoomFor};
 ghost use Rattle.kahn_pool.specs.inner.Rested.{cell_of};
 
@@ -74,8 +73,7 @@ fn first_counted<L: Ledger>(
     requires parts { blank.parts ≡ L.parts }
     requires some { 0 < blank.parts }
     requires code { code.now.network.value ≡ network.now }
-    ensures held { IfOk result (λ idles. (bound : ℕ) → AreHeld network.now input.now watch bound idles.items bound) }
-    ensures none { IfOk result (λ idles. (p : ℕ) (w : Work) → slice_get idles.items p ≡ Some w → w.cell.events ≡ 0) }
+    ensures { IfOk result (λ idles. (bound : ℕ) → AreHeld network.now input.now watch bound idles.items bound) }
 {
     let mut steps = Steps::<L>::open(blank);
     let room = Vec::with_capacity(alloc, network.instances())?;
@@ -94,8 +92,7 @@ pub(crate) fn first_idles(
     watch: Option<usize>,
 ) -> Result<Vec<Idle>, NoMemory>
     requires code { code.now.network.value ≡ network.now }
-    ensures held { IfOk result (λ idles. (bound : ℕ) → AreHeld network.now input.now watch bound idles.items bound) }
-    ensures none { IfOk result (λ idles. (p : ℕ) (w : Work) → slice_get idles.items p ≡ Some w → w.cell.events ≡ 0) }
+    ensures { IfOk result (λ idles. (bound : ℕ) → AreHeld network.now input.now watch bound idles.items bound) }
 {
     first_counted::<Brand>(alloc, Blank::new(1), network, input, code, watch)
 }
@@ -171,23 +168,6 @@ fn run_settled<R: Threads + Wait + Sync, G: Gate + Sync, L: Ledger>(
     }
 }
 
-// The same, with a ledger of its own.
-fn run_marked<R: Threads + Wait + Sync, G: Gate + Sync>(
-    rt: &R,
-    alloc: Global,
-    part: &Part<'_>,
-    idles: Vec<Idle>,
-    room: PartRoom,
-    gate: &G,
-) -> Stopped
-    requires part { IsHeldPart part.now idles.items }
-    requires settled { HaveSettled part.now.network.now part.now.input.now (rows_of idles.items) }
-    requires room { IsRoomFor (length (network_of part.now.network.now).instances) room }
-    ensures { HasStoppedPart part.now idles.items result }
-{
-    run_settled::<R, G, Brand>(rt, alloc, Blank::new(1), part, idles, room, gate)
-}
-
 // The jobs with the ends of their channels settled for the input, and whether all are. Where memory was refused each looks
 // the same to every call.
 fn settle_ends(
@@ -233,5 +213,5 @@ pub(crate) fn run_part<R: Threads + Wait + Sync, G: Gate + Sync>(
             outcome: Err(CrewFault::NoMemory),
         };
     }
-    run_marked(rt, alloc, part, idles, room, gate)
+    run_settled::<R, G, Brand>(rt, alloc, Blank::new(1), part, idles, room, gate)
 }

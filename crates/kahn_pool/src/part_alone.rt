@@ -41,7 +41,6 @@ fn run_counted<G: Gate, L: Ledger>(
     ensures worked { HasWorked bench.old bench.new }
 {
     let mut steps = Steps::<L>::open(blank);
-    let _count = bench.instance_count();
     let Some(last) = last_round(bench, &mut steps, gate, ends, quantum, bound, false) else {
         unreachable!()
     };

@@ -2,10 +2,10 @@
 //! most turns were in vain, those that may go on come one after another before the next round.
 
 ghost use Rattle.kahn_streams.specs.Solution.{source};
-ghost use Rattle.kahn_pool.specs.inner.Bench.{HasRunCell, PausedAt, HasEndIn, HasMoved, LacksMemory, HasTakenTurn, HasVisited, IsSameRun, Marked, AreEnds, IsLast, IsVerdict, AreStreams, events_at, all_events, turn_of};
+ghost use Rattle.kahn_pool.specs.inner.Bench.{HasRunCell, PausedAt, HasEndIn, LacksMemory, Marked, IsLast, IsVerdict, events_at, all_events, turn_of};
 ghost use Rattle.kahn_pool.specs.inner.Gathered.{IsFrom};
 ghost use Rattle.kahn_streams.specs.Answers.{IsCutShort, IsRight, stream_line, stream_lines};
-ghost use Rattle.kahn_pool.specs.inner.Workbench.{GoesIn, HasWorked, Table, sight_of};
+ghost use Rattle.kahn_pool.specs.inner.Workbench.{GoesIn, HasMoved, HasTakenTurn, HasVisited, HasWorked, Table, sight_of};
 ghost use Rattle.kahn_streams.specs.declared.answer.Outcome.TheVariants as outcome;
 ghost use Rattle.kahn_streams.specs.declared.answer.Stream.{Stream};
 ghost use Rattle.kahn_code.specs.declared.progress.Pause.TheVariants as pause;
@@ -13,7 +13,6 @@ ghost use Rattle.std.specs.Prelude.{vec_len, vec_capacity};
 ghost use Rattle.std.specs.Prelude.{◌≡◌, ◌⊎◌, ◌<◌, ◌≤◌, ◌+◌, ◌^◌, ℕ, Bool, suc, length, map, true, false, IsTrue, IsFalse, slice_get, Some, None, IfOk, IfSome, IsOk, MatchOption, cond};
 
 use crate::bench::Bench;
-use crate::laws;
 use crate::workbench::Workbench;
 use kahn_code::{Pause, Steps};
 use kahn_crew::Gate;
@@ -134,10 +133,7 @@ impl Round {
         requires here { instance < length (sight_of bench.old).network.instances }
         requires bound { all_events (sight_of bench.old) + self.old.left < 2 ^ 48 }
         requires share { 0 < self.old.share }
-        ensures gone { HasTakenTurn (sight_of bench.old) (sight_of bench.new) self.old self.new instance result }
-        ensures ends { self.new.ends ≡ self.old.ends }
-        ensures share { self.new.share ≡ self.old.share }
-        ensures worked { HasWorked bench.old bench.new }
+        ensures { HasTakenTurn bench.old bench.new self.old self.new instance result }
     {
         let before = bench.events(instance);
         let quantum = self.quantum();
@@ -160,10 +156,7 @@ impl Round {
         requires here { instance < length (sight_of bench.old).network.instances }
         requires bound { all_events (sight_of bench.old) + self.old.left < 2 ^ 48 }
         requires share { 0 < self.old.share }
-        ensures visited { HasVisited (sight_of bench.old) (sight_of bench.new) self.old self.new instance result }
-        ensures ends { self.new.ends ≡ self.old.ends }
-        ensures share { self.new.share ≡ self.old.share }
-        ensures worked { HasWorked bench.old bench.new }
+        ensures { HasVisited bench.old bench.new self.old self.new instance result }
     {
         let stopped = self.go(bench, steps, gate, instance);
         end_of(bench, instance, stopped)
@@ -178,13 +171,11 @@ impl Round {
         instance: usize,
     )
         requires here { instance < length (sight_of bench.old).network.instances }
-        requires known { length (sight_of bench.old).cells ≡ length (sight_of bench.old).network.instances }
         requires bound { all_events (sight_of bench.old) + self.old.left < 2 ^ 48 }
         requires room { vec_len self.old.ends < vec_capacity self.old.ends }
         requires share { 0 < self.old.share }
         ensures share { self.new.share ≡ self.old.share }
         ensures goes { (b : Table) (l : ℕ) (m : Bool) → GoesIn b l m bench.old self.old instance → GoesIn b l m bench.new self.new (suc instance) }
-        ensures same { IsSameRun (sight_of bench.old) (sight_of bench.new) }
         ensures size { vec_len self.new.ends ≡ vec_len self.old.ends + 1 }
         ensures room { vec_capacity self.new.ends ≡ vec_capacity self.old.ends }
         ensures worked { HasWorked bench.old bench.new }
@@ -201,12 +192,8 @@ impl Round {
         gate: &G,
     )
         requires bound { all_events (sight_of bench.old) + self.old.left < 2 ^ 48 }
-        requires known { length (sight_of bench.old).cells ≡ length (sight_of bench.old).network.instances }
         requires share { 0 < self.old.share }
-        ensures moved { HasMoved (sight_of bench.old) (sight_of bench.new) self.old.left self.old.memory self.new.left self.new.memory }
-        ensures ends { self.new.ends ≡ self.old.ends }
-        ensures share { self.new.share ≡ self.old.share }
-        ensures worked { HasWorked bench.old bench.new }
+        ensures { HasMoved bench.old bench.new self.old self.new }
     {
         let count = bench.instance_count();
         self.moved = false;
@@ -256,11 +243,7 @@ fn run_awake<L: Ledger, G: Gate>(
 ) -> Round
     requires share { 0 < last.share }
     requires bound { all_events (sight_of bench.old) + last.left < 2 ^ 48 }
-    requires known { length (sight_of bench.old).cells ≡ length (sight_of bench.old).network.instances }
-    ensures moved { HasMoved (sight_of bench.old) (sight_of bench.new) last.left last.memory result.left result.memory }
-    ensures ends { result.ends ≡ last.ends }
-    ensures share { result.share ≡ last.share }
-    ensures worked { HasWorked bench.old bench.new }
+    ensures { HasMoved bench.old bench.new last result }
 {
     ask_all(bench, steps);
     let mut round = last;
@@ -288,11 +271,7 @@ fn run_brief<L: Ledger, G: Gate>(
 ) -> Round
     requires share { 0 < last.share }
     requires bound { all_events (sight_of bench.old) + last.left < 2 ^ 48 }
-    requires known { length (sight_of bench.old).cells ≡ length (sight_of bench.old).network.instances }
-    ensures moved { HasMoved (sight_of bench.old) (sight_of bench.new) last.left last.memory result.left result.memory }
-    ensures ends { result.ends ≡ last.ends }
-    ensures share { result.share ≡ last.share }
-    ensures worked { HasWorked bench.old bench.new }
+    ensures { HasMoved bench.old bench.new last result }
 {
     let mut round = last;
     for _ in 0..BRIEF {
@@ -316,11 +295,9 @@ fn one_round<L: Ledger, G: Gate>(
 ) -> Round
     requires share { 0 < share }
     requires bound { all_events (sight_of bench.old) + left < 2 ^ 48 }
-    requires known { length (sight_of bench.old).cells ≡ length (sight_of bench.old).network.instances }
     requires room { length (sight_of bench.old).network.instances ≤ vec_capacity ends }
     requires lacks { LacksMemory (sight_of bench.old) left memory }
     ensures goes { GoesIn bench.old left memory bench.new result (length (sight_of bench.new).network.instances) }
-    ensures same { IsSameRun (sight_of bench.old) (sight_of bench.new) }
     ensures share { result.share ≡ share }
     ensures room { vec_capacity result.ends ≡ vec_capacity ends }
     ensures worked { HasWorked bench.old bench.new }
@@ -353,11 +330,7 @@ fn run_between<L: Ledger, G: Gate>(
 ) -> Round
     requires share { 0 < last.share }
     requires bound { all_events (sight_of bench.old) + last.left < 2 ^ 48 }
-    requires known { length (sight_of bench.old).cells ≡ length (sight_of bench.old).network.instances }
-    ensures moved { HasMoved (sight_of bench.old) (sight_of bench.new) last.left last.memory result.left result.memory }
-    ensures ends { result.ends ≡ last.ends }
-    ensures share { result.share ≡ last.share }
-    ensures worked { HasWorked bench.old bench.new }
+    ensures { HasMoved bench.old bench.new last result }
 {
     if !gate.is_open() {
         return last;
@@ -381,13 +354,11 @@ pub(crate) fn last_round<L: Ledger, G: Gate>(
 ) -> Option<Round>
     requires share { 0 < quantum }
     requires bound { all_events (sight_of bench.old) + bound < 2 ^ 48 }
-    requires known { length (sight_of bench.old).cells ≡ length (sight_of bench.old).network.instances }
     requires room { length (sight_of bench.old).network.instances ≤ vec_capacity ends }
     ensures last { MatchOption result (may_leave ≡ true) (λ r. IsLast (sight_of bench.new) (all_events (sight_of bench.old) + bound) r.left r.memory r.ends.items) }
     ensures lacks { IfSome result (λ r. LacksMemory (sight_of bench.new) r.left r.memory) }
     ensures share { IfSome result (λ r. r.share ≡ quantum) }
     ensures room { IfSome result (λ r. length (sight_of bench.new).network.instances ≤ vec_capacity r.ends) }
-    ensures same { IsSameRun (sight_of bench.old) (sight_of bench.new) }
     ensures worked { HasWorked bench.old bench.new }
 {
     let mut ends = ends;
@@ -433,7 +404,6 @@ fn answered(bench: Workbench<'_>, last: Round, bound: u64) -> Answer
     ensures short { IsCutShort bound result }
 {
     bench.within();
-    laws::assembled();
     let verdict = verdict_of(last.memory, &last.ends);
     Answer {
         verdict,
@@ -458,7 +428,6 @@ pub fn run_bench<L: Ledger, G: Gate>(
     requires quantum { 0 < quantum }
     requires bound { bound < 2 ^ 48 }
     requires fresh { all_events (sight_of bench) ≡ 0 }
-    requires known { length (sight_of bench).cells ≡ length (sight_of bench).network.instances }
     requires room { length (sight_of bench).network.instances ≤ vec_capacity ends }
     ensures right { MatchOption result (may_leave ≡ true) (IsRight (sight_of bench.entry).network (sight_of bench.entry).input bound (sight_of bench.entry).watch) }
     ensures short { IfSome result (IsCutShort bound) }

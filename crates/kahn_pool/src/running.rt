@@ -63,20 +63,17 @@ fn run_first<R: Threads + Wait + Sync, G: Gate + Sync>(
     requires bound { plan.bound < 2 ^ 48 }
     ensures { MatchResult result (IsRight (network_of network.now) (inputs_of input.now) plan.bound plan.watch) (IsWant plan.workers) }
 {
-    let (watch, bound) = (plan.watch, plan.bound);
     let quantum = plan.quantum.min(first_quantum(network.instances()));
-    let first = run_alone(alloc, gate, network, input, watch, quantum, bound, true)?;
-    if let Some(answer) = first {
+    let alone = Plan { quantum, ..plan };
+    if let Some(answer) = run_alone(alloc, gate, network, input, alone, true)? {
         return Ok(answer);
     }
     let crew = crew_plan(plan, network.instances().min(processors(rt)));
     if crew.workers == 1 {
-        return Ok(run_watched(alloc, gate, network, input, watch, quantum, bound)?);
+        return Ok(run_watched(alloc, gate, network, input, alone)?);
     }
     match run_workers(rt, alloc, network, input, crew, gate) {
-        Err(RunFault::NoMemory) => Ok(run_watched(
-            alloc, gate, network, input, watch, quantum, bound,
-        )?),
+        Err(RunFault::NoMemory) => Ok(run_watched(alloc, gate, network, input, alone)?),
         told => told,
     }
 }
@@ -114,8 +111,7 @@ pub fn run<R: Threads + Wait + Sync, G: Gate + Sync>(
     laws::finished_exactly();
     let plan = plan_of(&config, watch);
     if plan.workers == 1 {
-        let (quantum, bound) = (plan.quantum, plan.bound);
-        return Ok(run_watched(alloc, gate, network, &input, watch, quantum, bound)?);
+        return Ok(run_watched(alloc, gate, network, &input, plan)?);
     }
     if gate.is_open() {
         return run_first(rt, alloc, network, &input, plan, gate);

@@ -3,7 +3,8 @@
 ghost use Rattle.std.specs.Prelude.{◌≡◌, ℕ, Some, slice_get};
 ghost use Rattle.kahn_job.specs.inner.Berths.{IsWithinInput, end_at};
 ghost use Rattle.kahn_job.specs.inner.Tasks.{Tasked};
-ghost use Rattle.kahn_pool.specs.inner.Rested.{HaveSettledTasks, IsLentTo, IsSettledTask, SettlesTo};
+ghost use Rattle.kahn_pool.specs.inner.Changed.{HaveChanged};
+ghost use Rattle.kahn_pool.specs.inner.Rested.{IsLentTo, IsSettledTask, SettlesTo};
 ghost use Rattle.kahn_job.specs.declared.standing.Standing.TheVariants as standing;
 
 use kahn_code::{Code, Steps};
@@ -74,7 +75,7 @@ pub fn settle_all<L: Ledger>(
     steps: &mut Steps<L>,
 )
     requires { (p : ℕ) (x : Tasked) → slice_get tasks.old.items p ≡ Some x → IsLentTo code.now.network.value network.now input.now x }
-    ensures { HaveSettledTasks tasks.old.items tasks.new.items }
+    ensures { HaveChanged SettlesTo tasks.old.items tasks.new.items }
 {
     for instance in 0..tasks.len() {
         settle(&mut tasks[instance], code, network, input, steps);

@@ -1,6 +1,6 @@
 //! The streams of an answer: their lines, and the tokens that fill them.
 
-ghost use Rattle.std.specs.Prelude.{◌≡◌, ◌<◌, ◌++◌, ◌∷◌, [], length, map, slice_set, slice_index_or, IfOk, OnOk};
+ghost use Rattle.std.specs.Prelude.{◌≡◌, ◌<◌, ◌++◌, ◌∷◌, [], cond, length, map, slice_set, slice_index_or, IfOk, OnOk};
 ghost use Rattle.std.specs.List.{All};
 ghost use Rattle.kahn_streams.specs.Prints.{declaration_prints};
 ghost use Rattle.kahn_streams.specs.Syntax.{prints_in};
@@ -50,11 +50,19 @@ fn has_stream(network: &Network, watch: Option<usize>, channel: usize) -> bool
     network.channel(channel).role == Role::Output || watch == Some(channel)
 }
 
-// One stream more, without tokens.
-fn add_stream(alloc: Global, streams: &mut Vec<Stream>, line: Line) -> Result<(), NoMemory>
-    ensures lines { OnOk result (map stream_line streams.new.items ≡ map stream_line streams.old.items ++ line ∷ []) }
+// One stream more, without tokens, where there is one.
+fn add_stream(
+    alloc: Global,
+    streams: &mut Vec<Stream>,
+    has_one: bool,
+    line: Line,
+) -> Result<(), NoMemory>
+    ensures lines { OnOk result (map stream_line streams.new.items ≡ map stream_line streams.old.items ++ cond has_one (line ∷ []) []) }
     ensures bare { OnOk result (All IsBare streams.old.items → All IsBare streams.new.items) }
 {
+    if !has_one {
+        return Ok(());
+    }
     streams.push(Stream {
         line,
         tokens: Vec::new(alloc),
@@ -73,9 +81,8 @@ fn add_channels(
     ensures bare { OnOk result (All IsBare streams.old.items → All IsBare streams.new.items) }
 {
     for channel in 0..network.channels() {
-        if has_stream(network, watch, channel) {
-            add_stream(alloc, streams, Line::Channel(channel))?;
-        }
+        let has_one = has_stream(network, watch, channel);
+        add_stream(alloc, streams, has_one, Line::Channel(channel))?;
     }
     Ok(())
 }
@@ -87,9 +94,8 @@ fn add_prints(alloc: Global, streams: &mut Vec<Stream>, network: &Network) -> Re
 {
     let printing = printing(alloc, network)?;
     for instance in 0..network.instances() {
-        if instance_prints(network, &printing, instance) {
-            add_stream(alloc, streams, Line::Print(instance))?;
-        }
+        let prints = instance_prints(network, &printing, instance);
+        add_stream(alloc, streams, prints, Line::Print(instance))?;
     }
     Ok(())
 }

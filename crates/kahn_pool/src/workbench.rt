@@ -4,7 +4,7 @@ ghost use Rattle.kahn_streams.specs.Network.{network_of};
 ghost use Rattle.kahn_pool.specs.inner.Bench.{AreStreams, all_events};
 ghost use Rattle.kahn_pool.specs.inner.Gathered.{TookNoMore};
 ghost use Rattle.kahn_streams.specs.Answers.{stream_lines};
-ghost use Rattle.kahn_pool.specs.inner.Workbench.{AreLeft, AreOpen, sight_of};
+ghost use Rattle.kahn_pool.specs.inner.Workbench.{AreLeft, AreOpen, AreStreamsReady, sight_of};
 ghost use Rattle.std.specs.Prelude.{◌≡◌, ◌≤◌, [], length, IfOk, vec_capacity};
 
 use crate::bench::Bench;
@@ -53,6 +53,20 @@ pub(crate) fn opening_streams(
     Ok(streams)
 }
 
+/// Room for all that the answer of a run wants. It refuses only where memory was refused.
+pub(crate) fn room_for_answer(
+    alloc: Global,
+    network: &Network,
+    input: &Input,
+    watch: Option<usize>,
+) -> Result<(Vec<Stream>, Vec<Kept>), NoMemory>
+    ensures { IfOk result (λ r. AreStreamsReady network.now input.now watch r.0.items r.1.items (vec_capacity r.1)) }
+{
+    let streams = opening_streams(alloc, network, input, watch)?;
+    let kept = Vec::with_capacity(alloc, network.instances())?;
+    Ok((streams, kept))
+}
+
 // What is there of what each tap kept. The list that is given has room for all.
 fn all_kept(taps: Vec<Tap>, mut kept: Vec<Kept>) -> Vec<Kept>
     requires empty { kept.items ≡ [] }
@@ -77,8 +91,7 @@ impl<'n> Workbench<'n> {
         ensures fresh { IfOk result (λ b. all_events (sight_of b) ≡ 0) }
     {
         let bench = Bench::new(alloc, network, input, watch)?;
-        let streams = opening_streams(alloc, network, input, watch)?;
-        let kept = Vec::with_capacity(alloc, network.instances())?;
+        let (streams, kept) = room_for_answer(alloc, network, input, watch)?;
         Ok(Workbench {
             network,
             bench,

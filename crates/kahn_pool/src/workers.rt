@@ -1,83 +1,85 @@
-//! A run by several workers.
+//! A run by several workers: a held run in one part.
 
+ghost use Rattle.std.specs.Prelude.{◌≡◌, ◌<◌, ◌≤◌, ◌^◌, [], length, vec_capacity, IfErr, IfOk, MatchResult};
 ghost use Rattle.kahn_streams.specs.Network.{network_of};
-ghost use Rattle.kahn_crew.specs.inner.Wants.{IsLack as LacksWorker};
-ghost use Rattle.kahn_pool.specs.Limits.{IsWant};
-ghost use Rattle.kahn_streams.specs.Answers.{IsRight};
-ghost use Rattle.kahn_pool.specs.inner.Gathers.{IsRoom};
 ghost use Rattle.kahn_streams.specs.Inputs.{inputs_of};
-ghost use Rattle.std.specs.Prelude.{◌≡◌, ◌<◌, ◌≤◌, ◌^◌, MatchResult};
+ghost use Rattle.kahn_streams.specs.Answers.{IsRight, stream_lines};
+ghost use Rattle.kahn_job.specs.inner.Idles.{AreIdle, cells_of};
+ghost use Rattle.kahn_crew.specs.inner.Wants.{IsLack};
+ghost use Rattle.kahn_pool.specs.Limits.{IsWant};
+ghost use Rattle.kahn_pool.specs.inner.Bench.{AreStreams};
+ghost use Rattle.kahn_pool.specs.inner.Holding.{AreHeldBy, HasEnded, held_state};
+ghost use Rattle.kahn_pool.specs.inner.Workbench.{AreKeptOf, AreStreamsReady};
 
-use crate::gather::{Room, answer_of};
-use crate::part::Part;
-use kahn_code::{Code, Steps, compile};
-use kahn_crew::{CrewFault, Gate, Plan, run_crew};
-use kahn_streams::{Answer, Input, Network, RunFault};
+use crate::part::{Part, PartRoom, Stopped, first_idles, run_part};
+use crate::streams::fill;
+use crate::workbench::room_for_answer;
+use kahn_code::{Kept, compile};
+use kahn_crew::{CrewFault, Gate, Plan};
+use kahn_job::Idle;
+use kahn_streams::{Answer, Input, Network, RunFault, Stream};
 use std::alloc::Global;
-use std::marker::Brand;
 use std::sync::Wait;
-use std::sync::ledger::{Blank, Ledger};
 use std::thread::Threads;
 
-// Runs with the room for the answer at hand, so that after the first event nothing more is reserved.
-fn run_reserved<R: Threads + Wait + Sync, G: Gate + Sync, L: Ledger>(
-    rt: &R,
-    alloc: Global,
-    network: &Network,
-    input: &Input,
-    code: &Code,
-    plan: Plan,
-    room: Room,
-    gate: &G,
-    steps: &mut Steps<L>,
-) -> Result<Answer, CrewFault>
-    requires code { code.now.network.value ≡ network.now }
-    requires few { (1 ≤ plan.workers) × (plan.workers ≤ 16) }
-    requires quantum { 0 < plan.quantum }
-    requires bound { plan.bound < 2 ^ 48 }
-    requires room { IsRoom network.now input.now plan.watch room }
-    ensures { MatchResult result (IsRight (network_of network.now) (inputs_of input.now) plan.bound plan.watch) (LacksWorker plan.workers) }
+// What the cell of each job kept. The list that is given has room for all.
+fn all_kept(idles: Vec<Idle>, mut kept: Vec<Kept>) -> Vec<Kept>
+    requires empty { kept.items ≡ [] }
+    requires room { length idles.items ≤ vec_capacity kept }
+    ensures { AreKeptOf (cells_of idles.items) result.items }
 {
-    let left = run_crew(rt, alloc, network, input, code, plan, gate)?;
-    let part = Part {
-        network,
-        input,
-        code,
-        plan,
-        bound: plan.bound,
-    };
-    Ok(answer_of(&part, left, room, steps))
+    for idle in idles {
+        kept.push_reserved(idle.into_lists());
+    }
+    kept
 }
 
-// Counts the steps of the last look at each task on a ledger of its own, and runs.
-fn run_counted<R: Threads + Wait + Sync, G: Gate + Sync, L: Ledger>(
-    rt: &R,
-    alloc: Global,
-    blank: Blank,
+// The streams of the answer: what the cells kept.
+fn streams_of(
     network: &Network,
-    input: &Input,
-    plan: Plan,
-    gate: &G,
-) -> Result<Answer, RunFault>
-    requires name { blank.name ≡ L.name }
-    requires parts { blank.parts ≡ L.parts }
-    requires some { 0 < blank.parts }
-    requires few { (1 ≤ plan.workers) × (plan.workers ≤ 16) }
-    requires quantum { 0 < plan.quantum }
-    requires bound { plan.bound < 2 ^ 48 }
-    ensures { MatchResult result (IsRight (network_of network.now) (inputs_of input.now) plan.bound plan.watch) (IsWant plan.workers) }
+    _input: &Input,
+    _watch: Option<usize>,
+    idles: Vec<Idle>,
+    mut streams: Vec<Stream>,
+    kept: Vec<Kept>,
+) -> Vec<Stream>
+    requires idle { AreIdle network.now _input.now idles.items }
+    requires ready { AreStreamsReady network.now _input.now _watch streams.items kept.items (vec_capacity kept) }
+    ensures { AreStreams (held_state network.now _input.now _watch idles.items) result.items (stream_lines (network_of network.now) _watch) }
 {
-    let mut steps = Steps::<L>::open(blank);
-    let code = compile(alloc, network)?;
-    let room = Room::new(alloc, network, input, plan.watch)?;
-    Ok(run_reserved(
-        rt, alloc, network, input, &code, plan, room, gate, &mut steps,
-    )?)
+    let mut kept = all_kept(idles, kept);
+    fill(network, &mut streams, &mut kept);
+    streams
+}
+
+// The answer of a part that is a whole run. It takes no memory: the room is given.
+fn answered(
+    part: &Part<'_>,
+    stopped: Stopped,
+    streams: Vec<Stream>,
+    kept: Vec<Kept>,
+) -> Result<Answer, CrewFault>
+    requires held { AreHeldBy part.now stopped.idles.items stopped.budget }
+    requires ended { HasEnded part.now.network.now part.now.input.now part.now.plan.watch part.now.plan.workers part.now.bound stopped }
+    requires ready { AreStreamsReady part.now.network.now part.now.input.now part.now.plan.watch streams.items kept.items (vec_capacity kept) }
+    ensures right { IfOk result (IsRight (network_of part.now.network.now) (inputs_of part.now.input.now) part.now.bound part.now.plan.watch) }
+    ensures lack { IfErr result (IsLack part.now.plan.workers) }
+{
+    let (network, input, watch) = (part.network, part.input, part.plan.watch);
+    match stopped.outcome {
+        Ok(verdict) => Ok(Answer {
+            verdict,
+            streams: streams_of(network, input, watch, stopped.idles, streams, kept),
+            ends: stopped.ends,
+            events: part.bound - stopped.budget,
+        }),
+        Err(fault) => Err(fault),
+    }
 }
 
 /// Runs a network by several workers, one in the caller's thread and each other in one of its own, and answers right. It
 /// refuses only where memory was refused before the first event, or where a thread couldn't be started for one of several.
-pub fn run_workers<R: Threads + Wait + Sync, G: Gate + Sync>(
+pub(crate) fn run_workers<R: Threads + Wait + Sync, G: Gate + Sync>(
     rt: &R,
     alloc: Global,
     network: &Network,
@@ -90,5 +92,17 @@ pub fn run_workers<R: Threads + Wait + Sync, G: Gate + Sync>(
     requires bound { plan.bound < 2 ^ 48 }
     ensures { MatchResult result (IsRight (network_of network.now) (inputs_of input.now) plan.bound plan.watch) (IsWant plan.workers) }
 {
-    run_counted::<R, G, Brand>(rt, alloc, Blank::new(1), network, input, plan, gate)
+    let code = compile(alloc, network)?;
+    let (streams, kept) = room_for_answer(alloc, network, input, plan.watch)?;
+    let room = PartRoom::new(alloc, network.instances())?;
+    let idles = first_idles(alloc, network, input, &code, plan.watch)?;
+    let part = Part {
+        network,
+        input,
+        code: &code,
+        plan,
+        bound: plan.bound,
+    };
+    let stopped = run_part(rt, alloc, plan, &part, idles, room, gate);
+    Ok(answered(&part, stopped, streams, kept)?)
 }

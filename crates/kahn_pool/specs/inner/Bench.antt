@@ -5,19 +5,14 @@ use Rattle.kahn_streams.specs.Script.{Dry, Cut}
 use Rattle.kahn_streams.specs.Meaning.{Store}
 use Rattle.kahn_streams.specs.Solution as net
 use Rattle.kahn_streams.specs.Network.{Network, Reads, instance_at, actual_at}
-use Rattle.kahn_streams.specs.Solution.{Inputs, exec_at, source, ending}
+use Rattle.kahn_streams.specs.Solution.{Inputs, source, ending}
 use Rattle.kahn_code.specs.declared.progress.Pause.{Pause}
 use Rattle.kahn_code.specs.declared.progress.Pause.TheVariants as pause
 use Rattle.kahn_code.specs.Cells.{View}
-use Rattle.kahn_streams.specs.declared.answer.End.{End}
-use Rattle.kahn_streams.specs.declared.answer.Outcome.TheVariants.{More}
-use Rattle.kahn_streams.specs.declared.answer.Verdict.{Verdict}
-use Rattle.kahn_pool.specs.inner.Gathered.{view_at, Stood, TookAll, HasUntaken, EndsWith, IsFrom}
+use Rattle.kahn_code.specs.Progress.{Paused}
+use Rattle.kahn_streams.specs.declared.{answer.End.End, answer.Outcome.TheVariants.More, answer.Verdict.Verdict, answer.Stream.Stream, answer.Verdict.TheVariants.Finished, answer.Verdict.TheVariants.Bound, answer.Verdict.TheVariants.Memory, value.Line.Line}
+use Rattle.kahn_pool.specs.inner.Gathered.{view_at, TookAll, TookNoMore, HasUntaken, EndsWith, IsFrom}
 use Rattle.kahn_streams.specs.Answers.{stream_line}
-use Rattle.kahn_streams.specs.declared.answer.Stream.{Stream}
-use Rattle.kahn_pool.specs.declared.rounds.Round.{Round}
-use Rattle.kahn_streams.specs.declared.answer.Verdict.TheVariants.{Finished, Bound, Memory}
-use Rattle.kahn_streams.specs.declared.value.Line.{Line}
 
 pub record RunState : Type 0 where
   pub network : Network
@@ -37,9 +32,9 @@ IsPaused s p (pause.Dry q) o =
 IsPaused s p pause.Spent o = (o ≡ Cut) ⊎ HasUntaken s.network s.input s.cells p o
 IsPaused s p pause.NoMemory o = o ≡ Cut
 
-pub record PausedAt (s : RunState) (p : ℕ) (z : Pause) : Type 0 where
-  pub stood : Stood s.network s.input s.watch p (view_at s.cells p)
-  pub told : IsPaused s p z (exec_at s.network (events_at s p) p stood.tapes).outcome
+-- the cell of p stands so, and that is what its pause says
+abbrev pub PausedAt : RunState → ℕ → Pause → Type 0
+PausedAt s p z = Paused s.network s.input s.watch p (view_at s.cells p) (IsPaused s p z)
 
 -- of the same network and input, with the same channel watched
 abbrev pub IsSameRun : RunState → RunState → Type 0
@@ -48,6 +43,7 @@ IsSameRun s t = (t.network ≡ s.network) × (t.input ≡ s.input) × (t.watch �
 -- the cell of p was run for at most so many events, and paused so
 pub record HasRunCell (s t : RunState) (p quantum : ℕ) (z : Pause) : Type 0 where
   pub same : IsSameRun s t
+  pub known : length t.cells ≡ length t.network.instances
   -- the other cells are left as they are
   pub only : t.cells ≡ slice_set s.cells p (view_at t.cells p)
   pub events : (events_at s p ≤ events_at t p) × (events_at t p ≤ events_at s p + quantum)
@@ -84,9 +80,6 @@ AreEnds s left memory ends =
 
 -- a round from s0 with so much to do and so many events in all, at instance k
 pub record Goes (s0 : RunState) (w0 t0 : ℕ) (s : RunState) (left : ℕ) (memory moved : Bool) (ends : List End) (k : ℕ) : Type 0 where
-  pub network : s.network ≡ s0.network
-  pub input : s.input ≡ s0.input
-  pub watch : s.watch ≡ s0.watch
   pub known : length s.cells ≡ length s.network.instances
   pub total : all_events s + left ≡ t0
   pub size : length ends ≡ k
@@ -105,33 +98,6 @@ Marked z done memory moved memory' moved' =
 abbrev pub turn_of : ℕ → ℕ → Bool → ℕ
 turn_of share left memory = cond memory 0 (min share left)
 
--- an instance was run for at most so many events until this pause, and the round is marked
-pub record HasTakenTurn (s t : RunState) (old new : Round) (p : ℕ) (z : Pause) : Type 0 where
-  pub quantum : ℕ
-  pub turn : quantum ≡ turn_of old.share old.left old.memory
-  pub most : quantum ≤ cond old.memory 0 old.left
-  pub none : quantum ≡ 0 → (old.left ≡ 0) ⊎ (old.memory ≡ true)
-  pub ran : HasRunCell s t p quantum z
-  pub done : ℕ
-  pub counts : events_at s p + done ≡ events_at t p
-  pub left : new.left + done ≡ old.left
-  pub marked : Marked z done old.memory old.moved new.memory new.moved
-
--- that is so, after which it stands so
-pub record HasVisited (s t : RunState) (old new : Round) (p : ℕ) (x : End) : Type 0 where
-  pub stopped : Pause
-  pub gone : HasTakenTurn s t old new p stopped
-  pub rests : HasEndIn t p x
-  pub more : x.outcome ≡ More → (stopped ≡ pause.Spent) ⊎ (stopped ≡ pause.NoMemory)
-
--- instances were visited, with so much left before and after it
-pub record HasMoved (s t : RunState) (left : ℕ) (memory : Bool) (left' : ℕ) (memory' : Bool) : Type 0 where
-  pub same : IsSameRun s t
-  pub known : length t.cells ≡ length t.network.instances
-  pub total : all_events t + left' ≡ all_events s + left
-  pub lighter : weight left' memory' ≤ weight left memory
-  pub lacks : LacksMemory s left memory → LacksMemory t left' memory'
-
 -- after the last round: with so many events and so much left in all, each end is that of its instance
 pub record IsLast (s : RunState) (t0 left : ℕ) (memory : Bool) (xs : List End) : Type 0 where
   pub known : length s.cells ≡ length s.network.instances
@@ -144,6 +110,13 @@ abbrev pub IsVerdict : Bool → List End → Verdict → Type 0
 IsVerdict memory ends Memory = memory ≡ true
 IsVerdict memory ends Finished = (memory ≡ false) × ((p : ℕ) (x : End) → slice_get ends p ≡ Some x → x.outcome ≡ More → ⊥)
 IsVerdict memory ends Bound = (memory ≡ false) × ((p : ℕ) × (x : End) × (slice_get ends p ≡ Some x) × (x.outcome ≡ More))
+
+-- with so much left of the bound: each end is that of its instance, the verdict goes by the ends, and no reader took more
+-- than was given
+pub record IsConcluded (s : RunState) (bound budget : ℕ) (halted : Bool) (v : Verdict) (ends : List End) : Type 0 where
+  pub last : IsLast s bound budget halted ends
+  pub rule : IsVerdict halted ends v
+  pub within : TookNoMore s.network s.input s.cells
 
 -- these are the streams of the answer
 pub record AreStreams (s : RunState) (streams : List Stream) (lines : List Line) : Type 0 where

@@ -1,12 +1,7 @@
 -- Inner. A flow over a bench: what contracts see of it, and what its type keeps.
 use Rattle.std.specs.Prelude.{◌≡◌, ℕ, ◌+◌, ◌-◌, ◌<◌, ◌≤◌, ◌^◌, Bool, List, [], ◌++◌, length, map, take, Option, Some, slice_index_or}
-use Rattle.kahn_streams.specs.declared.tree.Program.{Program}
-use Rattle.kahn_streams.specs.declared.value.Line.{Line}
-use Rattle.kahn_streams.specs.declared.value.Value.{Value}
-use Rattle.kahn_streams.specs.declared.tree.Role.TheVariants.{Input}
+use Rattle.kahn_streams.specs.declared.{tree.Program.Program, value.Line.Line, value.Value.Value, tree.Role.TheVariants.Input, value.Line.TheVariants.Channel, value.Line.TheVariants.Print, token.Token.Token, answer.End.End, answer.Verdict.Verdict}
 use Rattle.kahn_streams.specs.Network.{Source, Given, Written, Nobody, network_of, instance_at, role_at}
-use Rattle.kahn_streams.specs.declared.value.Line.TheVariants.{Channel, Print}
-use Rattle.kahn_streams.specs.declared.token.Token.{Token}
 use Rattle.kahn_streams.specs.Solution.{source}
 use Rattle.kahn_streams.specs.Inputs.{inputs_of}
 use Rattle.kahn_streams.specs.Tokens.{token_value}
@@ -15,12 +10,9 @@ use Rattle.kahn_code.specs.inner.Gone.{nothing_gone}
 use Rattle.kahn_code.specs.Lines.{Lines as Queues}
 use Rattle.kahn_pool.specs.HeldRuns.{HeldRun, seen_of, writing}
 use Rattle.kahn_streams.specs.Answers.{stream_lines}
-use Rattle.kahn_streams.specs.declared.answer.End.{End}
-use Rattle.kahn_streams.specs.declared.answer.Verdict.{Verdict}
-use Rattle.kahn_pool.specs.inner.Bench.{all_events}
+use Rattle.kahn_pool.specs.inner.Bench.{IsConcluded, all_events}
 use Rattle.kahn_crew.specs.declared.plan.Plan.{Plan}
 use Rattle.kahn_pool.specs.declared.part_alone.PartEnd.{PartEnd}
-use Rattle.kahn_pool.specs.inner.Concluded.{IsConcluded}
 use Rattle.kahn_pool.specs.inner.Holding.{AreEnded}
 use Rattle.kahn_pool.specs.inner.Workbench.{Table, sight_of}
 use Rattle.kahn_pool.specs.Flows.{Flowing}

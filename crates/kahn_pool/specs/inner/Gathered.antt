@@ -1,23 +1,13 @@
 -- Inner. Cells at rest, and the answer that is put together from them.
 use Rattle.std.specs.Prelude.{◌≡◌, ◌⊎◌, ℕ, ◌<◌, ◌≤◌, List, [], length, map, sum_by, Option, Some, slice_get, slice_index_or, true}
-use Rattle.kahn_streams.specs.declared.value.Line.{Line}
-use Rattle.kahn_streams.specs.declared.value.Line.TheVariants.{Channel, Print}
+use Rattle.kahn_streams.specs.declared.{value.Line.Line, value.Line.TheVariants.Channel, value.Line.TheVariants.Print, answer.Answer.Answer, answer.Stream.Stream, answer.End.End, token.Token.Token, answer.Verdict.Verdict, answer.Verdict.TheVariants.Finished, answer.Verdict.TheVariants.Bound, answer.Outcome.Outcome, answer.Outcome.TheVariants.Ended, answer.Outcome.TheVariants.Waits, answer.Outcome.TheVariants.Faulted, answer.Outcome.TheVariants.More}
 use Rattle.kahn_streams.specs.Script as script
 use Rattle.kahn_streams.specs.Script.{Dry, Cut}
-use Rattle.kahn_streams.specs.Steps.{empty}
 use Rattle.kahn_streams.specs.Meaning.{Store}
 use Rattle.kahn_streams.specs.Solution as net
 use Rattle.kahn_streams.specs.Network.{Network, Reads, Writes, instance_at, actual_at, Source, Given, Written, Nobody}
-use Rattle.kahn_streams.specs.Solution.{Histories, Inputs, exec_at, out, source, fed, ending}
-use Rattle.kahn_streams.specs.declared.answer.Answer.{Answer}
-use Rattle.kahn_streams.specs.declared.answer.Stream.{Stream}
-use Rattle.kahn_streams.specs.declared.answer.End.{End}
-use Rattle.kahn_streams.specs.declared.token.Token.{Token}
-use Rattle.kahn_streams.specs.declared.answer.Verdict.{Verdict}
-use Rattle.kahn_streams.specs.declared.answer.Verdict.TheVariants.{Finished, Bound}
-use Rattle.kahn_streams.specs.declared.answer.Outcome.{Outcome}
-use Rattle.kahn_streams.specs.declared.answer.Outcome.TheVariants.{Ended, Waits, Faulted, More}
-use Rattle.kahn_code.specs.Cells.{AllStand, View, AreKeptTokens, is_streamed}
+use Rattle.kahn_streams.specs.Solution.{Inputs, source, ending}
+use Rattle.kahn_code.specs.Cells.{StoodBy, View, AreKeptTokens, exec_on, is_streamed}
 use Rattle.kahn_streams.specs.Answers.{stream_line, end_events, stream_lines, HasStream}
 
 abbrev pub no_view : View
@@ -25,20 +15,6 @@ no_view = record { events = 0; taken = λ q. 0; sent = λ q. 0; kept = λ q. [];
 
 abbrev pub view_at : List View → ℕ → View
 view_at cells p = slice_index_or cells p no_view
-
--- What the cell of instance p says: on the values that it took the process does its events and takes all of them; these
--- values stand on the channels that it reads; it sent so many, and kept what it sent on streams.
-pub record Stood (N : Network) (I : Inputs) (watch : Option ℕ) (p : ℕ) (c : View) : Type 0 where
-  pub tapes : Histories
-  pub does : (exec_at N c.events p tapes).events ≡ c.events
-  pub all : (exec_at N c.events p tapes).left ≡ empty
-  pub stand : (d : Line) → AllStand N I d (tapes d)
-  pub took : (q d : ℕ) → actual_at (instance_at N p) q ≡ Reads d → length (tapes (Channel d)) ≡ c.taken q
-  pub only : (d : Line) → (tapes d ≡ []) ⊎ ((q b : ℕ) × (d ≡ Channel b) × (actual_at (instance_at N p) q ≡ Reads b))
-  pub gave : (q d : ℕ) → actual_at (instance_at N p) q ≡ Writes d → length (out N c.events p tapes (Channel d)) ≡ c.sent q
-  pub kept : (q d : ℕ) → actual_at (instance_at N p) q ≡ Writes d → is_streamed N watch d ≡ true →
-      AreKeptTokens N I (Channel d) (out N c.events p tapes (Channel d)) (c.kept q)
-  pub printed : AreKeptTokens N I (Print p) (out N c.events p tapes (Print p)) c.printed
 
 -- so many values were given to channel c, by its writer or by the input
 abbrev pub IsGiven : Network → Inputs → List View → ℕ → Source → ℕ → Type 0
@@ -69,9 +45,9 @@ IsOutcomeOf N I cells p o More = (o ≡ Cut) ⊎ HasUntaken N I cells p o
 
 -- the cell of p stands so, and x is its end
 pub record EndsWith (N : Network) (I : Inputs) (watch : Option ℕ) (cells : List View) (p : ℕ) (x : End) : Type 0 where
-  pub stood : Stood N I watch p (view_at cells p)
+  pub stood : StoodBy N I watch p (view_at cells p)
   pub count : x.events ≡ (view_at cells p).events
-  pub told : IsOutcomeOf N I cells p (exec_at N (view_at cells p).events p stood.tapes).outcome x.outcome
+  pub told : IsOutcomeOf N I cells p (exec_on N (view_at cells p).events p stood.tapes).outcome x.outcome
 
 -- these tokens are the stream of line c: what its writer kept, or the input's list
 abbrev pub IsFrom : Network → Inputs → Option ℕ → List View → Source → Line → List Token → Type 0
@@ -81,10 +57,6 @@ IsFrom N I watch cells (Written p) (Channel c) ts =
 IsFrom N I watch cells (Written p) (Print r) ts = ts ≡ (view_at cells p).printed
 IsFrom N I watch cells Given (Print r) ts = ⊥
 IsFrom N I watch cells Nobody c ts = ⊥
-
--- what the input and the writers gave to each line
-abbrev pub tapes_from : Network → Inputs → (ℕ → ℕ) → (ℕ → Histories) → Histories
-tapes_from N I events T c = fed (source N c) I (λ p. out N (events p) p (T p) c) c
 
 -- these are the verdict, the ends and the events of a run that stopped
 pub record IsStopped (N : Network) (I : Inputs) (bound : ℕ) (watch : Option ℕ) (v : Verdict) (ends : List End) (events : ℕ) : Type 0 where

@@ -1,31 +1,23 @@
 -- Inner. The jobs of a held run.
-use Rattle.std.specs.Prelude.{◌≡◌, ℕ, ◌+◌, ◌<◌, ◌≤◌, ◌^◌, Bool, List, [], length, map, sum_by, Option, Some, None, Err, MatchResult, slice_get, vec_capacity}
-use Rattle.kahn_streams.specs.declared.tree.Program.{Program}
+use Rattle.std.specs.Prelude.{◌≡◌, ℕ, ◌+◌, ◌<◌, ◌≤◌, ◌^◌, Bool, List, [], length, map, Option, Some, None, Err, MatchResult, slice_get, vec_capacity}
+use Rattle.kahn_streams.specs.declared.{tree.Program.Program, token.Token.Token, answer.End.End, answer.Verdict.Verdict}
 use Rattle.kahn_streams.specs.Network.{network_of}
 use Rattle.kahn_streams.specs.Solution.{AreInputsExtended}
 use Rattle.kahn_streams.specs.Inputs.{Lists, inputs_of}
-use Rattle.kahn_streams.specs.declared.token.Token.{Token}
-use Rattle.kahn_code.specs.Cells.{View, StoodBy}
+use Rattle.kahn_code.specs.Cells.{View}
 use Rattle.kahn_code.specs.Told.{Told, told_view}
 use Rattle.kahn_job.specs.inner.Idles.{AreIdle, cells_of}
 use Rattle.kahn_job.specs.inner.Works.{Work}
 use Rattle.kahn_pool.specs.HeldRuns.{HeldRun, seen_of}
-use Rattle.kahn_pool.specs.inner.Bench.{RunState}
+use Rattle.kahn_pool.specs.inner.Bench.{IsConcluded, RunState, all_events}
 use Rattle.kahn_pool.specs.inner.Streams.{AreAllGiven, AreGiven}
-use Rattle.kahn_pool.specs.inner.Concluded.{IsConcluded}
+use Rattle.kahn_pool.specs.inner.Workbench.{AllStandBy}
 use Rattle.kahn_streams.specs.Answers.{IsInRange}
-use Rattle.kahn_streams.specs.declared.answer.End.{End}
-use Rattle.kahn_streams.specs.declared.answer.Verdict.{Verdict}
-use Rattle.kahn_pool.specs.declared.conclude.Conclusion.{Conclusion}
-use Rattle.kahn_pool.specs.declared.part.Part.{Part}
-use Rattle.kahn_pool.specs.declared.part.PartRoom.{PartRoom}
-use Rattle.kahn_pool.specs.declared.part.Stopped.{Stopped}
+use Rattle.kahn_pool.specs.declared.{conclude.Conclusion.Conclusion, part.Part.Part, part.PartRoom.PartRoom, part.Stopped.Stopped}
 use Rattle.kahn_crew.specs.inner.Left.{HaveGone}
 use Rattle.kahn_job.specs.inner.Tasks.{Tasked}
 use Rattle.kahn_crew.specs.inner.Wants.{IsLack}
-use Rattle.kahn_crew.specs.declared.left.Left.{Left}
-use Rattle.kahn_crew.specs.declared.plan.Plan.{Plan}
-use Rattle.kahn_crew.specs.declared.fault.CrewFault.TheVariants.{NoMemory}
+use Rattle.kahn_crew.specs.declared.{left.Left.Left, plan.Plan.Plan, fault.CrewFault.TheVariants.NoMemory}
 
 abbrev pub cells_seen : List Work → List View
 cells_seen ws = map told_view (cells_of ws)
@@ -34,19 +26,20 @@ cells_seen ws = map told_view (cells_of ws)
 abbrev pub cell_alone : Told → Told
 cell_alone c = record c { input = [] }
 
-abbrev pub work_events : Work → ℕ
-work_events w = w.cell.events
-
 -- what rounds see of the jobs
 abbrev pub held_state : Program → Lists → Option ℕ → List Work → RunState
 held_state t lists watch ws = record { network = network_of t; input = inputs_of lists; watch = watch; cells = cells_seen ws }
 
+-- each cell keeps what goes to the watched channel
+abbrev pub AreWatched : Option ℕ → List Told → Type 0
+AreWatched watch cells = (p : ℕ) (c : Told) → slice_get cells p ≡ Some c → c.watch ≡ watch
+
 -- the jobs of all instances at rest, with so much left of the bound; what each cell says is true of its process
 pub record AreHeld (t : Program) (lists : Lists) (watch : Option ℕ) (bound : ℕ) (ws : List Work) (budget : ℕ) : Type 0 where
   pub idle : AreIdle t lists ws
-  pub watched : (p : ℕ) (w : Work) → slice_get ws p ≡ Some w → w.cell.watch ≡ watch
-  pub stood : (p : ℕ) (w : Work) → slice_get ws p ≡ Some w → StoodBy (network_of t) (inputs_of w.cell.input) watch p (told_view w.cell)
-  pub events : budget + sum_by work_events ws ≡ bound
+  pub watched : AreWatched watch (cells_of ws)
+  pub stood : AllStandBy t watch (cells_of ws)
+  pub events : budget + all_events (held_state t lists watch ws) ≡ bound
 
 -- where there is a verdict, it and the ends are those of the last part
 abbrev pub AreEnded : RunState → ℕ → ℕ → List End → Option Verdict → Type 0
@@ -72,20 +65,17 @@ pub record IsHolding (t compiled : Program) (lists : Lists) (plan : Plan) (ws : 
   pub ended : AreEnded (held_state t lists plan.watch ws) plan.bound budget ends verdict
   pub giving : IsGiving t lists plan.watch given verdict
 
--- the job has done no fewer events, and its input has grown
-pub record HasRisen (w v : Work) : Type 0 where
-  pub events : w.cell.events ≤ v.cell.events
-  pub input : AreInputsExtended (inputs_of w.cell.input) (inputs_of v.cell.input)
+-- the cell has done no fewer events, and its input has grown
+pub record HasRisen (c d : Told) : Type 0 where
+  pub events : c.events ≤ d.events
+  pub input : AreInputsExtended (inputs_of c.input) (inputs_of d.input)
 
-abbrev pub HaveRisen : List Work → List Work → Type 0
-HaveRisen old new = (p : ℕ) (w v : Work) → slice_get old p ≡ Some w → slice_get new p ≡ Some v → HasRisen w v
+abbrev pub HaveRisen : List Told → List Told → Type 0
+HaveRisen old new = (p : ℕ) (c d : Told) → slice_get old p ≡ Some c → slice_get new p ≡ Some d → HasRisen c d
 
--- the jobs of a part at rest, with so much left of the bound of all, and what rounds see of them
+-- the jobs of a part at rest, with so much left of the bound of all
 abbrev pub AreHeldBy : Part → List Work → ℕ → Type 0
 AreHeldBy part ws budget = AreHeld part.network.now part.input.now part.plan.watch part.bound ws budget
-
-abbrev pub seen_by : Part → List Work → RunState
-seen_by part ws = held_state part.network.now part.input.now part.plan.watch ws
 
 -- such a part may run: the code is the network's, the numbers are within their limits, and the jobs are those of a held run
 pub record IsHeldPart (part : Part) (ws : List Work) : Type 0 where
@@ -105,20 +95,23 @@ pub record HaveAllLeft (part : Part) (left : Left) : Type 0 where
 -- so a part that is over has stopped
 pub record IsConclusion (part : Part) (halted : Bool) (r : Conclusion) : Type 0 where
   pub held : AreHeldBy part r.idles.items r.budget
-  pub rule : IsConcluded (seen_by part r.idles.items) part.bound r.budget halted r.verdict r.ends.items
+  pub rule : IsConcluded (held_state part.network.now part.input.now part.plan.watch r.idles.items) part.bound r.budget halted r.verdict r.ends.items
 
 -- a part goes by the plan of its run: with its workers and its quantum
 abbrev pub IsPartOf : Plan → Plan → Type 0
 IsPartOf whole part = (part.watch ≡ whole.watch) × (part.workers ≡ whole.workers) × (part.quantum ≡ whole.quantum)
 
+-- so it ended: with a verdict, it and the ends are those of the jobs, or else it was refused
+abbrev pub HasEnded : Program → Lists → Option ℕ → ℕ → ℕ → Stopped → Type 0
+HasEnded t lists watch workers bound r =
+    MatchResult r.outcome (λ v. AreEnded (held_state t lists watch r.idles.items) bound r.budget r.ends.items (Some v)) (IsLack workers)
+
 -- a part of a run with so many events, of which the bound of all is the sum, has left these jobs: none has done fewer events;
 -- with a verdict it and the ends are those of the jobs; and where memory was refused nothing was done
 pub record HasStopped (t : Program) (lists : Lists) (watch : Option ℕ) (workers bound : ℕ) (old : List Work) (more : ℕ) (r : Stopped) : Type 0 where
   pub held : AreHeld t lists watch bound r.idles.items r.budget
-  pub risen : HaveRisen old r.idles.items
-  pub outcome : MatchResult r.outcome
-      (λ v. (halted : Bool) × IsConcluded (held_state t lists watch r.idles.items) bound r.budget halted v r.ends.items)
-      (IsLack workers)
+  pub risen : HaveRisen (cells_of old) (cells_of r.idles.items)
+  pub outcome : HasEnded t lists watch workers bound r
   pub untouched : r.outcome ≡ Err NoMemory → (r.budget ≡ more) × (map cell_alone (cells_of r.idles.items) ≡ map cell_alone (cells_of old))
 
 -- so of this part

@@ -1,6 +1,6 @@
 -- Inner. How tasks stand when no more is run, and what stands in the answer for each.
 use Rattle.std.specs.Prelude.{◌≡◌, ◌⊎◌, ℕ, ◌<◌, ◌^◌, List, length, map, Option, Some, slice_get}
-use Rattle.kahn_streams.specs.declared.tree.Program.{Program}
+use Rattle.kahn_streams.specs.declared.{tree.Program.Program, answer.End.End, answer.Outcome.Outcome}
 use Rattle.kahn_streams.specs.Network.{Reads, network_of, instance_at, actual_at}
 use Rattle.kahn_streams.specs.Script as script
 use Rattle.kahn_streams.specs.Script.{Cut, Dry}
@@ -18,8 +18,6 @@ use Rattle.kahn_job.specs.inner.Tasks.{Tasked, Continues, TellsOutcome}
 use Rattle.kahn_crew.specs.inner.Tasks.{handed_to_task}
 use Rattle.kahn_crew.specs.inner.Left.{AreAll}
 use Rattle.kahn_pool.specs.inner.Bench.{RunState}
-use Rattle.kahn_streams.specs.declared.answer.End.{End}
-use Rattle.kahn_streams.specs.declared.answer.Outcome.{Outcome}
 use Rattle.kahn_streams.specs.declared.answer.Outcome.TheVariants as outcome
 
 abbrev pub cell_of : Tasked → Told
@@ -69,10 +67,6 @@ pub record SettlesTo (old new : Tasked) : Type 0 where
   pub events : new.work.cell.events ≡ old.work.cell.events
   pub still : (old.standing ≡ standing.Going → ⊥) → new ≡ old
   pub settled : IsSettledTask new
-
-pub record HaveSettledTasks (old new : List Tasked) : Type 0 where
-  pub count : length new ≡ length old
-  pub each : (p : ℕ) (x y : Tasked) → slice_get old p ≡ Some x → slice_get new p ≡ Some y → SettlesTo x y
 
 -- ---- ends
 

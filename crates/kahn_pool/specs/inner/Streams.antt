@@ -1,17 +1,13 @@
 -- Inner. The streams of an answer, and the lists from which they are filled.
 use Rattle.std.specs.Prelude.{◌≡◌, ℕ, ◌<◌, List, [], length, map, Option, Some, slice_get, slice_index_or}
-use Rattle.kahn_streams.specs.declared.tree.Role.TheVariants.{Input}
-use Rattle.kahn_streams.specs.declared.value.Value.{Value}
-use Rattle.kahn_streams.specs.declared.value.Line.{Line}
-use Rattle.kahn_streams.specs.declared.value.Line.TheVariants.{Channel, Print}
-use Rattle.kahn_streams.specs.declared.token.Token.{Token}
+use Rattle.kahn_streams.specs.declared.{tree.Role.TheVariants.Input, value.Value.Value, value.Line.Line, value.Line.TheVariants.Channel, value.Line.TheVariants.Print, token.Token.Token, answer.Stream.Stream}
 use Rattle.kahn_streams.specs.Solution.{Inputs, IsPrefix, source}
 use Rattle.kahn_streams.specs.Network.{Network, Writes, Source, Given, Written, Nobody, instance_at, actual_at, role_at}
 use Rattle.kahn_code.specs.declared.cell.Kept.{Kept}
 use Rattle.kahn_code.specs.Cells.{AreKeptTokens}
 use Rattle.kahn_streams.specs.Tokens.{IsOwn, token_value}
-use Rattle.kahn_streams.specs.declared.answer.Stream.{Stream}
 use Rattle.kahn_streams.specs.Answers.{stream_line, stream_lines}
+use Rattle.kahn_pool.specs.inner.Changed.{HaveChanged}
 
 -- the lines of the streams, for some watched channel
 abbrev pub AreNamed : Network → List Stream → Type 0
@@ -31,9 +27,8 @@ abbrev pub HasBecome : Network → (Source → Line → List Token → List Toke
 HasBecome N right x y = right (source N y.line) y.line x.tokens.items y.tokens.items
 
 -- so did those of each stream, and the lines stay
-pub record HaveBecome (N : Network) (right : Source → Line → List Token → List Token → Type 0) (old new : List Stream) : Type 0 where
-  pub lines : map stream_line new ≡ map stream_line old
-  pub each : (j : ℕ) (x y : Stream) → slice_get old j ≡ Some x → slice_get new j ≡ Some y → HasBecome N right x y
+abbrev pub HaveBecome : Network → (Source → Line → List Token → List Token → Type 0) → List Stream → List Stream → Type 0
+HaveBecome N right = HaveChanged (λ x y. (y.line ≡ x.line) × HasBecome N right x y)
 
 -- ---- what the cells kept
 

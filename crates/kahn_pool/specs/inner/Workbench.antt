@@ -1,24 +1,23 @@
 -- Inner. The cells of a network over its plain queues, as a run on one thread has them.
-use Rattle.std.specs.Prelude.{◌≡◌, ◌⊎◌, ℕ, ◌+◌, ◌<◌, ◌≤◌, ◌^◌, ◌==◌, Bool, List, [], ◌∷◌, ◌++◌, length, map, replicate, Option, Some, slice_get, slice_index_or, if◌then◌else◌}
-use Rattle.kahn_streams.specs.declared.tree.Program.{Program}
+use Rattle.std.specs.Prelude.{◌≡◌, ◌⊎◌, ℕ, ◌+◌, ◌<◌, ◌≤◌, ◌^◌, ◌==◌, Bool, true, cond, List, [], ◌∷◌, ◌++◌, length, map, replicate, Option, Some, slice_get, slice_index_or, if◌then◌else◌}
+use Rattle.kahn_streams.specs.declared.{tree.Program.Program, token.Token.Token, answer.End.End, answer.Outcome.TheVariants.More, answer.Stream.Stream}
 use Rattle.kahn_streams.specs.Network.{network_of, instance_at}
 use Rattle.kahn_streams.specs.Wiring.{IsWellWired}
-use Rattle.kahn_streams.specs.declared.token.Token.{Token}
 use Rattle.kahn_streams.specs.Inputs.{most_values, Lists, inputs_of}
 use Rattle.kahn_code.specs.Lines.{Lines as Queues, place_at, waiting_of}
 use Rattle.kahn_code.specs.Cells.{StoodBy}
 use Rattle.kahn_code.specs.Standing.{tokens}
 use Rattle.kahn_code.specs.Told.{Told, told_view, IsAt}
-use Rattle.kahn_code.specs.declared.cell.Kept.{Kept}
+use Rattle.kahn_code.specs.declared.{cell.Kept.Kept, progress.Pause.Pause}
 use Rattle.kahn_code.specs.inner.Gone.{Gone, kept_behind, nothing_gone}
-use Rattle.kahn_code.specs.inner.Tapped.{HasForgotten, Tapped}
+use Rattle.kahn_code.specs.inner.Tapped.{Tapped}
 use Rattle.kahn_job.specs.inner.Openings.{IsOpening}
-use Rattle.kahn_pool.specs.inner.Bench.{Goes, RunState, all_events, events_at, weight}
+use Rattle.kahn_pool.specs.inner.Bench.{Goes, HasEndIn, HasRunCell, LacksMemory, Marked, RunState, all_events, events_at, turn_of, weight}
+use Rattle.kahn_code.specs.declared.progress.Pause.TheVariants as pause
 use Rattle.kahn_pool.specs.declared.rounds.Round.{Round}
 use Rattle.kahn_pool.specs.HeldRuns.{seen_at, seen_of}
 use Rattle.kahn_streams.specs.Answers.{stream_line, stream_lines}
 use Rattle.kahn_pool.specs.inner.Streams.{HasInputs, kept_lists, printed_list}
-use Rattle.kahn_streams.specs.declared.answer.Stream.{Stream}
 
 -- the program and the input, the watched channel, the program of the code, the cells, what they let go of, and the queues
 pub record Table : Type 0 where
@@ -57,6 +56,37 @@ pub record HasWorked (old new : Table) : Type 0 where
   pub gone : new.gone ≡ old.gone
   pub events : (p : ℕ) → events_at (sight_of old) p ≤ events_at (sight_of new) p
 
+-- an instance was run for at most so many events until this pause, and the round is marked; its ends and its share stay
+pub record HasTakenTurn (b d : Table) (old new : Round) (p : ℕ) (z : Pause) : Type 0 where
+  pub quantum : ℕ
+  pub turn : quantum ≡ turn_of old.share old.left old.memory
+  pub most : quantum ≤ cond old.memory 0 old.left
+  pub none : quantum ≡ 0 → (old.left ≡ 0) ⊎ (old.memory ≡ true)
+  pub ran : HasRunCell (sight_of b) (sight_of d) p quantum z
+  pub done : ℕ
+  pub counts : events_at (sight_of b) p + done ≡ events_at (sight_of d) p
+  pub left : new.left + done ≡ old.left
+  pub marked : Marked z done old.memory old.moved new.memory new.moved
+  pub ends : new.ends ≡ old.ends
+  pub share : new.share ≡ old.share
+  pub worked : HasWorked b d
+
+-- that is so, after which it stands so
+pub record HasVisited (b d : Table) (old new : Round) (p : ℕ) (x : End) : Type 0 where
+  pub stopped : Pause
+  pub gone : HasTakenTurn b d old new p stopped
+  pub rests : HasEndIn (sight_of d) p x
+  pub more : x.outcome ≡ More → (stopped ≡ pause.Spent) ⊎ (stopped ≡ pause.NoMemory)
+
+-- instances were visited in a round; its ends and its share stay
+pub record HasMoved (b d : Table) (old new : Round) : Type 0 where
+  pub worked : HasWorked b d
+  pub total : all_events (sight_of d) + new.left ≡ all_events (sight_of b) + old.left
+  pub lighter : weight new.left new.memory ≤ weight old.left old.memory
+  pub lacks : LacksMemory (sight_of b) old.left old.memory → LacksMemory (sight_of d) new.left new.memory
+  pub ends : new.ends ≡ old.ends
+  pub share : new.share ≡ old.share
+
 -- a round of a bench with so many events left, and whether memory was refused, at instance k
 abbrev pub GoesIn : Table → ℕ → Bool → Table → Round → ℕ → Type 0
 GoesIn old left memory new r k =
@@ -75,11 +105,6 @@ pub record HasTakenIn (c n : ℕ) (input : Lists) (old new : Table) : Type 0 whe
 -- what these cells say of their processes is true
 abbrev pub AllStandBy : Program → Option ℕ → List Told → Type 0
 AllStandBy t watch cells = (p : ℕ) (c : Told) → slice_get cells p ≡ Some c → StoodBy (network_of t) (inputs_of c.input) watch p (told_view c)
-
--- each tap has let go of all that it kept
-pub record HaveForgotten (old new : List Tapped) : Type 0 where
-  pub count : length new ≡ length old
-  pub each : (p : ℕ) (x y : Tapped) → slice_get old p ≡ Some x → slice_get new p ≡ Some y → HasForgotten x y
 
 -- what its tap says of a process
 abbrev pub StandsAsTold : Program → Tapped → Type 0

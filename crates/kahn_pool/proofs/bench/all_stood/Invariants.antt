@@ -1,6 +1,5 @@
 use Rattle.std.proofs.Common.{◌≡◌, ℕ, ◌<◌, Some, slice_get}
-use Rattle.kahn_code.specs.inner.Tapped.{Tapped}
-use Rattle.kahn_pool.specs.inner.Workbench.{StandsAsTold}
+use Rattle.kahn_pool.proofs.Common.{Tapped, StandsAsTold}
 use Rattle.kahn_pool.proofs.bench.all_stood.Given as goal
 
 abbrev pub invariant-loop-instance : goal.invariant-loop-instance

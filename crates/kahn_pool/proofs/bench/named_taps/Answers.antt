@@ -1,7 +1,5 @@
 use Rattle.std.proofs.Common.{ap, ◌∙◌, replicate, length, map, ◌∷◌, []}
-use Rattle.std.proofs.lemmas.List.{map-append}
-use Rattle.kahn_streams.specs.Network.{network_of, instance_at}
-use Rattle.kahn_pool.specs.inner.Workbench.{told_in}
+use Rattle.kahn_pool.proofs.Common.{map-append, network_of, instance_at, told_in}
 use Rattle.kahn_pool.proofs.Laid.{opening_more, whole_more}
 use Rattle.kahn_pool.proofs.bench.named_taps.Goals as goal
 

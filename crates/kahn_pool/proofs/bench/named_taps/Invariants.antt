@@ -1,6 +1,5 @@
 use Rattle.std.proofs.Common.{◌≡◌, map, replicate}
-use Rattle.kahn_code.specs.inner.Gone.{nothing_gone}
-use Rattle.kahn_pool.specs.inner.Workbench.{AreOpeningCells, gone_in, told_in}
+use Rattle.kahn_pool.proofs.Common.{nothing_gone, AreOpeningCells, gone_in, told_in}
 use Rattle.kahn_pool.proofs.bench.named_taps.Given as goal
 
 abbrev pub ghost-new : goal.ghost-new

@@ -1,7 +1,6 @@
 use Rattle.std.proofs.Common.{◌≡◌, ◌≤◌, length, take}
+use Rattle.kahn_pool.proofs.Common.{cells_of, AreKeptOf}
 use Rattle.std.specs.Vec.{vec_capacity}
-use Rattle.kahn_job.specs.inner.Idles.{cells_of}
-use Rattle.kahn_pool.specs.inner.Workbench.{AreKeptOf}
 use Rattle.kahn_pool.proofs.copies.copied_lists.Given as goal
 
 abbrev pub invariant-loop-instance : goal.invariant-loop-instance

@@ -1,5 +1,4 @@
-use Rattle.kahn_job.specs.inner.Idles.{cells_of}
-use Rattle.kahn_pool.specs.inner.Holding.{held_state}
+use Rattle.kahn_pool.proofs.Common.{cells_of, held_state}
 use Rattle.kahn_pool.proofs.Filled.{are_streams}
 use Rattle.kahn_pool.proofs.Kept.{idle_lists}
 use Rattle.kahn_pool.proofs.Seen.{kept_seen, printed_seen}

@@ -1,18 +1,12 @@
-use Rattle.std.proofs.Common.{rules, ◌≡◌, length, add-one}
-use Rattle.kahn_streams.specs.Network.{network_of, instance_at, actual_at, Reads}
-use Rattle.kahn_pool.proofs.Ended.{none_all}
-use Rattle.kahn_pool.proofs.Lists.{below_more}
+use Rattle.std.proofs.Common.{subst, sym, refl, ap, ◌∙◌}
+use Rattle.kahn_pool.proofs.Common.{network_of, Reads, joins_within, Joins, none-some, route_of, same_Some}
 use Rattle.kahn_pool.proofs.ends.channel_read.Goals as goal
 
-pub loop-channel-preserved : goal.loop-channel-preserved
-loop-channel-preserved c =
-    let t = c.args.network.now in
-    rw (add-one c.loop-channel.channel)
-    (below_more (λ d. actual_at (instance_at (network_of t) c.args.instance) c.args.parameter ≡ Reads d → ⊥) c.loop-channel.channel c.loop-channel.invariant
-    (search rules))
+pub channel-requires : goal.channel-requires
+channel-requires c = joins_within (network_of c.args.code.now.network.value) c.args.instance c.args.parameter c.requires.0 (subst (λ a. Joins a c.requires.0) (sym c.requires.1) refl)
 
-pub returns-clause-none : goal.returns-clause-none
-returns-clause-none c =
-    let t = c.args.network.now in
-    let all : c.loop-channel.channel ≡ length (network_of t).channels = search rules in
-    none_all t c.args.instance c.args.parameter c.loop-channel.channel c.program-program.ensures.wired all c.loop-channel.invariant
+pub unreachable-requires : goal.unreachable-requires
+unreachable-requires c = none-some _ (sym c.in-None.is ∙ c.channel.ensures ∙ ap route_of c.requires.1)
+
+pub returns : goal.returns
+returns c = c.requires.1 ∙ ap Reads (sym (same_Some _ _ (sym c.in-Some.is ∙ c.channel.ensures ∙ ap route_of c.requires.1)))

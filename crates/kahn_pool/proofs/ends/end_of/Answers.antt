@@ -1,7 +1,5 @@
-use Rattle.std.proofs.Common.{◌≡◌, inl, sym, ap, ◌∙◌, subst, Some, slice_get}
-use Rattle.std.proofs.lemmas.Option.{slice_get-get_or}
-use Rattle.kahn_job.specs.inner.Tasks.{Tasked}
-use Rattle.kahn_pool.specs.inner.Rested.{IsToldAs}
+use Rattle.std.proofs.Common.{◌≡◌, inl, sym, ap, ◌∙◌, subst, length, refl}
+use Rattle.kahn_pool.proofs.Common.{Tasked, IsToldAs, slice_get_read}
 use Rattle.kahn_pool.proofs.Benched.{some_one}
 use Rattle.kahn_pool.proofs.ends.end_of.Goals as goal
 use Rattle.kahn_pool.proofs.ends.end_of.Goals.{in-Going, in-Ended, in-Faulted, in-Dry}
@@ -11,7 +9,7 @@ dry_outcome-outcome-requires-clause-reads c =
     let tasks = c.args.tasks.now in
     let p = c.args.instance in
     let y = c.index-tasks-instance.result in
-    let at : slice_get tasks p ≡ Some y = slice_get-get_or tasks p y c.requires.here ∙ ap (λ (z : Tasked). Some z) (sym c.index-tasks-instance.is) in
+    let at = slice_get_read tasks (length tasks) p y refl c.requires.here c.index-tasks-instance.is in
     c.requires.told.dry p c.in-Dry.parameter y at (sym c.standing.ensures.result ∙ c.in-Dry.is)
 
 pub returns : goal.returns
@@ -20,7 +18,7 @@ returns c x e =
     let tasks = c.args.tasks.now in
     let p = c.args.instance in
     let y = c.index-tasks-instance.result in
-    let at : slice_get tasks p ≡ Some y = slice_get-get_or tasks p y c.requires.here ∙ ap (λ (z : Tasked). Some z) (sym c.index-tasks-instance.is) in
+    let at = slice_get_read tasks (length tasks) p y refl c.requires.here c.index-tasks-instance.is in
     let same : y ≡ x = some_one (sym at ∙ e) in
     let stands : x.standing ≡ c.standing.result = ap (λ (z : Tasked). z.standing) (sym same) ∙ sym c.standing.ensures.result in
     record {

@@ -1,6 +1,5 @@
-use Rattle.std.proofs.Common.{◌≡◌, ◌<◌, length, sym, ap, ◌∙◌, subst, Some, slice_get}
-use Rattle.std.proofs.lemmas.Option.{slice_get-get_or}
-use Rattle.kahn_job.specs.inner.Tasks.{Tasked}
+use Rattle.std.proofs.Common.{◌<◌, length, sym, subst, refl}
+use Rattle.kahn_pool.proofs.Common.{slice_get_read}
 use Rattle.kahn_pool.proofs.Ended.{given_all, sent_all}
 use Rattle.kahn_pool.proofs.ends.given.Goals as goal
 
@@ -12,7 +11,7 @@ returns-in-Some c =
     let only = c.in-Some.ensures.only in
     let x = c.index-tasks-side.result in
     let here : w.instance < length tasks = subst (λ n. w.instance < n) (sym c.requires.told.count) only.0.0.0 in
-    let at : slice_get tasks w.instance ≡ Some x = slice_get-get_or tasks w.instance x here ∙ ap (λ (y : Tasked). Some y) (sym c.index-tasks-side.is) in
+    let at = slice_get_read tasks (length tasks) w.instance x refl here c.index-tasks-side.is in
     sent_all t tasks c.requires.told c.args.input.now c.args.channel w x c.sent.result c.program-program.ensures.wired only at c.sent.ensures
 
 pub returns-in-None : goal.returns-in-None

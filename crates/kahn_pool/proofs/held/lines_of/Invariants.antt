@@ -1,6 +1,6 @@
 use Rattle.std.proofs.Common.{◌≡◌, ◌≤◌, length, map, take}
+use Rattle.kahn_pool.proofs.Common.{stream_line}
 use Rattle.std.specs.Vec.{vec_capacity}
-use Rattle.kahn_streams.specs.Answers.{stream_line}
 use Rattle.kahn_pool.proofs.held.lines_of.Given as goal
 
 abbrev pub invariant-loop-number : goal.invariant-loop-number

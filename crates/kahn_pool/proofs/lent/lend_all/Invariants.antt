@@ -1,5 +1,5 @@
 use Rattle.std.proofs.Common.{◌≡◌, ◌++◌, map, take, vec_capacity}
-use Rattle.kahn_streams.specs.Tokens.{token_value}
+use Rattle.kahn_pool.proofs.Common.{token_value}
 use Rattle.kahn_pool.proofs.lent.lend_all.Given as goal
 
 abbrev pub invariant-loop-number : goal.invariant-loop-number

@@ -1,5 +1,5 @@
 use Rattle.std.proofs.Common.{subst}
-use Rattle.kahn_pool.specs.inner.Bench.{IsVerdict}
+use Rattle.kahn_pool.proofs.Common.{IsVerdict}
 use Rattle.kahn_pool.proofs.part_alone.run_counted.Goals as goal
 
 pub returns-clause-concluded : goal.returns-clause-concluded

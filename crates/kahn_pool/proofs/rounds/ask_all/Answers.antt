@@ -1,14 +1,14 @@
-use Rattle.std.proofs.Common.{◌<◌, ◌^◌, ◌∙◌, arith, ap, sym, subst, length}
-use Rattle.kahn_pool.specs.inner.Bench.{RunState, all_events}
-use Rattle.kahn_pool.specs.inner.Workbench.{HasWorked, sight_of}
-use Rattle.kahn_pool.proofs.Turns.{asked, at_most_all}
+use Rattle.std.proofs.Common.{◌<◌, ◌^◌, ◌∙◌, arith, ap, sym, subst, length, refl}
+use Rattle.kahn_pool.proofs.Common.{RunState, all_events, HasWorked, sight_of, view_events, no_view, count}
+use Rattle.kahn_pool.proofs.Turns.{asked}
+use Rattle.kahn_pool.proofs.Lists.{one_of_sum}
 use Rattle.kahn_pool.proofs.Tapping.{worked_on}
 use Rattle.kahn_pool.proofs.rounds.ask_all.Goals as goal
 
 pub run-stopped-requires-clause-bound : goal.run-stopped-requires-clause-bound
 run-stopped-requires-clause-bound g c =
     let s = sight_of c.loop-instance.bench in
-    let a = at_most_all s.cells c.loop-instance.instance in
+    let a = one_of_sum view_events s.cells c.loop-instance.instance no_view refl in
     let b : all_events s < 2 ^ 48 = subst (λ (u : RunState). all_events u < 2 ^ 48) (sym c.loop-instance.invariant.same) c.requires.bound in
     omega (arith, a, b)
 

@@ -1,5 +1,5 @@
 use Rattle.std.proofs.Common.{◌≡◌, length}
-use Rattle.kahn_pool.specs.inner.Workbench.{HasWorked, sight_of}
+use Rattle.kahn_pool.proofs.Common.{HasWorked, sight_of}
 use Rattle.kahn_pool.proofs.rounds.ask_all.Given as goal
 
 abbrev pub invariant-loop-instance : goal.invariant-loop-instance

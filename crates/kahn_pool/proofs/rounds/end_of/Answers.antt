@@ -1,9 +1,5 @@
-use Rattle.std.proofs.Common.{inl}
-use Rattle.std.proofs.Common.{sym, ap, ◌∙◌, subst}
-use Rattle.kahn_streams.specs.Network.{Reads}
-use Rattle.kahn_streams.specs.Solution.{exec_at}
-use Rattle.kahn_pool.specs.inner.Bench.{IsPaused, events_at}
-use Rattle.kahn_pool.specs.inner.Workbench.{sight_of}
+use Rattle.std.proofs.Common.{inl, subst}
+use Rattle.kahn_pool.proofs.Common.{IsPaused, events_at, sight_of, exec_on, count}
 use Rattle.kahn_pool.proofs.Turns.{told_as, told_dry}
 use Rattle.kahn_pool.proofs.rounds.end_of.Goals as goal
 use Rattle.kahn_pool.proofs.rounds.end_of.Goals.{in-Spent, in-NoMemory, in-Ended, in-Fault, in-Dry}
@@ -13,16 +9,16 @@ returns-clause-rests c =
     let s = sight_of c.args.bench.now in
     let p = c.args.instance in
     let h = c.requires.paused in
-    let o = (exec_at s.network (events_at s p) p h.stood.tapes).outcome in
+    let o = (exec_on s.network (events_at s p) p h.stood.tapes).outcome in
     record {
       stood = h.stood;
       count = c.events.ensures;
       told = elim c.match-stopped.branch [
-        | in-Spent w ↦ told_as s p o _ _ _ _ w.in-Spent.is w.outcome-is h.told (λ y. y)
-        | in-NoMemory w ↦ told_as s p o _ _ _ _ w.in-NoMemory.is w.outcome-is h.told (λ y. inl y)
-        | in-Ended w ↦ told_as s p o _ _ _ _ w.in-Ended.is w.outcome-is h.told (λ y. y)
-        | in-Fault w ↦ told_as s p o _ _ _ _ w.in-Fault.is w.outcome-is h.told (λ y. y)
-        | in-Dry w ↦ told_as s p o _ _ _ _ w.in-Dry.is w.outcome-is h.told (λ y. told_dry s p o w.in-Dry.parameter w.channel.result (y.1 ∙ ap Reads (sym (w.channel.ensures y.0 y.1))) y)
+        | in-Spent w ↦ told_as s p o _ _ _ _ w.in-Spent.is w.outcome-is h.is (λ y. y)
+        | in-NoMemory w ↦ told_as s p o _ _ _ _ w.in-NoMemory.is w.outcome-is h.is (λ y. inl y)
+        | in-Ended w ↦ told_as s p o _ _ _ _ w.in-Ended.is w.outcome-is h.is (λ y. y)
+        | in-Fault w ↦ told_as s p o _ _ _ _ w.in-Fault.is w.outcome-is h.is (λ y. y)
+        | in-Dry w ↦ told_as s p o _ _ _ _ w.in-Dry.is w.outcome-is h.is (λ y. told_dry s p o w.in-Dry.parameter w.channel.result w.channel.ensures y)
       ];
     }
 
@@ -31,5 +27,5 @@ channel-requires c =
     let s = sight_of c.args.bench.now in
     let p = c.args.instance in
     let h = c.requires.paused in
-    let told = subst (λ z. IsPaused s p z (exec_at s.network (events_at s p) p h.stood.tapes).outcome) c.in-Dry.is h.told in
+    let told = subst (λ z. IsPaused s p z (exec_on s.network (events_at s p) p h.stood.tapes).outcome) c.in-Dry.is h.is in
     (told.0, told.1)

@@ -1,5 +1,5 @@
 use Rattle.std.proofs.Common.{◌≡◌, ◌≤◌, length, vec_len, vec_capacity}
-use Rattle.kahn_pool.specs.inner.Workbench.{GoesIn, HasWorked, sight_of}
+use Rattle.kahn_pool.proofs.Common.{GoesIn, HasWorked, sight_of}
 use Rattle.kahn_pool.proofs.rounds.one_round.Given as goal
 
 abbrev pub invariant-loop-instance : goal.invariant-loop-instance

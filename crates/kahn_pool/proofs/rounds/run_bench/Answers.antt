@@ -1,7 +1,6 @@
 use Rattle.std.proofs.Common.{◌≡◌, ◌+◌, ap, ◌∙◌, subst, arith}
-use Rattle.kahn_pool.specs.inner.Bench.{RunState, all_events, IsLast}
-use Rattle.kahn_streams.specs.Answers.{IsRight}
-use Rattle.kahn_pool.specs.inner.Workbench.{Table, sight_of}
+use Rattle.kahn_pool.proofs.Common.{RunState, all_events, IsLast, IsRight, Table, sight_of}
+use Rattle.kahn_pool.proofs.Tapping.{same_run}
 use Rattle.kahn_pool.proofs.rounds.run_bench.Goals as goal
 
 pub answered-requires-clause-last : goal.answered-requires-clause-last
@@ -20,7 +19,7 @@ pub returns-in-Some : goal.returns-in-Some
 returns-in-Some g c =
     let start = sight_of c.args.bench in
     let is = ap sight_of c.bench.view_is in
-    let same = c.last_round.ensures.same in
+    let same = same_run c.last_round.ensures.worked in
     let s = sight_of c.last_round.new.bench in
     let b = c.args.bound in
     let a = c.answered.result in

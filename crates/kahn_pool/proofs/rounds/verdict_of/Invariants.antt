@@ -1,6 +1,6 @@
 use Rattle.std.proofs.Common.{◌≡◌, ℕ, false, slice_get, Some, ◌<◌}
+use Rattle.kahn_pool.proofs.Common.{More}
 use Rattle.kahn_streams.specs.declared.answer.End.{End}
-use Rattle.kahn_streams.specs.declared.answer.Outcome.TheVariants.{More}
 use Rattle.kahn_pool.proofs.rounds.verdict_of.Given as goal
 
 abbrev pub invariant-loop-end : goal.invariant-loop-end

@@ -1,6 +1,5 @@
 use Rattle.std.proofs.Common.{◌≡◌, Some, refl, sym, ap, ◌∙◌, subst, slice_get}
-use Rattle.kahn_streams.specs.Network.{channel_names}
-use Rattle.kahn_streams.specs.Answers.{IsUndeclared, IsWatched}
+use Rattle.kahn_pool.proofs.Common.{channel_names, IsUndeclared, IsWatched}
 use Rattle.kahn_pool.proofs.Watching.{named_nowhere, named_there}
 use Rattle.kahn_pool.proofs.running.watched.Goals as goal
 

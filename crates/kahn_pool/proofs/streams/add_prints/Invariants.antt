@@ -1,8 +1,5 @@
 use Rattle.std.proofs.Common.{◌≡◌, ◌++◌, drop, map}
-use Rattle.std.specs.List.{All}
-use Rattle.kahn_streams.specs.Network.{network_of}
-use Rattle.kahn_streams.specs.Answers.{stream_line, print_lines}
-use Rattle.kahn_pool.specs.inner.Streams.{IsBare}
+use Rattle.kahn_pool.proofs.Common.{All, network_of, stream_line, print_lines, IsBare}
 use Rattle.kahn_pool.proofs.streams.add_prints.Given as goal
 
 abbrev pub invariant-loop-instance : goal.invariant-loop-instance

@@ -1,6 +1,5 @@
 use Rattle.std.proofs.Common.{ap, ◌∙◌, slice_set}
-use Rattle.std.proofs.lemmas.List.{map-set}
-use Rattle.kahn_pool.specs.inner.Streams.{kept_lists}
+use Rattle.kahn_pool.proofs.Common.{map-set, kept_lists}
 use Rattle.kahn_pool.proofs.streams.exchange_kept.Goals as goal
 
 pub returns-clause-kept : goal.returns-clause-kept

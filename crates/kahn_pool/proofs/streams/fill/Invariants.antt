@@ -1,5 +1,5 @@
 use Rattle.std.proofs.Common.{◌≡◌, length}
-use Rattle.kahn_streams.specs.Network.{network_of}
+use Rattle.kahn_pool.proofs.Common.{network_of}
 use Rattle.kahn_pool.proofs.Filled.{Filling}
 use Rattle.kahn_pool.proofs.streams.fill.Given as goal
 

@@ -1,6 +1,5 @@
 use Rattle.std.proofs.Common.{arith, ◌≡◌, ◌<◌, length, refl, sym, ap, ◌∙◌, subst}
-use Rattle.kahn_streams.specs.Network.{network_of}
-use Rattle.kahn_pool.specs.inner.Streams.{IsDeclared}
+use Rattle.kahn_pool.proofs.Common.{network_of, IsDeclared}
 use Rattle.kahn_pool.proofs.Filled.{kept_taken, printed_taken}
 use Rattle.kahn_pool.proofs.streams.fill_one.Goals as goal
 

@@ -1,8 +1,5 @@
 use Rattle.std.proofs.Common.{sym, subst}
-use Rattle.kahn_streams.specs.Network.{network_of}
-use Rattle.kahn_streams.specs.Solution.{source}
-use Rattle.kahn_streams.specs.Inputs.{inputs_of}
-use Rattle.kahn_pool.specs.inner.Streams.{HasInput}
+use Rattle.kahn_pool.proofs.Common.{network_of, source, inputs_of, HasInput}
 use Rattle.kahn_pool.proofs.Giving.{begun_none, channel_given}
 use Rattle.kahn_pool.proofs.streams.give_input.Goals as goal
 

@@ -1,8 +1,5 @@
 use Rattle.std.proofs.Common.{rules, arith, ◌≡◌, inl, inr, ◌+◌, [], ◌∷◌, length, length-append, refl, ap, ◌∙◌}
-use Rattle.std.proofs.lemmas.Option.{slice_get_within}
-use Rattle.kahn_streams.specs.Network.{network_of}
-use Rattle.kahn_streams.specs.Inputs.{inputs_of}
-use Rattle.kahn_code.proofs.Lists.{own_of}
+use Rattle.kahn_pool.proofs.Common.{slice_get_within, network_of, inputs_of, own_of}
 use Rattle.kahn_pool.proofs.Giving.{begun_more, falls}
 use Rattle.kahn_pool.proofs.streams.give_list.Goals as goal
 

@@ -1,8 +1,5 @@
 use Rattle.std.proofs.Common.{◌≡◌, ◌⊎◌, ◌-◌, length}
-use Rattle.kahn_streams.specs.declared.tree.Role.TheVariants.{Input}
-use Rattle.kahn_streams.specs.Network.{network_of, role_at}
-use Rattle.kahn_streams.specs.Inputs.{inputs_of}
-use Rattle.kahn_pool.specs.inner.Streams.{IsBegun}
+use Rattle.kahn_pool.proofs.Common.{Input, network_of, role_at, inputs_of, IsBegun}
 use Rattle.kahn_pool.proofs.streams.give_list.Given as goal
 
 abbrev pub invariant-tokens : goal.invariant-tokens

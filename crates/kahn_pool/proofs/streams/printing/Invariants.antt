@@ -1,5 +1,5 @@
 use Rattle.std.proofs.Common.{◌≡◌, ◌++◌, drop, map}
-use Rattle.kahn_streams.specs.Prints.{declaration_prints}
+use Rattle.kahn_pool.proofs.Common.{declaration_prints}
 use Rattle.kahn_pool.proofs.streams.printing.Given as goal
 
 abbrev pub invariant-loop-declaration : goal.invariant-loop-declaration

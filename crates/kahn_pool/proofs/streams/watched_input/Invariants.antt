@@ -1,6 +1,5 @@
 use Rattle.std.proofs.Common.{◌≡◌, length}
-use Rattle.kahn_streams.specs.Network.{network_of}
-use Rattle.kahn_streams.specs.Inputs.{inputs_of}
+use Rattle.kahn_pool.proofs.Common.{network_of, inputs_of}
 use Rattle.kahn_pool.proofs.Giving.{Giving}
 use Rattle.kahn_pool.proofs.streams.watched_input.Given as goal
 

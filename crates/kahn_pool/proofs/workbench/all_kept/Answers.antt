@@ -1,6 +1,6 @@
 use Rattle.std.proofs.Common.{arith, ap, sym, ◌∙◌, subst, length, ◌∷◌, []}
+use Rattle.kahn_pool.proofs.Common.{AreLeft}
 use Rattle.std.proofs.lemmas.List.{length-append}
-use Rattle.kahn_pool.specs.inner.Workbench.{AreLeft}
 use Rattle.kahn_pool.proofs.Tapping.{left_more}
 use Rattle.kahn_pool.proofs.workbench.all_kept.Goals as goal
 

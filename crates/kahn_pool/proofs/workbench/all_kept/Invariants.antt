@@ -1,5 +1,5 @@
 use Rattle.std.proofs.Common.{◌≡◌, length, vec_capacity}
-use Rattle.kahn_pool.specs.inner.Workbench.{AreLeft}
+use Rattle.kahn_pool.proofs.Common.{AreLeft}
 use Rattle.kahn_pool.proofs.workbench.all_kept.Given as goal
 
 abbrev pub invariant-loop-tap : goal.invariant-loop-tap

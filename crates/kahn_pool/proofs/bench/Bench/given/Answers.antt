@@ -1,9 +1,5 @@
 use Rattle.std.proofs.Common.{◌≡◌, ◌+◌, ◌<◌, ◌^◌, ap, ◌∙◌, subst, length, slice_get}
-use Rattle.std.specs.Option.{SomeIff}
-use Rattle.kahn_streams.specs.Network.{network_of, role_at}
-use Rattle.kahn_streams.specs.Inputs.{inputs_of}
-use Rattle.kahn_code.specs.Lines.{taken_of, waiting_of}
-use Rattle.kahn_pool.specs.inner.Workbench.{Table}
+use Rattle.kahn_pool.proofs.Common.{SomeIff, network_of, role_at, inputs_of, taken_of, waiting_of, Table}
 use Rattle.kahn_pool.proofs.Emptied.{given_all}
 use Rattle.kahn_pool.proofs.bench.Bench.given.Goals as goal
 

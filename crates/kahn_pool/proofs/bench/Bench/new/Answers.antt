@@ -1,6 +1,5 @@
 use Rattle.std.proofs.Common.{ap, ◌∙◌}
-use Rattle.kahn_pool.specs.inner.Workbench.{Table, sight_of}
-use Rattle.kahn_pool.specs.inner.Bench.{all_events}
+use Rattle.kahn_pool.proofs.Common.{Table, sight_of, all_events}
 use Rattle.kahn_pool.proofs.Laid.{laid_first, no_events}
 use Rattle.kahn_pool.proofs.bench.Bench.new.Goals as goal
 

@@ -1,10 +1,5 @@
 use Rattle.std.proofs.Common.{length, sym, ap, ◌∙◌, subst}
-use Rattle.kahn_streams.specs.Network.{network_of, role_at}
-use Rattle.kahn_streams.specs.Solution.{AreInputsExtended}
-use Rattle.kahn_streams.specs.Inputs.{inputs_of}
-use Rattle.kahn_code.specs.Lines.{HasPoured}
-use Rattle.kahn_code.proofs.Poured.{poured_grown}
-use Rattle.kahn_pool.specs.inner.Workbench.{HasTakenIn, IsLaid, Table, table_of}
+use Rattle.kahn_pool.proofs.Common.{network_of, role_at, AreInputsExtended, inputs_of, HasPoured, poured_grown, HasTakenIn, IsLaid, Table, table_of}
 use Rattle.kahn_pool.proofs.Taking_in as Taking
 use Rattle.kahn_pool.proofs.bench.Bench.pour.Goals as goal
 

@@ -1,6 +1,5 @@
-use Rattle.std.proofs.Common.{arith, refl, subst}
-use Rattle.kahn_pool.specs.inner.Bench.{HasRunCell}
-use Rattle.kahn_pool.specs.inner.Workbench.{IsLaid, Table, sight_of, table_of}
+use Rattle.std.proofs.Common.{arith, subst}
+use Rattle.kahn_pool.proofs.Common.{HasRunCell, IsLaid, Table, sight_of, table_of}
 use Rattle.kahn_pool.proofs.Benched
 use Rattle.kahn_pool.proofs.Tapping as Tapping
 use Rattle.kahn_pool.proofs.bench.Bench.run.Goals as goal
@@ -50,14 +49,6 @@ returns g c =
     let ran = subst (λ (y : Table). HasRunCell (sight_of c.args.self.now) (sight_of y) c.args.instance n z)
     (Tapping.ran_is c.self.inside.taps.items c.self.view_is laid c.args.instance c.requires.here c.index_mut.ensures.value tap e.gone ports)
     (subst (λ (x : Table). HasRunCell (sight_of x) (sight_of (Benched.ran b c.args.instance new ports)) c.args.instance n z) c.self.view_is
-    (record {
-      same = (refl, refl, refl);
-      only = Benched.views_after b c.args.instance _ new ports at;
-      events = Benched.events_now laid c.args.instance at new c.at.new.self ports c.at.ensures e.names e.ports e.at e.others n e.events;
-      still = Benched.still_now laid c.args.instance at new c.at.new.self ports c.at.ensures e.names e.ports e.at e.others e.still;
-      paused = Benched.paused_now laid c.args.instance at new c.at.new.self ports c.at.ensures e.names e.ports e.at e.others c.counted.ensures n z e.paused;
-      spent = Benched.spent_now laid c.args.instance at new c.at.new.self ports c.at.ensures e.names e.ports e.at e.others n _ _ z e.paused;
-      wanted = Benched.wanted_now laid c.args.instance at new c.at.new.self ports c.at.ensures e.names e.ports e.at e.others n _ _ z e.paused e.events.1;
-    }))
+    (Benched.ran_now laid c.args.instance at new c.at.new.self ports c.at.ensures e.names e.ports e.at e.others c.counted.ensures n z e.paused e.events e.still))
     in
     (ran, Tapping.run_worked c.self.inside.taps.items c.self.view_is laid c.args.instance c.requires.here c.index_mut.ensures.value tap e.gone ports n z ran)

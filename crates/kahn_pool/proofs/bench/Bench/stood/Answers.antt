@@ -1,11 +1,12 @@
 use Rattle.std.proofs.Common.{◌≡◌, Some, sym, subst, slice_get}
-use Rattle.kahn_pool.specs.inner.Workbench.{AllStandBy, Table}
-use Rattle.kahn_pool.proofs.Emptied.{all_stand_by, cell_of}
+use Rattle.kahn_pool.proofs.Common.{AllStandBy, Table, told_in}
+use Rattle.kahn_pool.proofs.Emptied.{all_stand_by}
+use Rattle.kahn_pool.proofs.Benched.{get_map}
 use Rattle.kahn_pool.proofs.bench.Bench.stood.Goals as goal
 
 pub all_stood-requires : goal.all_stood-requires
 all_stood-requires c p x at =
-    (c.self.invariant.each p x.told (cell_of c.self.inside.taps.items p x (subst (λ l. slice_get l p ≡ Some x) c.deref.ensures.value at))).network
+    (c.self.invariant.each p x.told (get_map told_in c.self.inside.taps.items p x (subst (λ l. slice_get l p ≡ Some x) c.deref.ensures.value at))).network
 
 pub returns-clause-each : goal.returns-clause-each
 returns-clause-each c =

@@ -1,6 +1,5 @@
 use Rattle.std.proofs.Common.{subst}
-use Rattle.kahn_pool.specs.inner.Gathered.{TookNoMore}
-use Rattle.kahn_pool.specs.inner.Workbench.{Table, sight_of}
+use Rattle.kahn_pool.proofs.Common.{TookNoMore, Table, sight_of}
 use Rattle.kahn_pool.proofs.Benched.{within}
 use Rattle.kahn_pool.proofs.bench.Bench.within.Goals as goal
 

@@ -1,6 +1,5 @@
 use Rattle.std.proofs.Common.{◌≡◌, ◌+◌, ap, ◌∙◌, subst, sum_by}
-use Rattle.kahn_pool.specs.HeldRuns.{seen_events}
-use Rattle.kahn_pool.specs.Flows.{Flowing}
+use Rattle.kahn_pool.proofs.Common.{seen_events, Flowing}
 use Rattle.kahn_pool.proofs.Righted.{events_seen}
 use Rattle.kahn_pool.proofs.flow.Flow.budget.Goals as goal
 

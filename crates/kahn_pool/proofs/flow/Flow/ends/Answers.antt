@@ -1,21 +1,15 @@
-use Rattle.std.proofs.Common.{arith, ◌≡◌, List, Some, sym, subst}
-use Rattle.kahn_pool.specs.HeldRuns.{IsRightSoFar}
-use Rattle.kahn_pool.specs.Flows.{Flowing}
-use Rattle.kahn_pool.specs.inner.Holding.{AreEnded}
-use Rattle.kahn_pool.specs.inner.Workbench.{sight_of}
+use Rattle.std.proofs.Common.{◌≡◌, List, Some, sym, subst}
+use Rattle.kahn_pool.proofs.Common.{IsRightSoFar, Flowing, AreEnded, sight_of}
 use Rattle.kahn_streams.specs.declared.answer.End.{End}
-use Rattle.kahn_pool.proofs.Righted.{events_seen, right_with}
+use Rattle.kahn_pool.proofs.Righted.{right_with}
 use Rattle.kahn_pool.proofs.flow.Flow.ends.Goals as goal
 
 pub returns : goal.returns
 returns c v e =
     let i = c.self.inside in
     let b = i.bench in
-    let h = c.self.invariant.2 in
     let is : i.verdict ≡ Some v = subst (λ (f : Flowing). f.run.verdict ≡ Some v) (sym c.self.view_is) e in
-    let ended = subst (AreEnded (sight_of b) i.plan.bound i.budget i.ends.items) is h.ended in
-    let s = events_seen b.cells in
-    let l = h.left in
+    let ended = subst (AreEnded (sight_of b) i.plan.bound i.budget i.ends.items) is c.self.invariant.2.ended in
     subst (λ (xs : List End). IsRightSoFar c.args.self.now.run v xs) (sym c.deref.ensures.value)
     (subst (λ (f : Flowing). IsRightSoFar f.run v i.ends.items) c.self.view_is
-    (right_with b.network b.input b.watch i.plan.workers i.plan.quantum i.plan.bound b.cells i.verdict i.budget (omega (arith, s, l)) ended.0 v i.ends.items ended.1))
+    (right_with b.network b.input b.watch i.plan.workers i.plan.quantum i.plan.bound b.cells i.verdict ended.1))

@@ -1,16 +1,5 @@
-use Rattle.std.proofs.Common.{arith, ◌≡◌, ◌++◌, false, true, List, drop, length, map, None, refl, sym, ap, ◌∙◌, subst}
-use Rattle.std.proofs.lemmas.Result.{err_from_is_err_and}
-use Rattle.kahn_streams.specs.declared.tree.Role.TheVariants.{Input}
-use Rattle.kahn_streams.specs.Network.{network_of, role_at}
-use Rattle.kahn_streams.specs.Inputs.{Entry, channel_of, Lists, inputs_of}
-use Rattle.kahn_streams.specs.Feeds.{IsMeant}
-use Rattle.kahn_streams.specs.declared.token.Token.{Token}
-use Rattle.kahn_streams.specs.Answers.{is_watched}
-use Rattle.kahn_streams.specs.Tokens.{token_value}
-use Rattle.kahn_streams.proofs.Fed.{meant_input}
-use Rattle.kahn_code.proofs.Poured.{poured_length, poured_rest}
-use Rattle.kahn_pool.specs.Flows.{Flowing, HasPouredIn}
-use Rattle.kahn_pool.specs.inner.FlowBench.{flow_of}
+use Rattle.std.proofs.Common.{arith, ◌≡◌, drop, length, None, refl, sym, ap, ◌∙◌, subst}
+use Rattle.kahn_pool.proofs.Common.{err_from_is_err_and, Input, network_of, role_at, Entry, channel_of, Lists, inputs_of, IsMeant, is_watched, meant_input, poured_length, poured_rest, Flowing, HasPouredIn, flow_of}
 use Rattle.kahn_pool.proofs.Poured_in.{is_poured, poured_flow, poured_flowing, poured_lent, poured_lists, refused_same}
 use Rattle.kahn_pool.proofs.flow.Flow.feed.Goals as goal
 
@@ -55,16 +44,12 @@ invariant_of-self-2 c =
     let number = c.in_ok-number.number in
     let vs = c.args.values.now in
     let h = c.in_ok-poured.ensures.poured in
-    let us = c.lend.new.tokens.items in
-    let kept = c.make_room.ensures.items in
-    let is : c.is_watched-lends.result ≡ is_watched b.watch number = c.is_watched-lends.ensures ∙ ap (λ w. is_watched w number) (sym c.self.invariant.1) in
-    let grown : is_watched b.watch number ≡ true → map token_value us ≡ map token_value i.given.items ++ vs =
-    λ e. c.lend.ensures.lent (is ∙ e) ∙ ap (λ (l : List Token). map token_value l ++ vs) kept in
-    let same : is_watched b.watch number ≡ false → us ≡ i.given.items = λ e. c.lend.ensures.same (is ∙ e) ∙ kept in (
+    let lists = poured_lists number vs b.input in (
       h.network ∙ c.self.invariant.0,
       h.watch ∙ c.self.invariant.1,
-      poured_flowing b d number (length vs) (poured_lists number vs b.input) h c.self.invariant.2,
-      poured_lent b d number vs (poured_lists number vs b.input) (is_poured number vs b.input) h i.given.items us c.self.invariant.3 grown same,
+      poured_flowing b d number (length vs) lists h c.self.invariant.2,
+      poured_lent b d number vs lists (is_poured number vs b.input) h i.given.items c.make_room.new.tokens.items c.lend.new.tokens.items c.self.invariant.3 c.make_room.ensures.items
+          c.is_watched-lends.result (c.is_watched-lends.ensures ∙ ap (λ w. is_watched w number) (sym c.self.invariant.1)) c.lend.ensures.lent c.lend.ensures.same,
     )
 
 pub returns : goal.returns
@@ -74,17 +59,12 @@ returns c =
     let d = c.pour-poured.new.self in
     let number = c.in_ok-number.number in
     let vs = c.args.values.now in
-    let h = c.in_ok-poured.ensures.poured in
     let us = c.lend.new.tokens.items in
-    let kept = c.make_room.ensures.items in
     let s = c.stood.ensures in
     let entry : Entry = (c.args.channel.now, vs) in
-    let is : c.is_watched-lends.result ≡ is_watched b.watch number = c.is_watched-lends.ensures ∙ ap (λ w. is_watched w number) (sym c.self.invariant.1) in
-    let grown : is_watched b.watch number ≡ true → map token_value us ≡ map token_value i.given.items ++ vs =
-    λ e. c.lend.ensures.lent (is ∙ e) ∙ ap (λ (l : List Token). map token_value l ++ vs) kept in
-    let same : is_watched b.watch number ≡ false → us ≡ i.given.items = λ e. c.lend.ensures.same (is ∙ e) ∙ kept in
     let named = c.in_ok-number.ensures.0 ∙ ap (λ t. channel_of t entry) (sym c.self.invariant.0) in
     let meant = subst (λ t. IsMeant t entry) (sym c.self.invariant.0) c.in_ok-number.ensures.1 in
     subst (λ (f : Flowing). HasPouredIn entry f (flow_of d i.plan.workers i.plan.quantum i.plan.bound None (length us))) c.self.view_is
-    (poured_flow b d number vs (poured_lists number vs b.input) (is_poured number vs b.input) h i.given.items us c.self.invariant.3 grown same s.laid s.each i.plan.workers
-    i.plan.quantum i.plan.bound i.verdict entry named refl meant c.in-Some.ensures.0)
+    (poured_flow b d number vs (poured_lists number vs b.input) (is_poured number vs b.input) c.in_ok-poured.ensures.poured i.given.items c.make_room.new.tokens.items us
+    c.self.invariant.3 c.make_room.ensures.items c.is_watched-lends.result (c.is_watched-lends.ensures ∙ ap (λ w. is_watched w number) (sym c.self.invariant.1))
+    c.lend.ensures.lent c.lend.ensures.same s.laid s.each i.plan.workers i.plan.quantum i.plan.bound i.verdict entry named refl meant c.in-Some.ensures.0)

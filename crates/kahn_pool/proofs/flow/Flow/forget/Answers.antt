@@ -1,6 +1,5 @@
 use Rattle.std.proofs.Common.{◌∙◌, length, subst}
-use Rattle.kahn_pool.specs.Flows.{Flowing, HasLetGo}
-use Rattle.kahn_pool.specs.inner.FlowBench.{flow_of}
+use Rattle.kahn_pool.proofs.Common.{Flowing, HasLetGo, flow_of}
 use Rattle.kahn_pool.proofs.Flowed.{emptied_flow, emptied_state, flowing_same, none_lent}
 use Rattle.kahn_pool.proofs.flow.Flow.forget.Goals as goal
 

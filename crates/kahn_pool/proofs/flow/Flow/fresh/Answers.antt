@@ -1,7 +1,5 @@
 use Rattle.std.proofs.Common.{◌≡◌, ◌<◌, length, sym, subst}
-use Rattle.kahn_streams.specs.Network.{Given, Written, Writes, channel_source, network_of, instance_at, actual_at}
-use Rattle.kahn_pool.specs.HeldRuns.{IsLineOf}
-use Rattle.kahn_pool.specs.Flows.{AreNew, Flowing}
+use Rattle.kahn_pool.proofs.Common.{Given, Written, Writes, channel_source, network_of, instance_at, actual_at, IsLineOf, AreNew, Flowing}
 use Rattle.kahn_pool.proofs.Flowed.{line_here, new_given, new_kept, new_printed}
 use Rattle.kahn_pool.proofs.Named.{HasLine}
 use Rattle.kahn_pool.proofs.flow.Flow.fresh.Goals as goal

@@ -1,6 +1,5 @@
 use Rattle.std.proofs.Common.{arith, ◌+◌, ◌<◌, ◌^◌, Some, length, ◌∙◌, subst}
-use Rattle.kahn_pool.specs.Flows.{Flowing, IsRunOn}
-use Rattle.kahn_pool.specs.inner.FlowBench.{flow_of}
+use Rattle.kahn_pool.proofs.Common.{Flowing, IsRunOn, flow_of}
 use Rattle.kahn_pool.proofs.Flowed.{flowed_on, lent_same, part_ended, part_left}
 use Rattle.kahn_pool.proofs.flow.Flow.resume.Goals as goal
 

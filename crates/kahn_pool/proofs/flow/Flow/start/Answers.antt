@@ -1,9 +1,7 @@
 use Rattle.std.proofs.Common.{arith, rules, ◌≤◌, length, vec_capacity, refl, sym, ◌∙◌, subst}
-use Rattle.kahn_streams.specs.Answers.{IsInRange, IsWatched}
-use Rattle.kahn_streams.specs.Network.{network_of}
-use Rattle.kahn_streams.specs.Inputs.{inputs_of}
-use Rattle.kahn_pool.specs.inner.Streams.{AreAllGiven}
-use Rattle.kahn_pool.proofs.Flowed.{all_lent, none_done, none_let_go}
+use Rattle.kahn_pool.proofs.Common.{IsInRange, IsWatched, network_of, inputs_of, AreAllGiven, out}
+use Rattle.kahn_pool.proofs.Flowed.{all_lent, none_let_go}
+use Rattle.kahn_pool.proofs.Righted.{none_done}
 use Rattle.kahn_pool.proofs.Giving.{begun_none}
 use Rattle.kahn_pool.proofs.Held_runs.{in_range_alike}
 use Rattle.kahn_pool.proofs.flow.Flow.start.Goals as goal

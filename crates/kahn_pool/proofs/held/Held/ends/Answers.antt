@@ -1,8 +1,7 @@
 use Rattle.std.proofs.Common.{◌≡◌, List, Some, sym, subst}
-use Rattle.kahn_pool.specs.HeldRuns.{HeldRun, IsRightSoFar}
-use Rattle.kahn_pool.specs.inner.Holding.{AreEnded, held_state}
+use Rattle.kahn_pool.proofs.Common.{HeldRun, IsRightSoFar, AreEnded, held_state, cells_of}
 use Rattle.kahn_streams.specs.declared.answer.End.{End}
-use Rattle.kahn_pool.proofs.Held_streams.{right_so_far}
+use Rattle.kahn_pool.proofs.Righted.{right_with}
 use Rattle.kahn_pool.proofs.held.Held.ends.Goals as goal
 
 pub returns : goal.returns
@@ -10,9 +9,8 @@ returns c v e =
     let i = c.self.inside in
     let t = i.network.now in
     let ws = i.idles.items in
-    let h = c.self.invariant in
     let is : i.verdict ≡ Some v = subst (λ (r : HeldRun). r.verdict ≡ Some v) (sym c.self.view_is) e in
-    let ended = subst (AreEnded (held_state t i.input i.plan.watch ws) i.plan.bound i.budget i.ends.items) is h.ended in
+    let ended = subst (AreEnded (held_state t i.input i.plan.watch ws) i.plan.bound i.budget i.ends.items) is c.self.invariant.ended in
     subst (λ (xs : List End). IsRightSoFar c.args.self.now v xs) (sym c.deref.ensures.value)
     (subst (λ (r : HeldRun). IsRightSoFar r v i.ends.items) c.self.view_is
-    (right_so_far t i.input i.plan ws i.verdict i.budget h.held.events ended.0 v i.ends.items ended.1))
+    (right_with t i.input i.plan.watch i.plan.workers i.plan.quantum i.plan.bound (cells_of ws) i.verdict ended.1))

@@ -1,9 +1,5 @@
 use Rattle.std.proofs.Common.{ap, refl, subst, None}
-use Rattle.std.proofs.lemmas.Result.{err_from_is_err_and}
-use Rattle.kahn_pool.specs.HeldRuns.{HasFed, HeldRun, IsUnfed}
-use Rattle.kahn_streams.specs.Network.{network_of}
-use Rattle.kahn_streams.specs.Inputs.{inputs_of}
-use Rattle.kahn_pool.specs.inner.Holding.{run_of}
+use Rattle.kahn_pool.proofs.Common.{err_from_is_err_and, HasFed, HeldRun, IsUnfed, network_of, inputs_of, run_of, fed}
 use Rattle.kahn_pool.proofs.Held_runs.{goes_on_fed, holding_fed}
 use Rattle.kahn_pool.proofs.Held_streams.{given_on}
 use Rattle.kahn_pool.proofs.held.Held.feed.Goals as goal
@@ -11,8 +7,7 @@ use Rattle.kahn_pool.proofs.held.Held.feed.Goals as goal
 pub invariant_of-self-2 : goal.invariant_of-self-2
 invariant_of-self-2 c =
     let i = c.self.inside in
-    holding_fed i.network.now c.program-program.ensures.wired i.code.network.value i.input i.plan i.idles.items i.budget
-    i.ends.items i.given.items i.verdict c.self.invariant c.extend.new.self c.extend.ensures.grown c.extend.ensures.size
+    holding_fed i.network.now c.program-program.ensures.wired i.input i.plan i.idles.items i.verdict c.self.invariant c.extend.new.self c.extend.ensures.grown c.extend.ensures.size
     (given_on (network_of i.network.now) (inputs_of i.input) (inputs_of c.extend.new.self) i.plan.watch i.given.items c.extend.ensures.grown c.self.invariant.giving.0, λ v e. absurd cc)
 
 pub returns-in_err-extend : goal.returns-in_err-extend
@@ -38,6 +33,5 @@ returns c =
     (record {
       fed = c.in_ok-extend.ensures.fed;
       rest = refl;
-      goes_on = goes_on_fed i.network.now c.program-program.ensures.wired i.code.network.value i.input i.plan i.idles.items
-          i.budget i.ends.items i.given.items i.verdict c.self.invariant c.extend.new.self c.extend.ensures.grown;
+      goes_on = goes_on_fed i.network.now c.program-program.ensures.wired i.input i.plan i.idles.items i.verdict c.self.invariant c.extend.new.self c.extend.ensures.grown;
     })

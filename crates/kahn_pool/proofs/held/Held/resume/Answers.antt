@@ -1,67 +1,58 @@
-use Rattle.std.proofs.Common.{arith, rules, ◌≡◌, ◌+◌, ◌<◌, ◌^◌, List, Some, None, refl, ◌∙◌, subst}
-use Rattle.kahn_job.specs.inner.Works.{Work}
-use Rattle.kahn_pool.specs.HeldRuns.{HasResumed, HeldRun, IsResumed}
-use Rattle.kahn_pool.specs.inner.Holding.{HasStopped, run_of}
-use Rattle.kahn_pool.proofs.Held_runs.{resumed, resumed_ok, several, still_holding, still_same}
+use Rattle.std.proofs.Common.{arith, rules, ◌≡◌, ◌+◌, ◌<◌, ◌^◌, Some, None, refl, ◌∙◌, subst}
+use Rattle.kahn_pool.proofs.Common.{HasResumed, HeldRun, IsResumed, run_of}
+use Rattle.kahn_pool.proofs.Held_runs.{few, resumed, resumed_ok, several, still_holding, still_same}
+use Rattle.kahn_pool.proofs.Held_jobs.{held_more}
 use Rattle.kahn_pool.proofs.held.Held.resume.Goals as goal
+
+pub run_part-stopped-requires-clause-part : goal.run_part-stopped-requires-clause-part
+run_part-stopped-requires-clause-part g c κs within =
+    let h = c.self.invariant in
+    let r = h.range in
+    let f = c.if-self-more.false in
+    let e : c.replace-idles.result.items ≡ c.self.inside.idles.items = search rules in
+    record {
+      code = h.code;
+      few = (r.0, r.1);
+      quantum = omega (arith, r.2);
+      bounded = omega (arith, r.4, f);
+      held = rw e (held_more h.held c.args.more refl);
+    }
 
 pub invariant_of-self-in-Err-NoMemory : goal.invariant_of-self-in-Err-NoMemory
 invariant_of-self-in-Err-NoMemory g c =
     let i = c.self.inside in
-    let e : c.replace-idles.result.items ≡ i.idles.items = search rules in
-    let r = c.self.invariant.range.4 in
-    let f = c.if-self-more.false in
-    let few : i.plan.bound + c.args.more < 2 ^ 48 = omega (arith, f, r) in
-    let s = subst
-    (λ (l : List Work). HasStopped i.network.now i.input i.plan.watch i.plan.workers (i.plan.bound + c.args.more) l (i.budget + c.args.more) c.run_part-stopped.result) e
-    c.run_part-stopped.ensures in
-    still_holding i.network.now c.program-program.ensures.wired i.code.network.value i.input i.plan i.idles.items i.budget
-    i.ends.items i.given.items i.verdict c.self.invariant c.args.more few c.run_part-stopped.result s (search rules) _
-    (c.in_ok-give_watched.ensures.begun, λ v said. c.in_ok-give_watched.ensures.all)
+    still_holding i.network.now c.program-program.ensures.wired i.input i.plan i.idles.items i.verdict c.self.invariant c.args.more c.run_part-stopped.ensures (search rules)
+    c.if-self-more.false (search rules) (c.in_ok-give_watched.ensures.begun, λ v said. c.in_ok-give_watched.ensures.all)
 
 pub returns-in-Err-NoMemory : goal.returns-in-Err-NoMemory
 returns-in-Err-NoMemory g c =
     let i = c.self.inside in
-    let e : c.replace-idles.result.items ≡ i.idles.items = search rules in
-    let r = c.self.invariant.range.4 in
-    let f = c.if-self-more.false in
-    let few : i.plan.bound + c.args.more < 2 ^ 48 = omega (arith, f, r) in
-    let s = subst
-    (λ (l : List Work). HasStopped i.network.now i.input i.plan.watch i.plan.workers (i.plan.bound + c.args.more) l (i.budget + c.args.more) c.run_part-stopped.result) e
-    c.run_part-stopped.ensures in (
-      still_same i.network.now c.program-program.ensures.wired i.code.network.value i.input i.plan i.idles.items i.budget
-          i.ends.items i.given.items i.verdict c.self.invariant c.args.more few c.run_part-stopped.result s (search rules) ∙ c.self.view_is,
-      subst (λ (h : HeldRun). h.bound + c.args.more < 2 ^ 48) c.self.view_is few,
+    let wired = c.program-program.ensures.wired in
+    let more = c.args.more in
+    let same : c.replace-idles.result.items ≡ i.idles.items = search rules in (
+      still_same i.network.now wired i.input i.plan i.idles.items i.verdict c.self.invariant more c.run_part-stopped.ensures same c.if-self-more.false (search rules) ∙ c.self.view_is,
+      subst (λ (h : HeldRun). h.bound + more < 2 ^ 48) c.self.view_is
+          (few i.network.now wired i.input i.plan i.idles.items i.verdict c.self.invariant more c.run_part-stopped.ensures same c.if-self-more.false),
     )
 
 pub returns-in-Ok : goal.returns-in-Ok
 returns-in-Ok g c =
     let i = c.self.inside in
-    let e : c.replace-idles.result.items ≡ i.idles.items = search rules in
-    let r = c.self.invariant.range.4 in
-    let f = c.if-self-more.false in
-    let few : i.plan.bound + c.args.more < 2 ^ 48 = omega (arith, f, r) in
-    let s = subst
-    (λ (l : List Work). HasStopped i.network.now i.input i.plan.watch i.plan.workers (i.plan.bound + c.args.more) l (i.budget + c.args.more) c.run_part-stopped.result) e
-    c.run_part-stopped.ensures in
+    let more = c.args.more in
     let v = c.in-Ok.verdict in
-    subst (λ (h : HeldRun). IsResumed c.args.more h (run_of i.network.now i.input (record i.plan { bound = i.plan.bound + c.args.more }) c.run_part-stopped.result.idles.items (Some v)) v) c.self.view_is
-    (resumed_ok i.network.now c.program-program.ensures.wired i.code.network.value i.input i.plan i.idles.items i.budget
-    i.ends.items i.given.items i.verdict c.self.invariant c.args.more few c.run_part-stopped.result s v c.in-Ok.is)
+    subst (λ (h : HeldRun). IsResumed more h (run_of i.network.now i.input (record i.plan { bound = i.plan.bound + more }) c.run_part-stopped.result.idles.items (Some v)) v) c.self.view_is
+    (resumed_ok i.network.now c.program-program.ensures.wired i.input i.plan i.idles.items i.verdict c.self.invariant more c.run_part-stopped.ensures (search rules)
+    c.if-self-more.false v c.in-Ok.is)
 
 pub returns-in-Err : goal.returns-in-Err
 returns-in-Err g c =
     let i = c.self.inside in
-    let e : c.replace-idles.result.items ≡ i.idles.items = search rules in
-    let r = c.self.invariant.range.4 in
-    let f = c.if-self-more.false in
-    let few : i.plan.bound + c.args.more < 2 ^ 48 = omega (arith, f, r) in
-    let s = subst
-    (λ (l : List Work). HasStopped i.network.now i.input i.plan.watch i.plan.workers (i.plan.bound + c.args.more) l (i.budget + c.args.more) c.run_part-stopped.result) e
-    c.run_part-stopped.ensures in (
-      subst (λ (h : HeldRun). HasResumed c.args.more h (run_of i.network.now i.input (record i.plan { bound = i.plan.bound + c.args.more }) c.run_part-stopped.result.idles.items None)) c.self.view_is (resumed i.network.now c.program-program.ensures.wired i.code.network.value i.input i.plan i.idles.items i.budget
-          i.ends.items i.given.items i.verdict c.self.invariant c.args.more few c.run_part-stopped.result s None),
+    let wired = c.program-program.ensures.wired in
+    let more = c.args.more in
+    let same : c.replace-idles.result.items ≡ i.idles.items = search rules in (
+      subst (λ (h : HeldRun). HasResumed more h (run_of i.network.now i.input (record i.plan { bound = i.plan.bound + more }) c.run_part-stopped.result.idles.items None)) c.self.view_is
+          (resumed i.network.now wired i.input i.plan i.idles.items i.verdict c.self.invariant more c.run_part-stopped.ensures same c.if-self-more.false None),
       refl,
-      subst (λ (h : HeldRun). 1 < h.workers) c.self.view_is (several i.network.now c.program-program.ensures.wired i.code.network.value i.input i.plan i.idles.items i.budget
-          i.ends.items i.given.items i.verdict c.self.invariant c.args.more few c.run_part-stopped.result s (search rules)),
+      subst (λ (h : HeldRun). 1 < h.workers) c.self.view_is
+          (several i.network.now wired i.input i.plan i.idles.items i.verdict c.self.invariant more c.run_part-stopped.ensures same c.if-self-more.false (search rules)),
     )

@@ -1,9 +1,8 @@
-use Rattle.std.proofs.Common.{rules, refl, sym, subst}
-use Rattle.kahn_streams.specs.Network.{network_of}
-use Rattle.kahn_streams.specs.Inputs.{inputs_of}
+use Rattle.std.proofs.Common.{arith, rules, refl, sym, subst}
+use Rattle.kahn_pool.proofs.Common.{network_of, inputs_of, IsInRange, IsWatched, cells_of}
 use Rattle.kahn_pool.proofs.Giving.{begun_none}
-use Rattle.kahn_streams.specs.Answers.{IsInRange, IsWatched}
-use Rattle.kahn_pool.proofs.Held_runs.{in_range_alike, none_seen}
+use Rattle.kahn_pool.proofs.Held_runs.{in_range_alike}
+use Rattle.kahn_pool.proofs.Righted.{none_done}
 use Rattle.kahn_pool.proofs.held.Held.start.Goals as goal
 
 pub invariant_of-result : goal.invariant_of-result
@@ -14,7 +13,7 @@ invariant_of-result c =
       code = c.in_ok-code.ensures;
       fits = c.requires.fits;
       range = in_range_alike _ _ _ _ _ _ p.workers p.quantum p.bound range;
-      held = c.in_ok-idles.ensures.held c.plan_of-plan.result.bound;
+      held = c.in_ok-idles.ensures c.plan_of-plan.result.bound;
       ended = tt;
       giving = (λ channel e. begun_none (network_of c.args.network.now) I channel (I channel) c.new-2.result.items (search rules), λ v e. absurd cc);
     }
@@ -23,6 +22,7 @@ pub returns : goal.returns
 returns c =
     let range : IsInRange c.args.config.workers c.args.config.quantum c.args.config.bound = search rules in
     let p = c.plan_of-plan.ensures in
+    let none = (c.in_ok-idles.ensures 0).events in
     record {
       allowed = range;
       watched = subst (IsWatched c.args.network.now c.args.config.watch) (sym p.watch) c.in_ok-watch.ensures;
@@ -31,6 +31,6 @@ returns c =
       workers = p.workers;
       quantum = p.quantum;
       bound = p.bound;
-      none = none_seen c.in_ok-idles.idles.items c.in_ok-idles.ensures.none;
+      none = none_done (cells_of c.in_ok-idles.idles.items) (omega (arith, none));
       unsettled = refl;
     }

@@ -1,6 +1,5 @@
 use Rattle.std.proofs.Common.{◌≡◌, ◌-◌, ◌≤◌, arith}
-use Rattle.kahn_pool.specs.inner.Bench.{events_at}
-use Rattle.kahn_pool.specs.inner.Workbench.{sight_of}
+use Rattle.kahn_pool.proofs.Common.{events_at, sight_of}
 use Rattle.kahn_pool.proofs.Turns.{run_bound}
 use Rattle.kahn_pool.proofs.rounds.Round.go.Goals as goal
 
@@ -8,8 +7,8 @@ pub run_gated-stopped-requires-clause-bound : goal.run_gated-stopped-requires-cl
 run_gated-stopped-requires-clause-bound g c =
     run_bound (sight_of c.args.bench.now).cells c.args.instance c.args.self.now.left c.quantum-quantum.result c.args.self.now.memory c.requires.bound c.quantum-quantum.ensures.most
 
-pub returns-clause-gone : goal.returns-clause-gone
-returns-clause-gone g c =
+pub returns : goal.returns
+returns g c =
     let s = sight_of c.args.bench.now in
     let t = sight_of c.run_gated-stopped.new.bench in
     let p = c.args.instance in
@@ -28,4 +27,7 @@ returns-clause-gone g c =
       counts = omega (arith, a, b, up);
       left = c.mark.ensures.left;
       marked = c.mark.ensures.marked;
+      ends = c.mark.ensures.ends;
+      share = c.mark.ensures.share;
+      worked = c.run_gated-stopped.ensures.worked;
     })

@@ -1,11 +1,7 @@
 use Rattle.std.proofs.Common.{arith, ap, sym, ◌∙◌, subst, length}
-use Rattle.std.proofs.lemmas.List.{length-map}
-use Rattle.kahn_streams.specs.Network.{network_of}
-use Rattle.kahn_pool.specs.inner.Bench.{AreStreams}
-use Rattle.kahn_streams.specs.Answers.{stream_lines}
-use Rattle.kahn_pool.specs.inner.Workbench.{IsLaid, Table, sight_of, told_in}
+use Rattle.kahn_pool.proofs.Common.{length-map, network_of, AreStreams, stream_lines, Table, sight_of, told_in, AreLists}
 use Rattle.kahn_pool.proofs.Filled.{are_streams}
-use Rattle.kahn_pool.proofs.Kept_sizes.{are_lists}
+use Rattle.kahn_pool.proofs.Kept.{lists_of_cells}
 use Rattle.kahn_pool.proofs.Seen.{kept_seen, printed_seen}
 use Rattle.kahn_pool.proofs.Tapping.{all_left}
 use Rattle.kahn_pool.proofs.workbench.Workbench.into_streams.Goals as goal
@@ -30,9 +26,10 @@ pub fill-requires-clause-lists : goal.fill-requires-clause-lists
 fill-requires-clause-lists c =
     let b = c.self.inside.bench in
     let taps = c.into_taps.ensures in
-    let same = ap (λ t. let z : Table = record b { network = t } in z) c.self.invariant.0 in
-    are_lists (record b { network = c.self.inside.network.now }) (subst IsLaid same taps.laid) c.all_kept-kept.result.items
-    (all_left c.into_taps.result.items c.all_kept-kept.result.items b taps.told taps.gone c.all_kept-kept.ensures _ c.self.invariant.1)
+    let ls = c.all_kept-kept.result.items in
+    let left = all_left c.into_taps.result.items ls b taps.told taps.gone c.all_kept-kept.ensures _ c.self.invariant.1 in
+    subst (λ t. AreLists (network_of t) ls) c.self.invariant.0
+    (lists_of_cells b.network b.cells taps.laid.count (λ p d e. let s = taps.laid.each p d e in (s.network, s.instance)) ls left)
 
 pub returns : goal.returns
 returns c =

@@ -1,7 +1,6 @@
 use Rattle.std.proofs.Common.{◌≡◌, vec_capacity}
-use Rattle.kahn_job.specs.inner.Idles.{cells_of}
-use Rattle.kahn_pool.specs.inner.Workbench.{AreKeptOf}
-use Rattle.kahn_pool.proofs.gather.all_kept.Given as goal
+use Rattle.kahn_pool.proofs.Common.{cells_of, AreKeptOf}
+use Rattle.kahn_pool.proofs.workers.all_kept.Given as goal
 
 abbrev pub invariant-loop-idle : goal.invariant-loop-idle
 invariant-loop-idle l =

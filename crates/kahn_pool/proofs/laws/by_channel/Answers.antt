@@ -1,5 +1,0 @@
-use Rattle.kahn_pool.proofs.laws.by_channel.Goals as goal
-use Rattle.kahn_pool.proofs.Channels
-
-pub returns : goal.returns
-returns c = Channels.by_channel
