@@ -78,7 +78,7 @@ send '' 'A: 3 4' 'A:'
 wants "a blank line and two values" 'B: 6 8'
 send 'Z: 1' 'B: 1' 'A: true' 'A: 1 x' 'A 1' 'A: 5' $'A: 6\r'
 wants "lines that are refused" 'B: 10' 'B: 12'
-ends "doubling" 1 "$double"': input line 6: no such channel: `Z`\n'"$double"': input line 7: not an input channel: `B`\n'"$double"': input line 8: kind does not agree: `true`; wanted a number\n'"$double"': input line 9: not a value: `x`'"$values"'\n'"$double"': input line 10: not a name and a colon: `1`; a colon stands behind the name\n' \
+ends "doubling" 1 "$double"': input line 6: no such channel: `Z`; input channels: `A`\n'"$double"': input line 7: not an input channel: `B`; input channels: `A`\n'"$double"': input line 8: kind does not agree: `true`; wanted a number\n'"$double"': input line 9: not a value: `x`'"$values"'\n'"$double"': input line 10: not a name and a colon: `1`; a colon stands behind the name\n' \
   'end 1 double: waits on A after 19' 'finished 19'
 
 for quantum in 1 2 1000; do
@@ -162,7 +162,7 @@ gives "an end mark" 0 'RUNS: 2 7\nRUNS: 1 9\nend 1 encode: ended after 12\nfinis
 gives "several lines at the end" 0 'B: 2\nB: 4\nB: 6 8\nend 1 double: waits on A after 13\nfinished 13\n' '' \
   "$double" --at-end A=2 --at-end 'A=3 4' <<< 'A: 1'
 gives "lines at the end that are refused" 1 'B: 2\nB: 4\nend 1 double: waits on A after 7\nfinished 7\n' \
-  "$double"': --at-end: no such channel: `Z`\n'"$double"': --at-end: not an input channel: `B`\n'"$double"': --at-end: kind does not agree: `true`; wanted a number\n'"$double"': --at-end: not a value: `1=2`'"$values"'\n'"$double"': --at-end: not a name and a colon; a colon stands behind the name\n' \
+  "$double"': --at-end: no such channel: `Z`; input channels: `A`\n'"$double"': --at-end: not an input channel: `B`; input channels: `A`\n'"$double"': --at-end: kind does not agree: `true`; wanted a number\n'"$double"': --at-end: not a value: `1=2`'"$values"'\n'"$double"': --at-end: not a name and a colon; a colon stands behind the name\n' \
   "$double" --at-end Z=1 --at-end B=1 --at-end A=true --at-end A=1=2 --at-end A --at-end A=2 <<< 'A: 1'
 
 # values alone: of the first stream or of the one that is named, as they come
@@ -179,8 +179,8 @@ gives "values alone, and an end mark" 0 '2\n7\n1\n9\n' '' runs.kahn --plain RAW 
 gives "a line of values that is refused" 1 '2\n6\n' "$double"': input line 2: not a value: `A:`; a name stands before the values alone, and with --plain nowhere\nend 1 double: waits on A after 7\nfinished 7\n' "$double" --plain A <<< $'1\nA: 2\n3'
 gives "a line of values that is passed over" 0 '2\n6\n' "$double"': input line 2: not a value: `x`'"$values"'\n' "$double" --plain A --keep-going <<< $'1\n2 x\n3'
 hint=': bare numbers are taken with --plain A\n'
-gives "values alone, and no such input" 6 '' "$double"': --plain: no such channel: `Z`\n'"$double$hint" "$double" --plain Z <<< '1'
-gives "values alone, and an output for the input" 6 '' "$double"': --plain: not an input channel: `B`\n'"$double$hint" "$double" --plain B <<< '1'
+gives "values alone, and no such input" 6 '' "$double"': --plain: no such channel: `Z`; input channels: `A`\n'"$double$hint" "$double" --plain Z <<< '1'
+gives "values alone, and an output for the input" 6 '' "$double"': --plain: not an input channel: `B`; input channels: `A`\n'"$double$hint" "$double" --plain B <<< '1'
 gives "values alone, and no name" 6 '' "$double"': --plain: not a name and a colon: `:`; a line begins with the name of a channel\n'"$double$hint" "$double" --plain ,B <<< '1'
 gives "values alone, and no such output" 6 '' "$double"': --plain: no such channel: `Z`\n' "$double" --plain A,Z <<< '1'
 gives "values alone, and one behind them" 0 '2\n14\n' '' "$double" --plain A --at-end 7 <<< '1'

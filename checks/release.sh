@@ -77,7 +77,7 @@ chmod -R u+w "$work/copy"
 
 echo "# changed" >> crates.txt
 same "other sources" "$(given ./kahn examples/count.kahn)" \
-  "kahn: these sources have no release: bash release/build.sh proves and builds the programs,\
- and the newest commit of \`git log release/sources.sha256\` has one"
+  "kahn: these sources have no release: bash release/build.sh proves and builds the programs;\
+ in a whole clone, git checkout \$(git log -1 --format=%h release/sources.sha256) has some"
 same "nothing is built without the toolchain" "$(given bash release/build.sh)" "build.sh: the Rattle toolchain (rt) is not on the path"
 finish

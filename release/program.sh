@@ -94,7 +94,7 @@ find_built() {
   program="$top/crates/$1/out/$1"
   is_newer "$program" && return
   find_released "$1" || status=$?
-  [ "$status" != 1 ] || echo "$1: these sources have no release: bash release/build.sh proves and builds the programs," \
-    "and the newest commit of \`git log release/sources.sha256\` has one" >&2
+  [ "$status" != 1 ] || echo "$1: these sources have no release: bash release/build.sh proves and builds the programs;" \
+    "in a whole clone, git checkout \$(git log -1 --format=%h release/sources.sha256) has some" >&2
   [ "$status" = 0 ] || return 5
 }

@@ -62,6 +62,17 @@ const STATES = ["finished", "program or input refused", "command line refused", 
 // The words of kahn_explain, for whoever has a field in place of an option.
 const whyOf = (reasons) => new TextDecoder().decode(reasons).replace(/^--bound N with a greater N lets/m, "A greater bound lets");
 
+// The lines of a text; one of source, or of carets below it, doesn't wrap.
+function linesOf(text) {
+  return text.split(/^/m).map((line) => {
+    if (!/^ *\d* \|/.test(line)) return line;
+    const source = document.createElement("span");
+    source.className = "source";
+    source.textContent = line;
+    return source;
+  });
+}
+
 function show({ status, report, picture, reasons, time }, program) {
   const text = new TextDecoder().decode(report), why = whyOf(reasons);
   const place = placeOf(text, program);
@@ -75,7 +86,7 @@ function show({ status, report, picture, reasons, time }, program) {
     reveal(place);
   }
   mark(place);
-  at("reasons").textContent = why;
+  at("reasons").replaceChildren(...linesOf(why));
   at("reasons").hidden = at("why").hidden = reasons.length === 0;
   at("picture").replaceChildren(...drawn(new TextDecoder().decode(picture)));
   at("picture").hidden = at("network").hidden = picture.length === 0;

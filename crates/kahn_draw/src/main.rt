@@ -2,37 +2,16 @@
 #![tactic(auto)]
 
 mod drawing;
+mod running;
 
-use drawing::{draw, tell_stray};
-use kahn_fault::{Fault, Texts, read_texts, tell, tell_explain};
+use kahn_fault::{read_texts, tell};
 use kahn_line::{DrawOptions, read_draw_line, tell_line, tell_no_memory, tell_words};
-use kahn_pool::Verdict;
+use running::ran;
 use std::alloc::{AllocError, Global};
 use std::io::Write;
 use std::process::ExitCode;
 use std::rt::Runtime;
 use std::{env, io};
-
-/// Draws the program of the texts, where the input is the report, and tells where that is of another program.
-fn draw_texts<R: Runtime + AllocGlobal, W: Write>(
-    rt: &R,
-    texts: &Texts,
-    reported: bool,
-    writer: &mut W,
-) -> Result<Verdict, Fault> {
-    let program = texts.program.as_str();
-    let report = texts.input.as_str();
-    match draw(rt.alloc(), program, report, &mut io::writer(rt)) {
-        Ok(told) => {
-            if reported && !told {
-                // What can't be written here changes no status.
-                let _told = tell_stray(writer);
-            }
-            Ok(Verdict::Finished)
-        }
-        Err(fault) => Err(Fault::Work(fault)),
-    }
-}
 
 /// The path of the program text, where there is one.
 fn path_of(alloc: Global, program: &Option<String>) -> Result<Option<String>, AllocError> {
@@ -52,12 +31,8 @@ fn answered<R: Runtime + AllocGlobal, W: Write>(
     let reported = options.report.is_some();
     match read_texts(rt, options.program, options.report) {
         Ok(texts) => {
-            let answer = draw_texts(rt, &texts, reported, writer);
-            let status = tell(&answer, texts.program.as_str(), writer).status;
-            if let Some(path) = path {
-                let _told = tell_explain(&answer, path.as_str(), writer);
-            }
-            status
+            let (path, out) = (path.as_deref(), &mut io::writer(rt));
+            ran(rt.alloc(), &texts, path, reported, out, writer)
         }
         Err(fault) => tell(&Err(fault), "", writer).status,
     }

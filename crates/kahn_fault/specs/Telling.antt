@@ -1,12 +1,18 @@
 -- Believed. What a program tells of its run in the end.
-use Rattle.std.specs.Prelude.{ℕ, Bool, true, false, List, [], ◌∷◌, Result, codes, is_some}
+use Rattle.std.specs.Prelude.{ℕ, Bool, true, false, List, [], ◌∷◌, Option, Result, codes, is_some}
 use Rattle.std.specs.List.{concat}
 use Rattle.std.specs.declared.result.Result.TheVariants.{Ok, Err}
 use Rattle.kahn_streams.specs.declared.answer.Verdict.{Verdict}
+use Rattle.kahn_streams.specs.Written.{Writes}
+use Rattle.kahn_write.specs.declared.bytes.WriteFault.{WriteFault}
 use Rattle.kahn_fault.specs.declared.fault.Fault.{Fault}
 use Rattle.kahn_fault.specs.declared.fault.Fault.TheVariants.{Open, Program, InputText, Work}
 use Rattle.kahn_fault.specs.Message.{fault_text}
 use Rattle.kahn_fault.specs.Places.{fault_span}
+
+-- this was written, or after a fault of the writer a prefix of it
+abbrev pub WasWritten : List ℕ → Option (List ℕ) → Option (List ℕ) → Type 0
+WasWritten text old new = (line : Result (Unit {0}) WriteFault) × Writes old new line text
 
 -- whether a fault has a place in the program text
 abbrev pub has_place : Fault → Bool

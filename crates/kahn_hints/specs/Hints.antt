@@ -37,8 +37,8 @@ reason_words reason.NoProcess = codes "declared here as a channel, and not as a 
 reason_words reason.Outside = codes "declared here, outside of the process, which sees its own names alone"
 reason_words reason.WrittenFirst = codes "handed over here first, to be written"
 reason_words reason.ReadFirst = codes "handed over here first, to be read"
-reason_words reason.Input = codes "declared here as an input, which is written from outside"
-reason_words reason.Output = codes "declared here as an output, which is read from outside"
+reason_words reason.Input = codes "declared here as an input, which is written from outside: without `input` a process writes it"
+reason_words reason.Output = codes "declared here as an output, which is read from outside: without `output` a process reads it, and --watch shows it"
 reason_words reason.Parameter = codes "its parameter is declared here"
 reason_words reason.NoInstance = codes "this process has no instance"
 

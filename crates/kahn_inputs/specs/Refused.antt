@@ -34,10 +34,6 @@ value_wanted word =
 abbrev pub IsValuePart : List ℕ → List ℕ → List ℕ → Type 0
 IsValuePart line word words = (span : Span) × IsUnfitSpan None line span × (word ≡ part_of line span) × (words ≡ value_wanted word)
 
--- a line's name
-abbrev pub IsNamePart : List ℕ → List ℕ → List ℕ → Type 0
-IsNamePart line word words = (word ≡ line_name line) × (words ≡ [])
-
 -- the first value of another kind than that of the line's channel
 abbrev pub kind_wanted : Option Kind → List ℕ
 kind_wanted (Some Integer) = codes "; wanted a number"

@@ -15,4 +15,4 @@ pub use reasons::{file_words, reading_words, tell_reason};
 
 // For the crates above.
 pub use feeding::input_note;
-pub use refused::{Part, head_part, kind_part, name_part, value_part};
+pub use refused::{Part, head_part, inputs_words, kind_part, name_part, unknown_words, value_part};

@@ -1,14 +1,18 @@
 //! The part of a line that isn't taken which is at fault, and what is wanted there, where lines come one at a time.
 
-ghost use Rattle.std.specs.Prelude.{◌≡◌};
+ghost use Rattle.std.specs.Prelude.{◌≡◌, IfOk, string_bytes};
 ghost use Rattle.kahn_report.specs.Formats.{content as content_of};
-ghost use Rattle.kahn_inputs.specs.Refused.{IsHeadPart, IsKindPart, IsNamePart, IsValuePart, kind_wanted, lack_wanted, value_wanted, words_or};
+ghost use Rattle.kahn_hints.specs.Inputs.{input_names, inputs_words, unknown_input};
+ghost use Rattle.kahn_inputs.specs.Fitting.{line_name};
+ghost use Rattle.kahn_inputs.specs.Refused.{IsHeadPart, IsKindPart, IsValuePart, kind_wanted, lack_wanted, value_wanted, words_or};
 
 use crate::feeding::{kind_for, unfit_span};
 use crate::fitting::{Lack, lack_of, lack_span, line_name, part_of};
 use crate::seeking::content;
 use crate::strange::{no_comment_words, numeral_words, stands_in};
+use kahn_hints::{add_inputs, add_unknown_input};
 use kahn_streams::{Kind, Network};
+use std::alloc::{AllocError, Global};
 
 /// A part of a line.
 #[derive(Clone, Copy)]
@@ -16,7 +20,7 @@ pub struct Part<'a> {
     /// The part.
     pub word: &'a [u8],
     /// What is wanted there, behind a semicolon, or nothing.
-    pub words: &'static str,
+    pub words: &'a str,
 }
 
 /// The first words, or the others where these are none.
@@ -83,12 +87,32 @@ pub fn value_part(line: &[u8]) -> Part<'_>
     Part { word, words }
 }
 
-/// The name of a line.
-pub fn name_part(line: &[u8]) -> Part<'_>
-    ensures { IsNamePart (content_of line.now) result.word.now result.words.now }
+/// The name of a line, and these words.
+pub fn name_part<'a>(line: &'a [u8], words: &'a str) -> Part<'a>
+    ensures word { result.word.now ≡ line_name (content_of line.entry.now) }
+    ensures words { result.words.now ≡ words.entry.now }
 {
     let word = line_name(content(line));
-    Part { word, words: "" }
+    Part { word, words }
+}
+
+/// What is said of the name of a line which no channel has: the input channel whose name is nearest, or else which there are.
+pub fn unknown_words(alloc: Global, network: &Network, line: &[u8]) -> Result<String, AllocError>
+    ensures { IfOk result (λ words. string_bytes words ≡ unknown_input (line_name (content_of line.now)) (input_names network.now)) }
+{
+    let mut words = String::new(alloc);
+    let name = line_name(content(line));
+    add_unknown_input(&mut words, alloc, network.program(), name)?;
+    Ok(words)
+}
+
+/// What is said of the name of a line whose channel isn't an input channel: which input channels there are.
+pub fn inputs_words(alloc: Global, network: &Network) -> Result<String, AllocError>
+    ensures { IfOk result (λ words. string_bytes words ≡ inputs_words (input_names network.now)) }
+{
+    let mut words = String::new(alloc);
+    add_inputs(&mut words, alloc, network.program())?;
+    Ok(words)
 }
 
 /// The first value of another kind than that of the line's channel.

@@ -11,7 +11,9 @@ use Rattle.kahn_streams.specs.declared.feeds.FeedFault.TheVariants as feed
 use Rattle.kahn_streams.specs.declared.tree.Program.{Program as Tree}
 use Rattle.kahn_report.specs.Formats.{content}
 use Rattle.kahn_inputs.specs.declared.refused.Part.{Part}
-use Rattle.kahn_inputs.specs.Refused.{IsHeadPart, IsKindPart, IsNamePart, IsValuePart}
+use Rattle.kahn_hints.specs.Inputs.{input_names, inputs_words, unknown_input}
+use Rattle.kahn_inputs.specs.Fitting.{line_name}
+use Rattle.kahn_inputs.specs.Refused.{IsHeadPart, IsKindPart, IsValuePart}
 use Rattle.kahn_report.specs.declared.read.ReadFault.TheVariants.{Failed as FailedRead}
 use Rattle.kahn_report.specs.declared.working.WorkFault.TheVariants.{Run as RunWork, Write as WriteWork}
 use Rattle.kahn_fault.specs.declared.fault.Fault.{Fault}
@@ -20,7 +22,7 @@ use Rattle.std.specs.Char.{is_ascii_digit}
 use Rattle.std.specs.Option.{is_none}
 use Rattle.std.specs.Str.{bytes_eq}
 use Rattle.kahn_session.specs.Live.{HasVerdict, IsDeaf, IsFirstInput, IsOtherInput, IsTakenLine, Live, breaks}
-use Rattle.kahn_session.specs.Refusals.{alike_text, alone_text, at_end_number, is_want, refusal_text, take_words, waiting_text}
+use Rattle.kahn_session.specs.Refusals.{alike_text, alone_text, at_end_number, is_want, refusal_text, stopped_text, take_words, waiting_text}
 use Rattle.kahn_session.specs.declared.fault.TakeFault.{TakeFault}
 use Rattle.kahn_session.specs.declared.fault.TakeFault.TheVariants.{TooLong, NotUtf8, BadLine, BadValue, Feed, NoMemory, Write}
 use Rattle.kahn_live.specs.Lines.{CutsLine, fed_text, most_kept, unmarked}
@@ -43,6 +45,8 @@ pub record Complaints : Type 0 where
   pub number : ℕ
   -- whether it was told how bare numbers are taken
   pub hinted : Bool
+  -- whether it was told that a line wants more events than a part may do
+  pub stepped : Bool
 
 -- what is told on standard error
 pub record Telling : Type 0 where
@@ -57,7 +61,7 @@ pub record Telling : Type 0 where
   pub complaints : Complaints
 
 abbrev pub complaints_of : {E : Type 0} → Teller E → Complaints
-complaints_of t = record { last = t.last; first = t.first; number = t.number; hinted = t.hinted }
+complaints_of t = record { last = t.last; first = t.first; number = t.number; hinted = t.hinted; stepped = t.stepped }
 
 abbrev pub telling_of : {E : Type 0} → (E → Option (List ℕ)) → Teller E → Telling
 telling_of contents t = record {
@@ -140,7 +144,7 @@ IsNewPut known number f part hint old new = WasToldOf (refusal_text old.path num
 
 abbrev pub IsNewTold : ℕ → TakeFault → Part → Option (List ℕ) → Telling → Telling → Type 0
 IsNewTold number f part hint old new =
-    IsNewPut (record { last = Some f; first = number; number = number; hinted = is_hinted hint old.complaints.hinted }) number f part hint old new
+    IsNewPut (record { last = Some f; first = number; number = number; hinted = is_hinted hint old.complaints.hinted; stepped = old.complaints.stepped }) number f part hint old new
 
 -- the line was told of, or counted
 abbrev pub IsComplaintBy : Bool → ℕ → TakeFault → Part → Option (List ℕ) → Telling → Telling → Type 0
@@ -154,9 +158,23 @@ IsComplaint number f part hint old new = IsComplaintBy (is_again old.complaints 
 abbrev pub IsNoPart : List ℕ → List ℕ → Type 0
 IsNoPart part more = (part ≡ []) × (more ≡ [])
 
+-- what is said of a name that no input channel has: the nearest input channel, or else which there are
+abbrev pub name_words : Tree → List ℕ → TakeFault → List ℕ
+name_words t name (Feed feed.UnknownName) = unknown_input name (input_names t)
+name_words t name (Feed feed.NotAnInput) = inputs_words (input_names t)
+name_words t name f = []
+
+-- that, or nothing where memory was refused for it
+abbrev pub IsNameWords : Tree → List ℕ → TakeFault → List ℕ → Type 0
+IsNameWords t line f words = (words ≡ name_words t (line_name (content line)) f) ⊎ (words ≡ [])
+
+-- the line's name
+abbrev pub IsNamePart : Tree → List ℕ → FeedFault → List ℕ → List ℕ → Type 0
+IsNamePart t line f part more = (part ≡ line_name (content line)) × IsNameWords t line (Feed f) more
+
 abbrev pub IsFedPart : Tree → List ℕ → FeedFault → List ℕ → List ℕ → Type 0
-IsFedPart t line feed.UnknownName part more = IsNamePart (content line) part more
-IsFedPart t line feed.NotAnInput part more = IsNamePart (content line) part more
+IsFedPart t line feed.UnknownName part more = IsNamePart t line feed.UnknownName part more
+IsFedPart t line feed.NotAnInput part more = IsNamePart t line feed.NotAnInput part more
 IsFedPart t line feed.WrongKind part more = IsKindPart t (content line) part more
 IsFedPart t line feed.TooMany part more = IsNoPart part more
 IsFedPart t line feed.NoMemory part more = IsNoPart part more
@@ -203,10 +221,22 @@ HasWaited old new = (new.session ≡ old.session) × Keeps old.out new.out
 abbrev pub HasSent : Point → Point → Type 0
 HasSent old new = (new.told ≡ old.told) × HasWaited old new
 
+-- whether it is told that a line wants more events than a part may do: once, and of no empty line, which lets a run go on
+abbrev pub is_step_new : Complaints → List ℕ → Bool
+is_step_new k [] = false
+is_step_new k (b ∷ bs) = not k.stepped
+
+abbrev pub IsStepToldBy : Bool → ℕ → Telling → Telling → Type 0
+IsStepToldBy true number old new = WasToldOf (stopped_text old.path number) false (record old.complaints { stepped = true }) old new
+IsStepToldBy false number old new = new ≡ old
+
+abbrev pub IsStepTold : ℕ → List ℕ → Telling → Telling → Type 0
+IsStepTold number line old new = IsStepToldBy (is_step_new old.complaints line) number old new
+
 -- what is told of a line with this answer
 abbrev pub IsToldBy : Live → ℕ → List ℕ → Result Verdict TakeFault → Telling → Telling → Type 0
 IsToldBy s number line (Ok Finished) old new = new ≡ old
-IsToldBy s number line (Ok Bound) old new = new ≡ old
+IsToldBy s number line (Ok Bound) old new = IsStepTold number line old new
 IsToldBy s number line (Ok Memory) old new = WasTold (waiting_text old.path number) old new
 IsToldBy s number line (Err f) old new = IsRefused s number line f old new × (breaks f ≡ false)
 
@@ -258,6 +288,11 @@ IsBrokenOff line old new fault = IsWriteFault fault × (new.told ≡ old.told)
 abbrev pub IsRefusalTold : {X : Type 0} → ℕ → List ℕ → TakeFault → Point → Point → Result X Fault → Type 0
 IsRefusalTold number line f old new (Ok x) = IsRefused new.session number line f old.told new.told × HasWaited old new
 IsRefusalTold number line f old new (Err fault) = IsWriteFault fault × HasSent old new
+
+-- that is told behind what is new
+abbrev pub IsStepMet : {X : Type 0} → ℕ → List ℕ → Point → Point → Result X Fault → Type 0
+IsStepMet number line old new (Ok x) = IsStepTold number line old.told new.told × HasWaited old new
+IsStepMet number line old new (Err fault) = IsWriteFault fault × HasSent old new
 
 -- what is told of a line by its answer
 abbrev pub IsAnswerTold : ℕ → List ℕ → Result Verdict TakeFault → Point → Point → Result (Option TakeFault) Fault → Type 0

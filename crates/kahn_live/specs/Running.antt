@@ -201,7 +201,7 @@ untold bytes keep_going path = record {
   keep_going = keep_going;
   refused = false;
   path = path;
-  complaints = record { last = None; first = 0; number = 0; hinted = false };
+  complaints = record { last = None; first = 0; number = 0; hinted = false; stepped = false };
 }
 
 -- a program text, of this file, was run as the options say, on this text of input, behind what was written and what was told before; how that

@@ -254,7 +254,7 @@ pub(crate) fn ran<I: Read + Drop, W: Write + Drop, E: Write + Drop>(
 ) -> (u8, Teller<E>)
     ensures { HasRunAs program.now (string_bytes path) options (I.remaining input) (W.contents out) (E.contents errors) (telling_of E.contents result.1) result.0 }
 {
-    let teller = Teller::new(errors, options.keep_going, path);
+    let teller = Teller::new(alloc, errors, options.keep_going, path);
     let (ending, mut teller) = run(alloc, program, options, input, out, teller);
     let status = told(ending, program, &mut teller);
     (status, teller)

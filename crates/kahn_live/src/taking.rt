@@ -2,9 +2,12 @@
 
 ghost use Rattle.std.specs.Prelude.{◌≡◌, ◌&&◌, not, IfErr, IfOk, false, map, option_copied, string_bytes, true};
 ghost use Rattle.std.specs.Io.Buffered.{reader_buffer};
+ghost use Rattle.kahn_report.specs.Formats.{content};
+ghost use Rattle.kahn_inputs.specs.Fitting.{line_name};
 ghost use Rattle.kahn_session.specs.Live.{HasVerdict, breaks};
-ghost use Rattle.kahn_live.specs.Course.{Across, AreAllMet, AreLastMet, AcrossStage, HasSent, IsAnswerTold, IsDeafNow, IsFedPart, IsFirstPart, IsInputMet, IsLineMet};
-ghost use Rattle.kahn_live.specs.Course.{IsAloneTold, IsHintBy, IsNextMet, IsReadMet, IsRefusalTold, IsRefused, IsRefusedPart, IsWriteFault, lines_given, is_bad_line, is_bare_line, no_memory, point_of, telling_of, wants_hint};
+ghost use Rattle.kahn_session.specs.declared.fault.TakeFault.TheVariants.{Feed};
+ghost use Rattle.kahn_live.specs.Course.{Across, AreAllMet, AreLastMet, AcrossStage, HasSent, IsAnswerTold, IsDeafNow, IsFedPart, IsFirstPart, IsInputMet, IsLineMet, IsNameWords, name_words};
+ghost use Rattle.kahn_live.specs.Course.{IsAloneTold, IsHintBy, IsNextMet, IsReadMet, IsRefusalTold, IsRefused, IsRefusedPart, IsStepMet, IsWriteFault, lines_given, is_bad_line, is_bare_line, no_memory, point_of, telling_of, wants_hint};
 ghost use Rattle.kahn_live.specs.Histories.{HasHistories};
 ghost use Rattle.kahn_live.specs.Lines.{IsReadyToRead};
 
@@ -12,12 +15,12 @@ use crate::lines::{Next, fed_line, has_line, next_line};
 use crate::stage::Stage;
 use crate::telling::Teller;
 use kahn_fault::Fault;
-use kahn_inputs::{Part, head_part, kind_part, name_part, value_part};
+use kahn_inputs::{Part, head_part, inputs_words, kind_part, name_part, unknown_words, value_part};
 use kahn_pool::{Open, RunFault, Verdict};
 use kahn_report::{ReadFault, WorkFault};
 use kahn_session::{AT_END, Session, TakeFault, is_want};
 use kahn_streams::{FeedFault, Network};
-use std::alloc::Global;
+use std::alloc::{AllocError, Global};
 use std::io::{BufReader, Read, Write};
 
 /// No part of a line.
@@ -111,27 +114,55 @@ fn hint_of<'s>(session: &'s Session<'_>, wanted: bool) -> Option<&'s str>
     None
 }
 
-/// The part of a line that is at fault where its values aren't fed, and what is wanted there.
-fn fed_part<'l>(network: &Network, line: &'l [u8], fault: FeedFault) -> Part<'l>
+/// What is said of the name of a line that no input channel has: the nearest input channel, or else which there are.
+fn name_words(
+    alloc: Global,
+    network: &Network,
+    line: &[u8],
+    fault: TakeFault,
+) -> Result<String, AllocError>
+    ensures { IfOk result (λ words. string_bytes words ≡ name_words network.now (line_name (content line.now)) fault) }
+{
+    match fault {
+        TakeFault::Feed(FeedFault::UnknownName) => unknown_words(alloc, network, line),
+        TakeFault::Feed(FeedFault::NotAnInput) => inputs_words(alloc, network),
+        _ => Ok(String::new(alloc)),
+    }
+}
+
+/// That, or nothing where memory is refused for it.
+fn words_of(alloc: Global, network: &Network, line: &[u8], fault: TakeFault) -> String
+    ensures { IsNameWords network.now line.now fault (string_bytes result) }
+{
+    match name_words(alloc, network, line, fault) {
+        Ok(words) => words,
+        Err(_) => String::new(alloc),
+    }
+}
+
+/// The part of a line that is at fault where its values aren't fed, and what is wanted there; of a name these words.
+fn fed_part<'l>(network: &Network, line: &'l [u8], fault: FeedFault, words: &'l str) -> Part<'l>
+    requires { IsNameWords network.now line.now (Feed fault) words.now }
     ensures { IsFedPart network.now line.entry.now fault result.word.now result.words.now }
 {
     match fault {
-        FeedFault::UnknownName => name_part(line),
-        FeedFault::NotAnInput => name_part(line),
+        FeedFault::UnknownName => name_part(line, words),
+        FeedFault::NotAnInput => name_part(line, words),
         FeedFault::WrongKind => kind_part(network, line),
         FeedFault::TooMany => NO_PART,
         FeedFault::NoMemory => NO_PART,
     }
 }
 
-/// The part of a line that is at fault where it isn't taken, and what is wanted there.
-fn refused_part<'l>(network: &Network, line: &'l [u8], fault: TakeFault) -> Part<'l>
+/// The part of a line that is at fault where it isn't taken, and what is wanted there; of a name these words.
+fn refused_part<'l>(network: &Network, line: &'l [u8], fault: TakeFault, words: &'l str) -> Part<'l>
+    requires { IsNameWords network.now line.now fault words.now }
     ensures { IsRefusedPart network.now line.entry.now fault result.word.now result.words.now }
 {
     match fault {
         TakeFault::BadLine => head_part(line),
         TakeFault::BadValue => value_part(line),
-        TakeFault::Feed(fault) => fed_part(network, line, fault),
+        TakeFault::Feed(fault) => fed_part(network, line, fault, words),
         TakeFault::TooLong => NO_PART,
         TakeFault::NotUtf8 => NO_PART,
         TakeFault::NoMemory => NO_PART,
@@ -151,7 +182,9 @@ fn tell_refused<E: Write>(
 {
     let wanted = is_hint_wanted(teller.hinted, number, line, fault);
     let input = hint_of(session, wanted);
-    let part = refused_part(session.network(), line, fault);
+    let network = session.network();
+    let words = words_of(teller.alloc, network, line, fault);
+    let part = refused_part(network, line, fault, words.as_str());
     teller.tell(number, fault, part, input);
 }
 
@@ -167,6 +200,24 @@ fn tell_behind<W: Write, E: Write>(
 {
     stage.outlet.send()?;
     tell_refused(&stage.session, &mut stage.teller, number, line, fault);
+    Ok(())
+}
+
+/// Tells that the line of that number wants more events than its part could do, unless that was told or the line is empty. It fails
+/// where what is new can't be written.
+fn tell_step<W: Write, E: Write>(
+    stage: &mut Stage<'_, W, E>,
+    number: u64,
+    line: &[u8],
+) -> Result<(), Fault>
+    ensures session { stage.new.session ≡ stage.old.session }
+    ensures told { IsStepMet number line.now (point_of W.contents E.contents stage.old) (point_of W.contents E.contents stage.new) result }
+{
+    if !stage.teller.is_step_new(line) {
+        return Ok(());
+    }
+    stage.outlet.send()?;
+    stage.teller.tell_step(number);
     Ok(())
 }
 
@@ -187,7 +238,10 @@ fn tell_answer<W: Write, E: Write>(
             Ok(None)
         }
         Ok(Verdict::Finished) => Ok(None),
-        Ok(Verdict::Bound) => Ok(None),
+        Ok(Verdict::Bound) => {
+            tell_step(stage, number, line)?;
+            Ok(None)
+        }
         Err(fault) => {
             if fault.breaks() {
                 return Err(last_fault(fault));

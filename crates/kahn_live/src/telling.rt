@@ -7,7 +7,7 @@ ghost use Rattle.kahn_session.specs.Refusals.{unknown_text, waiting_text};
 ghost use Rattle.kahn_session.specs.Live.{HasVerdict};
 ghost use Rattle.kahn_fault.specs.Status.{live_status_of};
 ghost use Rattle.kahn_fault.specs.Telling.{pointer_text, told_text};
-ghost use Rattle.kahn_live.specs.Course.{IsAlonePut, IsComplaint, IsTallied, IsMoreTold, IsNewPut, IsNewTold, WasTold, complaints_of, is_again, is_alike, is_hinted, is_next, telling_of};
+ghost use Rattle.kahn_live.specs.Course.{IsAlonePut, IsComplaint, IsTallied, IsMoreTold, IsNewPut, IsNewTold, IsStepToldBy, WasTold, complaints_of, is_again, is_alike, is_hinted, is_next, is_step_new, telling_of};
 ghost use Rattle.kahn_live.specs.Running.{IsEndPut, IsEndTold, IsLastTold, untold, why_text};
 
 use kahn_fault::{Fault, live_status, tell, tell_explain};
@@ -15,9 +15,10 @@ use kahn_inputs::Part;
 use kahn_pool::Verdict;
 use kahn_report::{WriteFault, write_line};
 use kahn_session::{
-    Session, TakeFault, take_words, write_alone, write_more, write_refusal, write_unknown,
-    write_waiting,
+    Session, TakeFault, take_words, write_alone, write_more, write_refusal, write_stopped,
+    write_unknown, write_waiting,
 };
+use std::alloc::Global;
 use std::io::Write;
 
 /// Whether a number is the next one.
@@ -84,6 +85,8 @@ fn write_why<W: Write>(writer: &mut W, path: &str, wanted: bool) -> Result<(), W
 /// A writer of faults, and what lines were refused.
 #[derive(Drop)]
 pub(crate) struct Teller<E: Write> {
+    // For what is said of a line.
+    pub(crate) alloc: Global,
     pub(crate) errors: E,
     // Whether a write failed.
     pub(crate) failed: bool,
@@ -99,14 +102,17 @@ pub(crate) struct Teller<E: Write> {
     pub(crate) number: u64,
     // Whether it was told how bare numbers are taken.
     pub(crate) hinted: bool,
+    // Whether it was told that a line wants more events than a part may do.
+    pub(crate) stepped: bool,
 }
 
 impl<E: Write> Teller<E> {
     /// Before the first line. With `keep_going` no line counts as refused.
-    pub(crate) fn new(errors: E, keep_going: bool, path: String) -> Teller<E>
+    pub(crate) fn new(alloc: Global, errors: E, keep_going: bool, path: String) -> Teller<E>
         ensures { telling_of E.contents result ≡ untold (E.contents errors) keep_going (string_bytes path) }
     {
         Teller {
+            alloc,
             errors,
             failed: false,
             keep_going,
@@ -116,6 +122,7 @@ impl<E: Write> Teller<E> {
             first: 0,
             number: 0,
             hinted: false,
+            stepped: false,
         }
     }
 
@@ -214,6 +221,22 @@ impl<E: Write> Teller<E> {
     {
         let told = write_waiting(&mut self.errors, self.path.as_str(), number);
         self.failed |= told.is_err();
+    }
+
+    /// Whether it is told now that this line wants more events than a part may do.
+    pub(crate) fn is_step_new(&self, line: &[u8]) -> bool
+        ensures { result ≡ is_step_new (complaints_of self.now) line.now }
+    {
+        !line.is_empty() && !self.stepped
+    }
+
+    /// Tells it of the line of that number. The line isn't refused.
+    pub(crate) fn tell_step(&mut self, number: u64)
+        ensures { IsStepToldBy true number (telling_of E.contents self.old) (telling_of E.contents self.new) }
+    {
+        let told = write_stopped(&mut self.errors, self.path.as_str(), number);
+        self.failed |= told.is_err();
+        self.stepped = true;
     }
 
     /// Tells which program says why the run can't go on, where that is wanted.

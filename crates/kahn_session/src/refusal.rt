@@ -3,7 +3,7 @@
 ghost use Rattle.std.specs.Prelude.{◌≡◌, ◌≤◌, [], ◌∷◌, length, option_copied, take};
 ghost use Rattle.std.specs.List.{concat};
 ghost use Rattle.kahn_streams.specs.Written.{Writes};
-ghost use Rattle.kahn_session.specs.Refusals.{alike_text, alone_line, alone_text, behind_part, digits, ends_before, feed_words, hint_text, is_hidden, is_of_plain, is_want, more_words, before_part, origin, pieces, refusal_line, refusal_text, said_text, shown_bytes, take_words, unknown_text, waiting_text, waiting_words};
+ghost use Rattle.kahn_session.specs.Refusals.{alike_text, alone_line, alone_text, behind_part, digits, ends_before, feed_words, hint_text, is_hidden, is_of_plain, is_want, more_words, before_part, note_text, origin, pieces, refusal_line, refusal_text, said_text, shown_bytes, stopped_text, take_words, unknown_text, waiting_text};
 
 use crate::fault::TakeFault;
 use itoa::Buffer;
@@ -349,19 +349,33 @@ pub fn write_more<W: Write>(writer: &mut W, path: &str, count: u64) -> Result<()
     )
 }
 
-/// For what a part waits.
-fn waiting_words() -> &'static str
-    ensures { result.now ≡ waiting_words }
+/// Writes words about the line of that number, which was taken.
+fn put_note<W: Write>(
+    writer: &mut W,
+    path: &str,
+    number: u64,
+    words: &str,
+) -> Result<(), WriteFault>
+    ensures { Writes (W.contents writer.old) (W.contents writer.new) result (note_text path.now number words.now) }
 {
-    "waits for memory"
+    let mut buffer = Buffer::new();
+    let digits = digits(&mut buffer, false, number);
+    let origin = origin(false, number);
+    put_said(writer, path, origin, digits, words, b"", "")
 }
 
 /// Writes that the part of the line of input of that number wants memory, and flushes; as `write_refusal` does.
 pub fn write_waiting<W: Write>(writer: &mut W, path: &str, number: u64) -> Result<(), WriteFault>
     ensures { Writes (W.contents writer.old) (W.contents writer.new) result (waiting_text path.now number) }
 {
-    let mut buffer = Buffer::new();
-    let digits = digits(&mut buffer, false, number);
-    let origin = origin(false, number);
-    put_said(writer, path, origin, digits, waiting_words(), b"", "")
+    put_note(writer, path, number, "waits for memory")
+}
+
+/// Writes that the part of the line of input of that number did all the events that it may, and could do more, and flushes; as
+/// `write_refusal` does.
+pub fn write_stopped<W: Write>(writer: &mut W, path: &str, number: u64) -> Result<(), WriteFault>
+    ensures { Writes (W.contents writer.old) (W.contents writer.new) result (stopped_text path.now number) }
+{
+    let words = "wants more events than --step allows, and goes on with the next line";
+    put_note(writer, path, number, words)
 }

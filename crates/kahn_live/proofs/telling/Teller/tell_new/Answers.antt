@@ -1,4 +1,4 @@
-use Rattle.std.proofs.Common.{Bool, Some, ap}
+use Rattle.std.proofs.Common.{Bool, Some, ap, ap₂}
 use Rattle.kahn_live.proofs.telling.Teller.tell_new.Goals as goal
 
 pub returns : goal.returns
@@ -8,5 +8,7 @@ returns g c = record {
   keep_going = c.put_new.ensures.keep_going;
   refused = c.put_new.ensures.refused;
   path = c.put_new.ensures.path;
-  complaints = ap (λ (b : Bool). record { last = Some c.args.fault; first = c.args.number; number = c.args.number; hinted = b }) c.is_hinted-hinted.ensures;
+  complaints =
+    ap₂ (λ (b s : Bool). record { last = Some c.args.fault; first = c.args.number; number = c.args.number; hinted = b; stepped = s })
+    c.is_hinted-hinted.ensures (ap (λ k. k.stepped) c.put_new.ensures.complaints);
 }

@@ -1,0 +1,38 @@
+//! A run of the program, from the bytes of the two texts to the exit status.
+
+ghost use Rattle.std.specs.Prelude.{◌≡◌, string_bytes};
+ghost use Rattle.kahn.specs.Running.{HasRunTexts, run_answer};
+
+use kahn_fault::{Fault, Texts, tell};
+use kahn_pool::{Config, Open, Verdict};
+use kahn_report::{WorkFault, work};
+use std::io::Write;
+use std::rt::Runtime;
+use std::sync::Wait;
+use std::thread::Threads;
+
+/// What the run of texts that were read came to.
+fn run_answer(worked: Result<Verdict, WorkFault>) -> Result<Verdict, Fault>
+    ensures { result ≡ run_answer worked }
+{
+    match worked {
+        Ok(verdict) => Ok(verdict),
+        Err(fault) => Err(Fault::Work(fault)),
+    }
+}
+
+/// Runs the program text on the input text, writes the report to `writer`, and gives the exit status. A fault is told to `errors`, in
+/// one line; if that can't be written, the status stays.
+pub(crate) fn ran<R: Runtime + AllocGlobal + Threads + Wait + Sync, W: Write, E: Write>(
+    rt: &R,
+    texts: &Texts,
+    config: Config,
+    writer: &mut W,
+    errors: &mut E,
+) -> u8
+    ensures { HasRunTexts (string_bytes texts.now.program) (string_bytes texts.now.input) config (W.contents writer.old) (W.contents writer.new) (E.contents errors.old) (E.contents errors.new) result }
+{
+    let (program, input) = (texts.program.as_str(), texts.input.as_str());
+    let answer = run_answer(work(rt, rt.alloc(), program, input, config, &Open, writer));
+    tell(&answer, program, errors).status
+}
