@@ -39,10 +39,10 @@ class Names:
 
     def __init__(self, text, start):
         self.of = {}
-        for line in re.findall(rf"(?m)^{start}use (Rattle\.kahn_[^;\n]*(?:{{[^}}]*}})?[^;\n]*)", text):
+        for line in re.findall(rf"(?m)^{start}use (Rattle\.kahn[^;\n]*(?:{{[^}}]*}})?[^;\n]*)", text):
             path, brace, names = line.strip().partition("{")
             path, _, other = path.strip().rstrip(".").partition(" as ")
-            found = re.match(r"Rattle\.(kahn_\w+)\.specs\.(?!declared\.|contracts\.|formers\.)([\w.'-]+)$", path)
+            found = re.match(r"Rattle\.(kahn\w*)\.specs\.(?!declared\.|contracts\.|formers\.)([\w.'-]+)$", path)
             module = f"{found.group(1)}/{found.group(2).replace('.', '/')}" if found else None
             for each in parts(names):
                 old, _, new = each.partition(" as ")

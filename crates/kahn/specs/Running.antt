@@ -1,5 +1,5 @@
 -- Believed. A run of the program, from the bytes of the two texts to the bytes that go out and the exit status (this project's profile).
-use Rattle.std.specs.Prelude.{◌≡◌, ℕ, List, Option, Result, Ok, Err, IfOk}
+use Rattle.std.specs.Prelude.{◌≡◌, ℕ, List, Option, Result, Ok, Err, IfOk, string_bytes}
 use Rattle.kahn_streams.specs.declared.config.Config.{Config}
 use Rattle.kahn_streams.specs.declared.answer.Verdict.{Verdict}
 use Rattle.kahn_report.specs.Work.{FinishesWithin, IsWorked}
@@ -7,6 +7,7 @@ use Rattle.kahn_report.specs.declared.working.WorkFault.{WorkFault}
 use Rattle.kahn_fault.specs.Status.{status_of}
 use Rattle.kahn_fault.specs.Telling.{WasWritten, told_text}
 use Rattle.kahn_fault.specs.declared.fault.Fault.{Fault}
+use Rattle.kahn_fault.specs.declared.texts.Texts.{Texts}
 use Rattle.kahn_fault.specs.declared.fault.Fault.TheVariants.{Work}
 
 -- what the run of two texts that were read came to
@@ -15,7 +16,9 @@ run_answer (Ok verdict) = Ok verdict
 run_answer (Err fault) = Err (Work fault)
 
 -- the whole work was done on the texts; its fault, where there is one, was told to the writer of faults, and the status says how it ended
-abbrev pub HasRunTexts : List ℕ → List ℕ → Config → Option (List ℕ) → Option (List ℕ) → Option (List ℕ) → Option (List ℕ) → ℕ → Type 0
-HasRunTexts program input config old new untold told status =
+abbrev pub HasRunTexts : Texts → Config → Option (List ℕ) → Option (List ℕ) → Option (List ℕ) → Option (List ℕ) → ℕ → Type 0
+HasRunTexts texts config old new untold told status =
+    let program = string_bytes texts.program in
+    let input = string_bytes texts.input in
     (r : Result Verdict WorkFault) × IsWorked program input config old new r × IfOk r (FinishesWithin program input config)
     × WasWritten (told_text program (run_answer r)) untold told × (status ≡ status_of (run_answer r))

@@ -1,6 +1,6 @@
 //! A run of the program, from the bytes of the two texts to the exit status.
 
-ghost use Rattle.std.specs.Prelude.{◌≡◌, string_bytes};
+ghost use Rattle.std.specs.Prelude.{◌≡◌};
 ghost use Rattle.kahn.specs.Running.{HasRunTexts, run_answer};
 
 use kahn_fault::{Fault, Texts, tell};
@@ -30,7 +30,7 @@ pub(crate) fn ran<R: Runtime + AllocGlobal + Threads + Wait + Sync, W: Write, E:
     writer: &mut W,
     errors: &mut E,
 ) -> u8
-    ensures { HasRunTexts (string_bytes texts.now.program) (string_bytes texts.now.input) config (W.contents writer.old) (W.contents writer.new) (E.contents errors.old) (E.contents errors.new) result }
+    ensures { HasRunTexts texts.now config (W.contents writer.old) (W.contents writer.new) (E.contents errors.old) (E.contents errors.new) result }
 {
     let (program, input) = (texts.program.as_str(), texts.input.as_str());
     let answer = run_answer(work(rt, rt.alloc(), program, input, config, &Open, writer));

@@ -1,6 +1,6 @@
 //! A run of the program, from the bytes of the two texts to the exit status.
 
-ghost use Rattle.std.specs.Prelude.{◌≡◌, option_copied, string_bytes};
+ghost use Rattle.std.specs.Prelude.{◌≡◌, option_copied};
 ghost use Rattle.kahn_draw.specs.Running.{HasDrawnAs, IsPointed, IsStrayTold, drawn_answer};
 
 use crate::drawing::{draw, tell_stray};
@@ -55,7 +55,7 @@ pub(crate) fn ran<W: Write, E: Write>(
     out: &mut W,
     errors: &mut E,
 ) -> u8
-    ensures { HasDrawnAs (string_bytes texts.now.program) (string_bytes texts.now.input) (option_copied path.entry) reported (W.contents out.old) (W.contents out.new) (E.contents errors.old) (E.contents errors.new) result }
+    ensures { HasDrawnAs texts.now (option_copied path.entry) reported (W.contents out.old) (W.contents out.new) (E.contents errors.old) (E.contents errors.new) result }
 {
     let program = texts.program.as_str();
     let drawn = draw(alloc, program, texts.input.as_str(), out);

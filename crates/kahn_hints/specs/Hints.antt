@@ -261,7 +261,7 @@ unread_words _ = codes "; hand it to an `in` parameter"
 abbrev pub tail_of : List ℕ → Program → CheckFault → List ℕ
 tail_of text t (checked.Unknown at) = unknown_at text t at
 tail_of text t (checked.WrongCount at) = count_words t (named_instance t at)
-tail_of text t (checked.WrongKind at) = kind_words (found_kind text t at) ++ made_words (use_at t at)
+tail_of text t (checked.WrongKind at) = concat (kind_words (found_kind text t at) ∷ made_words (use_at t at) ∷ [])
 tail_of text t (checked.WrongDirection at) = direction_at text t at
 tail_of text t (checked.ChannelExpected at) = channel_words (use_at t at)
 tail_of text t (checked.ValueExpected at) = value_tail text t at

@@ -2,7 +2,7 @@
 
 ghost use Rattle.std.specs.Prelude.{◌≡◌, ◌++◌, IfOk, option_map, string_bytes};
 ghost use Rattle.std.specs.List.{find};
-ghost use Rattle.kahn_hints.specs.Hints.{asked_sort, check_note, closed_reason, count_words, counted_words, declared_first, declared_here, declared_outside, direction_at, first_reason, found_kind, idle_place, kind_words, made_words, meant_at, named_instance, next_there, place_in, second_place, second_text, taken_before, tail_of, unknown_at, unwritten_at, use_at, used_at, value_tail, valued_at, wanted_here};
+ghost use Rattle.kahn_hints.specs.Hints.{asked_sort, check_note, closed_reason, count_words, counted_words, declared_first, declared_here, declared_outside, direction_at, first_reason, found_kind, idle_place, meant_at, named_instance, next_there, place_in, second_place, second_text, taken_before, tail_of, unknown_at, unwritten_at, use_at, used_at, value_tail, valued_at, wanted_here};
 
 use crate::exchange::twice_at;
 use crate::names::Sort;
@@ -423,14 +423,6 @@ fn add_direction(
     add_meant(words, alloc, text, program, at)
 }
 
-/// Adds which kind is wanted, which is found, and how the one is made of the other.
-fn add_kinds(words: &mut String, text: &str, program: &Program, at: Span) -> Result<(), AllocError>
-    ensures { IfOk result (λ _. string_bytes words.new ≡ string_bytes words.old ++ (kind_words (found_kind text.now program.now at) ++ made_words (use_at program.now at))) }
-{
-    words.push_str(kind_words(found_kind(text, program, at)))?;
-    words.push_str(made_words(use_at(program, at)))
-}
-
 /// Adds what is told behind the words of a fault: the nearest name, what is wanted and what is found, or what to do.
 fn add_tail(
     words: &mut String,
@@ -444,7 +436,13 @@ fn add_tail(
     match fault {
         CheckFault::Unknown(at) => add_unknown_at(words, alloc, text, program, at),
         CheckFault::WrongCount(at) => add_count(words, program, at),
-        CheckFault::WrongKind(at) => add_kinds(words, text, program, at),
+        CheckFault::WrongKind(at) => add(
+            words,
+            &[
+                kind_words(found_kind(text, program, at)),
+                made_words(use_at(program, at)),
+            ],
+        ),
         CheckFault::WrongDirection(at) => add_direction(words, alloc, text, program, at),
         CheckFault::ChannelExpected(at) => words.push_str(channel_words(use_at(program, at))),
         CheckFault::ValueExpected(at) => add_valued(words, alloc, text, program, at),

@@ -18,8 +18,10 @@ pub(crate) fn reason_words(reason: Reason) -> &'static str
         Reason::Outside => "declared here, outside of the process, which sees its own names alone",
         Reason::WrittenFirst => "handed over here first, to be written",
         Reason::ReadFirst => "handed over here first, to be read",
-        Reason::Input => "declared here as an input, which is written from outside: without `input` a process writes it",
-        Reason::Output => "declared here as an output, which is read from outside: without `output` a process reads it, and --watch shows it",
+        Reason::Input =>
+            "declared here as an input, which is written from outside: without `input` a process writes it",
+        Reason::Output =>
+            "declared here as an output, which is read from outside: without `output` a process reads it, and --watch shows it",
         Reason::Parameter => "its parameter is declared here",
         Reason::NoInstance => "this process has no instance",
     }

@@ -22,7 +22,7 @@ use Rattle.std.specs.Char.{is_ascii_digit}
 use Rattle.std.specs.Option.{is_none}
 use Rattle.std.specs.Str.{bytes_eq}
 use Rattle.kahn_session.specs.Live.{HasVerdict, IsDeaf, IsFirstInput, IsOtherInput, IsTakenLine, Live, breaks}
-use Rattle.kahn_session.specs.Refusals.{alike_text, alone_text, at_end_number, is_want, refusal_text, stopped_text, take_words, waiting_text}
+use Rattle.kahn_session.specs.Refusals.{alike_text, alone_text, at_end_number, is_want, refusal_text, stepped_text, take_words, waiting_text}
 use Rattle.kahn_session.specs.declared.fault.TakeFault.{TakeFault}
 use Rattle.kahn_session.specs.declared.fault.TakeFault.TheVariants.{TooLong, NotUtf8, BadLine, BadValue, Feed, NoMemory, Write}
 use Rattle.kahn_live.specs.Lines.{CutsLine, fed_text, most_kept, unmarked}
@@ -159,14 +159,14 @@ abbrev pub IsNoPart : List ℕ → List ℕ → Type 0
 IsNoPart part more = (part ≡ []) × (more ≡ [])
 
 -- what is said of a name that no input channel has: the nearest input channel, or else which there are
-abbrev pub name_words : Tree → List ℕ → TakeFault → List ℕ
-name_words t name (Feed feed.UnknownName) = unknown_input name (input_names t)
-name_words t name (Feed feed.NotAnInput) = inputs_words (input_names t)
-name_words t name f = []
+abbrev pub channel_tail : Tree → List ℕ → TakeFault → List ℕ
+channel_tail t name (Feed feed.UnknownName) = unknown_input name (input_names t)
+channel_tail t name (Feed feed.NotAnInput) = inputs_words (input_names t)
+channel_tail t name f = []
 
 -- that, or nothing where memory was refused for it
 abbrev pub IsNameWords : Tree → List ℕ → TakeFault → List ℕ → Type 0
-IsNameWords t line f words = (words ≡ name_words t (line_name (content line)) f) ⊎ (words ≡ [])
+IsNameWords t line f words = (words ≡ channel_tail t (line_name (content line)) f) ⊎ (words ≡ [])
 
 -- the line's name
 abbrev pub IsNamePart : Tree → List ℕ → FeedFault → List ℕ → List ℕ → Type 0
@@ -227,7 +227,7 @@ is_step_new k [] = false
 is_step_new k (b ∷ bs) = not k.stepped
 
 abbrev pub IsStepToldBy : Bool → ℕ → Telling → Telling → Type 0
-IsStepToldBy true number old new = WasToldOf (stopped_text old.path number) false (record old.complaints { stepped = true }) old new
+IsStepToldBy true number old new = WasToldOf (stepped_text old.path number) false (record old.complaints { stepped = true }) old new
 IsStepToldBy false number old new = new ≡ old
 
 abbrev pub IsStepTold : ℕ → List ℕ → Telling → Telling → Type 0

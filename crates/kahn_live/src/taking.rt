@@ -6,7 +6,7 @@ ghost use Rattle.kahn_report.specs.Formats.{content};
 ghost use Rattle.kahn_inputs.specs.Fitting.{line_name};
 ghost use Rattle.kahn_session.specs.Live.{HasVerdict, breaks};
 ghost use Rattle.kahn_session.specs.declared.fault.TakeFault.TheVariants.{Feed};
-ghost use Rattle.kahn_live.specs.Course.{Across, AreAllMet, AreLastMet, AcrossStage, HasSent, IsAnswerTold, IsDeafNow, IsFedPart, IsFirstPart, IsInputMet, IsLineMet, IsNameWords, name_words};
+ghost use Rattle.kahn_live.specs.Course.{Across, AreAllMet, AreLastMet, AcrossStage, HasSent, IsAnswerTold, IsDeafNow, IsFedPart, IsFirstPart, IsInputMet, IsLineMet, IsNameWords, channel_tail};
 ghost use Rattle.kahn_live.specs.Course.{IsAloneTold, IsHintBy, IsNextMet, IsReadMet, IsRefusalTold, IsRefused, IsRefusedPart, IsStepMet, IsWriteFault, lines_given, is_bad_line, is_bare_line, no_memory, point_of, telling_of, wants_hint};
 ghost use Rattle.kahn_live.specs.Histories.{HasHistories};
 ghost use Rattle.kahn_live.specs.Lines.{IsReadyToRead};
@@ -115,13 +115,13 @@ fn hint_of<'s>(session: &'s Session<'_>, wanted: bool) -> Option<&'s str>
 }
 
 /// What is said of the name of a line that no input channel has: the nearest input channel, or else which there are.
-fn name_words(
+fn channel_tail(
     alloc: Global,
     network: &Network,
     line: &[u8],
     fault: TakeFault,
 ) -> Result<String, AllocError>
-    ensures { IfOk result (λ words. string_bytes words ≡ name_words network.now (line_name (content line.now)) fault) }
+    ensures { IfOk result (λ words. string_bytes words ≡ channel_tail network.now (line_name (content line.now)) fault) }
 {
     match fault {
         TakeFault::Feed(FeedFault::UnknownName) => unknown_words(alloc, network, line),
@@ -134,7 +134,7 @@ fn name_words(
 fn words_of(alloc: Global, network: &Network, line: &[u8], fault: TakeFault) -> String
     ensures { IsNameWords network.now line.now fault (string_bytes result) }
 {
-    match name_words(alloc, network, line, fault) {
+    match channel_tail(alloc, network, line, fault) {
         Ok(words) => words,
         Err(_) => String::new(alloc),
     }

@@ -113,13 +113,13 @@ abbrev pub alike_text : List ℕ → ℕ → List ℕ
 alike_text path count = if count == 0 then [] else concat (path ∷ codes ": and " ∷ decimal count ∷ more_words count ∷ [])
 
 -- words about a line that was taken
-abbrev pub note_text : List ℕ → ℕ → List ℕ → List ℕ
-note_text path number words = said_text path (origin false number) (digits false number) words [] []
+abbrev pub line_note : List ℕ → ℕ → List ℕ → List ℕ
+line_note path number words = said_text path (origin false number) (digits false number) words [] []
 
 -- for what a part waits
 abbrev pub waiting_text : List ℕ → ℕ → List ℕ
-waiting_text path number = note_text path number (codes "waits for memory")
+waiting_text path number = line_note path number (codes "waits for memory")
 
 -- a part did all the events that it may, and could do more
-abbrev pub stopped_text : List ℕ → ℕ → List ℕ
-stopped_text path number = note_text path number (codes "wants more events than --step allows, and goes on with the next line")
+abbrev pub stepped_text : List ℕ → ℕ → List ℕ
+stepped_text path number = line_note path number (codes "wants more events than --step allows, and goes on with the next line")

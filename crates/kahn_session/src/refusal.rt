@@ -3,7 +3,7 @@
 ghost use Rattle.std.specs.Prelude.{◌≡◌, ◌≤◌, [], ◌∷◌, length, option_copied, take};
 ghost use Rattle.std.specs.List.{concat};
 ghost use Rattle.kahn_streams.specs.Written.{Writes};
-ghost use Rattle.kahn_session.specs.Refusals.{alike_text, alone_line, alone_text, behind_part, digits, ends_before, feed_words, hint_text, is_hidden, is_of_plain, is_want, more_words, before_part, note_text, origin, pieces, refusal_line, refusal_text, said_text, shown_bytes, stopped_text, take_words, unknown_text, waiting_text};
+ghost use Rattle.kahn_session.specs.Refusals.{alike_text, alone_line, alone_text, behind_part, digits, ends_before, feed_words, hint_text, is_hidden, is_of_plain, is_want, more_words, before_part, line_note, origin, pieces, refusal_line, refusal_text, said_text, shown_bytes, stepped_text, take_words, unknown_text, waiting_text};
 
 use crate::fault::TakeFault;
 use itoa::Buffer;
@@ -356,7 +356,7 @@ fn put_note<W: Write>(
     number: u64,
     words: &str,
 ) -> Result<(), WriteFault>
-    ensures { Writes (W.contents writer.old) (W.contents writer.new) result (note_text path.now number words.now) }
+    ensures { Writes (W.contents writer.old) (W.contents writer.new) result (line_note path.now number words.now) }
 {
     let mut buffer = Buffer::new();
     let digits = digits(&mut buffer, false, number);
@@ -374,7 +374,7 @@ pub fn write_waiting<W: Write>(writer: &mut W, path: &str, number: u64) -> Resul
 /// Writes that the part of the line of input of that number did all the events that it may, and could do more, and flushes; as
 /// `write_refusal` does.
 pub fn write_stopped<W: Write>(writer: &mut W, path: &str, number: u64) -> Result<(), WriteFault>
-    ensures { Writes (W.contents writer.old) (W.contents writer.new) result (stopped_text path.now number) }
+    ensures { Writes (W.contents writer.old) (W.contents writer.new) result (stepped_text path.now number) }
 {
     let words = "wants more events than --step allows, and goes on with the next line";
     put_note(writer, path, number, words)

@@ -9,6 +9,6 @@ returns g c = record {
   refused = c.put_new.ensures.refused;
   path = c.put_new.ensures.path;
   complaints =
-    ap₂ (λ (b s : Bool). record { last = Some c.args.fault; first = c.args.number; number = c.args.number; hinted = b; stepped = s })
-    c.is_hinted-hinted.ensures (ap (λ k. k.stepped) c.put_new.ensures.complaints);
+      ap₂ (λ (b s : Bool). record { last = Some c.args.fault; first = c.args.number; number = c.args.number; hinted = b; stepped = s })
+      c.is_hinted-hinted.ensures (ap (λ k. k.stepped) c.put_new.ensures.complaints);
 }
