@@ -46,22 +46,22 @@ fn point<E: Write>(path: Option<&str>, answer: &Result<Verdict, Fault>, errors: 
 }
 
 /// Draws the program of the texts, whose input is the report, to `out`, and gives the exit status. A report of another program and a
-/// fault are told to `errors`.
+/// fault are told to `log`.
 pub(crate) fn ran<W: Write, E: Write>(
     alloc: Global,
     texts: &Texts,
     path: Option<&str>,
     reported: bool,
     out: &mut W,
-    errors: &mut E,
+    log: &mut E,
 ) -> u8
-    ensures { HasDrawnAs texts.now (option_copied path.entry) reported (W.contents out.old) (W.contents out.new) (E.contents errors.old) (E.contents errors.new) result }
+    ensures { HasDrawnAs texts.now (option_copied path.entry) reported (W.contents out.old) (W.contents out.new) (E.contents log.old) (E.contents log.new) result }
 {
     let program = texts.program.as_str();
     let drawn = draw(alloc, program, texts.input.as_str(), out);
-    tell_if_stray(reported, drawn, errors);
+    tell_if_stray(reported, drawn, log);
     let answer = drawn_answer(drawn);
-    let told = tell(&answer, program, errors);
-    point(path, &answer, errors);
+    let told = tell(&answer, program, log);
+    point(path, &answer, log);
     told.status
 }
