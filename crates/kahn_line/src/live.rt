@@ -39,8 +39,9 @@ The events after a line are a part of the run. A blank line feeds nothing and ru
 end of the input come the last lines: the state of each process, and how the run ended.
 
 If a line can't be taken, standard error says so, with its number and the word at fault, and the line changes nothing. The
-same holds for a line of `--at-end`. If memory is refused after a line was taken, standard error says so too, and the next
-line, even a blank one, goes on. The run uses one thread. It doesn't keep what it wrote, nor the input that was taken.
+same holds for a line of `--at-end`. If a line wants more events than --step allows, standard error says so once, and if
+memory is refused after a line was taken, it says so too. In both cases the run goes on with the next line, even a blank
+one. The run uses one thread. It doesn't keep what it wrote, nor the input that was taken.
 
 With `--plain INPUT` a line has only values of that channel, separated by blanks, and kahn_live writes only the new values
 of one stream, one a line. If there are several input channels, use lines with names: with `--plain` the others get no
