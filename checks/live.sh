@@ -237,7 +237,7 @@ for words in "" "$double --step 0" "$double --bound 1"; do
 done
 "$live" --help > output.all 2> error
 same "the help: status" $? 0
-same "the help" "$(grep -c -e '--step' output.all)" 1
+same "the help" "$(grep -c -e '--step <N>' output.all)" 1
 if [ -e /dev/full ]; then
   printf 'A: x\nA: 1\n' | "$live" "$double" > /dev/full 2> error
   same "a full disk: status" $? 5

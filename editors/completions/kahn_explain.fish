@@ -1,11 +1,11 @@
 # Completion of the words of kahn_explain in fish.
 
 complete -c kahn_explain -l input -r -d 'file of the input text'
-complete -c kahn_explain -l report -r -d 'file of the report of a run'
+complete -c kahn_explain -l report -r -d 'file of the report to explain'
 complete -c kahn_explain -l workers -x -d 'number of threads'
 complete -c kahn_explain -l quantum -x -d 'events that a process does at a time'
 complete -c kahn_explain -l bound -x -d 'events after which the run is stopped'
 complete -c kahn_explain -l strict -d 'refuse a program with a warning'
-complete -c kahn_explain -l trace -d 'write all that the channels carried'
+complete -c kahn_explain -l trace -d 'write all values of all channels'
 complete -c kahn_explain -s h -l help -d 'print help'
 complete -c kahn_explain -s V -l version -d 'print version'

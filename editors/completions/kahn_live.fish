@@ -1,10 +1,10 @@
 # Completion of the words of kahn_live in fish.
 
 complete -c kahn_live -l quantum -x -d 'events that a process does at a time'
-complete -c kahn_live -l step -x -d 'events that a part may take'
-complete -c kahn_live -l watch -x -d 'a channel that is shown too'
-complete -c kahn_live -l keep-going -d 'leave the status 0 where lines were refused'
-complete -c kahn_live -l at-end -x -d 'a line that is fed once the input has ended'
-complete -c kahn_live -l plain -x -d 'the channels whose values stand alone in the lines'
+complete -c kahn_live -l step -x -d 'limit of events after each line'
+complete -c kahn_live -l watch -x -d 'one more channel to show'
+complete -c kahn_live -l keep-going -d 'leave the status 0 even if lines were refused'
+complete -c kahn_live -l at-end -x -d 'a line that is fed when the input has ended'
+complete -c kahn_live -l plain -x -d 'the channels whose bare values are read and written'
 complete -c kahn_live -s h -l help -d 'print help'
 complete -c kahn_live -s V -l version -d 'print version'

@@ -16,14 +16,13 @@ static USAGE: &str = "kahn_draw [PROGRAM] [--report FILE] [OPTIONS]";
 
 // What stands after the options in the help.
 static MORE: &str = "\
-A box is an instance, with its number, its process and its value arguments; it has a second border where its process
-prints. An arrow is a channel, from the instance that writes it to the one that reads it, dashed where its values are
-logical. Inputs and outputs are marked.
+A box is an instance, with its number, process and value arguments; a second border means that its process prints. An
+arrow is a channel, from its writer to its reader; a dashed one has logical values. Inputs and outputs are marked.
 
   kahn_draw program.kahn | dot -Tsvg > program.svg
 
-With the report of a run, a box says how its instance ended, and an arrow how many values its channel carried, where the
-report has its line: those of the output channels and of the watched one.
+With a report, a box also shows the state of its instance. The arrow of an output channel, or of the watched one, shows
+how many values it carried.
 
   kahn program.kahn --watch X > report.txt
   kahn_draw program.kahn --report report.txt | dot -Tsvg > program.svg
@@ -54,7 +53,7 @@ fn draw_command<'a>(alloc: Global) -> Result<Command<'a>, AllocError>
             alloc,
             "report",
             "FILE",
-            "File of the report of a run of the program, to be shown in the picture",
+            "File of a report of the program; the picture then shows that run",
         ))
 }
 

@@ -20,9 +20,10 @@ static USAGE: &str = "kahn_explain [PROGRAM] [--input FILE] [OPTIONS]";
 
 // What stands after the options in the help.
 static MORE: &str = "\
-A line is written for each process that hasn't ended: that it has a fault or wants more events, or whom it waits on, and where
-its chain of waits leads. That is an input, a process that has ended, has a fault or wants more events, or a deadlock: a ring
-of processes that wait on one another. The last line says how the run ended. With a program whose process 1 waits on 2, and 2 on 1:
+kahn_explain writes a line for each process that hasn't ended. The process has a fault, wants more events, or waits. If it
+waits, the line says on what, and where its chain of waits leads: to an input, to a process that has ended, has a fault or
+wants more events, or to a deadlock, a ring of processes that wait on one another. The last line says how the run ended.
+With a program whose process 1 waits on 2, and 2 on 1:
 
   kahn_explain ring.kahn
 
@@ -31,25 +32,25 @@ of processes that wait on one another. The last line says how the run ended. Wit
   2 stage waits on B at 4:17 from 1 stage, as 1 stage is in a deadlock: for ever
   finished 2
 
-What is for ever stays so whatever is added to the input, and however long the run is.
+`for ever` means: whatever is added to the input, and however long the run is.
 
-With `--report` nothing is run: what is explained is how a report of `kahn` ends, that of the same program. The options of a
-run say nothing then.
+With `--report` nothing is run: kahn_explain explains the end of a run from the report that `kahn` wrote for the same
+program. The options of a run then do nothing.
 
   kahn ring.kahn > report.txt
   kahn_explain ring.kahn --report report.txt
 
-Of a program text that is refused the place is told, with its source line and a caret line below it. Where a part can't
-stand there, so is all that may stand in its place.
+If the program text is refused, kahn_explain shows the place, with its source line and carets below. If something can't
+be there, it names all that may be there.
 
-What is allowed and seldom meant is told before the explanation, as a warning: a comment that goes on over statements, a
-name that is never read, a process without an instance, a loop that does nothing, a statement that is never reached. With
-`--strict` a program with a warning isn't run.
+Before the explanation, it warns of what is allowed but seldom meant: a comment that goes on over statements, a name that
+is never read, a process without an instance, a loop that does nothing, a statement that is never reached. With `--strict`
+a program with a warning isn't run.
 
-With `--trace` all that the channels carried is written in place of the explanation, as a table in CSV: a column for each
-channel and each process that prints, and a row for each place. That takes one run more for each channel that is no output.
-Warnings and the explanation go to standard error then, the explanation only where the status isn't 0; of a run that was
-stopped the columns are beginnings. With a program that doubles what comes on A, and the input `A: 1 2`:
+With `--trace` it writes all values of all channels as a CSV table, in place of the explanation: a column for each channel
+and each process that prints, a row for each place. Each channel that isn't an output takes one more run, and the table
+comes after the last. Warnings go to standard error then, and so does the explanation if the status isn't 0. If the run
+was stopped, the columns are beginnings. With a program that doubles what comes on A, and the input `A: 1 2`:
 
   kahn_explain double.kahn --input data.txt --trace
 
@@ -59,7 +60,7 @@ stopped the columns are beginnings. With a program that doubles what comes on A,
 
 Exit status:
   0  the run finished, without a deadlock and without a fault
-  1  program, input or report refused, with `--strict` for a warning too
+  1  program, input or report refused; with `--strict`, also for a warning
   2  command line refused
   3  the run was stopped by the bound
   4  no memory
@@ -96,7 +97,7 @@ fn explain_command<'a>(alloc: Global) -> Result<Command<'a>, AllocError>
             alloc,
             "report",
             "FILE",
-            "File of the report of a run of the program, to be explained in place of a run of its own",
+            "Explains the end of a run from its report; nothing is run",
         ))?
         .arg(workers_arg(alloc, "4"))?
         .arg(quantum_arg(alloc))?
@@ -105,7 +106,7 @@ fn explain_command<'a>(alloc: Global) -> Result<Command<'a>, AllocError>
         .arg(flag_arg(
             alloc,
             "trace",
-            "Writes all that the channels carried, as a table in CSV",
+            "Writes all values of all channels, as a CSV table",
         ))
 }
 

@@ -34,7 +34,7 @@ A program that sends 0, 1 and 2 on its output channel W:
     count(W, 3)
   end
 
-Its report, with the values of W, how each process stands, and how the run ended:
+Its report has the values of W, the state of each process, and how the run ended:
 
   W: 0 1 2
   end 1 count: ended after 7
@@ -43,19 +43,19 @@ Its report, with the values of W, how each process stands, and how the run ended
 Events are counted: a wait that takes a value, a send, a print, and each turn of a loop. The workers and the quantum
 change no value of any channel.
 
-A run on an input text, whose report shows a channel X between two processes too:
+A run on an input text, whose report also shows X, a channel between two processes:
 
   kahn program.kahn --input data.txt --watch X
 
-Of the same program kahn_explain says what is wrong with the text and why its run stopped, kahn_draw draws the network,
-and kahn_live runs it on lines of input as they come. Each has a help of its own.
+Other programs take the same text: kahn_explain says what is wrong with it and why its run stopped, kahn_draw draws its
+network, and kahn_live runs it on lines of input as they come. Each has its own --help.
 
 Exit status:
   0  report written: the run finished
   1  program or input refused
   2  command line refused
   3  report written: the run was stopped by the bound
-  4  no memory; a report whose last line says so may have been written
+  4  no memory; a report may be there, with a last line that says so
   5  a file can't be read or isn't UTF-8, or the report can't be written
   6  run refused: the watched channel isn't declared, or no thread could be started";
 
@@ -133,7 +133,7 @@ pub(crate) fn program_arg<'a>(alloc: Global) -> Arg<'a>
     ensures rule { rule_of result ≡ new_rule (codes "PROGRAM") }
     ensures local { result.global ≡ false }
 {
-    Arg::new(alloc, "PROGRAM").help("File of the program text; standard input where it is left out")
+    Arg::new(alloc, "PROGRAM").help("File of the program text; without it, standard input")
 }
 
 /// The option of the input text's path.
@@ -145,7 +145,7 @@ pub(crate) fn input_arg<'a>(alloc: Global) -> Arg<'a>
         alloc,
         "input",
         "FILE",
-        "File of the input text, /dev/stdin for standard input: lines such as `A: 1 2 3`, an input channel and its values",
+        "File of the input text, with lines such as `A: 1 2 3` (an input channel and its values); /dev/stdin is standard input",
     )
 }
 
@@ -248,7 +248,7 @@ fn command<'a>(alloc: Global) -> Result<Command<'a>, AllocError>
         .arg(bound_arg(alloc))?
         .arg(watch_arg(
             alloc,
-            "One channel that is reported too, besides the output channels; kahn_explain --trace shows all",
+            "Reports one more channel besides the output channels; kahn_explain --trace shows all",
         ))
 }
 

@@ -24,9 +24,9 @@ static USAGE: &str = "kahn_live PROGRAM [--plain INPUT] [OPTIONS] < LINES";
 
 // What stands after the options in the help.
 static MORE: &str = "\
-Each line of standard input is as in an input text, `A: 1 2 3`: an input channel and values that are put behind those
-that it has. After each line the network runs until it waits for more input, and a line is written for each output
-channel that has new values, with these alone. With a program that doubles what comes on A:
+Each line of standard input is like a line of an input text, `A: 1 2 3`: an input channel, and values that are added to
+those that it has. After each line the network runs until it waits for more input. Then kahn_live writes a line for each
+output channel that has new values, with only these. With a program that doubles what comes on A:
 
   printf 'A: 1\\nA: 2 3\\n' | kahn_live double.kahn
 
@@ -35,17 +35,18 @@ channel that has new values, with these alone. With a program that doubles what 
   end 1 double: waits on A after 10
   finished 10
 
-A part of the run is the events that come after a line. A blank line feeds nothing and runs a part. Before the first
-line a part is run too. The last lines, how each process stands and how the run ended, come at the end of the input.
+The events after a line are a part of the run. A blank line feeds nothing and runs a part, and so does the start. At the
+end of the input come the last lines: the state of each process, and how the run ended.
 
-A line that can't be taken is told on standard error, with its number and the word at fault, and changes nothing; one of
-`--at-end` is told as such. Where memory is refused after a line was taken, that is told too; the next line, which may be
-blank, goes on. The run takes one thread. What went out, and input that was taken, it doesn't keep.
+If a line can't be taken, standard error says so, with its number and the word at fault, and the line changes nothing. The
+same holds for a line of `--at-end`. If a line wants more events than --step allows, standard error says so once, and if
+memory is refused after a line was taken, it says so too. In both cases the run goes on with the next line, even a blank
+one. The run uses one thread. It doesn't keep what it wrote, nor the input that was taken.
 
-With `--plain INPUT` a line has the values of one input channel alone, with blanks between, and what is new on one stream is
-written alone, one value a line: that of OUTPUT, or else the first one. Several inputs want lines with names; with
-`--plain` the others have no values, and that is told. The last lines go to standard error then, and only where the status
-isn't 0, a process has a fault, or the run stopped while some wait:
+With `--plain INPUT` a line has only values of that channel, separated by blanks, and kahn_live writes only the new values
+of one stream, one a line. If there are several input channels, use lines with names: with `--plain` the others get no
+values, and kahn_live says so. The last lines then go to standard error, and only if the status isn't 0, a process has a
+fault, or processes wait and none of them on an input.
 
   printf '1\\n2 3\\n' | kahn_live double.kahn --plain A
 
@@ -54,13 +55,13 @@ isn't 0, a process has a fault, or the run stopped while some wait:
   6
 
 Exit status:
-  0  the end was reached: the run finished; or nobody reads the lines any more
-  1  program refused; or a line was refused, where it would be 0
+  0  the end was reached, and the run finished; or nobody reads the lines any more
+  1  program refused; or a line was refused, and the status would be 0 otherwise
   2  command line refused
-  3  the end was reached: a part used its step up
+  3  the end was reached, but the last part used up its step
   4  no memory
   5  a file or standard input can't be read, the program isn't UTF-8, or the lines can't be written
-  6  run refused: a channel that is named isn't there";
+  6  run refused: a channel named in an option doesn't exist, or isn't an input";
 
 /// What the command line asks for.
 #[derive(Debug, Drop)]
@@ -86,7 +87,7 @@ fn at_end_arg<'a>(alloc: Global) -> Arg<'a>
         alloc,
         "at-end",
         "NAME=VALUE",
-        "Feeds a line `NAME: VALUE` once the input has ended, or with --plain VALUE alone, as -1; may be given again",
+        "Feeds the line `NAME: VALUE` when the input has ended; with --plain, VALUE alone, such as -1; may be repeated",
     )
     .action(ArgAction::Append)
 }
@@ -100,7 +101,7 @@ fn plain_arg<'a>(alloc: Global) -> Arg<'a>
         alloc,
         "plain",
         "INPUT[,OUTPUT]",
-        "Takes values of one input channel alone, and writes those of one stream alone, of OUTPUT, any channel, or else the first",
+        "Reads bare values of one input channel, and writes bare values of one stream: OUTPUT (any channel), or else the first",
     )
 }
 
@@ -121,16 +122,16 @@ fn live_command<'a>(alloc: Global) -> Result<Command<'a>, AllocError>
             1,
             281_474_976_710_655,
             "1000000",
-            "Events that a part may take, 1 to 281474976710655",
+            "Limit of events after each line, 1 to 281474976710655; if one needs more, its answers come late",
         ))?
         .arg(watch_arg(
             alloc,
-            "One channel that is shown too, besides the output channels; with --plain name it there",
+            "Shows one more channel besides the output channels; with --plain, write --plain INPUT,NAME",
         ))?
         .arg(flag_arg(
             alloc,
             "keep-going",
-            "Leaves the status 0 where lines were refused",
+            "Leaves the status 0 even if lines were refused",
         ))?
         .arg(at_end_arg(alloc))?
         .arg(plain_arg(alloc))
