@@ -3,16 +3,19 @@
 #![tactic(auto)]
 
 ghost use Rattle.std.specs.Prelude.{◌≡◌, IfOk, string_bytes};
-ghost use Rattle.kahn_why.specs.Explaining.{path_name};
+ghost use Rattle.kahn_explain.specs.Explaining.{path_name};
 
+mod explaining;
 mod outlet;
+mod tracing;
 
+use explaining::{explain, status, trace};
 use kahn_fault::{Fault, Texts, read_texts, tell};
 use kahn_inputs::{file_words, reading_words, tell_reason};
 use kahn_line::{ExplainOptions, read_explain_line, tell_line, tell_no_memory, tell_words};
 use kahn_pool::Config;
 use kahn_report::{ReadFault, WorkFault};
-use kahn_why::{Came, explain, explain_report, refuse_input, status, trace};
+use kahn_why::{Came, explain_report, refuse_input};
 use outlet::Outlet;
 use std::alloc::{AllocError, Global};
 use std::io::Write;

@@ -2,7 +2,7 @@
 
 ghost use Rattle.std.specs.Prelude.{◌≡◌, ◌++◌, IfOk, option_map, string_bytes};
 ghost use Rattle.std.specs.List.{find};
-ghost use Rattle.kahn_hints.specs.Hints.{asked_sort, check_note, closed_reason, count_words, counted_words, declared_first, declared_here, declared_outside, direction_at, first_reason, found_kind, idle_place, meant_at, named_instance, next_there, place_in, second_place, second_text, taken_before, tail_of, unknown_at, unwritten_at, use_at, used_at, value_tail, valued_at, wanted_here};
+ghost use Rattle.kahn_hints.specs.Hints.{asked_sort, check_note, closed_reason, count_words, declared_first, declared_here, declared_outside, first_reason, found_kind, idle_place, meant_at, named_instance, place_in, second_place, second_text, taken_before, tail_of, unwritten_at, use_at, used_at, value_tail, valued_at, wanted_here};
 
 use crate::exchange::twice_at;
 use crate::names::Sort;
@@ -247,16 +247,18 @@ fn second_place(
     }
 }
 
-/// Adds which name was perhaps meant at a place: the nearest of those that may stand there, or else the first of them.
+/// Adds words, and which name was perhaps meant at a place: the nearest of those that may stand there, or else the first of them.
 fn add_meant(
     words: &mut String,
+    lead: &str,
     alloc: Global,
     text: &str,
     program: &Program,
     at: Span,
 ) -> Result<(), AllocError>
-    ensures { IfOk result (λ _. string_bytes words.new ≡ string_bytes words.old ++ meant_at text.now program.now at) }
+    ensures { IfOk result (λ _. string_bytes words.new ≡ string_bytes words.old ++ (lead.now ++ meant_at text.now program.now at)) }
 {
+    words.push_str(lead)?;
     let asked = asked_sort(use_at(program, at));
     let names = names_seen(
         alloc,
@@ -265,21 +267,6 @@ fn add_meant(
         asked,
     )?;
     add_unknown(words, alloc, word_at(text, at), &names)
-}
-
-/// Adds what is said of a name at a place that isn't declared.
-fn add_unknown_at(
-    words: &mut String,
-    alloc: Global,
-    text: &str,
-    program: &Program,
-    at: Span,
-) -> Result<(), AllocError>
-    ensures { IfOk result (λ _. string_bytes words.new ≡ string_bytes words.old ++ unknown_at text.now program.now at) }
-{
-    let found = use_at(program, at);
-    words.push_str(other_words(found, channel_called(program, word_at(text, at))))?;
-    add_meant(words, alloc, text, program, at)
 }
 
 /// The instance whose process is named at a place.
@@ -294,17 +281,6 @@ fn named_instance(program: &Program, at: Span) -> Option<&Instance>
     None
 }
 
-/// Adds how many arguments are wanted and found.
-fn add_counts(words: &mut String, wanted: usize, found: usize) -> Result<(), AllocError>
-    ensures { IfOk result (λ _. string_bytes words.new ≡ string_bytes words.old ++ counted_words wanted found) }
-{
-    let mut first = Buffer::new();
-    let mut second = Buffer::new();
-    let wanted = first.format(wanted);
-    let found = second.format(found);
-    add(words, &[": wanted ", wanted, ", found ", found])
-}
-
 /// Adds how many arguments are wanted and found at an instance, where its process is declared.
 fn add_count(words: &mut String, program: &Program, at: Span) -> Result<(), AllocError>
     ensures { IfOk result (λ _. string_bytes words.new ≡ string_bytes words.old ++ count_words program.now (named_instance program.now at)) }
@@ -313,7 +289,13 @@ fn add_count(words: &mut String, program: &Program, at: Span) -> Result<(), Allo
         return Ok(());
     };
     match process_called(program, instance.process.text.as_bytes()) {
-        Some(process) => add_counts(words, process.parameters.len(), instance.arguments.len()),
+        Some(process) => {
+            let mut first = Buffer::new();
+            let mut second = Buffer::new();
+            let wanted = first.format(process.parameters.len());
+            let found = second.format(instance.arguments.len());
+            add(words, &[": wanted ", wanted, ", found ", found])
+        }
         None => Ok(()),
     }
 }
@@ -367,26 +349,8 @@ fn add_used_at(
     }
 }
 
-/// Adds how the next value is taken, or one is sent, where a parameter to be read or to be written stands for a value or is assigned to.
-fn add_next_at(
-    words: &mut String,
-    alloc: Global,
-    text: &str,
-    program: &Program,
-    at: Span,
-) -> Result<(), AllocError>
-    ensures { IfOk result (λ _. string_bytes words.new ≡ string_bytes words.old ++ next_there text.now program.now at) }
-{
-    match use_at(program, at) {
-        Some(Use::Expression(_)) | Some(Use::Assigned) => {
-            add_used_at(words, alloc, text, program, at, Sort::Source)?;
-            add_used_at(words, alloc, text, program, at, Sort::Target)
-        }
-        _ => Ok(()),
-    }
-}
-
-/// Adds what is found where a value is wanted, and how one is taken.
+/// Adds what is found where a value is wanted, and how the next value is taken, or one is sent, where a parameter to be read or to be
+/// written stands for a value or is assigned to.
 fn add_valued(
     words: &mut String,
     alloc: Global,
@@ -397,7 +361,13 @@ fn add_valued(
     ensures { IfOk result (λ _. string_bytes words.new ≡ string_bytes words.old ++ value_tail text.now program.now at) }
 {
     words.push_str(valued_at(text, program, at))?;
-    add_next_at(words, alloc, text, program, at)
+    match use_at(program, at) {
+        Some(Use::Expression(_)) | Some(Use::Assigned) => {
+            add_used_at(words, alloc, text, program, at, Sort::Source)?;
+            add_used_at(words, alloc, text, program, at, Sort::Target)
+        }
+        _ => Ok(()),
+    }
 }
 
 /// What to do about a channel without a writer.
@@ -407,20 +377,6 @@ fn unwritten_at(text: &str, program: &Program, at: Span) -> &'static str
     let word = word_at(text, at);
     let read = passed(program, Direction::In, word).is_some();
     unwritten_words(channel_called(program, word), read)
-}
-
-/// Adds which direction is wanted, which is found, and which name was perhaps meant.
-fn add_direction(
-    words: &mut String,
-    alloc: Global,
-    text: &str,
-    program: &Program,
-    at: Span,
-) -> Result<(), AllocError>
-    ensures { IfOk result (λ _. string_bytes words.new ≡ string_bytes words.old ++ direction_at text.now program.now at) }
-{
-    words.push_str(direction_words(use_at(program, at)))?;
-    add_meant(words, alloc, text, program, at)
 }
 
 /// Adds what is told behind the words of a fault: the nearest name, what is wanted and what is found, or what to do.
@@ -434,7 +390,11 @@ fn add_tail(
     ensures { IfOk result (λ _. string_bytes words.new ≡ string_bytes words.old ++ tail_of text.now program.now fault) }
 {
     match fault {
-        CheckFault::Unknown(at) => add_unknown_at(words, alloc, text, program, at),
+        CheckFault::Unknown(at) => {
+            let channel = channel_called(program, word_at(text, at));
+            let lead = other_words(use_at(program, at), channel);
+            add_meant(words, lead, alloc, text, program, at)
+        }
         CheckFault::WrongCount(at) => add_count(words, program, at),
         CheckFault::WrongKind(at) => add(
             words,
@@ -443,7 +403,10 @@ fn add_tail(
                 made_words(use_at(program, at)),
             ],
         ),
-        CheckFault::WrongDirection(at) => add_direction(words, alloc, text, program, at),
+        CheckFault::WrongDirection(at) => {
+            let lead = direction_words(use_at(program, at));
+            add_meant(words, lead, alloc, text, program, at)
+        }
         CheckFault::ChannelExpected(at) => words.push_str(channel_words(use_at(program, at))),
         CheckFault::ValueExpected(at) => add_valued(words, alloc, text, program, at),
         CheckFault::TwoWriters(at) => {

@@ -1,12 +1,8 @@
 -- Instances that wait for good: there is a solution above the iterates in which what they send stays as it is.
-use Rattle.std.proofs.Common.{◌≡◌, ℕ, pos, suc, ◌≤◌, List, [], ◌∷◌, ◌++◌, Bool, true, false, Some, refl, sym, ap, subst, ◌∙◌}
+use Rattle.std.proofs.Common.{Bool, List, Some, [], ap, false, le_refl, le_trans, max, pos, refl, subst, suc, sym, true, ℕ, ◌++◌, ◌∙◌, ◌∷◌, ◌≡◌, ◌≤◌}
 use Rattle.std.proofs.lemmas.List.{append-nil}
 use mathlib.Core.Path.{fun_ext}
-use Rattle.std.proofs.Math.Nat.{le-max_left}
-use Rattle.std.proofs.Math.Nat.{le-max_right}
-use Rattle.std.proofs.Common.{le_trans}
-use Rattle.std.proofs.Common.{le_refl}
-use Rattle.std.proofs.Common.{max}
+use Rattle.std.proofs.Math.Nat.{le-max_left, le-max_right}
 use Rattle.kahn_streams.specs.Meaning.{Store}
 use Rattle.kahn_streams.specs.Syntax.{Number}
 use Rattle.kahn_streams.specs.Network.{Network, Source, Given, Written, Nobody, Hands, Instance, instance_at}

@@ -11,7 +11,7 @@ use Rattle.kahn_why.specs.inner.Told.{HasRefused, HasWritten, IsAdmitted}
 use Rattle.kahn_why.specs.declared.explaining.Admitted.{Admitted}
 use Rattle.kahn_why.specs.declared.explaining.Came.{Came}
 use Rattle.kahn_why.specs.declared.explaining.Came.TheVariants.{Stopped, Refused}
-use Rattle.kahn_why.proofs.Told.{are_allowed}
+use Rattle.kahn_why.proofs.Parts.{are_allowed}
 
 pub refused_report : (path program report : List ℕ) (strict : Bool) (old new : Option (List ℕ)) (r : Result Came WorkFault) → HasRefused path program strict old new r
     → HasReported path program report strict old new r

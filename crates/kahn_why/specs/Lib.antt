@@ -1,14 +1,10 @@
 pub mod Back
-pub mod Explaining
-pub mod Histories
 pub mod Noting
 pub mod Reading
 pub mod Refusing
 pub mod Reported
 pub mod Reporting
-pub mod Table
 pub mod Telling
-pub mod Tracing
 pub mod Waits
 pub mod Why
 pub mod Words

@@ -1,5 +1,5 @@
 -- Believed. The note on why a program text is refused.
-use Rattle.std.specs.Prelude.{◌≡◌, ◌++◌, ℕ, List, Option, Some, None, Err, MatchOption, string_bytes}
+use Rattle.std.specs.Prelude.{◌≡◌, ◌⊎◌, ◌++◌, ℕ, Bool, true, List, [], Option, Some, None, Err, MatchOption, string_bytes}
 use Rattle.std.specs.declared.alloc.Global.{Global}
 use Rattle.std.specs.declared.string.String.{String}
 use Rattle.kahn_streams.specs.declared.span.Span.{Span}
@@ -16,7 +16,8 @@ use Rattle.kahn_fault.specs.Message.{check_span, syntax_span, syntax_words}
 use Rattle.kahn_notes.specs.Characters.{character_help}
 use Rattle.kahn_notes.specs.Notes.{IsCommented, IsNote}
 use Rattle.kahn_wanted.specs.Comments.{AreComments}
-use Rattle.kahn_report.specs.Work.{IsParsed, IsUnchecked}
+use Rattle.kahn_report.specs.Work.{IsChecked, IsParsed, IsUnchecked}
+use Rattle.kahn_warnings.specs.Telling.{AreWarningNotes}
 use Rattle.kahn_why.specs.Noting.{faults_text}
 
 -- the place and the reason, where a lexeme can't stand or the text ends too early
@@ -59,3 +60,16 @@ IsRefusal path program (Write f) note = note ≡ None
 -- of the first fault of this very text
 abbrev pub IsNoteOn : List ℕ → List ℕ → String Global → Type 0
 IsNoteOn path program note = (f : WorkFault) × IsUnchecked program f × IsRefusal path program f (Some note)
+
+-- the notes on what is warned of in the program of this text
+abbrev pub AreNotesOn : List ℕ → List ℕ → List ℕ → Type 0
+AreNotesOn path program notes = (t : Program) × IsChecked program t × AreWarningNotes path program t notes
+
+-- and there are none where it is asked to be strict
+abbrev pub AreAllowed : List ℕ → List ℕ → Bool → List ℕ → Type 0
+AreAllowed path program strict notes = AreNotesOn path program notes × (strict ≡ true → notes ≡ [])
+
+-- why the program text is refused: the note on its fault, or the notes on what is warned of
+abbrev pub IsRefusedFor : List ℕ → List ℕ → Bool → List ℕ → Type 0
+IsRefusedFor path program strict text =
+    ((note : String Global) × IsNoteOn path program note × (text ≡ string_bytes note)) ⊎ ((strict ≡ true) × AreNotesOn path program text × ¬ (text ≡ []))

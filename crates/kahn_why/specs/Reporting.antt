@@ -10,8 +10,7 @@ use Rattle.kahn_report.specs.declared.working.WorkFault.TheVariants.{Syntax, Che
 use Rattle.kahn_why.specs.Reported.{IsReported}
 use Rattle.kahn_why.specs.declared.why.reported.Reported.{Reported}
 use Rattle.kahn_why.specs.declared.why.told.Told.{Told}
-use Rattle.kahn_why.specs.Explaining.{AreAllowed, IsRefusedFor}
-use Rattle.kahn_why.specs.Refusing.{IsRefusal}
+use Rattle.kahn_why.specs.Refusing.{AreAllowed, IsRefusal, IsRefusedFor}
 use Rattle.kahn_why.specs.declared.explaining.Came.{Came}
 use Rattle.kahn_why.specs.declared.explaining.Came.TheVariants.{Stopped, Refused}
 

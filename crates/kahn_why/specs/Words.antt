@@ -1,17 +1,15 @@
 -- Believed. What is said of a run that stopped: a line for each process that hasn't ended, advice to each ring, and how the run ended.
-use Rattle.std.specs.Prelude.{◌≡◌, ℕ, zero, suc, ◌+◌, ◌<◌, ◌==◌, List, [], ◌∷◌, ◌++◌, Bool, true, false, codes, decimal, if◌then◌else◌, flat_map, length, map, min, nat_lt, string_bytes, IfOk, Option, Some, None, Result, option_map, slice_index_or}
+use Rattle.std.specs.Prelude.{◌≡◌, ℕ, ◌+◌, ◌<◌, ◌==◌, List, [], ◌∷◌, ◌++◌, Bool, true, false, codes, decimal, if◌then◌else◌, flat_map, length, map, nat_lt, string_bytes, IfOk, Option, Some, None, Result, option_map, slice_index_or}
 use Rattle.std.proofs.Common.{Bor}
 use Rattle.std.specs.declared.alloc.Global.{Global}
 use Rattle.std.specs.declared.string.String.{String}
 use Rattle.std.specs.List.{concat, list_any}
-use Rattle.kahn_streams.specs.Place.{line_of, column_of}
 use Rattle.kahn_streams.specs.declared.span.Span.{Span}
 use Rattle.kahn_streams.specs.declared.tree.Process.{Process}
 use Rattle.kahn_streams.specs.declared.tree.Program.{Program}
 use Rattle.kahn_streams.specs.declared.tree.Statement.{Statement}
 use Rattle.kahn_streams.specs.declared.value.Failure.{Failure}
 use Rattle.kahn_streams.specs.Network.{Source, Given, Written, Nobody, channel_source, network_of, process_of}
-use Rattle.kahn_streams.specs.Wiring.{IsWellWired}
 use Rattle.kahn_chain.specs.Chain.{AreCauses, AreStandings}
 use Rattle.kahn_chain.specs.declared.standing.Standing.{Standing}
 use Rattle.kahn_chain.specs.declared.standing.Standing.TheVariants as S
@@ -19,15 +17,13 @@ use Rattle.kahn_chain.specs.declared.standing.Cause.{Cause}
 use Rattle.kahn_chain.specs.declared.standing.Cause.TheVariants.{Input, Stopped, Ring}
 use Rattle.kahn_streams.specs.declared.value.Failure.TheVariants.{Overflow, Division}
 use Rattle.kahn_streams.specs.Inputs.{Lists, inputs_of}
-use Rattle.kahn_streams.specs.Solution.{Inputs}
-use Rattle.kahn_streams.specs.Answers.{IsRight}
 use Rattle.kahn_streams.specs.declared.answer.Answer.{Answer}
 use Rattle.kahn_streams.specs.declared.answer.End.{End}
 use Rattle.kahn_streams.specs.declared.answer.Outcome.{Outcome}
 use Rattle.kahn_streams.specs.declared.answer.Outcome.TheVariants.{Ended, Waits, Faulted, More}
 use Rattle.kahn_streams.specs.declared.answer.Verdict.{Verdict}
 use Rattle.kahn_streams.specs.declared.answer.Verdict.TheVariants.{Finished, Bound, Memory}
-use Rattle.kahn_marks.specs.Marks.{marked}
+use Rattle.kahn_marks.specs.Marks.{marked, spot_text}
 use Rattle.kahn_warnings.specs.Faults.{fault_places}
 use Rattle.kahn_report.specs.Formats.{channel_name, process_name, last_text}
 use Rattle.kahn_why.specs.Waits.{instance_waits}
@@ -45,13 +41,11 @@ abbrev pub who_text : Program → ℕ → List ℕ
 who_text t p = concat (decimal (p + 1) ∷ codes " " ∷ process_name t p ∷ [])
 
 -- how many values came on an input, all of which were taken
-abbrev pub all_taken : ℕ → List ℕ
-all_taken n = concat (codes ", of which all " ∷ decimal n ∷ codes " values are taken" ∷ [])
-
 abbrev pub taken_words : ℕ → List ℕ
-taken_words zero = codes ", to which nothing came: --input FILE brings values"
-taken_words (suc zero) = codes ", of which the one value is taken"
-taken_words (suc (suc n)) = all_taken (suc (suc n))
+taken_words n =
+    if n == 0 then codes ", to which nothing came: --input FILE brings values"
+    else if n == 1 then codes ", of which the one value is taken"
+    else concat (codes ", of which all " ∷ decimal n ∷ codes " values are taken" ∷ [])
 
 -- the lists of a run, where they are known
 abbrev pub fed_lists : Option (Bor Lists) → Option Lists
@@ -123,25 +117,17 @@ is_ring_of z (Input w c) = false
 is_ring_of z (Stopped w s) = false
 is_ring_of z (Ring w) = w == z
 
--- the line and the column of a byte of the program text
-abbrev pub spot_at : List ℕ → ℕ → List ℕ
-spot_at source from = concat (decimal (line_of source from) ∷ codes ":" ∷ decimal (column_of source from) ∷ [])
-
--- those where a part begins; one beyond the text is told as the text's end
-abbrev pub spot_text : List ℕ → Span → List ℕ
-spot_text source x = spot_at source (min x.from (length source))
-
 -- one or two further places, or how many there are
 abbrev pub more_spots : ℕ → List ℕ
 more_spots n = concat (codes " or " ∷ decimal n ∷ codes " places more" ∷ [])
 
 abbrev pub other_spots : List ℕ → List Span → List ℕ
-other_spots source xs = if nat_lt 2 (length xs) then more_spots (length xs) else flat_map (λ x. codes " or " ++ spot_text source x) xs
+other_spots source xs = if nat_lt 2 (length xs) then more_spots (length xs) else flat_map (λ x. spot_text (codes " or ") source x.from) xs
 
 -- the places, where there are any
 abbrev pub spots_text : List ℕ → List Span → List ℕ
 spots_text source [] = []
-spots_text source (x ∷ xs) = codes " at " ++ (spot_text source x ++ other_spots source xs)
+spots_text source (x ∷ xs) = spot_text (codes " at ") source x.from ++ other_spots source xs
 
 -- the source is z itself
 abbrev pub is_own : ℕ → Source → Bool
@@ -274,7 +260,3 @@ pub record IsOfNetwork (t : Program) (p : ℕ) (o : Outcome) (y : Cause) : Type 
 pub record AreOfNetwork (t : Program) (xs : List End) (ys : List Cause) : Type 0 where
   pub standings : AreStandings (network_of t) (map stands xs)
   pub causes : AreCauses (network_of t) (map stands xs) ys
-
--- the program is well wired, and the answer is right for some run of it
-abbrev pub IsAnswer : Program → Answer → Type 0
-IsAnswer t a = IsWellWired t × (I : Inputs) × (bound : ℕ) × (watch : Option ℕ) × IsRight (network_of t) I bound watch a

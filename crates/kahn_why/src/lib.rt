@@ -1,4 +1,4 @@
-//! Why a program text is refused, and why a run of it, or that of a report, stopped, in words; and tables of all that its channels carried.
+//! Why a program text or an input text is refused, and why a run, or that of a report, stopped, in words.
 #![tactic(auto)]
 
 mod explaining;
@@ -6,9 +6,12 @@ mod laws;
 mod noting;
 mod refusing;
 mod telling;
-mod tracing;
 mod why;
 
-pub use explaining::{Came, explain, explain_report, status, trace};
+pub use explaining::{Came, explain_report};
 pub use laws::{for_good, reports_are_read_back};
 pub use telling::refuse_input;
+
+// For the crates above.
+pub use explaining::{Admitted, admit, write_both};
+pub use why::{Explanation, Told, explained};

@@ -4,12 +4,11 @@ ghost use Rattle.std.specs.Prelude.{◌≡◌, ◌++◌, IfOk, string_bytes};
 ghost use Rattle.kahn_why.specs.Noting.{counted_text, faults_text, further_text, held_words, note_text, notes_text, unsaid_text};
 
 use itoa::Buffer;
-use kahn_check::CheckFault;
 use kahn_fault::{check_span, check_words};
 use kahn_hints::check_note;
 use kahn_marks::add;
 use kahn_notes::held_remark;
-use kahn_streams::{NoMemory, Program, Span};
+use kahn_streams::{CheckFault, NoMemory, Program, Span};
 use std::alloc::{AllocError, Global};
 
 /// The most faults on which there is a note.

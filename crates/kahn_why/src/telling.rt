@@ -4,9 +4,8 @@ ghost use Rattle.kahn_why.specs.Telling.{HasToldInput};
 
 use crate::explaining::{Came, write_both};
 use kahn_inputs::input_note;
-use kahn_pool::RunFault;
 use kahn_report::{TextFault, WorkFault, checked};
-use kahn_streams::NoMemory;
+use kahn_streams::{NoMemory, RunFault};
 use std::alloc::Global;
 use std::io::Write;
 

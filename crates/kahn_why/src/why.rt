@@ -11,5 +11,5 @@ mod told;
 mod waits;
 
 pub(crate) use reported::explained_report;
-pub(crate) use telling::explained;
-pub(crate) use told::{Explanation, Told};
+pub use telling::explained;
+pub use told::{Explanation, Told};

@@ -8,11 +8,8 @@ use Rattle.kahn_write.specs.declared.bytes.WriteFault.{WriteFault}
 use Rattle.kahn_warnings.specs.Telling.{AreWarningNotes}
 use Rattle.kahn_report.specs.declared.working.WorkFault.{WorkFault}
 use Rattle.kahn_report.specs.declared.working.WorkFault.TheVariants.{Syntax, Check, Text, Run, Write}
-use Rattle.kahn_streams.specs.declared.config.Config.{Config}
-use Rattle.kahn_why.specs.Explaining.{HasExplained, IsRefusedFor}
+use Rattle.kahn_why.specs.Refusing.{IsRefusal, IsRefusedFor}
 use Rattle.kahn_why.specs.Reporting.{HasReported}
-use Rattle.kahn_why.specs.Tracing.{HasTraced}
-use Rattle.kahn_why.specs.Refusing.{IsRefusal}
 use Rattle.kahn_why.specs.declared.explaining.Admitted.{Admitted}
 use Rattle.kahn_why.specs.declared.explaining.Came.{Came}
 use Rattle.kahn_why.specs.declared.explaining.Came.TheVariants.{Stopped, Refused}
@@ -47,14 +44,6 @@ abbrev pub HasAdmitted : List ℕ → List ℕ → Bool → Option (List ℕ) �
 HasAdmitted path program strict old new (Ok x) = IsAdmitted path program strict x × (new ≡ old)
 HasAdmitted path program strict old new (Err r) = HasRefused path program strict old new r
 
--- what became of an admitted program: of its run, of a report, of a table
-abbrev pub HasToldRun : List ℕ → List ℕ → Admitted → List ℕ → Config → Option (List ℕ) → Option (List ℕ) → Result Came WorkFault → Type 0
-HasToldRun path program x input config old new r = (strict : Bool) → IsAdmitted path program strict x → HasExplained path program input config strict old new r
-
+-- what became of an admitted program and a report
 abbrev pub HasToldReport : List ℕ → List ℕ → Admitted → List ℕ → Option (List ℕ) → Option (List ℕ) → Result Came WorkFault → Type 0
 HasToldReport path program x report old new r = (strict : Bool) → IsAdmitted path program strict x → HasReported path program report strict old new r
-
-abbrev pub HasTabled :
-    List ℕ → List ℕ → Admitted → List ℕ → Config → Option (List ℕ) → Option (List ℕ) → Option (List ℕ) → Option (List ℕ) → Result Came WorkFault → Type 0
-HasTabled path program x input config table made old new r =
-    (strict : Bool) → IsAdmitted path program strict x → HasTraced path program input config strict table made old new r

@@ -14,9 +14,8 @@ use crate::why::waits::channel_waits;
 use itoa::Buffer;
 use kahn_chain::Cause;
 use kahn_marks::add;
-use kahn_pool::{End, Outcome, Verdict};
 use kahn_report::channel_name;
-use kahn_streams::{Failure, Input, Network};
+use kahn_streams::{End, Failure, Input, Network, Outcome, Verdict};
 use std::alloc::{AllocError, Global};
 
 /// Adds an instance to which waits lead, and what is said of it.
@@ -31,8 +30,7 @@ fn add_as<'a>(
     requires { instance < length network.now.instances.items }
     ensures { IfOk result (λ _. string_bytes text.new ≡ string_bytes text.old ++ as_text network.now instance first.now second.now third.now) }
 {
-    add(text, &[", as "])?;
-    add_who(text, network, instance)?;
+    add_who(text, ", as ", network, instance)?;
     add(text, &[first, second, third])
 }
 
@@ -116,7 +114,7 @@ fn add_waits(
     requires channel { channel < length (network_of network.now).channels }
     ensures { GrowsBy result text.old text.new (waits_text program.now network.now verdict (fed_lists fed.entry) instance channel cause) }
 {
-    add_who(text, network, instance)?;
+    add_who(text, "", network, instance)?;
     add(text, &[" waits on ", channel_name(network, channel)])?;
     add_awaited(text, alloc, program, network, instance, channel)?;
     add_source(text, network, verdict, fed, channel)?;
@@ -137,7 +135,7 @@ fn add_faulted(
     requires { instance < length network.now.instances.items }
     ensures { IfOk result (λ _. string_bytes text.new ≡ string_bytes text.old ++ faulted_text path.now program.now network.now instance kind) }
 {
-    add_who(text, network, instance)?;
+    add_who(text, "", network, instance)?;
     text.push_str(fault_word(kind))?;
     add_places(text, alloc, path, program, network, instance, kind)
 }
@@ -152,7 +150,7 @@ fn add_more(
     requires { instance < length network.now.instances.items }
     ensures { IfOk result (λ _. string_bytes text.new ≡ string_bytes text.old ++ wants_text network.now instance events) }
 {
-    add_who(text, network, instance)?;
+    add_who(text, "", network, instance)?;
     let mut buffer = Buffer::new();
     let number = buffer.format(events);
     add(text, &[" wants more, after ", number, events_word(events)])

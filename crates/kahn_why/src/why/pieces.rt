@@ -2,41 +2,34 @@
 
 ghost use Rattle.std.specs.Prelude.{◌≡◌, ◌<◌, ◌++◌, IfOk, length, string_bytes};
 ghost use Rattle.kahn_streams.specs.Network.{channel_source, network_of};
-ghost use Rattle.kahn_why.specs.Words.{advice_text, all_taken, events_words, fault_words, fed_lists, for_ever_text, is_own, is_ring_of, known_taken, lasting_text, source_text, stopped_text, taken_text, taken_words, who_text};
+ghost use Rattle.kahn_why.specs.Words.{advice_text, events_words, fault_words, fed_lists, for_ever_text, is_own, is_ring_of, known_taken, lasting_text, source_text, stopped_text, taken_text, taken_words, who_text};
 
 use itoa::Buffer;
 use kahn_chain::{Cause, Standing};
 use kahn_marks::add;
-use kahn_pool::Verdict;
 use kahn_report::process_name;
-use kahn_streams::{Failure, Input, Network};
+use kahn_streams::{Failure, Input, Network, Verdict};
 use std::alloc::AllocError;
 
-/// Adds an instance, by its number and its process.
-pub(crate) fn add_who(
+/// Adds an instance behind a word, by its number and its process.
+pub(crate) fn add_who<'a>(
     text: &mut String,
-    network: &Network,
+    before: &'a str,
+    network: &'a Network,
     instance: usize,
 ) -> Result<(), AllocError>
     requires { instance < length network.now.instances.items }
-    ensures { IfOk result (λ _. string_bytes text.new ≡ string_bytes text.old ++ who_text network.now instance) }
+    ensures { IfOk result (λ _. string_bytes text.new ≡ string_bytes text.old ++ (before.now ++ who_text network.now instance)) }
 {
     let mut buffer = Buffer::new();
     let number = buffer.format(instance + 1);
-    add(text, &[number, " ", process_name(network, instance)])
-}
-
-/// Adds that all of so many values are taken.
-fn add_all(text: &mut String, count: usize) -> Result<(), AllocError>
-    ensures { IfOk result (λ _. string_bytes text.new ≡ string_bytes text.old ++ all_taken count) }
-{
-    let mut buffer = Buffer::new();
-    let number = buffer.format(count);
-    add(text, &[", of which all ", number, " values are taken"])
+    add(
+        text,
+        &[before, number, " ", process_name(network, instance)],
+    )
 }
 
 /// Adds how many values came on an input, all of which are taken.
-#[tactic(auto, using(crate::proofs::Lined::counted))]
 fn add_count(text: &mut String, count: usize) -> Result<(), AllocError>
     ensures { IfOk result (λ _. string_bytes text.new ≡ string_bytes text.old ++ taken_words count) }
 {
@@ -46,7 +39,9 @@ fn add_count(text: &mut String, count: usize) -> Result<(), AllocError>
     if count == 1 {
         return text.push_str(", of which the one value is taken");
     }
-    add_all(text, count)
+    let mut buffer = Buffer::new();
+    let number = buffer.format(count);
+    add(text, &[", of which all ", number, " values are taken"])
 }
 
 /// Adds how many values came on an input, where that is known.
@@ -90,10 +85,7 @@ pub(crate) fn add_source(
             add(text, &[", an input"])?;
             add_taken(text, verdict, fed, channel)
         }
-        Some(side) => {
-            add(text, &[" from "])?;
-            add_who(text, network, side.instance)
-        }
+        Some(side) => add_who(text, " from ", network, side.instance),
     }
 }
 

@@ -4,12 +4,11 @@ ghost use Rattle.std.specs.Prelude.{◌≡◌, ◌<◌, ◌+◌, ◌-◌, MatchR
 ghost use Rattle.std.specs.Char.{is_ascii_digit};
 ghost use Rattle.std.specs.List.{list_all};
 ghost use Rattle.kahn_streams.specs.Network.{channel_names};
-ghost use Rattle.kahn_why.specs.Reading.{AreEndsRead, AreEndsUnread, IsReportRead, IsReadBy, IsReportUnread, IsUnreadBy, counted, end_told, last_in, last_told, line_told, number_told, said_lines, waits_told};
+ghost use Rattle.kahn_why.specs.Reading.{AreEndsRead, AreEndsUnread, IsReportRead, IsReadBy, IsReportUnread, IsUnreadBy, counted, end_as, end_told, last_in, last_told, line_told, number_told, said_lines, verdict_as, waits_told};
 
 use itoa::Buffer;
 use kahn_graph::{lines, without};
-use kahn_pool::{Answer, End, Outcome, Verdict};
-use kahn_streams::{Failure, Instance, Network};
+use kahn_streams::{Answer, End, Failure, Instance, Network, Outcome, Verdict};
 use std::alloc::{AllocError, Global};
 
 /// Why a text isn't the report of a run of a network.
@@ -74,35 +73,27 @@ fn waits_told(network: &Network, words: &str) -> Option<End>
     None
 }
 
+/// That end after so many events, or else another one.
+fn end_as(outcome: Outcome, events: Option<u64>, other: Option<End>) -> Option<End>
+    ensures { result ≡ end_as outcome events other }
+{
+    match events {
+        Some(events) => Some(End { outcome, events }),
+        None => other,
+    }
+}
+
 /// How an instance stands by words.
 fn end_told(network: &Network, words: &str) -> Option<End>
     ensures { result ≡ end_told (channel_names network.now) words.now }
 {
-    if let Some(events) = counted(words, &["ended after "]) {
-        return Some(End {
-            outcome: Outcome::Ended,
-            events,
-        });
-    }
-    if let Some(events) = counted(words, &["fault overflow after "]) {
-        return Some(End {
-            outcome: Outcome::Faulted(Failure::Overflow),
-            events,
-        });
-    }
-    if let Some(events) = counted(words, &["fault division after "]) {
-        return Some(End {
-            outcome: Outcome::Faulted(Failure::Division),
-            events,
-        });
-    }
-    if let Some(events) = counted(words, &["wants more after "]) {
-        return Some(End {
-            outcome: Outcome::More,
-            events,
-        });
-    }
-    waits_told(network, words)
+    let more = counted(words, &["wants more after "]);
+    let other = end_as(Outcome::More, more, waits_told(network, words));
+    let division = counted(words, &["fault division after "]);
+    let other = end_as(Outcome::Faulted(Failure::Division), division, other);
+    let overflow = counted(words, &["fault overflow after "]);
+    let other = end_as(Outcome::Faulted(Failure::Overflow), overflow, other);
+    end_as(Outcome::Ended, counted(words, &["ended after "]), other)
 }
 
 /// How an instance stands by a line, which names its number and its process.
@@ -142,20 +133,29 @@ fn ends_told(
     Ok(ends)
 }
 
+/// That verdict after so many events, or else another one.
+fn verdict_as(
+    verdict: Verdict,
+    events: Option<u64>,
+    other: Option<(Verdict, u64)>,
+) -> Option<(Verdict, u64)>
+    ensures { result ≡ verdict_as verdict events other }
+{
+    match events {
+        Some(events) => Some((verdict, events)),
+        None => other,
+    }
+}
+
 /// How the run ended by a line.
 fn last_told(line: &str) -> Option<(Verdict, u64)>
     ensures { result ≡ last_told line.now }
 {
-    if let Some(events) = counted(line, &["finished "]) {
-        return Some((Verdict::Finished, events));
-    }
-    if let Some(events) = counted(line, &["stopped by bound "]) {
-        return Some((Verdict::Bound, events));
-    }
-    if let Some(events) = counted(line, &["stopped by memory "]) {
-        return Some((Verdict::Memory, events));
-    }
-    None
+    let memory = counted(line, &["stopped by memory "]);
+    let other = verdict_as(Verdict::Memory, memory, None);
+    let bound = counted(line, &["stopped by bound "]);
+    let other = verdict_as(Verdict::Bound, bound, other);
+    verdict_as(Verdict::Finished, counted(line, &["finished "]), other)
 }
 
 /// How the run ended by a line, where there is one.

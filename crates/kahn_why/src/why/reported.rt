@@ -5,7 +5,7 @@ ghost use Rattle.kahn_why.specs.Reported.{IsReported, process_untold};
 
 use crate::why::pieces::add_who;
 use crate::why::reading::{ReportFault, read_answer};
-use crate::why::telling::explained_ends;
+use crate::why::telling::explained;
 use crate::why::told::Told;
 use kahn_marks::add;
 use kahn_streams::{Network, NoMemory};
@@ -26,8 +26,7 @@ fn process_untold(alloc: Global, network: &Network, instance: usize) -> Result<S
     ensures { IfOk result (λ words. string_bytes words ≡ process_untold network.now instance) }
 {
     let mut words = String::new(alloc);
-    add(&mut words, &["report doesn't tell how "])?;
-    add_who(&mut words, network, instance)?;
+    add_who(&mut words, "report doesn't tell how ", network, instance)?;
     add(&mut words, &[" stands\n"])?;
     Ok(words)
 }
@@ -46,7 +45,7 @@ pub fn explained_report(
 {
     match read_answer(alloc, network, report) {
         Ok(answer) => {
-            let explanation = explained_ends(alloc, path, program, network, None, &answer)?;
+            let explanation = explained(alloc, path, program, network, None, &answer)?;
             Ok(Reported {
                 text: explanation.text,
                 told: Some(explanation.told),

@@ -1,19 +1,18 @@
 //! Why the run of an answer stopped.
 
-ghost use Rattle.std.specs.Prelude.{◌≡◌, ◌++◌, IfOk, Some, map, string_bytes};
+ghost use Rattle.std.specs.Prelude.{◌≡◌, ◌++◌, IfOk, map, string_bytes};
 ghost use Rattle.kahn_report.specs.Formats.{last_text};
 ghost use Rattle.kahn_streams.specs.Network.{network_of};
 ghost use Rattle.kahn_chain.specs.Chain.{AreStandings};
 ghost use Rattle.kahn_why.specs.Why.{standing_of, standings_of, stands};
-ghost use Rattle.kahn_why.specs.Words.{IsAnswer, IsExplained, bound_text, fed_lists};
+ghost use Rattle.kahn_why.specs.Words.{IsExplained, bound_text, fed_lists};
 
 use crate::why::lines::add_lines;
 use crate::why::told::{Explanation, came_to};
 use itoa::Buffer;
 use kahn_chain::{Standing, causes};
 use kahn_marks::add;
-use kahn_pool::{Answer, End, Outcome, Verdict};
-use kahn_streams::{Input, Network};
+use kahn_streams::{Answer, End, Input, Network, Outcome, Verdict};
 use std::alloc::{AllocError, Global};
 
 /// How an instance stands that has this outcome.
@@ -71,8 +70,10 @@ fn add_end(text: &mut String, answer: &Answer) -> Result<(), AllocError>
     add_last(text, answer)
 }
 
-/// Why instances stopped that stand as an answer of a network says.
-pub(crate) fn explained_ends(
+/// Why the run of an answer of the network of a program text stopped, by the input that it was fed, where that is known: a line for each instance that hasn't
+/// ended, with notes on all places in the text that a fault can have come from, and advice to each ring, and how the run ended. It refuses only
+/// where memory was refused.
+pub fn explained(
     alloc: Global,
     path: &str,
     program: &str,
@@ -102,21 +103,4 @@ pub(crate) fn explained_ends(
         text,
         told: came_to(answer, &causes),
     })
-}
-
-/// Why the run of an answer of the network of a program text stopped, by the input that it was fed: a line for each instance that hasn't
-/// ended, with notes on all places in the text that a fault can have come from, and advice to each ring, and how the run ended. It refuses only
-/// where memory was refused.
-pub fn explained(
-    alloc: Global,
-    path: &str,
-    program: &str,
-    network: &Network,
-    input: &Input,
-    answer: &Answer,
-) -> Result<Explanation, AllocError>
-    requires { IsAnswer network.now answer.now }
-    ensures { IfOk result (IsExplained path.now program.now network.now (Some input.now) answer.now) }
-{
-    explained_ends(alloc, path, program, network, Some(input), answer)
 }

@@ -4,7 +4,7 @@ ghost use Rattle.std.specs.Prelude.{◌≡◌};
 ghost use Rattle.kahn_why.specs.Words.{has_fault, has_ring, came_to, is_ring, is_fault};
 
 use kahn_chain::Cause;
-use kahn_pool::{Answer, End, Outcome, Verdict};
+use kahn_streams::{Answer, End, Outcome, Verdict};
 
 /// What a run came to.
 #[derive(Clone, Copy)]

@@ -1,5 +1,5 @@
 use Rattle.std.proofs.Common.{inr, refl, string_bytes}
-use Rattle.kahn_why.proofs.Told.{refusal_out}
+use Rattle.kahn_why.proofs.Parts.{refusal_out}
 use Rattle.kahn_why.proofs.explaining.admit.Goals as goal
 
 pub returns-in-Err : goal.returns-in-Err

@@ -1,5 +1,5 @@
 use Rattle.std.proofs.Common.{inl, inr, refl}
-use Rattle.kahn_why.proofs.Told.{broke_off, went_out}
+use Rattle.kahn_why.proofs.Parts.{broke_off, went_out}
 use Rattle.kahn_why.proofs.explaining.write_both.Goals as goal
 
 pub returns-in-Ok : goal.returns-in-Ok

@@ -2,7 +2,7 @@ use Rattle.std.proofs.Common.{[], ◌∷◌, codes, string_bytes}
 use Rattle.std.specs.Fmt.{decimal}
 use Rattle.std.specs.List.{concat}
 use Rattle.kahn_why.specs.Words.{events_words, who_text}
-use Rattle.kahn_why.proofs.Lined.{then_piece}
+use Rattle.kahn_marks.proofs.Joined.{then_piece}
 use Rattle.kahn_why.proofs.why.lines.add_more.Goals as goal
 
 pub returns : goal.returns

@@ -3,7 +3,7 @@ use Rattle.std.specs.List.{concat}
 use Rattle.kahn_report.specs.Formats.{channel_name}
 use Rattle.kahn_why.specs.Waits.{instance_waits}
 use Rattle.kahn_why.specs.Words.{cause_text, fed_lists, ringed_text, source_text, spots_text, who_text}
-use Rattle.kahn_why.proofs.Lined.{then_piece}
+use Rattle.kahn_marks.proofs.Joined.{then_piece}
 use Rattle.kahn_why.proofs.why.lines.add_waits.Goals as goal
 
 pub returns : goal.returns

@@ -3,8 +3,8 @@ use Rattle.kahn_why.specs.Reading.{IsReportUnread, last_lines}
 use Rattle.kahn_why.proofs.Read.{told_standings, untold_within}
 use Rattle.kahn_why.proofs.why.reported.explained_report.Goals as goal
 
-pub explained_ends-requires : goal.explained_ends-requires
-explained_ends-requires c =
+pub explained-requires : goal.explained-requires
+explained-requires c =
     told_standings c.args.network.now (last_lines c.args.network.now c.args.report.now) c.in-Ok.answer.ends.items c.in-Ok.ensures.0
 
 pub process_untold-requires : goal.process_untold-requires

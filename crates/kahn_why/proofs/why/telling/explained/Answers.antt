@@ -1,5 +1,16 @@
-use Rattle.kahn_why.proofs.Lined.{answered}
+use Rattle.std.proofs.Common.{◌∙◌, ap, map, subst, sym}
+use Rattle.kahn_streams.specs.Network.{network_of}
+use Rattle.kahn_chain.specs.Chain.{AreStandings}
+use Rattle.kahn_why.specs.Why.{stands}
+use Rattle.kahn_why.proofs.Lined.{all_of}
 use Rattle.kahn_why.proofs.why.telling.explained.Goals as goal
 
-pub explained_ends-requires : goal.explained_ends-requires
-explained_ends-requires c = answered c.args.network.now c.args.answer.now c.requires
+pub causes-requires : goal.causes-requires
+causes-requires c =
+    subst (AreStandings (network_of c.args.network.now)) (sym (c.deref-2.ensures.value ∙ c.in_ok-standings.ensures ∙ ap (map stands) c.deref.ensures.value))
+    c.requires
+
+pub add_lines-requires : goal.add_lines-requires
+add_lines-requires c =
+    all_of c.args.network.now c.args.answer.now _ _ _ _ c.requires (c.deref-2.ensures.value ∙ c.in_ok-standings.ensures ∙ ap (map stands) c.deref.ensures.value)
+    c.deref-4.ensures.value c.deref-3.ensures.value c.in_ok-causes.ensures

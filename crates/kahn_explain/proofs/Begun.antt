@@ -1,0 +1,28 @@
+-- A column of a right answer is a history.
+use Rattle.std.proofs.Common.{◌≡◌, ℕ, List, sym, subst, ◌∙◌, Option}
+use Rattle.kahn_streams.specs.Network.{Network}
+use Rattle.kahn_streams.specs.declared.value.Line.{Line}
+use Rattle.kahn_streams.specs.declared.value.Value.{Value}
+use Rattle.kahn_streams.specs.Solution.{Inputs, IsPrefix, IsWhole, iterate}
+use Rattle.kahn_streams.specs.Answers.{HasStream, IsRight, values_of}
+use Rattle.kahn_streams.specs.declared.answer.Answer.{Answer}
+use Rattle.kahn_streams.specs.declared.answer.Stream.{Stream}
+use Rattle.kahn_streams.specs.declared.answer.Verdict.{Verdict}
+use Rattle.kahn_streams.specs.declared.answer.Verdict.TheVariants.{Finished}
+use Rattle.kahn_explain.specs.Histories.{IsHistory}
+use Rattle.kahn_explain.specs.inner.Columns.{HasValuesOf}
+use Rattle.kahn_explain.specs.declared.tracing.column.Column.{Column}
+
+begun : (N : Network) (I : Inputs) (c d : Line) (vs ws : List Value) → c ≡ d → vs ≡ ws → (n : ℕ) × IsPrefix ws (iterate N I n d) → (n : ℕ) × IsPrefix vs (iterate N I n c)
+begun N I c d vs ws line values h =
+    subst (λ e. (n : ℕ) × IsPrefix vs (iterate N I n e)) (sym line) (subst (λ l. (n : ℕ) × IsPrefix l (iterate N I n d)) (sym values) h)
+
+whole : (N : Network) (I : Inputs) (c d : Line) (vs ws : List Value) → c ≡ d → vs ≡ ws → IsWhole N I d ws → IsWhole N I c vs
+whole N I c d vs ws line values h = subst (λ e. IsWhole N I e vs) (sym line) (subst (IsWhole N I d) (sym values) h)
+
+pub history : (N : Network) (I : Inputs) (bound : ℕ) (watch : Option ℕ) (a : Answer) (v : Verdict) (s : Stream) (x : Column) → IsRight N I bound watch a
+    → (v ≡ Finished → a.verdict ≡ Finished) → HasStream a s → HasValuesOf s x → IsHistory N I v x
+history N I bound watch a v s x right done has is = record {
+  begins = begun N I x.line s.line x.values.items (right.run.tapes s.line) is.line (is.values ∙ right.values s has) (right.run.others s.line);
+  whole = λ e. whole N I x.line s.line x.values.items (values_of s) is.line is.values (right.whole (done e) s has);
+}

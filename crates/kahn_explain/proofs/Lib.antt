@@ -1,0 +1,7 @@
+mod Right_ends
+mod Begun
+mod Cells
+mod Tables
+mod Parts
+mod Traced_texts
+mod Watched_columns

@@ -1,0 +1,7 @@
+-- The columns of the channels so far.
+use Rattle.kahn_explain.specs.Histories.{all_channels}
+use Rattle.kahn_explain.specs.inner.Columns.{AreColumns}
+use Rattle.kahn_explain.proofs.tracing.histories.channel_columns.Given as goal
+
+abbrev pub invariant-loop-channel : goal.invariant-loop-channel
+invariant-loop-channel g l = AreColumns l.network l.text l.answer.verdict (all_channels l.channel) l.columns.items

@@ -1,0 +1,74 @@
+-- Believed. What explaining does, from the bytes of the program text and of the input text to the bytes of the explanation.
+use Rattle.std.specs.Prelude.{◌≡◌, ◌⊎◌, ◌++◌, ℕ, Bool, List, Option, Some, None, Result, Ok, Err, codes, string_bytes}
+use Rattle.std.specs.Io.KnownBytes.{Appends}
+use Rattle.kahn_streams.specs.declared.config.Config.{Config}
+use Rattle.kahn_streams.specs.declared.tree.Program.{Program}
+use Rattle.kahn_streams.specs.Inputs.{Lists}
+use Rattle.kahn_streams.specs.Answers.{IsUnrun}
+use Rattle.kahn_streams.specs.declared.answer.Answer.{Answer}
+use Rattle.kahn_streams.specs.declared.answer.Verdict.TheVariants.{Finished, Bound, Memory}
+use Rattle.kahn_streams.specs.declared.fault.RunFault.TheVariants.{NoMemory}
+use Rattle.kahn_report.specs.Formats.{StandsFor, IsInputTextFault}
+use Rattle.kahn_report.specs.Work.{IsAnswered, IsChecked, IsUnchecked}
+use Rattle.kahn_streams.specs.Written.{AppendsFront}
+use Rattle.kahn_report.specs.declared.working.WorkFault.{WorkFault}
+use Rattle.kahn_report.specs.declared.working.WorkFault.TheVariants.{Syntax, Check, Text, Run, Write}
+use Rattle.std.specs.declared.alloc.Global.{Global}
+use Rattle.std.specs.declared.string.String.{String}
+use Rattle.kahn_why.specs.Refusing.{AreAllowed, IsRefusal, IsRefusedFor}
+use Rattle.kahn_why.specs.declared.explaining.Came.{Came}
+use Rattle.kahn_why.specs.declared.explaining.Came.TheVariants.{Stopped, Refused}
+use Rattle.kahn_why.specs.Words.{IsExplained}
+use Rattle.kahn_why.specs.declared.why.told.Explanation.{Explanation}
+use Rattle.kahn_why.specs.declared.why.told.Told.{Told}
+use Rattle.kahn_why.specs.declared.why.told.Told.TheVariants as told
+
+-- why the run of an answer for what an input text stands for stopped
+abbrev pub IsExplainedFor : List ℕ → List ℕ → Program → List ℕ → Answer → Explanation → Type 0
+IsExplainedFor path program t input a e = (lists : Lists) × StandsFor t input lists × IsExplained path program t (Some lists) a e
+
+-- why that of a right answer of these texts stopped
+abbrev pub IsExplanationOf : List ℕ → List ℕ → List ℕ → Config → Explanation → Type 0
+IsExplanationOf path program input config e =
+    (t : Program) × (lists : Lists) × (a : Answer) × IsAnswered program input config t lists a × IsExplainedFor path program t input a e
+
+-- the notes and the explanation
+abbrev pub IsToldOf : List ℕ → List ℕ → List ℕ → Config → Bool → Explanation → List ℕ → Type 0
+IsToldOf path program input config strict e text =
+    (notes : List ℕ) × AreAllowed path program strict notes × IsExplanationOf path program input config e × (text ≡ notes ++ string_bytes e.text)
+
+-- The explanation went out, or why the program text is refused, or why neither: the first of the faults in this order, after which
+-- nothing was written, or the writer's, after which a prefix was. A fault of the program text is answered where it has no place.
+abbrev pub HasExplained : List ℕ → List ℕ → List ℕ → Config → Bool → Option (List ℕ) → Option (List ℕ) → Result Came WorkFault → Type 0
+HasExplained path program input config strict old new (Ok (Stopped x)) =
+    (e : Explanation) × (text : List ℕ) × IsToldOf path program input config strict e text × (e.told ≡ x) × Appends old new text
+HasExplained path program input config strict old new (Ok Refused) = (text : List ℕ) × IsRefusedFor path program strict text × Appends old new text
+HasExplained path program input config strict old new (Err (Syntax f)) =
+    IsUnchecked program (Syntax f) × IsRefusal path program (Syntax f) None × (new ≡ old)
+HasExplained path program input config strict old new (Err (Check f)) = IsUnchecked program (Check f) × IsRefusal path program (Check f) None × (new ≡ old)
+HasExplained path program input config strict old new (Err (Text f)) =
+    ((t : Program) × IsChecked program t × IsInputTextFault t input f) × ((notes : List ℕ) × AreAllowed path program strict notes) × (new ≡ old)
+HasExplained path program input config strict old new (Err (Run f)) =
+    ((f ≡ NoMemory)
+    ⊎ (((t : Program) × (lists : Lists) × IsChecked program t × StandsFor t input lists × IsUnrun t config f) × ((notes : List ℕ) × AreAllowed path program strict notes)))
+    × (new ≡ old)
+HasExplained path program input config strict old new (Err (Write f)) =
+    (text : List ℕ) × (((e : Explanation) × IsToldOf path program input config strict e text) ⊎ IsRefusedFor path program strict text) × AppendsFront old new text
+
+-- the status for how a run stopped
+abbrev pub told_status : Told → ℕ
+told_status told.Fault = 8
+told_status told.Deadlock = 7
+told_status (told.Stop Finished) = 0
+told_status (told.Stop Bound) = 3
+told_status (told.Stop Memory) = 4
+
+-- and for what the explaining came to
+abbrev pub came_status : Came → ℕ
+came_status (Stopped told) = told_status told
+came_status Refused = 1
+
+-- what the path of the program text is called in a note
+abbrev pub path_name : Option (String Global) → List ℕ
+path_name (Some path) = string_bytes path
+path_name None = codes "<stdin>"

@@ -1,0 +1,53 @@
+-- Believed. The histories of all channels of a network: which columns there are, and what their values are.
+use Rattle.std.specs.Prelude.{◌≡◌, ◌⊎◌, ℕ, zero, suc, List, [], ◌∷◌, ◌++◌, All, None, length, map}
+use Rattle.kahn_streams.specs.declared.config.Config.{Config}
+use Rattle.kahn_streams.specs.declared.tree.Program.{Program}
+use Rattle.kahn_streams.specs.declared.value.Line.{Line}
+use Rattle.kahn_streams.specs.Network.{Network, network_of}
+use Rattle.kahn_streams.specs.declared.value.Line.TheVariants.{Channel}
+use Rattle.kahn_streams.specs.Solution.{Inputs, IsPrefix, IsWhole, iterate}
+use Rattle.kahn_streams.specs.Inputs.{Lists, inputs_of}
+use Rattle.kahn_streams.specs.Answers.{print_lines, IsRightRun}
+use Rattle.kahn_streams.specs.declared.answer.Verdict.{Verdict}
+use Rattle.kahn_streams.specs.declared.answer.Verdict.TheVariants.{Finished}
+use Rattle.kahn_streams.specs.declared.fault.RunFault.TheVariants.{NoMemory}
+use Rattle.kahn_report.specs.Formats.{StandsFor}
+use Rattle.kahn_report.specs.Work.{IsUnanswered}
+use Rattle.kahn_report.specs.declared.working.WorkFault.{WorkFault}
+use Rattle.kahn_report.specs.declared.working.WorkFault.TheVariants.{Run}
+use Rattle.kahn_explain.specs.declared.tracing.column.Column.{Column}
+use Rattle.kahn_explain.specs.declared.tracing.histories.Traced.{Traced}
+
+abbrev pub column_line : Column → Line
+column_line x = x.line
+
+-- the first n channels, in order of declaration
+abbrev pub all_channels : ℕ → List Line
+all_channels zero = []
+all_channels (suc n) = all_channels n ++ (Channel n ∷ [])
+
+-- the lines that have columns: all channels, and then the print streams
+abbrev pub trace_lines : Network → List Line
+trace_lines N = all_channels (length N.channels) ++ print_lines N.instances 0
+
+-- the values begin the history of their line, and where the run of the table has finished they are the whole of it
+pub record IsHistory (N : Network) (I : Inputs) (v : Verdict) (x : Column) : Type 0 where
+  pub begins : (n : ℕ) × IsPrefix x.values.items (iterate N I n x.line)
+  pub whole : v ≡ Finished → IsWhole N I x.line x.values.items
+
+pub record AreHistories (N : Network) (I : Inputs) (v : Verdict) (xs : List Column) : Type 0 where
+  pub lines : map column_line xs ≡ trace_lines N
+  pub each : All (IsHistory N I v) xs
+
+-- the numbers of a configuration, without a watched channel
+abbrev pub unwatched : Config → Config
+unwatched config = record config { watch = None }
+
+-- the right answer, and the histories of all lines
+abbrev pub IsTraced : Program → List ℕ → Config → Traced → Type 0
+IsTraced t text config x =
+    (lists : Lists) × StandsFor t text lists × IsRightRun t lists (unwatched config) x.answer × AreHistories (network_of t) (inputs_of lists) x.answer.verdict x.columns.items
+
+-- why there is no table: memory was wanted, or there is no answer
+abbrev pub IsUntraced : Program → List ℕ → Config → WorkFault → Type 0
+IsUntraced t text config f = (f ≡ Run NoMemory) ⊎ IsUnanswered t text (unwatched config) f

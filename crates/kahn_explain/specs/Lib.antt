@@ -1,0 +1,5 @@
+pub mod Explaining
+pub mod Histories
+pub mod Table
+pub mod Tracing
+pub mod inner

@@ -1,0 +1,176 @@
+//! From a program text and an input text to why the run stopped, or to a table of all histories.
+
+ghost use Rattle.std.specs.Prelude.{◌≡◌, IfOk};
+ghost use Rattle.kahn_streams.specs.Network.{network_of};
+ghost use Rattle.kahn_report.specs.Work.{IsChecked};
+ghost use Rattle.kahn_chain.specs.Chain.{AreStandings};
+ghost use Rattle.kahn_why.specs.Why.{standings_of};
+ghost use Rattle.kahn_explain.specs.Explaining.{HasExplained, IsExplainedFor, came_status, told_status};
+ghost use Rattle.kahn_explain.specs.Tracing.{HasTraced, beside};
+ghost use Rattle.kahn_explain.specs.inner.Told.{HasTabled, HasToldRun};
+
+use crate::tracing::{answered, histories_of, trace_text};
+use kahn_pool::{Answer, Config, RunFault, Verdict};
+use kahn_report::{WorkFault, read_input, write_line};
+use kahn_streams::{Network, NoMemory};
+use kahn_why::{Admitted, Came, Explanation, Told, admit, explained, write_both};
+use std::alloc::Global;
+use std::io::Write;
+use std::sync::Wait;
+use std::thread::Threads;
+
+/// Why the run of an answer stopped, by the input text of the run.
+fn explain_answer(
+    alloc: Global,
+    path: &str,
+    program: &str,
+    network: &Network,
+    input: &str,
+    answer: &Answer,
+) -> Result<Explanation, NoMemory>
+    requires { AreStandings (network_of network.now) (standings_of answer.now) }
+    ensures { IfOk result (IsExplainedFor path.now program.now network.now input.now answer.now) }
+{
+    let Ok(input) = read_input(alloc, input, network) else {
+        return Err(NoMemory);
+    };
+    Ok(explained(alloc, path, program, network, Some(&input), answer)?)
+}
+
+/// Runs an allowed program on an input, and writes what is warned of in it and why the run stopped.
+fn explain_run<R: Threads + Wait + Sync, W: Write>(
+    rt: &R,
+    alloc: Global,
+    path: &str,
+    program: &str,
+    it: &Admitted,
+    input: &str,
+    config: Config,
+    writer: &mut W,
+) -> Result<Came, WorkFault>
+    requires { IsChecked program.now it.now.network }
+    ensures { HasToldRun path.now program.now it.now input.now config (W.contents writer.old) (W.contents writer.new) result }
+{
+    let answer = match answered(rt, alloc, &it.network, input, config) {
+        Ok(answer) => answer,
+        Err(fault) => return Err(fault),
+    };
+    let Ok(explanation) = explain_answer(alloc, path, program, &it.network, input, &answer) else {
+        return Err(WorkFault::Run(RunFault::NoMemory));
+    };
+    let came = Came::Stopped(explanation.told);
+    write_both(it.notes.as_str(), explanation.text.as_str(), came, writer)
+}
+
+/// Runs a program on an input, and writes what is warned of in it and why the run stopped; or why the program text is refused,
+/// where that has a place, and for a warning too where it is asked to be strict. Nothing is written before all that is to be
+/// written stands. Faults are found in this order: of the program text, of the network, warnings, of the input text, of the run,
+/// want of memory, of the writer.
+pub fn explain<R: Threads + Wait + Sync, W: Write>(
+    rt: &R,
+    alloc: Global,
+    path: &str,
+    program: &str,
+    input: &str,
+    config: Config,
+    strict: bool,
+    writer: &mut W,
+) -> Result<Came, WorkFault>
+    ensures { HasExplained path.now program.now input.now config strict (W.contents writer.old) (W.contents writer.new) result }
+{
+    match admit(alloc, path, program, strict, writer) {
+        Ok(it) => explain_run(rt, alloc, path, program, &it, input, config, writer),
+        Err(came) => came,
+    }
+}
+
+/// What is told beside a table: the explanation, where the status isn't 0.
+fn beside(told: Told, text: &str) -> &str
+    ensures { result.now ≡ beside told text.now }
+{
+    match told {
+        Told::Stop(Verdict::Finished) => "",
+        _ => text,
+    }
+}
+
+/// Runs an allowed program on an input, and writes a table of all histories, and then to another writer what is warned of in it, and
+/// why the run stopped where its status isn't 0.
+fn trace_run<R: Threads + Wait + Sync, T: Write, W: Write>(
+    rt: &R,
+    alloc: Global,
+    path: &str,
+    program: &str,
+    it: &Admitted,
+    text: &str,
+    config: &Config,
+    csv: &mut T,
+    log: &mut W,
+) -> Result<Came, WorkFault>
+    requires { IsChecked program.now it.now.network }
+    ensures { HasTabled path.now program.now it.now text.now config.now (T.contents csv.old) (T.contents csv.new) (W.contents log.old) (W.contents log.new) result }
+{
+    let found = match histories_of(rt, alloc, &it.network, text, config) {
+        Ok(found) => found,
+        Err(fault) => return Err(fault),
+    };
+    let Ok(table) = trace_text(alloc, &it.network, &found.columns) else {
+        return Err(WorkFault::Run(RunFault::NoMemory));
+    };
+    let Ok(explanation) = explain_answer(alloc, path, program, &it.network, text, &found.answer)
+    else {
+        return Err(WorkFault::Run(RunFault::NoMemory));
+    };
+    if let Err(fault) = write_line(csv, &[table.as_bytes()]) {
+        return Err(WorkFault::Write(fault));
+    }
+    let told = beside(explanation.told, explanation.text.as_str());
+    let came = Came::Stopped(explanation.told);
+    write_both(it.notes.as_str(), told, came, log)
+}
+
+/// Runs a program on an input, and writes a table of all histories, and then to another writer what is warned of in it, and why
+/// the run stopped where its status isn't 0; or to that writer why the program text is refused, where that has a place, and for a
+/// warning too where it is asked to be strict. Nothing is written before all that is to be written stands. Faults are found in
+/// this order: of the program text, of the network, warnings, of the input text, of the run, want of memory, of the writers.
+pub fn trace<R: Threads + Wait + Sync, T: Write, W: Write>(
+    rt: &R,
+    alloc: Global,
+    path: &str,
+    program: &str,
+    text: &str,
+    config: Config,
+    strict: bool,
+    csv: &mut T,
+    log: &mut W,
+) -> Result<Came, WorkFault>
+    ensures { HasTraced path.now program.now text.now config strict (T.contents csv.old) (T.contents csv.new) (W.contents log.old) (W.contents log.new) result }
+{
+    match admit(alloc, path, program, strict, log) {
+        Ok(it) => trace_run(rt, alloc, path, program, &it, text, &config, csv, log),
+        Err(came) => came,
+    }
+}
+
+/// The status for how a run stopped.
+fn told_status(told: Told) -> u8
+    ensures { result ≡ told_status told }
+{
+    match told {
+        Told::Fault => 8,
+        Told::Deadlock => 7,
+        Told::Stop(Verdict::Finished) => 0,
+        Told::Stop(Verdict::Bound) => 3,
+        Told::Stop(Verdict::Memory) => 4,
+    }
+}
+
+/// The status for what the explaining came to.
+pub fn status(came: Came) -> u8
+    ensures { result ≡ came_status came }
+{
+    match came {
+        Came::Stopped(told) => told_status(told),
+        Came::Refused => 1,
+    }
+}

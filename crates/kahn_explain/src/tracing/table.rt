@@ -1,0 +1,125 @@
+//! The text of a table: a column for each line, and a row for each place.
+
+ghost use Rattle.std.specs.Prelude.{◌≡◌, ◌<◌, ◌++◌, All, IfOk, codes, flat_map, length, string_bytes};
+ghost use Rattle.kahn_report.specs.Formats.{IsLine};
+ghost use Rattle.kahn_streams.specs.Written.{value_text};
+ghost use Rattle.kahn_explain.specs.Table.{cell_text, cells_text, head_row, head_text, heads_text, longest, row_text, place_rows, trace_text};
+
+use crate::tracing::column::Column;
+use itoa::Buffer;
+use kahn_marks::add;
+use kahn_report::{channel_name, process_name};
+use kahn_streams::{Line, Network, Value};
+use std::alloc::{AllocError, Global};
+
+/// Adds what heads the column of a line.
+fn add_head(text: &mut String, network: &Network, line: Line) -> Result<(), AllocError>
+    requires { IsLine network.now line }
+    ensures { IfOk result (λ _. string_bytes text.new ≡ string_bytes text.old ++ head_text network.now line) }
+{
+    match line {
+        Line::Channel(channel) => add(text, &[",", channel_name(network, channel)]),
+        Line::Print(instance) => {
+            let mut buffer = Buffer::new();
+            let number = buffer.format(instance + 1);
+            add(
+                text,
+                &[",print ", number, " ", process_name(network, instance)],
+            )
+        }
+    }
+}
+
+/// Adds what heads the columns.
+fn add_heads(text: &mut String, network: &Network, columns: &[Column]) -> Result<(), AllocError>
+    requires { All (λ x. IsLine network.now x.line) columns.now }
+    ensures { IfOk result (λ _. string_bytes text.new ≡ string_bytes text.old ++ heads_text network.now columns.now) }
+{
+    for column in columns {
+        add_head(text, network, column.line)?;
+    }
+    Ok(())
+}
+
+/// Adds a value as it is printed.
+fn add_value(text: &mut String, value: Value) -> Result<(), AllocError>
+    ensures { IfOk result (λ _. string_bytes text.new ≡ string_bytes text.old ++ value_text value) }
+{
+    let mut buffer = Buffer::new();
+    match value {
+        Value::Integer(number) => text.push_str(buffer.format(number)),
+        Value::Logical(true) => text.push_str("true"),
+        Value::Logical(false) => text.push_str("false"),
+    }
+}
+
+/// Adds the value of a column at a place, or nothing past its last.
+fn add_cell(text: &mut String, column: &Column, place: usize) -> Result<(), AllocError>
+    ensures { IfOk result (λ _. string_bytes text.new ≡ string_bytes text.old ++ cell_text place column.now) }
+{
+    text.push_str(",")?;
+    match column.values.get(place) {
+        Some(value) => add_value(text, *value),
+        None => Ok(()),
+    }
+}
+
+/// Adds the values of the columns at a place.
+fn add_cells(text: &mut String, columns: &[Column], place: usize) -> Result<(), AllocError>
+    ensures { IfOk result (λ _. string_bytes text.new ≡ string_bytes text.old ++ cells_text place columns.now) }
+{
+    for column in columns {
+        add_cell(text, column, place)?;
+    }
+    Ok(())
+}
+
+/// Adds the row of a place, which is counted from 1.
+fn add_row(text: &mut String, columns: &[Column], place: usize) -> Result<(), AllocError>
+    requires { place < usize.MAX }
+    ensures { IfOk result (λ _. string_bytes text.new ≡ string_bytes text.old ++ row_text columns.now place) }
+{
+    let mut buffer = Buffer::new();
+    text.push_str(buffer.format(place + 1))?;
+    add_cells(text, columns, place)?;
+    text.push_str("\n")
+}
+
+/// Adds the rows of the first so many places.
+fn add_rows(text: &mut String, columns: &[Column], places: usize) -> Result<(), AllocError>
+    ensures { IfOk result (λ _. string_bytes text.new ≡ string_bytes text.old ++ place_rows columns.now places) }
+{
+    for place in 0..places {
+        add_row(text, columns, place)?;
+    }
+    Ok(())
+}
+
+/// How many values the longest column has.
+fn longest(columns: &[Column]) -> usize
+    ensures { result ≡ longest columns.now }
+{
+    let mut most = 0;
+    for column in columns {
+        most = most.max(column.values.len());
+    }
+    most
+}
+
+/// The table of columns of a network: a row that heads them, the first with the word `place`, and a row for each place, from 1
+/// to that of the last value of all, with the value of each column there, or nothing where it has none. Between columns stand
+/// commas. It refuses only where memory was refused.
+pub fn trace_text(
+    alloc: Global,
+    network: &Network,
+    columns: &[Column],
+) -> Result<String, AllocError>
+    requires { All (λ x. IsLine network.now x.line) columns.now }
+    ensures { IfOk result (λ text. string_bytes text ≡ trace_text network.now columns.now) }
+{
+    let mut text = String::from_str(alloc, "place")?;
+    add_heads(&mut text, network, columns)?;
+    text.push_str("\n")?;
+    add_rows(&mut text, columns, longest(columns))?;
+    Ok(text)
+}

@@ -1,7 +1,0 @@
--- No stream so far is of the line.
-use Rattle.std.proofs.Common.{◌≡◌, ℕ, ◌<◌, Some, slice_get}
-use Rattle.kahn_streams.specs.declared.answer.Stream.{Stream}
-use Rattle.kahn_why.proofs.tracing.column.stream_of.Given as goal
-
-abbrev pub invariant-loop-stream : goal.invariant-loop-stream
-invariant-loop-stream l = (j : ℕ) (s : Stream) → j < l.stream-index → slice_get l.answer.streams.items j ≡ Some s → s.line ≡ l.line → ⊥
