@@ -1,5 +1,6 @@
 pub mod Explaining
 pub mod Histories
+pub mod Running
 pub mod Table
 pub mod Tracing
 pub mod inner

@@ -4,19 +4,19 @@
 
 ghost use Rattle.std.specs.Prelude.{◌≡◌, IfOk, string_bytes};
 ghost use Rattle.kahn_explain.specs.Explaining.{path_name};
+ghost use Rattle.kahn_explain.specs.Running.{IsToldIf};
 
 mod explaining;
 mod outlet;
+mod running;
 mod tracing;
 
-use explaining::{explain, status, trace};
-use kahn_fault::{Fault, Texts, read_texts, tell};
+use kahn_fault::{Fault, read_texts, tell};
 use kahn_inputs::{file_words, reading_words, tell_reason};
 use kahn_line::{ExplainOptions, read_explain_line, tell_line, tell_no_memory, tell_words};
-use kahn_pool::Config;
-use kahn_report::{ReadFault, WorkFault};
-use kahn_why::{Came, explain_report, refuse_input};
+use kahn_report::ReadFault;
 use outlet::Outlet;
+use running::{Paths, Task, ran};
 use std::alloc::{AllocError, Global};
 use std::io::Write;
 use std::process::ExitCode;
@@ -24,21 +24,6 @@ use std::rt::Runtime;
 use std::sync::Wait;
 use std::thread::Threads;
 use std::{env, fs, io};
-
-/// What is asked for.
-#[derive(Clone, Copy)]
-enum Task {
-    Report,
-    Trace,
-    Run,
-}
-
-/// What the texts are called in notes.
-#[derive(Drop)]
-struct Paths {
-    program: String,
-    input: String,
-}
 
 /// What the path of the program text is called in a note.
 fn path_name(alloc: Global, program: &Option<String>) -> Result<String, AllocError>
@@ -55,50 +40,6 @@ fn paths_of(alloc: Global, options: &ExplainOptions) -> Result<Paths, AllocError
     let program = path_name(alloc, &options.program)?;
     let input = path_name(alloc, &options.input)?;
     Ok(Paths { program, input })
-}
-
-/// What running and explaining came to; why the input text is refused is told to the writer, where that has a place.
-fn or_refused<W: Write>(
-    alloc: Global,
-    path: &str,
-    texts: &Texts,
-    came: Result<Came, WorkFault>,
-    writer: &mut W,
-) -> Result<Came, WorkFault> {
-    match came {
-        Err(WorkFault::Text(fault)) => {
-            let program = texts.program.as_str();
-            refuse_input(alloc, path, program, texts.input.as_str(), fault, writer)
-        }
-        came => came,
-    }
-}
-
-/// Explains the run of the program on the input, or that of a report, which stands in the place of the input; or writes what the
-/// channels carried as a table, and to the other writer what is warned of and why the run stopped, or why there is none.
-fn explain_texts<R: Runtime + AllocGlobal + Threads + Wait + Sync, T: Write, W: Write>(
-    rt: &R,
-    paths: &Paths,
-    texts: &Texts,
-    task: Task,
-    config: Config,
-    strict: bool,
-    out: &mut T,
-    log: &mut W,
-) -> Result<Came, WorkFault> {
-    let (alloc, path, input_path) = (rt.alloc(), paths.program.as_str(), paths.input.as_str());
-    let (program, input) = (texts.program.as_str(), texts.input.as_str());
-    match task {
-        Task::Report => explain_report(alloc, path, program, input, strict, out),
-        Task::Trace => {
-            let came = trace(rt, alloc, path, program, input, config, strict, out, log);
-            or_refused(alloc, input_path, texts, came, log)
-        }
-        Task::Run => {
-            let came = explain(rt, alloc, path, program, input, config, strict, out);
-            or_refused(alloc, input_path, texts, came, out)
-        }
-    }
 }
 
 /// What is said of why the file of a path can't be read. It is tried once more, so nothing is said where it can be read by now.
@@ -123,32 +64,30 @@ fn unread_words<R: Runtime>(rt: &R, fault: &Fault) -> &'static str {
     }
 }
 
-/// Tells what of a command line does nothing.
-fn tell_unused<W: Write>(options: &ExplainOptions, writer: &mut W) {
-    if options.report.is_none() {
-        return;
-    }
-    // What can't be written here changes no status.
-    if options.trace {
-        let _told = tell_reason("--trace does nothing with --report", writer);
-    }
-    if options.input.is_some() {
-        let _told = tell_reason("--input does nothing with --report", writer);
+/// Tells that an option does nothing, if it is so.
+fn tell_if<W: Write>(told: bool, words: &str, writer: &mut W)
+    ensures { IsToldIf told words.now (W.contents writer.old) (W.contents writer.new) }
+{
+    if told {
+        // What can't be written here changes no status.
+        let _told = tell_reason(words, writer);
     }
 }
 
-/// The status for what the explaining came to. A fault is told to the writer, but for that nobody reads what is explained.
-fn end_status<W: Write>(
-    came: Result<Came, WorkFault>,
-    program: &str,
-    gone: bool,
-    writer: &mut W,
-) -> u8 {
-    match came {
-        Ok(came) => status(came),
-        Err(WorkFault::Write(_)) if gone => 5,
-        Err(fault) => tell(&Err(Fault::Work(fault)), program, writer).status,
-    }
+/// Tells what of a command line does nothing.
+fn tell_unused<W: Write>(options: &ExplainOptions, writer: &mut W) {
+    let reported = options.report.is_some();
+    let (traced, fed) = (options.trace, options.input.is_some());
+    tell_if(
+        reported && traced,
+        "--trace does nothing with --report",
+        writer,
+    );
+    tell_if(
+        reported && fed,
+        "--input does nothing with --report",
+        writer,
+    );
 }
 
 /// Tells why the texts can't be read, and gives the status.
@@ -191,8 +130,7 @@ fn answered<R: Runtime + AllocGlobal + Threads + Wait + Sync, W: Write>(
         writer: io::writer(rt),
         gone: false,
     };
-    let came = explain_texts(rt, paths, &texts, task, config, strict, &mut out, writer);
-    end_status(came, texts.program.as_str(), out.gone, writer)
+    ran(rt, paths, &texts, task, config, strict, &mut out, writer)
 }
 
 fn main(rt: HostRuntime) -> ExitCode {

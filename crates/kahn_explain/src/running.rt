@@ -1,0 +1,111 @@
+//! What is asked for, from the bytes of the texts to the exit status.
+
+ghost use Rattle.std.specs.Prelude.{◌≡◌};
+ghost use Rattle.kahn_explain.specs.Running.{HasDone, HasExplainedAs, IsFaultTold, IsOrRefused, end_status, asked_of};
+
+use crate::explaining::{explain, status, trace};
+use crate::outlet::Outlet;
+use kahn_fault::{Fault, Texts, tell};
+use kahn_pool::Config;
+use kahn_report::WorkFault;
+use kahn_why::{Came, explain_report, refuse_input};
+use std::alloc::Global;
+use std::io::Write;
+use std::rt::Runtime;
+use std::sync::Wait;
+use std::thread::Threads;
+
+/// What is asked for.
+#[derive(Clone, Copy)]
+pub(crate) enum Task {
+    /// Why the run of a report stopped, which stands in the place of the input text.
+    Report,
+    /// All that the channels carried, as a table.
+    Trace,
+    /// Why a run stopped.
+    Run,
+}
+
+/// What the texts are called in notes.
+#[derive(Drop)]
+pub(crate) struct Paths {
+    pub(crate) program: String,
+    pub(crate) input: String,
+}
+
+/// What running and explaining came to; why the input text is refused is told to the writer, if that has a place.
+fn or_refused<W: Write>(
+    alloc: Global,
+    paths: &Paths,
+    texts: &Texts,
+    came: Result<Came, WorkFault>,
+    writer: &mut W,
+) -> Result<Came, WorkFault>
+    ensures { IsOrRefused (asked_of paths.now texts.now) came (W.contents writer.old) (W.contents writer.new) result }
+{
+    match came {
+        Err(WorkFault::Text(fault)) => {
+            let (path, program) = (paths.input.as_str(), texts.program.as_str());
+            refuse_input(alloc, path, program, texts.input.as_str(), fault, writer)
+        }
+        came => came,
+    }
+}
+
+/// Explains the run of the program on the input, or that of a report, which stands in the place of the input; or writes what the
+/// channels carried as a table, and to the other writer what is warned of and why the run stopped, or why there is none.
+fn done<R: Runtime + AllocGlobal + Threads + Wait + Sync, W: Write, E: Write>(
+    rt: &R,
+    paths: &Paths,
+    texts: &Texts,
+    task: Task,
+    config: Config,
+    strict: bool,
+    out: &mut W,
+    log: &mut E,
+) -> Result<Came, WorkFault>
+    ensures { HasDone task (asked_of paths.now texts.now) config strict (W.contents out.old) (W.contents out.new) (E.contents log.old) (E.contents log.new) result }
+{
+    let (alloc, path) = (rt.alloc(), paths.program.as_str());
+    let (program, input) = (texts.program.as_str(), texts.input.as_str());
+    match task {
+        Task::Report => explain_report(alloc, path, program, input, strict, out),
+        Task::Trace => {
+            let came = trace(rt, alloc, path, program, input, config, strict, out, log);
+            or_refused(alloc, paths, texts, came, log)
+        }
+        Task::Run => {
+            let came = explain(rt, alloc, path, program, input, config, strict, out);
+            or_refused(alloc, paths, texts, came, out)
+        }
+    }
+}
+
+/// The status for what the explaining came to. A fault is told to the writer, unless it is that nobody reads what is explained.
+fn ended<E: Write>(came: Result<Came, WorkFault>, program: &str, gone: bool, errors: &mut E) -> u8
+    ensures told { IsFaultTold gone program.now came (E.contents errors.old) (E.contents errors.new) }
+    ensures status { result ≡ end_status came }
+{
+    match came {
+        Ok(came) => status(came),
+        Err(WorkFault::Write(_)) if gone => 5,
+        Err(fault) => tell(&Err(Fault::Work(fault)), program, errors).status,
+    }
+}
+
+/// Does what is asked for, and gives the exit status. What is told beside a table, and a fault, goes to `errors`.
+pub(crate) fn ran<R: Runtime + AllocGlobal + Threads + Wait + Sync, W: Write, E: Write>(
+    rt: &R,
+    paths: &Paths,
+    texts: &Texts,
+    task: Task,
+    config: Config,
+    strict: bool,
+    out: &mut Outlet<W>,
+    errors: &mut E,
+) -> u8
+    ensures { HasExplainedAs task (asked_of paths.now texts.now) config strict W.contents out.old out.new (E.contents errors.old) (E.contents errors.new) result }
+{
+    let came = done(rt, paths, texts, task, config, strict, out, errors);
+    ended(came, texts.program.as_str(), out.gone, errors)
+}
