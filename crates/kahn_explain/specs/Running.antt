@@ -25,8 +25,8 @@ pub record Sources : Type 0 where
   pub input_path : List ℕ
   pub input : List ℕ
 
-abbrev pub asked_of : Paths → Texts → Sources
-asked_of p t = record { path = string_bytes p.program; program = string_bytes t.program; input_path = string_bytes p.input; input = string_bytes t.input }
+abbrev pub texts_of : Paths → Texts → Sources
+texts_of p t = record { path = string_bytes p.program; program = string_bytes t.program; input_path = string_bytes p.input; input = string_bytes t.input }
 
 -- why the input text is refused was written, if that has a place; everything else stays what it came to
 abbrev pub IsOrRefused : Sources → Result Came WorkFault → Option (List ℕ) → Option (List ℕ) → Result Came WorkFault → Type 0

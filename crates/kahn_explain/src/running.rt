@@ -1,7 +1,7 @@
 //! What is asked for, from the bytes of the texts to the exit status.
 
 ghost use Rattle.std.specs.Prelude.{◌≡◌};
-ghost use Rattle.kahn_explain.specs.Running.{HasDone, HasExplainedAs, IsFaultTold, IsOrRefused, end_status, asked_of};
+ghost use Rattle.kahn_explain.specs.Running.{HasDone, HasExplainedAs, IsFaultTold, IsOrRefused, end_status, texts_of};
 
 use crate::explaining::{explain, status, trace};
 use crate::outlet::Outlet;
@@ -41,7 +41,7 @@ fn or_refused<W: Write>(
     came: Result<Came, WorkFault>,
     writer: &mut W,
 ) -> Result<Came, WorkFault>
-    ensures { IsOrRefused (asked_of paths.now texts.now) came (W.contents writer.old) (W.contents writer.new) result }
+    ensures { IsOrRefused (texts_of paths.now texts.now) came (W.contents writer.old) (W.contents writer.new) result }
 {
     match came {
         Err(WorkFault::Text(fault)) => {
@@ -64,7 +64,7 @@ fn done<R: Runtime + AllocGlobal + Threads + Wait + Sync, W: Write, E: Write>(
     out: &mut W,
     log: &mut E,
 ) -> Result<Came, WorkFault>
-    ensures { HasDone task (asked_of paths.now texts.now) config strict (W.contents out.old) (W.contents out.new) (E.contents log.old) (E.contents log.new) result }
+    ensures { HasDone task (texts_of paths.now texts.now) config strict (W.contents out.old) (W.contents out.new) (E.contents log.old) (E.contents log.new) result }
 {
     let (alloc, path) = (rt.alloc(), paths.program.as_str());
     let (program, input) = (texts.program.as_str(), texts.input.as_str());
@@ -104,7 +104,7 @@ pub(crate) fn ran<R: Runtime + AllocGlobal + Threads + Wait + Sync, W: Write, E:
     out: &mut Outlet<W>,
     errors: &mut E,
 ) -> u8
-    ensures { HasExplainedAs task (asked_of paths.now texts.now) config strict W.contents out.old out.new (E.contents errors.old) (E.contents errors.new) result }
+    ensures { HasExplainedAs task (texts_of paths.now texts.now) config strict W.contents out.old out.new (E.contents errors.old) (E.contents errors.new) result }
 {
     let came = done(rt, paths, texts, task, config, strict, out, errors);
     ended(came, texts.program.as_str(), out.gone, errors)
