@@ -2,3 +2,4 @@ mod Closing
 mod Firsts
 mod Found
 pub mod Named
+pub mod Pieces

@@ -1,13 +1,15 @@
 //! Lists of what may stand at a place.
 
-ghost use Rattle.std.specs.Prelude.{◌≡◌, ◌++◌, IfOk, map, string_bytes};
-ghost use Rattle.kahn_notes.specs.Notes.{listed, pieces_of};
+ghost use Rattle.std.specs.Prelude.{◌≡◌, ◌++◌, IfOk, length, string_bytes};
+ghost use Rattle.std.specs.List.{concat};
+ghost use Rattle.kahn_notes.specs.Notes.{listed, pieces_of, text_end_words};
 ghost use Rattle.kahn_notes.specs.Words.{separator};
 
 use crate::words::{class_words, group_words};
+use kahn_marks::add;
 use kahn_syntax::What;
 use kahn_wanted::Wanted;
-use std::alloc::{AllocError, Global};
+use std::alloc::AllocError;
 
 /// What stands behind a piece where so many are left.
 pub(crate) fn separator(left: usize) -> &'static str
@@ -20,34 +22,31 @@ pub(crate) fn separator(left: usize) -> &'static str
     }
 }
 
-/// Adds pieces with commas between, and `or` before the last.
-pub(crate) fn add_listed(text: &mut String, pieces: &[&str]) -> Result<(), AllocError>
-    ensures { IfOk result (λ _. string_bytes text.new ≡ string_bytes text.old ++ listed (map (λ piece. piece.now) pieces.now)) }
+/// The end of the text, where it may stand: behind a whole program; and how many pieces that is.
+fn end_piece(what: What) -> (&'static str, usize)
+    ensures words { result.0.now ≡ concat (text_end_words what) }
+    ensures count { result.1 ≡ length (text_end_words what) }
 {
-    for (number, piece) in pieces.iter().enumerate() {
-        text.push_str(piece)?;
-        text.push_str(separator(pieces.len() - number - 1))?;
+    match what {
+        What::Nothing => ("the end of the text", 1),
+        What::More => ("", 0),
+        What::Other => ("", 0),
     }
-    Ok(())
 }
 
-/// What may stand at a place, in words; the end of the text may where the program is whole.
-pub(crate) fn pieces_of(
-    alloc: Global,
-    wanted: &Wanted,
-    what: What,
-) -> Result<Vec<&'static str>, AllocError>
-    ensures { IfOk result (λ pieces. map (λ piece. piece.now) pieces.items ≡ pieces_of wanted.now what) }
+/// Adds what may stand at a place, with commas between, and `or` before the last.
+pub(crate) fn add_wanted(words: &mut String, wanted: &Wanted, what: What) -> Result<(), AllocError>
+    ensures { IfOk result (λ _. string_bytes words.new ≡ string_bytes words.old ++ listed (pieces_of wanted.now what)) }
 {
-    let mut pieces = Vec::new(alloc);
+    let (end, ends) = end_piece(what);
+    let mut left = wanted.groups.len() + wanted.others.len() + ends;
     for group in &wanted.groups {
-        pieces.push(group_words(*group))?;
+        left -= 1;
+        add(words, &[group_words(*group), separator(left)])?;
     }
     for class in &wanted.others {
-        pieces.push(class_words(*class))?;
+        left -= 1;
+        add(words, &[class_words(*class), separator(left)])?;
     }
-    if let What::Nothing = what {
-        pieces.push("the end of the text")?;
-    }
-    Ok(pieces)
+    add(words, &[end])
 }

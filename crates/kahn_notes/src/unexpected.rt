@@ -8,7 +8,7 @@ ghost use Rattle.kahn_notes.specs.Notes.{StandsBelow, IsNote, MayFind, found_wor
 
 use crate::closed::closed_end;
 use crate::help::add_below;
-use crate::listing::{add_listed, pieces_of};
+use crate::listing::add_wanted;
 use crate::words::{keyword_words, sign_words};
 use itoa::Buffer;
 use kahn_marks::{add, marked};
@@ -55,7 +55,6 @@ fn add_found(note: &mut String, text: &str, found: Option<Lexeme>) -> Result<(),
 /// Adds what is said of a place.
 fn add_words(
     words: &mut String,
-    alloc: Global,
     text: &str,
     what: What,
     unexpected: &Unexpected,
@@ -66,8 +65,7 @@ fn add_words(
     words.push_str("found ")?;
     add_found(words, text, unexpected.found)?;
     words.push_str(", where ")?;
-    let pieces = pieces_of(alloc, &unexpected.wanted, what)?;
-    add_listed(words, &pieces)?;
+    add_wanted(words, &unexpected.wanted, what)?;
     words.push_str(" may stand")
 }
 
@@ -84,7 +82,7 @@ fn place_note(
     ensures { IfOk result (λ note. string_bytes note ≡ marked path.now text.now span (unexpected_words text.now what unexpected.now)) }
 {
     let mut words = String::new(alloc);
-    add_words(&mut words, alloc, text, what, unexpected)?;
+    add_words(&mut words, text, what, unexpected)?;
     marked(alloc, path, text, span, words.as_str())
 }
 
