@@ -1,6 +1,6 @@
 -- The jobs of a held run: how they become tasks, and how tasks come to rest.
-use Rattle.std.proofs.Common.{arith, ◌≡◌, ℕ, ◌+◌, List, length, map, sum_by, sym, ap, ◌∙◌, subst, Some, slice_get, Bool, Option, Result, Err}
-use Rattle.kahn_pool.proofs.Common.{length-map, Program, network_of, AreInputsExtended, Lists, inputs_of, StoodBy, Told, told_view, AreIdle, AreJoinedJobs, HaveMet, cells_of, rows_of, AreJoinedOn, IsJob, Work, all_idle, idle_grown, idle_met, events_told, woken_task, Tasked, AreUntouched, HaveGone, task_events, told_tale, work_of, all_told, at_mapped, mapped_at, IsConcluded, seen_of, AreEnded, AreHeld, AreHeldBy, HasRisen, HasStoppedPart, HaveRisen, cell_alone, held_state, cell_of, state_of_tasks, RunState, Verdict, Part, Stopped, IsLack, CrewFault, NoMemory, IsWellWired, HaveChanged, SettlesTo, view_events, AreWatched, AllStandBy, count}
+use Rattle.std.proofs.Common.{false, true, IfOk, IsOk, arith, ◌≡◌, ℕ, ◌+◌, List, length, map, sum_by, sym, ap, ◌∙◌, subst, Some, slice_get, Bool, Option, Result, Err, refl, Ok}
+use Rattle.kahn_pool.proofs.Common.{length-map, Program, network_of, AreInputsExtended, Lists, inputs_of, StoodBy, Told, told_view, AreIdle, AreJoinedJobs, HaveMet, cells_of, rows_of, AreJoinedOn, IsJob, Work, all_idle, idle_grown, idle_met, events_told, woken_task, Tasked, AreUntouched, HaveGone, task_events, told_tale, work_of, all_told, at_mapped, mapped_at, IsConcluded, seen_of, AreEnded, AreHeld, AreHeldBy, HasRisen, HasStoppedPart, HaveRisen, cell_alone, held_state, cell_of, state_of_tasks, RunState, Verdict, Part, Stopped, IsLack, CrewFault, NoMemory, IsWellWired, HaveChanged, SettlesTo, view_events, AreWatched, AllStandBy, count, IsConclusion}
 use Rattle.kahn_streams.specs.declared.answer.End.{End as RunEnd}
 use Rattle.kahn_pool.proofs.Lists.{map_map, sum_over, map_changed}
 use Rattle.kahn_pool.proofs.Over as over
@@ -127,6 +127,15 @@ module _ {t : Program} {lists : Lists} {watch : Option ℕ} {bound : ℕ} {ws : 
 
 err_same : {A B : Type 0} {a b : B} → ◌≡◌ {A = Result A B} (Err a) (Err b) → a ≡ b
 err_same e = cc
+
+-- it ended, with these jobs
+pub ended_so : (part : Part) (old : List Work) (r : Stopped) (halted : Bool) → AreHeldBy part r.idles.items r.budget → IfOk r.outcome (λ v. IsConclusion part halted v r) → IsOk r.outcome →
+    HaveRisen (cells_of old) (cells_of r.idles.items) → HasStoppedPart part old r
+ended_so part old r halted held ended one risen = by r.outcome refl ended one
+  where
+    by : (o : Result Verdict CrewFault) → r.outcome ≡ o → IfOk o (λ v. IsConclusion part halted v r) → IsOk o → HasStoppedPart part old r
+    by (Ok v) e so k = record { held = held; risen = risen; outcome = rw e (halted, so); untouched = λ f. absurd (let g : Ok v ≡ Err NoMemory = sym e ∙ f in cc) }
+    by (Err f) e so k = let g : false ≡ true = k in absurd cc
 
 -- it was refused, with the jobs as they are
 pub refused_so : (part : Part) (old : List Work) (r : Stopped) → AreHeldBy part r.idles.items r.budget → HaveRisen (cells_of old) (cells_of r.idles.items) → (fault : CrewFault) →

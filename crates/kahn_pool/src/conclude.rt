@@ -1,31 +1,22 @@
 //! How a run stopped: its jobs at rest, the ends of all instances, and the verdict.
 
-ghost use Rattle.std.specs.Prelude.{◌≡◌, ◌↔◌, ◌≤◌, [], length, map, true, vec_capacity};
+ghost use Rattle.std.specs.Prelude.{◌≡◌, ◌↔◌, ◌≤◌, [], Ok, IfOk, IsOk, length, map, true, vec_capacity};
 ghost use Rattle.kahn_streams.specs.Network.{network_of};
 ghost use Rattle.kahn_crew.specs.inner.Left.{IsOver};
 ghost use Rattle.kahn_job.specs.inner.Idles.{cells_of};
-ghost use Rattle.kahn_pool.specs.inner.Holding.{HaveAllLeft, IsConclusion};
+ghost use Rattle.kahn_pool.specs.inner.Holding.{AreHeldBy, HaveAllLeft, IsConclusion};
 ghost use Rattle.kahn_pool.specs.inner.Rested.{cell_of};
 ghost use Rattle.kahn_streams.specs.declared.answer.Verdict.TheVariants as verdict;
 
 use crate::ends::ends_of;
-use crate::part::Part;
+use crate::part::{Part, Stopped};
 use crate::rounds::verdict_of;
 use crate::settle::settle_all;
 use kahn_code::Steps;
 use kahn_crew::{Left, rest_all};
 use kahn_job::{Idle, meet};
-use kahn_streams::{End, Verdict};
+use kahn_streams::End;
 use std::sync::ledger::Ledger;
-
-/// The jobs of a run that stopped, what is left of its bound, the end of each instance, and why it stopped.
-#[derive(Drop)]
-pub(crate) struct Conclusion {
-    pub(crate) idles: Vec<Idle>,
-    pub(crate) budget: u64,
-    pub(crate) ends: Vec<End>,
-    pub(crate) verdict: Verdict,
-}
 
 /// The jobs, the ends and the verdict of a run that is over: `Memory` exactly where it was halted, which it was only where
 /// memory was refused to a worker. The lists that are given have room for the jobs and for the ends. It takes no memory.
@@ -35,26 +26,28 @@ pub(crate) fn conclude<L: Ledger>(
     idles: Vec<Idle>,
     ends: Vec<End>,
     steps: &mut Steps<L>,
-) -> Conclusion
+) -> Stopped
     requires left { HaveAllLeft part.now left }
     requires over { IsOver part.now.network.now part.now.input.now left.tasks.items left.budget left.halted }
     requires cause { left.halted ≡ true → left.wanted ≡ true }
     requires idles { (idles.items ≡ []) × (length (network_of part.now.network.now).instances ≤ vec_capacity idles) }
     requires ends { length (network_of part.now.network.now).instances ≤ vec_capacity ends }
-    ensures concluded { IsConclusion part.now left.halted result }
+    ensures held { AreHeldBy part.now result.idles.items result.budget }
     ensures cells { cells_of result.idles.items ≡ map cell_of left.tasks.items }
-    ensures verdict { result.verdict ≡ verdict.Memory ↔ left.halted ≡ true }
-    ensures memory { result.verdict ≡ verdict.Memory → left.wanted ≡ true }
+    ensures ended { IfOk result.outcome (λ v. IsConclusion part.now left.halted v result) }
+    ensures verdict { result.outcome ≡ Ok verdict.Memory ↔ left.halted ≡ true }
+    ensures memory { result.outcome ≡ Ok verdict.Memory → left.wanted ≡ true }
+    ensures is_one { IsOk result.outcome }
 {
     let _program = part.network.program();
     settle_all(&mut left.tasks, part.code, part.network, part.input, steps);
     let ends = ends_of(part.network, part.input, part.code, &left.tasks, ends);
     let verdict = verdict_of(left.halted, &ends);
     let idles = rest_all(left.tasks, idles);
-    Conclusion {
+    Stopped {
         idles: meet(part.network, idles),
         budget: left.budget,
         ends,
-        verdict,
+        outcome: Ok(verdict),
     }
 }

@@ -7,7 +7,7 @@ ghost use Rattle.kahn_job.specs.inner.Settling.{AreResting, HaveStood};
 ghost use Rattle.kahn_pool.specs.inner.Holding.{AreHeld, AreHeldBy, HasStoppedPart, HaveAllLeft, IsHeldPart, IsPartOf, IsRoomFor};
 ghost use Rattle.kahn_pool.specs.inner.Rested.{cell_of};
 
-use crate::conclude::{Conclusion, conclude};
+use crate::conclude::conclude;
 use crate::settle::settle_all;
 use kahn_code::{Code, Steps};
 use kahn_crew::{CrewFault, Gate, Left, Plan, first_tasks, rest_all, run_tasks, wake_all};
@@ -150,20 +150,7 @@ fn run_settled<R: Threads + Wait + Sync, G: Gate + Sync, L: Ledger>(
     let _program = network.program();
     let tasks = wake_all(network, input, idles, tasks);
     match run_tasks(rt, alloc, network, input, part.code, part.plan, tasks, gate) {
-        Ok(left) => {
-            let Conclusion {
-                idles,
-                budget,
-                ends,
-                verdict,
-            } = conclude(part, left, rest, ends, &mut steps);
-            Stopped {
-                idles,
-                budget,
-                ends,
-                outcome: Ok(verdict),
-            }
-        }
+        Ok(left) => conclude(part, left, rest, ends, &mut steps),
         Err((fault, left)) => give_up(fault, part, left, rest, ends, &mut steps),
     }
 }

@@ -13,7 +13,7 @@ use Rattle.kahn_pool.specs.inner.Bench.{IsConcluded, RunState, all_events}
 use Rattle.kahn_pool.specs.inner.Streams.{AreAllGiven, AreGiven}
 use Rattle.kahn_pool.specs.inner.Workbench.{AllStandBy}
 use Rattle.kahn_streams.specs.Answers.{IsInRange}
-use Rattle.kahn_pool.specs.declared.{conclude.Conclusion.Conclusion, part.Part.Part, part.PartRoom.PartRoom, part.Stopped.Stopped}
+use Rattle.kahn_pool.specs.declared.{part.Part.Part, part.PartRoom.PartRoom, part.Stopped.Stopped}
 use Rattle.kahn_crew.specs.inner.Left.{HaveGone}
 use Rattle.kahn_job.specs.inner.Tasks.{Tasked}
 use Rattle.kahn_crew.specs.inner.Wants.{IsLack}
@@ -92,10 +92,9 @@ pub record HaveAllLeft (part : Part) (left : Left) : Type 0 where
   pub first : List Tasked
   pub gone : HaveGone part.network.now part.input.now part.plan.watch part.bound first left.tasks.items left.budget
 
--- so a part that is over has stopped
-pub record IsConclusion (part : Part) (halted : Bool) (r : Conclusion) : Type 0 where
-  pub held : AreHeldBy part r.idles.items r.budget
-  pub rule : IsConcluded (held_state part.network.now part.input.now part.plan.watch r.idles.items) part.bound r.budget halted r.verdict r.ends.items
+-- so a part that is over has stopped, with this verdict
+abbrev pub IsConclusion : Part → Bool → Verdict → Stopped → Type 0
+IsConclusion part halted v r = IsConcluded (held_state part.network.now part.input.now part.plan.watch r.idles.items) part.bound r.budget halted v r.ends.items
 
 -- a part goes by the plan of its run: with its workers and its quantum
 abbrev pub IsPartOf : Plan → Plan → Type 0

@@ -33,8 +33,11 @@ meet-requires g c =
     let held = held_after c.program-program.ensures.wired c.requires.left.gone c.settle_all.ensures c.rest_all-idles.ensures.same in
     (c.args.part.now.input.now, held.idle.resting)
 
-pub returns-clause-concluded : goal.returns-clause-concluded
-returns-clause-concluded g c =
+pub returns-clause-held : goal.returns-clause-held
+returns-clause-held g c = held_met (held_after c.program-program.ensures.wired c.requires.left.gone c.settle_all.ensures c.rest_all-idles.ensures.same) c.meet.ensures.met
+
+pub returns-clause-ended : goal.returns-clause-ended
+returns-clause-ended g c =
     let t = c.args.part.now in
     let wired = c.program-program.ensures.wired in
     let gone = c.requires.left.gone in
@@ -46,11 +49,8 @@ returns-clause-concluded g c =
     let are : AreEndsOfTasks t.network.now t.input.now new c.ends_of-ends.result.items (length new) =
     subst (λ (l : List Tasked). AreEndsOfTasks t.network.now t.input.now l c.ends_of-ends.result.items (length l)) c.deref.ensures.value c.ends_of-ends.ensures in
     let rule = subst (λ xs. IsVerdict c.args.left.halted xs c.verdict_of-verdict.result) c.deref-2.ensures.value c.verdict_of-verdict.ensures in
-    record {
-      held = held_met (held_after wired gone asked same) met;
-      rule = held_concluded wired gone asked same c.meet.result.items met.cells
-          (concluded wired (tasks_new gone asked) (settled_new gone asked) (events_new gone asked) (over_new gone asked c.requires.over) behind are rule);
-    }
+    held_concluded wired gone asked same c.meet.result.items met.cells
+    (concluded wired (tasks_new gone asked) (settled_new gone asked) (events_new gone asked) (over_new gone asked c.requires.over) behind are rule)
 
 pub returns-clause-cells : goal.returns-clause-cells
 returns-clause-cells g c = c.meet.ensures.met.cells ∙ cells_after c.program-program.ensures.wired c.requires.left.gone c.settle_all.ensures c.rest_all-idles.ensures.same

@@ -1,6 +1,6 @@
 use Rattle.std.proofs.Common.{arith, sym, ◌∙◌, subst}
 use Rattle.kahn_pool.proofs.Common.{AreReadyTasks, HaveGone, woken_ready, Work, at_mapped}
-use Rattle.kahn_pool.proofs.Held_jobs.{alone_still, have_risen, refused_so, woken_events, alone_still, have_risen, refused_so}
+use Rattle.kahn_pool.proofs.Held_jobs.{alone_still, have_risen, refused_so, woken_events, alone_still, have_risen, refused_so, ended_so}
 use Rattle.kahn_pool.proofs.part.run_settled.Goals as goal
 
 pub wake_all-tasks-requires-clause-room : goal.wake_all-tasks-requires-clause-room
@@ -23,8 +23,8 @@ run_tasks-requires-clause-bound g c =
     let b = c.requires.part.bounded in
     omega (arith, all, b)
 
-pub conclude-idles-requires-clause-left : goal.conclude-idles-requires-clause-left
-conclude-idles-requires-clause-left g c =
+pub conclude-requires-clause-left : goal.conclude-requires-clause-left
+conclude-requires-clause-left g c =
     let t = c.args.part.now in
     let left = c.in-Ok.left in
     let all = woken_events c.requires.part.held c.wake_all-tasks.ensures in
@@ -48,15 +48,8 @@ give_up-requires-clause-left g c =
     }
 
 pub returns-in-Ok : goal.returns-in-Ok
-returns-in-Ok g c =
-    let left = c.in-Ok.left in
-    let r = c.conclude-idles.ensures in
-    record {
-      held = r.concluded.held;
-      risen = have_risen c.requires.part.held c.wake_all-tasks.ensures c.in-Ok.ensures.gone c.conclude-idles.result.idles.items r.cells;
-      outcome = (left.halted, r.concluded.rule);
-      untouched = λ e. absurd cc;
-    }
+returns-in-Ok g c = ended_so c.args.part.now c.args.idles.items c.conclude.result c.in-Ok.left.halted c.conclude.ensures.held c.conclude.ensures.ended c.conclude.ensures.is_one
+    (have_risen c.requires.part.held c.wake_all-tasks.ensures c.in-Ok.ensures.gone c.conclude.result.idles.items c.conclude.ensures.cells)
 
 pub returns : goal.returns
 returns g c =
