@@ -16,9 +16,8 @@ pub use Rattle.atomic_table.specs.Table.{Act, Allows, Joins, Splits, Valid, carr
 pub use Rattle.kahn_streams.specs.Network.{Actual, Hands, Instance, Network, Reads, Writes, channels_of, idle, is_written, network_of}
 pub use Rattle.kahn_streams.specs.declared.sides.Side.{Side}
 pub use Rattle.kahn_streams.specs.declared.tree.Program.{Program}
-pub use Rattle.kahn_board.specs.Calls.{Claims, IsFirstSlot, IsSameSeat, KeepsAll, Leaves, Looks, MayLeave, OwesFew, Unowed, Was, downs_of}
+pub use Rattle.kahn_board.specs.Calls.{Claims, IsFirstSlot, IsSameSeat, KeepsAll, Leaves, Looks, MayLeave, OwesFew, Unowed, Was, downs_of, AreCut, HoldsNothing, IsFree, cut_part, joined_view, kept_part}
 pub use Rattle.kahn_board.specs.Place.{Apart, Owed, Owes, below, is_up, Place, held, held_by, mark_of, moved, only, over, parked, parked_on, ready, total, word_code}
-pub use Rattle.kahn_board.specs.Cuts.{AreCut, HoldsNothing, IsFree, cut_part, joined_view, kept_part}
 pub use Rattle.kahn_board.specs.Dealt.{belongs, dealt, events_told, holds, wired}
 pub use Rattle.kahn_board.specs.Plays.{becomes, Carries, Facts, ListsHands, GaveUp, Got, IsIn, Sat, SeesMore, TheFirst, at_moment, burden, claimed, drew, first_of, flushed_view, gave, halting, leaves_as, noted_view, paid_down, paid_up, parked_or_not, publishes, saw, sees_budget, sees_count, sees_halted, set_down, took, undrawn, used, waking, with_draw}
 pub use Rattle.kahn_board.specs.Rule.{AllLeft, Deal, HasSlot, HomeIs, IsHalter, IsHome, PlaceIs, Quiet, Ruled, SeatIs, St, Whole, WordWas, all_parts, blank, budget, count, halted, opening_view, published, spent}

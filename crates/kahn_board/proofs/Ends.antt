@@ -1,6 +1,6 @@
 -- What the rule says once all seats are one.
 use Rattle.kahn_board.proofs.Common.{length-map, map, ◌≡◌, ◌≢◌, ℕ, zero, suc, ◌+◌, ◌*◌, ◌<◌, ◌⊎◌, inl, inr, ⊎_elim, List, [], ◌∷◌, length, get_or, sym, refl, ap, ◌∙◌, subst, arith, true, Option, Some, dite, ℕ_discrete, some, some-injective, some-ne-none, get_elem?, Tale, second_of, Wires, is_up, below, Place, ready, held, parked, over, total, St, Deal, spent, all_parts, published, budget, halted, IsHome, Whole, AllLeft, IsFree, View, same_Some}
-use Rattle.kahn_board.specs.Closing.{IsCell, IsQuietCell, Closes}
+use Rattle.kahn_board.specs.Opening.{IsCell, IsQuietCell, Closes}
 use Rattle.kahn_board.specs.declared.closing.Closed.{Closed}
 use Rattle.kahn_board.proofs.Sums.{terms_le, all_none}
 use Rattle.kahn_board.proofs.Keeps.{one_at}

@@ -1,10 +1,14 @@
--- Believed. What a board is made of.
-use Rattle.std.specs.Prelude.{◌≡◌, ℕ, ◌+◌, ◌^◌, ◌<◌, List, length, slice_index, Option, Some}
+-- Believed. What a board is made of, and what it says once it is closed.
+use Rattle.std.specs.Prelude.{◌≡◌, ◌⊎◌, ℕ, ◌+◌, ◌^◌, ◌<◌, List, length, slice_index, true, Option, Some, None}
 use mathlib.Core.Option.{some}
 use lib.ListN.{get_elem?}
-use Rattle.kahn_board.specs.Tale.{Tale, FlushedAll, flushed_of}
+use Rattle.kahn_board.specs.Tale.{Tale, TellsWait, TellsEnd, TellsEvents, FlushedAll, flushed_of, wrote_of}
 use Rattle.kahn_board.specs.Dealt.{events_told}
 use Rattle.kahn_board.specs.Wires.{Wires}
+use Rattle.kahn_board.specs.Place.{below}
+use Rattle.kahn_board.specs.Rule.{Deal}
+use Rattle.kahn_board.specs.declared.closing.Closed.{Closed}
+use Rattle.kahn_board.specs.declared.view.View.{View}
 
 module _ {T : Type 0} where
   pub record Opens (told : T → Option Tale) (after : T → T → Type 0) (w : Wires) (bound : ℕ) (published : List ℕ) (cells : List T) : Type 0 where
@@ -20,3 +24,28 @@ module _ {T : Type 0} where
     pub selves : (p : ℕ) (y : T) → get_elem? cells p ≡ some y → after y y
     -- the bound and the events so far
     pub few : bound + events_told told cells < 2 ^ 48
+
+module _ {T : Type 0} (told : T → Option Tale) (belongs : ℕ → T → Type 0) (w : Wires) (d : Deal) (closed : Closed T) where
+  abbrev pub IsCell : ℕ → T → Type 0
+  IsCell p y = get_elem? closed.cells.items p ≡ some y
+
+  -- k tokens of the channel c are all that its writer's cell sent, or all that was published at the start
+  abbrev pub IsAllSent : ℕ → ℕ → Type 0
+  IsAllSent c k = (w.writer c ≡ None → k ≡ d.published c)
+      × ((q l m : ℕ) (z : T) → q < w.instances → w.writer c ≡ Some q → IsCell q z → wrote_of (told z) c ≡ Some (l, m) → l ≡ k)
+
+  -- the cell y of the instance p has ended, or waits on a channel of which it took all
+  abbrev pub IsQuietCell : ℕ → T → Type 0
+  IsQuietCell p y = TellsEnd (told y) ⊎ ((c : ℕ) × (k : ℕ) × (c < w.channels) × (w.reader c ≡ Some p) × TellsWait (told y) c k × IsAllSent c k)
+
+  pub record Closes (v : View) : Type 0 where
+    pub each : (length closed.cells.items ≡ w.instances) × ((p : ℕ) → p < w.instances → (y : T) × IsCell p y)
+    pub belonging : (p : ℕ) (y : T) → p < w.instances → IsCell p y → belongs p y
+    -- nothing is drawn: the budget and the events told as done are the bound
+    pub budget_is : closed.budget + v.done ≡ d.bound
+    -- the cells' events have grown by those told as done, but for those that no cell told
+    pub events : (tally : ℕ → ℕ) × ((p : ℕ) (y : T) → p < w.instances → IsCell p y → TellsEvents (told y) (tally p)) × (d.events + v.done ≡ below tally w.instances + v.loose)
+    -- it is halted exactly where a seat saw so, and exactly where a seat halted it
+    pub halt_seen : (v.seen ≡ 2 → closed.halted ≡ true) × (closed.halted ≡ true → v.seen ≡ 2)
+    pub halt_raised : (0 < v.raised → closed.halted ≡ true) × (closed.halted ≡ true → 0 < v.raised)
+    pub by_done : v.stage ≡ 1 → (closed.halted ≡ true) ⊎ ((closed.budget ≡ 0) ⊎ ((p : ℕ) (y : T) → p < w.instances → IsCell p y → IsQuietCell p y))

@@ -4,9 +4,8 @@ ghost use Rattle.std.specs.Prelude.{◌≡◌, ℕ, ◌+◌, ◌*◌, ◌^◌, �
 ghost use mathlib.Core.Option.{some};
 ghost use lib.ListN.{get_elem?};
 ghost use Rattle.kahn_board.specs.Dealt.{belongs, dealt, wired};
-ghost use Rattle.kahn_board.specs.Calls.{IsSameSeat};
-ghost use Rattle.kahn_board.specs.Closing.{Closes};
-ghost use Rattle.kahn_board.specs.Cuts.{AreCut, IsFree, joined_view};
+ghost use Rattle.kahn_board.specs.Calls.{IsSameSeat, AreCut, IsFree, joined_view};
+ghost use Rattle.kahn_board.specs.Opening.{Closes};
 ghost use Rattle.kahn_board.specs.Rule.{all_parts};
 ghost use Rattle.kahn_board.specs.inner.Turn.{AddUp, IsDoneAt, IsLoneSeat, SitsAt, parts_of, done_of, raised_of};
 
@@ -22,7 +21,7 @@ use std::collections::VecDeque;
 pub struct Cut;
 
 impl Split<View> for Cut {
-    ghost use Rattle.kahn_board.specs.Cuts.{kept_part, cut_part};
+    ghost use Rattle.kahn_board.specs.Calls.{kept_part, cut_part};
 
     ghost left = { kept_part };
 
@@ -33,7 +32,7 @@ impl Split<View> for Cut {
 pub struct Both;
 
 impl Join<View> for Both {
-    ghost use Rattle.kahn_board.specs.Cuts.{joined_view};
+    ghost use Rattle.kahn_board.specs.Calls.{joined_view};
     ghost use Rattle.kahn_board.specs.Rule.{spent};
 
     ghost both = { joined_view };

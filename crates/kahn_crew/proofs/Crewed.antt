@@ -2,7 +2,7 @@
 use Rattle.kahn_crew.proofs.Common.{arith, ◌≡◌, ◌⊎◌, inl, inr, ⊎_elim, ℕ, zero, suc, ◌+◌, ◌<◌, ◌≤◌, Bool, true, false, true≢false, ◌||◌, List, [], ◌∷◌, ◌++◌, length, All, sum_by, slice_index_or, refl, sym, ap, ◌∙◌, subst, Option, Some, option_to_list, dite, ℕ_discrete, length-append, All-push, sum_by_push, sum_by-cons, Seat, Heeds, Tasked}
 use Rattle.atomic_table.specs.Seated.{TableId}
 use Rattle.kahn_board.specs.inner.Turn.{IsDoneAt, SitsAt, parts_of, raised_of}
-use Rattle.kahn_crew.specs.inner.Crews.{HasCause, HasGone, HasSeat, crew_parts, crew_raised}
+use Rattle.kahn_crew.specs.inner.Turns.{HasCause, HasGone, HasSeat, crew_parts, crew_raised}
 use Rattle.kahn_crew.specs.declared.worker.Worker.{Worker}
 use Rattle.kahn_board.proofs.Joined.{all_but_last}
 

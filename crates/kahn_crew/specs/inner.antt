@@ -1,5 +1,4 @@
 pub mod Begins
-pub mod Crews
 pub mod Left
 pub mod Tasks
 pub mod Turns

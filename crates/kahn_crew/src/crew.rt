@@ -5,7 +5,7 @@ ghost use Rattle.std.specs.Vec.{vec_capacity};
 ghost use Rattle.kahn_streams.specs.Network.{network_of};
 ghost use Rattle.kahn_board.specs.Dealt.{events_told};
 ghost use Rattle.kahn_board.specs.inner.Turn.{IsDoneAt, IsLoneSeat, SitsAt, parts_of, raised_of};
-ghost use Rattle.kahn_crew.specs.inner.Crews.{HasCause, HasGone, HasSeat, crew_parts, crew_raised};
+ghost use Rattle.kahn_crew.specs.inner.Turns.{HasCause, HasGone, HasSeat, crew_parts, crew_raised};
 ghost use Rattle.kahn_crew.specs.inner.Begins.{AreReadyTasks};
 ghost use Rattle.kahn_crew.specs.inner.Left.{AreUntouched, IsLeftBy, HaveLeft, IsOver};
 ghost use Rattle.kahn_crew.specs.inner.Tasks.{told_tale};
@@ -95,7 +95,7 @@ struct Shift<'b, 'c, R, G> {
 }
 
 impl<'b, 'c, R: Wait + Sync, G: Gate + Sync> Hand<Shift<'b, 'c, R, G>> for Worker {
-    ghost use Rattle.kahn_crew.specs.inner.Crews.{HasGone, HasQuit, HasSeat};
+    ghost use Rattle.kahn_crew.specs.inner.Turns.{HasGone, HasQuit, HasSeat};
     ghost use Rattle.kahn_crew.specs.inner.Turns.{Heeds};
 
     ghost may = { λ s w. HasSeat s.run.now.board.now.table.shared.table_id w };

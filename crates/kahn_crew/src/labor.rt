@@ -2,7 +2,7 @@
 
 ghost use Rattle.std.specs.Prelude.{◌≡◌, ◌<◌, ◌≤◌, true, false, length, All};
 ghost use Rattle.std.specs.Vec.{vec_capacity};
-ghost use Rattle.kahn_crew.specs.inner.Crews.{AllWent, OneWent, Went};
+ghost use Rattle.kahn_crew.specs.inner.Turns.{AllWent, OneWent, Went};
 
 use std::snapshot::Snapshot;
 use std::sync::Wait;

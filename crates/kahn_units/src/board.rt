@@ -1,7 +1,7 @@
 //! Boards at which cells that tell nothing are worked on, by seats of one thread and of many.
 
 ghost use Rattle.std.specs.Prelude.{◌≡◌, ◌+◌, ◌^◌, ◌<◌, ◌≤◌, ℕ, None, Some, true, false, IfOk, MatchOption, IfSome, length, replicate};
-ghost use Rattle.kahn_board.specs.Cuts.{HoldsNothing};
+ghost use Rattle.kahn_board.specs.Calls.{HoldsNothing};
 ghost use Rattle.kahn_board.specs.Dealt.{wired};
 ghost use Rattle.kahn_board.specs.Rule.{all_parts};
 ghost use Rattle.kahn_board.specs.Wires.{wires};

@@ -1,13 +1,12 @@
 -- Inner. What a worker's seat has and knows between two turns and in a turn, what it drew, and what the seats of a crew have together.
 use Rattle.std.specs.Prelude.{◌≡◌, ◌≢◌, ◌⊎◌, ℕ, suc, zero, ◌+◌, ◌/◌, ◌^◌, ◌<◌, ◌≤◌, List, [], slice_index, sum_by, Option, Some}
 use Rattle.atomic_table.specs.Seated.{TableId}
-use Rattle.kahn_board.specs.Calls.{Draws, Was}
+use Rattle.kahn_board.specs.Calls.{Draws, Was, HoldsNothing}
 use Rattle.kahn_board.specs.Dealt.{belongs, wired}
 use Rattle.kahn_board.specs.Rule.{all_parts, channel_at, count_at}
 use Rattle.kahn_board.specs.declared.rule.Terms.{Terms}
 use Rattle.kahn_board.specs.Tale.{Tale, FlushedAll, flushed_of, events_past}
 use Rattle.kahn_board.specs.Wires.{Wires}
-use Rattle.kahn_board.specs.Cuts.{HoldsNothing}
 use Rattle.kahn_board.specs.Plays.{Carries, Sat, IsIn, SeesMore, gave, noted_view, paid_down}
 use Rattle.kahn_board.specs.declared.view.View.{View}
 use Rattle.kahn_board.specs.declared.board.Draw.{Draw}

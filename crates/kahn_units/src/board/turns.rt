@@ -1,7 +1,7 @@
 //! One thread works with three seats, on a ring of two instances.
 
 ghost use Rattle.std.specs.Prelude.{◌≡◌, ◌+◌, IfOk};
-ghost use Rattle.kahn_board.specs.Cuts.{HoldsNothing};
+ghost use Rattle.kahn_board.specs.Calls.{HoldsNothing};
 ghost use Rattle.kahn_board.specs.Rule.{all_parts};
 ghost use Rattle.kahn_units.specs.inner.Working.{IsSquare, KeepsShare, HasCell};
 
