@@ -1,6 +1,6 @@
 -- Cells that stand where their queues stand.
 use Rattle.std.proofs.Common.{arith, ◌≡◌, inl, inr, ℕ, ◌+◌, ◌<◌, ◌≤◌, List, length, map, refl, sym, ap, ◌∙◌, subst, Some, slice_get, slice_set, slice_index_or, false, length-set, ◌⊎◌}
-use Rattle.kahn_pool.proofs.Common.{map-set_same, map-set, get_or_from_slice_get, slice_get_read, Network, Reads, Writes, network_of, instance_at, actual_at, role_at, IsFed, reads, reads_listed, Channel, Inputs, source, inputs_of, View, exec_on, is_output, AreQueued, Joins, queue_of, actual_here, place_at, next_at, taken_of, given_of, waiting_of, Waiting, Seat, LeavesOthers, count, Told, told_view, seat_of, IsAt, IsStill, set_each, set_here, joins_within, IsGiven, TookNoMore, TookAll, view_at, no_view, RunState, PausedAt, Value, Table, IsLaid, IsSeated, sight_of, Pause, IsPause, dry_reads, Store, IsPaused, Cut, Dry, writes, HasRunCell, length-map}
+use Rattle.kahn_pool.proofs.Common.{map-set_same, map-set, get_or_from_slice_get, slice_get_read, Network, Reads, Writes, network_of, instance_at, actual_at, role_at, IsFed, reads, reads_listed, Channel, Inputs, source, inputs_of, View, exec_on, is_output, AreQueued, Joins, queue_of, actual_here, place_at, next_at, taken_of, given_of, waiting_of, Waiting, Seat, LeavesOthers, count, Told, told_view, seat_of, IsAt, IsStill, set_each, set_here, joins_within, IsGiven, TookNoMore, TookAll, view_at, no_view, RunState, PausedAt, Value, Table, IsLaid, IsSeated, sight_of, Pause, IsPause, dry_reads, Store, IsPaused, Cut, Dry, HasRunCell, length-map}
 pub use Rattle.kahn_streams.proofs.By_number.{there as got, within as within_get, mapped as get_map}
 use Rattle.kahn_streams.specs.Script.{Outcome}
 use Rattle.kahn_code.specs.Lines.{Lines as Queues}

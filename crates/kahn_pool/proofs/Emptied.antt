@@ -1,6 +1,6 @@
 -- Cells that let go of all that they kept, and how all stand.
 use Rattle.std.proofs.Common.{arith, ◌≡◌, ◌⊎◌, inl, inr, ℕ, ◌+◌, ◌<◌, ◌≤◌, Option, List, ◌++◌, length, map, refl, sym, ap, ◌∙◌, subst, Some, slice_get, slice_index_or}
-use Rattle.kahn_pool.proofs.Common.{length-map, Program, Input, network_of, instance_at, role_at, Lists, inputs_of, Token, StoodBy, AreQueued, taken_of, waiting_of, tokens, Told, told_view, Gone, nothing_gone, HasForgotten, Tapped, Seen, seen_at, seen_of, unseen, AllStandBy, HasEmptied, IsLaid, IsSeated, StandsAsTold, Table, all_of, gone_in, table_of, told_in, HaveChanged, mapped_at, cases_lt, count, reads, writes}
+use Rattle.kahn_pool.proofs.Common.{length-map, Program, Input, network_of, instance_at, role_at, Lists, inputs_of, Token, StoodBy, AreQueued, taken_of, waiting_of, tokens, Told, told_view, Gone, nothing_gone, HasForgotten, Tapped, Seen, seen_at, seen_of, unseen, AllStandBy, HasEmptied, IsLaid, IsSeated, StandsAsTold, Table, all_of, gone_in, table_of, told_in, HaveChanged, mapped_at, cases_lt}
 use Rattle.kahn_code.specs.Lines.{Lines as Queues}
 use Rattle.kahn_pool.proofs.Benched.{got, mapped, get_map}
 use Rattle.kahn_pool.proofs.Tapping.{found, tap_at}

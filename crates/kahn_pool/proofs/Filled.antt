@@ -1,6 +1,6 @@
 -- Streams filled from the lists of the cells, one by one.
 use Rattle.std.proofs.Common.{arith, ◌≡◌, ◌⊎◌, inl, inr, ℕ, ◌<◌, ◌≤◌, List, [], length, map, Some, refl, sym, ap, ◌∙◌, subst, slice_get, slice_set, slice_index_or, ◌+◌}
-use Rattle.kahn_pool.proofs.Common.{cases_eq, map-set, length-map, get_or-set_same, get_or-set_other, get_or-map, slice_get-get_or, Line, Channel, Print, Token, source, Network, Writes, Source, Given, Written, Nobody, instance_at, actual_at, Kept, AreKeptTokens, Stream, RunState, AreStreams, view_at, IsFrom, stream_line, stream_lines, AreNamed, IsDeclared, IsFilled, HasBecome, HaveBecome, AreLists, KeepsOtherLines, HasInputs, kept_lists, kept_in, printed_list, printed_in, count}
+use Rattle.kahn_pool.proofs.Common.{cases_eq, map-set, length-map, get_or-set_same, get_or-set_other, get_or-map, slice_get-get_or, Line, Channel, Print, Token, source, Network, Writes, Source, Given, Written, Nobody, instance_at, actual_at, Kept, AreKeptTokens, Stream, RunState, AreStreams, view_at, IsFrom, stream_line, stream_lines, AreNamed, IsDeclared, IsFilled, HasBecome, HaveBecome, AreLists, KeepsOtherLines, HasInputs, kept_lists, kept_in, printed_list, printed_in}
 use Rattle.std.proofs.lemmas.List.{length-set}
 use Rattle.kahn_pool.proofs.Lists.{set_get, map_changed, ChangedTo, next_old, one_changed, old_item}
 use Rattle.kahn_pool.proofs.Named.{HasLine, has_line, line_at, declared, once}

@@ -1,6 +1,6 @@
 -- The jobs of a held run: how they become tasks, and how tasks come to rest.
 use Rattle.std.proofs.Common.{false, true, IfOk, IsOk, arith, ◌≡◌, ℕ, ◌+◌, List, length, map, sum_by, sym, ap, ◌∙◌, subst, Some, slice_get, Bool, Option, Result, Err, refl, Ok}
-use Rattle.kahn_pool.proofs.Common.{length-map, Program, network_of, AreInputsExtended, Lists, inputs_of, StoodBy, Told, told_view, AreIdle, AreJoinedJobs, HaveMet, cells_of, rows_of, AreJoinedOn, IsJob, Work, all_idle, idle_grown, idle_met, events_told, woken_task, Tasked, AreUntouched, HaveGone, task_events, told_tale, work_of, all_told, at_mapped, mapped_at, IsConcluded, seen_of, AreEnded, AreHeld, AreHeldBy, HasRisen, HasStoppedPart, HaveRisen, cell_alone, held_state, cell_of, state_of_tasks, RunState, Verdict, Part, Stopped, IsLack, CrewFault, NoMemory, IsWellWired, HaveChanged, SettlesTo, view_events, AreWatched, AllStandBy, count, IsConclusion}
+use Rattle.kahn_pool.proofs.Common.{length-map, Program, network_of, AreInputsExtended, Lists, inputs_of, StoodBy, Told, told_view, AreIdle, AreJoinedJobs, HaveMet, cells_of, rows_of, AreJoinedOn, IsJob, Work, all_idle, idle_grown, idle_met, events_told, woken_task, Tasked, AreUntouched, HaveGone, task_events, told_tale, work_of, all_told, at_mapped, mapped_at, IsConcluded, seen_of, AreEnded, AreHeld, AreHeldBy, HasRisen, HasStoppedPart, HaveRisen, cell_alone, held_state, cell_of, state_of_tasks, RunState, Verdict, Part, Stopped, IsLack, CrewFault, NoMemory, IsWellWired, HaveChanged, SettlesTo, view_events, AreWatched, AllStandBy, IsConclusion}
 use Rattle.kahn_streams.specs.declared.answer.End.{End as RunEnd}
 use Rattle.kahn_pool.proofs.Lists.{map_map, sum_over, map_changed}
 use Rattle.kahn_pool.proofs.Over as over

@@ -1,5 +1,5 @@
 use Rattle.std.proofs.Common.{◌<◌, ◌^◌, ◌∙◌, arith, ap, sym, subst, length, refl}
-use Rattle.kahn_pool.proofs.Common.{RunState, all_events, HasWorked, sight_of, view_events, no_view, count}
+use Rattle.kahn_pool.proofs.Common.{RunState, all_events, HasWorked, sight_of, view_events, no_view}
 use Rattle.kahn_pool.proofs.Turns.{asked}
 use Rattle.kahn_pool.proofs.Lists.{one_of_sum}
 use Rattle.kahn_pool.proofs.Tapping.{worked_on}

@@ -1,5 +1,5 @@
 use Rattle.std.proofs.Common.{inl, subst}
-use Rattle.kahn_pool.proofs.Common.{IsPaused, events_at, sight_of, exec_on, count}
+use Rattle.kahn_pool.proofs.Common.{IsPaused, events_at, sight_of, exec_on}
 use Rattle.kahn_pool.proofs.Turns.{told_as, told_dry}
 use Rattle.kahn_pool.proofs.rounds.end_of.Goals as goal
 use Rattle.kahn_pool.proofs.rounds.end_of.Goals.{in-Spent, in-NoMemory, in-Ended, in-Fault, in-Dry}

@@ -1,5 +1,4 @@
 use Rattle.std.proofs.Common.{◌+◌, length, sym, ap, ◌∙◌, add-one}
-use Rattle.kahn_pool.proofs.Common.{count}
 use Rattle.kahn_pool.proofs.Tapping.{same_run, worked_on}
 use Rattle.kahn_pool.proofs.rounds.one_round.Goals as goal
 

@@ -1,4 +1,3 @@
-use Rattle.kahn_pool.proofs.Common.{fed}
 use Rattle.kahn_pool.proofs.Settled.{says_ran, settles_ran}
 use Rattle.kahn_pool.proofs.settle.ask.Goals as goal
 

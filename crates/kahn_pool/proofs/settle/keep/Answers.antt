@@ -1,4 +1,3 @@
-use Rattle.kahn_pool.proofs.Common.{fed}
 use Rattle.kahn_pool.proofs.Settled.{says_still}
 use Rattle.kahn_pool.proofs.settle.keep.Goals as goal
 

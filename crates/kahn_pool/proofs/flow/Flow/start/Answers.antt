@@ -1,5 +1,5 @@
 use Rattle.std.proofs.Common.{arith, rules, ◌≤◌, length, vec_capacity, refl, sym, ◌∙◌, subst}
-use Rattle.kahn_pool.proofs.Common.{IsInRange, IsWatched, network_of, inputs_of, AreAllGiven, out}
+use Rattle.kahn_pool.proofs.Common.{IsInRange, IsWatched, network_of, inputs_of, AreAllGiven}
 use Rattle.kahn_pool.proofs.Flowed.{all_lent, none_let_go}
 use Rattle.kahn_pool.proofs.Righted.{none_done}
 use Rattle.kahn_pool.proofs.Giving.{begun_none}

@@ -1,5 +1,5 @@
 use Rattle.std.proofs.Common.{ap, refl, subst, None}
-use Rattle.kahn_pool.proofs.Common.{err_from_is_err_and, HasFed, HeldRun, IsUnfed, network_of, inputs_of, run_of, fed}
+use Rattle.kahn_pool.proofs.Common.{err_from_is_err_and, HasFed, HeldRun, IsUnfed, network_of, inputs_of, run_of}
 use Rattle.kahn_pool.proofs.Held_runs.{goes_on_fed, holding_fed}
 use Rattle.kahn_pool.proofs.Held_streams.{given_on}
 use Rattle.kahn_pool.proofs.held.Held.feed.Goals as goal

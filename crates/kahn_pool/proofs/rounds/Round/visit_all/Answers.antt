@@ -1,5 +1,4 @@
 use Rattle.std.proofs.Common.{◌∙◌, arith, ap, sym, length}
-use Rattle.kahn_pool.proofs.Common.{count}
 use Rattle.kahn_pool.proofs.Turns.{moves_on}
 use Rattle.kahn_pool.proofs.rounds.Round.visit_all.Goals as goal
 
