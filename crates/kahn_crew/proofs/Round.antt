@@ -1,5 +1,6 @@
 -- A worker that goes round all instances, and finds none that is ready.
-use Rattle.kahn_crew.proofs.Common.{arith, ◌≡◌, ℕ, ◌+◌, ◌-◌, ◌*◌, ◌%◌, ◌<◌, refl, ap, ◌∙◌, subst, dite, ℕ_discrete, add-mod_left, mod-eq_of_lt, mod-lt, holds, Seat, Run, WasNotReady, terms_of, Tasked, IsLater, told_tale}
+use Rattle.std.proofs.Common.{IfNone}
+use Rattle.kahn_crew.proofs.Common.{Option, Some, None, arith, ◌≡◌, ℕ, ◌+◌, ◌-◌, ◌*◌, ◌%◌, ◌<◌, refl, ap, ◌∙◌, subst, dite, ℕ_discrete, add-mod_left, mod-eq_of_lt, mod-lt, holds, Seat, Run, WasNotReady, terms_of, Tasked, IsLater, told_tale}
 use Rattle.kahn_board.proofs.Keeps.{was_at}
 
 -- each is met once
@@ -20,3 +21,8 @@ pub none_ready : (run : Run) (s : Seat Tasked) (n start : ℕ) → ((k : ℕ) �
 none_ready run s n start each p lt =
     let m = met n (start % n) p (mod-lt start (omega (arith, lt))) lt in
     subst (WasNotReady run s) m.2 (each m.0 m.1)
+
+-- the same seat found none
+pub none_of : {A : Type 0} (run : Run) (s t : Seat Tasked) (n : ℕ) (found : Option A) → t.seat.id ≡ s.seat.id → IfNone found ((p : ℕ) → p < n → WasNotReady run t p) → IfNone found ((p : ℕ) → p < n → WasNotReady run s p)
+none_of run s t n None same h = λ p lt. not_ready_of run s t p same (h p lt)
+none_of run s t n (Some x) same h = tt

@@ -1,8 +1,8 @@
 //! A worker: it takes one instance after another, until there is a reason to leave.
 
-ghost use Rattle.std.specs.Prelude.{◌≡◌, ◌<◌, IfSome, IfNone};
+ghost use Rattle.std.specs.Prelude.{◌≡◌, ℕ, ◌<◌, IfSome, IfNone};
 ghost use Rattle.kahn_board.specs.inner.Turn.{IsBetweenTurns, IsSeatOf};
-ghost use Rattle.kahn_crew.specs.inner.Turns.{HasTask, Heeds, SitsWith};
+ghost use Rattle.kahn_crew.specs.inner.Turns.{HasTask, Heeds, SitsWith, WasNotReady};
 
 use crate::boxes::Boxed;
 use crate::gate::Gate;
@@ -63,6 +63,7 @@ fn pick_elsewhere(run: &Run<'_>, worker: &mut Worker, rest: &Rest) -> Option<usi
     ensures same { IsSeatOf worker.old.seat worker.new.seat }
     ensures picked { IfSome result (λ p. HasTask run.now p 0 worker.new.seat) }
     ensures left { IfNone result (SitsWith run.now 0 worker.new.seat) }
+    ensures none { IfNone result ((p : ℕ) → p < run.now.board.now.instances → WasNotReady run.now worker.old.seat p) }
     ensures kept { worker.new.hints.wanted ≡ worker.old.hints.wanted }
 {
     wait_a_little(run, rest, worker.start);
@@ -78,6 +79,7 @@ fn pick_next(run: &Run<'_>, worker: &mut Worker, rest: &Rest) -> Option<usize>
     ensures same { IsSeatOf worker.old.seat worker.new.seat }
     ensures picked { IfSome result (λ p. HasTask run.now p 0 worker.new.seat) }
     ensures left { IfNone result (SitsWith run.now 0 worker.new.seat) }
+    ensures none { IfNone result ((p : ℕ) → p < run.now.board.now.instances → WasNotReady run.now worker.old.seat p) }
     ensures kept { worker.new.hints.wanted ≡ worker.old.hints.wanted }
 {
     match pick_hinted(run, &mut worker.seat, &mut worker.hints, false) {
