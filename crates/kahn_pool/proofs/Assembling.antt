@@ -5,7 +5,7 @@ use Rattle.kahn_pool.proofs.Common.{Line, Channel, Print, Number, Dry, Cut, Got,
 use Rattle.kahn_streams.specs.declared.answer.End.{End}
 use Rattle.kahn_streams.specs.declared.answer.Outcome.{Outcome}
 use Rattle.kahn_streams.specs.declared.answer.Outcome.TheVariants.{Waits}
-use Rattle.kahn_pool.proofs.Lists.{prefix_stands, both_stand, reads_or, nothing_more}
+use Rattle.kahn_pool.proofs.Lists.{prefix_stands, both_stand, reads_or, nothing_more, same_writer}
 use Rattle.kahn_pool.proofs.Events.{more, same_sends, same_outcome, next_event}
 use Rattle.kahn_pool.proofs.Benched.{get_map}
 use Rattle.kahn_streams.specs.Script as script
@@ -290,9 +290,6 @@ module _ (N : Network) (I : Inputs) (bound : ℕ) (watch : Option ℕ) (a : Answ
   stands_for = stood N I bound watch a.verdict a.ends.items a.events g.stopped
 
   -- ---- streams
-
-  same_writer : {r p : ℕ} → Written r ≡ Written p → r ≡ p
-  same_writer h = cc
 
   kept_by : (src : Source) (c : Line) (ts : List Token) → source N c ≡ src → IsFrom N I watch g.stopped.cells src c ts →
       AreKeptTokens N I c (fed src I (λ p. sent_on N (done_by p) p (took p) c) c) ts

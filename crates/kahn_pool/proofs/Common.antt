@@ -40,7 +40,7 @@ pub use Rattle.kahn_pool.specs.inner.Bench.{AreEnds, AreStreams, Goes, HasEndIn,
 pub use Rattle.kahn_pool.specs.inner.Changed.{HaveChanged}
 pub use Rattle.kahn_pool.specs.inner.FlowBench.{AreLast, AreLent, IsFlowing, flow_of, let_go_by, let_go_of, run_of_bench, waits_of}
 pub use Rattle.kahn_pool.specs.inner.Gathered.{EndsWith, IsFrom, IsGathered, IsGiven, IsOutcomeOf, IsStopped, TookAll, TookNoMore, no_view, view_at}
-pub use Rattle.kahn_pool.specs.inner.Holding.{AreEnded, AreHeld, AreHeldBy, AreWatched, HasRisen, HasStopped, HasStoppedPart, HaveRisen, IsConclusion, IsGiving, IsHolding, cell_alone, cells_seen, held_state, run_of}
+pub use Rattle.kahn_pool.specs.inner.Holding.{AreEnded, AreHeld, AreHeldBy, AreWatched, HasRisen, HasStopped, HasStoppedPart, HaveRisen, IsConclusion, IsGiving, IsHolding, cell_alone, cells_seen, held_state, run_of, run_with}
 pub use Rattle.kahn_pool.specs.inner.Rested.{AreEndsOfTasks, AreTasks, AreTold, IsDryOf, IsEndOf, IsInstanceTask, IsLentTo, IsSaid, IsSettledTask, IsToldAs, Says, SettlesTo, cell_of, state_of_tasks}
 pub use Rattle.kahn_pool.specs.inner.Streams.{AreAllGiven, AreAllOf, AreGiven, AreLists, AreNamed, HasBecome, HasInput, HasInputs, HaveBecome, IsBare, IsBegun, IsDeclared, IsFilled, KeepsOtherLines, kept_in, kept_lists, printed_in, printed_list}
 pub use Rattle.kahn_pool.specs.inner.Workbench.{AllStandBy, AreKeptOf, AreLeft, AreOpeningCells, AreStreamsReady, AreWhole, GoesIn, HasEmptied, HasMoved, HasTakenIn, HasTakenTurn, HasWorked, IsLaid, IsLeft, IsSeated, StandsAsTold, Table, actual_count, all_of, gone_in, parameter_count, sight_of, table_of, told_in}

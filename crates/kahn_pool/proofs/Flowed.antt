@@ -1,11 +1,11 @@
 -- A flow: what its parts, more input and letting go make of it.
 use Rattle.std.proofs.Common.{arith, ◌≡◌, ℕ, zero, suc, ◌+◌, ◌-◌, ◌<◌, ◌≤◌, ◌^◌, Bool, List, [], ◌∷◌, ◌++◌, length, map, replicate, take, refl, sym, ap, ◌∙◌, subst, append-nil, Option, Some, slice_get, slice_index_or}
-use Rattle.kahn_pool.proofs.Common.{length-map, map-append, take_all, take_at, Source, Given, Written, Nobody, Writes, channel_source, network_of, instance_at, actual_at, role_at, Token, Value, Line, Channel, Print, AreInputsExtended, source, Lists, inputs_of, none_of, prefix_refl, View, token_value, IsPoured, tokens, Told, told_view, Gone, nothing_gone, poured_grown, GoesOn, IsLineOf, HeldRun, given_so_far, seen_at, seen_of, so_far, writing, stream_lines, Verdict, RunState, all_events, IsConcluded, AreEnded, AreNew, HasLetGo, IsRunOn, AreLast, AreLent, IsFlowing, flow_of, let_go_by, let_go_of, run_of_bench, waits_of, no_view, AreAllGiven, AllStandBy, AreWhole, HasEmptied, HasTakenIn, HasWorked, IsLaid, Table, all_of, sight_of, writes, HaveRisen}
+use Rattle.kahn_pool.proofs.Common.{length-map, map-append, take_all, take_at, Source, Given, Written, Nobody, Writes, channel_source, network_of, instance_at, actual_at, role_at, Token, Value, Line, Channel, Print, AreInputsExtended, source, Lists, inputs_of, none_of, prefix_refl, View, token_value, IsPoured, tokens, Told, told_view, Gone, nothing_gone, poured_grown, GoesOn, IsLineOf, HeldRun, given_so_far, seen_at, seen_of, so_far, writing, stream_lines, Verdict, RunState, all_events, IsConcluded, AreEnded, AreNew, HasLetGo, IsRunOn, AreLast, AreLent, IsFlowing, flow_of, let_go_by, let_go_of, run_of_bench, waits_of, no_view, AreAllGiven, AllStandBy, AreWhole, HasEmptied, HasTakenIn, HasWorked, IsLaid, Table, all_of, sight_of, writes, HaveRisen, run_with}
 use Rattle.std.proofs.lemmas.List.{length-append}
 use Rattle.kahn_streams.specs.declared.answer.End.{End}
 use Rattle.kahn_pool.proofs.Benched.{mapped}
 use Rattle.kahn_pool.proofs.Giving.{input_role}
-use Rattle.kahn_pool.proofs.Going_on.{run_with, risen_here}
+use Rattle.kahn_pool.proofs.Going_on.{risen_here}
 use Rattle.kahn_pool.proofs.Once_written.{input_watched, written_once}
 use Rattle.kahn_pool.proofs.Named.{HasLine, has_line}
 use Rattle.kahn_pool.proofs.Righted.{settled_by}

@@ -1,21 +1,8 @@
 -- Cells that have done no fewer events: their streams have grown.
 use Rattle.std.proofs.Common.{arith, ◌≡◌, ◌⊎◌, inl, inr, ℕ, zero, suc, ◌≤◌, List, [], ◌∷◌, length, map, refl, sym, ap, ◌∙◌, subst, Option, Some, slice_get, slice_index_or, true}
-use Rattle.kahn_pool.proofs.Common.{Program, Value, Line, Network, Source, Given, Written, Nobody, Writes, network_of, instance_at, actual_at, IsWellWired, Channel, Print, AreInputsExtended, IsPrefix, source, Lists, inputs_of, begins_nil, is_streamed, token_value, Joins, Told, told_view, joins_within, GoesOn, HeldRun, IsSoFar, Seen, seen_at, seen_of, unseen, AllStandBy, Verdict, HaveRisen, HasRisen, same_Some, prefix_refl}
+use Rattle.kahn_pool.proofs.Common.{Program, Value, Line, Network, Source, Given, Written, Nobody, Writes, network_of, instance_at, actual_at, IsWellWired, Channel, Print, AreInputsExtended, IsPrefix, source, Lists, inputs_of, begins_nil, is_streamed, token_value, Joins, Told, told_view, joins_within, GoesOn, HeldRun, IsSoFar, Seen, seen_at, seen_of, unseen, AllStandBy, Verdict, HaveRisen, HasRisen, same_Some, prefix_refl, run_with}
 use Rattle.kahn_pool.proofs.Benched.{got, mapped, within_get}
 use Rattle.kahn_pool.proofs.Growing.{kept_grows, printed_grows}
-
--- what contracts see of a run with these cells
-abbrev pub run_with : Program → Lists → Option ℕ → ℕ → ℕ → ℕ → List Told → Option Verdict → HeldRun
-run_with t lists watch workers quantum bound cells verdict = record {
-  network = t;
-  input = lists;
-  watch = watch;
-  workers = workers;
-  quantum = quantum;
-  bound = bound;
-  cells = map seen_of cells;
-  verdict = verdict;
-}
 
 seen_there : (cells : List Told) (p : ℕ) (c : Told) → slice_get cells p ≡ Some c → seen_at (map seen_of cells) p ≡ seen_of c
 seen_there cells p c e = mapped seen_of cells p c unseen e

@@ -1,6 +1,6 @@
 -- Lists whose values stand.
 use Rattle.std.proofs.Common.{arith, ◌≡◌, ◌⊎◌, inl, inr, subst, slice_set, slice_index_or, sum_by, ℕ, zero, suc, ◌+◌, ◌<◌, ◌≤◌, List, [], ◌∷◌, ◌++◌, length, map, refl, sym, ap, ◌∙◌, Some, slice_get, append-nil, le_of_suc-le-suc, not-suc-le-zero, length-append, le_refl}
-use Rattle.kahn_pool.proofs.Common.{cases_lt, get_or_past, fold-map, get_or-le-sum_by, same_Some, slice_get_read, slice_get_within, there, HaveChanged, Value, Line, Network, Inputs, iterate, IsPrefix, prefix_get, one_value, AllStand, Actual, Reads, Writes, Hands}
+use Rattle.kahn_pool.proofs.Common.{cases_lt, get_or_past, fold-map, get_or-le-sum_by, same_Some, slice_get_read, slice_get_within, there, HaveChanged, Value, Line, Network, Inputs, iterate, IsPrefix, prefix_get, one_value, AllStand, Actual, Reads, Writes, Hands, Written}
 use Rattle.std.proofs.lemmas.List.{length-set}
 
 -- a list that agrees with a longer one begins it
@@ -39,6 +39,9 @@ pub reads_or : (a : Actual) → ((d : ℕ) × (a ≡ Reads d)) ⊎ ((d : ℕ) �
 reads_or (Reads d) = inl (d, refl)
 reads_or (Writes d) = inr (λ b e. absurd cc)
 reads_or (Hands v) = inr (λ b e. absurd cc)
+
+pub same_writer : {p r : ℕ} → Written p ≡ Written r → p ≡ r
+same_writer e = cc
 
 -- ---- lists of which one place is set
 

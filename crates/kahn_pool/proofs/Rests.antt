@@ -1,11 +1,12 @@
 -- What settled tasks whose ends have met say of the cells.
 use Rattle.std.proofs.Common.{arith, ◌≡◌, inl, inr, ℕ, zero, suc, ◌+◌, ◌<◌, ◌≤◌, List, [], length, map, refl, sym, ap, ◌∙◌, subst, Option, Some, slice_get, length-append}
-use Rattle.kahn_pool.proofs.Common.{Program, Role, Value, Inner, Input, Network, Reads, Writes, Given, Written, network_of, instance_at, actual_at, role_at, IsWellWired, reads, writes, Channel, Store, Inputs, fed, iterate, out, source, Lists, inputs_of, dry_reads, AllStand, View, exec_on, is_output, Joins, count, told_view, joins_within, driven, IsBehind, IsReady, AreBehindOn, end_in, row_there, Serves, end_at, Tasked, handed_to_task, task_rows, work_of, at_mapped, AreAll, AreTasks, AreTold, IsDryOf, IsEndOf, IsSaid, IsSettledTask, IsInstanceTask, IsToldAs, cell_of, state_of_tasks, HasEndIn, TookNoMore, IsGiven, IsOutcomeOf, no_view, view_at, stand_in, StoodBy}
+use Rattle.kahn_pool.proofs.Common.{Program, Role, Value, Inner, Input, Network, Reads, Writes, Given, network_of, instance_at, actual_at, role_at, IsWellWired, reads, writes, Channel, Store, Inputs, fed, iterate, out, source, Lists, inputs_of, dry_reads, AllStand, View, exec_on, is_output, Joins, count, told_view, joins_within, driven, IsBehind, IsReady, AreBehindOn, end_in, row_there, Serves, end_at, Tasked, handed_to_task, task_rows, work_of, at_mapped, AreAll, AreTasks, AreTold, IsDryOf, IsEndOf, IsSaid, IsSettledTask, IsInstanceTask, IsToldAs, cell_of, state_of_tasks, HasEndIn, TookNoMore, IsGiven, IsOutcomeOf, no_view, view_at, stand_in, StoodBy}
 use Rattle.kahn_streams.specs.inner.Sources.{IsFed as IsFedBy}
 use Rattle.kahn_streams.specs.declared.answer.End.{End}
 use Rattle.kahn_streams.specs.declared.answer.Outcome.{Outcome}
 use Rattle.kahn_pool.proofs.Benched.{get_map, got, mapped, some_one}
 use Rattle.kahn_pool.proofs.Ended.{handed_to, one_number}
+use Rattle.kahn_pool.proofs.Lists.{same_writer}
 use Rattle.kahn_streams.specs.Script as script
 use Rattle.kahn_code.specs.Progress as code
 use Rattle.kahn_job.specs.declared.standing.Standing.TheVariants as standing
@@ -28,9 +29,6 @@ row_at xs p q x e = ap (λ es. end_at es q) (row_there (map work_of xs) p x.work
 
 role_apart : {r : Role} → r ≡ Inner → r ≡ Input → ⊥
 role_apart a b = let e : Inner ≡ Input = sym a ∙ b in absurd cc
-
-written_one : {p r : ℕ} → Written p ≡ Written r → p ≡ r
-written_one e = cc
 
 module _ (t : Program) (wired : IsWellWired t) (lists : Lists) (watch : Option ℕ) (tasks : List Tasked) (of : AreTasks t lists watch tasks)
     (settled : (p : ℕ) (x : Tasked) → slice_get tasks p ≡ Some x → IsSettledTask x) where
@@ -145,7 +143,7 @@ module _ (t : Program) (wired : IsWellWired t) (lists : Lists) (watch : Option �
                   given = λ i. absurd (role_apart f.4 i);
                   sent = λ s w z g k.
                       let a : actual_at (instance_at N s) w ≡ Writes d = sym (handed_as s w z g) ∙ k in
-                      let i : s ≡ f.0 = written_one (sym (writes t wired s w d a).0 ∙ f.2) in
+                      let i : s ≡ f.0 = same_writer (sym (writes t wired s w d a).0 ∙ f.2) in
                       let same : z ≡ y.0 = some_one (sym g ∙ ap (slice_get tasks) i ∙ y.1) in
                       let v : w ≡ f.1 = (driven t wired).once f.0 w f.1 d (subst (λ n. actual_at (instance_at N n) w ≡ Writes d) i a) f.3 in
                       ap (λ u. count u.work.cell.sent w) same ∙ ap (count y.0.work.cell.sent) v;

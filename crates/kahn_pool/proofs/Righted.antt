@@ -1,12 +1,11 @@
 -- A run with these cells is right so far: what its streams have are the tapes of the right answer.
 use Rattle.std.proofs.Common.{arith, ◌≡◌, ℕ, zero, suc, ◌+◌, Bool, List, [], ◌∷◌, map, sum_by, refl, sym, ap, ◌∙◌, subst, Option, slice_index_or, ◌-◌}
-use Rattle.kahn_pool.proofs.Common.{Program, Value, Line, Network, Source, Given, Written, Nobody, network_of, Channel, Print, Inputs, IsWhole, source, Lists, inputs_of, View, token_value, Told, told_view, Settles, AreRight, HasSoFar, HeldRun, IsRightSoFar, IsSoFar, seen_at, seen_events, seen_of, RunState, all_events, view_events, IsConcluded, IsStopped, view_at, Verdict, unseen, IsRight, stream_lines, Answer, AreStreams}
+use Rattle.kahn_pool.proofs.Common.{Program, Value, Line, Network, Source, Given, Written, Nobody, network_of, Channel, Print, Inputs, IsWhole, source, Lists, inputs_of, View, token_value, Told, told_view, Settles, AreRight, HasSoFar, HeldRun, IsRightSoFar, IsSoFar, seen_at, seen_events, seen_of, RunState, all_events, view_events, IsConcluded, IsStopped, view_at, Verdict, unseen, IsRight, stream_lines, Answer, AreStreams, run_with}
 use Rattle.kahn_streams.specs.declared.answer.End.{End}
 use Rattle.kahn_pool.proofs.Assembling.{are_right, kept_values, printed_values, whole_tapes, assembled}
 use Rattle.kahn_pool.proofs.Final.{stopped, stopped_cells, gathered}
-use Rattle.kahn_pool.proofs.Going_on.{run_with}
 use Rattle.kahn_pool.proofs.Sizes.{settles_ends}
-use Rattle.kahn_pool.proofs.Lists.{sum_over, one_of_sum}
+use Rattle.kahn_pool.proofs.Lists.{sum_over, one_of_sum, same_writer}
 
 -- the verdict of a part goes by the size of the solution
 pub settled_by : {s : RunState} {bound left : ℕ} {halted : Bool} {v : Verdict} {ends : List End} → IsConcluded s bound left halted v ends → Settles s.network s.input bound v
@@ -67,9 +66,6 @@ module _ (t : Program) (lists : Lists) (watch : Option ℕ) (workers quantum bou
 
     cells_are : stop.cells ≡ map told_view cells
     cells_are = stopped_cells state bound left halted v ends done c.last c.rule c.within sum
-
-    same_writer : {r p : ℕ} → Written r ≡ Written p → r ≡ p
-    same_writer h = cc
 
     values_by : (s : Source) (d : Line) (vs : List Value) → source N d ≡ s → IsSoFar run s d vs → vs ≡ right.tapes d
     values_by Given (Channel d) vs f h = h ∙ sym (right.inputs (Channel d) f)

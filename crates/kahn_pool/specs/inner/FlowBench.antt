@@ -8,27 +8,18 @@ use Rattle.kahn_streams.specs.Tokens.{token_value}
 use Rattle.kahn_code.specs.Standing.{tokens}
 use Rattle.kahn_code.specs.inner.Gone.{nothing_gone}
 use Rattle.kahn_code.specs.Lines.{Lines as Queues}
-use Rattle.kahn_pool.specs.HeldRuns.{HeldRun, seen_of, writing}
+use Rattle.kahn_pool.specs.HeldRuns.{HeldRun, writing}
 use Rattle.kahn_streams.specs.Answers.{stream_lines}
 use Rattle.kahn_pool.specs.inner.Bench.{IsConcluded, all_events}
 use Rattle.kahn_crew.specs.declared.plan.Plan.{Plan}
 use Rattle.kahn_pool.specs.declared.part_alone.PartEnd.{PartEnd}
-use Rattle.kahn_pool.specs.inner.Holding.{AreEnded}
+use Rattle.kahn_pool.specs.inner.Holding.{AreEnded, run_with}
 use Rattle.kahn_pool.specs.inner.Workbench.{Table, sight_of}
 use Rattle.kahn_pool.specs.Flows.{Flowing}
 
 -- what contracts see of the run of a bench: all that its taps ever kept
 abbrev pub run_of_bench : Table → ℕ → ℕ → ℕ → Option Verdict → HeldRun
-run_of_bench b workers quantum bound verdict = record {
-  network = b.network;
-  input = b.input;
-  watch = b.watch;
-  workers = workers;
-  quantum = quantum;
-  bound = bound;
-  cells = map seen_of b.cells;
-  verdict = verdict;
-}
+run_of_bench b workers quantum bound verdict = run_with b.network b.input b.watch workers quantum bound b.cells verdict
 
 -- of each channel how many values wait
 abbrev pub waits_of : Queues → List ℕ

@@ -51,10 +51,14 @@ abbrev pub IsGiving : Program → Lists → Option ℕ → List Token → Option
 IsGiving t lists watch given verdict =
     AreGiven (network_of t) (inputs_of lists) watch given × ((v : Verdict) → verdict ≡ Some v → AreAllGiven (network_of t) (inputs_of lists) watch given)
 
--- what contracts see of a held run with these jobs
+-- what contracts see of a run with these cells
+abbrev pub run_with : Program → Lists → Option ℕ → ℕ → ℕ → ℕ → List Told → Option Verdict → HeldRun
+run_with t lists watch workers quantum bound cells verdict =
+    record { network = t; input = lists; watch = watch; workers = workers; quantum = quantum; bound = bound; cells = map seen_of cells; verdict = verdict }
+
+-- of a held run with these jobs
 abbrev pub run_of : Program → Lists → Plan → List Work → Option Verdict → HeldRun
-run_of t lists plan ws verdict =
-    record { network = t; input = lists; watch = plan.watch; workers = plan.workers; quantum = plan.quantum; bound = plan.bound; cells = map seen_of (cells_of ws); verdict = verdict }
+run_of t lists plan ws verdict = run_with t lists plan.watch plan.workers plan.quantum plan.bound (cells_of ws) verdict
 
 -- all that it keeps
 pub record IsHolding (t compiled : Program) (lists : Lists) (plan : Plan) (ws : List Work) (budget : ℕ) (ends : List End) (given : List Token) (verdict : Option Verdict) : Type 0 where
