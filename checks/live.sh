@@ -100,6 +100,10 @@ ends "three steps" 0 '' 'end 1 count: ended after 7' 'finished 7'
 start "$count" --step 3
 wants "a step" 'W: 0'
 ends "one step" 3 '' 'end 1 count: wants more after 3' 'stopped by bound 3'
+gives "a step that two lines use up" 3 'B: 2\nend 1 double: wants more after 3\nstopped by bound 3\n' \
+  "$double"': input line 1: wants more events than --step allows, and goes on with the next line\n' "$double" --step 1 <<< $'A: 1\nA: 2'
+gives "a name in the other letter case" 1 'end 1 double: waits on A after 1\nfinished 1\n' \
+  "$double"': input line 1: no such channel: `a`; did you mean `A`?\n' "$double" <<< 'a: 1'
 
 # without input channels; print streams; a last line without its line feed
 gives "a program without input" 0 'W: 0 1 2\nend 1 count: ended after 7\nfinished 7\n' '' "$count" < /dev/null
