@@ -105,7 +105,7 @@ const WORDS: &[Class] = &[
 ];
 
 /// The first that holds is told.
-pub(crate) const HABITS: [Habit; 66] = [
+pub(crate) const HABITS: [Habit; 64] = [
     (
         &[Word(Then)],
         &[Word(If)],
@@ -246,12 +246,6 @@ pub(crate) const HABITS: [Habit; 66] = [
         &[Name],
         &[May(Sign(Becomes))],
         "a statement begins with `send`, `print`, `if`, `while`, `repeat` or `begin`, or is `X := E`; `X := wait(C)` takes a value",
-    ),
-    (
-        &[],
-        &[Name],
-        &[May(Sign(Open))],
-        "an instance is `P(A, B)`: brackets stand round what it is handed",
     ),
     (
         &[],
@@ -444,12 +438,6 @@ pub(crate) const HABITS: [Habit; 66] = [
         &[Sign(Comma)],
         &[May(Sign(Becomes))],
         "a statement assigns to one name: `X := E; Y := F`",
-    ),
-    (
-        &[],
-        &[Sign(Comma)],
-        &[May(Word(On)), Operator],
-        "a statement has one value: `send E on C; send F on C`",
     ),
     (
         &[],
