@@ -186,6 +186,7 @@ FOREIGN = {
         ("const constant", "there are no constants: an instance hands a number over, `P(A, 10)`"),
         ("xor", "there is no exclusive or: of logicals it is `<>`"),
         ("inout", "one process reads a channel, and another one writes it: `in U`, `out W`"),
+        ("go spawn cobegin parbegin", "nothing starts an instance: it is `p(A, B)`, and `par` stands between two"),
     ) for word in words.split()
 }
 ACTS = {
@@ -209,6 +210,10 @@ ARGUMENTS = "an instance hands over channels and literals, by their places: `P(A
 LATE = "channels and processes are declared before all instances"
 BETWEEN = "`par` stands between instances: `p(A) par q(B)`"
 STARTED = "instances stand without `begin`: `p(A) par q(B)`"
+SENDS = "`on` and a channel stand behind the value: `send E on C`"
+VARIABLES = "variables are declared right behind the first `begin` of a process, channels outside of processes"
+PARAMETERS = "a parameter has its kind: `integer in U` is read, `integer out W` is written, `integer N` is a number"
+INSTANCES = "a program ends with its instances: `p(A, B) par q(B, C)`"
 WHEREVER = {
     word: said for words, said in (
         ("in out", "a keyword is no name, in any letter case: `in` and `out` stand behind a kind, `integer in U; integer out W`"),
@@ -226,6 +231,7 @@ BEHIND = {
     ("<", "<"): "there is no shift: `X * 16`, `X div 16`",
     (">", ">"): "there is no shift: `X * 16`, `X div 16`",
     ("-", ">"): "there is no arrow: `send E on C`, `X := wait(C)`",
+    ("send", "on"): SENDS,
     ("par", "end"): BETWEEN,
     ("par", "else"): BETWEEN,
     ("par", "begin"): STARTED,
@@ -251,9 +257,9 @@ def behind(lead, found):
 def called(stands):
     """What is said of a `(` behind a name."""
     if stands(":="):
-        return "a body calls nothing and starts nothing: instances stand behind all processes"
+        return "a body calls nothing and starts nothing: `send E on C` sends a value, and instances stand behind all processes"
     if stands("*"):
-        return "a body calls nothing: there are no functions, and a value is taken by `wait(C)`"
+        return "a body calls nothing: there are no functions, `wait(C)` takes a value, and nothing tells whether one is there"
     return ARGUMENTS if stands(",") and stands(")") else None
 
 
@@ -276,7 +282,7 @@ def late(stands):
 def stopped(stands):
     """What is said of the end of what isn't whole."""
     if stands("on"):
-        return "`on` and a channel stand behind the value: `send E on C`"
+        return SENDS
     if stands("(") and not stands("wait"):
         return "brackets stand behind the name of a process, also where they are empty: `p()`"
     if stands("else") and not stands("end"):
@@ -310,8 +316,8 @@ def stray(lexemes, at, stands):
 
 def declared(found, stands):
     """What is said of a declaration where none may stand."""
-    if found != "process" and stands("while"):
-        return "variables are declared right behind the first `begin` of a process, channels outside of processes"
+    if found != "process" and (stands("while") or (stands("begin") and not stands("send"))):
+        return VARIABLES
     if found != "process" and stands("wait"):
         return "a kind changes no value: `if T then 1 else 0` makes a number of `T`, `X <> 0` a truth value of `X`"
     return LATE if late(stands) else None
@@ -345,7 +351,9 @@ def advice(lexemes, at):
         if stands("channel"):
             return "variables are declared in processes; a channel is `integer channel C`"
         begins = "a statement begins with `send`, `print`, `if`, `while`, `repeat` or `begin`, or is `X := E`; `X := wait(C)` takes a value"
-        return begins if stands(":=") else None
+        if stands(":="):
+            return begins
+        return PARAMETERS if stands("integer") and not stands("process") and not stands("while") else None
     if what == "number" and lead == "repeat":
         return "`repeat` goes on for ever: `while I < 10 do begin ..; I := I + 1 end` is ten turns"
     if what not in ("word", "sign"):
@@ -372,6 +380,8 @@ def advice(lexemes, at):
         return WHEREVER[found]
     if found == ",":
         return comma(before[0] == "name", stands)
+    if found == "end" and stands("process"):
+        return INSTANCES
     if found in (";", "end", "else"):
         is_name = found == ";" and stands(":=")
         return "a statement that begins with a name assigns to it, `X := E`; names of one kind stand with commas, `integer I, J`" if is_name else stopped(stands) or (found != ";" and named_alone(lexemes, at, stands)) or None
