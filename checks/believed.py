@@ -77,13 +77,14 @@ def definitions(text):
 
 
 class House:
-    """All files of specs/ that define something: what their words mean, their definitions, their first lines."""
+    """All files of specs/ that define something: what their words mean, their definitions, their first lines. And those that pass words on."""
 
     def __init__(self):
-        self.names, self.held, self.inside, self.heads = {}, {}, {}, {}
+        self.names, self.held, self.inside, self.heads, self.passed = {}, {}, {}, {}, {}
         for path in sorted(glob.glob(f"{TOP}/crates/*/specs/**/*.antt", recursive=True)):
             module, text = os.path.relpath(path, f"{TOP}/crates")[:-5].replace("/specs/", "/"), read(path)
             held, inside = definitions(text)
+            self.passed[module] = Names(text, "pub ").of
             if held:
                 self.names[module], self.held[module], self.inside[module] = Names(text, "(?:pub )?"), held, inside
                 self.heads[module] = text.split("\n", 1)[0]
@@ -92,6 +93,7 @@ class House:
         seen, todo = set(), list(roots)
         while todo:
             module, name = todo.pop()
+            module, name = self.passed.get(module, {}).get(name, (module, name))
             if module not in self.held:
                 continue
             name = name if name in self.held[module] else self.inside[module].get(name)

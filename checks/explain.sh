@@ -286,6 +286,13 @@ gives "a text of a million bytes" 1 'long:8:9: error: found `=`, where `:=` may 
  8 |       I = wait(U);
    |         ^
    = one change mends it: `:=` in its place' '' long
+# what comes behind a limit is past it too: one note
+{ echo 'begin process p(); begin end;'; printf 'p() par\n%.0s' $(seq 259); echo 'p() end'; } > past
+gives "260 instances" 1 'past:258:1: error: limit is exceeded; a program has at most 1024 channels and 256 instances
+ 258 | p() par
+     | ^
+
+and 3 faults more' '' past
 # changes are looked for in texts of up to 8,192 lexemes
 statements=$(printf 'print 1;%.0s' $(seq 2725))
 echo "begin process p(); begin $statements I = 1 end; p() end;" > most
@@ -294,6 +301,24 @@ if [ "$(tail -n 1 output)" = '   = one change mends it: `:=` in its place' ]; th
 echo "begin process p(); begin $statements; I = 1 end; p() end;" > more
 "$explain" more > output
 if [ "$(wc -l < output)" = 3 ] && grep -q 'found `=`, where' output; then pass; else fail "8,193 lexemes: $(tail -n 1 output)"; fi
+# a block may be long, and warnings many: 20 are told
+echo "begin process p(); begin integer I; $(printf 'I:=I;%.0s;' $(seq 170000)) end; p() end" > long
+gives "a block of 340,000 statements" 0 'finished 0' '' long
+echo "begin process p(); begin integer $(printf 'I%d, ' $(seq 99999)) I; end; p() end" > long
+"$explain" long > output
+if [ "$(grep -c 'warning: name is never used' output)" = 20 ] && [ "$(tail -n 2 output)" = $'and 99980 warnings more\nfinished 0' ]; then
+  pass
+else
+  fail "100,000 names that are never used: $(tail -n 2 output)"
+fi
+# so are the places of a fault
+echo "begin process p(); begin integer A; $(printf 'A:=1 div 0;%.0s' $(seq 60000)) end; p() end" > long
+"$explain" long > output
+if [ $? = 8 ] && [ "$(grep -c 'division can have come from here' output)" = 20 ] && [ "$(tail -n 2 output)" = $'and 59980 places more\nfinished 0' ]; then
+  pass
+else
+  fail "60,000 operations that can have failed: $(tail -n 2 output)"
+fi
 head -c 1048577 /dev/zero | tr '\0' ' ' > long
 gives "a text that is too long" 1 '' $'kahn: program text is too long\nkahn_explain: it may have at most 1048576 bytes' long
 

@@ -98,6 +98,7 @@ def long_texts():
     yield row("as many summands as there may be", body("print 1" + "+1" * count), total)
     yield row("as many comments as there may be", filled("comment;"), ENDED)
     yield row("as many assignments as there may be", filled("x:=x;", "integer x; "), ENDED)
+    yield row("nearly as many assignments as the page explains", body("x:=x;" * 6500, "integer x; "), ENDED)
     yield row("as many names as there may be", body("", f"integer {', '.join(names(MOST_BYTES - len(body('', 'integer ; ')))[:-1])}; "), ENDED)
     every = [f"n{number}" for number in range(55000)]
     each = body("; ".join(f"{name}:=1" for name in every), f"integer {', '.join(every)}; ")
@@ -234,6 +235,20 @@ def long_runs():
     yield row("2000000 prints", program, report, words=["--workers", "1", "--bound", "4000001"], limits="600 5")
 
 
+def long_reports():
+    """A report that several workers put together in pieces: lines longer than a piece, lines that share one, and one without values."""
+    counts = {"A": 90000, "B": 0, "C": 25000, "D": 3}
+    calls = " par ".join([*(f"count({name}, {number})" for name, number in counts.items()), "tell(-12000, 12000)"])
+    program = f"""begin integer output channel {", ".join(counts)};
+      process count(integer out W; integer N); begin integer I; while I < N do begin send I * (I - N) on W; I := I + 1 end end;
+      process tell(integer I, N); begin while I < N do begin print I = 2 * (I div 2); I := I + 1 end end; {calls} end"""
+    sent = [f"{name}:" + "".join(f" {i * (i - number)}" for i in range(number)) for name, number in counts.items()]
+    printed = "print 5 tell:" + "".join(f" {str(i % 2 == 0).lower()}" for i in range(-12000, 12000))
+    events = [2 * number + 1 for number in (*counts.values(), 24000)]
+    ends = [f"end {k} count: ended after {number}" for k, number in enumerate(events[:-1], 1)]
+    yield row("139003 values", program, [*sent, printed, *ends, f"end 5 tell: ended after {events[-1]}", f"finished {sum(events)}"])
+
+
 def long_inputs():
     """As many values as a channel may be given, and one more."""
     program = "begin integer input channel A; process p(integer in U); begin end; p(A) end"
@@ -243,5 +258,5 @@ def long_inputs():
 
 
 def rows():
-    for family in (prefixes, nesting, long_texts, large_networks, long_processes, copies, four_turns, numbers, operands, parameters, long_runs, long_inputs):
+    for family in (prefixes, nesting, long_texts, large_networks, long_processes, copies, four_turns, numbers, operands, parameters, long_runs, long_reports, long_inputs):
         yield from family()

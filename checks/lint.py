@@ -24,6 +24,7 @@ LONG_CLAUSE, LONG_BODY, LONG_FILE = 160, 40, 500
 CLAUSE = re.compile(r"^ *(?:requires|ensures|(?:pub )?ghost \w+(?: =|:))[^{\n]*\{", re.M)
 FUNCTION = re.compile(r"^( *)(?:pub(?:\([a-z]+\))? )?(?:unsafe )?fn (\w+)")
 PUBLIC = re.compile(r"^ *pub (?:unsafe )?(fn|struct|enum|trait|type|const|static) (\w+)")
+TAKEN = re.compile(r"^ *(?:ghost |pub )?use Rattle\.kahn_\w+\.[\w.]*\.\{[^}]*◌", re.M)
 DEFINED = re.compile(r"^(?: *abbrev pub |(?:abbrev |unfoldable )?(?:pub )?(?:record |data )?)([^\s:(={]+)(?: [^=]*)?:")
 
 
@@ -119,6 +120,13 @@ def names_twice():
             yield f"{name}: {', '.join(where)}"
 
 
+def strange_operators():
+    """Operators of the library that a clause or a definition takes from a file of ours, at which rt ci stops and rt check doesn't."""
+    for path, text in files("src/**/*.rt", "specs/**/*.antt"):
+        for found in TAKEN.finditer(text):
+            yield f"{path}:{line_of(text, found.start())}: take it from Rattle.std.specs.Prelude"
+
+
 def unfit_edits():
     """Must-fail edits that can't be applied."""
     for path in sorted(glob.glob(f"{TOP}/crates/*/must-fail/*.edit") + glob.glob(f"{TOP}/checks/edits/*/*.edit")):
@@ -146,6 +154,7 @@ PARTS = {
     "files over 500 lines": long_files,
     "sources and definitions without a head": without_head,
     "public items without words": without_words,
+    "operators that clauses and definitions take from a file of ours": strange_operators,
     "must-fail edits that can't be applied": unfit_edits,
     "files in another layout than rt fmt's": not_laid_out,
 }

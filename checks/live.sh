@@ -215,6 +215,27 @@ ends='end 1 err: waits on Y after 2\nend 2 ctl: waits on E after 1\nend 3 plant:
 yes 100 | gives "a ring of waits, values alone" 0 '' "$ends"'kahn_explain control.kahn --input FILE says why\n' control.kahn --plain SET
 yes 'SET: 100' | gives "a ring of waits" 0 "$ends" 'kahn_explain control.kahn --input FILE says why\n' control.kahn
 
+# the same has a status of its own where that is asked for: a ring, also beside what waits on an input, and a fault before a ring
+yes 100 | gives "a ring of waits, strictly" 7 '' "$ends"'kahn_explain control.kahn --input FILE says why\n' control.kahn --plain SET --strict
+yes 'SET: 100' | gives "a ring of waits, with names, strictly" 7 "$ends" 'kahn_explain control.kahn --input FILE says why\n' control.kahn --strict
+cat > beside.kahn <<'P'
+begin integer input channel A; integer channel X, Y, Z; integer output channel B;
+  process copy(integer in U; integer out W); begin repeat send wait(U) on W end;
+  process sum(integer in U; integer out W); begin integer S; repeat begin S := S + wait(U); send S on W end end;
+  copy(X, Y) par copy(Y, X) par sum(A, Z) par copy(Z, B)
+end
+P
+printf '1\n2\n' > lines
+ends='end 1 copy: waits on X after 1\nend 2 copy: waits on Y after 1\nend 3 sum: waits on A after 7\nend 4 copy: waits on Z after 7\nfinished 16\n'
+gives "a ring beside what waits on an input" 0 '1\n3\n' '' beside.kahn --plain A < lines
+gives "a ring beside what waits on an input, strictly" 7 '1\n3\n' "$ends" beside.kahn --plain A --strict < lines
+printf '9223372036854775807\n1\n' > lines
+gives "a fault before a ring, strictly" 8 '9223372036854775807\n' 'end 1 copy: waits on X after 1\nend 2 copy: waits on Y after 1\nend 3 sum: fault overflow after 5\nend 4 copy: waits on Z after 4\nfinished 11\nkahn_explain beside.kahn --input FILE says why\n' beside.kahn --plain A --strict < lines
+gives "nothing amiss, strictly" 0 '2\n' '' "$double" --plain A --strict <<< '1'
+sed 's/integer output/integer channel X; &/; s/encode(RAW, RUNS, -1)/encode(RAW, X, -1) par copy(X, RUNS)/; s/^  encode/  process copy(integer in U; integer out W); begin repeat send wait(U) on W end;\n&/' runs.kahn > piped.kahn
+gives "what waits on one that has ended, strictly" 0 '2\n7\n1\n9\n' 'end 1 encode: ended after 12\nend 2 copy: waits on X after 13\nfinished 25\nkahn_explain piped.kahn --input FILE says why\n' piped.kahn --plain RAW --at-end -1 --strict <<< '7 7 9'
+gives "a refused line, strictly" 1 '2\n' "$double"': input line 2: not a value: `x`'"$values"'\nend 1 double: waits on A after 4\nfinished 4\n' "$double" --plain A --strict <<< $'1\nx'
+
 # who reads may go: then the program ends, and says nothing
 for words in '' '--plain A'; do
   # shellcheck disable=SC2086
@@ -230,7 +251,7 @@ gives "a pipe" 0 'B: 4\nB: 8\nend 1 double: waits on A after 7\nfinished 7\n' ''
 
 # faults that end the program
 gives "no such channel to watch" 6 '' 'kahn: watched channel is not declared\n' "$double" --watch Z < /dev/null
-gives "no program" 5 '' 'kahn: cannot read nothing\n' nothing < /dev/null
+gives "no program" 5 '' 'kahn: cannot read nothing\nkahn_live: there is no such file\n' nothing < /dev/null
 echo 'begin' > bad.kahn
 gives "a text that is no program" 1 '' 'kahn: 2:1: text ends too early\nkahn_explain bad.kahn says more\n' bad.kahn < /dev/null
 for words in "" "$double --step 0" "$double --bound 1"; do

@@ -5,7 +5,8 @@
 # reserves comes before its first worker: once a run got as far as a thread or an event, no later one tells want of memory.
 #
 # Several workers begin at once in the program of checks (`kahn_crowd`) where it was built; `kahn` itself goes over to them where three
-# counts are long enough.
+# counts are long enough. There 120 runs in a row have to be alike: where memory is refused for the workers, the run goes on without
+# them. The report is so long that several threads put it into text, and memory that is refused for that isn't told.
 #
 # Then the same with a run that is held between its parts (a word of the program of checks): whatever is refused in a part, the next
 # one goes on to the whole answer, and takes no more events for it. And with the program that is fed line by line: whatever is refused
@@ -16,6 +17,7 @@ find_crowd
 find_live
 refuse_by refuse_growth.c
 cd "$work" || exit 2
+enough=25
 
 cat > compare.py <<'P'
 import sys
@@ -36,7 +38,7 @@ begin() {
 # goes_on: whether a further growth is to be refused.
 goes_on() {
   number=$((number + 1))
-  [ $alike -lt 25 ] && [ $number -lt 2000 ] && [ $failed -lt 20 ]
+  [ $alike -lt "$enough" ] && [ $number -lt 2000 ] && [ $failed -lt 20 ]
 }
 
 # refused PROGRAM WORD..: runs a program with the growth of that number refused: sets status and said, and leaves part and error.
@@ -56,7 +58,7 @@ ended() {
   [ $wanting -gt 0 ] || fail "$1: no growth was refused before the first worker"
   [ $((threads + stopped)) -gt 0 ] || fail "$1: no growth was refused after the first worker began"
   [ "$2" -gt 1 ] || [ $threads = 0 ] || fail "$1: one worker wants a thread"
-  [ $alike = 25 ] || fail "$1: growths are still refused after $number runs"
+  [ $alike = "$enough" ] || fail "$1: growths are still refused after $number runs"
   echo "$1: $wanting want memory, $threads want a thread, $stopped ${3:-are stopped by memory}"
 }
 
@@ -144,7 +146,7 @@ cat > long.kahn <<'P'
 begin integer output channel X, Y, Z;
   process count(integer out W; integer N);
   begin integer I; while I < N do begin I := I + 1; send I on W end end;
-  count(X, 20000) par count(Y, 20000) par count(Z, 20000)
+  count(X, 25000) par count(Y, 25000) par count(Z, 25000)
 end
 P
 for workers in 1 2 8; do
@@ -155,5 +157,6 @@ for workers in 1 2 8; do
   done
 done
 refuse_parts 1
+enough=120
 refuse_run "$kahn" long.kahn 4 1000
 finish

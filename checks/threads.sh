@@ -1,10 +1,11 @@
 #!/usr/bin/env bash
 # Runs a program with its first thread refused, then with its second, and so on. Each run whose thread was refused has to say so, with
-# its status and without a report, and each other run has to give the whole report.
+# its status and without a report, and each other run has to give the whole report. A thread that only puts values of the report into
+# text isn't missed: another one does that.
 #
-# `kahn` starts threads only where there is work for several, and no more than run side by side: three long counts have it, and the
-# examples haven't. The program of checks whose workers all begin at once, where it was built, starts them for each example; and a held
-# run of it goes on in its next part to the whole report.
+# `kahn` runs a network by several threads only where there is work for them, and by no more than run side by side: three long counts
+# have it, and the examples haven't. The program of checks whose workers all begin at once, where it was built, starts them for each
+# example; and a held run of it goes on in its next part to the whole report.
 source "$(dirname "${BASH_SOURCE[0]}")/common.sh"
 find_program
 find_crowd
@@ -16,10 +17,11 @@ is_refused() {
   [ "$1" = 6 ] && [ ! -s "$work/report" ] && [ "$(cat "$work/fault")" = "kahn: no thread" ]
 }
 
-# refuse RUNNER PROGRAM WORKERS STARTED: so many threads are started; with each of them refused in turn, and with one more.
+# refuse RUNNER PROGRAM WORKERS STARTED: so many threads run the network; with each of them refused in turn, and with each of the next
+# eight, which write the report where it is long, or aren't started.
 refuse() {
   local number status
-  for number in $(seq 1 $(($4 + 3))); do
+  for number in $(seq 1 $(($4 + 8))); do
     FAIL_AT=$number LD_PRELOAD="$work/refuse.so" timeout 60 "$1" --workers "$3" "$2" > "$work/report" 2> "$work/fault"
     status=$?
     if [ "$number" -le "$4" ] && is_refused $status; then
@@ -54,7 +56,7 @@ begin integer output channel X, Y, Z;
 end
 P
 "$kahn" --workers 1 "$work/long.kahn" > "$work/long.report" || fail "three long counts"
-# three instances, so three workers, where so many run side by side
+# three instances, so three workers, where so many run side by side; and 150,000 values, which several threads put into text
 for workers in 1 2 3 16; do
   most=$(printf '%d\n' "$workers" 3 "$(nproc)" | sort -n | head -n 1)
   refuse "$kahn" "$work/long.kahn" $workers $((most - 1))

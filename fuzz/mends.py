@@ -24,6 +24,7 @@ NUMBERS = ("", "one", "two", "three", "four", "five", "six", "seven")
 OPERATORS = [("word", word) for word in ("and", "div", "mod", "or")] + [("sign", sign) for sign in SIGNS[5:]]
 SELDOM = [("name", "x"), ("number", 0)] + [("word", word) for word in ("false", "true", "repeat")]
 LEADERS = [("word", word) for word in ("do", "then", "else", "repeat")]
+STARTS = [("word", word) for word in ("if", "while", "repeat", "send", "print")]
 
 
 def fault_of(lexemes, size):
@@ -91,16 +92,20 @@ def mends(text, lexemes, at):
 
 
 def told(changes, lexemes, at):
-    """The first three: leaving out the `;` before an `else` alone, no name, no literal, no `repeat`, no operator in the place of a name, no `print` for a `wait`."""
+    """The first three: leaving out the `;` before an `else` alone, no name, no literal, no `repeat`, no operator in the place of a name, no `print` for a `wait`, and none that takes away an `else` behind a whole statement."""
     last = lexemes[at - 1][:2] if at > 0 else None
     found = lexemes[at][:2] if at < len(lexemes) else None
     name = {"before": last, "here": found}
 
+    is_late = last == ("sign", ";") and found == ("word", "else")
+
     def is_first(change):
-        return change[:2] == ("before", None) and last == ("sign", ";") and found == ("word", "else")
+        return change[:2] == ("before", None) and is_late
 
     def is_never(change):
         if change[1] == ("word", "print") and change[0] != "before" and found == ("word", "wait"):
+            return True
+        if change[:2] == ("here", ("sign", ";")) and found == ("word", "else") or change[:2] == ("here", None) and is_late:
             return True
         return change[1] in SELDOM or (change[1] in OPERATORS and (name.get(change[0]) or ("",))[0] == "name")
 
@@ -156,10 +161,16 @@ def still_open(text, lexemes):
 
 
 def blocks(text, lexemes, at, is_mended):
-    """What is said of blocks: of statements without one at an `end`, of open ones where a declaration or the end stands."""
+    """What is said of blocks: of one that an `else` lacks, of a second value, of statements without one at an `end`, of open ones where a declaration or the end stands."""
     behind = lexemes[:at]
     if at == len(lexemes):
         items, lead = unclosed(text, behind), "no `end` so far for "
+    elif lexemes[at][:2] == ("word", "else"):
+        is_cut_off = not is_mended and may_stand(lexemes, at, ("word", "end")) and may_stand(lexemes, at, ("sign", ";"))
+        return "`begin` and `end` make one statement of several" if is_cut_off else None
+    elif lexemes[at][:2] == ("sign", ","):
+        is_second_value = not is_mended and may_stand(lexemes, at, ("word", "on"))
+        return "`send` sends one value: `send E on C; send F on C`" if is_second_value else None
     elif lexemes[at][:2] == ("word", "end"):
         items, lead = bare(text, behind), "no `begin` stands behind "
     elif lexemes[at][:2] in (("word", "process"), ("word", "integer"), ("word", "logical")) and not is_mended:
@@ -213,6 +224,7 @@ STARTED = "instances stand without `begin`: `p(A) par q(B)`"
 SENDS = "`on` and a channel stand behind the value: `send E on C`"
 VARIABLES = "variables are declared right behind the first `begin` of a process, channels outside of processes"
 PARAMETERS = "a parameter has its kind: `integer in U` is read, `integer out W` is written, `integer N` is a number"
+COMMAS = "a comma stands between two arguments: `P(A, B)`"
 INSTANCES = "a program ends with its instances: `p(A, B) par q(B, C)`"
 WHEREVER = {
     word: said for words, said in (
@@ -261,6 +273,11 @@ def called(stands):
     if stands("*"):
         return "a body calls nothing: there are no functions, `wait(C)` takes a value, and nothing tells whether one is there"
     return ARGUMENTS if stands(",") and stands(")") else None
+
+
+def handed(stands):
+    """Whether an instance hands something over before the place."""
+    return stands(",") and stands(")") and not stands(";")
 
 
 def joined(lexemes, at, stands):
@@ -345,6 +362,8 @@ def advice(lexemes, at):
     if joined(lexemes, at, stands):
         return joined(lexemes, at, stands)
     lead = before[1] if before[0] in ("word", "sign") else None
+    if lead == ";" and stands("begin") and not stands("send") and (what == "name" or (what, found) in STARTS):
+        return "the body of a process stands between `begin` and `end`"
     if what == "name" and lead != "wait":
         if not at:
             return "a program has no name: it goes from `begin` to `end`"
@@ -353,13 +372,17 @@ def advice(lexemes, at):
         begins = "a statement begins with `send`, `print`, `if`, `while`, `repeat` or `begin`, or is `X := E`; `X := wait(C)` takes a value"
         if stands(":="):
             return begins
-        return PARAMETERS if stands("integer") and not stands("process") and not stands("while") else None
+        if stands("integer") and not stands("process") and not stands("while"):
+            return PARAMETERS
+        return COMMAS if handed(stands) else None
     if what == "number" and lead == "repeat":
         return "`repeat` goes on for ever: `while I < 10 do begin ..; I := I + 1 end` is ten turns"
     if what not in ("word", "sign"):
         found = None
     if behind(lead, found):
         return behind(lead, found)
+    if what == "number":
+        return COMMAS if handed(stands) else "a name begins with a letter" if named_alone(lexemes, at, stands) else None
     if found == "(" and before[0] == "name":
         return called(stands)
     if found == "if" and stands("wait"):
@@ -399,6 +422,8 @@ def advice(lexemes, at):
         return ARGUMENTS
     if (what, found) in OPERATORS and found != "=" and stands(":="):
         return BEGUN
+    if (what, found) in OPERATORS and found != "=" and before[0] == "name" and stands(")") and not stands(","):
+        return "one channel alone stands between these brackets: `wait(C) + 1`"
     return named_alone(lexemes, at, stands) if found in ("and", "div", "mod", "or") else None
 
 

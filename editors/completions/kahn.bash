@@ -6,7 +6,7 @@ _kahn() {
   [[ $word == -* ]] || return 0
   case ${1##*/} in
     kahn) options="--input --workers --quantum --bound --watch --help --version" ;;
-    kahn_live) options="--quantum --step --watch --keep-going --at-end --plain --help --version" ;;
+    kahn_live) options="--quantum --step --watch --keep-going --strict --at-end --plain --help --version" ;;
     kahn_draw) options="--report --help --version" ;;
     kahn_explain) options="--input --report --workers --quantum --bound --strict --trace --help --version" ;;
   esac

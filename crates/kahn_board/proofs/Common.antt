@@ -1,8 +1,9 @@
 -- The names of specs and of the crates below that several proofs cite, passed on from one place.
-pub use Rattle.std.proofs.Common.{All, Bool, IsSome, List, None, Option, Some, [], ap, arith, cond, drop, eq-eqb, eqb, false, get_or, get_or-set_other, get_or-set_same, if◌then◌else◌, inl, inr, is_some, length, length-append, length-set, map, max, ne_eqb, refl, replicate, reverse, rules, set, slice_index, slice_index_or, subst, suc, sym, take, take_all, true, true≢false, zero, ℕ, ⊎_elim, ◌%◌, ◌*◌, ◌++◌, ◌+◌, ◌-◌, ◌/◌, ◌<◌, ◌==◌, ◌^◌, ◌∙◌, ◌∷◌, ◌≡◌, ◌≢◌, ◌≤◌, ◌⊎◌}
+pub use Rattle.std.proofs.Common.{All, Bool, IsSome, List, None, Option, Some, [], ap, arith, cond, drop, eq-eqb, eqb, false, get_or, get_or-set_other, get_or-set_same, inl, inr, is_some, length, length-append, length-set, map, max, ne_eqb, refl, replicate, reverse, rules, set, slice_index, slice_index_or, subst, suc, sym, take, take_all, true, true≢false, zero, ℕ, ⊎_elim, ◌%◌, ◌*◌, ◌++◌, ◌+◌, ◌-◌, ◌/◌, ◌<◌, ◌==◌, ◌^◌, ◌∙◌, ◌∷◌, ◌≡◌, ◌≢◌, ◌≤◌, ◌⊎◌}
 pub use Rattle.std.proofs.lemmas.List.{append_assoc, get_or_append_left, get_or_push, length-map, map-append, reverse-append}
 pub use Rattle.std.proofs.lemmas.Option.{none-some, same_Some}
 pub use Rattle.std.specs.Slots.{slots_filled, slots_items, slots_len}
+pub use Rattle.std.specs.List.{list_any, position}
 pub use Rattle.std.specs.Vec.{vec_capacity}
 pub use lib.ListN.{get_elem?, get_or-eq_default}
 pub use lib.Seq.{set-get_or}
@@ -16,17 +17,17 @@ pub use Rattle.atomic_table.specs.Table.{Act, Allows, Joins, Splits, Valid, carr
 pub use Rattle.kahn_streams.specs.Network.{Actual, Hands, Instance, Network, Reads, Writes, channels_of, idle, is_written, network_of}
 pub use Rattle.kahn_streams.specs.declared.sides.Side.{Side}
 pub use Rattle.kahn_streams.specs.declared.tree.Program.{Program}
-pub use Rattle.kahn_board.specs.Calls.{Claims, IsFirstSlot, IsSameSeat, KeepsAll, Leaves, Looks, MayLeave, OwesFew, Unowed, Was, downs_of, AreCut, HoldsNothing, IsFree, cut_part, joined_view, kept_part}
+pub use Rattle.kahn_board.specs.Calls.{Claims, IsFirstSlot, IsSameSeat, KeepsAll, Leaves, Looks, MayLeave, OwesFew, Unowed, Was, downs_of, AreCut, HoldsNothing, IsFree, split_off, after_joining, after_splitting}
 pub use Rattle.kahn_board.specs.Place.{Apart, Owed, Owes, below, is_up, Place, held, held_by, mark_of, moved, only, over, parked, parked_on, ready, total, word_code}
 pub use Rattle.kahn_board.specs.Dealt.{belongs, dealt, events_told, holds, wired}
-pub use Rattle.kahn_board.specs.Plays.{becomes, Carries, Facts, ListsHands, GaveUp, Got, IsIn, Sat, SeesMore, TheFirst, at_moment, burden, claimed, drew, first_of, flushed_view, gave, halting, leaves_as, noted_view, paid_down, paid_up, parked_or_not, publishes, saw, sees_budget, sees_count, sees_halted, set_down, took, undrawn, used, waking, with_draw}
+pub use Rattle.kahn_board.specs.Plays.{becomes, Carries, Facts, ListsHands, GaveUp, Got, IsIn, Sat, SeesMore, TheFirst, at_moment, burden, claimed, drew, first_of, with_published, after_giving_up, after_halting, stage_after_looking, after_step, after_counting_down, after_counting_up, parked_or_not, publishes, after_looking, sees_budget, sees_count, sees_halted, set_down, after_taking, after_giving_back, after_reporting, after_waking, after_drawing}
 pub use Rattle.kahn_board.specs.Rule.{AllLeft, Deal, HasSlot, HomeIs, IsHalter, IsHome, PlaceIs, Quiet, Ruled, SeatIs, St, Whole, WordWas, all_parts, blank, budget, count, halted, opening_view, published, spent}
-pub use Rattle.kahn_board.specs.Tale.{Accounts, FlushedAll, Tale, TellsEnd, TellsEvents, TellsWait, events_past, second_of}
-pub use Rattle.kahn_board.specs.Wires.{Wires, any_is, first_with, is_read}
+pub use Rattle.kahn_board.specs.Summary.{Accounts, FlushedAll, Summary, TellsEnd, TellsEvents, TellsWait, events_past, second_of}
+pub use Rattle.kahn_board.specs.Wires.{Wires, is_read}
 unfoldable pub use Rattle.kahn_board.specs.Wires.{wires}
 pub use Rattle.kahn_board.specs.declared.board.Board.{Board}
 pub use Rattle.kahn_board.specs.declared.board.Seat.{Seat}
 pub use Rattle.kahn_board.specs.declared.rule.Terms.{Terms}
 pub use Rattle.kahn_board.specs.declared.view.View.{View}
-pub use Rattle.kahn_board.specs.inner.Turn.{AreLost, Fits, HasPublished, InTurn, IsBetween, IsBetweenTurns, IsSeatOf, Knows, Rests, RestsWith}
+pub use Rattle.kahn_board.specs.inner.Turn.{AreLost, Fits, HasPublished, InTurn, IsBetween, IsBetweenTurns, IsSeatOf, Rests, RestsWith}
 pub use Rattle.kahn_board.specs.inner.First.{AreFirstWords}

@@ -1,5 +1,5 @@
 -- What the rule says once all seats are one.
-use Rattle.kahn_board.proofs.Common.{length-map, map, ◌≡◌, ◌≢◌, ℕ, zero, suc, ◌+◌, ◌*◌, ◌<◌, ◌⊎◌, inl, inr, ⊎_elim, List, [], ◌∷◌, length, get_or, sym, refl, ap, ◌∙◌, subst, arith, true, Option, Some, dite, ℕ_discrete, some, some-injective, some-ne-none, get_elem?, Tale, second_of, Wires, is_up, below, Place, ready, held, parked, over, total, St, Deal, spent, all_parts, published, budget, halted, IsHome, Whole, AllLeft, IsFree, View, same_Some}
+use Rattle.kahn_board.proofs.Common.{length-map, map, ◌≡◌, ◌≢◌, ℕ, zero, suc, ◌+◌, ◌*◌, ◌<◌, ◌⊎◌, inl, inr, ⊎_elim, List, [], ◌∷◌, length, get_or, sym, refl, ap, ◌∙◌, subst, arith, true, Option, Some, dite, ℕ_discrete, some, some-injective, some-ne-none, get_elem?, Summary, second_of, Wires, is_up, below, Place, ready, held, parked, over, total, St, Deal, spent, all_parts, published, budget, halted, IsHome, Whole, AllLeft, IsFree, View, same_Some}
 use Rattle.kahn_board.specs.Opening.{IsCell, IsQuietCell, Closes}
 use Rattle.kahn_board.specs.declared.closing.Closed.{Closed}
 use Rattle.kahn_board.proofs.Sums.{terms_le, all_none}
@@ -12,7 +12,7 @@ one_term f [] id v e h = absurd (some-ne-none v (sym e))
 one_term f (x ∷ xs) zero v e h = let rest_zero : total f xs ≡ 0 = all_none f xs (λ j u k. h (suc j) u (λ z. omega arith) k) in omega (arith, rest_zero, ap f (some-injective x v e))
 one_term f (x ∷ xs) (suc id) v e h = omega (arith, h 0 x (λ z. omega arith) refl, one_term f xs id v e (λ j u ne k. h (suc j) u (λ z. ne (omega arith)) k))
 
-module _ {T : Type 0} (told : T → Option Tale) (belongs : ℕ → T → Type 0) (w : Wires) (d : Deal) where
+module _ {T : Type 0} (told : T → Option Summary) (belongs : ℕ → T → Type 0) (w : Wires) (d : Deal) where
   module _ (s : St T) (a : Whole told belongs w d s) (id : ℕ) (v : View) (me : get_elem? s.views id ≡ some v) (all : v.parts ≡ all_parts) (free : IsFree v) where
     others_spent : (j : ℕ) (u : View) → j ≢ id → get_elem? s.views j ≡ some u → u ≡ spent
     others_spent j u ne e = (a.ruled.seats j u e).spends (omega (arith, terms_le (λ (k : View). k.parts) s.views id j v u ne me e, a.ruled.parts))
@@ -23,8 +23,8 @@ module _ {T : Type 0} (told : T → Option Tale) (belongs : ℕ → T → Type 0
     pub budget_left : budget w s.words + v.done ≡ d.bound
     budget_left = omega (arith, a.ruled.budgeted, sum_is (λ u. u.drawn) refl, sum_is (λ u. u.done) refl, free.1)
 
-    pub events_left : d.events + v.done ≡ below a.tally w.instances + v.loose
-    events_left = omega (arith, a.ruled.tallied, sum_is (λ u. u.done) refl, sum_is (λ u. u.loose) refl)
+    pub events_left : d.events + v.done ≡ below a.tally w.instances + v.untold
+    events_left = omega (arith, a.ruled.tallied, sum_is (λ u. u.done) refl, sum_is (λ u. u.untold) refl)
 
     pub all_left : v.stage ≡ 1 → AllLeft s
     all_left one = (
@@ -77,7 +77,7 @@ unmapped [] p y e = absurd (some-ne-none (Some y) (sym e))
 unmapped (x ∷ ys) zero y e = ap some (same_Some x y (some-injective (Some x) (Some y) e))
 unmapped (x ∷ ys) (suc p) y e = unmapped ys p y e
 
-module _ {T : Type 0} (told : T → Option Tale) (belongs : ℕ → T → Type 0) (w : Wires) (d : Deal) where
+module _ {T : Type 0} (told : T → Option Summary) (belongs : ℕ → T → Type 0) (w : Wires) (d : Deal) where
   pub closes : (s : St T) (a : Whole told belongs w d s) (id : ℕ) (v : View) → get_elem? s.views id ≡ some v → v.parts ≡ all_parts → IsFree v → (ws : List ℕ) (xs : List (Option T)) (r : Closed T) → s.words ≡ ws → length s.homes ≡ length xs
       → ((k : ℕ) (y : Option T) → get_elem? s.homes k ≡ some (some y) → get_elem? xs k ≡ some y) → map Some r.cells.items ≡ xs → (i j h : ℕ) → i ≡ 8 * (w.instances + w.channels) → j ≡ 8 * (w.instances + w.channels) + 16 → get_elem? ws i ≡ some r.budget → get_elem? ws j ≡ some h
       → (h ≢ 0 → r.halted ≡ true) → (r.halted ≡ true → h ≢ 0) → Closes told belongs w d r v

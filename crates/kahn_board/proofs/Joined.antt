@@ -1,5 +1,5 @@
 -- Seats that are made one, and one that is made several.
-use Rattle.kahn_board.proofs.Common.{◌≡◌, ◌+◌, ◌≤◌, ◌<◌, List, [], ◌∷◌, ◌++◌, length, All, sym, refl, ap, ◌∙◌, arith, subst, get_or_append_left, get_or_push, TableId, AreCut, joined_view, Sat, Seat, Rests}
+use Rattle.kahn_board.proofs.Common.{◌≡◌, ◌+◌, ◌≤◌, ◌<◌, List, [], ◌∷◌, ◌++◌, length, All, sym, refl, ap, ◌∙◌, arith, subst, get_or_append_left, get_or_push, TableId, AreCut, after_joining, Sat, Seat, Rests}
 use Rattle.std.proofs.lemmas.List.Sums.{sum_by_push}
 use Rattle.std.proofs.lemmas.List.{length-append}
 use Rattle.std.proofs.lemmas.List.Elements.{All-push}
@@ -13,8 +13,8 @@ all_but_last P xs x all = (
 )
 
 module _ {T : Type 0} where
-  abbrev pub IsDone : Seat T → Type 0
-  IsDone s = s.seat.me.0.stage ≤ 1
+  abbrev pub IsUnbusy : Seat T → Type 0
+  IsUnbusy s = s.seat.me.0.stage ≤ 1
 
   -- of a first seat and others: the seat `now` was made of the first and of all others that aren't left
   pub record Joining (z : TableId) (first : Seat T) (others : List (Seat T)) (now : Seat T) (left : List (Seat T)) : Type 0 where
@@ -23,17 +23,17 @@ module _ {T : Type 0} where
     pub parts : now.seat.me.0.parts + parts_of left ≡ first.seat.me.0.parts + parts_of others
     pub done : now.seat.me.0.done + done_of left ≡ first.seat.me.0.done + done_of others
     pub raised : now.seat.me.0.raised + raised_of left ≡ first.seat.me.0.raised + raised_of others
-    pub stage : All IsDone others → first.seat.me.0.stage ≡ 1 → All IsDone left × (now.seat.me.0.stage ≡ 1)
+    pub stage : All IsUnbusy others → first.seat.me.0.stage ≡ 1 → All IsUnbusy left × (now.seat.me.0.stage ≡ 1)
 
   pub join_one : (z : TableId) (first : Seat T) (others : List (Seat T)) (now : Seat T) (left : List (Seat T)) (next other : Seat T) (rest : List (Seat T))
-      → Joining z first others now left → left ≡ rest ++ other ∷ [] → next.seat.table_id ≡ now.seat.table_id → next.seat.me ≡ (joined_view now.seat.me.0 other.seat.me.0, now.seat.me.1) → Joining z first others next rest
+      → Joining z first others now left → left ≡ rest ++ other ∷ [] → next.seat.table_id ≡ now.seat.table_id → next.seat.me ≡ (after_joining now.seat.me.0 other.seat.me.0, now.seat.me.1) → Joining z first others next rest
   join_one z first others now left next other rest j split same is = let t = all_but_last (SitsAt z) rest other (subst (All (SitsAt z)) split j.each) in let v = now.seat.me.0 in let u = other.seat.me.0 in record {
     sits = (same ∙ j.sits.0, subst (λ (m : Sat T). Rests m.0) (sym is) (j.sits.1.0, omega (arith, j.sits.1.1, t.1.1.1)));
     each = t.0;
     parts = omega (arith, j.parts, ap (λ (m : Sat T). m.0.parts) is, ap parts_of split, sum_by_push (λ (s : Seat T). s.seat.me.0.parts) rest other);
     done = omega (arith, j.done, ap (λ (m : Sat T). m.0.done) is, ap done_of split, sum_by_push (λ (s : Seat T). s.seat.me.0.done) rest other);
     raised = omega (arith, j.raised, ap (λ (m : Sat T). m.0.raised) is, ap raised_of split, sum_by_push (λ (s : Seat T). s.seat.me.0.raised) rest other);
-    stage = λ all one. let k = j.stage all one in let s = all_but_last IsDone rest other (subst (All IsDone) split k.0) in (s.0, omega (arith, ap (λ (m : Sat T). m.0.stage) is, k.1, s.1));
+    stage = λ all one. let k = j.stage all one in let s = all_but_last IsUnbusy rest other (subst (All IsUnbusy) split k.0) in (s.0, omega (arith, ap (λ (m : Sat T). m.0.stage) is, k.1, s.1));
   }
 
   -- of one seat with all parts: so many were cut off it, and it is what is left

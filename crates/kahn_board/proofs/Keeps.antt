@@ -1,5 +1,5 @@
 -- Each step keeps the rule.
-use Rattle.kahn_board.proofs.Common.{◌≡◌, ℕ, ◌+◌, ◌*◌, ◌%◌, ◌<◌, ◌≤◌, ◌≢◌, ◌⊎◌, inl, inr, ⊎_elim, List, length, get_or, set, sym, ap, ◌∙◌, subst, arith, Option, Some, None, length-set, dite, ℕ_discrete, some, none, some-injective, some-ne-none, get_elem?, at_set, set_here, set_else, Tale, TellsWait, TellsEvents, Wires, is_up, below, Place, held, parked, word_code, held_by, mark_of, total, St, Deal, published, budget, count, halted, IsHome, HasSlot, PlaceIs, HomeIs, SeatIs, Ruled, Whole, IsHalter, WordWas, View}
+use Rattle.kahn_board.proofs.Common.{◌≡◌, ℕ, ◌+◌, ◌*◌, ◌%◌, ◌<◌, ◌≤◌, ◌≢◌, ◌⊎◌, inl, inr, ⊎_elim, List, length, get_or, set, sym, ap, ◌∙◌, subst, arith, Option, Some, None, length-set, dite, ℕ_discrete, some, none, some-injective, some-ne-none, get_elem?, at_set, set_here, set_else, Summary, TellsWait, TellsEvents, Wires, is_up, below, Place, held, parked, word_code, held_by, mark_of, total, St, Deal, published, budget, count, halted, IsHome, HasSlot, PlaceIs, HomeIs, SeatIs, Ruled, Whole, IsHalter, WordWas, View}
 use Rattle.kahn_board.proofs.Moved.{is_held, held_apart}
 use Rattle.kahn_board.proofs.Sums.{total-set, there, all_none}
 use Rattle.kahn_board.proofs.Quiet.{whole}
@@ -39,7 +39,7 @@ module _ {T : Type 0} where
   not_home : (s : St T) (q j : ℕ) (y : T) (x : Place) → HasSlot x (get_elem? s.homes q) → x ≡ held j → IsHome s q y → ⊥
   not_home s q j y x stands is home = some-ne-none (Some y) (some-injective (some (Some y)) none (sym home ∙ subst (λ (k : Place). HasSlot k (get_elem? s.homes q)) is stands))
 
-module _ {T : Type 0} (told : T → Option Tale) (belongs : ℕ → T → Type 0) (w : Wires) (d : Deal) (s : St T) (place place' : ℕ → Place) (tally tally' : ℕ → ℕ) (r : Ruled told belongs w d place tally s) (id p : ℕ) (v v' : View) (ws : List ℕ) (hs : List (maybe.Option (Option T))) where
+module _ {T : Type 0} (told : T → Option Summary) (belongs : ℕ → T → Type 0) (w : Wires) (d : Deal) (s : St T) (place place' : ℕ → Place) (tally tally' : ℕ → ℕ) (r : Ruled told belongs w d place tally s) (id p : ℕ) (v v' : View) (ws : List ℕ) (hs : List (maybe.Option (Option T))) where
   abbrev pub now : St T
   now = after s id v' ws hs
 
@@ -57,7 +57,7 @@ module _ {T : Type 0} (told : T → Option Tale) (belongs : ℕ → T → Type 0
     pub same : (c : ℕ) → c < w.channels → Stays w place s ws id p c
     pub parts : v'.parts ≡ v.parts
     pub drawing : budget w ws + v'.drawn + v'.done ≡ budget w s.words + v.drawn + v.done
-    pub tallying : below tally' w.instances + v'.loose + v.done ≡ below tally w.instances + v.loose + v'.done
+    pub tallying : below tally' w.instances + v'.untold + v.done ≡ below tally w.instances + v.untold + v'.done
     pub counting : count w ws + length v'.owed + below (λ q. is_up (place q)) w.instances + v.down ≡ count w s.words + length v.owed + below (λ q. is_up (place' q)) w.instances + v'.down
     pub still_quiet : count w s.words ≡ 0 → count w ws ≡ 0
     pub still_halted : halted w s.words ≢ 0 → halted w ws ≢ 0
@@ -93,7 +93,7 @@ module _ {T : Type 0} (told : T → Option Tale) (belongs : ℕ → T → Type 0
           inside = o.inside;
           known = λ q c h one near writes. ⊎_elim (λ e. o.known q c h one near writes ∙ sym e)
               (λ f. absurd (t.0 (held_apart j id (sym (is_held j (place q) (sym (o.hands q h) ∙ one)) ∙ (f.1 q h (else_where q h one)).1 writes)))) (m.same c near);
-          got = λ q h one. o.got q h one ∙ sym (m.elsewhere q h (else_where q h one)).2;
+          events_when_got = λ q h one. o.events_when_got q h one ∙ sym (m.elsewhere q h (else_where q h one)).2;
           pairs = o.pairs;
           few = o.few;
           saw_quiet = λ k. m.still_quiet (o.saw_quiet k);
@@ -117,7 +117,7 @@ module _ {T : Type 0} (told : T → Option Tale) (belongs : ℕ → T → Type 0
       parts = omega (arith, r.parts, m.parts, sums (λ u. u.parts));
       small = r.small;
       budgeted = omega (arith, r.budgeted, m.drawing, sums (λ u. u.drawn), sums (λ u. u.done));
-      tallied = omega (arith, r.tallied, m.tallying, sums (λ u. u.loose), sums (λ u. u.done));
+      tallied = omega (arith, r.tallied, m.tallying, sums (λ u. u.untold), sums (λ u. u.done));
       counted = omega (arith, r.counted, m.counting, sums (λ u. length u.owed), sums (λ u. u.down));
       halter = λ ne. ⊎_elim (λ was. halter_set s.views id v v' m.mine m.knows m.raises (r.halter was)) (λ two. (id, v', here s.views id v v' m.mine, two.0, two.1)) (m.halter ne);
       left = λ a. ⊎_elim (λ h. inl h) (λ t. ⊎_elim (λ h. inr (inl h)) (λ h. inr (inr (h, all_none (λ u. u.drawn) now.views (λ j u e. (seats_kept j u e).idle (a.0 j u e))))) t) (m.leaves (a.0 id v' (here s.views id v v' m.mine)));

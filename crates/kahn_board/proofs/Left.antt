@@ -1,5 +1,5 @@
 -- A seat that looks, and leaves.
-use Rattle.kahn_board.proofs.Common.{◌≡◌, ◌≢◌, ℕ, suc, cond, List, [], ◌∷◌, Option, length, get_or, ap, sym, refl, ◌∙◌, arith, eq-eqb, subst, Tale, Terms, total, burden, leaves_as, Looks, View, Seat, Rests, IsBetweenTurns, IsSeatOf}
+use Rattle.kahn_board.proofs.Common.{◌≡◌, ◌≢◌, ℕ, suc, cond, List, [], ◌∷◌, Option, length, get_or, ap, sym, refl, ◌∙◌, arith, eq-eqb, subst, Summary, Terms, total, burden, stage_after_looking, Looks, View, Seat, Rests, IsBetweenTurns, IsSeatOf}
 use Rattle.kahn_board.specs.declared.board.Look.{Look}
 use Rattle.kahn_board.specs.declared.board.Look.TheVariants.{Halted, Quiet, NoBudget, Go}
 
@@ -8,11 +8,11 @@ none_total [] h = refl
 none_total (x ∷ xs) h = omega (arith, h 0, none_total xs (λ p. h (suc p)))
 
 -- a seat that rests leaves
-pub leaves_done : (v : View) → Rests v → leaves_as v ≡ 1
+pub leaves_done : (v : View) → Rests v → stage_after_looking v ≡ 1
 leaves_done v r = let none : burden v ≡ 0 = omega (arith, none_total v.hands r.0.0, r.0.1, ap length r.0.2, r.0.3) in
     ap (λ b. cond b 1 2) (eq-eqb (burden v) 0 none)
 
-module _ {T : Type 0} (told : T → Option Tale) (after : T → T → Type 0) (key : Terms T) where
+module _ {T : Type 0} (told : T → Option Summary) (after : T → T → Type 0) (key : Terms T) where
   -- it has left
   abbrev pub Left : Seat T → Seat T → Type 0
   Left s t = IsSeatOf s t × IsBetweenTurns t × (t.seat.me.0.stage ≡ 1)

@@ -1,5 +1,5 @@
 -- The rule holds of a new board.
-use Rattle.kahn_board.proofs.Common.{◌≡◌, ℕ, zero, suc, ◌+◌, ◌*◌, ◌%◌, subst, List, [], ◌∷◌, map, drop, length, get_or, sym, refl, ap, ◌∙◌, arith, Option, Some, None, some, some-injective, some-ne-none, get_elem?, length-map, opening, at_map, Tale, TellsEvents, events_past, Wires, ready, mark_of, St, all_parts, opening_view, published, SeatIs, Whole, events_told, below, AreFirstWords, View, same_Some}
+use Rattle.kahn_board.proofs.Common.{◌≡◌, ℕ, zero, suc, ◌+◌, ◌*◌, ◌%◌, subst, List, [], ◌∷◌, map, drop, length, get_or, sym, refl, ap, ◌∙◌, arith, Option, Some, None, some, some-injective, some-ne-none, get_elem?, length-map, opening, at_map, Summary, TellsEvents, events_past, Wires, ready, mark_of, St, all_parts, opening_view, published, SeatIs, Whole, events_told, below, AreFirstWords, View, same_Some}
 use Rattle.kahn_board.proofs.Changes.{tells_past}
 use Rattle.kahn_board.specs.Opening.{Opens}
 use Rattle.kahn_board.proofs.Moved.{is_ready}
@@ -36,7 +36,7 @@ module _ {T : Type 0} where
   of_home (x ∷ xs) zero y e = let same = same_Some x y (some-injective (Some x) (Some y) (some-injective (some (Some x)) (some (Some y)) e)) in ap some same
   of_home (x ∷ xs) (suc i) y e = of_home xs i y e
 
-module _ {T : Type 0} (told : T → Option Tale) where
+module _ {T : Type 0} (told : T → Option Summary) where
   -- what the cell of the instance p tells
   abbrev pub tally_of : List T → ℕ → ℕ
   tally_of [] p = 0
@@ -60,7 +60,7 @@ module _ {T : Type 0} (after : T → T → Type 0) where
   itself : (cells : List T) (p : ℕ) (y : T) → get_elem? cells p ≡ some y → after y y → given cells p y
   itself cells p y e same x f = subst (λ (u : T). after u y) (some-injective y x (sym e ∙ f)) same
 
-module _ {T : Type 0} (told : T → Option Tale) (after : T → T → Type 0) (w : Wires) where
+module _ {T : Type 0} (told : T → Option Summary) (after : T → T → Type 0) (w : Wires) where
   abbrev start : List ℕ → List T → St T
   start words cells = opening words (map Some cells) (opening_view w)
 

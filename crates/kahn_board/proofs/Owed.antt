@@ -1,5 +1,5 @@
 -- The steps that give an instance up, as a seat's call owes them.
-use Rattle.kahn_board.proofs.Common.{◌≡◌, ℕ, ◌+◌, ◌*◌, ◌^◌, ◌<◌, eqb, ◌∷◌, arith, sym, refl, ap, ◌∙◌, subst, Option, Some, none, either, rest, step, Allows, Tale, TellsWait, TellsEnd, Wires, Deal, Whole, ready, over, word_code, Sat, IsIn, set_down, parked_or_not, first_of, publishes, IsFirstSlot, IsSameSeat, KeepsAll, Leaves, MayLeave, OwesFew, wired, Board, Seat}
+use Rattle.kahn_board.proofs.Common.{◌≡◌, ℕ, ◌+◌, ◌*◌, ◌^◌, ◌<◌, eqb, ◌∷◌, arith, sym, refl, ap, ◌∙◌, subst, Option, Some, none, either, rest, step, Allows, Summary, TellsWait, TellsEnd, Wires, Deal, Whole, ready, over, word_code, Sat, IsIn, set_down, parked_or_not, first_of, publishes, IsFirstSlot, IsSameSeat, KeepsAll, Leaves, MayLeave, OwesFew, wired, Board, Seat}
 use Rattle.kahn_board.proofs.Steps.{sets_down, parks, publishing}
 use Rattle.kahn_board.proofs.Seconds.{Fit}
 use Rattle.kahn_board.specs.Dealt.{belongs as belong}
@@ -8,7 +8,7 @@ use Rattle.kahn_board.proofs.Placed.{placed}
 use Rattle.kahn_board.proofs.Seats.{at_front}
 use mathlib.Core.Option as maybe
 
-module _ {T : Type 0} (told : T → Option Tale) (belongs : ℕ → T → Type 0) (w : Wires) where
+module _ {T : Type 0} (told : T → Option Summary) (belongs : ℕ → T → Type 0) (w : Wires) where
   -- a seat of this board, with the cell y of the instance p first
   pub record Up (m : Sat T) (p : ℕ) (y : T) : Type 0 where
     pub fit : Fit w m
@@ -21,7 +21,7 @@ module _ {T : Type 0} (told : T → Option Tale) (belongs : ℕ → T → Type 0
   refit : (m : Sat T) (p : ℕ) (y : T) → Up m p y → Fit w (m.0, (p, Some y) ∷ rest m.1)
   refit m p y u = subst (Fit w) u.is u.fit
 
-module _ {T : Type 0} (told : T → Option Tale) (belongs : ℕ → T → Type 0) (w : Wires) (d : Deal) where
+module _ {T : Type 0} (told : T → Option Summary) (belongs : ℕ → T → Type 0) (w : Wires) (d : Deal) where
   pub readies : (n id : ℕ) (m : Sat T) (p p' : ℕ) (y : T) (new : ℕ) → Up told belongs w m p y → p' ≡ p → new ≡ 0 → Allows (Whole told belongs w d) n id m (8 * p) (λ _. new) (λ _. set_down told w p' (step n (8 * p) new 0 none) m new)
   readies n id m p p' y new u same is = subst (λ (k : Sat T × ℕ). Allows (Whole told belongs w d) n id k.0 (8 * p) (λ _. new) (λ _. set_down told w k.1 (step n (8 * p) new 0 none) k.0 new)) (λ i. (sym u.is i, sym same i))
       (sets_down told belongs w d n id m.0 (rest m.1) p y ready new (refit told belongs w m p y u) u.inside u.is_in is (λ j. refl) (λ c. refl) (y, refl) (λ e. absurd (omega (arith, ap word_code e))) (omega arith) u.leaves u.few)
@@ -41,7 +41,7 @@ module _ {T : Type 0} (told : T → Option Tale) (belongs : ℕ → T → Type 0
       (publishing told belongs w d n id m c i q count new f at near writes writer_in is_in reader_in news)
 
 -- a seat that may leave the instance p, once the slot of p comes first
-module _ {T : Type 0} (told : T → Option Tale) (after : T → T → Type 0) (b : Board T) where
+module _ {T : Type 0} (told : T → Option Summary) (after : T → T → Type 0) (b : Board T) where
   pub brought : (s t : Seat T) (p : ℕ) (so : T → Type 0) → s.seat.table_id ≡ b.table.shared.table_id → (h : MayLeave told after b.table.shared.key s p so) → OwesFew s.seat.me.0
       → IsSameSeat s t × (t.seat.me.0 ≡ s.seat.me.0) → IsFirstSlot t p → KeepsAll s t → Up told (belong after b.table.shared.key) (wired b.table.shared.key) t.seat.me p h.1.0
   brought s t p so at h few same first keeps = let fits = placed b t (same.0.0 ∙ at) in let is_in = subst (λ v. IsIn v p) (sym same.1) h.0 in record {

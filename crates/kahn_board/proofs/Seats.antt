@@ -1,9 +1,9 @@
 -- What a seat's own facts give to its steps, and how each step keeps them.
-use Rattle.kahn_board.proofs.Common.{◌≡◌, ℕ, zero, suc, replicate, ◌+◌, ◌*◌, ◌<◌, ◌≤◌, List, [], ◌∷◌, ◌++◌, ◌≢◌, inl, inr, map, drop, length, get_or, length-set, arith, sym, refl, ap, ◌∙◌, subst, Option, Some, TableId, rest, Tale, Wires, ListsHands, Facts, Carries, total, only, Sat, noted_view, took, gave, waking, Got, GaveUp, HoldsNothing}
+use Rattle.kahn_board.proofs.Common.{◌≡◌, ℕ, zero, suc, replicate, ◌+◌, ◌*◌, ◌<◌, ◌≤◌, List, [], ◌∷◌, ◌++◌, ◌≢◌, inl, inr, map, drop, length, get_or, length-set, arith, sym, refl, ap, ◌∙◌, subst, Option, Some, TableId, rest, Summary, Wires, ListsHands, Facts, Carries, total, only, Sat, after_step, after_taking, after_waking, Got, HoldsNothing}
 use Rattle.atomic_table.specs.Table.{turned as shifted}
 use Rattle.kahn_board.proofs.Moved.{only_yes}
 use Rattle.kahn_board.proofs.Seconds.{Fit}
-use Rattle.kahn_board.proofs.Counting.{inside_of, has_room, took_one, put_once, gave_one, turned_one}
+use Rattle.kahn_board.proofs.Counting.{has_room, took_one, put_once, turned_one}
 
 lists_turned : (items hands : List ℕ) → 0 < length items → ListsHands items hands → ListsHands (drop 1 items ++ get_or items 0 0 ∷ []) hands
 lists_turned [] hands h l = absurd (omega arith)
@@ -83,39 +83,20 @@ module _ {T : Type 0} where
   fit w m z z' items room n k f same sized wired = let a = ap (λ (k : TableId). k.words) same in let b = ap (λ (k : TableId). k.slots) same in
       record { alive = f.0; hands_long = f.1 ∙ (b ∙ (sized.1 ∙ sym wired.0)); flushed_long = omega (arith, f.2, sized.0, sized.1, wired.1); got_long = f.7 ∙ (b ∙ (sized.1 ∙ sym wired.0)) }
 
-  pub facts_noted : (m m' : Sat T) (z z' : TableId) (items : List ℕ) (room : ℕ) → Facts m z items room → z' ≡ z → m' ≡ (noted_view m.0, m.1) → Facts m' z' items room
+  pub facts_noted : (m m' : Sat T) (z z' : TableId) (items : List ℕ) (room : ℕ) → Facts m z items room → z' ≡ z → m' ≡ (after_step m.0, m.1) → Facts m' z' items room
   facts_noted m m' z z' items room f same is = subst (λ (k : TableId × Sat T). Facts k.1 k.0 items room) (λ i. (sym same i, sym is i)) f
 
   -- a seat that woke a reader
-  pub facts_waking : (m : Sat T) (z : TableId) (items : List ℕ) (room c count p q : ℕ) → Facts m z items room → Facts (waking m.0 c count p q, m.1) z items room
+  pub facts_waking : (m : Sat T) (z : TableId) (items : List ℕ) (room c count p q : ℕ) → Facts m z items room → Facts (after_waking m.0 c count p q, m.1) z items room
   facts_waking m z items room c count p q f = (f.0, f.1, ap (λ (k : ℕ). 8 * (z.slots + k) + 24) (length-set m.0.flushed c count) ∙ f.2, f.3, f.4, f.5, f.6, f.7)
 
   pub room_for : (m : Sat T) (z : TableId) (items : List ℕ) (room p : ℕ) → Facts m z items room → get_or m.0.hands p 0 ≡ 0 → p < z.slots → length items < room
   room_for m z items room p f free inside = omega (arith, has_room items m.0.hands p f.4 f.5 (omega (arith, f.1)) free, f.1, f.6)
 
-module _ {T : Type 0} (told : T → Option Tale) (w : Wires) where
-  -- the slot that comes first is given back
-  pub facts_gave : (m m' : Sat T) (z z' : TableId) (items items' : List ℕ) (room room' p more : ℕ) (x : Option T) (y : T) → Facts m z items room → z' ≡ z → m.1 ≡ (p, x) ∷ rest m.1 → GaveUp told w m p more m' y → items' ≡ drop 1 items → room' ≡ room → Facts m' z' items' room'
-  facts_gave m m' z z' items items' room room' p more x y f same first given is_items same_room =
-      let listed : items ≡ p ∷ numbers (rest m.1) = sym f.3 ∙ ap (λ (c : Slots T). numbers c) first in
-      let mine : ListsHands (p ∷ numbers (rest m.1)) m.0.hands = subst (λ (l : List ℕ). ListsHands l m.0.hands) listed f.4 in
-      let inside : p < length m.0.hands = inside_of m.0.hands p (omega (arith, mine p, only_yes p)) in
-      let now : Facts (gave m.0 p (told y) more, rest m.1) z (numbers (rest m.1)) room = (
-        f.0,
-        length-set m.0.hands p 0 ∙ f.1,
-        f.2,
-        refl,
-        gave_one (numbers (rest m.1)) m.0.hands p mine f.5,
-        put_once m.0.hands p 0 inside (omega arith) f.5,
-        f.6,
-        f.7,
-      ) in
-      subst (λ (k : TableId × Sat T × List ℕ × ℕ). Facts k.1 k.0 k.2 k.3) (λ i. (sym same i, sym given i, sym (is_items ∙ ap (drop 1) listed) i, sym same_room i)) now
-
-module _ {T : Type 0} (told : T → Option Tale) (belongs : ℕ → T → Type 0) (w : Wires) where
+module _ {T : Type 0} (told : T → Option Summary) (belongs : ℕ → T → Type 0) (w : Wires) where
   pub facts_took : (m m' : Sat T) (z z' : TableId) (items items' : List ℕ) (room room' p : ℕ) (y : T) → Facts m z items room → z' ≡ z → Got told belongs w m p m' y → items' ≡ p ∷ items → room' ≡ room → p < z.slots → Facts m' z' items' room'
   facts_took m m' z z' items items' room room' p y f same got is same_room inside =
-      let v = took m.0 p got.0 got.1 got.2 in
+      let v = after_taking m.0 p got.0 got.1 got.2 in
       let now : Facts (v, (p, Some y) ∷ m.1) z (p ∷ items) room = (
         f.0,
         length-set m.0.hands p 1 ∙ f.1,
@@ -124,7 +105,7 @@ module _ {T : Type 0} (told : T → Option Tale) (belongs : ℕ → T → Type 0
         took_one items m.0.hands p f.4 (omega (arith, f.1)) got.4,
         put_once m.0.hands p 1 (omega (arith, f.1)) (omega arith) f.5,
         f.6,
-        length-set m.0.got p got.1 ∙ f.7,
+        length-set m.0.events_when_got p got.1 ∙ f.7,
       ) in
       subst (λ (k : TableId × Sat T × List ℕ × ℕ). Facts k.1 k.0 k.2 k.3) (λ i. (sym same i, sym got.3 i, sym is i, sym same_room i)) now
 

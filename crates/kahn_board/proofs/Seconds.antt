@@ -1,5 +1,5 @@
 -- The steps that move no instance, that take one, and that give one up.
-use Rattle.kahn_board.proofs.Common.{◌≡◌, ℕ, zero, suc, ◌+◌, ◌*◌, ◌/◌, ◌%◌, ◌^◌, ◌<◌, ◌≤◌, ◌≢◌, ◌⊎◌, inl, ⊎_elim, List, [], ◌∷◌, length, get_or, set, sym, refl, ap, ◌∙◌, subst, arith, Option, Some, length-set, get_or-set_same, get_or-set_other, some, none, some-injective, some-ne-none, get_elem?, keeps, takes, gives, stepped, set_here, set_else, same_Some, Tale, TellsWait, TellsEnd, TellsEvents, events_past, Wires, Owed, Owes, is_up, Leaves, Place, held, parked, over, word_code, held_by, parked_on, mark_of, moved, Sat, IsIn, SeesMore, noted_view, took, gave, St, Deal, published, budget, count, halted, HasSlot, IsHome, HomeIs, Ruled, Whole, View}
+use Rattle.kahn_board.proofs.Common.{◌≡◌, ℕ, zero, suc, ◌+◌, ◌*◌, ◌/◌, ◌%◌, ◌^◌, ◌<◌, ◌≤◌, ◌≢◌, ◌⊎◌, inl, ⊎_elim, List, [], ◌∷◌, length, get_or, set, sym, refl, ap, ◌∙◌, subst, arith, Option, Some, length-set, get_or-set_same, get_or-set_other, some, none, some-injective, some-ne-none, get_elem?, takes, gives, stepped, set_here, set_else, same_Some, Summary, TellsWait, TellsEnd, TellsEvents, events_past, Wires, Owed, Owes, is_up, Leaves, Place, held, parked, over, word_code, held_by, parked_on, mark_of, moved, Sat, IsIn, SeesMore, after_step, after_taking, after_giving_up, St, Deal, published, budget, count, halted, HasSlot, IsHome, HomeIs, Ruled, Whole, View}
 use Rattle.kahn_board.proofs.Moved.{at_moved, moved_here, moved_else, held_yes, held_no, held_apart, parked_yes}
 use Rattle.kahn_board.proofs.Counting.{inside_of}
 use Rattle.kahn_board.proofs.Sums.{there}
@@ -39,7 +39,7 @@ pub record Fit {T : Type 0} (w : Wires) (m : Sat T) : Type 0 where
   pub alive : 0 < m.0.parts
   pub hands_long : length m.0.hands ≡ w.instances
   pub flushed_long : length m.0.flushed ≡ w.channels
-  pub got_long : length m.0.got ≡ w.instances
+  pub got_long : length m.0.events_when_got ≡ w.instances
 
 -- what a step on a word of an instance or a channel leaves
 pub record SameHot (w : Wires) (ws ws' : List ℕ) : Type 0 where
@@ -54,14 +54,14 @@ hot w ws i k h = record {
   halted_same = get_or-set_other ws i (8 * (w.instances + w.channels) + 16) k 0 (λ e. omega arith);
 }
 
-module _ {T : Type 0} (told : T → Option Tale) (belongs : ℕ → T → Type 0) (w : Wires) (d : Deal) (s : St T) (place : ℕ → Place) (tally : ℕ → ℕ) (r : Ruled told belongs w d place tally s) where
+module _ {T : Type 0} (told : T → Option Summary) (belongs : ℕ → T → Type 0) (w : Wires) (d : Deal) (s : St T) (place : ℕ → Place) (tally : ℕ → ℕ) (r : Ruled told belongs w d place tally s) where
   -- a step that moves no instance, and leaves the words of instances and channels as they are
   pub record Idle (v v' : View) (ws : List ℕ) : Type 0 where
     pub wide : length ws ≡ length s.words
     pub low : (q : ℕ) → q < w.instances + w.channels → get_or ws (8 * q) 0 ≡ get_or s.words (8 * q) 0
-    pub view_same : (v'.parts ≡ v.parts) × (v'.hands ≡ v.hands) × (v'.flushed ≡ v.flushed) × (v'.got ≡ v.got)
+    pub view_same : (v'.parts ≡ v.parts) × (v'.hands ≡ v.hands) × (v'.flushed ≡ v.flushed) × (v'.events_when_got ≡ v.events_when_got)
     pub drawing : budget w ws + v'.drawn + v'.done ≡ budget w s.words + v.drawn + v.done
-    pub tallying : v'.loose + v.done ≡ v.loose + v'.done
+    pub tallying : v'.untold + v.done ≡ v.untold + v'.done
     pub counting : count w ws + length v'.owed + v.down ≡ count w s.words + length v.owed + v'.down
     pub pairs : Owes v'.hands v'.owed
     pub few : v'.down ≤ 2 ^ 32 * v'.parts
@@ -90,7 +90,7 @@ module _ {T : Type 0} (told : T → Option Tale) (belongs : ℕ → T → Type 0
           hands = λ q h. held q ∙ o.hands q h;
           inside = λ q h. o.inside q (omega (arith, h, held q));
           known = λ q c h one near writes. ap (λ (l : List ℕ). get_or l c 0) k.view_same.2 ∙ (o.known q c h (sym (held q) ∙ one) near writes ∙ sym (pub_same c near));
-          got = λ q h one. ap (λ (l : List ℕ). get_or l q 0) k.view_same.3 ∙ o.got q h (sym (held q) ∙ one);
+          events_when_got = λ q h one. ap (λ (l : List ℕ). get_or l q 0) k.view_same.3 ∙ o.events_when_got q h (sym (held q) ∙ one);
           pairs = k.pairs;
           few = k.few;
           saw_quiet = k.saw_quiet;
@@ -114,10 +114,10 @@ module _ {T : Type 0} (told : T → Option Tale) (belongs : ℕ → T → Type 0
       }
 
   -- a step of a seat that keeps its hands, and what it saw and halted
-  pub still : (id : ℕ) (v : View) (drawn done loose : ℕ) (owed : Owed) (down : ℕ) (ws : List ℕ) → get_elem? s.views id ≡ some v → length ws ≡ length s.words → ((q : ℕ) → q < w.instances + w.channels → get_or ws (8 * q) 0 ≡ get_or s.words (8 * q) 0)
-      → budget w ws + drawn + done ≡ budget w s.words + v.drawn + v.done → loose + v.done ≡ v.loose + done → count w ws + length owed + v.down ≡ count w s.words + length v.owed + down → Owes v.hands owed → down ≤ v.down
-      → (count w s.words ≡ 0 → count w ws ≡ 0) → halted w ws ≡ halted w s.words → Idle v (record (noted_view v) { drawn = drawn; done = done; loose = loose; owed = owed; down = down }) ws
-  still id v drawn done loose owed down ws me wide low drawing tallying counting pairs less quiet halts = let o = r.seats id v me in record {
+  pub still : (id : ℕ) (v : View) (drawn done untold : ℕ) (owed : Owed) (down : ℕ) (ws : List ℕ) → get_elem? s.views id ≡ some v → length ws ≡ length s.words → ((q : ℕ) → q < w.instances + w.channels → get_or ws (8 * q) 0 ≡ get_or s.words (8 * q) 0)
+      → budget w ws + drawn + done ≡ budget w s.words + v.drawn + v.done → untold + v.done ≡ v.untold + done → count w ws + length owed + v.down ≡ count w s.words + length v.owed + down → Owes v.hands owed → down ≤ v.down
+      → (count w s.words ≡ 0 → count w ws ≡ 0) → halted w ws ≡ halted w s.words → Idle v (record (after_step v) { drawn = drawn; done = done; untold = untold; owed = owed; down = down }) ws
+  still id v drawn done untold owed down ws me wide low drawing tallying counting pairs less quiet halts = let o = r.seats id v me in record {
     wide = wide;
     low = low;
     view_same = (refl, refl, refl, refl);
@@ -142,9 +142,9 @@ module _ {T : Type 0} (told : T → Option Tale) (belongs : ℕ → T → Type 0
       → get_or (set s.words i k) (8 * p) 0 ≡ 1 → ((q : ℕ) → q < w.instances → q ≢ p → get_or (set s.words i k) (8 * q) 0 ≡ get_or s.words (8 * q) 0)
       → ((c : ℕ) → c < w.channels → get_or (set s.words i k) (8 * (w.instances + c)) 0 % 2 ≡ mark_of (moved place p (held id)) (w.reader c) c) → ((c : ℕ) → c < w.channels → Stays w place s (set s.words i k) id p c)
       → is_up (place p) + length owed ≡ length m.0.owed + 1 → Owes (set m.0.hands p 1) owed → SeesMore m.0.seen seen → (seen ≡ 2 → halted w s.words ≢ 0)
-      → Whole told belongs w d (stepped s i k id m.1 (record (took m.0 p (halves w (set s.words i k)) (tally p) seen) { owed = owed }) (takes p (Some y)))
+      → Whole told belongs w d (stepped s i k id m.1 (record (after_taking m.0 p (halves w (set s.words i k)) (tally p) seen) { owed = owed }) (takes p (Some y)))
   take_step i k id m p y owed seen me fit inside home near free word_is words_are marks same ups pairs sees halted_is = let v = m.0 in let ws = set s.words i k in let hs : List (maybe.Option (Option T)) = set s.homes p none in let o = r.seats id v me in
-      let hots = hot w s.words i k near in let v' : View = record (took v p (halves w ws) (tally p) seen) { owed = owed } in let place' = moved place p (held id) in
+      let hots = hot w s.words i k near in let v' : View = record (after_taking v p (halves w ws) (tally p) seen) { owed = owed } in let place' = moved place p (held id) in
       let at_p : get_elem? hs p ≡ some none = set_here s.homes p none (omega (arith, r.deep)) in
       let is : place' p ≡ held id = moved_here place p (held id) in
       kept told belongs w d s place place' tally tally r id p v v' ws hs record {
@@ -164,8 +164,8 @@ module _ {T : Type 0} (told : T → Option Tale) (belongs : ℕ → T → Type 0
           hands = λ q. at_moved (λ l x. l < w.instances → get_or (set v.hands p 1) l 0 ≡ held_by id x) place p (held id) q (λ _. get_or-set_same v.hands p 1 0 (omega (arith, fit.hands_long)) ∙ sym (held_yes id)) (λ ne h. get_or-set_other v.hands p q 1 0 ne ∙ o.hands q h);
           inside = λ q h. let t = inside_of (set v.hands p 1) q h in omega (arith, length-set v.hands p 1, fit.hands_long);
           known = λ q c h one near_c writes. half_at w ws c near_c;
-          got = λ q. at_one (λ l. l < w.instances → get_or (set v.hands p 1) l 0 ≡ 1 → get_or (set v.got p (tally p)) l 0 ≡ tally l) q p (λ h one. get_or-set_same v.got p (tally p) 0 (omega (arith, fit.got_long)))
-              (λ ne h one. get_or-set_other v.got p q (tally p) 0 ne ∙ o.got q h (sym (get_or-set_other v.hands p q 1 0 ne) ∙ one));
+          events_when_got = λ q. at_one (λ l. l < w.instances → get_or (set v.hands p 1) l 0 ≡ 1 → get_or (set v.events_when_got p (tally p)) l 0 ≡ tally l) q p (λ h one. get_or-set_same v.events_when_got p (tally p) 0 (omega (arith, fit.got_long)))
+              (λ ne h one. get_or-set_other v.events_when_got p q (tally p) 0 ne ∙ o.events_when_got q h (sym (get_or-set_other v.hands p q 1 0 ne) ∙ one));
           pairs = pairs;
           few = o.few;
           saw_quiet = λ e. hots.count_same ∙ ⊎_elim (λ old. o.saw_quiet (sym old ∙ e)) (λ two. absurd (omega arith)) sees;
@@ -194,10 +194,10 @@ module _ {T : Type 0} (told : T → Option Tale) (belongs : ℕ → T → Type 0
       → ((c : ℕ) → c < w.channels → get_or (set s.words i k) (8 * (w.instances + c)) 0 % 2 ≡ mark_of (moved place p x) (w.reader c) c) → ((c : ℕ) → c < w.channels → published w (set s.words i k) c ≡ published w s.words c)
       → HasSlot x (some (some (Some y))) → ((c : ℕ) → x ≡ parked c → (c < w.channels) × (w.reader c ≡ Some p) × TellsWait (told y) c (published w (set s.words i k) c)) → (x ≡ over → TellsEnd (told y))
       → is_up x + more ≡ 1 → Leaves told belongs w v p y → v.down < 2 ^ 32
-      → Whole told belongs w d (stepped s i k id ((p, Some y) ∷ rest) (gave v p (told y) more) gives)
+      → Whole told belongs w d (stepped s i k id ((p, Some y) ∷ rest) (after_giving_up v p (told y) more) gives)
   give_step i k id v rest p y x more me fit inside is_in near was free word_is words_are marks same stands waits ends ups leaves few = let ws = set s.words i k in let hs : List (maybe.Option (Option T)) = set s.homes p (some (Some y)) in let o = r.seats id v me in
-      let hots = hot w s.words i k near in let v' : View = gave v p (told y) more in let place' = moved place p x in let g = get_or v.got p 0 in let e' = events_past (told y) g in let tally' : ℕ → ℕ = putting tally p e' in
-      let acc = accounted (told y) g v.loose leaves.1 in let acc₀ = acc.0 in let acc₁ = acc.1 in
+      let hots = hot w s.words i k near in let v' : View = after_giving_up v p (told y) more in let place' = moved place p x in let g = get_or v.events_when_got p 0 in let e' = events_past (told y) g in let tally' : ℕ → ℕ = putting tally p e' in
+      let acc = accounted (told y) g v.untold leaves.1 in let acc₀ = acc.0 in let acc₁ = acc.1 in
       let at_p : get_elem? hs p ≡ some (some (Some y)) = set_here s.homes p (some (Some y)) (omega (arith, r.deep)) in
       let is : place' p ≡ x = moved_here place p x in
       kept told belongs w d s place place' tally tally' r id p v v' ws hs record {
@@ -224,7 +224,7 @@ module _ {T : Type 0} (told : T → Option Tale) (belongs : ℕ → T → Type 0
           hands = λ q. at_moved (λ l z. l < w.instances → get_or (set v.hands p 0) l 0 ≡ held_by id z) place p x q (λ _. get_or-set_same v.hands p 0 0 (omega (arith, fit.hands_long)) ∙ sym (free id)) (λ ne h. get_or-set_other v.hands p q 0 0 ne ∙ o.hands q h);
           inside = λ q h. let t = inside_of (set v.hands p 0) q h in omega (arith, length-set v.hands p 0, fit.hands_long);
           known = λ q c h one near_c writes. o.known q c h (still_in q one).1 near_c writes ∙ sym (same c near_c);
-          got = λ q h one. let t = still_in q one in o.got q h t.1 ∙ sym (put_else tally p e' q t.0);
+          events_when_got = λ q h one. let t = still_in q one in o.events_when_got q h t.1 ∙ sym (put_else tally p e' q t.0);
           pairs = owes_less v.hands p v.owed leaves.3 o.pairs;
           few = omega (arith, fit.alive, few, ups);
           saw_quiet = λ e. hots.count_same ∙ o.saw_quiet e;
@@ -237,7 +237,7 @@ module _ {T : Type 0} (told : T → Option Tale) (belongs : ℕ → T → Type 0
         same = λ c h. inl (same c h);
         parts = refl;
         drawing = omega (arith, hots.budget_same);
-        tallying = omega (arith, sum_put tally p e' w.instances inside, o.got p inside is_in);
+        tallying = omega (arith, sum_put tally p e' w.instances inside, o.events_when_got p inside is_in);
         counting = omega (arith, hots.count_same, ups, ups_moved place p x w.instances inside, ap is_up was);
         still_quiet = λ e. hots.count_same ∙ e;
         still_halted = λ ne e. ne (sym hots.halted_same ∙ e);

@@ -1,5 +1,5 @@
 -- What a call owes at each step on a word.
-use Rattle.kahn_board.proofs.Common.{◌≡◌, ℕ, ◌+◌, ◌*◌, ◌/◌, ◌%◌, ◌^◌, ◌<◌, ◌≢◌, ◌⊎◌, inl, inr, List, [], ◌∷◌, ◌++◌, length, get_or, set, sym, refl, ap, ◌∙◌, subst, arith, Option, Some, None, length-set, get_or-set_same, get_or-set_other, eqb, dite, ℕ_discrete, some, none, get_elem?, set-get_or, either, none-some, same_Some, step, Act, keeps, takes, gives, Valid, carried_after, stepped, Allows, exchanged, Tale, TellsWait, TellsEnd, FlushedAll, Wires, is_up, Leaves, Place, ready, held, parked, over, word_code, held_by, parked_on, mark_of, moved, Sat, SeesMore, IsIn, Got, noted_view, took, gave, flushed_view, waking, claimed, set_down, parked_or_not, publishes, St, Deal, Whole, IsHome, HasSlot, published, halted, View}
+use Rattle.kahn_board.proofs.Common.{◌≡◌, ℕ, ◌+◌, ◌*◌, ◌/◌, ◌%◌, ◌^◌, ◌<◌, ◌≢◌, ◌⊎◌, inl, inr, List, [], ◌∷◌, ◌++◌, length, get_or, set, sym, refl, ap, ◌∙◌, subst, arith, Option, Some, None, length-set, get_or-set_same, get_or-set_other, eqb, dite, ℕ_discrete, some, none, get_elem?, set-get_or, either, none-some, same_Some, step, Act, keeps, takes, gives, Valid, carried_after, stepped, Allows, exchanged, Summary, TellsWait, TellsEnd, FlushedAll, Wires, is_up, Leaves, Place, ready, held, parked, over, word_code, held_by, parked_on, mark_of, moved, Sat, SeesMore, IsIn, Got, after_step, after_taking, after_giving_up, with_published, after_waking, claimed, set_down, parked_or_not, publishes, St, Deal, Whole, IsHome, HasSlot, published, halted, View}
 use Rattle.kahn_board.proofs.Moved.{at_moved, moved_here, is_held, parked_yes, parked_no, is_parked, parked_apart, code_ready}
 use Rattle.kahn_board.proofs.Sums.{term_le}
 use Rattle.kahn_board.proofs.Counting.{below-term}
@@ -16,14 +16,14 @@ marked : (place : ℕ → Place) (reader : Option ℕ) (c : ℕ) → mark_of pla
 marked place None c e = absurd (omega arith)
 marked place (Some p) c e = (p, refl, is_parked c (place p) e)
 
-module _ {T : Type 0} (told : T → Option Tale) (belongs : ℕ → T → Type 0) (w : Wires) (d : Deal) where
+module _ {T : Type 0} (told : T → Option Summary) (belongs : ℕ → T → Type 0) (w : Wires) (d : Deal) where
   abbrev pub Goes : (St T) → ℕ → ℕ → Sat T → (ℕ → Sat T → Type 0) → ℕ → Type 0
   Goes s i id m then k = (v : View) × (a : Act (Option T)) × Valid s.homes m.1 a × Whole told belongs w d (stepped s i k id m.1 v a) × then (get_or s.words i 0) (v, carried_after m.1 a)
 
   -- a step that changes nothing
-  pub unchanged : (s : St T) (a : Whole told belongs w d s) (i id : ℕ) (m : Sat T) → get_elem? s.views id ≡ some m.0 → Fit w m → Whole told belongs w d (stepped s i (get_or s.words i 0) id m.1 (noted_view m.0) keeps)
-  unchanged s a i id m me fit = subst (λ (l : List ℕ). Whole told belongs w d record { words = l; homes = s.homes; views = set s.views id (noted_view m.0) }) (sym (set-get_or s.words i 0)) (idles told belongs w d s a.place a.tally a.ruled id m (noted_view m.0) s.words me fit
-      (still told belongs w d s a.place a.tally a.ruled id m.0 m.0.drawn m.0.done m.0.loose m.0.owed m.0.down s.words me refl (λ q h. refl) refl refl refl (a.ruled.seats id m.0 me).pairs (omega arith) (λ e. e) refl))
+  pub unchanged : (s : St T) (a : Whole told belongs w d s) (i id : ℕ) (m : Sat T) → get_elem? s.views id ≡ some m.0 → Fit w m → Whole told belongs w d (stepped s i (get_or s.words i 0) id m.1 (after_step m.0) keeps)
+  unchanged s a i id m me fit = subst (λ (l : List ℕ). Whole told belongs w d record { words = l; homes = s.homes; views = set s.views id (after_step m.0) }) (sym (set-get_or s.words i 0)) (idles told belongs w d s a.place a.tally a.ruled id m (after_step m.0) s.words me fit
+      (still told belongs w d s a.place a.tally a.ruled id m.0 m.0.drawn m.0.done m.0.untold m.0.owed m.0.down s.words me refl (λ q h. refl) refl refl refl (a.ruled.seats id m.0 me).pairs (omega arith) (λ e. e) refl))
 
   mine_is : (s : St T) (a : Whole told belongs w d s) (id : ℕ) (v : View) (p : ℕ) → get_elem? s.views id ≡ some v → p < w.instances → IsIn v p → a.place p ≡ held id
   mine_is s a id v p me inside is_in = is_held id (a.place p) (sym ((a.ruled.seats id v me).hands p inside) ∙ is_in)
@@ -37,9 +37,9 @@ module _ {T : Type 0} (told : T → Option Tale) (belongs : ℕ → T → Type 0
 
   -- what is known of the cell of p that a seat takes up by a step on the word i, where it knows of the channels' numbers as m
   got_home : (s : St T) (a : Whole told belongs w d s) (i k id : ℕ) (v : View) (m : Sat T) (p : ℕ) (y : T) (see : (seen : ℕ) × SeesMore v.seen seen × (seen ≡ 2 → halted w s.words ≢ 0) × ((seen ≡ 2) ⊎ FlushedAll (told y))) → get_elem? s.views id ≡ some v → p < w.instances → IsHome s p y → get_or m.0.hands p 0 ≡ 0
-      → m.0.got ≡ v.got → m.0.drawn ≡ v.drawn → m.0.seen ≡ v.seen → length m.0.flushed ≡ w.channels → length v.got ≡ w.instances → ((q c : ℕ) → q < w.instances → c < w.channels → IsIn m.0 q → w.writer c ≡ Some q → published w (set s.words i k) c ≡ get_or m.0.flushed c 0)
+      → m.0.events_when_got ≡ v.events_when_got → m.0.drawn ≡ v.drawn → m.0.seen ≡ v.seen → length m.0.flushed ≡ w.channels → length v.events_when_got ≡ w.instances → ((q c : ℕ) → q < w.instances → c < w.channels → IsIn m.0 q → w.writer c ≡ Some q → published w (set s.words i k) c ≡ get_or m.0.flushed c 0)
       → ((c : ℕ) → w.writer c ≡ Some p → published w (set s.words i k) c ≡ published w s.words c)
-      → Got told belongs w m p (took m.0 p (halves w (set s.words i k)) (a.tally p) see.0, (p, Some y) ∷ m.1) y
+      → Got told belongs w m p (after_taking m.0 p (halves w (set s.words i k)) (a.tally p) see.0, (p, Some y) ∷ m.1) y
   got_home s a i k id v m p y see me inside home free got drawn seen long got_long agrees same = let ws = set s.words i k in let o = a.ruled.cells p y inside home in let b = a.ruled in (
     halves w ws,
     a.tally p,
@@ -53,7 +53,7 @@ module _ {T : Type 0} (told : T → Option Tale) (belongs : ℕ → T → Type 0
     subst (λ (n : ℕ). SeesMore n see.0) (sym seen) see.1,
     see.3,
     o.belonging,
-    omega (arith, b.small, b.budgeted, b.tallied, below-term a.tally w.instances p inside, term_le (λ (u : View). u.drawn) s.views id v me, drawn, ap (λ (l : List ℕ). get_or (set l p (a.tally p)) p 0) got, get_or-set_same v.got p (a.tally p) 0 (omega (arith, got_long))),
+    omega (arith, b.small, b.budgeted, b.tallied, below-term a.tally w.instances p inside, term_le (λ (u : View). u.drawn) s.views id v me, drawn, ap (λ (l : List ℕ). get_or (set l p (a.tally p)) p 0) got, get_or-set_same v.events_when_got p (a.tally p) 0 (omega (arith, got_long))),
   )
 
   -- a step on the word of the instance p leaves those of the others and of channels
@@ -70,7 +70,7 @@ module _ {T : Type 0} (told : T → Option Tale) (belongs : ℕ → T → Type 0
       let cell = subst (λ (z : Place). HasSlot z (get_elem? s.homes p)) is its.cell_is in let y : T = cell.0 in let saw_it = sees s a id m.0 p y me inside cell.1 in
       let free : get_or m.0.hands p 0 ≡ 0 = o.hands p inside ∙ ap (held_by id) is in
       let pub_same : (c : ℕ) → published w (set s.words (8 * p) 1) c ≡ published w s.words c = λ c. ap half (channel_else s p 1 c inside) in (
-        took m.0 p (halves w (set s.words (8 * p) 1)) (a.tally p) saw_it.0,
+        after_taking m.0 p (halves w (set s.words (8 * p) 1)) (a.tally p) saw_it.0,
         takes p (Some y),
         cell.1,
         take_step told belongs w d s place a.tally r (8 * p) 1 id m p y m.0.owed saw_it.0 me fit inside cell.1 (omega arith) (λ j. ap (held_by j) is) (get_or-set_same s.words (8 * p) 1 0 (omega arith)) (word_else s p 1)
@@ -81,7 +81,7 @@ module _ {T : Type 0} (told : T → Option Tale) (belongs : ℕ → T → Type 0
           (λ miss. absurd (miss hit)),
         ),
       ))
-      (λ miss. (noted_view m.0, keeps, tt, unchanged s a (8 * p) id m me fit, ((λ hit. absurd (miss hit)), λ _. refl)))
+      (λ miss. (after_step m.0, keeps, tt, unchanged s a (8 * p) id m me fit, ((λ hit. absurd (miss hit)), λ _. refl)))
 
   -- the instance read off the word
   pub claims_at : (n id : ℕ) (m : Sat T) (p p' : ℕ) (said : maybe.Option (Option T)) → Fit w m → p < w.instances → p' ≡ p → Allows (Whole told belongs w d) n id m (8 * p) (λ y. either (eqb y 0) 1 y) (claimed told belongs w p' (step n (8 * p) 0 1 said) m)
@@ -91,7 +91,7 @@ module _ {T : Type 0} (told : T → Option Tale) (belongs : ℕ → T → Type 0
       → new ≡ word_code x → ((j : ℕ) → held_by j x ≡ 0) → ((c : ℕ) → parked_on c x ≡ 0) → HasSlot x (some (some (Some y))) → (x ≡ over → TellsEnd (told y)) → is_up x + new / 2 ≡ 1 → Leaves told belongs w v p y → v.down < 2 ^ 32
       → Allows (Whole told belongs w d) n id (v, (p, Some y) ∷ more) (8 * p) (λ _. new) (λ _. set_down told w p (step n (8 * p) new 0 none) (v, (p, Some y) ∷ more) new)
   sets_down n id v more p y x new fit inside is_in codes free unparked stands ends ups leaves few s a wide me _ = let long = a.ruled.wide in let is = mine_is s a id v p me inside is_in in (
-    gave v p (told y) (new / 2),
+    after_giving_up v p (told y) (new / 2),
     gives,
     tt,
     give_step told belongs w d s a.place a.tally a.ruled (8 * p) new id v more p y x (new / 2) me fit inside is_in (omega arith) is free (get_or-set_same s.words (8 * p) new 0 (omega arith) ∙ codes) (word_else s p new)
@@ -112,7 +112,7 @@ module _ {T : Type 0} (told : T → Option Tale) (belongs : ℕ → T → Type 0
       let was : get_or s.words (8 * (w.instances + c)) 0 ≡ old = ap (λ (k : ℕ). get_or s.words k 0) (sym at) ∙ hit in
       let num : published w ws c ≡ taken = omega (arith, now) in let num' : published w s.words c ≡ taken = omega (arith, was) in
       let same : (e : ℕ) → e < w.channels → published w ws e ≡ published w s.words e = λ e _. at_one (λ k. published w ws k ≡ published w s.words k) e c (num ∙ sym num') (λ ne. ap half (else_where (8 * (w.instances + e)) (λ e. ne (omega arith)))) in (
-        gave v p (told y) 1,
+        after_giving_up v p (told y) 1,
         gives,
         tt,
         give_step told belongs w d s place a.tally r i new id v more p y (parked c) 1 me fit inside is_in (omega arith) is (λ j. refl) (else_where (8 * p) (λ e. omega arith) ∙ ((r.places p inside).word_is ∙ ap word_code is)) (λ q h ne. else_where (8 * q) (λ e. omega arith))
@@ -124,7 +124,7 @@ module _ {T : Type 0} (told : T → Option Tale) (belongs : ℕ → T → Type 0
         ((λ _. (y, refl, refl)), λ miss. absurd (miss hit)),
       ))
       (λ miss. let even : x % 2 ≡ 0 = ap (λ (k : ℕ). get_or s.words k 0 % 2) at ∙ ((r.channels c near).mark ∙ (ap (λ (o : Option ℕ). mark_of place o c) reads ∙ ap (parked_on c) is)) in
-      (noted_view v, keeps, tt, unchanged s a i id m me fit, ((λ hit. absurd (miss hit)), λ _. (even, refl))))
+      (after_step v, keeps, tt, unchanged s a i id m me fit, ((λ hit. absurd (miss hit)), λ _. (even, refl))))
 
   pub publishing : (n id : ℕ) (m : Sat T) (c i q₀ count new : ℕ) → Fit w m → i ≡ 8 * (w.instances + c) → c < w.channels → w.writer c ≡ Some q₀ → q₀ < w.instances → IsIn m.0 q₀
       → ((p : ℕ) → w.reader c ≡ Some p → p < w.instances) → new ≡ 2 * count → Allows (Whole told belongs w d) n id m i (λ _. new) (publishes told belongs w c (step n i new 0 none) m)
@@ -146,7 +146,7 @@ module _ {T : Type 0} (told : T → Option Tale) (belongs : ℕ → T → Type 0
       (λ _. get_or-set_same m.0.flushed c (new / 2) 0 (omega (arith, fit.flushed_long)) ∙ ap half (sym now))
       (λ ne wr. get_or-set_other m.0.flushed c e (new / 2) 0 ne ∙ (o.known q e h one near_e wr ∙ sym (elsewhere_same e ne))) in
       dite (ℕ_discrete (x % 2) 0)
-      (λ even. let v' : View = noted_view (flushed_view m.0 c (new / 2)) in let hots = hot w s.words i new (omega arith) in (
+      (λ even. let v' : View = after_step (with_published m.0 c (new / 2)) in let hots = hot w s.words i new (omega arith) in (
         v',
         keeps,
         tt,
@@ -162,7 +162,7 @@ module _ {T : Type 0} (told : T → Option Tale) (belongs : ℕ → T → Type 0
             hands = o.hands;
             inside = o.inside;
             known = λ q e h one near_e wr. now_known q e h near_e one wr;
-            got = o.got;
+            events_when_got = o.events_when_got;
             pairs = o.pairs;
             few = o.few;
             saw_quiet = λ e. hots.count_same ∙ o.saw_quiet e;
@@ -190,7 +190,7 @@ module _ {T : Type 0} (told : T → Option Tale) (belongs : ℕ → T → Type 0
       let p : ℕ = t.0 in let on_c : place p ≡ parked c = t.2 in let inside : p < w.instances = reader_in p t.1 in
       let cell = subst (λ (z : Place). HasSlot z (get_elem? s.homes p)) on_c (r.places p inside).cell_is in let y : T = cell.0 in let saw_it = sees s a id m.0 p y me inside cell.1 in
       let free : get_or m.0.hands p 0 ≡ 0 = o.hands p inside ∙ ap (held_by id) on_c in (
-        took (waking m.0 c (new / 2) p q₀) p (halves w ws) (a.tally p) saw_it.0,
+        after_taking (after_waking m.0 c (new / 2) p q₀) p (halves w ws) (a.tally p) saw_it.0,
         takes p (Some y),
         cell.1,
         take_step told belongs w d s place a.tally r i new id m p y (m.0.owed ++ (p, q₀) ∷ []) saw_it.0 me fit inside cell.1 (omega arith) (λ j. ap (held_by j) on_c) (words_are p inside ∙ ((r.places p inside).word_is ∙ ap word_code on_c)) (λ q h _. words_are q h)
@@ -207,7 +207,7 @@ module _ {T : Type 0} (told : T → Option Tale) (belongs : ℕ → T → Type 0
             t.1,
             writes,
             subst (TellsWait (told y) c) (ap half x_is) ((r.cells p y inside cell.1).waits c on_c),
-            got_home s a i new id m.0 (waking m.0 c (new / 2) p q₀, m.1) p y saw_it me inside cell.1 free refl refl refl (length-set m.0.flushed c (new / 2) ∙ fit.flushed_long) fit.got_long (λ q e h near_e one wr. sym (now_known q e h near_e one wr))
+            got_home s a i new id m.0 (after_waking m.0 c (new / 2) p q₀, m.1) p y saw_it me inside cell.1 free refl refl refl (length-set m.0.flushed c (new / 2) ∙ fit.flushed_long) fit.got_long (λ q e h near_e one wr. sym (now_known q e h near_e one wr))
                 (λ e wr. elsewhere_same e (λ f. omega (arith, ap (parked_on c) (sym on_c ∙ the_writer p (ap w.writer (sym f) ∙ wr)), parked_yes c))),
           )),
         ),

@@ -1,8 +1,8 @@
--- Believed. What a board was given.
+-- Believed. What a board was made with: the wires of its network, the first cell of each instance, the events and numbers at the start; and the rule of its table.
 use Rattle.std.specs.Prelude.{◌≡◌, ℕ, List, Option}
 use mathlib.Core.Option.{some}
 use lib.ListN.{get_elem?}
-use Rattle.kahn_board.specs.Tale.{Tale, events_past}
+use Rattle.kahn_board.specs.Summary.{Summary, events_past}
 use Rattle.kahn_board.specs.Place.{total}
 use Rattle.kahn_board.specs.Wires.{Wires, wires}
 use Rattle.kahn_board.specs.Rule.{St, Deal, Whole, published}
@@ -17,7 +17,7 @@ module _ {T : Type 0} where
   abbrev pub belongs : (T → T → Type 0) → Terms T → ℕ → T → Type 0
   belongs after key p y = (x : T) → get_elem? key.cells.value.items p ≡ some x → after x y
 
-module _ {T : Type 0} (told : T → Option Tale) where
+module _ {T : Type 0} (told : T → Option Summary) where
   -- the events that the cells tell when the board is made
   abbrev pub events_told : List T → ℕ
   events_told cells = total (λ y. events_past (told y) 0) cells

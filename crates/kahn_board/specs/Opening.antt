@@ -2,16 +2,16 @@
 use Rattle.std.specs.Prelude.{◌≡◌, ◌⊎◌, ℕ, ◌+◌, ◌^◌, ◌<◌, List, length, slice_index, true, Option, Some, None}
 use mathlib.Core.Option.{some}
 use lib.ListN.{get_elem?}
-use Rattle.kahn_board.specs.Tale.{Tale, TellsWait, TellsEnd, TellsEvents, FlushedAll, flushed_of, wrote_of}
+use Rattle.kahn_board.specs.Summary.{Summary, TellsWait, TellsEnd, TellsEvents, FlushedAll, flushed_of, wrote_of}
 use Rattle.kahn_board.specs.Dealt.{events_told}
 use Rattle.kahn_board.specs.Wires.{Wires}
 use Rattle.kahn_board.specs.Place.{below}
-use Rattle.kahn_board.specs.Rule.{Deal}
+use Rattle.kahn_board.specs.Rule.{Deal, IsDone, KnowsHalted}
 use Rattle.kahn_board.specs.declared.closing.Closed.{Closed}
 use Rattle.kahn_board.specs.declared.view.View.{View}
 
 module _ {T : Type 0} where
-  pub record Opens (told : T → Option Tale) (after : T → T → Type 0) (w : Wires) (bound : ℕ) (published : List ℕ) (cells : List T) : Type 0 where
+  pub record Opens (told : T → Option Summary) (after : T → T → Type 0) (w : Wires) (bound : ℕ) (published : List ℕ) (cells : List T) : Type 0 where
     -- one cell for each instance, and one number for each channel
     pub cells_are : length cells ≡ w.instances
     pub numbers_are : length published ≡ w.channels
@@ -25,7 +25,7 @@ module _ {T : Type 0} where
     -- the bound and the events so far
     pub few : bound + events_told told cells < 2 ^ 48
 
-module _ {T : Type 0} (told : T → Option Tale) (belongs : ℕ → T → Type 0) (w : Wires) (d : Deal) (closed : Closed T) where
+module _ {T : Type 0} (told : T → Option Summary) (belongs : ℕ → T → Type 0) (w : Wires) (d : Deal) (closed : Closed T) where
   abbrev pub IsCell : ℕ → T → Type 0
   IsCell p y = get_elem? closed.cells.items p ≡ some y
 
@@ -44,8 +44,8 @@ module _ {T : Type 0} (told : T → Option Tale) (belongs : ℕ → T → Type 0
     -- nothing is drawn: the budget and the events told as done are the bound
     pub budget_is : closed.budget + v.done ≡ d.bound
     -- the cells' events have grown by those told as done, but for those that no cell told
-    pub events : (tally : ℕ → ℕ) × ((p : ℕ) (y : T) → p < w.instances → IsCell p y → TellsEvents (told y) (tally p)) × (d.events + v.done ≡ below tally w.instances + v.loose)
+    pub events : (tally : ℕ → ℕ) × ((p : ℕ) (y : T) → p < w.instances → IsCell p y → TellsEvents (told y) (tally p)) × (d.events + v.done ≡ below tally w.instances + v.untold)
     -- it is halted exactly where a seat saw so, and exactly where a seat halted it
-    pub halt_seen : (v.seen ≡ 2 → closed.halted ≡ true) × (closed.halted ≡ true → v.seen ≡ 2)
+    pub halt_seen : (KnowsHalted v → closed.halted ≡ true) × (closed.halted ≡ true → KnowsHalted v)
     pub halt_raised : (0 < v.raised → closed.halted ≡ true) × (closed.halted ≡ true → 0 < v.raised)
-    pub by_done : v.stage ≡ 1 → (closed.halted ≡ true) ⊎ ((closed.budget ≡ 0) ⊎ ((p : ℕ) (y : T) → p < w.instances → IsCell p y → IsQuietCell p y))
+    pub by_done : IsDone v → (closed.halted ≡ true) ⊎ ((closed.budget ≡ 0) ⊎ ((p : ℕ) (y : T) → p < w.instances → IsCell p y → IsQuietCell p y))

@@ -4,9 +4,9 @@ use mathlib.Core.Option.{none}
 use Rattle.atomic_table.specs.Seated.{TableId}
 use Rattle.atomic_table.specs.Table.{Allows, Me, Step, rest, step}
 use Rattle.atomic_table.specs.declared.shared.Seat as shared
-use Rattle.kahn_board.specs.Tale.{Tale, TellsWait, TellsEvents, FlushedAll, flushed_of, events_past}
+use Rattle.kahn_board.specs.Summary.{Summary, TellsWait, TellsEvents, FlushedAll, flushed_of, events_past}
 use Rattle.kahn_board.specs.Wires.{Wires}
-use Rattle.kahn_board.specs.Rule.{St, WordWas}
+use Rattle.kahn_board.specs.Rule.{KnowsHalted, KnowsQuiet, St, WordWas}
 use Rattle.kahn_board.specs.Place.{total, only}
 use Rattle.kahn_board.specs.declared.view.View.{View}
 
@@ -21,7 +21,7 @@ module _ {T : Type 0} where
   -- it isn't spent; its lists are as long as the table is; the instances are listed in the order of the slots; there is room for all of them
   abbrev pub Facts : Me (Option T) View → TableId → List ℕ → ℕ → Type 0
   Facts m z items room = (0 < m.0.parts) × (length m.0.hands ≡ z.slots) × (8 * (z.slots + length m.0.flushed) + 24 ≡ z.words)
-      × (map (λ x. x.0) m.1 ≡ items) × ListsHands items m.0.hands × AtMostOnce m.0.hands × (z.slots ≤ room) × (length m.0.got ≡ z.slots)
+      × (map (λ x. x.0) m.1 ≡ items) × ListsHands items m.0.hands × AtMostOnce m.0.hands × (z.slots ≤ room) × (length m.0.events_when_got ≡ z.slots)
 
   -- the slot p is out with the seat, with x in it
   abbrev pub Carries : List (ℕ × Option T) → ℕ → Option T → Type 0
@@ -35,60 +35,61 @@ abbrev pub Play : Type 0 → Type 1
 Play T = Step (Option T) → Sat T → ℕ → Sat T → Type 0
 
 -- the view after a step that told the seat nothing else: it is busy
-abbrev pub noted_view : View → View
-noted_view v = record v { stage = 2; steps = v.steps + 1 }
+abbrev pub after_step : View → View
+after_step v = record v { stage = 2; steps = v.steps + 1 }
 
 abbrev pub IsIn : View → ℕ → Type 0
 IsIn v p = slice_index v.hands p ≡ 1
 
 -- the instance p is got: `flushed` is published, its cell told `events`
-abbrev pub took : View → ℕ → List ℕ → ℕ → ℕ → View
-took v p flushed events seen =
-    record (noted_view v) { hands = slice_set v.hands p 1; flushed = flushed; got = slice_set v.got p events; seen = seen }
+abbrev pub after_taking : View → ℕ → List ℕ → ℕ → ℕ → View
+after_taking v p flushed events seen =
+    record (after_step v) { hands = slice_set v.hands p 1; flushed = flushed; events_when_got = slice_set v.events_when_got p events; seen = seen }
 
 -- the instance p is given up, by a cell that tells t, with `more` counts down to pay
-abbrev pub gave : View → ℕ → Option Tale → ℕ → View
-gave v p t more =
-    record (noted_view v) { hands = slice_set v.hands p 0; loose = v.loose - (events_past t (slice_index v.got p) - slice_index v.got p); down = v.down + more }
+abbrev pub after_giving_up : View → ℕ → Option Summary → ℕ → View
+after_giving_up v p t more =
+    record (after_step v) { hands = slice_set v.hands p 0; untold = v.untold - (events_past t (slice_index v.events_when_got p) - slice_index v.events_when_got p); down = v.down + more }
 
 -- `count` tokens of the channel c are published
-abbrev pub flushed_view : View → ℕ → ℕ → View
-flushed_view v c count = record v { flushed = slice_set v.flushed c count }
+abbrev pub with_published : View → ℕ → ℕ → View
+with_published v c count = record v { flushed = slice_set v.flushed c count }
 
 -- the same, and q woke p
-abbrev pub waking : View → ℕ → ℕ → ℕ → ℕ → View
-waking v c count p q = record (flushed_view v c count) { owed = v.owed ++ (p, q) ∷ [] }
+abbrev pub after_waking : View → ℕ → ℕ → ℕ → ℕ → View
+after_waking v c count p q = record (with_published v c count) { owed = v.owed ++ (p, q) ∷ [] }
 
-abbrev pub with_draw : View → ℕ → View
-with_draw v k = record (noted_view v) { drawn = k }
+abbrev pub after_drawing : View → ℕ → View
+after_drawing v k = record (after_step v) { drawn = k }
 
 -- n events of the draw were done, the others may still be done
-abbrev pub used : View → ℕ → View
-used v n = record (noted_view v) { drawn = v.drawn - n; done = v.done + n; loose = v.loose + n }
+abbrev pub after_reporting : View → ℕ → View
+after_reporting v n = record (after_step v) { drawn = v.drawn - n; done = v.done + n; untold = v.untold + n }
 
 -- n events of the draw weren't done, the others were
-abbrev pub undrawn : View → ℕ → View
-undrawn v n = record (noted_view v) { drawn = 0; done = v.done + (v.drawn - n); loose = v.loose + (v.drawn - n) }
+abbrev pub after_giving_back : View → ℕ → View
+after_giving_back v n = record (after_step v) { drawn = 0; done = v.done + (v.drawn - n); untold = v.untold + (v.drawn - n) }
 
-abbrev pub paid_up : View → View
-paid_up v = record (noted_view v) { owed = drop 1 v.owed }
+abbrev pub after_counting_up : View → View
+after_counting_up v = record (after_step v) { owed = drop 1 v.owed }
 
-abbrev pub paid_down : View → View
-paid_down v = record (noted_view v) { down = v.down - 1 }
+abbrev pub after_counting_down : View → View
+after_counting_down v = record (after_step v) { down = v.down - 1 }
 
-abbrev pub saw : View → ℕ → ℕ → View
-saw v seen stage = record (noted_view v) { seen = seen; stage = stage }
+abbrev pub after_looking : View → ℕ → ℕ → View
+after_looking v seen stage = record (after_step v) { seen = seen; stage = stage }
 
 -- it halted the run
-abbrev pub halting : View → View
-halting v = record (noted_view v) { seen = 2; raised = v.raised + 1 }
+abbrev pub after_halting : View → View
+after_halting v = record (after_step v) { seen = 2; raised = v.raised + 1 }
 
--- done where it holds, drew and owes nothing, else busy
+-- how much it holds, drew and owes
 abbrev pub burden : View → ℕ
 burden v = total (λ x. x) v.hands + v.drawn + length v.owed + v.down
 
-abbrev pub leaves_as : View → ℕ
-leaves_as v = cond (burden v == 0) 1 2
+-- done where it holds, drew and owes nothing, else busy
+abbrev pub stage_after_looking : View → ℕ
+stage_after_looking v = cond (burden v == 0) 1 2
 
 -- the numbers L are those of v where v has the writer
 abbrev pub AgreesOnFlushed : Wires → View → List ℕ → Type 0
@@ -98,10 +99,10 @@ AgreesOnFlushed w v L = (q c : ℕ) → q < w.instances → c < w.channels → I
 abbrev pub SeesMore : ℕ → ℕ → Type 0
 SeesMore old new = (new ≡ old) ⊎ (new ≡ 2)
 
-module _ {T : Type 0} (told : T → Option Tale) (w : Wires) where
+module _ {T : Type 0} (told : T → Option Summary) (w : Wires) where
   -- the seat gave up the instance p with the cell y, whose slot it took last
   abbrev pub GaveUp : Sat T → ℕ → ℕ → Sat T → T → Type 0
-  GaveUp m p more n y = n ≡ (gave m.0 p (told y) more, rest m.1)
+  GaveUp m p more n y = n ≡ (after_giving_up m.0 p (told y) more, rest m.1)
 
   -- the cell that comes first
   abbrev pub TheFirst : Sat T → ℕ → T → Type 0
@@ -112,24 +113,24 @@ module _ {T : Type 0} (told : T → Option Tale) (w : Wires) where
   set_down p st m r n = (y : T) × TheFirst m p y × GaveUp m p (r / 2) n y
 
   abbrev pub parked_or_not : ℕ → Play T
-  parked_or_not p st m r n = (r ≡ st.first → (y : T) × TheFirst m p y × GaveUp m p 1 n y) × (r ≢ st.first → (r % 2 ≡ 0) × (n ≡ (noted_view m.0, m.1)))
+  parked_or_not p st m r n = (r ≡ st.first → (y : T) × TheFirst m p y × GaveUp m p 1 n y) × (r ≢ st.first → (r % 2 ≡ 0) × (n ≡ (after_step m.0, m.1)))
 
-module _ {T : Type 0} (told : T → Option Tale) (belongs : ℕ → T → Type 0) (w : Wires) where
+module _ {T : Type 0} (told : T → Option Summary) (belongs : ℕ → T → Type 0) (w : Wires) where
   -- the seat took the cell y of the instance p: what y tells as flushed is published; it has flushed all that it sent, or the run is halted; it belongs to p;
   -- its events and those drawn are a number of 48 bits
   abbrev pub Got : Sat T → ℕ → Sat T → T → Type 0
-  Got m p n y = (L : List ℕ) × (e : ℕ) × (seen : ℕ) × (n ≡ (took m.0 p L e seen, (p, Some y) ∷ m.1)) × (slice_index m.0.hands p ≡ 0) × (length L ≡ length m.0.flushed)
+  Got m p n y = (L : List ℕ) × (e : ℕ) × (seen : ℕ) × (n ≡ (after_taking m.0 p L e seen, (p, Some y) ∷ m.1)) × (slice_index m.0.hands p ≡ 0) × (length L ≡ length m.0.flushed)
       × AgreesOnFlushed w m.0 L × ((c k : ℕ) → flushed_of (told y) c ≡ Some k → (w.writer c ≡ Some p) × (c < w.channels) × (k ≡ slice_index L c))
       × TellsEvents (told y) e × SeesMore m.0.seen seen × ((seen ≡ 2) ⊎ FlushedAll (told y)) × belongs p y
-      × (slice_index (slice_set m.0.got p e) p + m.0.drawn < 2 ^ 48)
+      × (slice_index (slice_set m.0.events_when_got p e) p + m.0.drawn < 2 ^ 48)
 
   abbrev pub claimed : ℕ → Play T
-  claimed p st m r n = (r ≡ 0 → (y : T) × Got m p n y) × (r ≢ 0 → n ≡ (noted_view m.0, m.1))
+  claimed p st m r n = (r ≡ 0 → (y : T) × Got m p n y) × (r ≢ 0 → n ≡ (after_step m.0, m.1))
 
   -- where the number found was odd, the seat took the reader's cell, which waits on the channel c and took all that was published
   abbrev pub publishes : ℕ → Play T
-  publishes c st m r n = (r % 2 ≡ 0 → n ≡ (noted_view (flushed_view m.0 c (st.first / 2)), m.1))
-      × (r % 2 ≡ 1 → (p : ℕ) × (q : ℕ) × (y : T) × (w.reader c ≡ Some p) × (w.writer c ≡ Some q) × TellsWait (told y) c (r / 2) × Got (waking m.0 c (st.first / 2) p q, m.1) p n y)
+  publishes c st m r n = (r % 2 ≡ 0 → n ≡ (after_step (with_published m.0 c (st.first / 2)), m.1))
+      × (r % 2 ≡ 1 → (p : ℕ) × (q : ℕ) × (y : T) × (w.reader c ≡ Some p) × (w.writer c ≡ Some q) × TellsWait (told y) c (r / 2) × Got (after_waking m.0 c (st.first / 2) p q, m.1) p n y)
 
 module _ {T : Type 0} where
   -- the word was as found when the view of the seat id was as before
@@ -151,16 +152,16 @@ module _ {T : Type 0} where
 
   -- it drew the difference where the budget was still what it had found
   abbrev pub drew : Play T
-  drew st m r n = (r ≡ st.first → (n ≡ (with_draw m.0 (st.first - st.second), m.1)) × ((p : ℕ) → IsIn m.0 p → slice_index m.0.got p + (st.first - st.second) < 2 ^ 48)) × (r ≢ st.first → n ≡ (noted_view m.0, m.1))
+  drew st m r n = (r ≡ st.first → (n ≡ (after_drawing m.0 (st.first - st.second), m.1)) × ((p : ℕ) → IsIn m.0 p → slice_index m.0.events_when_got p + (st.first - st.second) < 2 ^ 48)) × (r ≢ st.first → n ≡ (after_step m.0, m.1))
 
   abbrev pub sees_halted : Play T
-  sees_halted st m r n = (r ≢ 0 → n ≡ (saw m.0 2 (leaves_as m.0), m.1)) × (r ≡ 0 → (m.0.seen ≢ 2) × (n ≡ (noted_view m.0, m.1)))
+  sees_halted st m r n = (r ≢ 0 → n ≡ (after_looking m.0 2 (stage_after_looking m.0), m.1)) × (r ≡ 0 → ¬ KnowsHalted m.0 × (n ≡ (after_step m.0, m.1)))
 
   abbrev pub sees_count : Play T
-  sees_count st m r n = (r ≡ 0 → n ≡ (saw m.0 1 (leaves_as m.0), m.1)) × (r ≢ 0 → (m.0.seen ≢ 1) × (n ≡ (noted_view m.0, m.1)))
+  sees_count st m r n = (r ≡ 0 → n ≡ (after_looking m.0 1 (stage_after_looking m.0), m.1)) × (r ≢ 0 → ¬ KnowsQuiet m.0 × (n ≡ (after_step m.0, m.1)))
 
   abbrev pub sees_budget : Play T
-  sees_budget st m r n = (r ≡ 0 → n ≡ (saw m.0 m.0.seen (leaves_as m.0), m.1)) × (r ≢ 0 → n ≡ (noted_view m.0, m.1))
+  sees_budget st m r n = (r ≡ 0 → n ≡ (after_looking m.0 m.0.seen (stage_after_looking m.0), m.1)) × (r ≢ 0 → n ≡ (after_step m.0, m.1))
 
 -- the slot that a seat took last
 abbrev pub first_of : {T : Type 0} → List (ℕ × Option T) → ℕ

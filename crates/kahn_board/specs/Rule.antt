@@ -9,9 +9,9 @@ use Rattle.std.specs.Prelude as std
 use mathlib.Core.Option.{Option, none, some}
 use lib.ListN.{get_elem?}
 use Rattle.atomic_table.specs.Table.{State, Seen}
-use Rattle.kahn_board.specs.Tale.{Tale, TellsWait, TellsEnd, TellsEvents, FlushedAll, flushed_of}
+use Rattle.kahn_board.specs.Summary.{Summary, TellsWait, TellsEnd, TellsEvents, FlushedAll, flushed_of}
 use Rattle.kahn_board.specs.Wires.{Wires}
-use Rattle.kahn_board.specs.Place.{Place, ready, held, parked, over, Owes, word_code, held_by, mark_of, is_up, total, below}
+use Rattle.kahn_board.specs.Place.{Place, held, parked, over, Owes, word_code, held_by, mark_of, is_up, total, below}
 use Rattle.kahn_board.specs.declared.view.View.{View}
 
 -- the parts of a board's first seat
@@ -20,25 +20,11 @@ all_parts = 65536
 
 -- the view of a seat that was joined to another
 abbrev pub spent : View
-spent = record {
-  parts = 0;
-  hands = [];
-  flushed = [];
-  got = [];
-  drawn = 0;
-  done = 0;
-  loose = 0;
-  owed = [];
-  down = 0;
-  seen = 0;
-  stage = 0;
-  steps = 0;
-  raised = 0;
-}
+spent = record { parts = 0; hands = []; flushed = []; events_when_got = []; drawn = 0; done = 0; untold = 0; owed = []; down = 0; seen = 0; stage = 0; steps = 0; raised = 0 }
 
 -- the view of a seat that has so many parts, and has and knows nothing, among n instances and k channels
 abbrev pub blank : ℕ → ℕ → ℕ → View
-blank n k parts = record spent { parts = parts; hands = replicate n 0; flushed = replicate k 0; got = replicate n 0 }
+blank n k parts = record spent { parts = parts; hands = replicate n 0; flushed = replicate k 0; events_when_got = replicate n 0 }
 
 -- the view of the first seat
 abbrev pub opening_view : Wires → View
@@ -82,9 +68,23 @@ pub record Deal : Type 0 where
   pub events : ℕ
   pub published : ℕ → ℕ
 
+-- a seat saw that the run is quiet, or that it is halted
+abbrev pub KnowsQuiet : View → Type 0
+KnowsQuiet v = v.seen ≡ 1
+
+abbrev pub KnowsHalted : View → Type 0
+KnowsHalted v = v.seen ≡ 2
+
+-- it is unused or done; it is done
+abbrev pub IsNotBusy : View → Type 0
+IsNotBusy v = v.stage ≤ 1
+
+abbrev pub IsDone : View → Type 0
+IsDone v = v.stage ≡ 1
+
 -- a seat halted the run, and knows it
 abbrev pub IsHalter : List View → Type 0
-IsHalter views = (j : ℕ) × (v : View) × (get_elem? views j ≡ some v) × (v.seen ≡ 2) × (0 < v.raised)
+IsHalter views = (j : ℕ) × (v : View) × (get_elem? views j ≡ some v) × KnowsHalted v × (0 < v.raised)
 
 -- every instance is parked or over, and nobody owes
 abbrev pub Quiet : ℕ → (ℕ → Place) → List View → Type 0
@@ -92,7 +92,7 @@ Quiet n place views = ((p : ℕ) → p < n → is_up (place p) ≡ 0) × (total 
 
 -- the channel c is marked where its reader is parked on it; one that no instance writes keeps its number
 pub record ChannelIs (w : Wires) (d : Deal) (place : ℕ → Place) (words : List ℕ) (c : ℕ) : Type 0 where
-  pub mark : slice_index words (8 * (w.instances + c)) % 2 ≡ mark_of place (w.reader c) c
+  pub mark : slice_index words (channel_at w c) % 2 ≡ mark_of place (w.reader c) c
   pub fixed : w.writer c ≡ std.None → published w words c ≡ d.published c
 
 -- the view v of the seat j is right: it has what is in its hands, which no other seat has, and knows how much is published by the writers among them.
@@ -102,14 +102,14 @@ pub record SeatIs (w : Wires) (place : ℕ → Place) (tally : ℕ → ℕ) (wor
   pub hands : (p : ℕ) → p < w.instances → slice_index v.hands p ≡ held_by j (place p)
   pub inside : (p : ℕ) → 0 < slice_index v.hands p → p < w.instances
   pub known : (p c : ℕ) → p < w.instances → slice_index v.hands p ≡ 1 → c < w.channels → w.writer c ≡ Some p → slice_index v.flushed c ≡ published w words c
-  pub got : (p : ℕ) → p < w.instances → slice_index v.hands p ≡ 1 → slice_index v.got p ≡ tally p
+  pub events_when_got : (p : ℕ) → p < w.instances → slice_index v.hands p ≡ 1 → slice_index v.events_when_got p ≡ tally p
   pub pairs : Owes v.hands v.owed
   -- so the count doesn't wrap
   pub few : v.down ≤ 2 ^ 32 * v.parts
-  pub saw_quiet : v.seen ≡ 1 → count w words ≡ 0
-  pub saw_halted : v.seen ≡ 2 → halted w words ≢ 0
-  pub sights : (v.seen ≤ 2) × (0 < v.raised → v.seen ≡ 2)
-  pub idle : v.stage ≤ 1 → v.drawn ≡ 0
+  pub saw_quiet : KnowsQuiet v → count w words ≡ 0
+  pub saw_halted : KnowsHalted v → halted w words ≢ 0
+  pub sights : (v.seen ≤ 2) × (0 < v.raised → KnowsHalted v)
+  pub idle : IsNotBusy v → v.drawn ≡ 0
   pub spends : v.parts ≡ 0 → v ≡ spent
 
 module _ {T : Type 0} where
@@ -119,10 +119,8 @@ module _ {T : Type 0} where
 
   -- a held cell's slot is out with the seat, any other is at home
   abbrev pub HasSlot : Place → Option (Option (std.Option T)) → Type 0
-  HasSlot ready h = (y : T) × (h ≡ some (some (Some y)))
   HasSlot (held j) h = h ≡ some none
-  HasSlot (parked c) h = (y : T) × (h ≡ some (some (Some y)))
-  HasSlot over h = (y : T) × (h ≡ some (some (Some y)))
+  HasSlot place h = (y : T) × (h ≡ some (some (Some y)))
 
   -- the instance p stands at one place: its word and its slot say so, and where it is held there is the seat; it is parked on a channel that it reads
   pub record PlaceIs (w : Wires) (place : ℕ → Place) (s : St T) (p : ℕ) : Type 0 where
@@ -133,13 +131,13 @@ module _ {T : Type 0} where
 
   -- where one seat is done and all others are done or unused
   abbrev pub AllLeft : St T → Type 0
-  AllLeft s = ((j : ℕ) (v : View) → get_elem? s.views j ≡ some v → v.stage ≤ 1) × ((j : ℕ) × (v : View) × (get_elem? s.views j ≡ some v) × (v.stage ≡ 1))
+  AllLeft s = ((j : ℕ) (v : View) → get_elem? s.views j ≡ some v → IsNotBusy v) × ((j : ℕ) × (v : View) × (get_elem? s.views j ≡ some v) × IsDone v)
 
   -- the run is halted, or quiet, or out of budget with no draw undone
   abbrev pub Stopped : Wires → St T → Type 0
   Stopped w s = (halted w s.words ≢ 0) ⊎ ((count w s.words ≡ 0) ⊎ ((budget w s.words ≡ 0) × (total (λ v. v.drawn) s.views ≡ 0)))
 
-module _ {T : Type 0} (told : T → std.Option Tale) (belongs : ℕ → T → Type 0) (w : Wires) where
+module _ {T : Type 0} (told : T → std.Option Summary) (belongs : ℕ → T → Type 0) (w : Wires) where
   -- the cell y of the instance p, which is at home: where it is parked it waits there and took what is published; where it is over it has ended. What it tells
   -- as flushed is published, and is all that it sent, unless halted. It told so many events when it was last given up, and belongs to p
   pub record HomeIs (place : ℕ → Place) (tally : ℕ → ℕ) (words : List ℕ) (p : ℕ) (y : T) : Type 0 where
@@ -163,7 +161,7 @@ module _ {T : Type 0} (told : T → std.Option Tale) (belongs : ℕ → T → Ty
     pub small : d.bound + d.events < 2 ^ 48
     pub budgeted : budget w s.words + total (λ v. v.drawn) s.views + total (λ v. v.done) s.views ≡ d.bound
     -- what is told as done is told by cells, but for those that no cell has told yet
-    pub tallied : d.events + total (λ v. v.done) s.views ≡ below tally w.instances + total (λ v. v.loose) s.views
+    pub tallied : d.events + total (λ v. v.done) s.views ≡ below tally w.instances + total (λ v. v.untold) s.views
     -- the count is the number of instances neither parked nor over, but for what is owed to it
     pub counted : count w s.words + total (λ v. length v.owed) s.views ≡ below (λ p. is_up (place p)) w.instances + total (λ v. v.down) s.views
     -- it is halted only where a seat did so

@@ -5,6 +5,7 @@ ghost use Rattle.std.specs.VecDeque.{deque_capacity};
 ghost use Rattle.std.specs.Vec.{vec_capacity};
 ghost use Rattle.kahn_board.specs.Plays.{Facts};
 ghost use Rattle.kahn_board.specs.Dealt.{holds, wired};
+ghost use Rattle.kahn_board.specs.Rule.{channel_at, budget_at, count_at, halted_at};
 
 use crate::plays::{
     CountingDown, CountingUp, Drawing, GivingBack, Halting, Notes, SeesBudget, SeesCount,
@@ -48,8 +49,8 @@ impl<T: Told> Board<T> {
         self.table.shared.load::<Brand>(seat, word)
     }
 
-    // A load of which a number of the caller's is told.
-    fn load_for<P: Play<Option<T>, View>>(
+    // A load whose play speaks of a number of the caller's.
+    fn load_with<P: Play<Option<T>, View>>(
         &self,
         seat: &mut atomic_table::Seat<Option<T>, View>,
         word: usize,
@@ -91,6 +92,39 @@ impl<T: Told> Board<T> {
         self.table.shared.fetch_sub::<Brand>(seat, word, k)
     }
 
+    // The word of the channel.
+    #[inline(always)]
+    fn channel_word(&self, channel: usize) -> usize
+        requires { channel < self.now.channels }
+        ensures { result ≡ channel_at (wired self.now.table.shared.key) channel }
+    {
+        8 * (self.instances + channel)
+    }
+
+    // The word of the budget.
+    #[inline(always)]
+    pub(crate) fn budget_word(&self) -> usize
+        ensures { result ≡ budget_at (wired self.now.table.shared.key) }
+    {
+        8 * (self.instances + self.channels)
+    }
+
+    // The word of the count.
+    #[inline(always)]
+    fn count_word(&self) -> usize
+        ensures { result ≡ count_at (wired self.now.table.shared.key) }
+    {
+        self.budget_word() + 8
+    }
+
+    // The word that tells whether the run is halted.
+    #[inline(always)]
+    pub(crate) fn halted_word(&self) -> usize
+        ensures { result ≡ halted_at (wired self.now.table.shared.key) }
+    {
+        self.budget_word() + 16
+    }
+
     // Who reads the channel, where somebody does.
     fn reader(&self, channel: usize) -> usize
         requires { (channel < self.now.channels) × ((p : ℕ) × ((wired self.now.table.shared.key).reader channel ≡ Some p)) }
@@ -120,17 +154,17 @@ pub struct Seat<T> {
 }
 
 impl<T: Told> Seat<T> {
-    ghost use Rattle.kahn_board.specs.Calls.{Becomes, Claims, LooksAt, IsSameSeat, IsFirstSlot, KeepsAll, Swaps, MayLeave, OwesFew, GivesUp, Parks, Publishes, Draws, CountsDown, Looks, downs_of};
-    ghost use Rattle.kahn_board.specs.Tale.{TellsEnd, TellsWait};
+    ghost use Rattle.kahn_board.specs.Calls.{Becomes, Claims, IsAtBoard, LooksAt, IsSameSeat, IsFirstSlot, KeepsAll, Swaps, MayLeave, OwesFew, GivesUp, Parks, Publishes, Draws, CountsDown, Looks, downs_of};
+    ghost use Rattle.kahn_board.specs.Summary.{TellsEnd, TellsWait};
     ghost use Rattle.kahn_board.specs.declared.board.Rest.TheVariants.{Over};
-    ghost use Rattle.kahn_board.specs.Plays.{Carries, IsIn, halting, paid_up, undrawn, used};
+    ghost use Rattle.kahn_board.specs.Plays.{Carries, IsIn, after_halting, after_counting_up, after_giving_back, after_reporting};
     ghost use Rattle.atomic_table.specs.Table.{turned as shifted};
     ghost use Rattle.kahn_board.specs.Dealt.{belongs, wired};
 
     /// Whether the instance is ready: it was so, or it wasn't, at a moment of the call. An idle worker looks before it claims,
     /// since a claim writes a word.
     pub fn looks_ready(&mut self, board: &Board<T>, p: usize) -> bool
-        requires { (self.old.seat.table_id ≡ board.now.table.shared.table_id) × (p < board.now.instances) }
+        requires { IsAtBoard board.now self.old × (p < board.now.instances) }
         ensures { LooksAt T.told T.after board.now.table.shared.key self.old self.new p result }
     {
         let found = board.load::<Notes>(&mut self.seat, 8 * p);
@@ -140,7 +174,7 @@ impl<T: Told> Seat<T> {
     /// Takes the instance into the seat's hands where it is ready, with its cell at home. `None` where it isn't ready: then
     /// all stays as it is.
     pub fn claim(&mut self, board: &Board<T>, p: usize) -> Option<()>
-        requires { (self.old.seat.table_id ≡ board.now.table.shared.table_id) × (p < board.now.instances) }
+        requires { IsAtBoard board.now self.old × (p < board.now.instances) }
         ensures { Claims T.told T.after board.now.table.shared.key self.old self.new p result }
     {
         let found = board.compare_exchange::<Brand>(&mut self.seat, 8 * p, 0, 1);
@@ -159,7 +193,7 @@ impl<T: Told> Seat<T> {
     }
 
     // The first slot goes behind the others.
-    fn turn(&mut self)
+    fn rotate(&mut self)
         requires { 0 < length self.old.held.items }
         ensures { IsSameSeat self.old self.new × (self.new.seat.me ≡ (self.old.seat.me.0, shifted self.old.seat.me.1)) }
     {
@@ -169,25 +203,25 @@ impl<T: Told> Seat<T> {
     }
 
     // Its slot comes first.
-    fn bring(&mut self, p: usize)
+    fn bring_to_front(&mut self, p: usize)
         requires { IsIn self.old.seat.me.0 p }
         ensures same { IsSameSeat self.old self.new × (self.new.seat.me.0 ≡ self.old.seat.me.0) }
         ensures first { IsFirstSlot self.new p }
         ensures kept { KeepsAll self.old self.new }
     {
         while self.first() != p {
-            self.turn();
+            self.rotate();
         }
     }
 
     /// Moves the cell out: the only one that the seat has of the instance.
-    pub fn cell(&mut self, board: &Board<T>, p: usize) -> T
-        requires board { self.old.seat.table_id ≡ board.now.table.shared.table_id }
+    pub fn take_cell(&mut self, board: &Board<T>, p: usize) -> T
+        requires board { IsAtBoard board.now self.old }
         requires held { IsIn self.old.seat.me.0 p × ((y : T) × Carries self.old.seat.me.1 p (Some y)) }
         ensures swaps { Swaps self.old self.new p (Some result) None }
         ensures only { (y : T) → Carries self.old.seat.me.1 p (Some y) → y ≡ result }
     {
-        self.bring(p);
+        self.bring_to_front(p);
         board
             .table
             .shared
@@ -197,23 +231,23 @@ impl<T: Told> Seat<T> {
 
     /// Puts the cell in.
     pub fn put_back(&mut self, board: &Board<T>, p: usize, cell: T)
-        requires board { self.old.seat.table_id ≡ board.now.table.shared.table_id }
+        requires board { IsAtBoard board.now self.old }
         requires held { IsIn self.old.seat.me.0 p × Carries self.old.seat.me.1 p None }
         ensures { Swaps self.old self.new p None (Some cell) }
     {
-        self.bring(p);
+        self.bring_to_front(p);
         let old = board.table.shared.exchange(&mut self.seat, p, Some(cell));
         let None = old else { unreachable!() };
     }
 
     /// The instance is ready again, or over.
     pub fn set_down(&mut self, board: &Board<T>, p: usize, rest: Rest)
-        requires board { self.old.seat.table_id ≡ board.now.table.shared.table_id }
+        requires board { IsAtBoard board.now self.old }
         requires held { MayLeave T.told T.after board.now.table.shared.key self.old p (λ y. rest ≡ Over → TellsEnd (T.told y)) }
         requires few { OwesFew self.old.seat.me.0 }
         ensures { GivesUp T.told self.old self.new p (downs_of rest) }
     {
-        self.bring(p);
+        self.bring_to_front(p);
         let new = match rest {
             Rest::Ready => 0,
             Rest::Over => 2,
@@ -227,14 +261,14 @@ impl<T: Told> Seat<T> {
 
     /// The instance waits on the channel, unless other than `taken` tokens of it are published.
     pub fn park(&mut self, board: &Board<T>, p: usize, channel: usize, taken: u64) -> bool
-        requires board { self.old.seat.table_id ≡ board.now.table.shared.table_id }
+        requires board { IsAtBoard board.now self.old }
         requires reads { (channel < board.now.channels) × ((wired board.now.table.shared.key).reader channel ≡ Some p) × (taken < 2 ^ 48) }
         requires held { MayLeave T.told T.after board.now.table.shared.key self.old p (λ y. TellsWait (T.told y) channel taken) }
         requires few { OwesFew self.old.seat.me.0 }
         ensures { Parks T.told T.after board.now.table.shared.key self.old self.new p channel taken result }
     {
-        self.bring(p);
-        let word = 8 * (board.instances + channel);
+        self.bring_to_front(p);
+        let word = board.channel_word(channel);
         let found = board.compare_exchange::<Brand>(&mut self.seat, word, 2 * taken, 2 * taken + 1);
         if found != 2 * taken {
             return false;
@@ -245,12 +279,12 @@ impl<T: Told> Seat<T> {
 
     /// So many tokens of the channel are published. Where its reader was parked on it, the seat has the reader now.
     pub fn publish(&mut self, board: &Board<T>, channel: usize, count: u64) -> Option<usize>
-        requires board { self.old.seat.table_id ≡ board.now.table.shared.table_id }
+        requires board { IsAtBoard board.now self.old }
         requires few { (channel < board.now.channels) × (count < 2 ^ 48) }
         requires writer { (q : ℕ) × ((wired board.now.table.shared.key).writer channel ≡ Some q) × IsIn self.old.seat.me.0 q }
         ensures { Publishes T.told (belongs T.after board.now.table.shared.key) (wired board.now.table.shared.key) self.old self.new channel count result }
     {
-        let word = 8 * (board.instances + channel);
+        let word = board.channel_word(channel);
         let found = board
             .table
             .shared
@@ -265,11 +299,11 @@ impl<T: Told> Seat<T> {
 
     /// Pays the count up that is owed longest.
     pub fn count_up(&mut self, board: &Board<T>)
-        requires board { self.old.seat.table_id ≡ board.now.table.shared.table_id }
+        requires board { IsAtBoard board.now self.old }
         requires owes { 0 < length self.old.seat.me.0.owed }
-        ensures { Becomes (paid_up self.old.seat.me.0) self.old self.new }
+        ensures { Becomes (after_counting_up self.old.seat.me.0) self.old self.new }
     {
-        let word = 8 * (board.instances + board.channels) + 8;
+        let word = board.count_word();
         board
             .table
             .shared
@@ -278,21 +312,21 @@ impl<T: Told> Seat<T> {
 
     /// Pays a count down.
     pub fn count_down(&mut self, board: &Board<T>)
-        requires board { self.old.seat.table_id ≡ board.now.table.shared.table_id }
+        requires board { IsAtBoard board.now self.old }
         requires owes { 0 < self.old.seat.me.0.down }
         ensures { CountsDown T.told T.after board.now.table.shared.key self.old self.new }
     {
-        let word = 8 * (board.instances + board.channels) + 8;
+        let word = board.count_word();
         board.fetch_sub::<CountingDown>(&mut self.seat, word, 1);
     }
 
     /// Draws up to `quantum` events from the budget.
     pub fn draw(&mut self, board: &Board<T>, quantum: u64) -> Draw
-        requires board { self.old.seat.table_id ≡ board.now.table.shared.table_id }
+        requires board { IsAtBoard board.now self.old }
         requires ready { (0 < quantum) × (self.old.seat.me.0.drawn ≡ 0) }
         ensures { Draws T.told T.after board.now.table.shared.key self.old self.new quantum result }
     {
-        let word = 8 * (board.instances + board.channels);
+        let word = board.budget_word();
         let found = board.load::<Notes>(&mut self.seat, word);
         if found == 0 {
             return Draw::Empty;
@@ -306,22 +340,22 @@ impl<T: Told> Seat<T> {
     }
 
     /// So many events of the draw were done. The others may still be done.
-    pub fn spend(&mut self, board: &Board<T>, n: u64)
-        requires board { self.old.seat.table_id ≡ board.now.table.shared.table_id }
+    pub fn report_done(&mut self, board: &Board<T>, n: u64)
+        requires board { IsAtBoard board.now self.old }
         requires drawn { n ≤ self.old.seat.me.0.drawn }
-        ensures { Becomes (used self.old.seat.me.0 n) self.old self.new }
+        ensures { Becomes (after_reporting self.old.seat.me.0 n) self.old self.new }
     {
-        let word = 8 * (board.instances + board.channels);
-        board.load_for::<Brand>(&mut self.seat, word, n);
+        let word = board.budget_word();
+        board.load_with::<Brand>(&mut self.seat, word, n);
     }
 
     /// So many events of the draw weren't done, the others were.
     pub fn give_back(&mut self, board: &Board<T>, n: u64)
-        requires board { self.old.seat.table_id ≡ board.now.table.shared.table_id }
+        requires board { IsAtBoard board.now self.old }
         requires drawn { n ≤ self.old.seat.me.0.drawn }
-        ensures { Becomes (undrawn self.old.seat.me.0 n) self.old self.new }
+        ensures { Becomes (after_giving_back self.old.seat.me.0 n) self.old self.new }
     {
-        let word = 8 * (board.instances + board.channels);
+        let word = board.budget_word();
         board
             .table
             .shared
@@ -330,26 +364,25 @@ impl<T: Told> Seat<T> {
 
     /// The run is to stop.
     pub fn halt(&mut self, board: &Board<T>)
-        requires board { self.old.seat.table_id ≡ board.now.table.shared.table_id }
-        ensures { Becomes (halting self.old.seat.me.0) self.old self.new }
+        requires board { IsAtBoard board.now self.old }
+        ensures { Becomes (after_halting self.old.seat.me.0) self.old self.new }
     {
-        let word = 8 * (board.instances + board.channels) + 16;
+        let word = board.halted_word();
         board.table.shared.store::<Halting>(&mut self.seat, word, 1);
     }
 
     /// Whether there is a reason to leave.
     pub fn look(&mut self, board: &Board<T>) -> Look
-        requires board { self.old.seat.table_id ≡ board.now.table.shared.table_id }
+        requires board { IsAtBoard board.now self.old }
         ensures { Looks T.told T.after board.now.table.shared.key self.old self.new result }
     {
-        let hot = 8 * (board.instances + board.channels);
-        if board.load::<SeesHalted>(&mut self.seat, hot + 16) != 0 {
+        if board.load::<SeesHalted>(&mut self.seat, board.halted_word()) != 0 {
             return Look::Halted;
         }
-        if board.load::<SeesCount>(&mut self.seat, hot + 8) == 0 {
+        if board.load::<SeesCount>(&mut self.seat, board.count_word()) == 0 {
             return Look::Quiet;
         }
-        if board.load::<SeesBudget>(&mut self.seat, hot) == 0 {
+        if board.load::<SeesBudget>(&mut self.seat, board.budget_word()) == 0 {
             Look::NoBudget
         } else {
             Look::Go

@@ -4,7 +4,7 @@ ghost use Rattle.std.specs.Prelude.{◌≡◌, ℕ, ◌+◌, ◌*◌, ◌^◌, �
 ghost use mathlib.Core.Option.{some};
 ghost use lib.ListN.{get_elem?};
 ghost use Rattle.kahn_board.specs.Dealt.{belongs, dealt, wired};
-ghost use Rattle.kahn_board.specs.Calls.{IsSameSeat, AreCut, IsFree, joined_view};
+ghost use Rattle.kahn_board.specs.Calls.{IsAtBoard, IsSameSeat, AreCut, IsFree, after_joining};
 ghost use Rattle.kahn_board.specs.Opening.{Closes};
 ghost use Rattle.kahn_board.specs.Rule.{all_parts};
 ghost use Rattle.kahn_board.specs.inner.Turn.{AddUp, IsDoneAt, IsLoneSeat, SitsAt, parts_of, done_of, raised_of};
@@ -21,21 +21,21 @@ use std::collections::VecDeque;
 pub struct Cut;
 
 impl Split<View> for Cut {
-    ghost use Rattle.kahn_board.specs.Calls.{kept_part, cut_part};
+    ghost use Rattle.kahn_board.specs.Calls.{after_splitting, split_off};
 
-    ghost left = { kept_part };
+    ghost left = { after_splitting };
 
-    ghost right = { cut_part };
+    ghost right = { split_off };
 }
 
 /// How the views of two seats are put together: the second is spent.
 pub struct Both;
 
 impl Join<View> for Both {
-    ghost use Rattle.kahn_board.specs.Calls.{joined_view};
+    ghost use Rattle.kahn_board.specs.Calls.{after_joining};
     ghost use Rattle.kahn_board.specs.Rule.{spent};
 
-    ghost both = { joined_view };
+    ghost both = { after_joining };
 
     ghost spent = { spent };
 }
@@ -45,61 +45,47 @@ impl<T: Told> Board<T> {
     pub fn split(
         &self,
         alloc: Global,
-        seat: Seat<T>,
+        mut seat: Seat<T>,
     ) -> Result<(Seat<T>, Seat<T>), (NoMemory, Seat<T>)>
-        requires { (seat.seat.table_id ≡ self.now.table.shared.table_id) × (1 < seat.seat.me.0.parts) × IsFree seat.seat.me.0 }
+        requires { IsAtBoard self.now seat × (1 < seat.seat.me.0.parts) × IsFree seat.seat.me.0 }
         ensures made { IfOk result (λ t. AreCut seat t.0 t.1) }
         ensures refused { IfErr result (λ e. e.1 ≡ seat) }
     {
-        let Ok(room) = VecDeque::with_capacity(alloc, self.instances) else {
+        let Ok(held) = VecDeque::with_capacity(alloc, self.instances) else {
             return Err((NoMemory, seat));
         };
-        let Seat {
-            seat: mut first,
-            held,
-        } = seat;
-        let second = self.table.shared.split_seat::<Cut>(&mut first);
-        let first = Seat { seat: first, held };
-        Ok((
-            first,
-            Seat {
-                seat: second,
-                held: room,
-            },
-        ))
+        let second = self.table.shared.split_seat::<Cut>(&mut seat.seat);
+        Ok((seat, Seat { seat: second, held }))
     }
 
     /// One seat of the two.
-    pub fn join(&self, seat: Seat<T>, other: Seat<T>) -> Seat<T>
-        requires { (seat.seat.table_id ≡ self.now.table.shared.table_id) × (other.seat.table_id ≡ self.now.table.shared.table_id) × IsFree other.seat.me.0 }
-        ensures { IsSameSeat seat result × (result.seat.me ≡ (joined_view seat.seat.me.0 other.seat.me.0, seat.seat.me.1)) }
+    pub fn join(&self, mut seat: Seat<T>, other: Seat<T>) -> Seat<T>
+        requires { IsAtBoard self.now seat × IsAtBoard self.now other × IsFree other.seat.me.0 }
+        ensures { IsSameSeat seat result × (result.seat.me ≡ (after_joining seat.seat.me.0 other.seat.me.0, seat.seat.me.1)) }
     {
-        let Seat { mut seat, held } = seat;
-        let Seat {
-            seat: other,
-            held: _,
-        } = other;
-        self.table.shared.join_seat::<Both>(&mut seat, other);
-        Seat { seat, held }
+        self.table
+            .shared
+            .join_seat::<Both>(&mut seat.seat, other.seat);
+        seat
     }
 
     /// Each cell, in order, the budget, and whether the run was halted.
     pub fn close(self, seat: Seat<T>) -> Closed<T>
-        requires { (seat.seat.table_id ≡ self.table.shared.table_id) × (seat.seat.me.0.parts ≡ all_parts) × IsFree seat.seat.me.0 }
+        requires { IsAtBoard self seat × (seat.seat.me.0.parts ≡ all_parts) × IsFree seat.seat.me.0 }
         ensures { Closes T.told (belongs T.after self.table.shared.key) (wired self.table.shared.key) (dealt T.told self.table.shared.key) result seat.seat.me.0 }
     {
+        let budget_word = self.budget_word();
+        let halted_word = self.halted_word();
         let Board {
             table,
             instances,
-            channels,
+            channels: _,
             readers: _,
             mut room,
         } = self;
-        let Seat { seat, held: _ } = seat;
-        let mut closed = table.close_with(seat);
-        let hot = 8 * (instances + channels);
-        let budget = closed.word(hot);
-        let halted = closed.word(hot + 16);
+        let mut closed = table.close_with(seat.seat);
+        let budget = closed.word(budget_word);
+        let halted = closed.word(halted_word);
         for i in 0..instances {
             let Some(cell) = closed.take(i) else {
                 unreachable!()

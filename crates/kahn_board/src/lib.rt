@@ -16,9 +16,6 @@ pub use closing::Closed;
 // For the crates above.
 pub use closing::{join_all, split_all};
 pub use rule::{Rule, Terms, Told};
-pub use turn::{
-    draw_some, give, go_on, looks_ready, pick, put, rest_dry, rest_over, rest_ready, stop,
-    take_cell, tell, tell_done,
-};
+pub use turn::{claim, draw_some, go_on, publish, rest_dry, rest_over, rest_ready};
 pub use view::View;
 pub use wiring::{reader_of, writer_of};

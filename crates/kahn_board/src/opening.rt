@@ -70,7 +70,7 @@ fn out_of_slots<T>(mut slots: Vec<Option<T>, Global>, mut cells: Vec<T, Global>)
 }
 
 // All that a board takes memory for, but its table.
-struct Grown<T> {
+struct Reserved<T> {
     wiring: Wiring,
     words: Vec<u64, Global>,
     held: VecDeque<usize, Global>,
@@ -78,13 +78,13 @@ struct Grown<T> {
     slots: Vec<Option<T>, Global>,
 }
 
-impl<T> Grown<T> {
+impl<T> Reserved<T> {
     fn new(
         alloc: Global,
         network: &Network,
         published: &[u64],
         bound: u64,
-    ) -> Result<Grown<T>, NoMemory>
+    ) -> Result<Reserved<T>, NoMemory>
         requires { (length published.now ≡ (wires network.now).channels) × ((c : ℕ) → c < length published.now → slice_index published.now c < 2 ^ 48) }
         ensures wiring { IfOk result (λ w. IsWiringOf network.now w.wiring) }
         ensures words { IfOk result (λ w. AreFirstWords w.wiring.instances bound published.now w.words.items) }
@@ -100,7 +100,7 @@ impl<T> Grown<T> {
             room.destroy_empty();
             return Err(NoMemory);
         };
-        Ok(Grown {
+        Ok(Reserved {
             wiring,
             words,
             held,
@@ -126,17 +126,17 @@ impl<T: Told> Board<T> {
         ensures published { IfOk result (λ t. (c : ℕ) → c < length published.now → (dealt T.told t.0.table.shared.key).published c ≡ slice_index published.now c) }
         ensures refused { IfErr result (λ e. e.1.items ≡ cells.items) }
     {
-        let grown = match Grown::new(alloc, network, published, bound) {
-            Ok(grown) => grown,
+        let reserved = match Reserved::new(alloc, network, published, bound) {
+            Ok(reserved) => reserved,
             Err(fault) => return Err((fault, cells)),
         };
-        let Grown {
+        let Reserved {
             wiring,
             words,
             held,
             room,
             slots,
-        } = grown;
+        } = reserved;
         let terms = Terms {
             network: Snapshot::of(network),
             words: Snapshot::of(&words),
@@ -151,16 +151,11 @@ impl<T: Told> Board<T> {
             }
             Ok((table, seat)) => {
                 cells.destroy_empty();
-                let Wiring {
-                    instances,
-                    channels,
-                    readers,
-                } = wiring;
                 let board = Board {
                     table,
-                    instances,
-                    channels,
-                    readers,
+                    instances: wiring.instances,
+                    channels: wiring.channels,
+                    readers: wiring.readers,
                     room,
                 };
                 Ok((board, Seat { seat, held }))

@@ -1,6 +1,6 @@
 //! What each step tells its seat.
 
-ghost use Rattle.kahn_board.specs.Plays.{becomes, drew, noted_view, undrawn, paid_up, paid_down, halting, sees_halted, sees_count, sees_budget};
+ghost use Rattle.kahn_board.specs.Plays.{becomes, drew, after_step, after_giving_back, after_counting_up, after_counting_down, after_halting, sees_halted, sees_count, sees_budget};
 
 use crate::view::View;
 use atomic_table::Play;
@@ -16,7 +16,7 @@ impl<T> Play<Option<T>, View> for Brand {
 pub struct Notes;
 
 impl<T> Play<Option<T>, View> for Notes {
-    ghost then = { becomes (λ _. noted_view) };
+    ghost then = { becomes (λ _. after_step) };
 }
 
 /// What the exchange of a draw tells.
@@ -30,28 +30,28 @@ impl<T> Play<Option<T>, View> for Drawing {
 pub struct GivingBack;
 
 impl<T> Play<Option<T>, View> for GivingBack {
-    ghost then = { becomes (λ n v. undrawn v n) };
+    ghost then = { becomes (λ n v. after_giving_back v n) };
 }
 
 /// What a count up tells.
 pub struct CountingUp;
 
 impl<T> Play<Option<T>, View> for CountingUp {
-    ghost then = { becomes (λ _. paid_up) };
+    ghost then = { becomes (λ _. after_counting_up) };
 }
 
 /// What a count down tells.
 pub struct CountingDown;
 
 impl<T> Play<Option<T>, View> for CountingDown {
-    ghost then = { becomes (λ _. paid_down) };
+    ghost then = { becomes (λ _. after_counting_down) };
 }
 
 /// What halting tells.
 pub struct Halting;
 
 impl<T> Play<Option<T>, View> for Halting {
-    ghost then = { becomes (λ _. halting) };
+    ghost then = { becomes (λ _. after_halting) };
 }
 
 /// What a look at the word halted tells.

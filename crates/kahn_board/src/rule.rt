@@ -1,7 +1,7 @@
 //! What a cell tells, and the rule of the table.
 
 ghost use Rattle.std.specs.Prelude.{Option};
-ghost use Rattle.kahn_board.specs.Tale.{Tale};
+ghost use Rattle.kahn_board.specs.Summary.{Summary};
 
 use crate::view::View;
 use atomic_table::TableRule;
@@ -13,7 +13,7 @@ use std::snapshot::Snapshot;
 /// What a cell tells contracts of itself: the events that it did, what it took, sent and flushed, and whether it
 /// has ended or waits. A cell that tells nothing meets every condition.
 pub trait Told {
-    ghost told: { Self → Option Tale };
+    ghost told: { Self → Option Summary };
 
     /// The second is a later state of the first. The board asks no law of it.
     ghost after: { Self → Self → Type 0 };

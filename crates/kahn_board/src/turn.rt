@@ -1,13 +1,12 @@
-//! A worker's turn: its calls on the board in their order, from the pick of an instance until it is set down.
+//! A worker's turn: its calls on the board in their order, from the claim of an instance until it is set down.
 
 ghost use Rattle.std.specs.Prelude.{◌≡◌, ◌≢◌, ℕ, ◌+◌, ◌-◌, ◌*◌, ◌^◌, ◌<◌, ◌≤◌, slice_index, true, false, Option, Some, None, IfSome, IfNone};
 ghost use Rattle.kahn_board.specs.Dealt.{wired};
-ghost use Rattle.kahn_board.specs.Tale.{TellsEnd, TellsWait};
-ghost use Rattle.kahn_board.specs.Calls.{Becomes, Was, Looks, LooksAt};
-ghost use Rattle.kahn_board.specs.Plays.{undrawn, used};
+ghost use Rattle.kahn_board.specs.Summary.{TellsEnd, TellsWait};
+ghost use Rattle.kahn_board.specs.Calls.{IsAtBoard, Was, Looks};
 ghost use Rattle.kahn_board.specs.declared.board.Look.{Look};
 ghost use Rattle.kahn_board.specs.declared.board.Look.TheVariants.{Go};
-ghost use Rattle.kahn_board.specs.inner.Turn.{DrawsAgain, FitsDraw, drawn_of, BeginsTurn, EndsTurn, IsBetween, IsBetweenTurns, IsSeatOf, HasHalted, HoldsInTurn, Knows, HasPublished, SetsLate, SetsReady, SetsStill};
+ghost use Rattle.kahn_board.specs.inner.Turn.{DrawsAgain, FitsDraw, drawn_of, BeginsTurn, EndsTurn, IsBetween, IsBetweenTurns, IsSeatOf, HoldsInTurn, Knows, HasPublished, SetsLate, SetsReady, SetsStill};
 
 use crate::board::{Board, Draw, Look, Rest, Seat};
 use crate::rule::Told;
@@ -15,26 +14,15 @@ use crate::rule::Told;
 // How often it draws at most, where another worker comes between.
 const DRAWS: usize = 64;
 
-/// Whether the instance is ready. False where it wasn't at a moment of the call.
-pub fn looks_ready<T: Told>(seat: &mut Seat<T>, board: &Board<T>, p: usize) -> bool
-    requires board { seat.old.seat.table_id ≡ board.now.table.shared.table_id }
-    requires inside { p < board.now.instances }
-    ensures same { IsSeatOf seat.old seat.new }
-    ensures rests { (n : ℕ) → IsBetween n seat.old → IsBetween n seat.new }
-    ensures looks { LooksAt T.told T.after board.now.table.shared.key seat.old seat.new p result }
-{
-    seat.looks_ready(board, p)
-}
-
 /// Takes the instance, where it is ready, for what is left of a draw. False where it is not, since another worker has it,
 /// or it waits, or it is over: its word was not 0 then.
-pub fn pick<T: Told>(seat: &mut Seat<T>, board: &Board<T>, p: usize) -> bool
-    requires board { seat.old.seat.table_id ≡ board.now.table.shared.table_id }
+pub fn claim<T: Told>(seat: &mut Seat<T>, board: &Board<T>, p: usize) -> bool
+    requires board { IsAtBoard board.now seat.old }
     requires rests { (n : ℕ) × IsBetween n seat.old }
     requires inside { p < board.now.instances }
     ensures same { IsSeatOf seat.old seat.new }
     ensures picked { result ≡ true → (n : ℕ) → IsBetween n seat.old → BeginsTurn T.told T.after board.now.table.shared.key p n seat.new }
-    ensures few { result ≡ true → slice_index seat.new.seat.me.0.got p + seat.new.seat.me.0.drawn < 2 ^ 48 }
+    ensures few { result ≡ true → slice_index seat.new.seat.me.0.events_when_got p + seat.new.seat.me.0.drawn < 2 ^ 48 }
     ensures missed { result ≡ false → (n : ℕ) → IsBetween n seat.old → IsBetween n seat.new }
     ensures late { result ≡ false → (r : ℕ) × (r ≢ 0) × Was T.told T.after board.now.table.shared.key seat.old seat.old.seat.me.0 (8 * p) r }
 {
@@ -44,13 +32,13 @@ pub fn pick<T: Told>(seat: &mut Seat<T>, board: &Board<T>, p: usize) -> bool
 /// Draws events from the budget, again where another worker comes between: the smaller of `quantum` and the budget at that
 /// moment. `Empty` where the budget was 0, `Lost` where another worker came between 64 times.
 pub fn draw_some<T: Told>(seat: &mut Seat<T>, board: &Board<T>, p: usize, quantum: u64) -> Draw
-    requires board { seat.old.seat.table_id ≡ board.now.table.shared.table_id }
+    requires board { IsAtBoard board.now seat.old }
     requires holds { (x : Option T) × HoldsInTurn p 0 0 x seat.old }
     requires some { 0 < quantum }
     ensures same { IsSeatOf seat.old seat.new }
     ensures knows { Knows (wired board.now.table.shared.key) p seat.old.seat.me.0 seat.new.seat.me.0 }
     ensures draws { DrawsAgain T.told T.after board.now.table.shared.key 64 quantum seat.old seat.new result }
-    ensures fits { FitsDraw quantum (slice_index seat.new.seat.me.0.got p) result }
+    ensures fits { FitsDraw quantum (slice_index seat.new.seat.me.0.events_when_got p) result }
     ensures drawn { (x : Option T) → HoldsInTurn p 0 0 x seat.old → HoldsInTurn p (drawn_of result) 0 x seat.new }
 {
     for _ in 1..DRAWS {
@@ -63,37 +51,16 @@ pub fn draw_some<T: Told>(seat: &mut Seat<T>, board: &Board<T>, p: usize, quantu
     seat.draw(board, quantum)
 }
 
-/// Moves the cell out of its slot.
-pub fn take_cell<T: Told>(seat: &mut Seat<T>, board: &Board<T>, p: usize) -> T
-    requires board { seat.old.seat.table_id ≡ board.now.table.shared.table_id }
-    requires holds { (n : ℕ) × (l : ℕ) × (y : T) × HoldsInTurn p n l (Some y) seat.old }
-    ensures same { IsSeatOf seat.old seat.new × (seat.new.seat.me.0 ≡ seat.old.seat.me.0) }
-    ensures holds { (n l : ℕ) (y : T) → HoldsInTurn p n l (Some y) seat.old → HoldsInTurn p n l None seat.new }
-    ensures cell { (n l : ℕ) (y : T) → HoldsInTurn p n l (Some y) seat.old → y ≡ result }
-{
-    seat.cell(board, p)
-}
-
-/// Puts the cell into its slot.
-pub fn put<T: Told>(seat: &mut Seat<T>, board: &Board<T>, p: usize, cell: T)
-    requires board { seat.old.seat.table_id ≡ board.now.table.shared.table_id }
-    requires holds { (n : ℕ) × (l : ℕ) × HoldsInTurn p n l None seat.old }
-    ensures same { IsSeatOf seat.old seat.new × (seat.new.seat.me.0 ≡ seat.old.seat.me.0) }
-    ensures holds { (n l : ℕ) → HoldsInTurn p n l None seat.old → HoldsInTurn p n l (Some cell) seat.new }
-{
-    seat.put_back(board, p, cell);
-}
-
 /// So many tokens of the channel are published. Answers the reader where it waited on the channel: it is ready again.
 /// `None` where the one step was all there was to do.
-pub fn tell<T: Told>(
+pub fn publish<T: Told>(
     seat: &mut Seat<T>,
     board: &Board<T>,
     p: usize,
     channel: usize,
     count: u64,
 ) -> Option<usize>
-    requires board { seat.old.seat.table_id ≡ board.now.table.shared.table_id }
+    requires board { IsAtBoard board.now seat.old }
     requires holds { (n : ℕ) × (l : ℕ) × (x : Option T) × HoldsInTurn p n l x seat.old }
     requires writes { (channel < board.now.channels) × ((wired board.now.table.shared.key).writer channel ≡ Some p) × (count < 2 ^ 48) }
     ensures same { IsSeatOf seat.old seat.new }
@@ -108,44 +75,9 @@ pub fn tell<T: Told>(
     Some(reader)
 }
 
-/// The run is to stop: each worker leaves after its turn.
-pub fn stop<T: Told>(seat: &mut Seat<T>, board: &Board<T>)
-    requires { seat.old.seat.table_id ≡ board.now.table.shared.table_id }
-    ensures same { HasHalted seat.old seat.new }
-    ensures holds { (p n l : ℕ) (x : Option T) → HoldsInTurn p n l x seat.old → HoldsInTurn p n l x seat.new }
-    ensures idle { IsBetweenTurns seat.old → IsBetweenTurns seat.new }
-    ensures rests { (n : ℕ) → IsBetween n seat.old → IsBetween n seat.new }
-    ensures halted { (seat.new.seat.me.0.seen ≡ 2) × (seat.new.seat.me.0.flushed ≡ seat.old.seat.me.0.flushed) × (seat.new.seat.me.0.got ≡ seat.old.seat.me.0.got) }
-{
-    seat.halt(board);
-}
-
-/// So many events of the draw were done. The others may still be done.
-pub fn tell_done<T: Told>(seat: &mut Seat<T>, board: &Board<T>, p: usize, done: u64)
-    requires board { seat.old.seat.table_id ≡ board.now.table.shared.table_id }
-    requires holds { (n : ℕ) × (x : Option T) × HoldsInTurn p n 0 x seat.old × (done ≤ n) }
-    ensures same { IsSeatOf seat.old seat.new }
-    ensures knows { Knows (wired board.now.table.shared.key) p seat.old.seat.me.0 seat.new.seat.me.0 }
-    ensures holds { (n : ℕ) (x : Option T) → HoldsInTurn p n 0 x seat.old → HoldsInTurn p (n - done) done x seat.new }
-    ensures used { Becomes (used seat.old.seat.me.0 done) seat.old seat.new }
-{
-    seat.spend(board, done);
-}
-
-/// What is left of the draw is not done.
-pub fn give<T: Told>(seat: &mut Seat<T>, board: &Board<T>, undone: u64)
-    requires board { seat.old.seat.table_id ≡ board.now.table.shared.table_id }
-    requires rests { IsBetween undone seat.old }
-    ensures same { IsSeatOf seat.old seat.new }
-    ensures idle { IsBetweenTurns seat.new }
-    ensures back { Becomes (undrawn seat.old.seat.me.0 undone) seat.old seat.new }
-{
-    seat.give_back(board, undone);
-}
-
 /// The instance is ready for another turn.
 pub fn rest_ready<T: Told>(seat: &mut Seat<T>, board: &Board<T>, p: usize)
-    requires board { seat.old.seat.table_id ≡ board.now.table.shared.table_id }
+    requires board { IsAtBoard board.now seat.old }
     requires holds { EndsTurn T.told T.after board.now.table.shared.key p (λ y. Unit {0}) seat.old }
     ensures same { IsSeatOf seat.old seat.new }
     ensures rests { IsBetween seat.old.seat.me.0.drawn seat.new }
@@ -156,7 +88,7 @@ pub fn rest_ready<T: Told>(seat: &mut Seat<T>, board: &Board<T>, p: usize)
 
 /// The instance has ended.
 pub fn rest_over<T: Told>(seat: &mut Seat<T>, board: &Board<T>, p: usize)
-    requires board { seat.old.seat.table_id ≡ board.now.table.shared.table_id }
+    requires board { IsAtBoard board.now seat.old }
     requires holds { EndsTurn T.told T.after board.now.table.shared.key p (λ y. TellsEnd (T.told y)) seat.old }
     ensures same { IsSeatOf seat.old seat.new }
     ensures rests { IsBetween seat.old.seat.me.0.drawn seat.new }
@@ -175,7 +107,7 @@ pub fn rest_dry<T: Told>(
     channel: usize,
     taken: u64,
 ) -> bool
-    requires board { seat.old.seat.table_id ≡ board.now.table.shared.table_id }
+    requires board { IsAtBoard board.now seat.old }
     requires reads { (channel < board.now.channels) × ((wired board.now.table.shared.key).reader channel ≡ Some p) × (taken < 2 ^ 48) }
     requires holds { EndsTurn T.told T.after board.now.table.shared.key p (λ y. TellsWait (T.told y) channel taken) seat.old }
     ensures same { IsSeatOf seat.old seat.new }
@@ -194,7 +126,7 @@ pub fn rest_dry<T: Told>(
 /// Whether another turn comes. False where it saw that the run is halted, that no instance can go on, or that the budget
 /// is empty: then it has left.
 pub fn go_on<T: Told>(seat: &mut Seat<T>, board: &Board<T>) -> bool
-    requires board { seat.old.seat.table_id ≡ board.now.table.shared.table_id }
+    requires board { IsAtBoard board.now seat.old }
     requires idle { IsBetweenTurns seat.old }
     ensures same { IsSeatOf seat.old seat.new }
     ensures idle { IsBetweenTurns seat.new }

@@ -1,8 +1,7 @@
 -- The chain of an instance: what is marked is on it, and in the end all of it is marked.
-use Rattle.std.proofs.Common.{◌≡◌, ℕ, zero, suc, ◌+◌, ◌<◌, ◌⊎◌, inl, inr, ⊎_elim, List, [], ◌∷◌, ◌++◌, length, Bool, true, false, get_or, set, replicate, length-set, Some, refl, sym, subst, ◌∙◌, arith, get_or-set_same, get_or-set_other}
+use Rattle.std.proofs.Common.{◌≡◌, ℕ, ◌<◌, ◌⊎◌, inl, inr, ⊎_elim, List, length, Bool, true, false, get_or, set, replicate, length-set, refl, sym, subst, ◌∙◌, arith, get_or-set_same, get_or-set_other}
 use Rattle.std.proofs.lemmas.Bool.{cases_eq}
 use Rattle.std.proofs.lemmas.List.{length-replicate}
-use Rattle.std.specs.List.{slice_get}
 use Rattle.kahn_streams.specs.Network.{Network}
 use Rattle.kahn_chain.specs.Chain.{Awaits, Leads, stays, onward, IsRingMark}
 use Rattle.kahn_chain.specs.inner.Walk.{IsHere, IsStepFrom, AreOnChain}

@@ -1,4 +1,5 @@
 mod Caused
 mod Chaining
 mod Leading
+pub mod Standing_ends
 mod Walking

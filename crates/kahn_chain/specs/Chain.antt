@@ -2,10 +2,23 @@
 -- its waits are one chain.
 use Rattle.std.specs.Prelude.{◌≡◌, ℕ, ◌<◌, ◌≤◌, List, Bool, true, false, length, Some, slice_get}
 use Rattle.kahn_streams.specs.Network.{Network, Given, Written, channel_source}
+use Rattle.kahn_streams.specs.declared.answer.End.{End}
+use Rattle.kahn_streams.specs.declared.answer.Outcome.{Outcome}
+use Rattle.kahn_streams.specs.declared.answer.Outcome.TheVariants as outcome
 use Rattle.kahn_chain.specs.declared.standing.Standing.{Standing}
 use Rattle.kahn_chain.specs.declared.standing.Standing.TheVariants.{Ended, Waits, Faulted, More}
 use Rattle.kahn_chain.specs.declared.standing.Cause.{Cause}
 use Rattle.kahn_chain.specs.declared.standing.Cause.TheVariants.{Input, Stopped, Ring}
+
+-- how an instance stands that has this outcome, or this end
+abbrev pub standing_of : Outcome → Standing
+standing_of outcome.Ended = Ended
+standing_of (outcome.Waits c) = Waits c
+standing_of (outcome.Faulted k) = Faulted
+standing_of outcome.More = More
+
+abbrev pub stands : End → Standing
+stands x = standing_of x.outcome
 
 -- the list says how each instance stands, and each waits on a channel of the network
 pub record AreStandings (N : Network) (ss : List Standing) : Type 0 where
@@ -56,3 +69,8 @@ IsRingMark N ss p false = LeadsOn N ss p p → ⊥
 pub record AreRings (N : Network) (ss : List Standing) (marks : List Bool) : Type 0 where
   pub each : length marks ≡ length ss
   pub rings : (p : ℕ) (mark : Bool) → slice_get marks p ≡ Some mark → IsRingMark N ss p mark
+
+-- whether instances wait on one another in a ring
+abbrev pub HasRing : Network → List Standing → Bool → Type 0
+HasRing N ss true = (p : ℕ) × LeadsOn N ss p p
+HasRing N ss false = (p : ℕ) → LeadsOn N ss p p → ⊥

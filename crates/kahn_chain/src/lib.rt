@@ -10,5 +10,5 @@ mod walk;
 // For the crates above.
 pub use cause::causes;
 pub use laws::one_cause;
-pub use ring::rings;
-pub use standing::{Cause, Standing};
+pub use ring::{has_ring, rings};
+pub use standing::{Cause, Standing, standings};

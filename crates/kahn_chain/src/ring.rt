@@ -2,7 +2,7 @@
 
 ghost use Rattle.std.specs.Prelude.{◌<◌, IfOk, length};
 ghost use Rattle.kahn_streams.specs.Network.{network_of};
-ghost use Rattle.kahn_chain.specs.Chain.{AreRings, AreStandings, IsRingMark};
+ghost use Rattle.kahn_chain.specs.Chain.{AreRings, AreStandings, HasRing, IsRingMark};
 ghost use Rattle.kahn_chain.specs.inner.Walk.{AreOnChain};
 
 use crate::standing::Standing;
@@ -69,4 +69,21 @@ pub fn rings(
         marks.push(is_on_ring(alloc, network, standings, instance)?)?;
     }
     Ok(marks)
+}
+
+/// Whether instances wait on one another in a ring. It refuses only where memory was refused.
+pub fn has_ring(
+    alloc: Global,
+    network: &Network,
+    standings: &[Standing],
+) -> Result<bool, AllocError>
+    requires { AreStandings (network_of network.now) standings.now }
+    ensures { IfOk result (HasRing (network_of network.now) standings.now) }
+{
+    for instance in 0..standings.len() {
+        if is_on_ring(alloc, network, standings, instance)? {
+            return Ok(true);
+        }
+    }
+    Ok(false)
 }

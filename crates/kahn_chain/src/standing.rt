@@ -1,5 +1,11 @@
 //! How the instances of a network stand, and why one goes no further.
 
+ghost use Rattle.std.specs.Prelude.{◌≡◌, IfOk, map};
+ghost use Rattle.kahn_chain.specs.Chain.{standing_of, stands};
+
+use kahn_streams::{End, Outcome};
+use std::alloc::{AllocError, Global};
+
 /// How an instance stands.
 #[derive(Clone, Copy)]
 pub enum Standing {
@@ -22,4 +28,27 @@ pub enum Cause {
     Stopped(usize, Standing),
     /// This instance is on a ring of instances that wait on one another.
     Ring(usize),
+}
+
+/// How an instance stands that has this outcome.
+fn standing_of(outcome: Outcome) -> Standing
+    ensures { result ≡ standing_of outcome }
+{
+    match outcome {
+        Outcome::Ended => Standing::Ended,
+        Outcome::Waits(channel) => Standing::Waits(channel),
+        Outcome::Faulted(_) => Standing::Faulted,
+        Outcome::More => Standing::More,
+    }
+}
+
+/// How the instances stand that have these ends. It refuses only where memory was refused.
+pub fn standings(alloc: Global, ends: &[End]) -> Result<Vec<Standing>, AllocError>
+    ensures { IfOk result (λ list. list.items ≡ map stands ends.now) }
+{
+    let mut list = Vec::new(alloc);
+    for end in ends {
+        list.push(standing_of(end.outcome))?;
+    }
+    Ok(list)
 }

@@ -1,7 +1,6 @@
 -- Tokens of inputs that begin another one.
 use Rattle.std.proofs.Common.{◌≡◌, List, [], ◌∷◌, ◌++◌, sym, subst}
-use Rattle.kahn_code.proofs.Common.{Program, Token, Lists, inputs_of, AreInputsExtended, IsOf, prefix_refl, prefix_trans}
-use Rattle.kahn_code.specs.inner.Begins.{AllBegin}
+use Rattle.kahn_code.proofs.Common.{Program, Token, Lists, inputs_of, AreInputsExtended, IsOf, prefix_refl, prefix_trans, AllBegin}
 
 pub all_longer : (t : Program) (before after : Lists) (ts : List Token) → AreInputsExtended (inputs_of before) (inputs_of after) → AllBegin t before ts → AllBegin t after ts
 all_longer t before after [] grown h = tt

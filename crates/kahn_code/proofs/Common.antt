@@ -1,31 +1,53 @@
--- The names of the crates below that most proofs cite, passed on from one place.
-pub use Rattle.kahn_streams.proofs.Sourced.{handed_within, reads_listed, writes, writes_listed}
-pub use Rattle.kahn_streams.specs.Network.{Actual, Hands, Instance, Network, Reads, Writes, Written, actual_at, actual_of, actuals_of, instance_at, instance_from, network_of, role_at, IsOnly, IsWithin, channel_names, handed_at}
-pub use Rattle.kahn_streams.specs.Wiring.{IsWellWired}
+-- The words that most proofs cite, of this crate and of those below, passed on from one place.
+pub use Rattle.kahn_code.specs.Cells.{AllStand, AreDriven, AreKeptTokens, StoodBy, exec_on, is_streamed, sent_on}
+pub use Rattle.kahn_code.specs.Code.{AreProcessCodes, IsCodeOf, IsCompiled, AreUses, HasProcessCode, HasArguments, IsProcessCode, to_have, to_read, to_write, use_of}
+pub use Rattle.kahn_code.specs.Common.{Actual, Argument, Failure, Line, Operator, Program, Value, AreInputsExtended, Channel, Cut, Dry, Expr, Follows, Hands, Holds, In, Inner, Input, Inputs, Instance, Integer, IsOf, IsOwn, IsWellWired, Lists, Logical, Network, Out, Outcome, Output, Parameter, Port, Print, Printer, Reached, Reads, Scope, Script, Stands, Step, Stmt, Store, Tapes, Token, Writes, Written, actual_at, actual_of, actuals_of, apply, body_of, channel_names, constant, default_of, empty, ending, exec, expression_of, goes_to, inputs_of, instance_at, is_output, is_watched, names_of, network_of, number, number_of, opening, opening_of, play, ranged, role_at, sends_of, source, statement_of, the_process, token_value, truth, values_at, values_taken}
+pub use Rattle.kahn_code.specs.Flat.{Act, Breaks, Ends, Goes, Puts, State, Takes, act_of, asked_by, at_place, between, but_last, choice, code_script, depth, expr_code, held_at, is_operator, jump_of, later, literal, look, loop_code, named, need, negative, opened, operand_code, operate, part_code, part_of_body, perform, register, registers_of, skip_unless, stmt_code, target, test_code, test_of, tested, unless, wrote, wrote_or_breaks}
+pub use Rattle.kahn_code.specs.Lines.{AreFirst, AreQueued, HasPoured, IsFirst, IsPoured, IsQueue, Joins, Lines, actual_here, at_first, given_of, next_at, place_at, queue_of, route_of, spare_of, taken_of, waiting_of}
+pub use Rattle.kahn_code.specs.Progress.{AreStill, HasKept, HasStepped, IsFull, IsPause, IsSameOne, Sits, Wants, core_of, first_core, gone_of, opening_core, printed_core, sent_core, spare_in, taken_core, turned_core}
+pub use Rattle.kahn_code.specs.Queues.{HasMore, Waiting}
+pub use Rattle.kahn_code.specs.Sites.{DoesRead, IsNext, IsPlaceWithin, LeavesOthers, Moved, Site, Serve, StaySo, Stays, site_code}
+pub use Rattle.kahn_code.specs.Standing.{Core, Led, StandsBy, core_view, count, tokens}
+pub use Rattle.kahn_code.specs.Told.{AreCounts, HasRunFor, IsAt, IsStanding, Told, site_of, told_of, told_view}
+pub use Rattle.kahn_code.specs.declared.compiled.ProcessCode.{ProcessCode}
+pub use Rattle.kahn_code.specs.declared.compiled.ParameterUse.{ParameterUse}
+pub use Rattle.kahn_code.specs.declared.instruction.Instruction.{Instruction}
+pub use Rattle.kahn_code.specs.declared.instruction.Instruction.TheVariants.{Again, Apply, ApplyConstant, Constant, GoOn, Move, Negate, Not, Send, SkipUnless, Take, Turn}
+pub use Rattle.kahn_code.specs.declared.instruction.Test.{Test}
+pub use Rattle.kahn_code.specs.declared.listing.Listed.{Listed}
+pub use Rattle.kahn_code.specs.declared.progress.Pause.{Pause}
+pub use Rattle.kahn_code.specs.declared.progress.Progress.{Progress}
+pub use Rattle.kahn_code.specs.inner.Queued.{AllBegin, regrown}
+pub use Rattle.kahn_code.specs.inner.Formed.{AreFormed, HasFormedCode, IsFormed, reach_in, reads_one, test_reach, writes_one}
+pub use Rattle.kahn_code.specs.inner.Forms.{Aims, AreForms, AreInPlace, IsInPlace, before_none, instruction_of, instructions_of, meanings}
+pub use Rattle.kahn_code.specs.inner.Gone.{kept_behind, nothing_gone}
+pub use Rattle.kahn_code.specs.inner.Rooms.{OnNoMemory, WantsSpare, spares_of}
+pub use Rattle.kahn_code.specs.inner.Tapped.{Tapped, regrown_tap}
+pub use Rattle.kahn_streams.proofs.By_number.{all_at, within}
 pub use Rattle.kahn_streams.proofs.Proved.{feeds, iterates_rise, prefix_get, prefix_refl, prefix_trans, script_at, solves, some_same, values_append}
-pub use Rattle.kahn_streams.proofs.Token_lists.{all_push, follow_push, token_stands}
-pub use Rattle.kahn_streams.specs.Arithmetic.{apply, number, ranged, truth}
-pub use Rattle.kahn_streams.specs.Solution.{AreInputsExtended, Inputs, IsPrefix, Stands, default_of, ending, exec_at, goes_to, iterate, opening, opening_of, out, source, tapes_of, values_at}
-pub use Rattle.kahn_streams.specs.Meaning.{Store, constant, exec, read, script_of, settle, turns_of, value_of}
-pub use Rattle.kahn_streams.specs.Script.{Cut, Dry, Fault, Give, Got, Outcome, Port, Printer, Reached, Script, Sends, Tapes, Turns, Waits, play}
-pub use Rattle.kahn_streams.specs.Steps.{Follows, Sent, Step, Took, Turned, empty, halted, here, sends_of, sent, values_taken, took, turned}
-pub use Rattle.kahn_streams.specs.Tokens.{IsOf}
-pub use Rattle.kahn_streams.specs.Inputs.{Holds, Lists, inputs_of}
-pub use Rattle.kahn_streams.specs.declared.token.Token.{Token}
-pub use Rattle.kahn_streams.specs.declared.value.Failure.{Failure}
-pub use Rattle.kahn_streams.specs.declared.value.Line.{Line}
-pub use Rattle.kahn_streams.specs.declared.value.Value.{Value}
+pub use Rattle.kahn_streams.proofs.Sourced.{handed_within, reads_listed, writes, writes_listed}
+pub use Rattle.kahn_streams.proofs.Token_lists.{token_stands}
+pub use Rattle.kahn_streams.specs.Meaning.{read, script_of, settle, turns_of, value_of}
+pub use Rattle.kahn_streams.specs.Network.{IsFit, IsOnly, IsWithin, handed_at, idle, instance_from, taking_of, takings_of}
+pub use Rattle.kahn_streams.specs.Script.{Fault, Give, Got, Sends, Turns, Waits}
+pub use Rattle.kahn_streams.specs.Solution.{IsPrefix, exec_at, iterate, out, tapes_of}
+pub use Rattle.kahn_streams.specs.Steps.{Sent, Took, Turned, halted, here, sent, took, turned}
+pub use Rattle.kahn_streams.specs.Syntax.{Number}
+pub use Rattle.kahn_streams.specs.View.{bytes_of, expr_of, level_of, place_of, row_of, stmt_of}
+pub use Rattle.kahn_streams.specs.Wires.{process_at}
+pub use Rattle.kahn_streams.specs.Wiring.{Agrees, HasKind}
 pub use Rattle.kahn_streams.specs.declared.tree.Action.{Row_of-Statement, end_of-Statement, more_of-Statement}
-pub use Rattle.kahn_streams.specs.declared.tree.Argument.{Argument}
+pub use Rattle.kahn_streams.specs.declared.tree.Direction.{Direction}
 pub use Rattle.kahn_streams.specs.declared.tree.Form.{Bracket', Form, Level', Row_of-Operand, Variable, end_of-Operand, more_of-Operand}
 pub use Rattle.kahn_streams.specs.declared.tree.Operand.{Operand}
-pub use Rattle.kahn_streams.specs.declared.tree.Operator.{Operator}
-pub use Rattle.kahn_streams.specs.declared.tree.Program.{Program}
 pub use Rattle.kahn_streams.specs.declared.tree.Statement.{Statement}
-pub use Rattle.kahn_streams.specs.declared.value.Line.TheVariants.{Channel, Print}
-pub use Rattle.kahn_streams.specs.declared.value.Value.TheVariants.{Integer, Logical}
-pub use Rattle.kahn_streams.specs.Syntax.{Expr, Number, Stmt}
-pub use Rattle.kahn_streams.specs.View.{Scope, body_of, bytes_of, expr_of, expression_of, level_of, names_of, number_of, place_of, row_of, statement_of, stmt_of}
 pub use Rattle.kahn_streams.specs.declared.tree.Action.TheBlock.{items-the_row-Statement}
 pub use Rattle.kahn_streams.specs.declared.tree.Form.TheBlock.{items-the_row-Operand}
-pub use Rattle.kahn_streams.specs.declared.tree.Role.TheVariants.{Input}
+pub use Rattle.kahn_streams.specs.declared.tree.Form.TheViews.{the_lemmas}
+pub use Rattle.std.proofs.Math.Seq.{drop-append_seam, map-set_same, set-append_seam}
+pub use Rattle.std.proofs.lemmas.Bool.{cases_eq, cases_lt, le-ltb, ltb-false, ltb-true, ne_eqb}
+pub use Rattle.std.proofs.lemmas.Grind.{common_steps}
+pub use Rattle.std.proofs.lemmas.List.{append-nil, append_assoc, drop-drop, get_or-append-add, get_or-map, get_or-set_other, get_or-set_same, get_or_append_left, length-append, length-map, length-replicate, map-append, map-set, set-append_left, set-append_right}
+pub use Rattle.std.proofs.lemmas.Option.{same_Some, slice_get-get_or, slice_get_past, slice_get_read, slice_get_within}
+pub use Rattle.std.specs.Prelude.{slice_get, slice_set}
+pub use Rattle.std.specs.Result.{IsErr, OnErr, OnOk, is_err, result_ok}

@@ -1,4 +1,3 @@
-pub mod Fit
 pub mod Formed
 pub mod Flattened
 pub mod Patch

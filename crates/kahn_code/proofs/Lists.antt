@@ -1,15 +1,8 @@
 -- Lists whose values stand.
-use Rattle.std.proofs.Common.{arith, ◌≡◌, ◌⊎◌, inl, inr, ℕ, zero, suc, ◌<◌, ◌≤◌, max, List, [], ◌∷◌, ◌++◌, length, map, refl, sym, ap, ◌∙◌, subst, Some, None, slice_get, le_refl, eq-or-lt_of_le, le_of_suc-le-suc, ◌+◌, length-append}
-use Rattle.std.proofs.Math.Nat.{le-max_left, le-max_right}
+use Rattle.std.proofs.Common.{arith, ◌≡◌, ◌⊎◌, inl, inr, ℕ, zero, suc, ◌<◌, ◌≤◌, max, List, [], ◌∷◌, length, map, refl, sym, ap, ◌∙◌, subst, Some, None, slice_get, le_refl, eq-or-lt_of_le, le_of_suc-le-suc, ◌+◌, ◌++◌, length-append, pos, drop, take, slice_index_or}
+use Rattle.kahn_code.proofs.Common.{cases_lt, handed_within, slice_get-get_or, slice_get_within, map-append, length-map, Network, Actual, Reads, Writes, Hands, network_of, instance_at, actual_at, Written, Value, Integer, Line, Channel, Token, Tapes, Inputs, iterate, IsPrefix, Stands, tapes_of, goes_to, values_at, source, out, exec_at, some_same, prefix_get, prefix_refl, prefix_trans, iterates_rise, feeds, solves, script_at, values_append, AreInputsExtended, IsOf, Lists, inputs_of, Program, AllStand, AreKeptTokens, exec_on, sent_on, IsOwn, token_value}
 use mathlib.Core.Path.{fun_ext}
-use Rattle.std.proofs.lemmas.List.{get_or_past, map-append, length-map}
-pub use Rattle.std.proofs.lemmas.Bool.{cases_lt as split_at}
-use Rattle.kahn_code.proofs.Common.{Number, Network, Actual, Reads, Writes, Hands, network_of, instance_at, actual_at, Written, Value, Line, Channel, Token, Tapes, Inputs, iterate, IsPrefix, Stands, tapes_of, goes_to, values_at, source, out, exec_at, some_same, prefix_get, prefix_refl, prefix_trans, iterates_rise, feeds, solves, script_at, values_append, AreInputsExtended, IsOf, Lists, inputs_of, Program}
-use Rattle.std.proofs.Common.{pos, slice_index_or}
-use Rattle.kahn_streams.proofs.Framed.{Begins}
-use Rattle.kahn_streams.proofs.Framed.{and_more, grows_play}
-use Rattle.kahn_code.specs.Cells.{AllStand, AreKeptTokens, exec_on, sent_on}
-use Rattle.kahn_streams.specs.Tokens.{IsOwn, token_value}
+use Rattle.kahn_streams.proofs.Framed.{Begins, and_more, grows_play}
 
 -- a list all of whose values stand in another begins it
 pub found_in : (xs ys : List Value) → ((k : ℕ) (v : Value) → slice_get xs k ≡ Some v → slice_get ys k ≡ Some v) → IsPrefix xs ys
@@ -19,46 +12,29 @@ found_in (x ∷ xs) (y ∷ ys) h =
     let r = found_in xs ys (λ k. h (suc k)) in
     (r.0, ap (λ l. y ∷ l) r.1 ∙ ap (λ z. z ∷ (xs ++ r.0)) (some_same (h zero x refl)))
 
--- one number is enough for all values of a list
-pub joint : (P : ℕ → ℕ → Value → Type 0) → ((n m k : ℕ) (v : Value) → n ≤ m → P n k v → P m k v) → (xs : List Value) →
-    ((k : ℕ) (v : Value) → slice_get xs k ≡ Some v → (n : ℕ) × P n k v) →
-    (n : ℕ) × ((k : ℕ) (v : Value) → slice_get xs k ≡ Some v → P n k v)
-joint P rise [] h = (0, λ k v e. absurd cc)
-joint P rise (x ∷ xs) h =
-    both (h zero x refl) (joint (λ n k v. P n (suc k) v) (λ n m k v le. rise n m (suc k) v le) xs (λ k. h (suc k)))
+-- one number is enough for all of them
+enough : (P : ℕ → ℕ → Type 0) → ((n m k : ℕ) → n ≤ m → P n k → P m k) → (b : ℕ) → ((k : ℕ) → k < b → (n : ℕ) × P n k) → (n : ℕ) × ((k : ℕ) → k < b → P n k)
+enough P rise zero h = (0, λ k lt. absurd (omega (arith, lt)))
+enough P rise (suc b) h = join (h b (omega arith)) (enough P rise b (λ k lt. h k (omega (arith, lt))))
   where
-    each : (one : (n : ℕ) × P n zero x) (rest : (n : ℕ) × ((k : ℕ) (v : Value) → slice_get xs k ≡ Some v → P n (suc k) v)) →
-        (k : ℕ) (v : Value) → slice_get (x ∷ xs) k ≡ Some v → P (max one.0 rest.0) k v
-    each one rest zero v e =
-        subst (P (max one.0 rest.0) zero) (some_same e) (rise one.0 (max one.0 rest.0) zero x (le-max_left one.0 rest.0) one.1)
-    each one rest (suc k) v e = rise rest.0 (max one.0 rest.0) (suc k) v (le-max_right one.0 rest.0) (rest.1 k v e)
+    by : (one : (n : ℕ) × P n b) (rest : (n : ℕ) × ((k : ℕ) → k < b → P n k)) (k : ℕ) → (k ≡ b) ⊎ (k < b) → P (max one.0 rest.0) k
+    by one rest k (inl e) = subst (P (max one.0 rest.0)) (sym e) (rise one.0 (max one.0 rest.0) b (omega arith) one.1)
+    by one rest k (inr lt) = rise rest.0 (max one.0 rest.0) k (omega arith) (rest.1 k lt)
 
-    both : ((n : ℕ) × P n zero x) → ((n : ℕ) × ((k : ℕ) (v : Value) → slice_get xs k ≡ Some v → P n (suc k) v)) →
-        (n : ℕ) × ((k : ℕ) (v : Value) → slice_get (x ∷ xs) k ≡ Some v → P n k v)
-    both one rest = (max one.0 rest.0, each one rest)
+    join : ((n : ℕ) × P n b) → ((n : ℕ) × ((k : ℕ) → k < b → P n k)) → (n : ℕ) × ((k : ℕ) → k < suc b → P n k)
+    join one rest = (max one.0 rest.0, λ k lt. by one rest k (eq-or-lt_of_le (le_of_suc-le-suc lt)))
 
 -- values that stand begin an iterate
 pub stand_in : (N : Network) (I : Inputs) (c : Line) (xs : List Value) → AllStand N I c xs → (n : ℕ) × IsPrefix xs (iterate N I n c)
 stand_in N I c xs h =
-    let r : (n : ℕ) × ((k : ℕ) (v : Value) → slice_get xs k ≡ Some v → slice_get (iterate N I n c) k ≡ Some v) =
-    joint (λ n k v. slice_get (iterate N I n c) k ≡ Some v)
-    (λ n m k v le e. prefix_get (iterate N I n c) (iterate N I m c) (iterates_rise N I n m le c) k v e) xs h
+    let r : (n : ℕ) × ((k : ℕ) → k < length xs → (v : Value) → slice_get xs k ≡ Some v → slice_get (iterate N I n c) k ≡ Some v) =
+    enough (λ n k. (v : Value) → slice_get xs k ≡ Some v → slice_get (iterate N I n c) k ≡ Some v)
+    (λ n m k le f v e. prefix_get (iterate N I n c) (iterate N I m c) (iterates_rise N I n m le c) k v (f v e)) (length xs)
+    (λ k lt. let at = slice_get-get_or xs k (Integer (pos 0)) lt in let s = h k _ at in (s.0, λ v e. s.1 ∙ sym at ∙ e))
     in
-    (r.0, found_in xs (iterate N I r.0 c) r.1)
+    (r.0, found_in xs (iterate N I r.0 c) (λ k v e. r.1 k (slice_get_within xs k v e) v e))
 
 -- ---- what is sent on tapes whose values stand, stands
-
-pub reads_past : (acts : List Actual) (q d : ℕ) → length acts ≤ q → slice_index_or acts q (Hands (Number (pos 0))) ≡ Reads d → ⊥
-reads_past acts q d le e =
-    let f : slice_index_or acts q (Hands (Number (pos 0))) ≡ Hands (Number (pos 0)) = get_or_past acts q (Hands (Number (pos 0))) le in
-    let g : Hands (Number (pos 0)) ≡ Reads d = sym f ∙ e in
-    cc
-
-pub writes_past : (acts : List Actual) (q d : ℕ) → length acts ≤ q → slice_index_or acts q (Hands (Number (pos 0))) ≡ Writes d → ⊥
-writes_past acts q d le e =
-    let f : slice_index_or acts q (Hands (Number (pos 0))) ≡ Hands (Number (pos 0)) = get_or_past acts q (Hands (Number (pos 0))) le in
-    let g : Hands (Number (pos 0)) ≡ Writes d = sym f ∙ e in
-    cc
 
 module _ (N : Network) (I : Inputs) (p : ℕ) (T : Tapes) (stand : (q d : ℕ) → actual_at (instance_at N p) q ≡ Reads d → AllStand N I (Channel d) (T q)) (none : (q : ℕ) → ((d : ℕ) → actual_at (instance_at N p) q ≡ Reads d → ⊥) → T q ≡ []) where
   abbrev Begun : ℕ → ℕ → Type 0
@@ -78,29 +54,15 @@ module _ (N : Network) (I : Inputs) (p : ℕ) (T : Tapes) (stand : (q d : ℕ) �
   more_begun : (n m q : ℕ) → n ≤ m → Begun n q → Begun m q
   more_begun n m q le h = prefix_trans _ _ _ h (feeds (instance_at N p) (iterate N I n) (iterate N I m) (iterates_rise N I n m le) q)
 
-  below_begun : (b : ℕ) → (m : ℕ) × ((q : ℕ) → q < b → Begun m q)
-  below_begun zero = (0, λ q lt. absurd (omega (arith, lt)))
-  below_begun (suc b) = join (one_begun b) (below_begun b)
-    where
-      split : (q : ℕ) → q < suc b → (q ≡ b) ⊎ (q < b)
-      split q lt = eq-or-lt_of_le (le_of_suc-le-suc lt)
-
-      each : (one : (m : ℕ) × Begun m b) (rest : (m : ℕ) × ((q : ℕ) → q < b → Begun m q)) (q : ℕ) → (q ≡ b) ⊎ (q < b) → Begun (max one.0 rest.0) q
-      each one rest q (inl e) = subst (Begun (max one.0 rest.0)) (sym e) (more_begun one.0 _ b (le-max_left one.0 rest.0) one.1)
-      each one rest q (inr lt) = more_begun rest.0 _ q (le-max_right one.0 rest.0) (rest.1 q lt)
-
-      join : ((m : ℕ) × Begun m b) → ((m : ℕ) × ((q : ℕ) → q < b → Begun m q)) → (m : ℕ) × ((q : ℕ) → q < suc b → Begun m q)
-      join one rest = (max one.0 rest.0, λ q lt. each one rest q (split q lt))
-
   all_begun : (m : ℕ) × ((q : ℕ) → Begun m q)
-  all_begun = by (below_begun (length (instance_at N p).actuals))
+  all_begun = by (enough Begun more_begun (length (instance_at N p).actuals) (λ q lt. one_begun q))
     where
       each : (r : (m : ℕ) × ((q : ℕ) → q < length (instance_at N p).actuals → Begun m q)) (q : ℕ) → (q < length (instance_at N p).actuals) ⊎ (length (instance_at N p).actuals ≤ q) → Begun r.0 q
       each r q (inl lt) = r.1 q lt
-      each r q (inr le) = nothing_begun r.0 q (none q (λ d e. reads_past (instance_at N p).actuals q d le e))
+      each r q (inr le) = nothing_begun r.0 q (none q (λ d e. let lt = (handed_within N p q d (rw e refl)).1 in omega (arith, le, lt)))
 
       by : ((m : ℕ) × ((q : ℕ) → q < length (instance_at N p).actuals → Begun m q)) → (m : ℕ) × ((q : ℕ) → Begun m q)
-      by r = (r.0, λ q. each r q (split_at q (length (instance_at N p).actuals)))
+      by r = (r.0, λ q. each r q (cases_lt q (length (instance_at N p).actuals)))
 
   pub sent_stands : (n k : ℕ) (c : Line) (v : Value) → source N c ≡ Written p → slice_get (sent_on N n p T c) k ≡ Some v → Stands N I c k v
   sent_stands n k c v s e =
@@ -185,3 +147,9 @@ one_first {B = B} P xs more b n h e i = record {
     by : (k : ℕ) (c : B) → (slice_get xs k ≡ Some c) ⊎ ((k ≡ length xs) × (b ≡ c)) → P k c
     by k c (inl at) = h.each k c at
     by k c (inr at) = subst (P k) at.1 (subst (λ k. P k b) (sym (at.0 ∙ h.count)) i)
+
+-- of a list of which the first are changed the next one is as it was
+pub changed_next : {X : Type 0} (f : X → X) (old : List X) (i : ℕ) (x : X) → i < length old → x ≡ slice_index_or (map f (take i old) ++ drop i old) i x → slice_get old i ≡ Some x
+changed_next f [] i x l e = absurd (omega (arith, l))
+changed_next f (y ∷ old) zero x l e = ap Some (sym e)
+changed_next f (y ∷ old) (suc i) x l e = changed_next f old i x (omega (arith, l)) e

@@ -1,14 +1,7 @@
 -- The plain queues of all channels, one of which changes.
 use Rattle.std.proofs.Common.{arith, ◌≡◌, ◌≢◌, ℕ, zero, suc, ◌+◌, ◌<◌, ◌≤◌, List, [], ◌∷◌, ◌++◌, length, refl, sym, ap, ◌∙◌, length-set, subst, Option, Some, None, IfSome, IfNone, IsSome, true, false, slice_get, slice_set, slice_index_or}
-use Rattle.std.proofs.lemmas.List.{get_or-set_same}
-use Rattle.std.proofs.lemmas.Option.{same_Some, slice_get_read}
-use Rattle.kahn_code.proofs.Common.{Program, Input, Actual, Reads, Writes, Hands, network_of, instance_at, actual_at, role_at, IsWellWired, reads_listed, writes_listed, writes, Token, Channel, IsOf, Lists, Value, inputs_of}
+use Rattle.kahn_code.proofs.Common.{HasMore, get_or-set_same, same_Some, slice_get_read, Program, Input, Actual, Reads, Writes, Hands, network_of, instance_at, actual_at, role_at, IsWellWired, reads_listed, writes_listed, writes, Token, Channel, IsOf, Lists, Value, inputs_of, Inner, Output, is_output, Waiting, Lines, AreFirst, AreQueued, IsFirst, IsQueue, Joins, actual_here, at_first, next_at, place_at, queue_of, taken_of, given_of, waiting_of, spare_of, Site, IsNext, Stays, StaySo, Moved, LeavesOthers}
 use Rattle.kahn_streams.specs.declared.tree.Role.{Role}
-use Rattle.kahn_streams.specs.declared.tree.Role.TheVariants.{Inner, Output}
-use Rattle.kahn_streams.specs.Answers.{is_output}
-use Rattle.kahn_code.specs.Queues.{Waiting}
-use Rattle.kahn_code.specs.Lines.{Lines, AreFirst, AreQueued, IsFirst, IsQueue, Joins, actual_here, at_first, next_at, place_at, queue_of, taken_of, given_of, waiting_of, spare_of}
-use Rattle.kahn_code.specs.Seats.{Seat, IsNext, Stays, StayReady, KeepsRoom, Moved, LeavesOthers}
 use Rattle.kahn_code.proofs.Lists as First
 use Rattle.kahn_code.proofs.Readers.{reads_once, writes_once}
 
@@ -117,8 +110,8 @@ ready_at s q = 0 < waiting_of (queue_of s.queues (actual_here s q))
 abbrev roomy_at : Lines → ℕ → Type 0
 roomy_at s q = 0 < spare_of (queue_of s.queues (actual_here s q))
 
-abbrev pub seat_of : Lines → Seat
-seat_of s = record { network = s.network; input = s.input; instance = s.instance }
+abbrev pub site_of : Lines → Site
+site_of s = record { network = s.network; input = s.input; instance = s.instance }
 
 -- queues of which channel c has w, and later w'
 module _ (s : Lines) (h : AreQueued s) (c : ℕ) (w w' : Waiting) (inside : c < length s.queues) (value : w ≡ slice_index_or s.queues c w) where
@@ -145,10 +138,10 @@ module _ (s : Lines) (h : AreQueued s) (c : ℕ) (w w' : Waiting) (inside : c < 
   all_stay : (w'.taken ≡ w.taken) × (w'.waiting ≡ w.waiting) → (p r : ℕ) → place_at (changed s c w') p r ≡ place_at s p r
   all_stay same p r = let a = same.0 in let b = same.1 in place_stays p r (λ e. a) (λ e. omega (arith, a, b))
 
-  more_stay : w.waiting ≤ w'.waiting → StayReady (ready_at s) (ready_at (changed s c w'))
+  more_stay : w.waiting ≤ w'.waiting → StaySo (ready_at s) (ready_at (changed s c w'))
   more_stay more q = ready_set s.queues c w w' (actual_here s q) queue_at (λ e. more)
 
-  rooms_stay : (0 < w.spare → 0 < w'.spare) → KeepsRoom (roomy_at s) (roomy_at (changed s c w'))
+  rooms_stay : (0 < w.spare → 0 < w'.spare) → StaySo (roomy_at s) (roomy_at (changed s c w'))
   rooms_stay more q = room_set s.queues c w w' (actual_here s q) queue_at (λ e. more)
 
 -- a take leaves the room that there was
@@ -159,8 +152,8 @@ room_taken w w' None more none lt = subst (λ (x : Waiting). 0 < x.spare) (sym n
 -- what a take leaves
 pub record Took (n new : Lines) (q c : ℕ) (o : Option Token) : Type 0 where
   pub queued : AreQueued new
-  pub others : LeavesOthers (seat_of n) (place_at n) (place_at new)
-  pub token : IfSome o (IsNext (seat_of n) c (place_at n n.instance q))
+  pub others : LeavesOthers (site_of n) (place_at n) (place_at new)
+  pub token : IfSome o (IsNext (site_of n) c (place_at n n.instance q))
   pub moved : IfSome o (λ _. Moved (place_at n n.instance) (place_at new new.instance) q)
   pub stays : IfNone o (Stays (place_at n n.instance) (place_at new new.instance))
   pub dry : IfNone o (waiting_of (queue_of new.queues (actual_here new q)) ≡ 0)
@@ -229,7 +222,7 @@ module _ {s n : Lines} (is : s ≡ n) (h : AreQueued s) (q c : ℕ) (reads : act
           keeps = rw (← is) (λ r d other read. more_stay s h c w w' read_inside value (let e = kept.1 in omega (arith, e)) r);
         }
 
-    pub took_rooms : (w' : Waiting) (o : Option Token) → IfSome o (λ _. w'.spare ≡ w.spare + 1) → IfNone o ((w' ≡ w) × (w.waiting ≡ 0)) → KeepsRoom (roomy_at n) (roomy_at (changed s c w'))
+    pub took_rooms : (w' : Waiting) (o : Option Token) → IfSome o (λ _. w'.spare ≡ w.spare + 1) → IfNone o ((w' ≡ w) × (w.waiting ≡ 0)) → StaySo (roomy_at n) (roomy_at (changed s c w'))
     took_rooms w' o more none = rw (← is) (rooms_stay s h c w w' read_inside value (room_taken w w' o more none))
 
 -- of which it writes channel c
@@ -244,20 +237,20 @@ module _ {s n : Lines} (is : s ≡ n) (h : AreQueued s) (q c : ℕ) (writes_it :
   write_once : (p r : ℕ) → (p ≡ s.instance → r ≡ q → ⊥) → actual_at (instance_at (network_of s.network) p) r ≡ Writes c → ⊥
   write_once p r other e = let o = writes_once s.network h.wired p r s.instance q c e write_here in other o.0 o.1
 
-  module _ {w : Waiting} (value : w ≡ slice_index_or s.queues c w) (w' : Waiting) (same : (w'.network ≡ w.network) × (w'.input ≡ w.input) × (w'.channel ≡ w.channel)) where
+  module _ {w : Waiting} (value : w ≡ slice_index_or s.queues c w) (w' : Waiting) where
     -- where room was made
-    module _ (counts : (w'.taken ≡ w.taken) × (w'.waiting ≡ w.waiting)) where
+    module _ (more : HasMore 0 w w') where
       pub room_queued : AreQueued (changed s c w')
-      room_queued = still_queued s h c w w' write_inside value same (λ e. let a = counts.0 in let b = counts.1 in omega (arith, a, b))
+      room_queued = still_queued s h c w w' write_inside value (more.0, more.1, more.2) (λ e. omega (arith, more.3, more.4))
 
       pub room_stays : Stays (place_at n n.instance) (place_at (changed s c w') s.instance)
-      room_stays = rw (← is) (all_stay s h c w w' write_inside value counts s.instance)
+      room_stays = rw (← is) (all_stay s h c w w' write_inside value (more.3, omega (arith, more.4)) s.instance)
 
-      pub room_leaves : LeavesOthers (seat_of n) (place_at n) (place_at (changed s c w'))
-      room_leaves = rw (← is) (λ p r other. all_stay s h c w w' write_inside value counts p r)
+      pub room_leaves : LeavesOthers (site_of n) (place_at n) (place_at (changed s c w'))
+      room_leaves = rw (← is) (λ p r other. all_stay s h c w w' write_inside value (more.3, omega (arith, more.4)) p r)
 
-      pub room_keeps : StayReady (ready_at n) (ready_at (changed s c w'))
-      room_keeps = rw (← is) (more_stay s h c w w' write_inside value (let e = counts.1 in omega (arith, e)))
+      pub room_keeps : StaySo (ready_at n) (ready_at (changed s c w'))
+      room_keeps = rw (← is) (more_stay s h c w w' write_inside value (omega (arith, more.4)))
 
       pub room_there : 0 < w'.spare → 0 < spare_of (queue_of (slice_set s.queues c w') (actual_here s q))
       room_there room = subst (λ k. 0 < k) (sym (ap (λ a. spare_of (queue_of (slice_set s.queues c w') a)) write_here ∙ ap spare_of (set_here s.queues c w' write_inside))) room
@@ -274,7 +267,7 @@ module _ {s n : Lines} (is : s ≡ n) (h : AreQueued s) (q c : ℕ) (writes_it :
     pub room_gone : w'.spare ≡ 0 → roomy_at (changed s c w') q → ⊥
     room_gone none l = let more : 0 < w'.spare = subst (λ o. 0 < spare_of o) queue_made l in omega (arith, none, more)
 
-    pub room_rooms : (0 < w.spare → 0 < w'.spare) → KeepsRoom (roomy_at n) (roomy_at (changed s c w'))
+    pub room_rooms : (0 < w.spare → 0 < w'.spare) → StaySo (roomy_at n) (roomy_at (changed s c w'))
     room_rooms more = rw (← is) (rooms_stay s h c w w' write_inside value more)
 
     pub put_rooms : (r d : ℕ) → r ≢ q → (actual_here n r ≡ Writes d) × (is_output (role_at (network_of n.network) d) ≡ false) → roomy_at n r → roomy_at (changed s c w') r
@@ -282,24 +275,22 @@ module _ {s n : Lines} (is : s ≡ n) (h : AreQueued s) (q c : ℕ) (writes_it :
         (λ joins. absurd (write_once s.instance r (λ e f. other f) (written.0 ∙ ap Writes (subst (λ a. Joins a c) written.0 joins)))))
 
     -- where a token was put
-    module _ (counts : (w'.taken ≡ w.taken) × (w'.waiting ≡ w.waiting + 1)) where
+    module _ (more : HasMore 1 w w') where
       put_stays : (p r : ℕ) → (p ≡ s.instance → r ≡ q → ⊥) → place_at (changed s c w') p r ≡ place_at s p r
-      put_stays p r other = place_stays s h c w w' write_inside value p r (λ e. counts.0) (λ e. absurd (write_once p r other e))
+      put_stays p r other = place_stays s h c w w' write_inside value p r (λ e. more.3) (λ e. absurd (write_once p r other e))
 
       pub put_queued : AreQueued (changed s c w')
-      put_queued = still_queued s h c w w' write_inside value same (λ e. absurd ((writes s.network h.wired s.instance q c write_here).1 e))
+      put_queued = still_queued s h c w w' write_inside value (more.0, more.1, more.2) (λ e. absurd ((writes s.network h.wired s.instance q c write_here).1 e))
 
-      pub put_leaves : LeavesOthers (seat_of n) (place_at n) (place_at (changed s c w'))
+      pub put_leaves : LeavesOthers (site_of n) (place_at n) (place_at (changed s c w'))
       put_leaves = rw (← is) (λ p r other. put_stays p r (λ e f. other e))
 
-      pub put_keeps : StayReady (ready_at n) (ready_at (changed s c w'))
-      put_keeps = rw (← is) (more_stay s h c w w' write_inside value (let e = counts.1 in omega (arith, e)))
+      pub put_keeps : StaySo (ready_at n) (ready_at (changed s c w'))
+      put_keeps = rw (← is) (more_stay s h c w w' write_inside value (omega (arith, more.4)))
 
       pub put_moves : Moved (place_at n n.instance) (place_at (changed s c w') s.instance) q
       put_moves =
-          let a = counts.0 in
-          let b = counts.1 in
-          let step : w'.taken + w'.waiting ≡ suc (w.taken + w.waiting) = omega (arith, a, b) in
+          let step : w'.taken + w'.waiting ≡ suc (w.taken + w.waiting) = omega (arith, more.3, more.4) in
           rw (← is) (
             ap (next_at (slice_set s.queues c w')) write_here ∙ ap given_of (set_here s.queues c w' write_inside) ∙ step ∙
                 ap suc (sym (ap (next_at s.queues) write_here ∙ ap given_of (queue_at s h c w w write_inside value))),

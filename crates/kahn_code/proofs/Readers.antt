@@ -1,10 +1,8 @@
 -- In a well wired program each channel is read at one side at most, and written at one at most.
 use Rattle.std.proofs.Common.{◌≡◌, ℕ, ◌<◌, length, Option, Some, None, refl, sym, ap, ◌∙◌, subst}
-use Rattle.kahn_code.proofs.Common.{Program, Network, Actual, Reads, Writes, network_of, instance_at, actual_at, IsWithin, IsOnly, handed_at, IsWellWired, handed_within, reads_listed, writes_listed, writes}
+use Rattle.kahn_code.proofs.Common.{Program, Network, Actual, Reads, Writes, network_of, instance_at, actual_at, IsWithin, IsOnly, handed_at, IsWellWired, handed_within, reads_listed, writes_listed, writes, AreDriven, Joins}
 use Rattle.kahn_streams.specs.declared.sides.Side.{Side}
 use Rattle.kahn_streams.proofs.Sided.{one_reader, one_writer, declared_there}
-use Rattle.kahn_code.specs.Cells.{AreDriven}
-use Rattle.kahn_code.specs.Lines.{Joins}
 
 -- a channel is handed over only by an instance that is there, at a parameter that is there
 pub joins_within : (N : Network) (p q c : ℕ) → Joins (actual_at (instance_at N p) q) c → p < length N.instances

@@ -1,20 +1,11 @@
 -- What the parameters of an instance are for.
-use Rattle.std.proofs.Common.{◌≡◌, ℕ, zero, suc, List, [], ◌∷◌, map, refl, ap, ◌∙◌, slice_get, slice_index_or, pos, Option, Some, None, Bool, sym, subst}
-use Rattle.kahn_code.proofs.Common.{Number, Network, Actual, Reads, Writes, Hands, instance_at, actual_at, role_at}
-use Rattle.kahn_code.specs.declared.body.Use.{Use}
-use Rattle.kahn_streams.specs.Answers.{is_output}
-use Rattle.kahn_streams.specs.declared.tree.Direction.{Direction}
-use Rattle.kahn_code.specs.Lines.{Joins, route_of}
-use Rattle.kahn_code.specs.Machines.{to_read, to_write, to_have, use_of, AreUses}
+use Rattle.std.proofs.Common.{◌≡◌, ℕ, List, map, refl, ap, ◌∙◌, slice_get, slice_index_or, pos, Option, option_map, Some, None, Bool, sym, subst}
+use Rattle.std.proofs.Math.ListN.{get_or-map}
+use Rattle.std.proofs.lemmas.Option.{get_or_from_slice_get, slice_get-map}
+use Rattle.kahn_code.proofs.Common.{handed_within, slice_get-get_or, Number, Network, Actual, Reads, Writes, Hands, instance_at, actual_at, role_at, ParameterUse, is_output, Direction, Joins, route_of, to_read, to_write, to_have, use_of, AreUses}
 
-use_map : (N : Network) (acts : List Actual) (q : ℕ) →
-    slice_index_or (map (use_of N) acts) q to_have ≡ use_of N (slice_index_or acts q (Hands (Number (pos 0))))
-use_map N [] q = refl
-use_map N (a ∷ acts) zero = refl
-use_map N (a ∷ acts) (suc q) = use_map N acts q
-
-pub use_at : (N : Network) (p : ℕ) (uses : List Use) (q : ℕ) → AreUses N p uses → slice_index_or uses q to_have ≡ use_of N (actual_at (instance_at N p) q)
-use_at N p uses q h = ap (λ l. slice_index_or l q to_have) h ∙ use_map N (instance_at N p).actuals q
+pub use_at : (N : Network) (p : ℕ) (uses : List ParameterUse) (q : ℕ) → AreUses N p uses → slice_index_or uses q to_have ≡ use_of N (actual_at (instance_at N p) q)
+use_at N p uses q h = ap (λ l. slice_index_or l q to_have) h ∙ get_or-map (use_of N) (instance_at N p).actuals q (Hands (Number (pos 0)))
 
 -- the channel of a use with this direction
 abbrev route_by : Option Direction → ℕ → Option ℕ
@@ -26,7 +17,7 @@ route_here N (Reads c) = refl
 route_here N (Writes c) = refl
 route_here N (Hands v) = refl
 
-pub routed : (N : Network) (a : Actual) (w : Use) (o : Option Direction) → w ≡ use_of N a → w.direction ≡ o → route_by o w.channel ≡ route_of a
+pub routed : (N : Network) (a : Actual) (w : ParameterUse) (o : Option Direction) → w ≡ use_of N a → w.direction ≡ o → route_by o w.channel ≡ route_of a
 routed N a w o e f = ap (λ o. route_by o w.channel) (sym f) ∙ ap (λ w. route_by w.direction w.channel) e ∙ route_here N a
 
 pub reads_by : (N : Network) (a : Actual) (c : ℕ) → to_read c ≡ use_of N a → a ≡ Reads c
@@ -42,20 +33,15 @@ writes_by N (Writes d) c b e =
     (ap Writes f, ap (λ x. is_output (role_at N x)) (sym f) ∙ g)
 writes_by N (Hands v) c b e = let f = ap (λ w. w.direction) e in absurd cc
 
-listed_at : (N : Network) (acts : List Actual) (q c : ℕ) (a : Actual) → Joins a c → slice_index_or acts q (Hands (Number (pos 0))) ≡ a → slice_get (map (use_of N) acts) q ≡ Some (use_of N a)
-listed_at N [] q c a j e = absurd (subst (λ x. Joins x c) (sym e) j)
-listed_at N (b ∷ acts) zero c a j e = ap (λ x. Some (use_of N x)) e
-listed_at N (b ∷ acts) (suc q) c a j e = listed_at N acts q c a j e
-
 -- the use of a parameter that has a channel stands in the list
-pub listed : (N : Network) (p : ℕ) (uses : List Use) (q c : ℕ) (a : Actual) → AreUses N p uses → Joins a c → actual_at (instance_at N p) q ≡ a → slice_get uses q ≡ Some (use_of N a)
-listed N p uses q c a are j e = ap (λ l. slice_get l q) are ∙ listed_at N (instance_at N p).actuals q c a j e
-
-used_at : (N : Network) (acts : List Actual) (q : ℕ) (w : Use) → slice_get (map (use_of N) acts) q ≡ Some w → w ≡ use_of N (slice_index_or acts q (Hands (Number (pos 0))))
-used_at N [] q w e = absurd cc
-used_at N (a ∷ acts) zero w e = cc
-used_at N (a ∷ acts) (suc q) w e = used_at N acts q w e
+pub listed : (N : Network) (p : ℕ) (uses : List ParameterUse) (q c : ℕ) (a : Actual) → AreUses N p uses → Joins a c → actual_at (instance_at N p) q ≡ a → slice_get uses q ≡ Some (use_of N a)
+listed N p uses q c a are j e =
+    let acts = (instance_at N p).actuals in
+    let lt = (handed_within N p q c (subst (λ x. Joins x c) (sym e) j)).1 in
+    ap (λ l. slice_get l q) are ∙ slice_get-map (use_of N) acts q ∙ ap (option_map (use_of N)) (slice_get-get_or acts q (Hands (Number (pos 0))) lt) ∙ ap (λ x. Some (use_of N x)) e
 
 -- and what stands there is its use
-pub used : (N : Network) (p : ℕ) (uses : List Use) (q : ℕ) (w : Use) → AreUses N p uses → slice_get uses q ≡ Some w → w ≡ use_of N (actual_at (instance_at N p) q)
-used N p uses q w are e = used_at N (instance_at N p).actuals q w (sym (ap (λ l. slice_get l q) are) ∙ e)
+pub used : (N : Network) (p : ℕ) (uses : List ParameterUse) (q : ℕ) (w : ParameterUse) → AreUses N p uses → slice_get uses q ≡ Some w → w ≡ use_of N (actual_at (instance_at N p) q)
+used N p uses q w are e =
+    let acts = (instance_at N p).actuals in
+    sym (get_or_from_slice_get (map (use_of N) acts) q w to_have (sym (ap (λ l. slice_get l q) are) ∙ e)) ∙ get_or-map (use_of N) acts q (Hands (Number (pos 0)))

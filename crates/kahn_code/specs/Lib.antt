@@ -1,11 +1,11 @@
+pub mod Common
 pub mod Flat
 pub mod Cells
+pub mod Code
 pub mod Standing
-pub mod Machines
-pub mod Seats
+pub mod Sites
 pub mod Queues
 pub mod Lines
 pub mod Progress
-pub mod Code
 pub mod Told
 pub mod inner

@@ -1,12 +1,6 @@
 -- Believed. What contracts see of the plain queues of all channels.
 use Rattle.std.specs.Prelude.{◌≡◌, ℕ, ◌+◌, ◌==◌, List, [], ◌++◌, length, Option, Some, None, slice_get, if◌then◌else◌}
-use Rattle.kahn_streams.specs.declared.tree.Program.{Program}
-use Rattle.kahn_streams.specs.declared.tree.Role.{Role}
-use Rattle.kahn_streams.specs.declared.value.Value.{Value}
-use Rattle.kahn_streams.specs.Network.{Actual, Reads, Writes, Hands, network_of, instance_at, actual_at, role_at}
-use Rattle.kahn_streams.specs.Wiring.{IsWellWired}
-use Rattle.kahn_streams.specs.declared.tree.Role.TheVariants.{Inner, Input, Output}
-use Rattle.kahn_streams.specs.Inputs.{Lists, inputs_of}
+use Rattle.kahn_code.specs.Common.{Program, Role, Value, Actual, Reads, Writes, Hands, network_of, instance_at, actual_at, role_at, IsWellWired, Inner, Input, Output, Lists, inputs_of}
 use Rattle.kahn_code.specs.Queues.{Waiting}
 
 -- the network and the input, the instance whose ports they are now, and the queue of each channel

@@ -1,7 +1,6 @@
 pub mod Gone
 pub mod Tapped
-pub mod Begins
+pub mod Queued
 pub mod Forms
 pub mod Formed
-pub mod Regrown
 pub mod Rooms

@@ -1,12 +1,9 @@
 //! A cell: one process of a network on its way.
 
-ghost use Rattle.std.specs.Prelude.{◌≡◌, ℕ, ◌+◌, ◌*◌, ◌^◌, ◌<◌, ◌≤◌, length, [], map, slice_index_or, IfOk};
-ghost use Rattle.kahn_streams.specs.Network.{network_of, instance_at};
-ghost use Rattle.kahn_streams.specs.Inputs.{Lists, inputs_of};
-ghost use Rattle.kahn_code.specs.Flat.{stmt_code};
-ghost use Rattle.kahn_streams.specs.Solution.{AreInputsExtended};
-ghost use Rattle.kahn_code.specs.Seats.{LeavesOthers, Grows};
-ghost use Rattle.kahn_code.specs.Told.{AreCounts, AreUnused, seat_of, IsAt, IsPausedBy, IsSameProcess, IsStill, WantsRoom};
+ghost use Rattle.std.specs.Prelude.{◌≡◌, ◌+◌, ◌^◌, ◌<◌, length, [], map, slice_index_or, IfOk};
+ghost use Rattle.kahn_code.specs.Common.{network_of, instance_at, Lists, inputs_of, AreInputsExtended};
+ghost use Rattle.kahn_code.specs.Sites.{Serve};
+ghost use Rattle.kahn_code.specs.Told.{AreCounts, AreUnused, site_of, HasRunFor, IsAt};
 
 use crate::code::{Code, CodeFault};
 use crate::ports::Ports;
@@ -33,16 +30,14 @@ pub struct Kept<A: Allocator + Drop = Global> {
 }
 
 impl<A: Allocator + Copy + Drop> Model for Cell<A> {
-    ghost use Rattle.kahn_streams.specs.contracts.tree.Action as action;
-    ghost use Rattle.kahn_streams.specs.contracts.tree.Form as form;
-    ghost use Rattle.std.specs.Coded.{codes};
+    ghost use Rattle.kahn_code.specs.Common.{action_row, form_row, codes};
     ghost use Rattle.std.specs.Prelude.{◌≡◌};
     ghost use Rattle.kahn_code.specs.inner.Gone.{nothing_gone};
     ghost use Rattle.kahn_code.specs.Told.{Told};
 
     ghost Value = { Told };
 
-    ghost coded = { Prim.hlevel (codes, action.the_row.coded, form.the_row.coded) };
+    ghost coded = { Prim.hlevel (codes, action_row.coded, form_row.coded) };
 
     ghost view = { λ c. c.tap.told };
 
@@ -79,25 +74,11 @@ impl<A: Allocator + Copy + Drop> Cell<A> {
         steps: &mut Steps<L>,
     ) -> Pause
         requires code { code.now.network.value ≡ self.old.network }
-        requires ports { P.seat ports.old ≡ seat_of self.old }
+        requires ports { P.site ports.old ≡ site_of self.old }
         requires at { IsAt self.old (P.next ports.old) }
         requires events { self.old.events + quantum < 2 ^ 48 }
-        ensures names { IsSameProcess self.old self.new }
-        ensures ports { P.seat ports.new ≡ seat_of self.new }
-        ensures others { LeavesOthers (P.seat ports.old) (P.others ports.old) (P.others ports.new) }
-        ensures which { P.which ports.new ≡ P.which ports.old }
-        ensures delivered { Grows (P.delivered ports.old) (P.delivered ports.new) }
-        ensures at { IsAt self.new (P.next ports.new) }
-        // What the source says of the cell and of the pause.
-        ensures paused { IsPausedBy self.new (P.is_dry ports.new) (P.is_ready ports.new) (self.new.events ≡ self.old.events + quantum) result }
-        ensures events { (self.old.events ≤ self.new.events) × (self.new.events ≤ self.old.events + quantum) }
-        // Where no event was done, counts and lists are as before, and for how many tokens more lists have room.
-        ensures still { self.new.events ≡ self.old.events → IsStill self.old self.new }
-        // Where memory was refused, what it would send next has no room.
-        ensures refused { result ≡ Pause.NoMemory → WantsRoom self.new (P.has_room ports.new) }
-        // How many instructions were executed: at least one for each event.
-        ensures cost { steps.new ≤ steps.old + (quantum + 1) * length (stmt_code (instance_at (network_of self.old.network) self.old.instance).body) }
-        ensures counted { steps.old + self.new.events ≤ steps.new + self.old.events }
+        ensures served { Serve P.site P.others P.which P.delivered ports.old ports.new }
+        ensures ran { HasRunFor P.site P.next P.is_dry P.is_ready P.has_room quantum result ports.old ports.new steps.old steps.new self.old self.new }
     {
         self.tap.run(code, quantum, ports, steps)
     }

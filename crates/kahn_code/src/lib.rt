@@ -1,23 +1,21 @@
 //! Flat code of processes, and the cells that run it.
 #![tactic(auto)]
 
-mod body;
 mod cell;
-mod changes;
 mod code;
+mod compiled;
 mod depth;
+mod effects;
 mod emit;
 mod form;
 mod instruction;
 mod laws;
 mod listing;
 mod machine;
-mod opening;
 mod past;
 mod place;
 mod plain;
 mod ports;
-mod pouring;
 mod progress;
 mod queue;
 mod tap;

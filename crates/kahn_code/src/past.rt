@@ -6,14 +6,12 @@ use std::marker::Model;
 pub struct Past;
 
 impl Model for Past {
-    ghost use Rattle.kahn_streams.specs.contracts.tree.Action as action;
-    ghost use Rattle.kahn_streams.specs.contracts.tree.Form as form;
-    ghost use Rattle.std.specs.Coded.{codes};
+    ghost use Rattle.kahn_code.specs.Common.{action_row, form_row, codes};
     ghost use Rattle.kahn_code.specs.inner.Gone.{Gone, nothing_gone};
 
     ghost Value = { Gone };
 
-    ghost coded = { Prim.hlevel (codes, action.the_row.coded, form.the_row.coded) };
+    ghost coded = { Prim.hlevel (codes, action_row.coded, form_row.coded) };
 
     ghost view = { λ _. nothing_gone };
 }

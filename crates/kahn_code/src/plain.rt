@@ -1,17 +1,12 @@
 //! Every channel of a network in a plain queue, for a run on one thread.
 
 ghost use Rattle.std.specs.Prelude.{◌≡◌, ◌<◌, ◌^◌, IfOk, MatchResult, length, slice_get};
-ghost use Rattle.kahn_streams.specs.declared.tree.Role.TheVariants.{Input as InputRole};
-ghost use Rattle.kahn_streams.specs.Network.{network_of, role_at};
-ghost use Rattle.kahn_streams.specs.Wiring.{IsWellWired};
-ghost use Rattle.kahn_streams.specs.Inputs.{Lists, inputs_of, Names};
+ghost use Rattle.kahn_code.specs.Common.{Input as InputRole, network_of, role_at, IsWellWired, Lists, inputs_of, Names};
 ghost use Rattle.kahn_code.specs.Lines.{AreFirst, AreQueued, HasPoured, IsPoured, taken_of, waiting_of};
 
 use crate::code::CodeFault;
-use crate::opening::first_queues;
 use crate::ports::Ports;
-use crate::pouring::{give_all, regrow_all};
-use crate::queue::Queue;
+use crate::queue::{Queue, first_queues, give_all, regrow_all};
 use kahn_streams::{About, Input, Network, NoMemory, Token, Value};
 use std::alloc::Allocator;
 use std::marker::Model;
@@ -26,14 +21,12 @@ pub struct Plain<A: Allocator> {
 }
 
 impl<A: Allocator> Model for Plain<A> {
-    ghost use Rattle.kahn_streams.specs.contracts.tree.Action as action;
-    ghost use Rattle.kahn_streams.specs.contracts.tree.Form as form;
-    ghost use Rattle.std.specs.Coded.{codes};
+    ghost use Rattle.kahn_code.specs.Common.{action_row, form_row, codes};
     ghost use Rattle.kahn_code.specs.Lines.{Lines, AreQueued};
 
     ghost Value = { Lines };
 
-    ghost coded = { Prim.hlevel (codes, action.the_row.coded, form.the_row.coded) };
+    ghost coded = { Prim.hlevel (codes, action_row.coded, form_row.coded) };
 
     ghost view = { λ s. record { network = s.network.value; input = s.input.value; instance = s.instance; queues = s.queues.items } };
 
@@ -88,10 +81,7 @@ impl<A: Allocator> Plain<A> {
     pub fn taken(&self, channel: usize) -> u64
         ensures { result ≡ taken_of (slice_get self.now.queues channel) }
     {
-        match self.queues.get(channel) {
-            Some(queue) => queue.taken(),
-            None => 0,
-        }
+        self.queues.get(channel).map_or(0, |queue| queue.taken())
     }
 
     /// Goes on for a longer input, in which these values stand behind those of an input channel: there they wait behind
@@ -117,10 +107,7 @@ impl<A: Allocator> Plain<A> {
     pub fn waiting(&self, channel: usize) -> usize
         ensures { result ≡ waiting_of (slice_get self.now.queues channel) }
     {
-        match self.queues.get(channel) {
-            Some(queue) => queue.len(),
-            None => 0,
-        }
+        self.queues.get(channel).map_or(0, |queue| queue.len())
     }
 }
 
@@ -128,7 +115,7 @@ impl<A: Allocator> Ports for Plain<A> {
     ghost use Rattle.std.specs.Prelude.{◌≡◌, ◌<◌};
     ghost use Rattle.kahn_code.specs.Lines.{actual_here, next_at, place_at, queue_of, waiting_of, spare_of};
 
-    ghost seat = { λ s. record { network = s.network; input = s.input; instance = s.instance } };
+    ghost site = { λ s. record { network = s.network; input = s.input; instance = s.instance } };
 
     ghost next = { λ s q. next_at s.queues (actual_here s q) };
 

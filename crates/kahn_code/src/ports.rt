@@ -1,7 +1,7 @@
 //! Where an instance takes and puts tokens.
 
 ghost use Rattle.std.specs.Prelude.{◌≡◌, ◌≢◌, ℕ, ◌<◌, ◌^◌, IfSome, IfNone, IsSome, IsTrue, IsFalse, OnOk, OnErr, IsOk};
-ghost use Rattle.kahn_code.specs.Seats.{Seat, DoesRead, DoesWrite, IsNext, Stays, StayReady, KeepsRoom, Moved, LeavesOthers, Grows};
+ghost use Rattle.kahn_code.specs.Sites.{Site, DoesRead, DoesWrite, IsNext, Stays, StaySo, Moved, LeavesOthers, Grows};
 
 use kahn_streams::{NoMemory, Token};
 
@@ -9,7 +9,7 @@ use kahn_streams::{NoMemory, Token};
 /// sends on an output channel isn't put here.
 pub trait Ports {
     // the program, the input and the instance
-    ghost seat: { Self → Seat };
+    ghost site: { Self → Site };
 
     // the next place of each channel parameter
     ghost next: { Self → ℕ → ℕ };
@@ -36,58 +36,58 @@ pub trait Ports {
 
     /// Whether the next `take` gives a token. It takes no memory.
     fn ready(&mut self, parameter: usize, channel: usize) -> bool
-        requires { DoesRead (seat self.old) parameter channel }
-        ensures seat { seat self.new ≡ seat self.old }
-        ensures others { LeavesOthers (seat self.old) (others self.old) (others self.new) }
+        requires { DoesRead (site self.old) parameter channel }
+        ensures site { site self.new ≡ site self.old }
+        ensures others { LeavesOthers (site self.old) (others self.old) (others self.new) }
         ensures which { which self.new ≡ which self.old }
         ensures delivered { Grows (delivered self.old) (delivered self.new) }
         ensures next { Stays (next self.old) (next self.new) }
-        ensures keeps { StayReady (is_ready self.old) (is_ready self.new) }
-        ensures rooms { KeepsRoom (has_room self.old) (has_room self.new) }
+        ensures keeps { StaySo (is_ready self.old) (is_ready self.new) }
+        ensures rooms { StaySo (has_room self.old) (has_room self.new) }
         ensures yes { IsTrue result → is_ready self.new parameter }
         ensures dry { IsFalse result → is_dry self.new parameter };
 
     /// The token of the next place. It takes no memory.
     fn take(&mut self, parameter: usize, channel: usize) -> Option<Token>
-        requires reads { DoesRead (seat self.old) parameter channel }
+        requires reads { DoesRead (site self.old) parameter channel }
         requires bound { next self.old parameter < 2 ^ 48 }
-        ensures seat { seat self.new ≡ seat self.old }
-        ensures others { LeavesOthers (seat self.old) (others self.old) (others self.new) }
+        ensures site { site self.new ≡ site self.old }
+        ensures others { LeavesOthers (site self.old) (others self.old) (others self.new) }
         ensures which { which self.new ≡ which self.old }
         ensures delivered { Grows (delivered self.old) (delivered self.new) }
-        ensures token { IfSome result (λ t. IsNext (seat self.old) channel (next self.old parameter) t) }
+        ensures token { IfSome result (λ t. IsNext (site self.old) channel (next self.old parameter) t) }
         ensures moved { IfSome result (λ _. Moved (next self.old) (next self.new) parameter) }
         ensures stays { IfNone result (Stays (next self.old) (next self.new)) }
         ensures dry { IfNone result (is_dry self.new parameter) }
         ensures some { is_ready self.old parameter → IsSome result }
-        ensures keeps { (q d : ℕ) → q ≢ parameter → DoesRead (seat self.old) q d → is_ready self.old q → is_ready self.new q }
-        ensures rooms { KeepsRoom (has_room self.old) (has_room self.new) };
+        ensures keeps { (q d : ℕ) → q ≢ parameter → DoesRead (site self.old) q d → is_ready self.old q → is_ready self.new q }
+        ensures rooms { StaySo (has_room self.old) (has_room self.new) };
 
     /// Makes room for one token. Where there is room already it takes no memory, and so refuses nothing.
     fn room(&mut self, parameter: usize, channel: usize) -> Result<(), NoMemory>
-        requires { DoesWrite (seat self.old) parameter channel }
-        ensures seat { seat self.new ≡ seat self.old }
-        ensures others { LeavesOthers (seat self.old) (others self.old) (others self.new) }
+        requires { DoesWrite (site self.old) parameter channel }
+        ensures site { site self.new ≡ site self.old }
+        ensures others { LeavesOthers (site self.old) (others self.old) (others self.new) }
         ensures which { which self.new ≡ which self.old }
         ensures delivered { Grows (delivered self.old) (delivered self.new) }
         ensures next { Stays (next self.old) (next self.new) }
         ensures room { OnOk result (has_room self.new parameter) }
         ensures full { OnErr result (has_room self.new parameter → ⊥) }
         ensures spare { has_room self.old parameter → IsOk result }
-        ensures keeps { StayReady (is_ready self.old) (is_ready self.new) }
-        ensures rooms { KeepsRoom (has_room self.old) (has_room self.new) };
+        ensures keeps { StaySo (is_ready self.old) (is_ready self.new) }
+        ensures rooms { StaySo (has_room self.old) (has_room self.new) };
 
     /// Puts the token of the next place. It takes no memory.
     fn put(&mut self, parameter: usize, channel: usize, token: Token)
-        requires writes { DoesWrite (seat self.old) parameter channel }
+        requires writes { DoesWrite (site self.old) parameter channel }
         requires bound { next self.old parameter < 2 ^ 48 }
         requires room { has_room self.old parameter }
-        requires token { IsNext (seat self.old) channel (next self.old parameter) token }
-        ensures seat { seat self.new ≡ seat self.old }
-        ensures others { LeavesOthers (seat self.old) (others self.old) (others self.new) }
+        requires token { IsNext (site self.old) channel (next self.old parameter) token }
+        ensures site { site self.new ≡ site self.old }
+        ensures others { LeavesOthers (site self.old) (others self.old) (others self.new) }
         ensures which { which self.new ≡ which self.old }
         ensures delivered { Grows (delivered self.old) (delivered self.new) }
         ensures moved { Moved (next self.old) (next self.new) parameter }
-        ensures keeps { StayReady (is_ready self.old) (is_ready self.new) }
-        ensures rooms { (q d : ℕ) → q ≢ parameter → DoesWrite (seat self.old) q d → has_room self.old q → has_room self.new q };
+        ensures keeps { StaySo (is_ready self.old) (is_ready self.new) }
+        ensures rooms { (q d : ℕ) → q ≢ parameter → DoesWrite (site self.old) q d → has_room self.old q → has_room self.new q };
 }

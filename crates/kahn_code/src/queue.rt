@@ -1,12 +1,10 @@
-//! The plain queue of a channel.
+//! The plain queue of a channel, and those of all channels at the start of a run and for more input.
 
-ghost use Rattle.std.specs.Prelude.{◌≡◌, ◌<◌, ◌≤◌, ◌+◌, ◌^◌, [], length, slice_get, IfSome, IfNone, OnOk, OnErr, IsOk, Some};
-ghost use Rattle.kahn_streams.specs.Network.{network_of, role_at};
-ghost use Rattle.kahn_streams.specs.declared.tree.Role.TheVariants.{Input as InputRole};
-ghost use Rattle.kahn_streams.specs.declared.value.Line.TheVariants.{Channel};
-ghost use Rattle.kahn_streams.specs.Solution.{AreInputsExtended};
-ghost use Rattle.kahn_streams.specs.Tokens.{IsOf};
-ghost use Rattle.kahn_streams.specs.Inputs.{Holds, Names, Lists, inputs_of};
+ghost use Rattle.std.specs.Prelude.{◌≡◌, ◌<◌, ◌≤◌, ◌+◌, ◌^◌, length, slice_get, IfSome, IfNone, OnOk, OnErr, IsOk, Some, map, IfOk, ℕ, drop};
+ghost use Rattle.kahn_code.specs.Common.{network_of, role_at, Input as InputRole, Channel, AreInputsExtended, IsOf, Holds, Names, Lists, inputs_of};
+ghost use Rattle.kahn_code.specs.Lines.{AreFirst, IsFirst};
+ghost use Rattle.kahn_code.specs.Queues.{HasMore, Waiting};
+ghost use Rattle.kahn_code.specs.inner.Queued.{regrown};
 
 use kahn_streams::{About, Carried, Input, Line, Network, NoMemory, Token, Value, Word};
 use std::alloc::Allocator;
@@ -24,19 +22,15 @@ pub struct Queue<A: Allocator> {
 }
 
 impl<A: Allocator> Model for Queue<A> {
-    ghost use Rattle.kahn_streams.specs.contracts.tree.Action as action;
-    ghost use Rattle.kahn_streams.specs.contracts.tree.Form as form;
-    ghost use Rattle.std.specs.Coded.{codes};
+    ghost use Rattle.kahn_code.specs.Common.{action_row, form_row, codes, Channel, Follow};
     ghost use Rattle.std.specs.Prelude.{◌-◌, length};
     ghost use Rattle.std.specs.VecDeque.{deque_len, deque_capacity};
-    ghost use Rattle.kahn_streams.specs.declared.value.Line.TheVariants.{Channel};
-    ghost use Rattle.kahn_streams.specs.Tokens.{Follow};
     ghost use Rattle.kahn_code.specs.Queues.{Waiting, waiting_in};
-    ghost use Rattle.kahn_code.specs.inner.Begins.{AllBegin};
+    ghost use Rattle.kahn_code.specs.inner.Queued.{AllBegin};
 
     ghost Value = { Waiting };
 
-    ghost coded = { Prim.hlevel (codes, action.the_row.coded, form.the_row.coded) };
+    ghost coded = { Prim.hlevel (codes, action_row.coded, form_row.coded) };
 
     ghost view = { λ q. waiting_in q.network.value q.input.value q.channel q.taken (length q.tokens.items) (deque_capacity q.tokens - deque_len q.tokens) };
 
@@ -44,16 +38,8 @@ impl<A: Allocator> Model for Queue<A> {
 }
 
 impl<A: Allocator> Queue<A> {
-    /// An empty queue of a channel.
-    pub fn new(alloc: A, network: &Network, input: &Input, channel: usize) -> Queue<A>
-        ensures names { (result.network ≡ network.now) × (result.input ≡ input.now) × (result.channel ≡ channel) }
-        ensures empty { (result.taken ≡ 0) × (result.waiting ≡ 0) }
-    {
-        Queue::named(alloc, network, input, channel)
-    }
-
-    // An empty queue of a channel of the network and the input that are named.
-    fn named(alloc: A, _network: &Network, _input: &Input, channel: usize) -> Queue<A>
+    // An empty queue of a channel, of the network and the input that are named.
+    fn new(alloc: A, _network: &Network, _input: &Input, channel: usize) -> Queue<A>
         ghost names: { Names }
         ensures names { (result.network ≡ names.network) × (result.input ≡ names.input) × (result.channel ≡ channel) }
         ensures empty { (result.taken ≡ 0) × (result.waiting ≡ 0) }
@@ -105,8 +91,7 @@ impl<A: Allocator> Queue<A> {
     /// Makes room for one token more. Where there is room already it takes no memory, and so refuses nothing.
     #[inline(always)]
     pub fn room(&mut self) -> Result<(), NoMemory>
-        ensures names { (self.new.network ≡ self.old.network) × (self.new.input ≡ self.old.input) × (self.new.channel ≡ self.old.channel) }
-        ensures counts { (self.new.taken ≡ self.old.taken) × (self.new.waiting ≡ self.old.waiting) }
+        ensures more { HasMore 0 self.old self.new }
         ensures room { OnOk result (0 < self.new.spare) }
         ensures full { OnErr result (self.new.spare ≡ 0) }
         ensures spare { 0 < self.old.spare → IsOk result × (self.new ≡ self.old) }
@@ -122,13 +107,13 @@ impl<A: Allocator> Queue<A> {
     }
 
     /// Puts the token of the next place. It takes no memory.
+    #[tactic(auto, using(crate::proofs::Begin::begin_push, kahn_streams::proofs::Token_lists::follow_push))]
     pub fn put(&mut self, token: Token)
         requires room { 0 < self.old.spare }
         requires names { IsOf self.old.network self.old.input token }
         requires line { token.line ≡ Channel self.old.channel }
         requires place { token.place ≡ self.old.taken + self.old.waiting }
-        ensures names { (self.new.network ≡ self.old.network) × (self.new.input ≡ self.old.input) × (self.new.channel ≡ self.old.channel) }
-        ensures counts { (self.new.taken ≡ self.old.taken) × (self.new.waiting ≡ self.old.waiting + 1) }
+        ensures more { HasMore 1 self.old self.new }
         ensures spare { self.new.spare + 1 ≡ self.old.spare }
     {
         self.tokens.push_back_reserved(Carried::of(token));
@@ -150,8 +135,7 @@ impl<A: Allocator> Queue<A> {
 
     /// Makes room for so many tokens more. Where there is room already it takes no memory.
     pub fn room_for(&mut self, count: usize) -> Result<(), NoMemory>
-        ensures names { (self.new.network ≡ self.old.network) × (self.new.input ≡ self.old.input) × (self.new.channel ≡ self.old.channel) }
-        ensures counts { (self.new.taken ≡ self.old.taken) × (self.new.waiting ≡ self.old.waiting) }
+        ensures more { HasMore 0 self.old self.new }
         ensures room { OnOk result (count ≤ self.new.spare) }
     {
         self.tokens.reserve(count)?;
@@ -164,8 +148,7 @@ impl<A: Allocator> Queue<A> {
         requires input { role_at (network_of self.old.network) self.old.channel ≡ InputRole }
         requires here { slice_get (inputs_of self.old.input self.old.channel) (self.old.taken + self.old.waiting) ≡ Some value }
         requires few { self.old.taken + self.old.waiting < 2 ^ 64 }
-        ensures names { (self.new.network ≡ self.old.network) × (self.new.input ≡ self.old.input) × (self.new.channel ≡ self.old.channel) }
-        ensures counts { (self.new.taken ≡ self.old.taken) × (self.new.waiting ≡ self.old.waiting + 1) }
+        ensures more { HasMore 1 self.old self.new }
         ensures spare { self.new.spare + 1 ≡ self.old.spare }
     {
         let line = Line::Channel(self.channel);
@@ -206,4 +189,62 @@ fn named_token(
     ensures names { IsOf names.network names.input result }
 {
     Token::of_word(line, place, value)
+}
+
+// The queue of a channel, with the tokens of the channel's list where it is an input channel.
+fn first_queue<A: Allocator + Copy + Drop>(
+    alloc: A,
+    network: &Network,
+    input: &Input,
+    channel: usize,
+) -> Result<Queue<A>, NoMemory>
+    requires { channel < length (network_of network.now).channels }
+    ensures { IfOk result (IsFirst network.now input.now channel) }
+{
+    let mut queue = Queue::new(alloc, network, input, channel);
+    'tokens: while let Some(token) = input.token(network, channel, queue.len() as u64) {
+        queue.room()?;
+        queue.put(token);
+    }
+    Ok(queue)
+}
+
+/// The queue of each channel before anything was taken or put: an input channel has its whole list.
+#[tactic(auto, using(crate::proofs::Lists::none_first, crate::proofs::Queued::one_queue, crate::proofs::Queued::all_queues))]
+pub fn first_queues<A: Allocator + Copy + Drop>(
+    alloc: A,
+    network: &Network,
+    input: &Input,
+) -> Result<Vec<Queue<A>, A>, NoMemory>
+    ensures { IfOk result (λ queues. AreFirst network.now input.now queues.items) }
+{
+    let mut queues = Vec::new(alloc);
+    for channel in 0..network.channels() {
+        queues.push(first_queue(alloc, network, input, channel)?)?;
+    }
+    Ok(queues)
+}
+
+/// All queues go on for an input whose lists begin with those of their own. It takes no memory.
+pub(crate) fn regrow_all<A: Allocator>(queues: &mut Vec<Queue<A>, A>)
+    ghost input: { Lists }
+    requires { (c : ℕ) (w : Waiting) → slice_get queues.old.items c ≡ Some w → AreInputsExtended (inputs_of w.input) (inputs_of input) }
+    ensures { queues.new.items ≡ map (regrown input) queues.old.items }
+{
+    for number in 0..queues.len() {
+        queues[number].regrow();
+    }
+}
+
+/// Puts the values that stand next in the list of an input channel. It takes no memory.
+pub(crate) fn give_all<A: Allocator>(queue: &mut Queue<A>, values: &[Value])
+    requires room { length values.now ≤ queue.old.spare }
+    requires input { role_at (network_of queue.old.network) queue.old.channel ≡ InputRole }
+    requires here { drop (queue.old.taken + queue.old.waiting) (inputs_of queue.old.input queue.old.channel) ≡ values.now }
+    requires few { length (inputs_of queue.old.input queue.old.channel) < 2 ^ 64 }
+    ensures more { HasMore (length values.now) queue.old queue.new }
+{
+    for number in 0..values.len() {
+        queue.give(values[number]);
+    }
 }

@@ -1,24 +1,20 @@
 //! A tap: one process of a network on its way, which lets go of what it kept.
 
-ghost use Rattle.std.specs.Prelude.{◌≡◌, ℕ, ◌+◌, ◌*◌, ◌^◌, ◌<◌, ◌≤◌, length, [], map, replicate, ◌++◌, slice_get, slice_index_or, IfOk, Some};
-ghost use Rattle.kahn_streams.specs.Network.{network_of, instance_at};
-ghost use Rattle.kahn_streams.specs.Inputs.{Lists, inputs_of, Names};
-ghost use Rattle.kahn_code.specs.Flat.{stmt_code};
-ghost use Rattle.kahn_streams.specs.Solution.{AreInputsExtended};
+ghost use Rattle.std.specs.Prelude.{◌≡◌, ℕ, ◌+◌, ◌^◌, ◌<◌, length, [], map, ◌++◌, slice_get, slice_index_or, IfOk, Some};
+ghost use Rattle.kahn_code.specs.Common.{network_of, instance_at, Lists, inputs_of, Names, AreInputsExtended};
 ghost use Rattle.kahn_code.specs.Cells.{StoodBy};
 ghost use Rattle.kahn_code.specs.inner.Gone.{kept_behind, nothing_gone};
-ghost use Rattle.kahn_code.specs.Progress.{IsOpened};
-ghost use Rattle.kahn_code.specs.Seats.{LeavesOthers, Grows};
+ghost use Rattle.kahn_code.specs.Sites.{Serve};
 ghost use Rattle.kahn_code.specs.Standing.{tokens};
-ghost use Rattle.kahn_code.specs.Told.{AreCounts, seat_of, told_view, IsAt, IsStanding, IsStill, WantsRoom};
-ghost use Rattle.kahn_code.specs.inner.Tapped.{AreUnused, HasForgotten, IsPausedBy, IsSameProcess, Tapped, regrown_tap, tapped_of};
+ghost use Rattle.kahn_code.specs.Told.{AreCounts, AreUnused, site_of, told_view, HasRunFor, IsAt, IsStanding};
+ghost use Rattle.kahn_code.specs.inner.Tapped.{HasForgotten, Tapped, regrown_tap, tapped_of};
 
 use crate::cell::Kept;
 use crate::code::{Code, CodeFault};
 use crate::plain::Plain;
 use crate::ports::Ports;
 use crate::progress::{Pause, Progress};
-use kahn_streams::{About, Carried, Input, Network, NoMemory, Steps};
+use kahn_streams::{About, Carried, Input, Network, Steps};
 use std::alloc::{Allocator, Global};
 use std::marker::Model;
 use std::sync::ledger::Ledger;
@@ -33,15 +29,13 @@ pub struct Tap<A: Allocator + Copy + Drop = Global> {
 }
 
 impl<A: Allocator + Copy + Drop> Model for Tap<A> {
-    ghost use Rattle.kahn_streams.specs.contracts.tree.Action as action;
-    ghost use Rattle.kahn_streams.specs.contracts.tree.Form as form;
-    ghost use Rattle.std.specs.Coded.{codes};
+    ghost use Rattle.kahn_code.specs.Common.{action_row, form_row, codes};
     ghost use Rattle.kahn_code.specs.Told.{IsStanding};
     ghost use Rattle.kahn_code.specs.inner.Tapped.{Tapped, tapped_of};
 
     ghost Value = { Tapped };
 
-    ghost coded = { Prim.hlevel (codes, action.the_row.coded, form.the_row.coded) };
+    ghost coded = { Prim.hlevel (codes, action_row.coded, form_row.coded) };
 
     ghost view = { λ c. tapped_of c.progress c.network.value c.input.value };
 
@@ -63,7 +57,9 @@ impl<A: Allocator + Copy + Drop> Tap<A> {
         ensures none { IfOk result (λ c. (c.told.events ≡ 0) × (c.told.printed ≡ []) × (c.gone ≡ nothing_gone)) }
         ensures parameters { IfOk result (λ c. AreUnused (length (instance_at (network_of code.now.network.value) instance).actuals) c.told) }
     {
-        let progress = opened(alloc, code, instance, watch)?;
+        let process_code = code.process_code(instance);
+        let arguments = code.arguments(instance);
+        let progress = Progress::new(alloc, process_code, arguments, instance, watch)?;
         Ok(assembled(progress, code))
     }
 
@@ -77,31 +73,16 @@ impl<A: Allocator + Copy + Drop> Tap<A> {
         steps: &mut Steps<L>,
     ) -> Pause
         requires code { code.now.network.value ≡ self.old.told.network }
-        requires ports { P.seat ports.old ≡ seat_of self.old.told }
+        requires ports { P.site ports.old ≡ site_of self.old.told }
         requires at { IsAt self.old.told (P.next ports.old) }
         requires events { self.old.told.events + quantum < 2 ^ 48 }
-        ensures names { IsSameProcess self.old.told self.new.told }
         ensures gone { self.new.gone ≡ self.old.gone }
-        ensures ports { P.seat ports.new ≡ seat_of self.new.told }
-        ensures others { LeavesOthers (P.seat ports.old) (P.others ports.old) (P.others ports.new) }
-        ensures which { P.which ports.new ≡ P.which ports.old }
-        ensures delivered { Grows (P.delivered ports.old) (P.delivered ports.new) }
-        ensures at { IsAt self.new.told (P.next ports.new) }
-        // What the source says of the cell and of the pause.
-        ensures paused { IsPausedBy self.new.told (P.is_dry ports.new) (P.is_ready ports.new) (self.new.told.events ≡ self.old.told.events + quantum) result }
-        ensures events { (self.old.told.events ≤ self.new.told.events) × (self.new.told.events ≤ self.old.told.events + quantum) }
-        // Where no event was done, counts and lists are as before, and for how many tokens more lists have room.
-        ensures still { self.new.told.events ≡ self.old.told.events → IsStill self.old.told self.new.told }
-        // Where memory was refused, what it would send next has no room.
-        ensures refused { result ≡ Pause.NoMemory → WantsRoom self.new.told (P.has_room ports.new) }
-        // How many instructions were executed: at least one for each event.
-        ensures cost { steps.new ≤ steps.old + (quantum + 1) * length (stmt_code (instance_at (network_of self.old.told.network) self.old.told.instance).body) }
-        ensures counted { steps.old + self.new.told.events ≤ steps.new + self.old.told.events }
+        ensures served { Serve P.site P.others P.which P.delivered ports.old ports.new }
+        ensures ran { HasRunFor P.site P.next P.is_dry P.is_ready P.has_room quantum result ports.old ports.new steps.old steps.new self.old.told self.new.told }
     {
-        let routine = code.routine(self.progress.instance);
-        let body = code.body(self.progress.instance);
-        self.progress
-            .run(&routine.instructions, body, quantum, ports, steps)
+        let process_code = code.process_code(self.progress.instance);
+        let arguments = code.arguments(self.progress.instance);
+        self.progress.run(&process_code.instructions, arguments, quantum, ports, steps)
     }
 
     /// The number of its events.
@@ -194,22 +175,6 @@ impl<A: Allocator + Copy + Drop> Tap<A> {
     {
         self.input = About::named();
     }
-}
-
-// An instance of the network of the code, at its opening.
-fn opened<A: Allocator + Copy + Drop>(
-    alloc: A,
-    code: &Code<A>,
-    instance: usize,
-    watch: Option<usize>,
-) -> Result<Progress<A>, NoMemory>
-    requires { instance < length (network_of code.now.network.value).instances }
-    ensures core { IfOk result (IsOpened (network_of code.now.network.value) instance) }
-    ensures names { IfOk result (λ c. (c.instance ≡ instance) × (c.watch ≡ watch) × (c.gone.value ≡ nothing_gone)) }
-    ensures stands { IfOk result (λ c. (lists : Lists) → IsStanding c code.now.network.value lists) }
-{
-    let routine = code.routine(instance);
-    Progress::new(alloc, routine, code.body(instance), instance, watch)
 }
 
 // A tap of a network and an input of that name.

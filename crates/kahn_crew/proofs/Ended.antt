@@ -1,5 +1,5 @@
 -- What a closed board says of a run.
-use Rattle.kahn_crew.proofs.Common.{append-nil, ◌++◌, reverse, arith, ◌≡◌, ◌⊎◌, inl, inr, ⊎_elim, ℕ, zero, suc, ◌+◌, ◌<◌, ◌≤◌, true, false, List, [], ◌∷◌, length, sum_by, refl, sym, ap, ◌∙◌, subst, Option, Some, slice_get, some, get_elem?, sum_by-cons, slice_get_within, Program, Network, Actual, Reads, Writes, Hands, Given, channel_source, network_of, instance_at, actual_at, role_at, IsWellWired, Lists, is_output, count, end_at, Work, belongs, dealt, wired, events_told, wires, Terms, View, AreReadyTasks, HasBegun, most_events, IsTaskOf, Tasked, Continues, IsLater, count_on, handed_to_task, read_by, reads_at, told_tale, waits_on, writes_at, wrote_by, no_writer}
+use Rattle.kahn_crew.proofs.Common.{append-nil, ◌++◌, reverse, arith, ◌≡◌, ◌⊎◌, inl, inr, ⊎_elim, ℕ, zero, suc, ◌+◌, ◌<◌, ◌≤◌, true, false, List, [], ◌∷◌, length, sum_by, refl, sym, ap, ◌∙◌, subst, Option, Some, slice_get, some, get_elem?, sum_by-cons, slice_get_within, Program, Network, Reads, Writes, Given, channel_source, network_of, instance_at, actual_at, role_at, IsWellWired, Lists, is_output, count, end_at, Work, belongs, dealt, wired, events_told, wires, Terms, View, AreReadyTasks, HasBegun, most_events, IsTaskOf, Tasked, Continues, IsLater, count_on, handed_to_task, read_by, reads_at, told_tale, waits_on, writes_at, wrote_by, no_writer}
 use Rattle.kahn_streams.specs.declared.tree.Role.{Role}
 use Rattle.kahn_board.specs.Opening.{Closes}
 use Rattle.kahn_board.specs.Place.{below}
@@ -11,7 +11,7 @@ use Rattle.kahn_crew.proofs.Found.{none_some, some_same}
 use Rattle.kahn_crew.proofs.Publishing.{handed_is}
 use Rattle.kahn_crew.proofs.Resting.{continues_here, task_of}
 use Rattle.kahn_crew.proofs.Started.{both_at, fits_of}
-use Rattle.kahn_crew.proofs.Wirings.{instances_are, reads_first, writes_first, writer_is}
+use Rattle.kahn_crew.proofs.Wirings.{instances_are, read_so, reads_first, writes_first, writer_is}
 use Rattle.kahn_streams.specs.declared.tree.Role.TheVariants as role
 use Rattle.kahn_streams.proofs.Sourced
 use Rattle.kahn_board.specs.Opening as closed
@@ -34,11 +34,6 @@ waits_so w standing.Going c e = absurd (none_some e)
 waits_so w standing.Ended c e = absurd (none_some e)
 waits_so w (standing.Faulted k) c e = absurd (none_some e)
 waits_so w (standing.Dry q) c e = (q, refl, e)
-
-reads_so : (a : Actual) (c : ℕ) → read_by a ≡ Some c → a ≡ Reads c
-reads_so (Reads d) c e = ap Reads (some_same e)
-reads_so (Writes d) c e = absurd (none_some e)
-reads_so (Hands v) c e = absurd (none_some e)
 
 inner_output : (r : Role) → r ≡ role.Inner → is_output r ≡ false
 inner_output r e = ap is_output e
@@ -84,11 +79,11 @@ module _ (lists : Lists) (watch : Option ℕ) (key : Terms Tasked) (is_wired : I
   later : (p : ℕ) (y x : Tasked) → slice_get key.cells.value.items p ≡ Some y → slice_get tasks p ≡ Some x → Continues y x
   later p y x e f = (belong p x f y (both_at key.cells.value.items p y e)).continues
 
-  spent : v.loose ≡ 0 → c.budget + sum_by task_events tasks ≡ most_events key
+  spent : v.untold ≡ 0 → c.budget + sum_by task_events tasks ≡ most_events key
   spent none =
       let tally = closes.events.0 in
       let tells = closes.events.1 in
-      let adds : events_told told_tale key.cells.value.items + v.done ≡ below tally n + v.loose = closes.events.2 in
+      let adds : events_told told_tale key.cells.value.items + v.done ≡ below tally n + v.untold = closes.events.2 in
       let all : c.budget + v.done ≡ key.bound = closes.budget_is in
       let sum : below tally (length tasks) ≡ sum_by task_events tasks = below_sum task_events tasks tally (λ p x e. tells p x (within p x e) (cell_at p x e)) in
       let same : below tally n ≡ below tally (length tasks) = ap (below tally) (sym many) in
@@ -117,16 +112,16 @@ module _ (lists : Lists) (watch : Option ℕ) (key : Terms Tasked) (is_wired : I
       let w = x.work in
       let s = waits_so w x.standing d tells.0 in
       let q = s.0 in
-      let here : handed_to_task w q ≡ Reads d = reads_so (handed_to_task w q) d s.2 in
+      let here : handed_to_task w q ≡ Reads d = read_so (handed_to_task w q) d s.2 in
       let at : actual_at (instance_at (network_of t) p) q ≡ Reads d = sym (handed_is t is_wired w p q is.0 is.1) ∙ here in
       let first : reads_at w d ≡ Some q = reads_first w.cell.network (subst IsWellWired (sym is.0) is_wired) w.cell.instance q d here in
       let took : count w.cell.taken q ≡ k = sym (ap (count_on w.cell.taken) first) ∙ tells.1 in
       inr (q, d, s.1, here, subst (AreAll t lists tasks d) (sym took) (all_sent p q d k at all))
 
-  gone_here : v.loose ≡ 0 → HaveGone t lists watch (most_events key) key.cells.value.items tasks c.budget
+  gone_here : v.untold ≡ 0 → HaveGone t lists watch (most_events key) key.cells.value.items tasks c.budget
   gone_here none = record {
     ready = begun.ready;
-    count = many ∙ instances_are t is_wired;
+    count = many ∙ instances_are t;
     later = later;
     events = spent none;
   }
@@ -146,7 +141,7 @@ unboxed cells tasks room none e = sym (e ∙ (ap (λ (l : List _). cells ++ reve
 
 -- one cell for each instance
 pub instances_of : (k t : Program) → k ≡ t → IsWellWired t → (wires k).instances ≡ length (network_of t).instances
-instances_of k t e is_wired = ap (λ (x : Program). (wires x).instances) e ∙ instances_are t is_wired
+instances_of k t e is_wired = ap (λ (x : Program). (wires x).instances) e ∙ instances_are t
 
 -- ---- sums of events
 
@@ -186,12 +181,12 @@ module _ (t : Program) (lists : Lists) (watch : Option ℕ) (key : Terms Tasked)
   begun_key : HasBegun key.network.value lists watch key
   begun_key = subst (λ (k : Program). HasBegun k lists watch key) (sym begun.network) begun
 
-  pub have_gone : v.loose ≡ 0 → HaveGone t lists watch (most_events key) key.cells.value.items tasks c.budget
+  pub have_gone : v.untold ≡ 0 → HaveGone t lists watch (most_events key) key.cells.value.items tasks c.budget
   have_gone none =
       subst (λ (k : Program). HaveGone k lists watch (most_events key) key.cells.value.items tasks c.budget) begun.network
       (gone_here lists watch key wired_key begun_key c tasks v closes are none)
 
-  pub untouched : v.loose ≡ 0 → v.done ≡ 0 → AreUntouched key.bound key.cells.value.items tasks c.budget
+  pub untouched : v.untold ≡ 0 → v.done ≡ 0 → AreUntouched key.bound key.cells.value.items tasks c.budget
   untouched none unused =
       let gone = have_gone none in
       let spent : c.budget + v.done ≡ key.bound = closes.budget_is in

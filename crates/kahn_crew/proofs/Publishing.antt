@@ -1,21 +1,10 @@
 -- What is published agrees with what the seat knows.
-use Rattle.kahn_crew.proofs.Common.{arith, ◌≡◌, ◌≢◌, inl, inr, ℕ, ◌+◌, ◌<◌, ◌≤◌, ◌^◌, Bool, true, false, length, refl, sym, ap, ◌∙◌, subst, Some, None, slice_set, if◌then◌else◌, dite, ℕ_discrete, get_or-set_same, get_or-set_other, Program, Network, Actual, Reads, Writes, Hands, network_of, instance_at, actual_at, role_at, IsWellWired, is_output, count, Joins, joins_parameter, driven, wires, View, end_at, Work, width_of, HasPublished, SeesMore, IsJob, AreCounts, IsTaskOf, Tasked, AgreesWith, IsPublished, handed_to_task, written_by}
-use Rattle.kahn_crew.proofs.Wirings.{target, writer_is, written_inside}
-use Rattle.kahn_crew.proofs.Found.{none_some, some_same}
+use Rattle.kahn_crew.proofs.Common.{arith, ◌≡◌, ◌≢◌, inl, inr, ℕ, ◌+◌, ◌<◌, ◌^◌, false, length, sym, ap, ◌∙◌, subst, Some, None, slice_set, dite, ℕ_discrete, get_or-set_same, get_or-set_other, Program, Actual, Writes, network_of, instance_at, actual_at, role_at, IsWellWired, is_output, count, driven, wires, View, end_at, Work, HasPublished, SeesMore, IsJob, AreCounts, IsTaskOf, Tasked, AgreesWith, IsPublished, handed_to_task, written_by}
+use Rattle.kahn_crew.proofs.Wirings.{so_written, writer_is, written_inside, written_so}
+use Rattle.kahn_crew.proofs.Found.{none_some}
 
 writes_same : {c d : ℕ} → Writes d ≡ Writes c → d ≡ c
 writes_same e = cc
-
-written_in : (b : Bool) (d c : ℕ) → (if b then None else Some d) ≡ Some c → (d ≡ c) × (b ≡ false)
-written_in true d c e = absurd (none_some e)
-written_in false d c e = (some_same e, refl)
-
-pub written_so : (N : Network) (a : Actual) (c : ℕ) → written_by N a ≡ Some c → (a ≡ Writes c) × (is_output (role_at N c) ≡ false)
-written_so N (Reads d) c e = absurd (none_some e)
-written_so N (Writes d) c e =
-    let f = written_in (is_output (role_at N d)) d c e in
-    (ap Writes f.0, ap (λ k. is_output (role_at N k)) (sym f.0) ∙ f.1)
-written_so N (Hands v) c e = absurd (none_some e)
 
 module _ (t : Program) (wired : IsWellWired t) where
   abbrev At : ℕ → ℕ → Actual
@@ -30,13 +19,7 @@ module _ (t : Program) (wired : IsWellWired t) where
   -- nothing is to be published where no channel between processes is written
   pub nothing_written : (x : Tasked) (p o : ℕ) → IsTaskOf t p x → written_by (network_of t) (At p o) ≡ None → IsPublished x o
   nothing_written x p o is e c h inner =
-      absurd (none_some (sym e ∙ target t wired p o c (sym (handed_is x.work p o is.0 is.1) ∙ h) (sym (inner_is x.work c is.0) ∙ inner)))
-
-  -- nor past the last parameter
-  pub nothing_past : (x : Tasked) (p o : ℕ) → IsTaskOf t p x → width_of x.work ≤ o → IsPublished x o
-  nothing_past x p o is past c h inner =
-      let lt = joins_parameter (network_of x.work.cell.network) x.work.cell.instance o c (subst (λ a. Joins a c) (sym h) refl) in
-      absurd (omega (arith, lt, past))
+      absurd (none_some (sym e ∙ so_written (network_of t) (At p o) c (sym (handed_is x.work p o is.0 is.1) ∙ h) (sym (inner_is x.work c is.0) ∙ inner)))
 
   -- a number that is told
   pub agrees_told : (x : Tasked) (p o c k : ℕ) (old new : View) → IsTaskOf t p x → written_by (network_of t) (At p o) ≡ Some c → o < length x.published →

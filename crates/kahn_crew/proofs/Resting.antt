@@ -1,7 +1,7 @@
 -- A task that is set down.
-use Rattle.kahn_crew.proofs.Common.{arith, ◌≡◌, ◌⊎◌, inl, inr, ⊎_elim, ℕ, ◌+◌, ◌<◌, ◌^◌, List, length, refl, sym, ap, ◌∙◌, subst, Option, Some, None, slice_index, Program, Reads, Writes, network_of, instance_at, actual_at, role_at, IsWellWired, is_output, route_of, count, AreCounts, belongs, wired, wires, SeesMore, Terms, View, Fits, Knows, end_at, Work, IsDelivered, FitTogether, IsTaskOf, IsDue, Tasked, Continues, HasStanding, AgreesWith, IsLater, IsPublished, count_on, handed_to_task, read_by, reads_at, told_tale, waits_on, writes_at, wrote_by, is_there}
+use Rattle.kahn_crew.proofs.Common.{arith, ◌≡◌, ◌⊎◌, inl, inr, ⊎_elim, ℕ, ◌+◌, ◌<◌, ◌^◌, List, refl, sym, ap, ◌∙◌, subst, Option, Some, None, slice_index, Program, Reads, Writes, network_of, instance_at, actual_at, role_at, IsWellWired, is_output, route_of, count, AreCounts, belongs, wired, wires, SeesMore, Terms, View, Fits, Knows, end_at, Work, IsDelivered, FitTogether, IsTaskOf, IsDue, Tasked, Continues, HasStanding, AgreesWith, IsLater, IsPublished, count_on, handed_to_task, read_by, reads_at, told_tale, waits_on, writes_at, wrote_by, is_there}
 use Rattle.kahn_streams.proofs.Dry.{dry_reads}
-use Rattle.kahn_board.specs.Tale.{FlushedAll, flushed_of, second_of}
+use Rattle.kahn_board.specs.Summary.{FlushedAll, flushed_of, second_of}
 use Rattle.kahn_crew.proofs.Wirings.{reads_first, writes_first, first_writes, reader_is, writer_is, read_inside, written_inside}
 use Rattle.kahn_crew.proofs.Publishing.{handed_is}
 use Rattle.kahn_job.proofs.Berthed.{same_self, same_then}
@@ -62,20 +62,14 @@ is_published key lent code p y fit lt b = let f = is_there key.cells.value.items
 
 -- ---- what is told
 
-none_wrote : {k : ℕ × ℕ} → None ≡ Some k → ⊥
-none_wrote e = cc
-
-same_wrote : {k l : ℕ × ℕ} → Some k ≡ Some l → k ≡ l
-same_wrote e = cc
-
 -- the parameter that wrote
 flushed_some : (w : Work) (m : Option ℕ) (l : ℕ) → second_of (wrote_by w m) ≡ Some l → (o : ℕ) × (m ≡ Some o) × ((end_at w.ends o).flushed ≡ l)
 flushed_some w None l e = absurd (none_some e)
 flushed_some w (Some o) l e = (o, refl, some_same e)
 
 wrote_some : (w : Work) (m : Option ℕ) (k l : ℕ) → wrote_by w m ≡ Some (k, l) → (o : ℕ) × (m ≡ Some o) × (count w.cell.sent o ≡ k) × ((end_at w.ends o).flushed ≡ l)
-wrote_some w None k l e = absurd (none_wrote e)
-wrote_some w (Some o) k l e = let same = same_wrote e in (o, refl, ap (λ x. x.0) same, ap (λ x. x.1) same)
+wrote_some w None k l e = absurd (none_some e)
+wrote_some w (Some o) k l e = let same = some_same e in (o, refl, ap (λ x. x.0) same, ap (λ x. x.1) same)
 
 pub sees_two : (a b : ℕ) → SeesMore a b → a ≡ 2 → b ≡ 2
 sees_two a b (inl e) h = e ∙ h
@@ -112,7 +106,7 @@ module _ (t : Program) (wired : IsWellWired t) where
   -- a task that was run, flushed and published may be left
   pub fits_after : (key : Terms Tasked) (p : ℕ) (x : Tasked) (v : View) → IsTaskOf t p x → belongs Continues key p x →
       AgreesWith x.work x.published v.flushed → ((o : ℕ) → IsPublished x o) → (v.seen ≡ 2) ⊎ IsDelivered x.work →
-      x.work.cell.events ≡ slice_index v.got p + v.loose → Fits told_tale (belongs IsLater key) (wires t) p x v
+      x.work.cell.events ≡ slice_index v.events_when_got p + v.untold → Fits told_tale (belongs IsLater key) (wires t) p x v
   fits_after key p x v is first agrees published delivered events = record {
     published = published_is p x v is agrees published;
     events = events;
@@ -121,11 +115,11 @@ module _ (t : Program) (wired : IsWellWired t) where
   }
 
   -- a seat that knows as much of p finds the task as fit
-  pub fits_still : (key : Terms Tasked) (p : ℕ) (y : Tasked) (old new : View) → IsTaskOf t p y → Knows (wires t) p old new → new.loose ≡ old.loose →
+  pub fits_still : (key : Terms Tasked) (p : ℕ) (y : Tasked) (old new : View) → IsTaskOf t p y → Knows (wires t) p old new → new.untold ≡ old.untold →
       Fits told_tale (belongs IsLater key) (wires t) p y old → Fits told_tale (belongs IsLater key) (wires t) p y new
-  fits_still key p y old new is knows loose fits = record {
+  fits_still key p y old new is knows untold fits = record {
     published = λ c l e. let f = fits.published c l e in (f.0, f.1, f.2 ∙ sym (knows.flushed c f.0 f.1));
-    events = let f : y.work.cell.events ≡ slice_index old.got p + old.loose = fits.events in let g = knows.got in omega (arith, f, g, loose);
+    events = let f : y.work.cell.events ≡ slice_index old.events_when_got p + old.untold = fits.events in let g = knows.events_when_got in omega (arith, f, g, untold);
     flushed = ⊎_elim (λ e. inl (sees_two old.seen new.seen knows.seen e)) (λ d. inr d) fits.flushed;
     belonging = fits.belonging;
   }
@@ -174,8 +168,3 @@ module _ (t : Program) (wired : IsWellWired t) where
   agrees_known p x old new is knows agrees o c h inner =
       let at : actual_at (instance_at (network_of t) p) o ≡ Writes c = sym (handed_is t wired x.work p o is.0 is.1) ∙ h in
       agrees o c h inner ∙ sym (knows.flushed c (written_inside t wired p o c at) (writer_is t wired p o c at))
-
--- the board has as many instances as the network
-pub instances_of : (t : Program) → (wires t).instances ≡ length (network_of t).instances
-unfolding wires
-instances_of t = refl

@@ -1,7 +1,7 @@
 -- A worker that goes round all instances, and finds none that is ready.
-use Rattle.std.proofs.Common.{IfNone}
-use Rattle.kahn_crew.proofs.Common.{Option, Some, None, arith, ◌≡◌, ℕ, ◌+◌, ◌-◌, ◌*◌, ◌%◌, ◌<◌, refl, ap, ◌∙◌, subst, dite, ℕ_discrete, add-mod_left, mod-eq_of_lt, mod-lt, holds, Seat, Run, WasNotReady, terms_of, Tasked, IsLater, told_tale}
+use Rattle.kahn_crew.proofs.Common.{Option, Some, None, arith, ◌≡◌, ℕ, ◌+◌, ◌-◌, ◌*◌, ◌%◌, ◌<◌, refl, ap, ◌∙◌, subst, dite, ℕ_discrete, add-mod_left, mod-eq_of_lt, mod-lt, holds, Seat, Run, HasPicked, IsSameWorker, WasNotReady, terms_of, Tasked, IsLater, told_tale, Bool, Sat, sym, LooksAt, RestsWith, SitsWith}
 use Rattle.kahn_board.proofs.Keeps.{was_at}
+use Rattle.kahn_crew.specs.declared.worker.Worker.{Worker}
 
 -- each is met once
 met : (n a p : ℕ) → a < n → p < n → (k : ℕ) × (k < n) × ((a + k) % n ≡ p)
@@ -11,6 +11,10 @@ met n a p la lp = by (p - a) refl (a - p) refl
     by d is e f = dite (ℕ_discrete e 0)
         (λ z. (d, omega (arith, is, lp), ap (λ k. k % n) (omega (arith, is, f, z)) ∙ mod-eq_of_lt lp))
         (λ ne. (n - e, omega (arith, f, la, ne), ap (λ k. k % n) (omega (arith, f, la, ne)) ∙ (add-mod_left n p ∙ mod-eq_of_lt lp)))
+
+-- a seat that looked rests as it did
+pub looked : (run : Run) (s t : Seat Tasked) (p n : ℕ) (b : Bool) → LooksAt told_tale IsLater (terms_of run) s t p b → SitsWith run n s → SitsWith run n t
+looked run s t p n b e r = (e.0.0 ∙ r.0, subst (λ (m : Sat Tasked). RestsWith n m.0) (sym e.1.3) r.1)
 
 -- the same seat tells it
 pub not_ready_of : (run : Run) (s t : Seat Tasked) (p : ℕ) → t.seat.id ≡ s.seat.id → WasNotReady run t p → WasNotReady run s p
@@ -22,7 +26,7 @@ none_ready run s n start each p lt =
     let m = met n (start % n) p (mod-lt start (omega (arith, lt))) lt in
     subst (WasNotReady run s) m.2 (each m.0 m.1)
 
--- the same seat found none
-pub none_of : {A : Type 0} (run : Run) (s t : Seat Tasked) (n : ℕ) (found : Option A) → t.seat.id ≡ s.seat.id → IfNone found ((p : ℕ) → p < n → WasNotReady run t p) → IfNone found ((p : ℕ) → p < n → WasNotReady run s p)
-none_of run s t n None same h = λ p lt. not_ready_of run s t p same (h p lt)
-none_of run s t n (Some x) same h = tt
+-- the same worker picked before
+pub picked_since : (run : Run) (a b c : Worker) (found : Option ℕ) → IsSameWorker a b → HasPicked run found b c → HasPicked run found a c
+picked_since run a b c None same h = (h.0, λ p lt. not_ready_of run a.seat b.seat p same.0.1 (h.1 p lt))
+picked_since run a b c (Some p) same h = h

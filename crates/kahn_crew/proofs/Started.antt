@@ -1,6 +1,5 @@
 -- The first tasks, and the board that is made of them.
-use Rattle.kahn_crew.proofs.Common.{arith, ◌≡◌, ℕ, zero, suc, ◌+◌, ◌<◌, ◌≤◌, ◌^◌, List, [], ◌∷◌, ◌++◌, length, map, reverse, refl, sym, ap, ◌∙◌, subst, true, false, Option, Some, None, slice_get, slice_index, slice_index_or, some, some-injective, some-ne-none, get_elem?, append_assoc, length-map, map-append, reverse-append, reverse-reverse, slice_get_within, Program, Side, Writes, network_of, instance_at, actual_at, role_at, IsOnly, IsWriter, IsWellWired, side_at, Lists, inputs_of, is_output, Joins, count, AreCounts, Serves, end_at, IsDelivered, Work, events_told, Opens, wires, Terms, View, woken_task, Tasked, AreReadyTasks, HasBegun, IsNumber, IsReadyTask, AreOnInput, FitTogether, AgreesWith, IsLater, IsPublished, task_rows, told_tale}
-use Rattle.std.proofs.lemmas.List.{append-nil}
+use Rattle.kahn_crew.proofs.Common.{arith, ◌≡◌, ℕ, zero, suc, ◌+◌, ◌<◌, ◌≤◌, ◌^◌, List, [], ◌∷◌, ◌++◌, length, map, refl, sym, ap, ◌∙◌, subst, true, false, Option, Some, None, slice_get, slice_index, slice_index_or, some, some-injective, some-ne-none, get_elem?, length-map, option_map, slice_get-map, slice_get_read, Program, Side, Writes, network_of, instance_at, actual_at, role_at, IsOnly, IsWriter, IsWellWired, side_at, Lists, inputs_of, is_output, Joins, count, AreCounts, Serves, end_at, IsDelivered, Work, events_told, Opens, wires, Terms, View, woken_task, Tasked, AreReadyTasks, HasBegun, IsNumber, IsReadyTask, AreOnInput, FitTogether, AgreesWith, IsLater, IsPublished, task_rows, told_tale}
 use Rattle.kahn_streams.specs.declared.tree.Role.TheVariants.{Inner, Input}
 use Rattle.kahn_job.specs.inner.Idles.{AreIdle, CanGoOn, HaveSettled, rows_of}
 use Rattle.kahn_job.specs.inner.Lanes.{AreJoinedOn}
@@ -10,7 +9,7 @@ use Rattle.kahn_job.proofs.Settles.{stood_same}
 use Rattle.kahn_board.specs.Rule.{spent}
 use Rattle.kahn_crew.proofs.Found.{none_some, some_same}
 use Rattle.kahn_crew.proofs.Publishing.{handed_is}
-use Rattle.kahn_crew.proofs.Resting.{flushed_all, instances_of, continues_here, published_is}
+use Rattle.kahn_crew.proofs.Resting.{flushed_all, continues_here, published_is}
 use Rattle.kahn_crew.proofs.Wirings.{channels_are, instances_are}
 use Rattle.kahn_streams.proofs.Sourced
 
@@ -26,16 +25,6 @@ both_at [] p x e = absurd (none_some e)
 both_at (y ∷ ys) zero x e = ap some (some_same e)
 both_at (y ∷ ys) (suc p) x e = both_at ys p x e
 
-pub there_is : {A : Type 0} (xs : List A) (p : ℕ) → p < length xs → (x : A) × (slice_get xs p ≡ Some x)
-there_is [] p h = absurd (omega (arith, h))
-there_is (x ∷ xs) zero h = (x, refl)
-there_is (x ∷ xs) (suc p) h = there_is xs p (omega (arith, h))
-
-pub read_there : {A : Type 0} (xs : List A) (p : ℕ) (x d : A) → slice_get xs p ≡ Some x → slice_index_or xs p d ≡ x
-read_there [] p x d e = absurd (none_some e)
-read_there (y ∷ xs) zero x d e = some_same e
-read_there (y ∷ xs) (suc p) x d e = read_there xs p x d e
-
 -- what stands in the image is the image of what stands there
 pub mapped_at : {A B : Type 0} (f : A → B) (xs : List A) (p : ℕ) (y : B) → slice_get (map f xs) p ≡ Some y → (x : A) × (slice_get xs p ≡ Some x) × (y ≡ f x)
 mapped_at f [] p y e = absurd (none_some e)
@@ -43,49 +32,11 @@ mapped_at f (x ∷ xs) zero y e = (x, refl, sym (some_same e))
 mapped_at f (x ∷ xs) (suc p) y e = mapped_at f xs p y e
 
 pub at_mapped : {A B : Type 0} (f : A → B) (xs : List A) (p : ℕ) (x : A) → slice_get xs p ≡ Some x → slice_get (map f xs) p ≡ Some (f x)
-at_mapped f [] p x e = absurd (none_some e)
-at_mapped f (y ∷ xs) zero x e = ap Some (ap f (some_same e))
-at_mapped f (y ∷ xs) (suc p) x e = at_mapped f xs p x e
+at_mapped f xs p x e = slice_get-map f xs p ∙ ap (option_map f) e
 
-middle_at : {A : Type 0} (before after : List A) (x : A) → slice_get (before ++ x ∷ after) (length before) ≡ Some x
+pub middle_at : {A : Type 0} (before after : List A) (x : A) → slice_get (before ++ x ∷ after) (length before) ≡ Some x
 middle_at [] after x = refl
 middle_at (b ∷ before) after x = middle_at before after x
-
--- ---- the tasks of jobs that are taken from the end of a list
-
-turned : (rest : List Work) (w : Work) → reverse (rest ++ w ∷ []) ≡ w ∷ reverse rest
-turned rest w = reverse-append rest (w ∷ [])
-
-module _ (task : Work → Tasked) where
-  -- of all jobs the first ones have a task, and the others wait, the last one first
-  pub record Taking (all left : List Work) (tasks : List Tasked) : Type 0 where
-    pub before : List Work
-    pub split : before ++ reverse left ≡ all
-    pub made : tasks ≡ map task before
-
-  pub none_taken : (all left : List Work) (tasks : List Tasked) → left ≡ reverse all → tasks ≡ [] → Taking all left tasks
-  none_taken all left tasks e f = record { before = []; split = ap reverse e ∙ reverse-reverse all; made = f }
-
-  pub next_at : (all left : List Work) (tasks : List Tasked) (rest : List Work) (w : Work) → Taking all left tasks → left ≡ rest ++ w ∷ [] → slice_get all (length tasks) ≡ Some w
-  next_at all left tasks rest w t e =
-      let long : length tasks ≡ length t.before = ap length t.made ∙ length-map t.before task in
-      let is : t.before ++ w ∷ reverse rest ≡ all = ap (λ (l : List Work). t.before ++ l) (sym (turned rest w)) ∙ (ap (λ (l : List Work). t.before ++ reverse l) (sym e) ∙ t.split) in
-      subst (λ (l : List Work). slice_get l (length tasks) ≡ Some w) is (subst (λ n. slice_get (t.before ++ w ∷ reverse rest) n ≡ Some w) (sym long) (middle_at t.before (reverse rest) w))
-
-  pub room_for : (all left : List Work) (tasks : List Tasked) (rest : List Work) (w : Work) → Taking all left tasks → left ≡ rest ++ w ∷ [] → length tasks < length all
-  room_for all left tasks rest w t e = slice_get_within all (length tasks) w (next_at all left tasks rest w t e)
-
-  pub one_taken : (all left : List Work) (tasks : List Tasked) (rest : List Work) (w : Work) (more : List Tasked) → Taking all left tasks → left ≡ rest ++ w ∷ [] →
-      more ≡ tasks ++ task w ∷ [] → Taking all rest more
-  one_taken all left tasks rest w more t e f = record {
-    before = t.before ++ w ∷ [];
-    split = append_assoc t.before (w ∷ []) (reverse rest) ∙ (ap (λ (l : List Work). t.before ++ l) (sym (turned rest w)) ∙ (ap (λ (l : List Work). t.before ++ reverse l) (sym e) ∙ t.split));
-    made = f ∙ (ap (λ (l : List Tasked). l ++ task w ∷ []) t.made ∙ sym (map-append task t.before (w ∷ [])));
-  }
-
-  pub all_taken : (all left : List Work) (tasks : List Tasked) → Taking all left tasks → left ≡ [] → tasks ≡ map task all
-  all_taken all left tasks t e =
-      t.made ∙ ap (map task) (sym (append-nil t.before) ∙ (ap (λ (l : List Work). t.before ++ reverse l) (sym e) ∙ t.split))
 
 -- ---- what is told at the opening
 
@@ -154,6 +105,9 @@ module _ (t : Program) (lists : Lists) (watch : Option ℕ) (ws : List Work) (ta
 
 -- ---- how many tokens are published
 
+apart_roles : Inner ≡ Input → ⊥
+apart_roles e = absurd cc
+
 module _ (t : Program) (wired : IsWellWired t) (lists : Lists) (watch : Option ℕ) (tasks : List Tasked) (f : AreReadyTasks t lists watch tasks) (c : ℕ) where
   pub number_given : role_at (network_of t) c ≡ Input → (n : ℕ) → n ≡ length (inputs_of lists c) → IsNumber t lists tasks c n
   number_given r n e = record {
@@ -170,9 +124,6 @@ module _ (t : Program) (wired : IsWellWired t) (lists : Lists) (watch : Option �
         let one : x ≡ y = some_same (sym at ∙ (ap (λ (u : Side). slice_get tasks u.instance) same ∙ here)) in
         e ∙ (ap (λ (z : Tasked). count z.work.cell.sent s.parameter) (sym one) ∙ ap (λ (u : Side). count x.work.cell.sent u.parameter) (sym same));
   }
-    where
-      apart_roles : Inner ≡ Input → ⊥
-      apart_roles e = absurd cc
 
   -- it is no more than all events
   pub number_few : (s : Side) → IsOnly (IsWriter (network_of t) c) (Some s) → (y : Tasked) → slice_get tasks s.instance ≡ Some y → AreCounts y.work.cell →
@@ -186,18 +137,13 @@ module _ (t : Program) (wired : IsWellWired t) (lists : Lists) (watch : Option �
 
   -- the task of the writer is there
   pub writer_there : (s : Side) → IsOnly (IsWriter (network_of t) c) (Some s) → (y : Tasked) → y ≡ slice_index_or tasks s.instance y → slice_get tasks s.instance ≡ Some y
-  writer_there s only y e =
-      let h = there_is tasks s.instance (let l = only.0.0.0 in let n = f.count in omega (arith, l, n)) in
-      h.1 ∙ ap Some (sym (e ∙ read_there tasks s.instance h.0 y h.1))
+  writer_there s only y e = slice_get_read tasks (length tasks) s.instance y refl (let l = only.0.0.0 in let n = f.count in omega (arith, l, n)) e
 
   pub number_none : role_at (network_of t) c ≡ Inner → IsOnly (IsWriter (network_of t) c) None → (n : ℕ) → IsNumber t lists tasks c n
   number_none r none n = record {
     given = λ i. absurd (apart_roles (sym r ∙ i));
     sent = λ p o x at w inner. absurd (none (side_at p o) (Sourced.handed_within (network_of t) p o c (subst (λ a. Joins a c) (sym w) refl), w));
   }
-    where
-      apart_roles : Inner ≡ Input → ⊥
-      apart_roles e = absurd cc
 
 -- ---- the board
 
@@ -225,9 +171,9 @@ module _ (t : Program) (wired : IsWellWired t) (lists : Lists) (watch : Option �
   -- the board may be made of them
   pub opens : (bound : ℕ) → bound + events_told told_tale tasks < 2 ^ 48 → Opens told_tale IsLater (wires t) bound numbers tasks
   opens bound few = record {
-    cells_are = f.count ∙ sym (instances_are t wired);
-    numbers_are = long ∙ sym (channels_are t wired);
-    small = λ c lt. let near : c < length numbers = omega (arith, lt, channels_are t wired, long) in (each c near).1;
+    cells_are = f.count ∙ sym (instances_are t);
+    numbers_are = long ∙ sym (channels_are t);
+    small = λ c lt. let near : c < length numbers = omega (arith, lt, channels_are t, long) in (each c near).1;
     flushes = λ p c k y e told.
         let at = at_both tasks p y e in
         let o = f.each p y at in
@@ -246,6 +192,6 @@ pub fits_of : (t : Program) (lists : Lists) (watch : Option ℕ) (key : Terms Ta
 fits_of t lists watch key b code same = record {
   network = sym b.network;
   code = same ∙ sym b.network;
-  count = b.ready.count ∙ (sym (instances_of t) ∙ ap (λ (k : Program). (wires k).instances) (sym b.network));
+  count = b.ready.count ∙ (sym (instances_are t) ∙ ap (λ (k : Program). (wires k).instances) (sym b.network));
   cells = λ p x at. let o = b.ready.each p x (at_both key.cells.value.items p x at) in (o.network ∙ sym b.network, o.instance);
 }

@@ -1,51 +1,57 @@
 -- Who reads and who writes a channel, by the numbers of instances and parameters.
-use Rattle.kahn_crew.proofs.Common.{arith, ◌≡◌, ℕ, ◌+◌, ◌<◌, ◌==◌, Bool, true, false, length, refl, sym, ap, ◌∙◌, subst, Option, Some, None, eqb-true, pos, if◌then◌else◌, Program, Side, Network, Actual, Reads, Writes, Hands, Written, network_of, instance_at, actual_at, role_at, IsOnly, IsWriter, IsWellWired, is_output, Joins, route_of, joins_within, joins_parameter, reads_once, driven, wires, read_by, written_by, is_channel, first_that, sole_reader, sole_writer}
-use Rattle.kahn_streams.specs.Syntax.{Number}
+use Rattle.kahn_crew.proofs.Common.{arith, ◌≡◌, ℕ, ◌<◌, ◌==◌, Bool, true, false, length, refl, sym, ap, ◌∙◌, subst, Option, Some, None, eqb-true, if◌then◌else◌, position, Program, Side, Network, Actual, Reads, Writes, Hands, Written, network_of, instance_at, actual_at, role_at, IsOnly, IsWriter, IsWellWired, is_output, Joins, route_of, joins_within, joins_parameter, reads_once, driven, wires, read_by, written_by, is_channel, nothing, sole_first, sole_reader, sole_writer}
 use Rattle.kahn_streams.proofs.Sourced.{reads_listed, writes_listed}
 use Rattle.kahn_crew.proofs.Found.{apart, none_some, some_same}
-use Rattle.kahn_crew.proofs.Found
+use Rattle.std.proofs.lemmas.List.Quantifiers.{position-Some}
 
 eqb_refl : (d : ℕ) → (d == d) ≡ true
 eqb_refl d = grind arith
 
-from_zero : (q : ℕ) → Some (0 + q) ≡ Some q
-from_zero q = ap Some (omega arith)
-
-abbrev none : Actual
-none = Hands (Number (pos 0))
-
 -- ---- actuals
 
-reads_so : (a : Actual) (c : ℕ) → is_channel (read_by a) c ≡ true → a ≡ Reads c
-reads_so (Reads d) c e = ap Reads (eqb-true d c e)
-reads_so (Writes d) c e = absurd (apart (sym e))
-reads_so (Hands v) c e = absurd (apart (sym e))
+channel_so : (o : Option ℕ) (c : ℕ) → is_channel o c ≡ true → o ≡ Some c
+channel_so None c e = absurd (apart (sym e))
+channel_so (Some d) c e = ap Some (eqb-true d c e)
 
-so_reads : (a : Actual) (c : ℕ) → a ≡ Reads c → is_channel (read_by a) c ≡ true
-so_reads a c e = subst (λ b. is_channel (read_by b) c ≡ true) (sym e) (eqb_refl c)
+so_channel : (o : Option ℕ) (c : ℕ) → o ≡ Some c → is_channel o c ≡ true
+so_channel o c e = ap (λ k. is_channel k c) e ∙ eqb_refl c
 
-in_so : (b : Bool) (d c : ℕ) → is_channel (if b then None else Some d) c ≡ true → (d ≡ c) × (b ≡ false)
-in_so true d c e = absurd (apart (sym e))
-in_so false d c e = (eqb-true d c e, refl)
+pub read_so : (a : Actual) (c : ℕ) → read_by a ≡ Some c → a ≡ Reads c
+read_so (Reads d) c e = ap Reads (some_same e)
+read_so (Writes d) c e = absurd (none_some e)
+read_so (Hands v) c e = absurd (none_some e)
 
-writes_so : (N : Network) (a : Actual) (c : ℕ) → is_channel (written_by N a) c ≡ true → (a ≡ Writes c) × (is_output (role_at N c) ≡ false)
-writes_so N (Reads d) c e = absurd (apart (sym e))
-writes_so N (Writes d) c e =
-    let t = in_so (is_output (role_at N d)) d c e in
-    (ap Writes t.0, ap (λ k. is_output (role_at N k)) (sym t.0) ∙ t.1)
-writes_so N (Hands v) c e = absurd (apart (sym e))
+inner_so : (b : Bool) (d c : ℕ) → (if b then None else Some d) ≡ Some c → (d ≡ c) × (b ≡ false)
+inner_so true d c e = absurd (none_some e)
+inner_so false d c e = (some_same e, refl)
 
-in_yes : (b : Bool) (c : ℕ) → b ≡ false → is_channel (if b then None else Some c) c ≡ true
-in_yes true c e = absurd (apart e)
-in_yes false c e = eqb_refl c
+so_inner : (b : Bool) (c : ℕ) → b ≡ false → (if b then None else Some c) ≡ Some c
+so_inner true c e = absurd (apart e)
+so_inner false c e = refl
 
-so_writes : (N : Network) (a : Actual) (c : ℕ) → a ≡ Writes c → is_output (role_at N c) ≡ false → is_channel (written_by N a) c ≡ true
-so_writes N a c e inner = subst (λ b. is_channel (written_by N b) c ≡ true) (sym e) (in_yes (is_output (role_at N c)) c inner)
+pub written_so : (N : Network) (a : Actual) (c : ℕ) → written_by N a ≡ Some c → (a ≡ Writes c) × (is_output (role_at N c) ≡ false)
+written_so N (Reads d) c e = absurd (none_some e)
+written_so N (Writes d) c e =
+    let f = inner_so (is_output (role_at N d)) d c e in
+    (ap Writes f.0, ap (λ k. is_output (role_at N k)) (sym f.0) ∙ f.1)
+written_so N (Hands v) c e = absurd (none_some e)
+
+pub so_written : (N : Network) (a : Actual) (c : ℕ) → a ≡ Writes c → is_output (role_at N c) ≡ false → written_by N a ≡ Some c
+so_written N a c e inner = ap (written_by N) e ∙ so_inner (is_output (role_at N c)) c inner
 
 -- the channel of a parameter, by an equal program
 pub routed_as : {k t : Program} {o : Option ℕ} (p q : ℕ) → k ≡ t → o ≡ route_of (actual_at (instance_at (network_of k) p) q) →
     route_of (actual_at (instance_at (network_of t) p) q) ≡ o
 routed_as p q same e = sym (e ∙ ap (λ (k : Program). route_of (actual_at (instance_at (network_of k) p) q)) same)
+
+-- the board has as many channels and instances as the network
+pub channels_are : (t : Program) → (wires t).channels ≡ length (network_of t).channels
+unfolding wires
+channels_are t = refl
+
+pub instances_are : (t : Program) → (wires t).instances ≡ length (network_of t).instances
+unfolding wires
+instances_are t = refl
 
 -- ---- in a well wired program
 
@@ -60,25 +66,21 @@ module _ (t : Program) (wired : IsWellWired t) where
   joins_write p q c e = subst (λ a. Joins a c) (sym e) refl
 
   -- the parameter that reads a channel is the first that does
-  pub reads_first : (p q c : ℕ) → actual_at (instance_at N p) q ≡ Reads c → first_that (λ a. is_channel (read_by a) c) (instance_at N p).actuals 0 ≡ Some q
+  pub reads_first : (p q c : ℕ) → actual_at (instance_at N p) q ≡ Reads c → position (λ a. is_channel (read_by a) c) (instance_at N p).actuals ≡ Some q
   reads_first p q c e =
-      Found.first_found (λ a. is_channel (read_by a) c) none (instance_at N p).actuals 0 q (joins_parameter N p q c (joins_read p q c e)) (so_reads (actual_at (instance_at N p) q) c e)
-      (λ r l y. (reads_once t wired p r p q c (reads_so (actual_at (instance_at N p) r) c y) e).1) ∙ from_zero q
+      sole_first (λ a. is_channel (read_by a) c) (instance_at N p).actuals nothing q (joins_parameter N p q c (joins_read p q c e)) (so_channel (read_by (actual_at (instance_at N p) q)) c (ap read_by e))
+      (λ r l y. (reads_once t wired p r p q c (read_so (actual_at (instance_at N p) r) c (channel_so (read_by (actual_at (instance_at N p) r)) c y)) e).1)
 
   -- and so the one that writes an inner one
   pub writes_first : (p o c : ℕ) → actual_at (instance_at N p) o ≡ Writes c → is_output (role_at N c) ≡ false →
-      first_that (λ a. is_channel (written_by N a) c) (instance_at N p).actuals 0 ≡ Some o
+      position (λ a. is_channel (written_by N a) c) (instance_at N p).actuals ≡ Some o
   writes_first p o c e inner =
-      Found.first_found (λ a. is_channel (written_by N a) c) none (instance_at N p).actuals 0 o (joins_parameter N p o c (joins_write p o c e)) (so_writes N (actual_at (instance_at N p) o) c e inner)
-      (λ r l y. (driven t wired).once p r o c (writes_so N (actual_at (instance_at N p) r) c y).0 e) ∙ from_zero o
+      sole_first (λ a. is_channel (written_by N a) c) (instance_at N p).actuals nothing o (joins_parameter N p o c (joins_write p o c e)) (so_channel (written_by N (actual_at (instance_at N p) o)) c (so_written N (actual_at (instance_at N p) o) c e inner))
+      (λ r l y. (driven t wired).once p r o c (written_so N (actual_at (instance_at N p) r) c (channel_so (written_by N (actual_at (instance_at N p) r)) c y)).0 e)
 
-  pub first_writes : (p o c : ℕ) → first_that (λ a. is_channel (written_by N a) c) (instance_at N p).actuals 0 ≡ Some o →
+  pub first_writes : (p o c : ℕ) → position (λ a. is_channel (written_by N a) c) (instance_at N p).actuals ≡ Some o →
       (actual_at (instance_at N p) o ≡ Writes c) × (is_output (role_at N c) ≡ false)
-  first_writes p o c e =
-      let f = Found.first_passes (λ a. is_channel (written_by N a) c) none (instance_at N p).actuals 0 o e in
-      let s = writes_so N (actual_at (instance_at N p) f.0) c f.3 in
-      let same : f.0 ≡ o = omega (arith, f.1) in
-      (ap (λ k. actual_at (instance_at N p) k) (sym same) ∙ s.0, s.1)
+  first_writes p o c e = written_so N (actual_at (instance_at N p) o) c (channel_so (written_by N (actual_at (instance_at N p) o)) c (position-Some (λ a. is_channel (written_by N a) c) (instance_at N p).actuals o nothing e).1)
 
   -- the board's reader and writer of a channel
   pub reader_is : (p q c : ℕ) → actual_at (instance_at N p) q ≡ Reads c → (wires t).reader c ≡ Some p
@@ -90,14 +92,6 @@ module _ (t : Program) (wired : IsWellWired t) where
   pub writer_is : (p o c : ℕ) → actual_at (instance_at N p) o ≡ Writes c → (wires t).writer c ≡ Some p
   writer_is p o c e = sole_writer t c p o (joins_within N p o c (joins_write p o c e), joins_parameter N p o c (joins_write p o c e), e)
       (λ r q x. written_same r p (sym ((driven t wired).writer r q c x.2) ∙ (driven t wired).writer p o c e))
-
-  pub channels_are : (wires t).channels ≡ length N.channels
-  unfolding wires
-  channels_are = refl
-
-  pub instances_are : (wires t).instances ≡ length N.instances
-  unfolding wires
-  instances_are = refl
 
   pub read_inside : (p q c : ℕ) → actual_at (instance_at N p) q ≡ Reads c → c < (wires t).channels
   unfolding wires
@@ -133,11 +127,3 @@ module _ (t : Program) (wired : IsWellWired t) where
           let here : actual_at (instance_at N p) q ≡ Writes c = e ∙ ap Writes (some_same g) in
           absurd (found r refl only ((joins_within N p q c (joins_write p q c here), joins_parameter N p q c (joins_write p q c here)), here))
       by (Hands v) e g = refl
-
-  -- what is written there
-  pub target : (p q c : ℕ) → actual_at (instance_at N p) q ≡ Writes c → is_output (role_at N c) ≡ false → written_by N (actual_at (instance_at N p) q) ≡ Some c
-  target p q c e inner = ap (written_by N) e ∙ inner_is (is_output (role_at N c)) inner
-    where
-      inner_is : (b : Bool) → b ≡ false → (if b then None else Some c) ≡ Some c
-      inner_is true f = absurd (apart f)
-      inner_is false f = refl

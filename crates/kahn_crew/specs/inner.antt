@@ -3,3 +3,4 @@ pub mod Left
 pub mod Tasks
 pub mod Turns
 pub mod Wants
+pub mod Words

@@ -1,7 +1,7 @@
 //! Tasks in boxes, as they stand on the board.
 
-ghost use Rattle.std.specs.Prelude.{◌≡◌, ◌+◌, ◌≤◌, ◌++◌, [], length, reverse, IfOk, IfErr};
-ghost use Rattle.std.specs.Vec.{vec_capacity};
+ghost use Rattle.std.specs.Prelude.{◌≡◌, ◌+◌, ◌≤◌, ◌++◌};
+ghost use Rattle.kahn_crew.specs.inner.Words.{[], length, reverse, IfOk, IfErr, vec_capacity};
 
 use kahn_board::Told;
 use kahn_job::Task;
@@ -18,8 +18,7 @@ pub struct Boxed {
 impl Model for Boxed {
     ghost use Rattle.kahn_streams.specs.contracts.tree.Action as action;
     ghost use Rattle.kahn_streams.specs.contracts.tree.Form as form;
-    ghost use Rattle.std.specs.Coded.{codes};
-    ghost use Rattle.kahn_job.specs.inner.Tasks.{Tasked};
+    ghost use Rattle.kahn_crew.specs.inner.Words.{codes, Tasked};
 
     ghost Value = { Tasked };
 
@@ -48,7 +47,7 @@ impl Boxed {
         }
     }
 
-    /// The task without its box. It takes no memory.
+    /// The task without its box. It never allocates.
     pub(crate) fn open(self) -> Task
         ensures { result ≡ self }
     {

@@ -1,11 +1,10 @@
 //! How a run ends: the board hands out its tasks.
 
-ghost use Rattle.std.specs.Prelude.{◌≡◌, ◌<◌, ◌≤◌, [], true, length};
-ghost use Rattle.std.specs.Vec.{vec_capacity};
-ghost use Rattle.kahn_streams.specs.Network.{network_of};
-ghost use Rattle.kahn_board.specs.inner.Turn.{IsLoneSeat};
+ghost use Rattle.std.specs.Prelude.{◌≡◌, ◌≤◌};
+ghost use Rattle.kahn_crew.specs.inner.Words.{[], length, vec_capacity, network_of, IsLoneSeat};
 ghost use Rattle.kahn_crew.specs.inner.Begins.{HasBegun};
 ghost use Rattle.kahn_crew.specs.inner.Left.{IsLeftOf, IsOver, IsUntouched};
+ghost use Rattle.kahn_crew.specs.inner.Turns.{IsTrueIfAny};
 
 use crate::boxes::{Boxed, unbox_all};
 use crate::left::Left;
@@ -13,8 +12,8 @@ use kahn_board::{Board, Closed, Seat};
 use kahn_job::Task;
 use kahn_streams::{Input, Network};
 
-/// What is left of a run on whose board nobody works. Where all workers have left by themselves the run is over. It takes no
-/// memory.
+/// What is left of a run on whose board nobody works. If all workers have left by themselves the run is over. It never
+/// allocates.
 pub(crate) fn leave(
     board: Board<Boxed>,
     seat: Seat<Boxed>,
@@ -27,10 +26,10 @@ pub(crate) fn leave(
     requires seat { IsLoneSeat board.table.shared.table_id seat }
     requires begun { HasBegun network.now input.now _watch board.table.shared.key }
     requires room { (room.items ≡ []) × (length (network_of network.now).instances ≤ vec_capacity room) }
-    ensures gone { IsLeftOf network.now input.now _watch board.table.shared.key result }
+    ensures gone { IsLeftOf network.now input.now _watch board.table.shared.key.bound board.table.shared.key.cells.value.items result }
     ensures untouched { seat.seat.me.0.done ≡ 0 → IsUntouched board.table.shared.key result }
     ensures over { seat.seat.me.0.stage ≡ 1 → IsOver network.now input.now result.tasks.items result.budget result.halted }
-    ensures halted { (0 < seat.seat.me.0.raised → result.halted ≡ true) × (result.halted ≡ true → 0 < seat.seat.me.0.raised) }
+    ensures halted { IsTrueIfAny result.halted seat.seat.me.0.raised }
     ensures wanted { result.wanted ≡ wanted }
 {
     let _program = network.program();
@@ -47,7 +46,7 @@ pub(crate) fn leave(
     }
 }
 
-/// What is left where nobody worked at all.
+/// What is left if nobody worked at all.
 pub(crate) fn untouched(tasks: Vec<Task>, bound: u64) -> Left
     ensures { (result.tasks.items ≡ tasks.items) × (result.budget ≡ bound) }
 {

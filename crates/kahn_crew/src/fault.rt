@@ -1,7 +1,6 @@
 //! Why the workers of a run leave nothing.
 
-use kahn_streams::{NoMemory, RunFault};
-use std::alloc::AllocError;
+use kahn_streams::RunFault;
 use thiserror::Error;
 
 /// Why a network isn't run.
@@ -13,28 +12,6 @@ pub enum CrewFault {
     /// A thread couldn't be started.
     #[error("no thread")]
     NoThread,
-}
-
-impl From<NoMemory> for CrewFault {
-    ghost use Rattle.std.specs.Prelude.{◌≡◌};
-    ghost use Rattle.kahn_crew.specs.declared.fault.CrewFault.TheVariants.{NoMemory as Wants};
-
-    ghost from_gives = { λ _ e. e ≡ Wants };
-
-    fn from(_fault: NoMemory) -> CrewFault {
-        CrewFault::NoMemory
-    }
-}
-
-impl From<AllocError> for CrewFault {
-    ghost use Rattle.std.specs.Prelude.{◌≡◌};
-    ghost use Rattle.kahn_crew.specs.declared.fault.CrewFault.TheVariants.{NoMemory as Wants};
-
-    ghost from_gives = { λ _ e. e ≡ Wants };
-
-    fn from(_error: AllocError) -> CrewFault {
-        CrewFault::NoMemory
-    }
 }
 
 impl From<CrewFault> for RunFault {

@@ -6,12 +6,23 @@ use crossbeam_deque::{Steal, Stealer, Worker};
 use kahn_streams::NoMemory;
 use std::alloc::AllocError;
 
+// One of this many hints that a worker takes from its own is the oldest in any case, so that each comes.
+const CHAIN: usize = 64;
+
+/// When a hint comes among a worker's own: before all others, or behind them.
+#[derive(Clone, Copy)]
+pub(crate) enum Order {
+    Next,
+    Last,
+}
+
 /// The hints of one worker: its own, and those of the others, which it may steal. A hint that is out of date does no harm.
-/// The oldest two of its own stand beside the deque, where no step on a word that others see is needed for them.
+/// The newest reader of what the worker sent stands beside the deque: it comes next, while its tokens are in this processor's
+/// cache, and needs no step on a word that others see. Others steal the oldest hint.
 #[derive(Drop)]
 pub struct Hints {
-    first: Option<usize>,
-    second: Option<usize>,
+    next: Option<usize>,
+    taken: usize,
     own: Worker<usize>,
     others: Vec<Stealer<usize>>,
     // Whether memory was refused to the worker: for a hint, an event or a segment.
@@ -24,8 +35,8 @@ impl Hints {
         ensures { result.wanted ≡ false }
     {
         Hints {
-            first: None,
-            second: None,
+            next: None,
+            taken: 0,
             own,
             others,
             wanted: false,
@@ -51,22 +62,28 @@ impl Hints {
         Ok(())
     }
 
-    /// One hint more. False where memory was refused, which stays noted.
-    pub fn push(&mut self, instance: usize) -> bool
+    /// One hint more. False if memory was refused, which stays noted.
+    pub(crate) fn push(&mut self, instance: usize, order: Order) -> bool
         ensures told { result ≡ true → self.new.wanted ≡ self.old.wanted }
         ensures noted { result ≡ false → self.new.wanted ≡ true }
     {
-        if self.second.is_some() || !self.own.is_empty() {
-            let told = self.own.push(instance).is_ok();
-            self.wanted |= !told;
-            return told;
+        match order {
+            Order::Last => self.push_last(instance),
+            Order::Next => match self.next.replace(instance) {
+                Some(older) => self.push_last(older),
+                None => true,
+            },
         }
-        if self.first.is_some() {
-            self.second = Some(instance);
-        } else {
-            self.first = Some(instance);
-        }
-        true
+    }
+
+    // One hint more, behind all others.
+    fn push_last(&mut self, instance: usize) -> bool
+        ensures told { result ≡ true → self.new.wanted ≡ self.old.wanted }
+        ensures noted { result ≡ false → self.new.wanted ≡ true }
+    {
+        let told = self.own.push(instance).is_ok();
+        self.wanted |= !told;
+        told
     }
 
     /// Memory was refused to the worker elsewhere, which stays noted.
@@ -76,14 +93,15 @@ impl Hints {
         self.wanted = true;
     }
 
-    /// The oldest hint of its own.
-    pub fn next(&mut self) -> Option<usize>
+    // A hint of its own: the one that comes next, or the oldest.
+    fn next(&mut self) -> Option<usize>
         ensures { self.new.wanted ≡ self.old.wanted }
     {
-        let oldest = self.first;
-        self.first = self.second;
-        self.second = None;
-        match oldest {
+        self.taken = self.taken.wrapping_add(1);
+        if self.taken % CHAIN == 0 {
+            return self.own.pop().or(self.next.take());
+        }
+        match self.next.take() {
             Some(instance) => Some(instance),
             None => self.own.pop(),
         }
@@ -99,8 +117,8 @@ impl Hints {
         self.next()
     }
 
-    /// A hint of another worker.
-    pub fn steal(&mut self) -> Option<usize>
+    // A hint of another worker.
+    fn steal(&mut self) -> Option<usize>
         ensures { self.new.wanted ≡ self.old.wanted }
     {
         for other in self.others.iter() {

@@ -7,9 +7,9 @@ mod crew;
 mod fault;
 mod gate;
 mod hints;
-mod labor;
 mod left;
 mod opening;
+mod parallel;
 mod pick;
 mod plan;
 mod publish;
@@ -22,7 +22,7 @@ mod waking;
 mod worker;
 
 // For the crates above.
-pub use crew::{run_crew, run_tasks};
+pub use crew::run_tasks;
 pub use fault::CrewFault;
 pub use gate::{Gate, Open};
 pub use left::Left;

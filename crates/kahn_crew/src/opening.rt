@@ -1,9 +1,7 @@
 //! How a run begins: its tasks, and the board on which they are.
 
-ghost use Rattle.std.specs.Prelude.{◌≡◌, ℕ, ◌+◌, ◌<◌, ◌^◌, [], length, slice_index, IfOk, IfErr};
-ghost use Rattle.kahn_streams.specs.Network.{network_of};
-ghost use Rattle.kahn_board.specs.Dealt.{events_told};
-ghost use Rattle.kahn_board.specs.Rule.{opening_view};
+ghost use Rattle.std.specs.Prelude.{◌≡◌, ◌+◌, ◌<◌, ◌^◌};
+ghost use Rattle.kahn_crew.specs.inner.Words.{ℕ, [], length, slice_index, IfOk, IfErr, network_of, events_told, opening_view};
 ghost use Rattle.kahn_board.specs.Wires.{wires};
 ghost use Rattle.kahn_crew.specs.inner.Begins.{AreNumbersOf, AreReadyTasks, HasBegun, IsNumber};
 ghost use Rattle.kahn_crew.specs.inner.Tasks.{told_tale};
@@ -16,7 +14,7 @@ use kahn_job::{Task, jobs};
 use kahn_streams::{Input, Network, NoMemory, Role};
 use std::alloc::Global;
 
-/// The tasks of all instances before their first events. It refuses only where memory was refused.
+/// The tasks of all instances before their first events. It refuses only if memory was refused.
 pub fn first_tasks(
     alloc: Global,
     network: &Network,
@@ -83,7 +81,7 @@ fn numbers_of(
 }
 
 /// The board of a run, and its first seat. All that was sent on a channel is published, and all instances are ready. It
-/// refuses only where memory was refused, and gives the tasks back.
+/// refuses only if memory was refused, and gives the tasks back.
 pub(crate) fn open_board(
     alloc: Global,
     network: &Network,

@@ -1,15 +1,15 @@
 //! Which instance is taken next.
 
-ghost use Rattle.std.specs.Prelude.{◌≡◌, ℕ, ◌<◌, false, true, IfSome, IfNone};
-ghost use Rattle.kahn_board.specs.inner.Turn.{IsSeatOf};
-ghost use Rattle.kahn_crew.specs.inner.Turns.{HasTask, SitsWith, WasNotReady};
+ghost use Rattle.std.specs.Prelude.{◌≡◌, ◌<◌};
+ghost use Rattle.kahn_crew.specs.inner.Words.{ℕ, false, true, IfSome, IfNone, IsSeatOf};
+ghost use Rattle.kahn_crew.specs.inner.Turns.{HasPicked, HasTask, IsSameWorker, SitsWith, WasNotReady};
 
 use crate::boxes::Boxed;
-use crate::hints::Hints;
 use crate::run::Run;
-use kahn_board::{Seat, looks_ready, pick};
+use crate::worker::Worker;
+use kahn_board::{Seat, claim};
 
-// Takes the instance, where there is one of that number that is ready. It looks first, since a claim writes a word.
+// Takes the instance, if there is one of that number and it is ready. It looks first, since a claim writes a word.
 fn pick_one(run: &Run<'_>, seat: &mut Seat<Boxed>, p: usize) -> bool
     requires { (n : ℕ) × SitsWith run.now n seat.old }
     ensures same { IsSeatOf seat.old seat.new }
@@ -20,48 +20,40 @@ fn pick_one(run: &Run<'_>, seat: &mut Seat<Boxed>, p: usize) -> bool
     if p >= run.board.instances {
         return false;
     }
-    if !looks_ready(seat, run.board, p) {
+    if !seat.looks_ready(run.board, p) {
         return false;
     }
-    pick(seat, run.board, p)
+    claim(seat, run.board, p)
 }
 
 /// Picks an instance that a hint names: one of the worker's own, or one that it steals.
-pub(crate) fn pick_hinted(
-    run: &Run<'_>,
-    seat: &mut Seat<Boxed>,
-    hints: &mut Hints,
-    steals: bool,
-) -> Option<usize>
-    requires { (n : ℕ) × SitsWith run.now n seat.old }
-    ensures same { IsSeatOf seat.old seat.new }
-    ensures picked { IfSome result (λ p. (n : ℕ) → SitsWith run.now n seat.old → HasTask run.now p n seat.new) }
-    ensures left { IfNone result ((n : ℕ) → SitsWith run.now n seat.old → SitsWith run.now n seat.new) }
-    ensures kept { hints.new.wanted ≡ hints.old.wanted }
+pub(crate) fn pick_hinted(run: &Run<'_>, worker: &mut Worker, steals: bool) -> Option<usize>
+    requires { (n : ℕ) × SitsWith run.now n worker.old.seat }
+    ensures same { IsSameWorker worker.old worker.new }
+    ensures picked { IfSome result (λ p. (n : ℕ) → SitsWith run.now n worker.old.seat → HasTask run.now p n worker.new.seat) }
+    ensures left { IfNone result ((n : ℕ) → SitsWith run.now n worker.old.seat → SitsWith run.now n worker.new.seat) }
 {
     for _ in 0..run.board.instances {
-        let Some(p) = hints.find(steals) else {
+        let Some(p) = worker.hints.find(steals) else {
             return None;
         };
-        if pick_one(run, seat, p) {
+        if pick_one(run, &mut worker.seat, p) {
             return Some(p);
         }
     }
     None
 }
 
-/// Picks an instance that is ready, from the one with that number on, round all of them.
-pub(crate) fn pick_any(run: &Run<'_>, seat: &mut Seat<Boxed>, start: usize) -> Option<usize>
-    requires { SitsWith run.now 0 seat.old }
-    ensures same { IsSeatOf seat.old seat.new }
-    ensures picked { IfSome result (λ p. HasTask run.now p 0 seat.new) }
-    ensures left { IfNone result (SitsWith run.now 0 seat.new) }
-    ensures none { IfNone result ((p : ℕ) → p < run.now.board.now.instances → WasNotReady run.now seat.old p) }
+/// Picks an instance that is ready: it looks at each once, from the worker's start on.
+pub(crate) fn pick_any(run: &Run<'_>, worker: &mut Worker) -> Option<usize>
+    requires { SitsWith run.now 0 worker.old.seat }
+    ensures same { IsSameWorker worker.old worker.new }
+    ensures found { HasPicked run.now result worker.old worker.new }
 {
-    let count = run.board.instances;
+    let (count, start) = (run.board.instances, worker.start);
     for step in 0..count {
         let p = (start % count + step) % count;
-        if pick_one(run, seat, p) {
+        if pick_one(run, &mut worker.seat, p) {
             return Some(p);
         }
     }

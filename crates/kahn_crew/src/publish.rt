@@ -1,21 +1,19 @@
 //! What a task flushed is told to the board, so that the readers that wait for it go on.
 
-ghost use Rattle.std.specs.Prelude.{◌≡◌, ◌≢◌, ◌⊎◌, ℕ, ◌<◌, true, false, IfNone};
-ghost use Rattle.kahn_code.specs.Standing.{count};
-ghost use Rattle.kahn_board.specs.Plays.{SeesMore};
-ghost use Rattle.kahn_board.specs.inner.Turn.{HasHalted, IsSeatOf};
-ghost use Rattle.kahn_job.specs.inner.Works.{width_of};
+ghost use Rattle.std.specs.Prelude.{◌≡◌, ◌≢◌, ◌⊎◌, ◌<◌};
+ghost use Rattle.kahn_crew.specs.inner.Words.{ℕ, IfNone, count, SeesMore, IsSeatOf, width_of};
 ghost use Rattle.kahn_crew.specs.inner.Tasks.{IsPublished};
 ghost use Rattle.kahn_crew.specs.inner.Turns.{Heeds, IsAtWork, SitsIn, StandsStill};
 
 use crate::boxes::Boxed;
-use crate::hints::Hints;
+use crate::hints::Order;
 use crate::run::Run;
 use crate::target::target;
-use kahn_board::{Seat, stop, tell};
+use crate::worker::Worker;
+use kahn_board::{Seat, publish, reader_of};
 use kahn_job::Task;
 
-// Publishes what was flushed on a parameter, where it is more than before. Answers the reader that it woke.
+// Publishes what was flushed on a parameter, if it is more than before. Answers its reader, which may have waited for it or not.
 pub(crate) fn publish_one(
     run: &Run<'_>,
     seat: &mut Seat<Boxed>,
@@ -40,54 +38,38 @@ pub(crate) fn publish_one(
     }
     let channel = target(run.network, run.code, p, parameter)?;
     task.mark(parameter, count);
-    tell(seat, run.board, p, channel, count)
+    publish(seat, run.board, p, channel, count);
+    reader_of(run.network, channel)
 }
 
-// Where memory was refused for a hint the run is to stop. Otherwise the seat stays as it is.
-fn heed_hint(run: &Run<'_>, seat: &mut Seat<Boxed>, told: bool)
-    requires { SitsIn run.now seat.old }
-    ensures halts { told ≡ false → HasHalted seat.old seat.new }
-    ensures still { StandsStill seat.old seat.new }
-    ensures refused { told ≡ false → seat.new.seat.me.0.seen ≡ 2 }
-    ensures stays { told ≡ true → seat.new ≡ seat.old }
+/// Hints at an instance that may be ready, if there is one. If memory is refused the run is to stop.
+pub(crate) fn hint(run: &Run<'_>, worker: &mut Worker, instance: Option<usize>, order: Order)
+    requires { SitsIn run.now worker.old.seat }
+    ensures same { Heeds worker.old worker.new }
+    ensures still { StandsStill worker.old.seat worker.new.seat }
+    // Nothing is halted if no hint was to be given, and the run is if memory was refused for one.
+    ensures none { IfNone instance (worker.new.seat ≡ worker.old.seat) }
+    ensures refused { (worker.new.hints.wanted ≡ worker.old.hints.wanted) ⊎ (worker.new.seat.seat.me.0.seen ≡ 2) }
 {
-    if !told {
-        stop(seat, run.board);
+    let Some(instance) = instance else { return };
+    if worker.hints.push(instance, order) {
+        return;
     }
+    worker.seat.halt(run.board);
 }
 
-/// Hints at an instance that is ready, where there is one. Where memory is refused the run is to stop.
-pub(crate) fn hint(run: &Run<'_>, seat: &mut Seat<Boxed>, hints: &mut Hints, woken: Option<usize>)
-    requires { SitsIn run.now seat.old }
-    ensures same { Heeds hints.old.wanted seat.old hints.new.wanted seat.new }
-    ensures still { StandsStill seat.old seat.new }
-    // Nothing is halted where no hint was to be given, and the run is where memory was refused for one.
-    ensures none { IfNone woken (seat.new ≡ seat.old) }
-    ensures refused { (hints.new.wanted ≡ hints.old.wanted) ⊎ (seat.new.seat.me.0.seen ≡ 2) }
-{
-    if let Some(instance) = woken {
-        let told = hints.push(instance);
-        heed_hint(run, seat, told);
-    }
-}
-
-/// Publishes all that was flushed on each parameter, and hints at the readers that it woke.
-pub(crate) fn publish_all(
-    run: &Run<'_>,
-    seat: &mut Seat<Boxed>,
-    hints: &mut Hints,
-    task: &mut Task,
-    p: usize,
-)
-    requires works { (n : ℕ) × (k : ℕ) × IsAtWork run.now p n k task.old seat.old }
-    ensures same { Heeds hints.old.wanted seat.old hints.new.wanted seat.new }
-    ensures works { (n k : ℕ) → IsAtWork run.now p n k task.old seat.old → IsAtWork run.now p n k task.new seat.new }
-    ensures seen { SeesMore seat.old.seat.me.0.seen seat.new.seat.me.0.seen }
+/// Publishes all that was flushed on each parameter, and hints at the readers of it, which come next: what they
+/// read is in this processor's cache.
+pub(crate) fn publish_all(run: &Run<'_>, worker: &mut Worker, task: &mut Task, p: usize)
+    requires works { (n : ℕ) × (k : ℕ) × IsAtWork run.now p n k task.old worker.old.seat }
+    ensures same { Heeds worker.old worker.new }
+    ensures works { (n k : ℕ) → IsAtWork run.now p n k task.old worker.old.seat → IsAtWork run.now p n k task.new worker.new.seat }
+    ensures seen { SeesMore worker.old.seat.seat.me.0.seen worker.new.seat.seat.me.0.seen }
     ensures task { (task.new.work ≡ task.old.work) × (task.new.standing ≡ task.old.standing) }
     ensures all { (r : ℕ) → IsPublished task.new r }
 {
     for parameter in 0..task.parameters() {
-        let woken = publish_one(run, seat, task, p, parameter);
-        hint(run, seat, hints, woken);
+        let reader = publish_one(run, &mut worker.seat, task, p, parameter);
+        hint(run, worker, reader, Order::Next);
     }
 }

@@ -8,13 +8,13 @@ use std::time::Duration;
 // How often a worker without hints of its own pauses before it looks elsewhere: for some tens of microseconds.
 const PAUSES: usize = 64;
 
-// How long a worker sleeps that has found nothing, in microseconds: at least so long.
+// How long a worker sleeps that has found nothing, in microseconds: at least this.
 const SHORTEST: u64 = 50;
 
-// At most so long. The end of a run waits for those who sleep.
+// At most this. The end of a run waits for those who sleep.
 const LONGEST: u64 = 4000;
 
-// Between them, one part in so many of the time that it has slept since it found something.
+// Between the two, this fraction of the time that it has slept since it found something.
 const PARTS: u64 = 8;
 
 /// How long a worker has rested since it found an instance last: first it pauses, and then it sleeps, for longer the longer it has slept.
@@ -51,7 +51,7 @@ impl Rest {
         self.backoff.snooze();
     }
 
-    /// Sleeps, where nothing was found anywhere.
+    /// Sleeps, if nothing was found anywhere.
     pub(crate) fn sleep<R: Wait>(&mut self, rt: &R) {
         let time = (self.slept / PARTS).max(SHORTEST).min(LONGEST);
         self.parker.park_timeout(rt, Duration::from_micros(time));

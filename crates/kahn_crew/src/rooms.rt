@@ -1,10 +1,10 @@
-//! What a crew takes memory for, before the board stands.
+//! All memory of the workers of a run, taken before its board is made.
 
-ghost use Rattle.std.specs.Prelude.{◌≡◌, ◌<◌, ◌≤◌, [], length, IfOk, OnOk};
-ghost use Rattle.std.specs.Vec.{vec_capacity};
+ghost use Rattle.std.specs.Prelude.{◌≡◌, ◌<◌, ◌≤◌};
+ghost use Rattle.kahn_crew.specs.inner.Words.{[], length, IfOk, OnOk, vec_capacity};
 
 use crate::boxes::Boxed;
-use crate::hints::Hints;
+use crate::hints::{Hints, Order};
 use crate::worker::Worker;
 use crossbeam_deque::Worker as Deque;
 use kahn_board::Seat;
@@ -21,7 +21,7 @@ pub(crate) struct Rooms {
     ghost seated: { (seats.items ≡ []) × (length hints.items ≤ vec_capacity seats) },
 }
 
-// Hints for so many workers, each with room for that many hints.
+// Hints for each worker, each with room for a hint of every instance.
 fn bare_hints(alloc: Global, workers: usize, instances: usize) -> Result<Vec<Hints>, NoMemory>
     ensures { IfOk result (λ v. length v.items ≡ workers) }
 {
@@ -55,14 +55,14 @@ fn hint_all(all: &mut [Hints], instances: usize) -> Result<(), NoMemory>
 {
     let workers = all.len();
     for instance in 0..instances {
-        if !all[instance % workers].push(instance) {
+        if !all[instance % workers].push(instance, Order::Last) {
             return Err(NoMemory);
         }
     }
     Ok(())
 }
 
-// The hints of so many workers, with those of all instances.
+// The hints of all workers, which name each instance once.
 fn first_hints(alloc: Global, workers: usize, instances: usize) -> Result<Vec<Hints>, NoMemory>
     requires { 0 < workers }
     ensures { IfOk result (λ v. length v.items ≡ workers) }
@@ -76,7 +76,7 @@ fn first_hints(alloc: Global, workers: usize, instances: usize) -> Result<Vec<Hi
 }
 
 impl Rooms {
-    /// For so many workers and that many instances.
+    /// For a number of workers and of instances.
     pub(crate) fn new(alloc: Global, workers: usize, instances: usize) -> Result<Rooms, NoMemory>
         requires { 0 < workers }
         ensures { IfOk result (λ r. length r.hints.items ≡ workers) }

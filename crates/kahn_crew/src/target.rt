@@ -1,7 +1,7 @@
 //! The channel between processes that a parameter writes.
 
-ghost use Rattle.std.specs.Prelude.{◌≡◌, ◌<◌, length};
-ghost use Rattle.kahn_streams.specs.Network.{network_of, instance_at, actual_at};
+ghost use Rattle.std.specs.Prelude.{◌≡◌, ◌<◌};
+ghost use Rattle.kahn_crew.specs.inner.Words.{length, network_of, instance_at, actual_at};
 ghost use Rattle.kahn_crew.specs.inner.Tasks.{written_by};
 
 use kahn_code::Code;

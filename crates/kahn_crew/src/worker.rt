@@ -1,8 +1,8 @@
 //! A worker: it takes one instance after another, until there is a reason to leave.
 
-ghost use Rattle.std.specs.Prelude.{◌≡◌, ℕ, ◌<◌, IfSome, IfNone};
-ghost use Rattle.kahn_board.specs.inner.Turn.{IsBetweenTurns, IsSeatOf};
-ghost use Rattle.kahn_crew.specs.inner.Turns.{HasTask, Heeds, SitsWith, WasNotReady};
+ghost use Rattle.std.specs.Prelude.{◌≡◌, ◌<◌};
+ghost use Rattle.kahn_crew.specs.inner.Words.{IsBetweenTurns};
+ghost use Rattle.kahn_crew.specs.inner.Turns.{HasPicked, Heeds, IsSameWorker, SitsWith};
 
 use crate::boxes::Boxed;
 use crate::gate::Gate;
@@ -20,7 +20,7 @@ use std::sync::ledger::{Blank, Ledger};
 // For how many looks in a row an instance is to look ready, before a worker that didn't wake it takes it.
 const LONG: usize = 8;
 
-/// A worker: its seat at the board, its hints, and the instance at which it begins to look where it has none.
+/// A worker: its seat at the board, its hints, and the instance at which it begins to look if it has none.
 #[derive(Drop)]
 pub struct Worker {
     pub seat: Seat<Boxed>,
@@ -57,35 +57,20 @@ fn wait_a_little(run: &Run<'_>, rest: &Rest, start: usize) {
     }
 }
 
-// Picks an instance where the worker has no hints of its own: one that another's hint names, or else any that is ready.
-fn pick_elsewhere(run: &Run<'_>, worker: &mut Worker, rest: &Rest) -> Option<usize>
-    requires { SitsWith run.now 0 worker.old.seat }
-    ensures same { IsSeatOf worker.old.seat worker.new.seat }
-    ensures picked { IfSome result (λ p. HasTask run.now p 0 worker.new.seat) }
-    ensures left { IfNone result (SitsWith run.now 0 worker.new.seat) }
-    ensures none { IfNone result ((p : ℕ) → p < run.now.board.now.instances → WasNotReady run.now worker.old.seat p) }
-    ensures kept { worker.new.hints.wanted ≡ worker.old.hints.wanted }
-{
-    wait_a_little(run, rest, worker.start);
-    match pick_hinted(run, &mut worker.seat, &mut worker.hints, true) {
-        Some(p) => Some(p),
-        None => pick_any(run, &mut worker.seat, worker.start),
-    }
-}
-
-// Picks an instance.
+// Picks an instance: one that a hint of its own names, or another's hint, or else any that is ready.
 fn pick_next(run: &Run<'_>, worker: &mut Worker, rest: &Rest) -> Option<usize>
     requires { SitsWith run.now 0 worker.old.seat }
-    ensures same { IsSeatOf worker.old.seat worker.new.seat }
-    ensures picked { IfSome result (λ p. HasTask run.now p 0 worker.new.seat) }
-    ensures left { IfNone result (SitsWith run.now 0 worker.new.seat) }
-    ensures none { IfNone result ((p : ℕ) → p < run.now.board.now.instances → WasNotReady run.now worker.old.seat p) }
-    ensures kept { worker.new.hints.wanted ≡ worker.old.hints.wanted }
+    ensures same { IsSameWorker worker.old worker.new }
+    ensures found { HasPicked run.now result worker.old worker.new }
 {
-    match pick_hinted(run, &mut worker.seat, &mut worker.hints, false) {
-        Some(p) => Some(p),
-        None => pick_elsewhere(run, worker, rest),
+    if let Some(p) = pick_hinted(run, worker, false) {
+        return Some(p);
     }
+    wait_a_little(run, rest, worker.start);
+    if let Some(p) = pick_hinted(run, worker, true) {
+        return Some(p);
+    }
+    pick_any(run, worker)
 }
 
 // Turn after turn, until there is a reason to leave.
@@ -100,7 +85,7 @@ fn turns<R: Wait, G: Gate, L: Ledger>(
     requires name { blank.name ≡ L.name }
     requires parts { blank.parts ≡ L.parts }
     requires some { 0 < blank.parts }
-    ensures same { Heeds worker.old.hints.wanted worker.old.seat worker.new.hints.wanted worker.new.seat }
+    ensures same { Heeds worker.old worker.new }
     ensures left { IsBetweenTurns worker.new.seat × (worker.new.seat.seat.me.0.stage ≡ 1) }
 {
     let mut steps = Steps::<L>::open(blank);
@@ -112,8 +97,7 @@ fn turns<R: Wait, G: Gate, L: Ledger>(
         match pick_next(run, worker, &rest) {
             Some(p) => {
                 rest.over();
-                let (seat, hints) = (&mut worker.seat, &mut worker.hints);
-                turn(run, gate, seat, hints, p, &mut steps);
+                turn(run, gate, worker, p, &mut steps);
             }
             None => rest.sleep(rt),
         }
@@ -124,7 +108,7 @@ impl Worker {
     /// Works until the run is halted, or no instance can go on, or the budget is empty.
     pub fn work<R: Wait, G: Gate>(&mut self, rt: &R, run: &Run<'_>, gate: &G)
         requires { SitsWith run.now 0 self.old.seat }
-        ensures same { Heeds self.old.hints.wanted self.old.seat self.new.hints.wanted self.new.seat }
+        ensures same { Heeds self.old self.new }
         ensures left { IsBetweenTurns self.new.seat × (self.new.seat.seat.me.0.stage ≡ 1) }
     {
         turns::<R, G, Brand>(rt, run, gate, self, Blank::new(1));

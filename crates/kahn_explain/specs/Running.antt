@@ -1,9 +1,9 @@
 -- Believed. A run of the program, from the bytes of the two texts to the bytes that go out and the exit status (this project's profile).
-use Rattle.std.specs.Prelude.{◌≡◌, ℕ, Bool, true, false, List, Option, Result, Ok, Err, string_bytes}
+use Rattle.std.specs.Prelude.{◌≡◌, ℕ, Bool, true, false, List, Option, Result, Ok, Err, codes, string_bytes}
 use Rattle.kahn_streams.specs.declared.config.Config.{Config}
 use Rattle.kahn_report.specs.declared.working.WorkFault.{WorkFault}
 use Rattle.kahn_report.specs.declared.working.WorkFault.TheVariants.{Text, Write}
-use Rattle.kahn_inputs.specs.Reasons.{reason_line}
+use Rattle.kahn_fault.specs.Reasons.{reason_line}
 use Rattle.kahn_fault.specs.Status.{status_of}
 use Rattle.kahn_fault.specs.Telling.{WasWritten, told_text}
 use Rattle.kahn_fault.specs.declared.fault.Fault.TheVariants.{Work}
@@ -61,5 +61,5 @@ HasExplainedAs t s config strict contents out made old new status =
 
 -- what of the command line does nothing was told, if there is such a thing
 abbrev pub IsToldIf : Bool → List ℕ → Option (List ℕ) → Option (List ℕ) → Type 0
-IsToldIf true words old new = WasWritten (reason_line words) old new
+IsToldIf true words old new = WasWritten (reason_line (codes "kahn_explain") words) old new
 IsToldIf false words old new = new ≡ old

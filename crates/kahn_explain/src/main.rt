@@ -11,10 +11,8 @@ mod outlet;
 mod running;
 mod tracing;
 
-use kahn_fault::{Fault, read_texts, tell};
-use kahn_inputs::{file_words, reading_words, tell_reason};
+use kahn_fault::{read_texts, tell_reason, tell_unread};
 use kahn_line::{ExplainOptions, read_explain_line, tell_line, tell_no_memory, tell_words};
-use kahn_report::ReadFault;
 use outlet::Outlet;
 use running::{Paths, Task, ran};
 use std::alloc::{AllocError, Global};
@@ -23,7 +21,7 @@ use std::process::ExitCode;
 use std::rt::Runtime;
 use std::sync::Wait;
 use std::thread::Threads;
-use std::{env, fs, io};
+use std::{env, io};
 
 /// What the path of the program text is called in a note.
 fn path_name(alloc: Global, program: &Option<String>) -> Result<String, AllocError>
@@ -42,35 +40,13 @@ fn paths_of(alloc: Global, options: &ExplainOptions) -> Result<Paths, AllocError
     Ok(Paths { program, input })
 }
 
-/// What is said of why the file of a path can't be read. It is tried once more, so nothing is said where it can be read by now.
-fn path_words<R: Runtime>(rt: &R, path: &str) -> &'static str {
-    match fs::open(rt, path) {
-        Ok(mut file) => reading_words(&mut file),
-        Err(_) if path == "-" => "standard input is /dev/stdin",
-        Err(error) => file_words(error.kind()),
-    }
-}
-
-/// What is said of why a text can't be read, behind the words of `kahn`.
-fn unread_words<R: Runtime>(rt: &R, fault: &Fault) -> &'static str {
-    match fault {
-        Fault::Open(path) => path_words(rt, path.as_str()),
-        Fault::Program(Some(path), ReadFault::Failed) => path_words(rt, path.as_str()),
-        Fault::InputText(path, ReadFault::Failed) => path_words(rt, path.as_str()),
-        Fault::Program(None, ReadFault::Failed) => reading_words(&mut rt.reader()),
-        Fault::Program(_, ReadFault::TooLong) => "it may have at most 1048576 bytes",
-        Fault::InputText(_, ReadFault::TooLong) => "it may have at most 16777216 bytes",
-        _ => "",
-    }
-}
-
 /// Tells that an option does nothing, if it is so.
 fn tell_if<W: Write>(told: bool, words: &str, writer: &mut W)
     ensures { IsToldIf told words.now (W.contents writer.old) (W.contents writer.new) }
 {
     if told {
         // What can't be written here changes no status.
-        let _told = tell_reason(words, writer);
+        let _told = tell_reason("kahn_explain", words, writer);
     }
 }
 
@@ -88,17 +64,6 @@ fn tell_unused<W: Write>(options: &ExplainOptions, writer: &mut W) {
         "--input does nothing with --report",
         writer,
     );
-}
-
-/// Tells why the texts can't be read, and gives the status.
-fn unread_status<R: Runtime, W: Write>(rt: &R, fault: Fault, writer: &mut W) -> u8 {
-    let reason = unread_words(rt, &fault);
-    let status = tell(&Err(fault), "", writer).status;
-    if !reason.is_empty() {
-        // What can't be written here changes no status.
-        let _told = tell_reason(reason, writer);
-    }
-    status
 }
 
 /// What the command line asks for.
@@ -124,7 +89,7 @@ fn answered<R: Runtime + AllocGlobal + Threads + Wait + Sync, W: Write>(
     let (config, strict) = (options.config, options.strict);
     let texts = match read_texts(rt, options.program, options.report.or(options.input)) {
         Ok(texts) => texts,
-        Err(fault) => return unread_status(rt, fault, writer),
+        Err(fault) => return tell_unread(rt, "kahn_explain", fault, writer),
     };
     let mut out = Outlet {
         writer: io::writer(rt),

@@ -1,5 +1,6 @@
 pub mod Message
 pub mod Places
+pub mod Reasons
 pub mod Status
 pub mod Telling
 pub mod Texts

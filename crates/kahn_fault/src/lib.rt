@@ -5,12 +5,14 @@
 mod fault;
 mod laws;
 mod message;
+mod reasons;
 mod telling;
 mod texts;
 
 pub use fault::{Fault, live_status, status};
 pub use laws::fault_lies;
 pub use message::{fault_line, line_counted};
+pub use reasons::{tell_reason, tell_unread};
 pub use telling::{Told, tell, tell_explain};
 pub use texts::{MOST_INPUT_BYTES, MOST_PROGRAM_BYTES, Texts, input_of, program_of, read_texts};
 

@@ -179,11 +179,17 @@ kind_words (Some K.Integer) = codes ": wanted logical, found integer"
 kind_words (Some K.Logical) = codes ": wanted integer, found logical"
 kind_words None = []
 
--- how a value of the wanted kind is made of an expression
-abbrev pub made_words : Option Use → List ℕ
-made_words (Some (use_as.Expression K.Integer)) = codes "; `X <> 0` is a truth value of `X`"
-made_words (Some (use_as.Expression K.Logical)) = codes "; `if T then 1 else 0` is a number of `T`"
-made_words found = []
+-- how a value of the wanted kind is made of an expression in a body, and what an instance hands over for one
+abbrev pub made_words : Option Use → Bool → List ℕ
+made_words (Some (use_as.Expression K.Integer)) true = codes "; `X <> 0` is a truth value of `X`"
+made_words (Some (use_as.Expression K.Integer)) false = codes "; hand over `true` or `false` there"
+made_words (Some (use_as.Expression K.Logical)) true = codes "; `if T then 1 else 0` is a number of `T`"
+made_words (Some (use_as.Expression K.Logical)) false = codes "; hand over a number there"
+made_words found in_body = []
+
+-- whether a place is in the body of a process
+abbrev pub is_in_body : Program → Span → Bool
+is_in_body t at = is_some (first_process t (sought.Using at))
 
 abbrev pub direction_words : Option Use → List ℕ
 direction_words (Some use_as.Waited) = codes ": wanted `in`, found `out`"
@@ -261,7 +267,7 @@ unread_words _ = codes "; hand it to an `in` parameter"
 abbrev pub tail_of : List ℕ → Program → CheckFault → List ℕ
 tail_of text t (checked.Unknown at) = unknown_at text t at
 tail_of text t (checked.WrongCount at) = count_words t (named_instance t at)
-tail_of text t (checked.WrongKind at) = concat (kind_words (found_kind text t at) ∷ made_words (use_at t at) ∷ [])
+tail_of text t (checked.WrongKind at) = concat (kind_words (found_kind text t at) ∷ made_words (use_at t at) (is_in_body t at) ∷ [])
 tail_of text t (checked.WrongDirection at) = direction_at text t at
 tail_of text t (checked.ChannelExpected at) = channel_words (use_at t at)
 tail_of text t (checked.ValueExpected at) = value_tail text t at

@@ -2,7 +2,7 @@
 
 ghost use Rattle.std.specs.Prelude.{◌≡◌, ◌++◌, IfOk, option_map, string_bytes};
 ghost use Rattle.std.specs.List.{find};
-ghost use Rattle.kahn_hints.specs.Hints.{asked_sort, check_note, closed_reason, count_words, declared_first, declared_here, declared_outside, first_reason, found_kind, idle_place, meant_at, named_instance, place_in, second_place, second_text, taken_before, tail_of, unwritten_at, use_at, used_at, value_tail, valued_at, wanted_here};
+ghost use Rattle.kahn_hints.specs.Hints.{asked_sort, check_note, closed_reason, count_words, declared_first, declared_here, declared_outside, first_reason, found_kind, idle_place, is_in_body, meant_at, named_instance, place_in, second_place, second_text, taken_before, tail_of, unwritten_at, use_at, used_at, value_tail, valued_at, wanted_here};
 
 use crate::exchange::twice_at;
 use crate::names::Sort;
@@ -54,6 +54,13 @@ fn use_at(program: &Program, at: Span) -> Option<Use>
         Some(process) => body_use(process, at),
         None => instances_use(program, at),
     }
+}
+
+/// Whether a place is in the body of a process.
+fn is_in_body(program: &Program, at: Span) -> bool
+    ensures { result ≡ is_in_body program.now at }
+{
+    first_process(program, Sought::Using(at)).is_some()
 }
 
 /// The sort of the names that may stand where a name is used.
@@ -400,7 +407,7 @@ fn add_tail(
             words,
             &[
                 kind_words(found_kind(text, program, at)),
-                made_words(use_at(program, at)),
+                made_words(use_at(program, at), is_in_body(program, at)),
             ],
         ),
         CheckFault::WrongDirection(at) => {

@@ -48,13 +48,15 @@ pub(crate) fn kind_words(found: Option<Kind>) -> &'static str
     }
 }
 
-/// How a value of the wanted kind is made of an expression.
-pub(crate) fn made_words(found: Option<Use>) -> &'static str
-    ensures { result.now ≡ made_words found }
+/// How a value of the wanted kind is made of an expression in a body, and what an instance hands over for one.
+pub(crate) fn made_words(found: Option<Use>, in_body: bool) -> &'static str
+    ensures { result.now ≡ made_words found in_body }
 {
-    match found {
-        Some(Use::Expression(Kind::Integer)) => "; `X <> 0` is a truth value of `X`",
-        Some(Use::Expression(Kind::Logical)) => "; `if T then 1 else 0` is a number of `T`",
+    match (found, in_body) {
+        (Some(Use::Expression(Kind::Integer)), true) => "; `X <> 0` is a truth value of `X`",
+        (Some(Use::Expression(Kind::Integer)), false) => "; hand over `true` or `false` there",
+        (Some(Use::Expression(Kind::Logical)), true) => "; `if T then 1 else 0` is a number of `T`",
+        (Some(Use::Expression(Kind::Logical)), false) => "; hand over a number there",
         _ => "",
     }
 }

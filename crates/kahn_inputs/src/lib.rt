@@ -1,17 +1,14 @@
-//! Why a text can't be read, and why an input text is refused, as a note on the place: the line and the part of it that is at fault,
-//! and what is wanted there.
+//! Why an input text is refused, as a note on the place: the line and the part of it that is at fault, and what is wanted there.
 #![tactic(auto)]
 
 mod feeding;
 mod fitting;
 mod laws;
-mod reasons;
 mod refused;
 mod seeking;
 mod strange;
 
 pub use laws::always_placed;
-pub use reasons::{file_words, reading_words, tell_reason};
 
 // For the crates above.
 pub use feeding::input_note;

@@ -1,7 +1,20 @@
 -- Jobs before their first events.
-use Rattle.kahn_job.proofs.Common.{arith, ◌≡◌, ℕ, ◌<◌, List, length, refl, sym, ap, ◌∙◌, subst, Option, Some, slice_get, slice_index_or, Program, Actual, Reads, Writes, Hands, network_of, instance_at, actual_at, IsWellWired, reads_listed, writes_listed, AreInputsExtended, Lists, inputs_of, prefix_refl, Joins, End, Serves, end_at, Work, HaveSettled, IsIdle, cells_of, rows_of, end_in, HaveNoEnds, AreHanded, AreOpening, IsOpening}
+use Rattle.kahn_job.proofs.Common.{arith, ◌≡◌, ℕ, ◌<◌, List, length, refl, sym, ap, ◌∙◌, subst, Option, Some, slice_get, slice_index_or, Program, Actual, Reads, Writes, Hands, network_of, instance_at, actual_at, IsWellWired, reads_listed, writes_listed, AreInputsExtended, Lists, inputs_of, prefix_refl, Joins, End, Serves, end_at, Work, HaveSettled, IsIdle, cells_of, rows_of, end_in, HaveNoEnds, AreHanded, AreOpening, IsFresh, IsOpening, no_end}
 use Rattle.kahn_streams.proofs.Entered.{none_of}
-use Rattle.kahn_job.proofs.Idles.{cell_there, cells_count, row_there, settled_rest}
+use Rattle.std.proofs.lemmas.List.{length-map, length-replicate}
+use Rattle.kahn_job.proofs.Idles.{cell_there, cells_count, each_row, past, row_there, settled_rest}
+
+-- jobs whose parameters have no ends yet
+pub all_bare : (t : Program) (lists : Lists) (watch : Option ℕ) (ws : List Work) → HaveNoEnds t lists watch ws → AreHanded t lists 0 (rows_of ws)
+all_bare t lists watch ws h = record {
+  count = length-map ws (λ (w : Work). w.ends) ∙ h.count;
+  sizes = each_row ws (λ p es. length es ≡ length (instance_at (network_of t) p).actuals) (λ p w e. ap (λ (r : List End). length r) (h.each p w e).1 ∙ length-replicate _ no_end)
+      (λ p l. sym (ap (λ i. length i.actuals) (past t ws h.count p l)));
+  each = λ p q d j l. absurd (omega (arith, l));
+  joined = λ d l. absurd (omega (arith, l));
+  fresh = λ p q. each_row ws (λ p es. IsFresh (end_at es q)) (λ p w e. subst IsFresh (sym (ap (λ r. end_at r q) (h.each p w e).1 ∙ none_of _ q no_end)) (refl, refl))
+      (λ p l. (refl, refl)) p;
+}
 
 all_served : (t : Program) (wired : IsWellWired t) (lists : Lists) (p q : ℕ) (e : End) (a : Actual) → actual_at (instance_at (network_of t) p) q ≡ a →
     ((d : ℕ) → Joins a d → d < length (network_of t).channels → Serves t lists a e) → Serves t lists a e

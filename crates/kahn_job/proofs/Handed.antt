@@ -1,13 +1,6 @@
 -- The ends of a channel come to the parameters that it is handed to.
-use Rattle.kahn_job.proofs.Common.{arith, ◌≡◌, ◌⊎◌, inl, inr, ℕ, ◌+◌, ◌<◌, List, [], length, refl, sym, ap, ◌∙◌, subst, true, false, Option, Some, None, IfSome, slice_set, slice_index_or, cases_eq, length-set, get_or-set_same, get_or-set_other, none-some, same_Some, Program, Role, Side, Inner, Input, Output, Network, Actual, Reads, Writes, Hands, network_of, instance_at, actual_at, role_at, IsWriter, IsReader, IsOnly, IsWithin, IsWellWired, side_at, IsFed, handed_within, reads, writes, Lists, is_output, Joins, End, ShareLane, Serves, end_at, AreJoinedOn, HasPlace, end_in, AreEndsOf, AreHanded, IsFresh, placed}
-pub use Rattle.std.proofs.lemmas.List.{replicate_more}
-use Rattle.kahn_job.proofs.Berthed as ends
-
-pub row_here : (rows : List (List End)) (p : ℕ) (r : List End) → p < length rows → slice_index_or (slice_set rows p r) p [] ≡ r
-row_here rows p r l = get_or-set_same rows p r [] l
-
-pub row_else : (rows : List (List End)) (p o : ℕ) (r : List End) → (o ≡ p → ⊥) → slice_index_or (slice_set rows p r) o [] ≡ slice_index_or rows o []
-row_else rows p o r n = get_or-set_other rows p o r [] n
+use Rattle.kahn_job.proofs.Common.{arith, ◌≡◌, ◌⊎◌, inl, inr, ℕ, ◌+◌, ◌<◌, List, [], length, refl, sym, ap, ◌∙◌, subst, true, false, Option, Some, None, IfSome, slice_set, slice_index_or, cases_eq, length-set, get_or-set_same, get_or-set_other, none-some, same_Some, Program, Role, Side, Inner, Input, Output, Network, Actual, Reads, Writes, Hands, network_of, instance_at, actual_at, role_at, IsWriter, IsReader, IsOnly, IsWithin, IsWellWired, side_at, IsFed, handed_within, reads, writes, Lists, is_output, Joins, End, ShareLane, Serves, end_at, AreJoinedOn, HasPlace, end_in, AreEndsOf, AreHanded, IsFresh, no_end, placed}
+use Rattle.kahn_job.proofs.Settles.{is_inner}
 
 -- a parameter has the new end or the old one
 abbrev pub Found : List (List End) → Option Side → End → ℕ → ℕ → Type 0
@@ -23,16 +16,16 @@ found rows (Some s) e h p q = by (cases_eq p s.instance) (cases_eq q s.parameter
     row = slice_set (slice_index_or rows s.instance []) s.parameter e
 
     by : (p ≡ s.instance) ⊎ (p ≡ s.instance → ⊥) → (q ≡ s.parameter) ⊎ (q ≡ s.parameter → ⊥) → Found rows (Some s) e p q
-    by (inr n) y = inr (λ i. n (ap (λ (u : Side). u.instance) (sym (same_Some _ _ i))), ap (λ r. end_at r q) (row_else rows s.instance p row n))
+    by (inr n) y = inr (λ i. n (ap (λ (u : Side). u.instance) (sym (same_Some _ _ i))), ap (λ r. end_at r q) (get_or-set_other rows s.instance p row [] n))
     by (inl x) (inr n) = inr (
       λ i. n (ap (λ (u : Side). u.parameter) (sym (same_Some _ _ i))),
-      ap (λ k. end_at (slice_index_or (slice_set rows s.instance row) k []) q) x ∙ ap (λ r. end_at r q) (row_here rows s.instance row h.0) ∙
-          ends.set_else (slice_index_or rows s.instance []) s.parameter q e n ∙ ap (λ k. end_at (slice_index_or rows k []) q) (sym x),
+      ap (λ k. end_at (slice_index_or (slice_set rows s.instance row) k []) q) x ∙ ap (λ r. end_at r q) (get_or-set_same rows s.instance row [] h.0) ∙
+          get_or-set_other (slice_index_or rows s.instance []) s.parameter q e no_end n ∙ ap (λ k. end_at (slice_index_or rows k []) q) (sym x),
     )
     by (inl x) (inl y) = inl (
       ap Some (λ i. record { instance = sym x i; parameter = sym y i }),
-      ap (λ k. end_at (slice_index_or (slice_set rows s.instance row) k []) q) x ∙ ap (λ r. end_at r q) (row_here rows s.instance row h.0) ∙
-          ap (end_at row) y ∙ ends.set_here (slice_index_or rows s.instance []) s.parameter e h.1,
+      ap (λ k. end_at (slice_index_or (slice_set rows s.instance row) k []) q) x ∙ ap (λ r. end_at r q) (get_or-set_same rows s.instance row [] h.0) ∙
+          ap (end_at row) y ∙ get_or-set_same (slice_index_or rows s.instance []) s.parameter e no_end h.1,
     )
 
 pub placed_count : (rows : List (List End)) (side : Option Side) (e : End) → length (placed rows side e) ≡ length rows
@@ -48,9 +41,9 @@ placed_sizes rows (Some s) e h p = by (cases_eq p s.instance)
     row = slice_set (slice_index_or rows s.instance []) s.parameter e
 
     by : (p ≡ s.instance) ⊎ (p ≡ s.instance → ⊥) → length (slice_index_or (slice_set rows s.instance row) p []) ≡ length (slice_index_or rows p [])
-    by (inr n) = ap (λ (r : List End). length r) (row_else rows s.instance p row n)
+    by (inr n) = ap (λ (r : List End). length r) (get_or-set_other rows s.instance p row [] n)
     by (inl x) =
-        ap (λ k. length (slice_index_or (slice_set rows s.instance row) k [])) x ∙ ap (λ (r : List End). length r) (row_here rows s.instance row h.0) ∙
+        ap (λ k. length (slice_index_or (slice_set rows s.instance row) k [])) x ∙ ap (λ (r : List End). length r) (get_or-set_same rows s.instance row [] h.0) ∙
         length-set (slice_index_or rows s.instance []) s.parameter e ∙ ap (λ k. length (slice_index_or rows k [])) (sym x)
 
 pub has_place : (t : Program) (lists : Lists) (k : ℕ) (rows : List (List End)) (side : Option Side) (P : Side → Type 0) → AreHanded t lists k rows →
@@ -78,12 +71,6 @@ not_output Inner n e = refl
 not_output Input n e = absurd (n refl)
 not_output Output n e = let h : true ≡ false = e in absurd cc
 
-fed_role : (N : Network) (c : ℕ) → role_at N c ≡ Input → role_at N c ≡ Output → ⊥
-fed_role N c i o = let e : Input ≡ Output = sym i ∙ o in absurd cc
-
-inner_role : (N : Network) (c : ℕ) → role_at N c ≡ Inner → role_at N c ≡ Output → ⊥
-inner_role N c i o = let e : Inner ≡ Output = sym i ∙ o in absurd cc
-
 pub inner_is_not_input : {r : Role} → r ≡ Inner → r ≡ Input → ⊥
 inner_is_not_input a b = let e : Inner ≡ Input = sym a ∙ b in absurd cc
 
@@ -92,11 +79,11 @@ module _ (t : Program) (wired : IsWellWired t) (lists : Lists) (c : ℕ) (x y : 
   N = network_of t
 
   serves_reader : (p q : ℕ) → actual_at (instance_at N p) q ≡ Reads c → Serves t lists (actual_at (instance_at N p) q) y
-  serves_reader p q r = subst (λ a. Serves t lists a y) (sym r) (let h = e.takes (never (reads t wired p q c r)) in (h.0, h.1, e.feeds))
+  serves_reader p q r = subst (λ a. Serves t lists a y) (sym r) (e.takes (never (reads t wired p q c r)))
     where
       never : IsFed N c → role_at N c ≡ Output → ⊥
-      never (inl f) = fed_role N c f.1
-      never (inr f) = inner_role N c f.4
+      never (inl f) o = let e : Input ≡ Output = sym f.1 ∙ o in absurd cc
+      never (inr f) o = let e : Inner ≡ Output = sym f.4 ∙ o in absurd cc
 
   serves_writer : (p q : ℕ) → actual_at (instance_at N p) q ≡ Writes c → Serves t lists (actual_at (instance_at N p) q) x
   serves_writer p q w = subst (λ a. Serves t lists a x) (sym w) (λ o. e.puts (not_output (role_at N c) (writes t wired p q c w).1 o))
@@ -149,20 +136,12 @@ module _ (t : Program) (wired : IsWellWired t) (lists : Lists) (c : ℕ) (x y : 
         absurd (n (sym (subst (λ z. Joins z d) (only_passes (IsWriter N c) w (side_at p q) ow b.0).1 j)))
     else_end p q d j n (inr a) (inr b) = a.1 ∙ b.1
 
-    -- a channel that is both written and read goes from process to process
-    is_inner : (p q s o : ℕ) → actual_at (instance_at N p) o ≡ Writes c → actual_at (instance_at N s) q ≡ Reads c → role_at N c ≡ Inner
-    is_inner p q s o i j = by (reads t wired s q c j)
-      where
-        by : IsFed N c → role_at N c ≡ Inner
-        by (inl f) = absurd ((writes t wired p o c i).1 f.1)
-        by (inr f) = f.4
-
     both_ends : (d : ℕ) → d < c + 1 → (d ≡ c) ⊎ (d ≡ c → ⊥) → AreJoinedOn N (placed first r y) d
     both_ends d l (inl same) p s o q i j =
         let i' : actual_at (instance_at N p) o ≡ Writes c = i ∙ ap Writes same in
         let j' : actual_at (instance_at N s) q ≡ Reads c = j ∙ ap Reads same in
         subst (λ z. ShareLane z (end_in (placed first r y) s q)) (sym (writer_end p o i' (found first r y place_r p o) (found rows w x place_w p o)))
-        (subst (λ z. ShareLane x z) (sym (reader_end s q j' (found first r y place_r s q))) (e.lane (is_inner p q s o i' j')))
+        (subst (λ z. ShareLane x z) (sym (reader_end s q j' (found first r y place_r s q))) (e.lane (is_inner t wired c p o s q i' j')))
     both_ends d l (inr n) p s o q i j =
         subst (λ z. ShareLane z (end_in (placed first r y) s q))
         (sym (else_end p o d (subst (λ a. Joins a d) (sym i) refl) n (found first r y place_r p o) (found rows w x place_w p o)))

@@ -1,38 +1,22 @@
 -- Jobs on which nobody works: what changes where one of them gets another end, and which may go on.
-use Rattle.kahn_job.proofs.Common.{arith, ◌≡◌, ◌⊎◌, inl, inr, ℕ, zero, suc, ◌<◌, ◌≤◌, List, [], ◌∷◌, length, refl, sym, ap, ◌∙◌, subst, slice_set, slice_index_or, le_of_suc-le-suc, slice_get, Some, get_or_past, slice_get_within, none-some, same_Some, Program, AreInputsExtended, Actual, Reads, Writes, Hands, network_of, instance_at, actual_at, idle, IsWellWired, reads_listed, writes_listed, Lists, inputs_of, prefix_refl, prefix_trans, Told, IsAt, End, AreServed, Serves, end_at, end_in, Work, AreIdle, AreJoinedJobs, CanGoOn, HaveMet, HaveSettled, IsIdle, cells_of, rows_of, ServedBefore, AreResting, HaveStood, IsOfBefore}
-use Rattle.kahn_job.proofs.Meeting_ends.{all_stayed, all_stayed_then, rests_met, stood_still}
-use Rattle.kahn_job.proofs.Settles.{AreGoing, carried_read, carried_write}
-
-pub rows_length : (ws : List Work) → length (rows_of ws) ≡ length ws
-rows_length [] = refl
-rows_length (w ∷ ws) = ap suc (rows_length ws)
-
-row_of : (ws : List Work) (p : ℕ) (d : Work) → p < length ws → slice_index_or (rows_of ws) p [] ≡ (slice_index_or ws p d).ends
-row_of [] p d l = absurd (omega (arith, l))
-row_of (w ∷ ws) zero d l = refl
-row_of (w ∷ ws) (suc p) d l = row_of ws p d (le_of_suc-le-suc l)
-
-pub rows_set : (ws : List Work) (p : ℕ) (w : Work) → rows_of (slice_set ws p w) ≡ slice_set (rows_of ws) p w.ends
-rows_set [] p w = refl
-rows_set (x ∷ ws) zero w = refl
-rows_set (x ∷ ws) (suc p) w = ap (λ l. x.ends ∷ l) (rows_set ws p w)
-
-pub cells_set : (ws : List Work) (p : ℕ) (w d : Work) → p < length ws → w.cell ≡ (slice_index_or ws p d).cell → cells_of (slice_set ws p w) ≡ cells_of ws
-cells_set [] p w d l e = refl
-cells_set (x ∷ ws) zero w d l e = ap (λ c. c ∷ cells_of ws) e
-cells_set (x ∷ ws) (suc p) w d l e = ap (λ l. x.cell ∷ l) (cells_set ws p w d (le_of_suc-le-suc l) e)
+use Rattle.kahn_job.proofs.Common.{arith, ◌≡◌, ℕ, zero, suc, ◌<◌, ◌≤◌, List, [], ◌∷◌, length, refl, sym, ap, ◌∙◌, subst, slice_set, slice_index_or, slice_get, Some, get_or_past, None, Option, no_end, slice_get_within, none-some, same_Some, Program, AreInputsExtended, Actual, Reads, Writes, Hands, network_of, instance_at, actual_at, idle, IsWellWired, reads_listed, writes_listed, Lists, inputs_of, prefix_refl, prefix_trans, Told, IsAt, End, AreServed, Serves, end_at, end_in, Work, AreIdle, AreJoinedJobs, CanGoOn, HaveMet, HaveSettled, IsIdle, cells_of, rows_of, ServedBefore, AreResting, HaveStood, IsOfBefore}
+use Rattle.std.proofs.Math.Seq.{map-set_same}
+use Rattle.std.proofs.lemmas.List.{get_or-map, length-map, map-set}
+use Rattle.std.proofs.lemmas.Option.{get_or_from_slice_get, slice_get-map}
+use Rattle.std.specs.Prelude.{option_map}
+use Rattle.kahn_job.proofs.Settles.{AreGoing, all_stayed, all_stayed_then, carried_read, carried_write, rests_met, stood_still}
 
 -- one of them has another end
 pub rows_exchanged : (ws : List Work) (p q : ℕ) (e : End) (d w : Work) → p < length (rows_of ws) →
     w ≡ record (slice_index_or ws p d) { ends = slice_set (slice_index_or ws p d).ends q e } →
     rows_of (slice_set ws p w) ≡ slice_set (rows_of ws) p (slice_set (slice_index_or (rows_of ws) p []) q e)
 rows_exchanged ws p q e d w l i =
-    rows_set ws p w ∙ ap (slice_set (rows_of ws) p)
-    (ap (λ (w : Work). w.ends) i ∙ ap (λ es. slice_set es q e) (sym (row_of ws p d (subst (λ n. p < n) (rows_length ws) l))))
+    map-set (λ (w : Work). w.ends) ws p w ∙ ap (slice_set (rows_of ws) p) (ap (λ (w : Work). w.ends) i ∙
+    ap (λ es. slice_set es q e) (sym (get_or-map (λ (w : Work). w.ends) ws p d [] (subst (λ n. p < n) (length-map ws (λ (w : Work). w.ends)) l))))
 
-pub cells_exchanged : (ws : List Work) (p q : ℕ) (e : End) (d w : Work) → p < length (rows_of ws) →
-    w ≡ record (slice_index_or ws p d) { ends = slice_set (slice_index_or ws p d).ends q e } → cells_of (slice_set ws p w) ≡ cells_of ws
-cells_exchanged ws p q e d w l i = cells_set ws p w d (subst (λ n. p < n) (rows_length ws) l) (ap (λ (w : Work). w.cell) i)
+pub cells_exchanged : (ws : List Work) (p q : ℕ) (e : End) (d w : Work) → w ≡ record (slice_index_or ws p d) { ends = slice_set (slice_index_or ws p d).ends q e } →
+    cells_of (slice_set ws p w) ≡ cells_of ws
+cells_exchanged ws p q e d w i = map-set_same (λ (w : Work). w.cell) ws p w d (ap (λ (w : Work). w.cell) i)
 
 -- ---- when all have settled
 
@@ -71,18 +55,16 @@ settled_rest t lists rows count h = record {
   joined = h.joined;
 }
 
--- the job of an instance, or there is none
-abbrev pub Here : List Work → ℕ → Type 0
-Here ws p = ((w : Work) × (slice_get ws p ≡ Some w) × (slice_index_or (rows_of ws) p [] ≡ w.ends)) ⊎ ((length ws ≤ p) × (slice_index_or (rows_of ws) p [] ≡ []))
+-- what is so of the ends of each job, and of none past the last, is so of each row
+pub each_row : (ws : List Work) (P : ℕ → List End → Type 0) → ((p : ℕ) (w : Work) → slice_get ws p ≡ Some w → P p w.ends) →
+    ((p : ℕ) → length ws ≤ p → P p []) → (p : ℕ) → P p (slice_index_or (rows_of ws) p [])
+each_row [] P some none p = none p (omega arith)
+each_row (w ∷ ws) P some none zero = some zero w refl
+each_row (w ∷ ws) P some none (suc p) = each_row ws (λ k. P (suc k)) (λ k. some (suc k)) (λ k l. none (suc k) (omega (arith, l))) p
 
-pub here_or : (ws : List Work) (p : ℕ) → Here ws p
-here_or [] p = inr (omega arith, refl)
-here_or (w ∷ ws) zero = inl (w, refl, refl)
-here_or (w ∷ ws) (suc p) = step (here_or ws p)
-  where
-    step : Here ws p → Here (w ∷ ws) (suc p)
-    step (inl a) = inl a
-    step (inr b) = let l = b.0 in inr (omega (arith, l), b.1)
+-- past the last instance nothing is handed over
+pub past : (t : Program) (ws : List Work) → length ws ≡ length (network_of t).instances → (p : ℕ) → length ws ≤ p → instance_at (network_of t) p ≡ idle
+past t ws n p l = get_or_past (network_of t).instances p idle (omega (arith, n, l))
 
 module _ (t : Program) (lists : Lists) (ws : List Work) (h : AreJoinedJobs t lists ws) where
   -- the ends of a job are those of its channels
@@ -93,33 +75,18 @@ module _ (t : Program) (lists : Lists) (ws : List Work) (h : AreJoinedJobs t lis
       (subst (λ l. AreServed t l w.cell.instance w.ends) f.2
       (subst (λ k. AreServed k w.cell.input w.cell.instance w.ends) f.1 f.0.served))
 
-  -- past the last instance nothing is handed over
-  past : (p : ℕ) → length ws ≤ p → instance_at (network_of t) p ≡ idle
-  past p l = let n = h.count in get_or_past (network_of t).instances p idle (omega (arith, n, l))
-
   -- they rest for every input whose lists begin with those of theirs
   pub all_rest : (after : Lists) → AreInputsExtended (inputs_of lists) (inputs_of after) → AreResting t after (rows_of ws)
   all_rest after grown = record {
-    count = rows_length ws ∙ h.count;
-    sizes = λ p. size p (here_or ws p);
-    each = λ p q. serves p q (here_or ws p);
-    behind = λ p q. behind p q (here_or ws p);
+    count = length-map ws (λ (w : Work). w.ends) ∙ h.count;
+    sizes = each_row ws (λ p es. length es ≡ length (instance_at (network_of t) p).actuals) (λ p w e. (job_served p w e).count)
+        (λ p l. sym (ap (λ i. length i.actuals) (past t ws h.count p l)));
+    each = λ p q. each_row ws (λ p es. ServedBefore t after (actual_at (instance_at (network_of t) p) q) (end_at es q))
+        (λ p w e. before_too t lists after grown (actual_at (instance_at (network_of t) p) q) (end_at w.ends q) ((job_served p w e).each q))
+        (λ p l. subst (λ i. ServedBefore t after (actual_at i q) no_end) (sym (past t ws h.count p l)) tt) p;
+    behind = λ p q. each_row ws (λ p es. (end_at es q).flushed ≤ (end_at es q).next) (λ p w e. (job_served p w e).behind q) (λ p l. omega arith) p;
     joined = h.joined;
   }
-    where
-      size : (p : ℕ) → Here ws p → length (slice_index_or (rows_of ws) p []) ≡ length (instance_at (network_of t) p).actuals
-      size p (inl a) = ap (λ (es : List End). length es) a.2 ∙ (job_served p a.0 a.1).count
-      size p (inr b) = ap (λ (es : List End). length es) b.1 ∙ sym (ap (λ i. length i.actuals) (past p b.0))
-
-      serves : (p q : ℕ) → Here ws p → ServedBefore t after (actual_at (instance_at (network_of t) p) q) (end_in (rows_of ws) p q)
-      serves p q (inl a) =
-          subst (λ es. ServedBefore t after (actual_at (instance_at (network_of t) p) q) (end_at es q)) (sym a.2)
-          (before_too t lists after grown (actual_at (instance_at (network_of t) p) q) (end_at a.0.ends q) ((job_served p a.0 a.1).each q))
-      serves p q (inr b) = subst (λ i. ServedBefore t after (actual_at i q) (end_in (rows_of ws) p q)) (sym (past p b.0)) tt
-
-      behind : (p q : ℕ) → Here ws p → (end_in (rows_of ws) p q).flushed ≤ (end_in (rows_of ws) p q).next
-      behind p q (inl a) = subst (λ es. (end_at es q).flushed ≤ (end_at es q).next) (sym a.2) ((job_served p a.0 a.1).behind q)
-      behind p q (inr b) = subst (λ es. (end_at es q).flushed ≤ (end_at es q).next) (sym b.1) (omega arith)
 
   -- and so they are idle
   pub all_idle : AreIdle t lists ws
@@ -138,28 +105,21 @@ module _ (t : Program) (lists : Lists) (ws : List Work) (h : AreJoinedJobs t lis
 
 pub cell_there : (ns os : List Work) → cells_of ns ≡ cells_of os → (p : ℕ) (w : Work) → slice_get ns p ≡ Some w →
     (x : Work) × (slice_get os p ≡ Some x) × (w.cell ≡ x.cell)
-cell_there [] os c p w e = absurd (none-some _ e)
-cell_there (n ∷ ns) [] c p w e = absurd cc
-cell_there (n ∷ ns) (o ∷ os) c zero w e = (o, refl, ap (λ (z : Work). z.cell) (sym (same_Some n w e)) ∙ first c)
+cell_there ns os c p w e =
+    by (slice_get os p) (sym (ap (option_map cell) e) ∙ sym (slice_get-map cell ns p) ∙ ap (λ l. slice_get l p) c ∙ slice_get-map cell os p)
   where
-    first : n.cell ∷ cells_of ns ≡ o.cell ∷ cells_of os → n.cell ≡ o.cell
-    first e = cc
-cell_there (n ∷ ns) (o ∷ os) c (suc p) w e = cell_there ns os (rest c) p w e
-  where
-    rest : n.cell ∷ cells_of ns ≡ o.cell ∷ cells_of os → cells_of ns ≡ cells_of os
-    rest e = cc
+    cell : Work → Told
+    cell w = w.cell
+
+    by : (o : Option Work) → Some w.cell ≡ option_map cell o → (x : Work) × (o ≡ Some x) × (w.cell ≡ x.cell)
+    by None h = absurd (none-some _ (sym h))
+    by (Some x) h = (x, refl, same_Some _ _ h)
 
 pub row_there : (xs : List Work) (p : ℕ) (w : Work) → slice_get xs p ≡ Some w → slice_index_or (rows_of xs) p [] ≡ w.ends
-row_there [] p w e = absurd (none-some _ e)
-row_there (x ∷ xs) zero w e = ap (λ (z : Work). z.ends) (same_Some x w e)
-row_there (x ∷ xs) (suc p) w e = row_there xs p w e
+row_there xs p w e = get_or-map (λ (z : Work). z.ends) xs p w [] (slice_get_within xs p w e) ∙ ap (λ (z : Work). z.ends) (get_or_from_slice_get xs p w w e)
 
 pub cells_count : (ns os : List Work) → cells_of ns ≡ cells_of os → length ns ≡ length os
-cells_count ns os c = sym (cells_length ns) ∙ ap (λ (l : List Told). length l) c ∙ cells_length os
-  where
-    cells_length : (ws : List Work) → length (cells_of ws) ≡ length ws
-    cells_length [] = refl
-    cells_length (w ∷ ws) = ap suc (cells_length ws)
+cells_count ns os c = sym (length-map ns (λ (w : Work). w.cell)) ∙ ap (λ (l : List Told). length l) c ∙ length-map os (λ (w : Work). w.cell)
 
 -- ---- idle jobs
 

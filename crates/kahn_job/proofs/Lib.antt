@@ -1,12 +1,9 @@
 pub mod Common
 pub mod Berthed
-pub mod Manned
 pub mod Handed
 pub mod Exchanged
 pub mod Settles
-pub mod Meeting_ends
 pub mod Idles
-pub mod Bare
 pub mod Begun
 pub mod Fed
 pub mod Trues

@@ -1,6 +1,7 @@
 -- The ends of channels go on with an input that has grown, channel by channel.
-use Rattle.kahn_job.proofs.Common.{arith, ◌≡◌, ◌⊎◌, inl, inr, ⊎_elim, ℕ, ◌+◌, ◌<◌, ◌≤◌, Bool, true, false, List, length, refl, sym, ap, ◌∙◌, subst, None, Some, Result, Ok, Err, MatchResult, cases_eq, Program, Role, Side, Inner, Input, Output, Network, Actual, Reads, Writes, Hands, network_of, instance_at, actual_at, role_at, IsWriter, IsReader, IsOnly, IsServed, IsFed, IsWellWired, side_at, handed_within, reads, writes, Lists, inputs_of, prefix_refl, is_output, Joins, lane_name, End, IsFlushed, MayMeet, ShareLane, AreJoinedOn, AreSoOn, HasPlace, end_in, end_of_side, AreAlike, AreResting, AreSettled, CanFeed, CanSettle, HasExchanged, HasSettled, HaveExchanged, HasStood, HaveStood, IsCarried, IsOfBefore, ServedBefore}
+use Rattle.kahn_job.proofs.Common.{arith, ◌≡◌, ◌⊎◌, inl, inr, ⊎_elim, ℕ, ◌+◌, ◌<◌, ◌≤◌, Bool, true, false, List, length, refl, sym, ap, ◌∙◌, subst, None, Some, Result, Ok, Err, cases_eq, Program, Role, Side, Inner, Input, Output, Network, Actual, Reads, Writes, Hands, network_of, instance_at, actual_at, role_at, IsWriter, IsReader, IsOnly, IsServed, IsFed, IsWellWired, side_at, handed_within, reads, writes, Lists, inputs_of, prefix_refl, is_output, Joins, lane_name, End, IsFlushed, ShareLane, AreJoinedOn, AreSoOn, end_in, end_of_side, AreElsewhere, AreResting, AreSettled, GoesOrStays, CanFeed, CanSettle, HasExchanged, HasSettled, HaveExchanged, HasStood, HaveStood, IsCarried, IsOfBefore, ServedBefore, HasStayed, HaveStayed, AreBehindOn}
 use Rattle.kahn_streams.proofs.Sided.{channel_served}
+use Rattle.kahn_job.proofs.Berthed.{same_then, stayed_self}
 
 -- ---- one channel
 
@@ -56,14 +57,14 @@ stood_same old new e = record {
   writes = ap (λ (x : End). x.writes) e;
 }
 
-reads_not_writes : {c d : ℕ} → Reads c ≡ Writes d → ⊥
-reads_not_writes e = absurd cc
-
-inner_role : {r : Role} → r ≡ Inner → is_output r ≡ false
-inner_role e = ap is_output e
-
-input_role : {r : Role} → r ≡ Input → is_output r ≡ false
-input_role e = ap is_output e
+-- a channel that is both written and read goes from process to process
+pub is_inner : (t : Program) (wired : IsWellWired t) (c p o r q : ℕ) → actual_at (instance_at (network_of t) p) o ≡ Writes c →
+    actual_at (instance_at (network_of t) r) q ≡ Reads c → role_at (network_of t) c ≡ Inner
+is_inner t wired c p o r q i j = by (reads t wired r q c j)
+  where
+    by : IsFed (network_of t) c → role_at (network_of t) c ≡ Inner
+    by (inl f) = absurd ((writes t wired p o c i).1 f.1)
+    by (inr f) = f.4
 
 module _ (t : Program) (wired : IsWellWired t) (lists : Lists) (rows : List (List End)) (h : AreResting t lists rows) where
   abbrev N : Network
@@ -74,14 +75,11 @@ module _ (t : Program) (wired : IsWellWired t) (lists : Lists) (rows : List (Lis
   carried_read p q d e = (subst (λ a. Joins a d) (sym e) refl, by (reads t wired p q d e))
     where
       by : IsFed N d → is_output (role_at N d) ≡ false
-      by (inl f) = input_role f.1
-      by (inr f) = inner_role f.4
+      by (inl f) = ap is_output f.1
+      by (inr f) = ap is_output f.4
 
   pub carried_write : (p q d : ℕ) → actual_at (instance_at N p) q ≡ Writes d → is_output (role_at N d) ≡ false → IsCarried t (actual_at (instance_at N p) q) d
   carried_write p q d e o = (subst (λ a. Joins a d) (sym e) refl, o)
-
-  within : (s : Side) → (s.instance < length N.instances) × (s.parameter < length (instance_at N s.instance).actuals) → HasPlace rows s
-  within s i = (subst (λ n. s.instance < n) (sym h.count) i.0, subst (λ n. s.parameter < n) (sym (h.sizes s.instance)) i.1)
 
   served_read : (s : Side) (c : ℕ) → IsReader N c s → ServedBefore t lists (Reads c) (end_of_side rows s)
   served_read s c i = subst (λ a. ServedBefore t lists a (end_of_side rows s)) i.1 (h.each s.instance s.parameter)
@@ -90,36 +88,14 @@ module _ (t : Program) (wired : IsWellWired t) (lists : Lists) (rows : List (Lis
   served_write s c i = subst (λ a. ServedBefore t lists a (end_of_side rows s)) i.1 (h.each s.instance s.parameter)
 
   module _ (c : ℕ) where
-    -- a channel that is both written and read goes from process to process
-    is_inner : (w r : Side) → IsWriter N c w → IsReader N c r → role_at N c ≡ Inner
-    is_inner w r iw ir = by (reads t wired r.instance r.parameter c ir.1)
-      where
-        by : IsFed N c → role_at N c ≡ Inner
-        by (inl f) = absurd ((writes t wired w.instance w.parameter c iw.1).1 f.1)
-        by (inr f) = f.4
-
-    pub place_w : (w : Side) → IsOnly (IsWriter N c) (Some w) → HasPlace rows w
-    place_w w o = within w o.0.0
-
-    pub place_r : (r : Side) → IsOnly (IsReader N c) (Some r) → HasPlace rows r
-    place_r r o = within r o.0.0
-
-    pub sides_apart : (w r : Side) → IsOnly (IsWriter N c) (Some w) → IsOnly (IsReader N c) (Some r) → w ≡ r → ⊥
-    sides_apart w r ow oo e = reads_not_writes (sym oo.0.1 ∙ ap (λ (s : Side). actual_at (instance_at N s.instance) s.parameter) (sym e) ∙ ow.0.1)
-
     pub can_settle : (w r : Side) → IsOnly (IsWriter N c) (Some w) → IsOnly (IsReader N c) (Some r) → CanSettle lists (end_of_side rows w) (end_of_side rows r)
     can_settle w r ow oo =
-        let a = served_write w c ow.0 (inner_role (is_inner w r ow.0 oo.0)) in
+        let a = served_write w c ow.0 (ap is_output (is_inner t wired c w.instance w.parameter r.instance r.parameter ow.0.1 oo.0.1)) in
         let b = served_read r c oo.0 in
         record {
-          writes = a.0;
-          reads = b.0;
-          lane = h.joined c w.instance r.instance w.parameter r.parameter ow.0.1 oo.0.1;
+          ends = record { writes = a.0; reads = b.0; lane = h.joined c w.instance r.instance w.parameter r.parameter ow.0.1 oo.0.1 };
           grown = (lane_name t a.1.0 c, a.1.1, a.1.2);
         }
-
-    pub may_meet : (w r : Side) → IsOnly (IsWriter N c) (Some w) → IsOnly (IsReader N c) (Some r) → MayMeet (end_of_side rows w) (end_of_side rows r)
-    may_meet w r ow oo = let h = can_settle w r ow oo in record { writes = h.writes; reads = h.reads; lane = h.lane }
 
     pub can_feed : (r : Side) → IsOnly (IsWriter N c) None → IsOnly (IsReader N c) (Some r) → CanFeed lists (end_of_side rows r)
     can_feed r none oo =
@@ -153,20 +129,19 @@ module _ (t : Program) (wired : IsWellWired t) (lists : Lists) (rows : List (Lis
     }
       where
         named : IsOfBefore t lists c (end_of_side rows w)
-        named = (served_write w c ow.0 (inner_role (is_inner w r ow.0 oo.0))).1
+        named = (served_write w c ow.0 (ap is_output (is_inner t wired c w.instance w.parameter r.instance r.parameter ow.0.1 oo.0.1))).1
 
         one : (p q : ℕ) → IsReader N c (side_at p q) ⊎ IsWriter N c (side_at p q) → HasSettled (lane_name t lists c) (end_in rows p q) (end_in new p q)
-        one p q (inl i) = subst (λ s. HasSettled (lane_name t lists c) (end_of_side rows s) (end_of_side new s)) (sym (oo.1 (side_at p q) i)) (x.reads _ named.1)
-        one p q (inr i) = subst (λ s. HasSettled (lane_name t lists c) (end_of_side rows s) (end_of_side new s)) (sym (ow.1 (side_at p q) i)) (x.writes _ named.1)
+        one p q (inl i) = subst (λ s. HasSettled (lane_name t lists c) (end_of_side rows s) (end_of_side new s)) (sym (oo.1 (side_at p q) i)) (x.both _ named.1).1
+        one p q (inr i) = subst (λ s. HasSettled (lane_name t lists c) (end_of_side rows s) (end_of_side new s)) (sym (ow.1 (side_at p q) i)) (x.both _ named.1).0
 
         never : (p q : ℕ) → (IsCarried t (actual_at (instance_at N p) q) c → ⊥) → (side_at p q ≡ w) ⊎ (side_at p q ≡ r) → ⊥
-        never p q n (inl e) = n (carried_write p q c (ap (λ (s : Side). actual_at (instance_at N s.instance) s.parameter) e ∙ ow.0.1) (inner_role (is_inner w r ow.0 oo.0)))
+        never p q n (inl e) = n (carried_write p q c (ap (λ (s : Side). actual_at (instance_at N s.instance) s.parameter) e ∙ ow.0.1) (ap is_output (is_inner t wired c w.instance w.parameter r.instance r.parameter ow.0.1 oo.0.1)))
         never p q n (inr e) = n (carried_read p q c (ap (λ (s : Side). actual_at (instance_at N s.instance) s.parameter) e ∙ oo.0.1))
 
     -- it has settled, or memory was refused
     pub lane_or : (w r : Side) → IsOnly (IsWriter N c) (Some w) → IsOnly (IsReader N c) (Some r) → (new : List (List End)) {A E : Type 0} (result : Result A E) →
-        MatchResult result (λ _. HaveExchanged lists w r rows new) (λ _. AreAlike rows new) →
-        MatchResult result (λ _. AreSettled t lists c rows new) (λ _. AreAlike rows new)
+        GoesOrStays result (HaveExchanged lists w r) rows new → GoesOrStays result (AreSettled t lists c) rows new
     lane_or w r ow oo new (Ok u) x = lane_settled w r ow oo new x
     lane_or w r ow oo new (Err f) x = x
 
@@ -252,15 +227,6 @@ module _ (t : Program) (wired : IsWellWired t) (lists : Lists) (rows : List (Lis
 pub below_or : (d k : ℕ) → d < k + 1 → (d < k) ⊎ (d ≡ k)
 below_or d k l = ⊎_elim inr (λ n. inl (omega arith)) (cases_eq d k)
 
-pub rests_alike : (t : Program) (lists : Lists) (old new : List (List End)) → AreAlike old new → AreResting t lists old → AreResting t lists new
-rests_alike t lists old new a h = record {
-  count = a.count ∙ h.count;
-  sizes = λ p. a.sizes p ∙ h.sizes p;
-  each = λ p q. subst (ServedBefore t lists (actual_at (instance_at (network_of t) p) q)) (sym (a.others p q (λ e. e))) (h.each p q);
-  behind = λ p q. subst (λ (x : End). x.flushed ≤ x.next) (sym (a.others p q (λ e. e))) (h.behind p q);
-  joined = λ d. so_still ShareLane (network_of t) old new d (λ p q j. a.others p q (λ e. e)) (h.joined d);
-}
-
 pub stood_then : (old mid new : List (List End)) → HaveStood old mid → HaveStood mid new → HaveStood old new
 stood_then old mid new a b p q =
     let x = a p q in
@@ -270,9 +236,6 @@ stood_then old mid new a b p q =
       flushed = λ w. let f = x.flushed w in let g = y.flushed (x.writes ∙ w) in omega (arith, f, g);
       writes = y.writes ∙ x.writes;
     }
-
-pub stood_alike : (old mid new : List (List End)) → HaveStood old mid → AreAlike mid new → HaveStood old new
-stood_alike old mid new a b = stood_then old mid new a (λ p q. stood_same (end_in mid p q) (end_in new p q) (b.others p q (λ e. e)))
 
 abbrev actual_in : Program → ℕ → ℕ → Actual
 actual_in t p q = actual_at (instance_at (network_of t) p) q
@@ -305,3 +268,62 @@ going_on t wired lists k old now new g s = record {
     by : (p q d : ℕ) → IsCarried t (actual_in t p q) d → (d < k) ⊎ (d ≡ k) → IsDone t lists d (end_in new p q)
     by p q d j (inl l) = subst (IsDone t lists d) (sym (s.elsewhere.others p q (λ z. let same = joins_one (actual_in t p q) k d z.0 j.0 in absurd (omega (arith, same, l))))) (g.done p q d j l)
     by p q d j (inr e) = let x = s.each p q (subst (IsCarried t (actual_in t p q)) e j) in subst (λ n. IsDone t lists n (end_in new p q)) (sym e) (x.named, x.flushed)
+
+-- ---- ends that meet
+
+stayed_then : (d e f : End) → HasStayed d e → HasStayed e f → HasStayed d f
+stayed_then d e f a b = record {
+  same = same_then d e f a.same b.same;
+  next = b.next ∙ a.next;
+  flushed = b.flushed ∙ a.flushed;
+  ready = λ r. b.ready (a.ready r);
+}
+
+pub all_stayed : (rows : List (List End)) → HaveStayed rows rows
+all_stayed rows = record { count = refl; sizes = λ p. refl; each = λ p q. stayed_self (end_in rows p q) }
+
+pub all_stayed_then : (old mid new : List (List End)) → HaveStayed old mid → HaveStayed mid new → HaveStayed old new
+all_stayed_then old mid new a b = record {
+  count = b.count ∙ a.count;
+  sizes = λ p. b.sizes p ∙ a.sizes p;
+  each = λ p q. stayed_then (end_in old p q) (end_in mid p q) (end_in new p q) (a.each p q) (b.each p q);
+}
+
+pub alike_stayed : (old new : List (List End)) → AreElsewhere (λ s. ⊥) old new → HaveStayed old new
+alike_stayed old new a = record {
+  count = a.count;
+  sizes = a.sizes;
+  each = λ p q. subst (HasStayed (end_in old p q)) (sym (a.others p q (λ e. e))) (stayed_self (end_in old p q));
+}
+
+pub stood_still : (old new : List (List End)) → HaveStayed old new → HaveStood old new
+stood_still old new s p q =
+    let x = s.each p q in
+    let f = x.flushed in
+    record { next = x.next; flushed = λ w. omega (arith, f); writes = x.same.writes }
+
+pub rests_met : (t : Program) (lists : Lists) (old new : List (List End)) → HaveStayed old new → AreResting t lists old → AreResting t lists new
+rests_met t lists old new s h = record {
+  count = s.count ∙ h.count;
+  sizes = λ p. s.sizes p ∙ h.sizes p;
+  each = λ p q. served p q (actual_at (instance_at (network_of t) p) q) (h.each p q);
+  behind = λ p q. let b = h.behind p q in let n = (s.each p q).next in let f = (s.each p q).flushed in omega (arith, b, n, f);
+  joined = λ d. same_lanes (network_of t) old new d (λ p q. (s.each p q).same.lane) (h.joined d);
+}
+  where
+    served : (p q : ℕ) (a : Actual) → ServedBefore t lists a (end_in old p q) → ServedBefore t lists a (end_in new p q)
+    served p q (Reads d) b = let x = (s.each p q).same in (x.reads ∙ b.0, (b.1.0, x.name ∙ b.1.1, b.1.2), λ r. x.lane ∙ b.2 r)
+    served p q (Writes d) b = λ o. let x = (s.each p q).same in let y = b o in (x.writes ∙ y.0, (y.1.0, x.name ∙ y.1.1, y.1.2))
+    served p q (Hands v) b = tt
+
+-- a meeting later says the same of the ends before
+pub behind_before : (N : Network) (old now : List (List End)) (c : ℕ) → HaveStayed old now → AreBehindOn N now c → AreBehindOn N old c
+behind_before N old now c s h p r o q i j =
+    let b = h p r o q i j in
+    let n = (s.each r q).next in
+    let f = (s.each p o).flushed in
+    let within = b.within in
+    record {
+      within = omega (arith, within, n, f);
+      more = λ g. let more = b.more ((s.each r q).ready g) in omega (arith, more, n, f);
+    }

@@ -6,4 +6,5 @@ pub mod Openings
 pub mod Settling
 pub mod Tasks
 pub mod Ways
+pub mod Words
 pub mod Works

@@ -1,14 +1,14 @@
 //! Copies of what a cell kept.
 
-ghost use Rattle.std.specs.Prelude.{◌≡◌, length, map, IfOk};
-ghost use Rattle.kahn_streams.specs.Network.{network_of, instance_at};
+ghost use Rattle.std.specs.Prelude.{◌≡◌};
+ghost use Rattle.kahn_job.specs.inner.Words.{map, IfOk};
 
-use kahn_code::{Cell, Kept};
+use kahn_code::Cell;
 use kahn_streams::{Carried, NoMemory};
 use std::alloc::Global;
 
-// The same tokens once more.
-fn copied(alloc: Global, tokens: &[Carried]) -> Result<Vec<Carried>, NoMemory>
+/// The same tokens once more.
+pub(crate) fn copied(alloc: Global, tokens: &[Carried]) -> Result<Vec<Carried>, NoMemory>
     ensures { IfOk result (λ v. v.items ≡ tokens.now) }
 {
     let mut copy = Vec::with_capacity(alloc, tokens.len())?;
@@ -18,8 +18,8 @@ fn copied(alloc: Global, tokens: &[Carried]) -> Result<Vec<Carried>, NoMemory>
     Ok(copy)
 }
 
-// What the cell kept on each parameter.
-fn kept_of(alloc: Global, cell: &Cell) -> Result<Vec<Vec<Carried>>, NoMemory>
+/// What the cell kept on each parameter.
+pub(crate) fn kept_of(alloc: Global, cell: &Cell) -> Result<Vec<Vec<Carried>>, NoMemory>
     ensures { IfOk result (λ lists. map (λ v. v.items) lists.items ≡ cell.now.kept) }
 {
     let parameters = cell.parameters();
@@ -28,16 +28,4 @@ fn kept_of(alloc: Global, cell: &Cell) -> Result<Vec<Vec<Carried>>, NoMemory>
         lists.push_reserved(copied(alloc, cell.kept(parameter))?);
     }
     Ok(lists)
-}
-
-/// A copy of what a cell kept. It refuses only where memory was refused.
-pub(crate) fn lists_of(alloc: Global, cell: &Cell) -> Result<Kept, NoMemory>
-    ensures kept { IfOk result (λ k. map (λ v. v.items) k.kept.items ≡ cell.now.kept) }
-    ensures printed { IfOk result (λ k. k.printed.items ≡ cell.now.printed) }
-    ensures parameters { IfOk result (λ k. length k.kept.items ≡ length (instance_at (network_of cell.now.network) cell.now.instance).actuals) }
-{
-    let _parameters = cell.parameters();
-    let kept = kept_of(alloc, cell)?;
-    let printed = copied(alloc, cell.printed())?;
-    Ok(Kept { kept, printed })
 }

@@ -1,10 +1,9 @@
-//! The ends of parameters come and go: two that have to be together are taken out, and put back.
+//! The ends of parameters come and go.
 
 ghost use Rattle.std.specs.Prelude.{◌≡◌, Some};
 ghost use Rattle.kahn_job.specs.inner.Idles.{cells_of, rows_of};
 ghost use Rattle.kahn_job.specs.inner.Lanes.{HasPlace, end_of_side};
 ghost use Rattle.kahn_job.specs.inner.Openings.{placed};
-ghost use Rattle.kahn_job.specs.inner.Ways.{no_end};
 
 use crate::idle::Idle;
 use crate::port::Port;
@@ -20,25 +19,21 @@ pub(crate) fn exchange(idles: &mut [Idle], side: Side, port: Port) -> Port
     idles[side.instance].replace(side.parameter, port)
 }
 
-/// Takes the ends of two parameters out.
-pub(crate) fn take_two(idles: &mut [Idle], writer: Side, reader: Side) -> (Port, Port)
+/// Gives two parameters other ends, and gives out those they had.
+pub(crate) fn exchange_two(
+    idles: &mut [Idle],
+    writer: Side,
+    sender: Port,
+    reader: Side,
+    receiver: Port,
+) -> (Port, Port)
     requires places { HasPlace (rows_of idles.old) writer × HasPlace (rows_of idles.old) reader }
     requires apart { writer ≡ reader → ⊥ }
     ensures ends { (result.0 ≡ end_of_side (rows_of idles.old) writer) × (result.1 ≡ end_of_side (rows_of idles.old) reader) }
-    ensures rows { rows_of idles.new ≡ placed (placed (rows_of idles.old) (Some writer) no_end) (Some reader) no_end }
-    ensures cells { cells_of idles.new ≡ cells_of idles.old }
-{
-    let sender = exchange(idles, writer, Port::nothing());
-    let receiver = exchange(idles, reader, Port::nothing());
-    (sender, receiver)
-}
-
-/// Two ends come back to their parameters.
-pub(crate) fn put_two(idles: &mut [Idle], writer: Side, sender: Port, reader: Side, receiver: Port)
-    requires { HasPlace (rows_of idles.old) writer × HasPlace (rows_of idles.old) reader }
     ensures rows { rows_of idles.new ≡ placed (placed (rows_of idles.old) (Some writer) sender) (Some reader) receiver }
     ensures cells { cells_of idles.new ≡ cells_of idles.old }
 {
-    let _none = exchange(idles, writer, sender);
-    let _none = exchange(idles, reader, receiver);
+    let sender = exchange(idles, writer, sender);
+    let receiver = exchange(idles, reader, receiver);
+    (sender, receiver)
 }

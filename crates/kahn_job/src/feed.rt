@@ -1,10 +1,7 @@
 //! The values of an input channel, taken as tokens one by one.
 
-ghost use Rattle.std.specs.Prelude.{◌≡◌, ◌<◌, ◌≤◌, ◌+◌, ◌^◌, length, IfSome, IfNone, IsTrue, ◌↔◌};
-ghost use Rattle.kahn_streams.specs.Network.{network_of, role_at};
-ghost use Rattle.kahn_lane.specs.Places.{lane_name, token_name};
-ghost use Rattle.kahn_streams.specs.Inputs.{Lists, inputs_of, Names};
-ghost use Rattle.kahn_streams.specs.declared.tree.Role.TheVariants.{Input as InputRole};
+ghost use Rattle.std.specs.Prelude.{◌≡◌, ◌<◌, ◌≤◌, ◌+◌, ◌^◌, ◌↔◌};
+ghost use Rattle.kahn_job.specs.inner.Words.{length, IfSome, IfNone, IsTrue, network_of, role_at, lane_name, token_name, Lists, inputs_of, Names, Input as InputRole};
 
 use kahn_streams::{About, Input, Network, Token};
 use std::marker::Model;
@@ -22,10 +19,8 @@ pub(crate) struct Feed {
 impl Model for Feed {
     ghost use Rattle.kahn_streams.specs.contracts.tree.Action as action;
     ghost use Rattle.kahn_streams.specs.contracts.tree.Form as form;
-    ghost use Rattle.kahn_streams.specs.declared.tree.Role.TheVariants.{Input};
-    ghost use Rattle.std.specs.Coded.{codes};
-    ghost use Rattle.std.specs.Prelude.{◌≡◌, ◌<◌, length};
-    ghost use Rattle.kahn_streams.specs.Network.{network_of, role_at};
+    ghost use Rattle.std.specs.Prelude.{◌≡◌, ◌<◌};
+    ghost use Rattle.kahn_job.specs.inner.Words.{Input, codes, length, network_of, role_at};
     ghost use Rattle.kahn_job.specs.inner.Ends.{Feeding};
 
     ghost Value = { Feeding };
@@ -37,44 +32,28 @@ impl Model for Feed {
     ghost invariant = { λ f. (f.channel < length (network_of f.network.value).channels) × (role_at (network_of f.network.value) f.channel ≡ Input) };
 }
 
-// An input channel of the network and the input that are named.
-fn named_feed(_network: &Network, _input: &Input, channel: usize) -> Feed
-    ghost names: { Names }
-    requires inside { channel < length (network_of names.network).channels }
-    requires given { role_at (network_of names.network) channel ≡ InputRole }
-    ensures { result ≡ record { network = names.network; input = names.input; channel = channel; next = 0 } }
-{
-    Feed {
-        network: About::named(),
-        input: About::named(),
-        channel,
-        next: 0,
-    }
-}
-
-// An input of that name.
-fn named_input(_input: &Input) -> About<Input>
-    ghost name: { Lists }
-    ensures { result.value ≡ name }
-{
-    About::named()
-}
-
 impl Feed {
-    /// The list of an input channel, from its first value on.
-    pub(crate) fn new(network: &Network, input: &Input, channel: usize) -> Feed
-        requires inside { channel < length (network_of network.now).channels }
-        requires given { role_at (network_of network.now) channel ≡ InputRole }
-        ensures { result ≡ record { network = network.now; input = input.now; channel = channel; next = 0 } }
+    /// The list of an input channel from its first value on, of the network and the input that are named.
+    pub(crate) fn of(_network: &Network, _input: &Input, channel: usize) -> Feed
+        ghost names: { Names }
+        requires inside { channel < length (network_of names.network).channels }
+        requires given { role_at (network_of names.network) channel ≡ InputRole }
+        ensures { result ≡ record { network = names.network; input = names.input; channel = channel; next = 0 } }
     {
-        named_feed(network, input, channel)
+        Feed {
+            network: About::named(),
+            input: About::named(),
+            channel,
+            next: 0,
+        }
     }
 
-    /// Goes on with the list of another input.
-    pub(crate) fn regrow(&mut self, input: &Input)
-        ensures { self.new ≡ record self.old { input = input.now } }
+    /// Goes on with the list of another input, which is named.
+    pub(crate) fn regrow(&mut self, _input: &Input)
+        ghost name: { Lists }
+        ensures { self.new ≡ record self.old { input = name } }
     {
-        self.input = named_input(input);
+        self.input = About::named();
     }
 
     /// Whether there is a token more.

@@ -1,7 +1,7 @@
 //! The ends of all channels come to the parameters that they are handed to.
 
-ghost use Rattle.std.specs.Prelude.{◌≡◌, ◌+◌, ◌<◌, length, IfOk, IfSome, OnOk};
-ghost use Rattle.kahn_streams.specs.Network.{network_of};
+ghost use Rattle.std.specs.Prelude.{◌≡◌, ◌+◌, ◌<◌};
+ghost use Rattle.kahn_job.specs.inner.Words.{length, IfOk, IfSome, OnOk, network_of};
 ghost use Rattle.kahn_job.specs.inner.Idles.{cells_of, rows_of};
 ghost use Rattle.kahn_job.specs.inner.Lanes.{HasPlace};
 ghost use Rattle.kahn_job.specs.inner.Openings.{AreEndsOf, AreHanded, placed};
@@ -82,7 +82,7 @@ fn hand_each(
 }
 
 /// Hands the ends of all channels to jobs without any: of an inner channel those of a new lane, of an input channel its list.
-/// It refuses only where memory was refused.
+/// It refuses only if memory was refused.
 pub(crate) fn hand_all(
     alloc: Global,
     network: &Network,

@@ -4,7 +4,7 @@ ghost use Rattle.std.specs.Prelude.{◌≡◌, ◌<◌, length, map, slice_index
 ghost use Rattle.kahn_job.specs.inner.Berths.{end_at};
 ghost use Rattle.kahn_job.specs.inner.Works.{width_of};
 
-use crate::copies::lists_of;
+use crate::copies::{copied, kept_of};
 use crate::port::Port;
 use kahn_code::{Cell, Kept};
 use kahn_streams::{Carried, NoMemory};
@@ -13,7 +13,7 @@ use std::marker::Model;
 use std::mem;
 
 /// A cell and the ends of its channels between two runs. It has no hold on the input, which may grow meanwhile. It keeps a
-/// list with a number for each parameter, which whoever runs the job wants again: so going on takes no memory.
+/// list with a number for each parameter, which whoever runs the job wants again: so going on never allocates.
 #[derive(Drop)]
 pub struct Idle {
     pub(crate) cell: Cell,
@@ -25,8 +25,8 @@ pub struct Idle {
 impl Model for Idle {
     ghost use Rattle.kahn_streams.specs.contracts.tree.Action as action;
     ghost use Rattle.kahn_streams.specs.contracts.tree.Form as form;
-    ghost use Rattle.std.specs.Coded.{codes};
-    ghost use Rattle.std.specs.Prelude.{◌≡◌, length};
+    ghost use Rattle.std.specs.Prelude.{◌≡◌};
+    ghost use Rattle.kahn_job.specs.inner.Words.{codes, length};
     ghost use Rattle.kahn_job.specs.inner.Works.{Work, width_of};
 
     ghost Value = { Work };
@@ -78,16 +78,19 @@ impl Idle {
         self.cell.printed()
     }
 
-    /// A copy of what its cell kept. It refuses only where memory was refused.
+    /// A copy of what its cell kept. It refuses only if memory was refused.
     pub fn lists(&self, alloc: Global) -> Result<Kept, NoMemory>
         ensures kept { IfOk result (λ k. map (λ v. v.items) k.kept.items ≡ self.now.cell.kept) }
         ensures printed { IfOk result (λ k. k.printed.items ≡ self.now.cell.printed) }
         ensures parameters { IfOk result (λ k. length k.kept.items ≡ width_of self.now) }
     {
-        lists_of(alloc, &self.cell)
+        let _parameters = self.cell.parameters();
+        let kept = kept_of(alloc, &self.cell)?;
+        let printed = copied(alloc, self.cell.printed())?;
+        Ok(Kept { kept, printed })
     }
 
-    /// What its cell kept, without the job. It takes no memory.
+    /// What its cell kept, without the job. It never allocates.
     pub fn into_lists(self) -> Kept
         ensures kept { map (λ v. v.items) result.kept.items ≡ self.cell.kept }
         ensures printed { result.printed.items ≡ self.cell.printed }

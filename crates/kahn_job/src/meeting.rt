@@ -1,14 +1,15 @@
 //! The two ends of each channel between processes meet, and tell that no reader took more than was flushed.
 
-ghost use Rattle.std.specs.Prelude.{◌≡◌, ℕ, ◌<◌, length};
-ghost use Rattle.kahn_streams.specs.Network.{network_of};
+ghost use Rattle.std.specs.Prelude.{◌≡◌, ◌<◌};
+ghost use Rattle.kahn_job.specs.inner.Words.{ℕ, length, network_of};
 ghost use Rattle.kahn_job.specs.inner.Ends.{IsBehind, MayMeet};
 ghost use Rattle.kahn_job.specs.inner.Idles.{HaveMet, rows_of};
 ghost use Rattle.kahn_job.specs.inner.Lanes.{AreBehindOn, HasPlace, end_of_side};
 ghost use Rattle.kahn_job.specs.inner.Settling.{AreAtRest};
 
-use crate::exchanging::{put_two, take_two};
+use crate::exchanging::exchange_two;
 use crate::idle::Idle;
+use crate::port::Port;
 use kahn_streams::{Network, Side};
 
 // The two ends of a lane meet.
@@ -19,12 +20,12 @@ fn meet_sides(idles: &mut [Idle], writer: Side, reader: Side)
     ensures met { HaveMet idles.old idles.new }
     ensures behind { IsBehind (end_of_side (rows_of idles.old) writer) (end_of_side (rows_of idles.old) reader) }
 {
-    let (mut sender, mut receiver) = take_two(idles, writer, reader);
-    let _waiting = sender.meet(&mut receiver);
-    put_two(idles, writer, sender, reader, receiver);
+    let (sender, receiver) = exchange_two(idles, writer, Port::nothing(), reader, Port::nothing());
+    let (sender, receiver) = sender.meet(receiver);
+    let _none = exchange_two(idles, writer, sender, reader, receiver);
 }
 
-// The two ends of a channel meet, where it has two.
+// The two ends of a channel meet, if it has two.
 fn meet_on(network: &Network, idles: &mut [Idle], channel: usize)
     requires here { channel < length (network_of network.now).channels }
     requires resting { AreAtRest network.now (rows_of idles.old) }
@@ -52,7 +53,7 @@ fn meet_each(network: &Network, idles: &mut [Idle])
 }
 
 /// The two ends of each channel meet, which tells that no reader took more than was flushed. The jobs stay as they are, but for
-/// what their ends know. It takes no memory.
+/// what their ends know. It never allocates.
 pub fn meet(network: &Network, mut idles: Vec<Idle>) -> Vec<Idle>
     requires { AreAtRest network.now (rows_of idles.items) }
     ensures met { HaveMet idles.items result.items }

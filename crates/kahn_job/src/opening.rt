@@ -1,9 +1,8 @@
 //! The jobs of a network before their first events.
 
-ghost use Rattle.std.specs.Prelude.{◌≡◌, ◌<◌, length, IfOk};
-ghost use Rattle.kahn_streams.specs.Network.{network_of};
-ghost use Rattle.kahn_streams.specs.Inputs.{Lists};
-ghost use Rattle.kahn_job.specs.inner.Openings.{HaveNoEnds, AreOpening, HasNoEnds, IsOpening};
+ghost use Rattle.std.specs.Prelude.{◌≡◌, ◌<◌};
+ghost use Rattle.kahn_job.specs.inner.Words.{length, IfOk, network_of, Lists};
+ghost use Rattle.kahn_job.specs.inner.Openings.{HaveNoEnds, AreOpening, HasNoEnds};
 
 use crate::handing::hand_all;
 use crate::idle::Idle;
@@ -12,56 +11,23 @@ use kahn_code::{Cell, Code};
 use kahn_streams::{Input, Network, NoMemory};
 use std::alloc::Global;
 
-// The cell of an instance at its opening, for the input that is named.
-fn named_cell(
-    alloc: Global,
-    network: &Network,
-    code: &Code,
-    instance: usize,
-    watch: Option<usize>,
-    _input: &Input,
-) -> Result<Cell, NoMemory>
-    ghost input: { Lists }
-    requires code { code.now.network.value ≡ network.now }
-    requires here { instance < length (network_of network.now).instances }
-    ensures { IfOk result (IsOpening network.now input watch instance) }
-{
-    match Cell::new(alloc, code, instance, watch) {
-        Ok(cell) => Ok(cell),
-        Err(_) => Err(NoMemory),
-    }
-}
-
-// The cell of an instance at its opening.
-fn opening_cell(
-    alloc: Global,
-    network: &Network,
-    code: &Code,
-    instance: usize,
-    watch: Option<usize>,
-    input: &Input,
-) -> Result<Cell, NoMemory>
-    requires code { code.now.network.value ≡ network.now }
-    requires here { instance < length (network_of network.now).instances }
-    ensures { IfOk result (IsOpening network.now input.now watch instance) }
-{
-    named_cell(alloc, network, code, instance, watch, input)
-}
-
-// The job of an instance before its first event, whose parameters have no ends yet.
+// The job of an instance before its first event, for the input that is named, whose parameters have no ends yet.
 fn bare_job(
     alloc: Global,
     network: &Network,
-    input: &Input,
+    _input: &Input,
     code: &Code,
     instance: usize,
     watch: Option<usize>,
 ) -> Result<Idle, NoMemory>
+    ghost input: { Lists }
     requires code { code.now.network.value ≡ network.now }
     requires here { instance < length (network_of network.now).instances }
-    ensures { IfOk result (HasNoEnds network.now input.now watch instance) }
+    ensures { IfOk result (HasNoEnds network.now input watch instance) }
 {
-    let cell = opening_cell(alloc, network, code, instance, watch, input)?;
+    let Ok(cell) = Cell::new(alloc, code, instance, watch) else {
+        return Err(NoMemory);
+    };
     let parameters = cell.parameters();
     let mut ports = Vec::with_capacity(alloc, parameters)?;
     let mut numbers = Vec::with_capacity(alloc, parameters)?;
@@ -91,7 +57,7 @@ fn bare_jobs(
 }
 
 /// The jobs of all instances before their first events, in order. Each inner channel has a new lane, whose ends are with
-/// the channel's writer and reader. It refuses only where memory was refused.
+/// the channel's writer and reader. It refuses only if memory was refused.
 pub fn jobs(
     alloc: Global,
     network: &Network,

@@ -1,12 +1,8 @@
 //! The end of a channel that a parameter has.
 
-ghost use Rattle.std.specs.Prelude.{◌≡◌, ◌⊎◌, ℕ, ◌<◌, ◌≤◌, ◌+◌, ◌^◌, true, length, Some, IfSome, IfNone, IfOk, IfErr, IsOk, IsSome, IsTrue, IsFalse, OnOk, OnErr, MatchResult};
-ghost use Rattle.kahn_streams.specs.Network.{network_of, role_at};
-ghost use Rattle.kahn_lane.specs.LaneEnds.{SameSender, flushed, left, sender_lane, sender_name, sent};
-ghost use Rattle.kahn_lane.specs.Places.{moved_to, token_name};
-ghost use Rattle.kahn_lane.specs.declared.name.LaneName.{LaneName};
-ghost use Rattle.kahn_streams.specs.declared.tree.Role.TheVariants.{Input as InputRole};
-ghost use Rattle.kahn_job.specs.inner.Ends.{Advances, FlushesFull, HasRoom, IsDry, IsFlushed, IsReady, IsSame, MayMeet, ShareLane};
+ghost use Rattle.std.specs.Prelude.{◌≡◌, ◌⊎◌, ◌<◌, ◌+◌, ◌^◌};
+ghost use Rattle.kahn_job.specs.inner.Words.{ℕ, true, length, Some, IfSome, IfNone, IsOk, IsSome, IsTrue, IsFalse, OnOk, OnErr, MatchResult, network_of, role_at, flushed, left, moved_to, token_name, LaneName, Input as InputRole};
+ghost use Rattle.kahn_job.specs.inner.Ends.{Advances, FlushesFull, HasRoom, IsBehind, IsDry, IsFlushed, IsReady, IsSame, MayMeet, ShareLane};
 ghost use Rattle.kahn_job.specs.inner.Berths.{HasStayed, IsWithinInput, IsFor};
 ghost use Rattle.kahn_job.specs.inner.Settling.{BothSettle, CanFeed, CanSettle, HasSettled};
 ghost use Rattle.kahn_job.specs.inner.Ways.{taking, feeding, putting, no_end};
@@ -69,9 +65,8 @@ impl Port {
         ensures { result ≡ taking receiver (left receiver) }
     {
         let asked = left_of(&receiver);
-        Port {
-            way: Way::Takes(receiver, asked),
-        }
+        let way = Way::Takes(receiver, asked);
+        Port { way }
     }
 
     /// The list of an input channel, from its first value on.
@@ -80,18 +75,16 @@ impl Port {
         requires given { role_at (network_of network.now) channel ≡ InputRole }
         ensures { result ≡ feeding (record { network = network.now; input = input.now; channel = channel; next = 0 }) }
     {
-        Port {
-            way: Way::Feeds(Feed::new(network, input, channel)),
-        }
+        let way = Way::Feeds(Feed::of(network, input, channel));
+        Port { way }
     }
 
     /// The writer's end of a lane.
     pub(crate) fn puts(sender: Sender) -> Port
         ensures { result ≡ putting sender }
     {
-        Port {
-            way: Way::Puts(sender),
-        }
+        let way = Way::Puts(sender);
+        Port { way }
     }
 
     /// No end.
@@ -101,7 +94,7 @@ impl Port {
         Port { way: Way::Nothing }
     }
 
-    /// Whether the next `take` gives a token. It takes no memory.
+    /// Whether the next `take` gives a token. It never allocates.
     pub(crate) fn ready(&mut self, _network: &Network, input: &Input) -> bool
         requires reads { self.old.reads ≡ true }
         requires of { IsFor _network.now input.now self.old }
@@ -120,12 +113,11 @@ impl Port {
                 receiver.ready()
             }
             Way::Feeds(feed) => feed.is_ready(input),
-            Way::Puts(_) => false,
-            Way::Nothing => false,
+            _ => false,
         }
     }
 
-    /// The token of the next place. It takes no memory.
+    /// The token of the next place. It never allocates.
     pub(crate) fn take(&mut self, network: &Network, input: &Input) -> Option<Token>
         requires reads { self.old.reads ≡ true }
         requires of { IsFor network.now input.now self.old }
@@ -146,13 +138,12 @@ impl Port {
                 receiver.take()
             }
             Way::Feeds(feed) => feed.take(network, input),
-            Way::Puts(_) => None,
-            Way::Nothing => None,
+            _ => None,
         }
     }
 
-    /// Makes room for one token. Where the open segment is full it is flushed first. Where there is room already it takes no
-    /// memory.
+    /// Makes room for one token. If the open segment is full it is flushed first. If there is room already it never
+    /// allocates.
     pub(crate) fn room(&mut self) -> Result<(), NoMemory>
         requires { self.old.writes ≡ true }
         ensures same { IsSame self.old self.new }
@@ -164,15 +155,13 @@ impl Port {
         ensures keeps { IsReady self.old → IsReady self.new }
         ensures rooms { HasRoom self.old → HasRoom self.new }
     {
-        match &mut self.way {
-            Way::Takes(_, _) => Ok(()),
-            Way::Feeds(_) => Ok(()),
-            Way::Puts(sender) => sender.room(),
-            Way::Nothing => Ok(()),
-        }
+        let Way::Puts(sender) = &mut self.way else {
+            unreachable!()
+        };
+        sender.room()
     }
 
-    /// Puts the token of the next place. It takes no memory.
+    /// Puts the token of the next place. It never allocates.
     pub(crate) fn put(&mut self, token: Token)
         requires writes { self.old.writes ≡ true }
         requires bound { self.old.next < 2 ^ 48 }
@@ -183,12 +172,10 @@ impl Port {
         ensures moved { (self.new.next ≡ self.old.next + 1) × (self.new.flushed ≡ self.old.flushed) }
         ensures keeps { IsReady self.old → IsReady self.new }
     {
-        match &mut self.way {
-            Way::Takes(_, _) => {}
-            Way::Feeds(_) => {}
-            Way::Puts(sender) => sender.put(token),
-            Way::Nothing => {}
-        }
+        let Way::Puts(sender) = &mut self.way else {
+            unreachable!()
+        };
+        sender.put(token);
     }
 
     /// Flushes what was put, so that the reader can take it. A refusal leaves the tokens in the open segment.
@@ -200,18 +187,13 @@ impl Port {
         ensures all { (self.new.flushed ≡ self.old.flushed) ⊎ (self.new.flushed ≡ self.new.next) }
         ensures room { HasRoom self.old → HasRoom self.new }
     {
-        match &mut self.way {
-            Way::Takes(_, _) => {}
-            Way::Feeds(_) => {}
-            Way::Puts(sender) => {
-                sender.flush()?;
-            }
-            Way::Nothing => {}
+        if let Way::Puts(sender) = &mut self.way {
+            sender.flush()?;
         }
         Ok(())
     }
 
-    /// Goes on with the list of another input, where it is the end of an input channel. It takes no memory.
+    /// Goes on with the list of another input. It is the end of an input channel. It never allocates.
     pub(crate) fn regrow(&mut self, input: &Input)
         requires { CanFeed input.now self.old }
         ensures { (n : LaneName) → self.old.name ≡ Some n → HasSettled (moved_to input.now n) self.old self.new }
@@ -222,58 +204,39 @@ impl Port {
         feed.regrow(input);
     }
 
-    /// With the reader's end of its lane: the two ends of a lane for an input that has grown. Where memory is refused both
+    /// With the reader's end of its lane: the two ends of a lane for an input that has grown. If memory is refused both
     /// come back as they were.
-    pub(crate) fn settle(
-        self,
-        reader: Port,
-        input: &Input,
-    ) -> Result<(Port, Port), (NoMemory, Port, Port)>
+    pub(crate) fn settle(self, reader: Port, input: &Input) -> (Port, Port, Result<(), NoMemory>)
         requires { CanSettle input.now self reader }
-        ensures lane { IfOk result (λ r. ShareLane r.0 r.1) }
-        ensures settled { IfOk result (λ r. (n : LaneName) → self.name ≡ Some n → BothSettle (moved_to input.now n) self reader r.0 r.1) }
-        ensures refused { IfErr result (λ e. (e.1 ≡ self) × (e.2 ≡ reader)) }
+        ensures lane { OnOk result.2 (ShareLane result.0 result.1) }
+        ensures settled { OnOk result.2 ((n : LaneName) → self.name ≡ Some n → BothSettle (moved_to input.now n) self reader result.0 result.1) }
+        ensures refused { OnErr result.2 ((result.0 ≡ self) × (result.1 ≡ reader)) }
     {
         let (Way::Puts(sender), Way::Takes(receiver, asked)) = (self.way, reader.way) else {
             unreachable!()
         };
         match settle(sender, receiver, input) {
-            Ok((sender, receiver)) => Ok((Port::puts(sender), Port::takes(receiver))),
+            Ok((sender, receiver)) => (Port::puts(sender), Port::takes(receiver), Ok(())),
             Err((fault, sender, receiver)) => {
                 let way = Way::Takes(receiver, asked);
-                Err((fault, Port::puts(sender), Port { way }))
+                (Port::puts(sender), Port { way }, Err(fault))
             }
         }
     }
 
-    /// With the reader's end of its lane in one thread: how many tokens were flushed and not taken, which are no fewer than
-    /// those at hand. It takes no memory.
-    pub(crate) fn meet(&mut self, reader: &mut Port) -> u64
-        requires { MayMeet self.old reader.old }
-        ensures writer { HasStayed self.old self.new }
-        ensures reader { HasStayed reader.old reader.new }
-        ensures count { reader.old.next + result ≡ self.old.flushed }
-        ensures held { reader.old.waiting ≤ result }
+    /// With the reader's end of its lane in one thread: both ends again, and that no more was taken than was flushed. It never
+    /// allocates.
+    pub(crate) fn meet(self, reader: Port) -> (Port, Port)
+        requires { MayMeet self reader }
+        ensures stayed { HasStayed self result.0 × HasStayed reader result.1 }
+        ensures behind { IsBehind self reader }
     {
-        let Way::Puts(sender) = &mut self.way else {
+        let (Way::Puts(mut sender), Way::Takes(mut receiver, asked)) = (self.way, reader.way) else {
             unreachable!()
         };
-        reader.meet_sender(sender)
-    }
-
-    // The same, where this is the reader's end.
-    fn meet_sender(&mut self, sender: &mut Sender) -> u64
-        requires reads { self.old.reads ≡ true }
-        requires lane { self.old.lane ≡ Some (sender_lane sender.old) }
-        ensures writer { SameSender sender.old sender.new × (sent sender.new ≡ sent sender.old) × (flushed sender.new ≡ flushed sender.old) }
-        ensures reader { HasStayed self.old self.new }
-        ensures count { self.old.next + result ≡ flushed sender.old }
-        ensures held { self.old.waiting ≤ result }
-    {
-        let Way::Takes(receiver, _) = &mut self.way else {
-            unreachable!()
-        };
-        meet(sender, receiver)
+        let _waiting = meet(&mut sender, &mut receiver);
+        let way = Way::Takes(receiver, asked);
+        (Port::puts(sender), Port { way })
     }
 
     /// Says that of an input channel no more is ready than its list has: its contract is what it does.
@@ -284,7 +247,7 @@ impl Port {
         let _way = &self.way;
     }
 
-    /// The place of the next token. It takes no memory.
+    /// The place of the next token. It never allocates.
     pub(crate) fn next(&self) -> u64
         ensures { result ≡ self.now.next }
     {
@@ -296,15 +259,13 @@ impl Port {
         }
     }
 
-    /// How many tokens were flushed. It takes no memory.
+    /// How many tokens were flushed. It never allocates.
     pub(crate) fn flushed(&self) -> u64
         ensures { result ≡ self.now.flushed }
     {
         match &self.way {
-            Way::Takes(_, _) => 0,
-            Way::Feeds(_) => 0,
             Way::Puts(sender) => sender.flushed(),
-            Way::Nothing => 0,
+            _ => 0,
         }
     }
 }

@@ -1,8 +1,8 @@
 //! The ends of the channels of an instance.
 
-ghost use Rattle.std.specs.Prelude.{◌≡◌, true, length, OnOk};
-ghost use Rattle.kahn_job.specs.inner.Berths.{AreFlushed, AreServed, HaveFlushed, Serves-prop};
-ghost use Rattle.std.proofs.Props.{props};
+ghost use Rattle.kahn_job.specs.inner.Words.{ℕ, OnOk, props};
+ghost use Rattle.kahn_job.specs.inner.Berths.{AreServed, HaveFlushed, Serves-prop, end_at};
+ghost use Rattle.kahn_job.specs.inner.Ends.{IsFlushed};
 
 use crate::port::Port;
 use kahn_code::Ports;
@@ -24,7 +24,7 @@ impl<'a> Ports for Ends<'a> {
     ghost use Rattle.kahn_job.specs.inner.Berths.{end_at, identities};
     ghost use Rattle.kahn_job.specs.inner.Ends.{Identity, IsReady, IsDry, HasRoom};
 
-    ghost seat = { λ s. record { network = s.network.now; input = s.input.now; instance = s.instance } };
+    ghost site = { λ s. record { network = s.network.now; input = s.input.now; instance = s.instance } };
 
     ghost next = { λ s q. (end_at s.ports.now.items q).next };
 
@@ -70,7 +70,7 @@ impl<'a> Ports for Ends<'a> {
 /// tokens where they are.
 pub(crate) fn flush_all(ports: &mut [Port]) -> Result<(), NoMemory>
     ensures each { HaveFlushed ports.old ports.new }
-    ensures all { OnOk result (AreFlushed ports.new) }
+    ensures all { OnOk result ((q : ℕ) → IsFlushed (end_at ports.new q)) }
 {
     for parameter in 0..ports.len() {
         ports[parameter].flush()?;

@@ -1,12 +1,12 @@
 //! The ends of all channels go on with an input that has grown.
 
-ghost use Rattle.std.specs.Prelude.{◌≡◌, ◌<◌, length, OnOk};
-ghost use Rattle.kahn_streams.specs.Network.{network_of};
+ghost use Rattle.std.specs.Prelude.{◌≡◌, ◌<◌};
+ghost use Rattle.kahn_job.specs.inner.Words.{length, OnOk, network_of};
 ghost use Rattle.kahn_job.specs.inner.Idles.{HaveSettled, cells_of, rows_of};
 ghost use Rattle.kahn_job.specs.inner.Lanes.{HasPlace, end_of_side};
 ghost use Rattle.kahn_job.specs.inner.Settling.{GoesOrStays, AreResting, AreSettled, CanFeed, CanSettle, HasExchanged, HaveExchanged, HaveStood};
 
-use crate::exchanging::{exchange, put_two, take_two};
+use crate::exchanging::{exchange, exchange_two};
 use crate::idle::Idle;
 use crate::port::Port;
 use kahn_streams::{Input, Network, NoMemory, Side};
@@ -24,17 +24,10 @@ fn settle_lane(
     ensures ends { GoesOrStays result (HaveExchanged input.now writer reader) (rows_of idles.old) (rows_of idles.new) }
     ensures cells { cells_of idles.new ≡ cells_of idles.old }
 {
-    let (sender, receiver) = take_two(idles, writer, reader);
-    match sender.settle(receiver, input) {
-        Ok((sender, receiver)) => {
-            put_two(idles, writer, sender, reader, receiver);
-            Ok(())
-        }
-        Err((fault, sender, receiver)) => {
-            put_two(idles, writer, sender, reader, receiver);
-            Err(fault)
-        }
-    }
+    let (sender, receiver) = exchange_two(idles, writer, Port::nothing(), reader, Port::nothing());
+    let (sender, receiver, settled) = sender.settle(receiver, input);
+    let _none = exchange_two(idles, writer, sender, reader, receiver);
+    settled
 }
 
 // The list of an input channel is that of the input from now on.
@@ -49,7 +42,7 @@ fn settle_feed(idles: &mut [Idle], reader: Side, input: &Input)
     let _none = exchange(idles, reader, port);
 }
 
-// The ends of a channel go on with the input. Where memory is refused they stay as they are.
+// The ends of a channel go on with the input. If memory is refused they stay as they are.
 fn settle_channel(
     network: &Network,
     input: &Input,
@@ -62,18 +55,20 @@ fn settle_channel(
     ensures cells { cells_of idles.new ≡ cells_of idles.old }
 {
     let _program = network.program();
-    match (network.writer(channel), network.reader(channel)) {
-        (Some(writer), Some(reader)) => settle_lane(idles, writer, reader, input),
-        (None, Some(reader)) => {
-            settle_feed(idles, reader, input);
-            Ok(())
-        }
-        (_, None) => Ok(()),
+    match network.reader(channel) {
+        None => Ok(()),
+        Some(reader) => match network.writer(channel) {
+            Some(writer) => settle_lane(idles, writer, reader, input),
+            None => {
+                settle_feed(idles, reader, input);
+                Ok(())
+            }
+        },
     }
 }
 
 /// The ends of all channels go on with an input whose lists begin with those of theirs. Each stands where it stood, and all
-/// that was put is flushed. Where memory is refused, those that went on already look the same to every call.
+/// that was put is flushed. If memory is refused, those that went on already look the same to every call.
 pub fn settle(network: &Network, input: &Input, idles: &mut [Idle]) -> Result<(), NoMemory>
     requires { AreResting network.now input.now (rows_of idles.old) }
     ensures settled { OnOk result (HaveSettled network.now input.now (rows_of idles.new)) }

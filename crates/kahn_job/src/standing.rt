@@ -25,8 +25,7 @@ impl Standing {
         ensures { result ≡ standing_after pause }
     {
         match pause {
-            Pause::Spent => Standing::Going,
-            Pause::NoMemory => Standing::Going,
+            Pause::Spent | Pause::NoMemory => Standing::Going,
             Pause::Ended => Standing::Ended,
             Pause::Fault(failure) => Standing::Faulted(failure),
             Pause::Dry(parameter) => Standing::Dry(parameter),

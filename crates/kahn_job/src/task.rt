@@ -1,10 +1,7 @@
 //! A task: a job on its way, with what the workers have to know of it.
 
-ghost use Rattle.std.specs.Prelude.{◌≡◌, ℕ, ◌+◌, ◌*◌, ◌^◌, ◌<◌, ◌≤◌, length, slice_set, OnOk};
-ghost use Rattle.kahn_streams.specs.Network.{network_of, instance_at};
-ghost use Rattle.kahn_code.specs.Seats.{seat_code};
-ghost use Rattle.kahn_code.specs.Standing.{count};
-ghost use Rattle.kahn_code.specs.Told.{AreCounts, seat_of};
+ghost use Rattle.std.specs.Prelude.{◌≡◌, ◌+◌, ◌*◌, ◌^◌, ◌<◌, ◌≤◌};
+ghost use Rattle.kahn_job.specs.inner.Words.{length, slice_set, OnOk, network_of, instance_at, site_code, count, AreCounts, site_of};
 ghost use Rattle.kahn_job.specs.inner.Berths.{HaveFlushed, IsWithinInput, end_at};
 ghost use Rattle.kahn_job.specs.inner.Idles.{CanGoOn};
 ghost use Rattle.kahn_job.specs.inner.Tasks.{Continues, IsTrueOf, standing_after, woken_task};
@@ -60,7 +57,7 @@ fn sent_into(cell: &Cell, mut numbers: Vec<u64>) -> Vec<u64>
 
 impl Task {
     /// The task of an idle job that goes on with an input for which its ends have settled. All that it sent counts as
-    /// published. It takes no memory.
+    /// published. It never allocates.
     pub fn woken(idle: Idle, input: &Input) -> Task
         requires { CanGoOn input.now idle }
         ensures { result ≡ woken_task input.now idle }
@@ -82,7 +79,7 @@ impl Task {
         }
     }
 
-    /// The job of the task, on which nobody works any more. It takes no memory.
+    /// The job of the task, on which nobody works any more. It never allocates.
     pub fn rest(self) -> Idle
         ensures same { result ≡ self.work }
         ensures job { IsJob result }
@@ -90,8 +87,8 @@ impl Task {
         Idle::new(self.cell, self.instance, self.ports, self.published)
     }
 
-    /// Runs for at most so many events, on the network and the input of its process. What it sent may stand in open segments
-    /// until `flush`. With a quantum of 0 it only says what comes next, and takes no memory. A task whose process has ended
+    /// Runs for at most `quantum` events, on the network and the input of its process. What it sent may stand in open segments
+    /// until `flush`. With a quantum of 0 it only says what comes next, and never allocates. A task whose process has ended
     /// or faulted says so again.
     pub fn run<L: Ledger>(
         &mut self,
@@ -110,7 +107,7 @@ impl Task {
         ensures standing { self.new.standing ≡ standing_after result }
         ensures published { self.new.published ≡ self.old.published }
         // How many instructions were executed.
-        ensures cost { steps.new ≤ steps.old + (quantum + 1) * length (seat_code (seat_of self.old.work.cell)) }
+        ensures cost { steps.new ≤ steps.old + (quantum + 1) * length (site_code (site_of self.old.work.cell)) }
     {
         let mut ends = Ends {
             network,
@@ -178,7 +175,7 @@ impl Task {
         self.cell.sent(parameter)
     }
 
-    /// How many tokens it flushed on a parameter, also after a refusal. It takes no memory.
+    /// How many tokens it flushed on a parameter, also after a refusal. It never allocates.
     pub fn flushed(&self, parameter: usize) -> u64
         requires { parameter < length self.now.work.ends }
         ensures { result ≡ (end_at self.now.work.ends parameter).flushed }
@@ -194,7 +191,7 @@ impl Task {
         self.published[parameter]
     }
 
-    /// Marks so many tokens of a parameter as published.
+    /// Marks that number of tokens of a parameter as published.
     pub fn mark(&mut self, parameter: usize, number: u64)
         requires { parameter < length self.old.published }
         ensures { self.new ≡ record { work = self.old.work; standing = self.old.standing; published = slice_set self.old.published parameter number } }

@@ -20,19 +20,19 @@ use Rattle.kahn_line.specs.declared.live.LiveOptions.{LiveOptions}
 use Rattle.kahn_line.proofs.Asked.{ParsedAs, apart, known, passed}
 
 quantum_parsed : ParsedAs live_app.top.rules (codes "quantum") (Unsigned 1 1000000)
-quantum_parsed = (apart, ((λ e. refl), (apart, (apart, (apart, (apart, (apart, tt)))))))
+quantum_parsed = (apart, ((λ e. refl), (apart, (apart, (apart, (apart, (apart, (apart, tt))))))))
 
 step_parsed : ParsedAs live_app.top.rules (codes "step") (Unsigned 1 281474976710655)
-step_parsed = (apart, (apart, ((λ e. refl), (apart, (apart, (apart, (apart, tt)))))))
+step_parsed = (apart, (apart, ((λ e. refl), (apart, (apart, (apart, (apart, (apart, tt))))))))
 
 -- the options that are made of what a parse found are those that the words ask for
 pub asked_live : (cmd : Command) (m : ArgMatches) (words : List Text) → IsParsedFrom cmd m → HasMatchesOf (app_of cmd) (joined_words words) m → app_of cmd ≡ live_app
     → (o : LiveOptions) → option_map string_bytes o.program ≡ first_value (found_of m) (codes "PROGRAM") → (c : Config) → IsSet (found_of m) 1 (codes "step") c → o.config ≡ record c { workers = 1 }
-    → o.keep_going ≡ was_given (first_value (found_of m) (codes "keep-going"))
+    → o.keep_going ≡ was_given (first_value (found_of m) (codes "keep-going")) → o.strict ≡ was_given (first_value (found_of m) (codes "strict"))
     → map string_bytes o.at_end.items ≡ map (set_line (input_named o.plain)) (found_texts (found_of m) (codes "at-end"))
     → option_map plain_parts o.plain ≡ option_map (parted 44) (first_value (found_of m) (codes "plain"))
     → IsLive words o
-asked_live cmd m words p matches is o program c set e keep at_end plain =
+asked_live cmd m words p matches is o program c set e keep strict at_end plain =
     let f = found_of m in
     let rows : rows_of f ≡ live_matches words = (matches (ap is_simple is)).0 ∙ ap (λ (a : App). matches_of a (joined_words words)) is in
     let text : (id : Text) → first_value f id ≡ live_text words id = λ id. first_value-rows f id ∙ ap (first_of id) rows in
@@ -49,6 +49,7 @@ asked_live cmd m words p matches is o program c set e keep at_end plain =
       quantum = ap (λ (x : Config). x.quantum) e ∙ quantum.0 ∙ ap (number_or 1000) (one (codes "quantum"));
       step = ap (λ (x : Config). x.bound) e ∙ step.0 ∙ ap (number_or 1000000) (one (codes "step"));
       keep_going = keep ∙ ap was_given (text (codes "keep-going"));
+      strict = strict ∙ ap was_given (text (codes "strict"));
       at_end = at_end ∙ ap (λ rs. map (set_line (input_named o.plain)) (row_texts (codes "at-end") rs)) rows;
       plain = plain ∙ ap (option_map (parted 44)) (text (codes "plain"));
       in_range = subst (λ (x : Config). IsInRange x.workers x.quantum x.bound) (sym e) (omega arith, omega arith, quantum.1, quantum.2, omega arith);

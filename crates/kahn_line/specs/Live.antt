@@ -17,12 +17,13 @@ at_end_rule = record (text_rule (codes "at-end")) { action = Some Append }
 -- the program text's path without a name, which is there, and the options
 abbrev pub live_app : App
 live_app =
-    with_rule (with_rule (with_rule (with_rule (with_rule (with_rule (with_rule (bare_app (codes "kahn_live"))
+    with_rule (with_rule (with_rule (with_rule (with_rule (with_rule (with_rule (with_rule (bare_app (codes "kahn_live"))
     (record (new_rule (codes "PROGRAM")) { required = true }))
     (number_rule (codes "quantum") 1 1000000 (codes "1000")))
     (number_rule (codes "step") 1 281474976710655 (codes "1000000")))
     (text_rule (codes "watch")))
     (flag_rule (codes "keep-going")))
+    (flag_rule (codes "strict")))
     at_end_rule)
     (text_rule (codes "plain"))
 
@@ -54,6 +55,7 @@ pub record IsLive (words : List Text) (o : LiveOptions) : Type 0 where
   pub quantum : o.config.quantum ≡ live_number words (codes "quantum") 1000
   pub step : o.config.bound ≡ live_number words (codes "step") 1000000
   pub keep_going : o.keep_going ≡ live_flag words (codes "keep-going")
+  pub strict : o.strict ≡ live_flag words (codes "strict")
   pub at_end : map string_bytes o.at_end.items ≡ map (set_line (input_named o.plain)) (live_texts words (codes "at-end"))
   -- 44 is the comma
   pub plain : option_map plain_parts o.plain ≡ option_map (parted 44) (live_text words (codes "plain"))

@@ -61,7 +61,9 @@ Exit status:
   3  the end was reached, but the last part used up its step
   4  no memory
   5  a file or standard input can't be read, the program isn't UTF-8, or the lines can't be written
-  6  run refused: a channel named in an option doesn't exist, or isn't an input";
+  6  run refused: a channel named in an option doesn't exist, or isn't an input
+  7  with --strict: the end was reached, and processes wait on one another in a ring
+  8  with --strict: the end was reached, and a process has a fault of arithmetic";
 
 /// What the command line asks for.
 #[derive(Debug, Drop)]
@@ -72,6 +74,8 @@ pub struct LiveOptions {
     pub config: Config,
     /// Whether lines that are refused leave the status as it is.
     pub keep_going: bool,
+    /// Whether a fault of a process, or processes that wait on one another, have a status of their own.
+    pub strict: bool,
     /// The lines that are fed once the input has ended, in this order.
     pub at_end: Vec<String>,
     /// The channels whose values stand alone in the lines of input and output, where they do.
@@ -133,6 +137,11 @@ fn live_command<'a>(alloc: Global) -> Result<Command<'a>, AllocError>
             "keep-going",
             "Leaves the status 0 even if lines were refused",
         ))?
+        .arg(flag_arg(
+            alloc,
+            "strict",
+            "Ends with 8 if a process has a fault of arithmetic, and else with 7 if processes wait on one another",
+        ))?
         .arg(at_end_arg(alloc))?
         .arg(plain_arg(alloc))
 }
@@ -167,6 +176,7 @@ pub fn read_live_line<'a, S: AsStr>(alloc: Global, words: &'a [S]) -> Result<Liv
             ..config_of(alloc, &matches, 1, "step")?
         },
         keep_going: was_given(matches.get_str("keep-going")),
+        strict: was_given(matches.get_str("strict")),
         at_end: lines_at_end(alloc, &matches, &plain)?,
         plain,
     })

@@ -61,9 +61,9 @@ set_up plain t config first (Ok s) opened formed = (first, opened, formed)
 set_up plain t config first (Err f) opened formed = inr (first, opened, formed)
 
 -- the same lines, behind the same bytes
-pub served_as : (named input : Option (List ℕ)) (at_end : List (List ℕ)) (s : Live) (text before out : Option (List ℕ)) (old : Telling) (last : Point) (r : Result Ending Fault)
-    → named ≡ input → before ≡ out → HasServed (record { input = named; at_end = at_end }) r text (record { session = s; out = before; told = old }) last
-    → HasServed (record { input = input; at_end = at_end }) r text (record { session = s; out = out; told = old }) last
-served_as named input at_end s text before out old last r is same served =
-    subst (λ (n : Option (List ℕ)). HasServed (record { input = n; at_end = at_end }) r text (record { session = s; out = out; told = old }) last) is
-    (subst (λ (o : Option (List ℕ)). HasServed (record { input = named; at_end = at_end }) r text (record { session = s; out = o; told = old }) last) same served)
+pub served_as : (strict : Bool) (named input : Option (List ℕ)) (at_end : List (List ℕ)) (s : Live) (text before out : Option (List ℕ)) (old : Telling) (last : Point) (r : Result Ending Fault)
+    → named ≡ input → before ≡ out → HasServed strict (record { input = named; at_end = at_end }) r text (record { session = s; out = before; told = old }) last
+    → HasServed strict (record { input = input; at_end = at_end }) r text (record { session = s; out = out; told = old }) last
+served_as strict named input at_end s text before out old last r is same served =
+    subst (λ (n : Option (List ℕ)). HasServed strict (record { input = n; at_end = at_end }) r text (record { session = s; out = out; told = old }) last) is
+    (subst (λ (o : Option (List ℕ)). HasServed strict (record { input = named; at_end = at_end }) r text (record { session = s; out = o; told = old }) last) same served)

@@ -47,6 +47,8 @@ pub record Complaints : Type 0 where
   pub hinted : Bool
   -- whether it was told that a line wants more events than a part may do
   pub stepped : Bool
+  -- whether it was told that the part of a line waits for memory
+  pub waited : Bool
 
 -- what is told on standard error
 pub record Telling : Type 0 where
@@ -61,7 +63,7 @@ pub record Telling : Type 0 where
   pub complaints : Complaints
 
 abbrev pub complaints_of : {E : Type 0} → Teller E → Complaints
-complaints_of t = record { last = t.last; first = t.first; number = t.number; hinted = t.hinted; stepped = t.stepped }
+complaints_of t = record { last = t.last; first = t.first; number = t.number; hinted = t.hinted; stepped = t.stepped; waited = t.waited }
 
 abbrev pub telling_of : {E : Type 0} → (E → Option (List ℕ)) → Teller E → Telling
 telling_of contents t = record {
@@ -144,7 +146,7 @@ IsNewPut known number f part hint old new = WasToldOf (refusal_text old.path num
 
 abbrev pub IsNewTold : ℕ → TakeFault → Part → Option (List ℕ) → Telling → Telling → Type 0
 IsNewTold number f part hint old new =
-    IsNewPut (record { last = Some f; first = number; number = number; hinted = is_hinted hint old.complaints.hinted; stepped = old.complaints.stepped }) number f part hint old new
+    IsNewPut (record old.complaints { last = Some f; first = number; number = number; hinted = is_hinted hint old.complaints.hinted }) number f part hint old new
 
 -- the line was told of, or counted
 abbrev pub IsComplaintBy : Bool → ℕ → TakeFault → Part → Option (List ℕ) → Telling → Telling → Type 0
@@ -226,18 +228,30 @@ abbrev pub is_step_new : Complaints → List ℕ → Bool
 is_step_new k [] = false
 is_step_new k (b ∷ bs) = not k.stepped
 
-abbrev pub IsStepToldBy : Bool → ℕ → Telling → Telling → Type 0
-IsStepToldBy true number old new = WasToldOf (stepped_text old.path number) false (record old.complaints { stepped = true }) old new
-IsStepToldBy false number old new = new ≡ old
+abbrev pub IsStepPut : ℕ → Telling → Telling → Type 0
+IsStepPut number old new = WasToldOf (stepped_text old.path number) false (record old.complaints { stepped = true }) old new
+
+-- that the part of the line waits for memory was told
+abbrev pub IsWaitPut : ℕ → Telling → Telling → Type 0
+IsWaitPut number old new = WasToldOf (waiting_text old.path number) false (record old.complaints { waited = true }) old new
+
+-- this was told where it is new
+abbrev pub IsPutWhere : Bool → (Telling → Telling → Type 0) → Telling → Telling → Type 0
+IsPutWhere true put old new = put old new
+IsPutWhere false put old new = new ≡ old
 
 abbrev pub IsStepTold : ℕ → List ℕ → Telling → Telling → Type 0
-IsStepTold number line old new = IsStepToldBy (is_step_new old.complaints line) number old new
+IsStepTold number line old new = IsPutWhere (is_step_new old.complaints line) (IsStepPut number) old new
+
+-- once in a run
+abbrev pub IsWaitTold : ℕ → Telling → Telling → Type 0
+IsWaitTold number old new = IsPutWhere (not old.complaints.waited) (IsWaitPut number) old new
 
 -- what is told of a line with this answer
 abbrev pub IsToldBy : Live → ℕ → List ℕ → Result Verdict TakeFault → Telling → Telling → Type 0
 IsToldBy s number line (Ok Finished) old new = new ≡ old
 IsToldBy s number line (Ok Bound) old new = IsStepTold number line old new
-IsToldBy s number line (Ok Memory) old new = WasTold (waiting_text old.path number) old new
+IsToldBy s number line (Ok Memory) old new = IsWaitTold number old new
 IsToldBy s number line (Err f) old new = IsRefused s number line f old new × (breaks f ≡ false)
 
 -- what the session made of the line; what is new may have been sent

@@ -21,9 +21,11 @@ use Rattle.kahn_fault.specs.declared.fault.Fault.TheVariants.{Work}
 use Rattle.kahn_line.specs.declared.live.LiveOptions.{LiveOptions}
 use Rattle.kahn_line.specs.declared.parts.Plain.{Plain}
 use Rattle.kahn_session.specs.Refusals.{unknown_text}
-use Rattle.kahn_session.specs.Live.{HasOpened, IsClosed, IsFaulty, IsFirstInput, IsLastText, IsStreamOf, IsStuck, IsUnopened, HasVerdict, Live}
+use Rattle.kahn_session.specs.Live.{HasOpened, IsClosed, IsFaulty, IsFirstInput, IsLastText, IsRinged, IsStreamOf, IsStuck, IsUnopened, HasVerdict, Live}
 use Rattle.kahn_live.specs.Course.{AreAllMet, LinesGiven, HasSent, HasWaited, IsMoreTold, IsWriteFault, Point, Telling, WasTold, no_memory, telling_of}
 use Rattle.kahn_live.specs.declared.running.Asked.{Asked}
+use Rattle.kahn_live.specs.declared.serving.Amiss.{Amiss}
+use Rattle.kahn_live.specs.declared.serving.Amiss.TheVariants.{Faulted, Ringed}
 use Rattle.kahn_live.specs.declared.serving.Ending.{Ending}
 use Rattle.kahn_live.specs.declared.serving.Ending.TheVariants.{Reached, Gone, NoChannel}
 use Rattle.kahn_live.specs.declared.telling.Teller.{Teller}
@@ -58,11 +60,26 @@ IsSetUp plain t config (Err f) = IsUnopened t config f ⊎ ((first : Live) × Ha
 
 -- ---- the end
 
+-- what is amiss with a run, where it is judged: a fault of a process, or else processes that wait on one another; or memory was
+-- refused for that
+abbrev pub IsJudged : Bool → HeldRun → Result (Option Amiss) Fault → Type 0
+IsJudged false h r = r ≡ Ok None
+IsJudged true h (Ok (Some Faulted)) = IsFaulty h true
+IsJudged true h (Ok (Some Ringed)) = IsFaulty h false × IsRinged h true
+IsJudged true h (Ok None) = IsFaulty h false × IsRinged h false
+IsJudged true h (Err fault) = fault ≡ no_memory
+
+-- the status of a run with this verdict of which that is amiss
+abbrev pub reached_status : Option Amiss → Bool → Verdict → ℕ
+reached_status (Some Faulted) refused v = 8
+reached_status (Some Ringed) refused v = 7
+reached_status None refused v = live_status_of refused (Ok v)
+
 -- whether it is told how the run ended, where values stand alone: where the status isn't 0, a process has a fault, or no line can
 -- change the run any more though a process waits
-abbrev pub IsEndWanted : HeldRun → Bool → Verdict → Bool → Type 0
-IsEndWanted h refused v true = (live_status_of refused (Ok v) ≡ 0 → ⊥) ⊎ (IsFaulty h true ⊎ IsStuck h true)
-IsEndWanted h refused v false = (live_status_of refused (Ok v) ≡ 0) × IsFaulty h false × IsStuck h false
+abbrev pub IsEndWanted : HeldRun → Option Amiss → Bool → Verdict → Bool → Type 0
+IsEndWanted h amiss refused v true = (reached_status amiss refused v ≡ 0 → ⊥) ⊎ (IsFaulty h true ⊎ IsStuck h true)
+IsEndWanted h amiss refused v false = (reached_status amiss refused v ≡ 0) × IsFaulty h false × IsStuck h false
 
 abbrev pub IsEndPut : HeldRun → Telling → Telling → Type 0
 IsEndPut h old new = (v : Verdict) × (text : List ℕ) × IsLastText h v text × WasTold text old new
@@ -71,33 +88,43 @@ abbrev pub IsEndTold : HeldRun → Telling → Telling → Bool → Type 0
 IsEndTold h old new true = (mid : Telling) × IsMoreTold old mid × IsEndPut h mid new
 IsEndTold h old new false = new ≡ old
 
-abbrev pub IsPlainEnd : HeldRun → Telling → Telling → Verdict → Type 0
-IsPlainEnd h old new v = (h.verdict ≡ Some v) × ((told : Bool) × IsEndWanted h old.refused v told × IsEndTold h old new told)
+abbrev pub IsPlainEnd : HeldRun → Option Amiss → Telling → Telling → Verdict → Type 0
+IsPlainEnd h amiss old new v = (h.verdict ≡ Some v) × ((told : Bool) × IsEndWanted h amiss old.refused v told × IsEndTold h old new told)
 
 -- how the run ended went out; or, where values stand alone, what is new went out, and it is told
-abbrev pub IsEnded : Bool → Point → Point → Result Verdict Fault → Type 0
-IsEnded false old new (Ok v) = (new.session ≡ old.session) × (new.told ≡ old.told) × IsClosed old.session.flow.run old.out new.out (Ok v)
-IsEnded false old new (Err fault) = (new.session ≡ old.session) × (new.told ≡ old.told)
+abbrev pub IsEnded : Bool → Option Amiss → Point → Point → Result Verdict Fault → Type 0
+IsEnded false amiss old new (Ok v) = (new.session ≡ old.session) × (new.told ≡ old.told) × IsClosed old.session.flow.run old.out new.out (Ok v)
+IsEnded false amiss old new (Err fault) = (new.session ≡ old.session) × (new.told ≡ old.told)
     × ((f : WriteFault) × (fault ≡ Work (WriteWork f)) × IsClosed old.session.flow.run old.out new.out (Err f))
-IsEnded true old new (Ok v) = HasWaited old new × IsPlainEnd old.session.flow.run old.told new.told v
-IsEnded true old new (Err fault) = IsWriteFault fault × HasSent old new
+IsEnded true amiss old new (Ok v) = HasWaited old new × IsPlainEnd old.session.flow.run amiss old.told new.told v
+IsEnded true amiss old new (Err fault) = IsWriteFault fault × HasSent old new
 
 -- ---- the lines and the end
 
+-- the run was judged, and how it ended was told
+abbrev pub IsClosing : Bool → Bool → Option Amiss → Point → Point → Result Verdict Fault → Type 0
+IsClosing strict plain amiss old new r = IsJudged strict old.session.flow.run (Ok amiss) × IsEnded plain amiss old new r
+
+-- or it stopped there
+abbrev pub IsUnclosed : Bool → Bool → Point → Point → Fault → Type 0
+IsUnclosed strict plain old new fault =
+    (IsJudged strict old.session.flow.run (Err fault) × (new ≡ old)) ⊎ ((amiss : Option Amiss) × IsClosing strict plain amiss old new (Err fault))
+
 -- all lines were met and then the end, or one of these stopped the run
-abbrev pub HasServedAll : LinesGiven → Result Ending Fault → Option (List ℕ) → Point → Point → Type 0
-HasServedAll f (Ok (Reached v)) text old new = (last : Point) × AreAllMet f (Ok true) text old last × IsEnded (is_some f.input) last new (Ok v)
-HasServedAll f (Ok NoChannel) text old new = AreAllMet f (Ok false) text old new
-HasServedAll f (Ok Gone) text old new = ⊥
-HasServedAll f (Err fault) text old new = AreAllMet f (Err fault) text old new
-    ⊎ ((last : Point) × AreAllMet f (Ok true) text old last × IsEnded (is_some f.input) last new (Err fault))
+abbrev pub HasServedAll : Bool → LinesGiven → Result Ending Fault → Option (List ℕ) → Point → Point → Type 0
+HasServedAll strict f (Ok (Reached v amiss)) text old new =
+    (last : Point) × AreAllMet f (Ok true) text old last × IsClosing strict (is_some f.input) amiss last new (Ok v)
+HasServedAll strict f (Ok NoChannel) text old new = AreAllMet f (Ok false) text old new
+HasServedAll strict f (Ok Gone) text old new = ⊥
+HasServedAll strict f (Err fault) text old new = AreAllMet f (Err fault) text old new
+    ⊎ ((last : Point) × AreAllMet f (Ok true) text old last × IsUnclosed strict (is_some f.input) last new fault)
 
 -- nothing was done, since memory was refused
 abbrev pub IsLacking : {X P : Type 0} → Result X Fault → P → P → Type 0
 IsLacking r old new = (r ≡ Err no_memory) × (new ≡ old)
 
-abbrev pub HasServed : LinesGiven → Result Ending Fault → Option (List ℕ) → Point → Point → Type 0
-HasServed f r text old new = HasServedAll f r text old new ⊎ IsLacking r old new
+abbrev pub HasServed : Bool → LinesGiven → Result Ending Fault → Option (List ℕ) → Point → Point → Type 0
+HasServed strict f r text old new = HasServedAll strict f r text old new ⊎ IsLacking r old new
 
 -- what is new couldn't be sent in the end
 abbrev pub IsUnsent : Result Ending Fault → Result Ending Fault → Type 0
@@ -122,7 +149,7 @@ IsStuckNow s true = HasVerdict s × IsStuck s.flow.run true × ((name : List ℕ
 IsStuckNow s false = HasVerdict s → IsStuck s.flow.run false ⊎ IsFirstInput s.flow.run.network None
 
 abbrev pub wants_why : Bool → Result Ending Fault → Bool
-wants_why stuck (Ok (Reached v)) = stuck
+wants_why stuck (Ok (Reached v amiss)) = stuck
 wants_why stuck (Ok Gone) = false
 wants_why stuck (Ok NoChannel) = false
 wants_why stuck (Err fault) = false
@@ -136,17 +163,18 @@ abbrev pub IsWhyTold : Live → Result Ending Fault → Telling → Telling → 
 IsWhyTold s r old new = (stuck : Bool) × IsStuckNow s stuck × WasTold (why_text (wants_why stuck r) old.path) old new
 
 -- the lines were served from a session on, and this was told
-abbrev pub HasRunSession : LinesGiven → Live → Option (List ℕ) → Option (List ℕ) → Telling → Telling → Result Ending Fault → Type 0
-HasRunSession f s text out old new r = (last : Point) × (ending : Result Ending Fault) × (gone : Bool)
-    × HasServed f ending text (record { session = s; out = out; told = old }) last × IsSent gone ending r × IsWhyTold last.session r last.told new
+abbrev pub HasRunSession : Bool → LinesGiven → Live → Option (List ℕ) → Option (List ℕ) → Telling → Telling → Result Ending Fault → Type 0
+HasRunSession strict f s text out old new r = (last : Point) × (ending : Result Ending Fault) × (gone : Bool)
+    × HasServed strict f ending text (record { session = s; out = out; told = old }) last × IsSent gone ending r × IsWhyTold last.session r last.told new
 
--- what is asked for: the channels whose values stand alone, and the lines behind those of the input
+-- what is asked for: the channels whose values stand alone, the lines behind those of the input, and whether the run is judged
 pub record Request : Type 0 where
   pub plain : Option Plain
   pub at_end : List (List ℕ)
+  pub strict : Bool
 
 abbrev pub request_of : Asked → Request
-request_of a = record { plain = option_copied a.plain; at_end = map string_bytes a.at_end.now }
+request_of a = record { plain = option_copied a.plain; at_end = map string_bytes a.at_end.now; strict = a.strict }
 
 abbrev pub input_of : Option Plain → Option (List ℕ)
 input_of plain = option_map (λ p. string_bytes p.input) plain
@@ -165,19 +193,19 @@ IsUnstartedTold (Some name) f old new r = (r ≡ Ok NoChannel) × WasTold (unkno
 abbrev pub HasRunNetwork : Request → Program → Config → Option (List ℕ) → Option (List ℕ) → Telling → Telling → Result Ending Fault → Type 0
 HasRunNetwork a t config text out old new r = IsLacking r old new
     ⊎ (((f : RunFault) × IsSetUp a.plain t config (Err f) × IsUnstartedTold (unknown_output f a.plain) f old new r)
-    ⊎ ((s : Live) × IsSetUp a.plain t config (Ok s) × HasRunSession (record { input = input_of a.plain; at_end = a.at_end }) s text out old new r))
+    ⊎ ((s : Live) × IsSetUp a.plain t config (Ok s) × HasRunSession a.strict (record { input = input_of a.plain; at_end = a.at_end }) s text out old new r))
 
 -- the network of the program text was run on this text of input, or why not: memory was refused, or the program text is
 abbrev pub HasRunText : List ℕ → LiveOptions → Option (List ℕ) → Option (List ℕ) → Telling → Telling → Result Ending Fault → Type 0
 HasRunText program o text out old new r = IsLacking r old new
     ⊎ (((f : WorkFault) × IsUnchecked program f × (r ≡ Err (Work f)) × (new ≡ old))
     ⊎ ((t : Program) × (config : Config) × IsChecked program t × WatchesPlain o.plain o.config config
-    × HasRunNetwork (record { plain = o.plain; at_end = map string_bytes o.at_end.items }) t config text out old new r))
+    × HasRunNetwork (record { plain = o.plain; at_end = map string_bytes o.at_end.items; strict = o.strict }) t config text out old new r))
 
 -- ---- the status
 
 abbrev pub ending_status : Bool → Result Ending Fault → ℕ
-ending_status refused (Ok (Reached v)) = live_status_of refused (Ok v)
+ending_status refused (Ok (Reached v amiss)) = reached_status amiss refused v
 ending_status refused (Ok Gone) = live_status_of refused (Ok Finished)
 ending_status refused (Ok NoChannel) = 6
 ending_status refused (Err fault) = live_status_of refused (Err fault)
@@ -188,7 +216,7 @@ IsLastTold program answer old new = (mid : Telling) × (last : Telling)
     × IsMoreTold old mid × WasTold (told_text program answer) mid last × WasTold (pointer_text last.path answer) last new
 
 abbrev pub IsEndingTold : List ℕ → Result Ending Fault → Telling → Telling → Type 0
-IsEndingTold program (Ok (Reached v)) old new = IsLastTold program (Ok v) old new
+IsEndingTold program (Ok (Reached v amiss)) old new = IsLastTold program (Ok v) old new
 IsEndingTold program (Ok Gone) old new = IsLastTold program (Ok Finished) old new
 IsEndingTold program (Ok NoChannel) old new = new ≡ old
 IsEndingTold program (Err fault) old new = IsLastTold program (Err fault) old new
@@ -201,7 +229,7 @@ untold bytes keep_going path = record {
   keep_going = keep_going;
   refused = false;
   path = path;
-  complaints = record { last = None; first = 0; number = 0; hinted = false; stepped = false };
+  complaints = record { last = None; first = 0; number = 0; hinted = false; stepped = false; waited = false };
 }
 
 -- a program text, of this file, was run as the options say, on this text of input, behind what was written and what was told before; how that

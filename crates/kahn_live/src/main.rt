@@ -9,7 +9,7 @@ mod stage;
 mod taking;
 mod telling;
 
-use kahn_fault::{read_texts, tell};
+use kahn_fault::{read_texts, tell_unread};
 use kahn_line::{LiveOptions, read_live_line, tell_line, tell_no_memory, tell_words};
 use running::ran;
 use std::alloc::{AllocError, Global};
@@ -40,7 +40,7 @@ fn answered<R: Runtime + AllocGlobal, W: Write>(
             let (input, output) = (rt.reader(), io::writer(rt));
             ran(rt.alloc(), program, path, options, input, output, writer).0
         }
-        Err(fault) => tell(&Err(fault), "", writer).status,
+        Err(fault) => tell_unread(rt, "kahn_live", fault, writer),
     }
 }
 

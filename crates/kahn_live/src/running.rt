@@ -6,7 +6,7 @@ ghost use Rattle.kahn_live.specs.Running.{HasRunAs, HasRunNetwork, HasRunText, I
 ghost use Rattle.kahn_live.specs.Running.{IsEndingTold, IsStuckNow, IsUnstartedTold, IsWhyTold, ending_status, input_of, request_of, unknown_output, wants_why};
 
 use crate::outlet::Outlet;
-use crate::serving::{Ending, sent, work};
+use crate::serving::{Ending, reached_status, sent, work};
 use crate::stage::Stage;
 use crate::taking::{Fed, wants_memory};
 use crate::telling::Teller;
@@ -91,6 +91,8 @@ struct Asked<'a> {
     plain: Option<&'a Plain>,
     /// The lines behind those of the input.
     at_end: &'a [String],
+    /// Whether the run is judged.
+    strict: bool,
 }
 
 /// Whether no line can change the run any more, though a process waits and there is an input channel.
@@ -111,7 +113,7 @@ fn wants_why(stuck: bool, ending: &Result<Ending, Fault>) -> bool
     ensures { result ≡ wants_why stuck ending.now }
 {
     match ending {
-        Ok(Ending::Reached(_)) => stuck,
+        Ok(Ending::Reached(_, _)) => stuck,
         Ok(Ending::Gone) => false,
         Ok(Ending::NoChannel) => false,
         Err(_) => false,
@@ -182,7 +184,7 @@ fn run_network<I: Read + Drop, W: Write + Drop, E: Write + Drop>(
         input: input_of(asked.plain),
         at_end: asked.at_end,
     };
-    let ending = work(alloc, &mut stage, input, fed);
+    let ending = work(alloc, &mut stage, input, fed, asked.strict);
     let ending = sent(&mut stage.outlet, ending);
     tell_stuck(&mut stage, &ending);
     (ending, stage.teller)
@@ -213,11 +215,13 @@ fn run<I: Read + Drop, W: Write + Drop, E: Write + Drop>(
         config,
         at_end,
         plain,
+        strict,
         ..
     } = options;
     let asked = Asked {
         plain: plain.as_ref(),
         at_end: &at_end,
+        strict,
     };
     let Ok(config) = watching(alloc, config, asked.plain) else {
         return (Err(wants_memory()), teller);
@@ -234,7 +238,11 @@ fn told<E: Write>(ending: Result<Ending, Fault>, program: &str, teller: &mut Tel
     ensures told { IsEndingTold program.now ending (telling_of E.contents teller.old) (telling_of E.contents teller.new) }
 {
     match ending {
-        Ok(Ending::Reached(verdict)) => teller.tell_last(&Ok(verdict), program),
+        Ok(Ending::Reached(verdict, amiss)) => {
+            let status = reached_status(amiss, teller.refused, verdict);
+            teller.tell_last(&Ok(verdict), program);
+            status
+        }
         Ok(Ending::Gone) => teller.tell_last(&Ok(Verdict::Finished), program),
         Ok(Ending::NoChannel) => NO_CHANNEL,
         Err(fault) => teller.tell_last(&Err(fault), program),

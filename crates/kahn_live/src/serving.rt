@@ -4,7 +4,7 @@ ghost use Rattle.std.specs.Prelude.{◌≡◌, false};
 ghost use Rattle.std.specs.Io.KnownBytes.{Keeps};
 ghost use Rattle.kahn_session.specs.Live.{HasVerdict};
 ghost use Rattle.kahn_live.specs.Course.{Across, AcrossStage, lines_given, point_of, telling_of};
-ghost use Rattle.kahn_live.specs.Running.{HasServed, HasServedAll, IsEndWanted, IsEnded, IsPlainEnd, IsSent};
+ghost use Rattle.kahn_live.specs.Running.{HasServed, HasServedAll, IsEndWanted, IsEnded, IsJudged, IsPlainEnd, IsSent, reached_status};
 
 use crate::outlet::Outlet;
 use crate::stage::Stage;
@@ -17,24 +17,67 @@ use kahn_session::Session;
 use std::alloc::Global;
 use std::io::{BufReader, Read, Write};
 
+/// What is amiss with a run that is judged.
+#[derive(Clone, Copy)]
+pub(crate) enum Amiss {
+    /// A process has a fault of arithmetic.
+    Faulted,
+    /// None has, and processes wait on one another in a ring.
+    Ringed,
+}
+
 /// How a run ended.
 #[derive(Drop)]
 pub(crate) enum Ending {
-    /// The end of the input was reached.
-    Reached(Verdict),
+    /// The end of the input was reached, and that is amiss.
+    Reached(Verdict, Option<Amiss>),
     /// Nobody reads what is new any more.
     Gone,
     /// There is no channel of a name of `--plain`, or it is no input where its values stand in the lines.
     NoChannel,
 }
 
+/// What is amiss with the run of a session, where it is to be judged.
+fn judged(session: &Session<'_>, strict: bool) -> Result<Option<Amiss>, Fault>
+    requires { HasVerdict session.now }
+    ensures { IsJudged strict session.now.flow.run result }
+{
+    if !strict {
+        return Ok(None);
+    }
+    if session.has_fault() {
+        return Ok(Some(Amiss::Faulted));
+    }
+    match session.has_ring() {
+        Ok(true) => Ok(Some(Amiss::Ringed)),
+        Ok(false) => Ok(None),
+        Err(_) => Err(wants_memory()),
+    }
+}
+
+/// The status of a run with this verdict of which that is amiss.
+pub(crate) fn reached_status(amiss: Option<Amiss>, refused: bool, verdict: Verdict) -> u8
+    ensures { result ≡ reached_status amiss refused verdict }
+{
+    match amiss {
+        Some(Amiss::Faulted) => 8,
+        Some(Amiss::Ringed) => 7,
+        None => live_status(&Ok(verdict), refused),
+    }
+}
+
 /// Whether it is told how a run with this verdict ended: the status isn't 0, a process has a fault, or no line can change the run any
 /// more though a process waits.
-fn is_end_wanted(session: &Session<'_>, refused: bool, verdict: Verdict) -> bool
+fn is_end_wanted(
+    session: &Session<'_>,
+    amiss: Option<Amiss>,
+    refused: bool,
+    verdict: Verdict,
+) -> bool
     requires { HasVerdict session.now }
-    ensures { IsEndWanted session.now.flow.run refused verdict result }
+    ensures { IsEndWanted session.now.flow.run amiss refused verdict result }
 {
-    if live_status(&Ok(verdict), refused) != 0 {
+    if reached_status(amiss, refused, verdict) != 0 {
         return true;
     }
     if session.has_fault() {
@@ -44,27 +87,35 @@ fn is_end_wanted(session: &Session<'_>, refused: bool, verdict: Verdict) -> bool
 }
 
 /// Tells how the run ended, where that is wanted.
-fn close_plain<E: Write>(session: &Session<'_>, teller: &mut Teller<E>) -> Verdict
+fn close_plain<E: Write>(
+    session: &Session<'_>,
+    amiss: Option<Amiss>,
+    teller: &mut Teller<E>,
+) -> Verdict
     requires { HasVerdict session.now }
-    ensures { IsPlainEnd session.now.flow.run (telling_of E.contents teller.old) (telling_of E.contents teller.new) result }
+    ensures { IsPlainEnd session.now.flow.run amiss (telling_of E.contents teller.old) (telling_of E.contents teller.new) result }
 {
     let Some(verdict) = session.verdict() else {
         unreachable!()
     };
-    if is_end_wanted(session, teller.refused, verdict) {
+    if is_end_wanted(session, amiss, teller.refused, verdict) {
         teller.tell_end(session);
     }
     verdict
 }
 
 /// Writes how the run ended; or where values stand alone sends what is new, and tells it where it isn't as it should be.
-fn close<W: Write, E: Write>(stage: &mut Stage<'_, W, E>, plain: bool) -> Result<Verdict, Fault>
+fn close<W: Write, E: Write>(
+    stage: &mut Stage<'_, W, E>,
+    plain: bool,
+    amiss: Option<Amiss>,
+) -> Result<Verdict, Fault>
     requires { HasVerdict stage.old.session }
-    ensures { IsEnded plain (point_of W.contents E.contents stage.old) (point_of W.contents E.contents stage.new) result }
+    ensures { IsEnded plain amiss (point_of W.contents E.contents stage.old) (point_of W.contents E.contents stage.new) result }
 {
     if plain {
         stage.outlet.send()?;
-        return Ok(close_plain(&stage.session, &mut stage.teller));
+        return Ok(close_plain(&stage.session, amiss, &mut stage.teller));
     }
     match stage.session.close(&mut stage.outlet) {
         Ok(verdict) => Ok(verdict),
@@ -72,21 +123,23 @@ fn close<W: Write, E: Write>(stage: &mut Stage<'_, W, E>, plain: bool) -> Result
     }
 }
 
-/// Takes the lines of the reader, and then those behind them, and closes the session.
+/// Takes the lines of the reader, and then those behind them, judges the run where it is to be, and closes the session.
 fn serve<I: Read, W: Write, E: Write>(
     alloc: Global,
     stage: &mut Stage<'_, W, E>,
     reader: &mut BufReader<I>,
     fed: Fed<'_>,
+    strict: bool,
 ) -> Result<Ending, Fault>
     requires { stage.old.session.broken ≡ false }
-    ensures { Across I.remaining W.contents E.contents reader.old reader.new stage.old stage.new (λ s t. HasServedAll (lines_given fed.entry) result s) }
+    ensures { Across I.remaining W.contents E.contents reader.old reader.new stage.old stage.new (λ s t. HasServedAll strict (lines_given fed.entry) result s) }
 {
     if !take_all(alloc, stage, reader, fed)? {
         return Ok(Ending::NoChannel);
     }
-    let verdict = close(stage, fed.input.is_some())?;
-    Ok(Ending::Reached(verdict))
+    let amiss = judged(&stage.session, strict)?;
+    let verdict = close(stage, fed.input.is_some(), amiss)?;
+    Ok(Ending::Reached(verdict, amiss))
 }
 
 /// Takes the lines of the input, and writes what is new.
@@ -95,14 +148,15 @@ pub(crate) fn work<I: Read + Drop, W: Write, E: Write>(
     stage: &mut Stage<'_, W, E>,
     input: I,
     fed: Fed<'_>,
+    strict: bool,
 ) -> Result<Ending, Fault>
     requires { stage.old.session.broken ≡ false }
-    ensures { AcrossStage W.contents E.contents stage.old stage.new (HasServed (lines_given fed.entry) result (I.remaining input)) }
+    ensures { AcrossStage W.contents E.contents stage.old stage.new (HasServed strict (lines_given fed.entry) result (I.remaining input)) }
 {
     let Ok(mut reader) = BufReader::new(alloc, input) else {
         return Err(wants_memory());
     };
-    serve(alloc, stage, &mut reader, fed)
+    serve(alloc, stage, &mut reader, fed, strict)
 }
 
 /// Sends what is new in the end. Nobody may read it any more.

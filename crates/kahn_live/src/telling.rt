@@ -3,11 +3,11 @@
 ghost use Rattle.std.specs.Prelude.{◌≡◌, false, option_copied, string_bytes, true};
 ghost use Rattle.std.specs.Option.{is_none};
 ghost use Rattle.kahn_streams.specs.Written.{Writes};
-ghost use Rattle.kahn_session.specs.Refusals.{unknown_text, waiting_text};
+ghost use Rattle.kahn_session.specs.Refusals.{unknown_text};
 ghost use Rattle.kahn_session.specs.Live.{HasVerdict};
 ghost use Rattle.kahn_fault.specs.Status.{live_status_of};
 ghost use Rattle.kahn_fault.specs.Telling.{pointer_text, told_text};
-ghost use Rattle.kahn_live.specs.Course.{IsAlonePut, IsComplaint, IsTallied, IsMoreTold, IsNewPut, IsNewTold, IsStepToldBy, WasTold, complaints_of, is_again, is_alike, is_hinted, is_next, is_step_new, telling_of};
+ghost use Rattle.kahn_live.specs.Course.{IsAlonePut, IsComplaint, IsTallied, IsMoreTold, IsNewPut, IsNewTold, IsStepPut, IsWaitTold, WasTold, complaints_of, is_again, is_alike, is_hinted, is_next, is_step_new, telling_of};
 ghost use Rattle.kahn_live.specs.Running.{IsEndPut, IsEndTold, IsLastTold, untold, why_text};
 
 use kahn_fault::{Fault, live_status, tell, tell_explain};
@@ -104,6 +104,8 @@ pub(crate) struct Teller<E: Write> {
     pub(crate) hinted: bool,
     // Whether it was told that a line wants more events than a part may do.
     pub(crate) stepped: bool,
+    // Whether it was told that the part of a line waits for memory.
+    pub(crate) waited: bool,
 }
 
 impl<E: Write> Teller<E> {
@@ -123,6 +125,7 @@ impl<E: Write> Teller<E> {
             number: 0,
             hinted: false,
             stepped: false,
+            waited: false,
         }
     }
 
@@ -215,12 +218,16 @@ impl<E: Write> Teller<E> {
         self.failed |= told.is_err();
     }
 
-    /// Tells that the part of the line of that number wants memory. The line isn't refused.
+    /// Tells that the part of the line of that number waits for memory, unless that was told. The line isn't refused.
     pub(crate) fn tell_waiting(&mut self, number: u64)
-        ensures { WasTold (waiting_text (string_bytes self.old.path) number) (telling_of E.contents self.old) (telling_of E.contents self.new) }
+        ensures { IsWaitTold number (telling_of E.contents self.old) (telling_of E.contents self.new) }
     {
+        if self.waited {
+            return;
+        }
         let told = write_waiting(&mut self.errors, self.path.as_str(), number);
         self.failed |= told.is_err();
+        self.waited = true;
     }
 
     /// Whether it is told now that this line wants more events than a part may do.
@@ -232,7 +239,7 @@ impl<E: Write> Teller<E> {
 
     /// Tells it of the line of that number. The line isn't refused.
     pub(crate) fn tell_step(&mut self, number: u64)
-        ensures { IsStepToldBy true number (telling_of E.contents self.old) (telling_of E.contents self.new) }
+        ensures { IsStepPut number (telling_of E.contents self.old) (telling_of E.contents self.new) }
     {
         let told = write_stopped(&mut self.errors, self.path.as_str(), number);
         self.failed |= told.is_err();

@@ -10,9 +10,9 @@ use Rattle.kahn_wanted.specs.contracts.groups.GroupPartialEq.TheImpl as groups
 use Rattle.kahn_wanted.specs.declared.groups.Group.{Group}
 use Rattle.kahn_wanted.specs.declared.groups.Group.TheVariants as group
 use Rattle.kahn_wanted.specs.declared.groups.Wanted.{Wanted}
+use Rattle.kahn_notes.specs.declared.advice.Test.{Test}
+use Rattle.kahn_notes.specs.declared.advice.Test.TheVariants.{First, Number, May, MayNot, All, NotAll, Value, Operator}
 use Rattle.kahn_notes.specs.declared.habits.TheConstants.{HABITS}
-use Rattle.kahn_notes.specs.declared.habits.Test.{Test}
-use Rattle.kahn_notes.specs.declared.habits.Test.TheVariants.{First, Number, May, MayNot, All, NotAll, Value, Operator}
 
 -- a lexeme of one of these classes was found
 abbrev pub is_class_of : List Class → Class → Bool

@@ -1,5 +1,6 @@
 -- Believed. What is said of blocks where a text goes wrong.
 use Rattle.std.specs.Prelude.{ℕ, Bool, not, ◌&&◌, ◌||◌, ◌-◌, List, [], ◌∷◌, ◌++◌, Option, Some, None, codes, drop, is_some, if◌then◌else◌, length}
+use Rattle.std.specs.Option.{option_or}
 use Rattle.kahn_marks.specs.Marks.{spot_text}
 use Rattle.kahn_syntax.specs.declared.lexeme.Class.{Class}
 use Rattle.kahn_syntax.specs.declared.lexeme.Class.TheVariants as class
@@ -74,6 +75,26 @@ blocks_words text found mended b =
     if finds (class.Word word.End ∷ []) found then bare_words text b.bare.items
     else if (not (is_some found) || not mended) && is_outside found then open_words text (open_told found b.unclosed.items)
     else None
+
+-- an `else` where a statement of a body may end
+abbrev pub is_cut_off : Unexpected → Bool
+is_cut_off u = finds (class.Word word.Else ∷ []) u.found && awaits (class.Word word.End) u.wanted && awaits (class.Sign sign.Semicolon) u.wanted
+
+-- a `,` behind the value of a `send`
+abbrev pub is_second_value : Unexpected → Bool
+is_second_value u = finds (class.Sign sign.Comma ∷ []) u.found && awaits (class.Word word.On) u.wanted
+
+-- what is said where no change is told and one statement or one value alone stands
+abbrev pub one_words : Unexpected → Bool → Option (List ℕ)
+one_words u mended =
+    if mended then None
+    else if is_cut_off u then Some (codes "`begin` and `end` make one statement of several")
+    else if is_second_value u then Some (codes "`send` sends one value: `send E on C; send F on C`")
+    else None
+
+-- what is said below the changes: that, or of blocks
+abbrev pub below_changes : List ℕ → Unexpected → Bool → Blocks → Option (List ℕ)
+below_changes text u mended b = option_or (one_words u mended) (blocks_words text u.found mended b)
 
 -- what is said of blocks beside advice: at a `(` behind the name that begins a statement, which may be an instance, of open ones, where the
 -- text lacks an `end` and no change mends it

@@ -27,7 +27,7 @@ use Rattle.kahn_wanted.specs.Mends.{AreMendsOf}
 use Rattle.kahn_wanted.specs.Wanted.{IsUnexpected}
 use Rattle.kahn_marks.specs.Marks.{marked, spot_text, times_over}
 use Rattle.kahn_notes.specs.Foreign.{advised}
-use Rattle.kahn_notes.specs.Blocked.{blocks_words, open_beside}
+use Rattle.kahn_notes.specs.Blocked.{below_changes, blocks_words, open_beside}
 use Rattle.kahn_notes.specs.Closed.{IsClosedEnd, early_words}
 use Rattle.kahn_notes.specs.Order.{ranked}
 use Rattle.kahn_notes.specs.Words.{any_words, keyword_words, separator, sign_words}
@@ -146,7 +146,7 @@ changes_words text found None = None
 abbrev pub mended_text : List ℕ → Span → Unexpected → Option Mends → Blocks → List ℕ
 mended_text text span u m b =
     remark_or_none text span (changes_words text u.found m)
-    ++ remark_or_none text span (blocks_words text u.found (is_some (changes_words text u.found m)) b)
+    ++ remark_or_none text span (below_changes text u (is_some (changes_words text u.found m)) b)
 
 -- whether there are changes that mend the text, told or not
 abbrev pub is_mended : Option Mends → Bool

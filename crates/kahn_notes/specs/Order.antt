@@ -1,5 +1,6 @@
 -- Believed. Which changes that mend a text are told: leaving out the `;` before an `else` alone, where that is one, and an operator in
--- the place of a name, `print` for a `wait`, and a name, a literal or `repeat` anywhere never, since they are seldom meant.
+-- the place of a name, `print` for a `wait`, `;` for an `else`, leaving out an `else` behind a `;`, and a name, a literal or `repeat`
+-- anywhere never, since they are seldom meant.
 use Rattle.std.specs.Prelude.{Bool, true, false, not, ◌&&◌, ◌||◌, List, [], ◌∷◌, Option, Some, None}
 use Rattle.std.specs.List.{filter}
 use Rattle.kahn_syntax.specs.contracts.lexeme.ClassPartialEq.TheImpl as classes
@@ -24,10 +25,17 @@ names_operator c named = is_class_of (members group.Operator) c && finds (class.
 abbrev pub prints_wait : Class → Option Lexeme → Bool
 prints_wait c found = (classes.ghosts).eq c (class.Word word.Print) && finds (class.Word word.Wait ∷ []) found
 
+-- an `else`, and one behind a `;`
+abbrev pub is_else : Option Lexeme → Bool
+is_else found = finds (class.Word word.Else ∷ []) found
+
+abbrev pub is_late_else : Option Lexeme → Option Lexeme → Bool
+is_late_else before found = finds (class.Sign sign.Semicolon ∷ []) before && is_else found
+
 -- one that is put there beside what was found, behind what stands before it, is seldom meant
 abbrev pub is_odd_at : Class → Spot → Option Lexeme → Option Lexeme → Bool
 is_odd_at c Between before found = prints_wait c found
-is_odd_at c Here before found = names_operator c found || prints_wait c found
+is_odd_at c Here before found = names_operator c found || prints_wait c found || ((classes.ghosts).eq c (class.Sign sign.Semicolon) && is_else found)
 is_odd_at c Before before found = names_operator c before
 
 abbrev pub is_odd : Class → Spot → Option Lexeme → Option Lexeme → Bool
@@ -36,8 +44,9 @@ is_odd c spot before found = is_class_of SELDOM c || is_odd_at c spot before fou
 -- a change is told, first or then
 abbrev pub is_worth : Bool → Option Lexeme → Option Lexeme → Spot → Option Class → Bool
 is_worth first before found spot (Some c) = not first && not (is_odd c spot before found)
-is_worth first before found Before None = not first || (finds (class.Sign sign.Semicolon ∷ []) before && finds (class.Word word.Else ∷ []) found)
-is_worth first before found _ None = not first
+is_worth first before found Before None = not first || is_late_else before found
+is_worth first before found Here None = not first && not (is_late_else before found)
+is_worth first before found Between None = not first
 
 abbrev pub alike : Bool → Option Lexeme → Option Lexeme → List Change → List Change
 alike first before found cs = filter (λ c. is_worth first before found c.spot c.put) cs

@@ -3,10 +3,40 @@
 ghost use Rattle.std.specs.Prelude.{◌≡◌, map, option_map};
 ghost use Rattle.kahn_notes.specs.Advice.{advice, first_fitting, fits, is_met, may_be};
 
-use crate::habits::{HABITS, Habit, Test};
+use crate::habits::HABITS;
 use crate::wanting::{awaits, finds, offers};
 use kahn_syntax::{Class, Lexeme};
 use kahn_wanted::{Group, Wanted};
+
+/// What holds of a place, and of what may stand there.
+#[derive(Clone, Copy)]
+pub(crate) enum Test {
+    /// Nothing stands before it.
+    First,
+    /// A number stands there.
+    Number,
+    /// One of this class may stand there, in no group.
+    May(Class),
+    /// None may, in no group.
+    MayNot(Class),
+    /// All of this group may.
+    All(Group),
+    /// This group isn't told.
+    NotAll(Group),
+    /// An operand may, or any expression.
+    Value,
+    /// An operator may, or an arithmetic one and no comparison.
+    Operator,
+}
+
+/// Words; and what they are said of: one of the second classes, behind one of the first, where all of the tests hold. Where there are
+/// no classes, anything may stand there, or nothing.
+pub(crate) type Habit = (
+    &'static [Class],
+    &'static [Class],
+    &'static [Test],
+    &'static str,
+);
 
 /// Whether a test holds of a place.
 fn holds(test: Test, before: Option<Lexeme>, found: Option<Lexeme>, wanted: &Wanted) -> bool

@@ -1,7 +1,7 @@
 //! What is said of blocks where a text goes wrong: of those that no `end` has closed, and of statements without one.
 
 ghost use Rattle.std.specs.Prelude.{◌≡◌, ◌++◌, IfOk, map, option_map, string_bytes};
-ghost use Rattle.kahn_notes.specs.Blocked.{bare_words, begin_words, blocks_words, is_outside, last_few, listed_bare, listed_blocks, open_told, open_words, open_beside};
+ghost use Rattle.kahn_notes.specs.Blocked.{bare_words, begin_words, blocks_words, is_cut_off, is_outside, one_words, last_few, listed_bare, listed_blocks, open_told, open_words, open_beside};
 
 use crate::listing::separator;
 use crate::wanting::{awaits, finds, has_fewer};
@@ -126,6 +126,34 @@ pub(crate) fn blocks_words(
         return open_words(alloc, text, open_told(found, &blocks.unclosed));
     }
     Ok(None)
+}
+
+/// Whether an `else` was found where a statement of a body may end.
+fn is_cut_off(unexpected: &Unexpected) -> bool
+    ensures { result ≡ is_cut_off unexpected.now }
+{
+    finds(&[Class::Word(Keyword::Else)], unexpected.found)
+        && awaits(END, &unexpected.wanted)
+        && awaits(Class::Sign(Sign::Semicolon), &unexpected.wanted)
+}
+
+/// What is said where no change is told and one statement or one value alone stands: of such an `else`, and of a `,` behind the value of
+/// a `send`.
+pub(crate) fn one_words(unexpected: &Unexpected, mended: bool) -> Option<&'static str>
+    ensures { option_map (λ words. words.now) result ≡ one_words unexpected.now mended }
+{
+    if mended {
+        return None;
+    }
+    if is_cut_off(unexpected) {
+        return Some("`begin` and `end` make one statement of several");
+    }
+    if finds(&[Class::Sign(Sign::Comma)], unexpected.found)
+        && awaits(Class::Word(Keyword::On), &unexpected.wanted)
+    {
+        return Some("`send` sends one value: `send E on C; send F on C`");
+    }
+    None
 }
 
 /// What is said of blocks beside advice on what was found: of open ones, where an instance may have begun, the text lacks an `end` and

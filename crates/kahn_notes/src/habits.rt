@@ -1,5 +1,7 @@
 //! The words for what stands as in another language, or without what belongs to it, and where each is said.
 
+use crate::advice::Habit;
+use crate::advice::Test::{All, First, May, MayNot, NotAll, Number, Operator, Value};
 use kahn_syntax::Class::{self, Name, Sign, Word};
 use kahn_syntax::Keyword::{
     And, Begin, Channel, Div, Do, Else, End, False, If, In, Input, Integer, Logical, Mod, Not, On,
@@ -9,39 +11,7 @@ use kahn_syntax::Sign::{
     AtLeast, AtMost, Becomes, Close, Comma, Equal, Greater, Less, Minus, Open, Plus, Semicolon,
     Times, Unequal,
 };
-use kahn_wanted::Group::{self, Arithmetic, Declaration, Operand, Statement};
-
-/// What holds of a place, and of what may stand there.
-#[derive(Clone, Copy)]
-pub(crate) enum Test {
-    /// Nothing stands before it.
-    First,
-    /// A number stands there.
-    Number,
-    /// One of this class may stand there, in no group.
-    May(Class),
-    /// None may, in no group.
-    MayNot(Class),
-    /// All of this group may.
-    All(Group),
-    /// This group isn't told.
-    NotAll(Group),
-    /// An operand may, or any expression.
-    Value,
-    /// An operator may, or an arithmetic one and no comparison.
-    Operator,
-}
-
-use Test::{All, First, May, MayNot, NotAll, Number, Operator, Value};
-
-/// Words; and what they are said of: one of the second classes, behind one of the first, where all of the tests hold. Where there are
-/// no classes, anything may stand there, or nothing.
-pub(crate) type Habit = (
-    &'static [Class],
-    &'static [Class],
-    &'static [Test],
-    &'static str,
-);
+use kahn_wanted::Group::{Arithmetic, Declaration, Operand, Statement};
 
 /// Behind these a statement begins.
 const BEGINS: &[Class] = &[
@@ -58,6 +28,16 @@ const ACTS: &[Class] = &[
     Word(While),
     Word(Repeat),
     Word(Wait),
+    Word(Send),
+    Word(Print),
+];
+
+/// These begin a statement of a body, and no block.
+const STARTS: &[Class] = &[
+    Name,
+    Word(If),
+    Word(While),
+    Word(Repeat),
     Word(Send),
     Word(Print),
 ];
@@ -105,7 +85,7 @@ const WORDS: &[Class] = &[
 ];
 
 /// The first that holds is told.
-pub(crate) const HABITS: [Habit; 64] = [
+pub(crate) const HABITS: [Habit; 69] = [
     (
         &[Word(Then)],
         &[Word(If)],
@@ -255,6 +235,29 @@ pub(crate) const HABITS: [Habit; 64] = [
     ),
     (
         &[],
+        &[Name],
+        &[May(Sign(Comma)), May(Sign(Close)), MayNot(Sign(Semicolon))],
+        "a comma stands between two arguments: `P(A, B)`",
+    ),
+    (
+        &[],
+        &[],
+        &[
+            Number,
+            May(Sign(Comma)),
+            May(Sign(Close)),
+            MayNot(Sign(Semicolon)),
+        ],
+        "a comma stands between two arguments: `P(A, B)`",
+    ),
+    (
+        &[],
+        &[],
+        &[Number, May(Name), NotAll(Declaration)],
+        "a name begins with a letter",
+    ),
+    (
+        &[],
         &[Word(If)],
         &[All(Operand)],
         "an `if` among operators stands in brackets",
@@ -282,6 +285,12 @@ pub(crate) const HABITS: [Habit; 64] = [
         ACTS,
         &[May(Word(End)), MayNot(Sign(Semicolon))],
         "statements stand in processes alone",
+    ),
+    (
+        &[Sign(Semicolon)],
+        STARTS,
+        &[May(Word(Begin))],
+        "the body of a process stands between `begin` and `end`",
     ),
     (
         &[],
@@ -408,6 +417,12 @@ pub(crate) const HABITS: [Habit; 64] = [
         OPERATES,
         &[MayNot(Sign(Comma)), May(Sign(Becomes))],
         "a statement that begins with a name assigns to it, `X := E`; `send E on C` sends a value",
+    ),
+    (
+        &[Name],
+        OPERATES,
+        &[MayNot(Sign(Comma)), May(Sign(Close))],
+        "one channel alone stands between these brackets: `wait(C) + 1`",
     ),
     (
         &[],

@@ -4,7 +4,7 @@ ghost use Rattle.std.specs.Prelude.{◌≡◌, ◌++◌, IfOk, IfSome, codes, is
 ghost use Rattle.kahn_notes.specs.Blocked.{blocks_words};
 ghost use Rattle.kahn_notes.specs.Notes.{MayFind, before_words, change_words, changes_words, is_mended, last_words, lead_words, listed, mended_text, mends_words, number_words, put_lead, put_link, remark, remark_or_none};
 
-use crate::blocked::blocks_words;
+use crate::blocked::{blocks_words, one_words};
 use crate::listing::separator;
 use crate::order::ranked;
 use crate::unexpected::add_lexeme;
@@ -243,7 +243,7 @@ fn add_mends(
     }
 }
 
-/// Adds what is said of the changes and of the blocks.
+/// Adds what is said of the changes, or where none is told, that one statement or one value alone stands; or of the blocks.
 pub(crate) fn add_mended(
     note: &mut String,
     alloc: Global,
@@ -258,7 +258,10 @@ pub(crate) fn add_mended(
 {
     let found = unexpected.found;
     let mended = add_mends(note, alloc, text, span, found, mends)?;
-    add_blocks_remark(note, alloc, text, span, found, mended, blocks)
+    match one_words(unexpected, mended) {
+        Some(words) => add_remark(note, text, span, words),
+        None => add_blocks_remark(note, alloc, text, span, found, mended, blocks),
+    }
 }
 
 /// Whether there are changes that mend the text.

@@ -1,7 +1,7 @@
 //! Which changes are told.
 
 ghost use Rattle.std.specs.Prelude.{◌≡◌, ◌++◌, IfOk};
-ghost use Rattle.kahn_notes.specs.Order.{alike, is_odd, is_worth, names_operator, ranked};
+ghost use Rattle.kahn_notes.specs.Order.{alike, is_else, is_late_else, is_odd, is_worth, names_operator, ranked};
 
 use crate::wanting::finds;
 use kahn_syntax::{Class, Keyword, Lexeme, Sign};
@@ -24,8 +24,22 @@ fn names_operator(class: Class, named: Option<Lexeme>) -> bool
     Group::Operator.members().contains(&class) && finds(&[Class::Name], named)
 }
 
-/// Whether one that is put beside a lexeme that was found is seldom meant: one of those, an operator in the place of a name, or `print` for a
-/// `wait`.
+/// Whether an `else` was found.
+fn is_else(found: Option<Lexeme>) -> bool
+    ensures { result ≡ is_else found }
+{
+    finds(&[Class::Word(Keyword::Else)], found)
+}
+
+/// Whether an `else` was found behind a `;`.
+fn is_late_else(before: Option<Lexeme>, found: Option<Lexeme>) -> bool
+    ensures { result ≡ is_late_else before found }
+{
+    finds(&[Class::Sign(Sign::Semicolon)], before) && is_else(found)
+}
+
+/// Whether one that is put beside a lexeme that was found is seldom meant: one of those, an operator in the place of a name, `print` for a
+/// `wait`, or `;` in the place of an `else`.
 fn is_odd(class: Class, spot: Spot, before: Option<Lexeme>, found: Option<Lexeme>) -> bool
     ensures { result ≡ is_odd class spot before found }
 {
@@ -34,25 +48,23 @@ fn is_odd(class: Class, spot: Spot, before: Option<Lexeme>, found: Option<Lexeme
     }
     let for_wait = class == Class::Word(Keyword::Print)
         && finds(&[Class::Word(Keyword::Wait)], found);
+    let for_else = class == Class::Sign(Sign::Semicolon) && is_else(found);
     match spot {
         Spot::Between => for_wait,
-        Spot::Here => names_operator(class, found) || for_wait,
+        Spot::Here => names_operator(class, found) || for_wait || for_else,
         Spot::Before => names_operator(class, before),
     }
 }
 
-/// Whether a change is told: first leaving out the `;` before an `else`, and then what isn't seldom meant.
+/// Whether a change is told: first leaving out the `;` before an `else`, and then what isn't seldom meant, as leaving out this `else`.
 fn is_told(first: bool, before: Option<Lexeme>, found: Option<Lexeme>, change: Change) -> bool
     ensures { result ≡ is_worth first before found change.spot change.put }
 {
     match (change.spot, change.put) {
         (spot, Some(class)) => !first && !is_odd(class, spot, before, found),
-        (Spot::Before, None) => {
-            !first
-                || (finds(&[Class::Sign(Sign::Semicolon)], before)
-                    && finds(&[Class::Word(Keyword::Else)], found))
-        }
-        _ => !first,
+        (Spot::Before, None) => !first || is_late_else(before, found),
+        (Spot::Here, None) => !first && !is_late_else(before, found),
+        (Spot::Between, None) => !first,
     }
 }
 

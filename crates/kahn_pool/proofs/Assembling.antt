@@ -1,7 +1,7 @@
 -- An answer put together from cells at rest is right.
 use mathlib.Core.Path.{fun_ext}
-use Rattle.std.proofs.Common.{arith, ◌≡◌, ◌⊎◌, inl, inr, ℕ, ◌<◌, ◌≤◌, List, [], length, map, refl, sym, ap, ◌∙◌, subst, true, Option, Some, None, slice_get, pos}
-use Rattle.kahn_pool.proofs.Common.{Line, Channel, Print, Number, Dry, Cut, Got, Fault, Store, Network, idle, Reads, Writes, Hands, instance_at, actual_at, Source, Given, Written, Nobody, Histories, Inputs, tapes_of, exec_at, out, values_at, goes_to, source, fed, input_list, iterate, IsPrefix, Stands, IsWhole, HasEnd, Ending, ending, IsQuiet, IsSettled, begins_nil, prefix_refl, settled, AllStand, View, AreKeptTokens, is_streamed, token_value, Answer, Stream, Token, Verdict, Finished, Bound, Memory, Ended, Faulted, More, AreRight, IsRight, IsOutcome, IsWaiting, IsDryOn, IsEnd, HasStream, values_of, IsGathered, IsStopped, no_view, view_at, EndsWith, IsFrom, IsGiven, IsOutcomeOf, stand_in, StoodBy, cases_lt, there, none-some, get_or_past, Tapes, sent_on, sent_stands, exec_on, Stays}
+use Rattle.std.proofs.Common.{arith, ◌≡◌, ◌⊎◌, inl, inr, ℕ, ◌<◌, ◌≤◌, List, [], length, map, refl, sym, ap, ◌∙◌, subst, true, Option, Some, None, slice_get, pos, sum_by, ◌+◌, ◌∷◌, zero, suc, false, true≢false, Bool}
+use Rattle.kahn_pool.proofs.Common.{same_Some, Line, Channel, Print, Number, Dry, Cut, Got, Fault, Store, Network, idle, Reads, Writes, Hands, instance_at, actual_at, Source, Given, Written, Nobody, Histories, Inputs, tapes_of, exec_at, out, values_at, goes_to, source, fed, input_list, iterate, IsPrefix, Stands, IsWhole, HasEnd, Ending, ending, IsQuiet, IsSettled, begins_nil, prefix_refl, settled, AllStand, View, AreKeptTokens, is_streamed, token_value, Answer, Stream, Token, Verdict, Finished, Bound, Memory, Ended, Faulted, More, AreRight, IsRight, IsOutcome, IsWaiting, IsDryOn, IsEnd, HasStream, values_of, no_view, view_at, IsFrom, IsGiven, IsOutcomeOf, stand_in, StoodBy, cases_lt, there, none-some, get_or_past, Tapes, sent_on, sent_stands, exec_on, Stays, sum_by-cons, end_events, view_events, stream_lines, AreStreams, IsConcluded, IsVerdict, HasEndIn, RunState}
 use Rattle.kahn_streams.specs.declared.answer.End.{End}
 use Rattle.kahn_streams.specs.declared.answer.Outcome.{Outcome}
 use Rattle.kahn_streams.specs.declared.answer.Outcome.TheVariants.{Waits}
@@ -13,17 +13,29 @@ use Rattle.kahn_streams.specs.Solution as net
 
 -- ---- the ends of a run that stopped
 
-module _ (N : Network) (I : Inputs) (bound : ℕ) (watch : Option ℕ) (said : Verdict) (ends : List End) (done : ℕ)
-    (g : IsStopped N I bound watch said ends done) where
+same_sums : (cs : List View) (xs : List End) → length xs ≡ length cs → ((p : ℕ) (x : End) → slice_get xs p ≡ Some x → x.events ≡ (view_at cs p).events) →
+    sum_by end_events xs ≡ sum_by view_events cs
+same_sums [] [] l h = refl
+same_sums [] (x ∷ xs) l h = absurd (omega (arith, l))
+same_sums (c ∷ cs) [] l h = absurd (omega (arith, l))
+same_sums (c ∷ cs) (x ∷ xs) l h = omega (arith, same_sums cs xs (omega (arith, l)) (λ p. h (suc p)), sum_by-cons end_events x xs, sum_by-cons view_events c cs, h zero x refl)
+
+module _ {state : RunState} {bound left : ℕ} {halted : Bool} {said : Verdict} {ends : List End} (done : ℕ) (g : IsConcluded state bound left halted said ends) (count : done + left ≡ bound) where
+  abbrev N : Network
+  N = state.network
+
+  abbrev I : Inputs
+  I = state.input
+
   abbrev pub e : ℕ → ℕ
-  e p = (view_at g.cells p).events
+  e p = (view_at state.cells p).events
 
   -- ---- every instance, and what lies beyond them, is at rest
 
   abbrev Rests : ℕ → Type 0
-  Rests p = (x : End) × EndsWith N I watch g.cells p x
+  Rests p = (x : End) × HasEndIn state p x
 
-  idle_stood : (p : ℕ) (c : View) → c ≡ no_view → instance_at N p ≡ idle → StoodBy N I watch p c
+  idle_stood : (p : ℕ) (c : View) → c ≡ no_view → instance_at N p ≡ idle → StoodBy N I state.watch p c
   idle_stood p c v i =
       record {
         tapes = λ q. [];
@@ -49,18 +61,18 @@ module _ (N : Network) (I : Inputs) (bound : ℕ) (watch : Option ℕ) (said : V
     where
       by : (p < length ends) ⊎ (length ends ≤ p) → length N.instances ≤ p
       by (inl l) = let x = there ends p l in absurd (none-some x.0 (sym h ∙ x.1))
-      by (inr l) = let n = g.instances in omega (arith, l, n)
+      by (inr l) = let n = g.last.size in omega (arith, l, n)
 
   rests_by : (p : ℕ) (r : Option End) → slice_get ends p ≡ r → Rests p
-  rests_by p (Some x) h = (x, g.each p x h)
+  rests_by p (Some x) h = (x, (g.last.ends p x h).0)
   rests_by p None h =
       let l = past p h in
-      let m = g.known in
+      let m = g.last.known in
       let i : instance_at N p ≡ idle = get_or_past N.instances p idle l in
-      let v : view_at g.cells p ≡ no_view = get_or_past g.cells p no_view (omega (arith, l, m)) in (
+      let v : view_at state.cells p ≡ no_view = get_or_past state.cells p no_view (omega (arith, l, m)) in (
         record { outcome = Ended; events = 0 },
         record {
-          stood = idle_stood p (view_at g.cells p) v i;
+          stood = idle_stood p (view_at state.cells p) v i;
           count = rw v refl;
           told = rw i refl;
         },
@@ -73,14 +85,11 @@ module _ (N : Network) (I : Inputs) (bound : ℕ) (watch : Option ℕ) (said : V
   unfolding rests_by rest
   rest_is p x h = by (slice_get ends p) refl h
     where
-      same_end : {y : End} → Some y ≡ Some x → y ≡ x
-      same_end f = cc
-
       by : (r : Option End) (f : slice_get ends p ≡ r) → r ≡ Some x → (rests_by p r f).0 ≡ x
-      by (Some y) f k = same_end k
+      by (Some y) f k = same_Some y x k
       by None f k = absurd cc
 
-  pub stood : (p : ℕ) → StoodBy N I watch p (view_at g.cells p)
+  pub stood : (p : ℕ) → StoodBy N I state.watch p (view_at state.cells p)
   stood p = (rest p).1.stood
 
   -- what each cell took
@@ -106,20 +115,20 @@ module _ (N : Network) (I : Inputs) (bound : ℕ) (watch : Option ℕ) (said : V
 
   -- ---- nobody took more than was given
 
-  given_long : (c n : ℕ) (src : Source) → IsGiven N I g.cells c src n → length (fed src I (λ p. sent_on N (e p) p (T p) (Channel c)) (Channel c)) ≡ n
+  given_long : (c n : ℕ) (src : Source) → IsGiven N I state.cells c src n → length (fed src I (λ p. sent_on N (e p) p (T p) (Channel c)) (Channel c)) ≡ n
   given_long c n Given h = h
   given_long c n (Written w) h = (stood w).gave h.0 c h.1 ∙ h.2
   given_long c n Nobody h = absurd h
 
-  long : (c n : ℕ) → IsGiven N I g.cells c (source N (Channel c)) n → length (A (Channel c)) ≡ n
+  long : (c n : ℕ) → IsGiven N I state.cells c (source N (Channel c)) n → length (A (Channel c)) ≡ n
   long c n h = given_long c n (source N (Channel c)) h
 
   took_within : (p q c : ℕ) → actual_at (instance_at N p) q ≡ Reads c → IsPrefix (T p q) (A (Channel c))
   took_within p q c r =
-      let h = g.channels p q c r in
-      let x : length (T p q) ≡ (view_at g.cells p).taken q = (stood p).took q in
+      let h = g.within p q c r in
+      let x : length (T p q) ≡ (view_at state.cells p).taken q = (stood p).took q in
       let y : length (A (Channel c)) ≡ h.0 = long c h.0 h.1 in
-      let z : (view_at g.cells p).taken q ≤ h.0 = h.2 in
+      let z : (view_at state.cells p).taken q ≤ h.0 = h.2 in
       both_stand N I (Channel c) (T p q) (A (Channel c)) ((stood p).stand q c r) (stands (Channel c)) (omega (arith, x, y, z))
 
   abbrev tapes : ℕ → Tapes
@@ -159,14 +168,14 @@ module _ (N : Network) (I : Inputs) (bound : ℕ) (watch : Option ℕ) (said : V
       stays (Fault k) f = tt
       stays Cut f = tt
 
-  outcome_by : (v : Verdict) (p : ℕ) (out : Outcome) → IsOutcomeOf N I g.cells p (o p) out → IsOutcome v N A p (e p) out
+  outcome_by : (v : Verdict) (p : ℕ) (out : Outcome) → IsOutcomeOf N I state.cells p (o p) out → IsOutcome v N A p (e p) out
   outcome_by v p Ended h = lasts net.Ended (λ q f. absurd cc) p (o p) refl h
   outcome_by v p (Faulted k) h = lasts (net.Faulted k) (λ q f. absurd cc) p (o p) refl h
   outcome_by v p (Waits c) (q, r, d, all) = waits v
     where
       -- took all: the tape has no more
       none : (extended p q).0 ≡ []
-      none = nothing_more (T p q) (tapes p q) (extended p q) ((stood p).took q ∙ rw r (sym (long c ((view_at g.cells p).taken q) all)))
+      none = nothing_more (T p q) (tapes p q) (extended p q) ((stood p).took q ∙ rw r (sym (long c ((view_at state.cells p).taken q) all)))
 
       dry : IsDryOn N A p (e p) c
       dry = (q, r, same_outcome N p (e p) (T p) (tapes p) (extended p) (Dry q) d none, does p)
@@ -177,10 +186,10 @@ module _ (N : Network) (I : Inputs) (bound : ℕ) (watch : Option ℕ) (said : V
       waits Bound = dry
   outcome_by v p More h = next_event N p (e p) (T p) (tapes p) (extended p) (stood p).does (stood p).all (moves h)
     where
-      moves : IsOutcomeOf N I g.cells p (o p) More → (o p ≡ Cut) ⊎ ((q : ℕ) × (o p ≡ Dry q) × (length (T p q) < length (tapes p q)))
+      moves : IsOutcomeOf N I state.cells p (o p) More → (o p ≡ Cut) ⊎ ((q : ℕ) × (o p ≡ Dry q) × (length (T p q) < length (tapes p q)))
       moves (inl c) = inl c
       moves (inr (q, c, n, r, d, given, less)) =
-          let x : length (T p q) ≡ (view_at g.cells p).taken q = (stood p).took q in
+          let x : length (T p q) ≡ (view_at state.cells p).taken q = (stood p).took q in
           let y : length (A (Channel c)) ≡ n = long c n given in
           inr (q, d, rw r (omega (arith, x, y, less)))
 
@@ -189,12 +198,6 @@ module _ (N : Network) (I : Inputs) (bound : ℕ) (watch : Option ℕ) (said : V
   ends_with p x h =
       subst (λ y. (y.events ≡ e p) × IsOutcome said N A p (e p) y.outcome) (rest_is p x h)
       ((rest p).1.count, outcome_by said p (rest p).0.outcome (rest p).1.told)
-
-  outcome : (p : ℕ) (x : End) → slice_get ends p ≡ Some x → IsOutcome said N A p (e p) x.outcome
-  outcome p x h = (ends_with p x h).1
-
-  count : (p : ℕ) (x : End) → slice_get ends p ≡ Some x → x.events ≡ e p
-  count p x h = (ends_with p x h).0
 
   -- ---- a finished network is quiet
 
@@ -208,11 +211,14 @@ module _ (N : Network) (I : Inputs) (bound : ℕ) (watch : Option ℕ) (said : V
   over_as p More h m = absurd (m refl)
 
   module _ (f : said ≡ Finished) where
+    none_goes_on : (p : ℕ) (x : End) → slice_get ends p ≡ Some x → x.outcome ≡ More → ⊥
+    none_goes_on = (subst (IsVerdict halted ends) f g.rule).1
+
     finished_outcome : (p : ℕ) (x : End) → slice_get ends p ≡ Some x → IsOutcome Finished N A p (e p) x.outcome
-    finished_outcome p x h = subst (λ v. IsOutcome v N A p (e p) x.outcome) f (outcome p x h)
+    finished_outcome p x h = subst (λ v. IsOutcome v N A p (e p) x.outcome) f (ends_with p x h).1
 
     over_at : (p : ℕ) (r : Option End) → slice_get ends p ≡ r → Over p
-    over_at p (Some x) h = over_as p x.outcome (finished_outcome p x h) (g.finished f p x h)
+    over_at p (Some x) h = over_as p x.outcome (finished_outcome p x h) (none_goes_on p x h)
     over_at p None h =
         let i : instance_at N p ≡ idle = get_or_past N.instances p idle (past p h) in
         (net.Ended, rw i refl)
@@ -226,11 +232,8 @@ module _ (N : Network) (I : Inputs) (bound : ℕ) (watch : Option ℕ) (said : V
     pub settles : IsSettled N I A (λ p. (over p).0) e
     settles = settled N I A (λ p. (over p).0) e quiet
 
-    same_ending : {x y : Ending} → Some x ≡ Some y → x ≡ y
-    same_ending h = cc
-
     end_by : (p : ℕ) (y : Ending) → ending (exec_at N (e p) p A).outcome ≡ Some y → HasEnd N I p y (e p)
-    end_by p y h = subst (λ z. HasEnd N I p z (e p)) (same_ending (sym (over p).1 ∙ h)) (settles.1 p)
+    end_by p y h = subst (λ z. HasEnd N I p z (e p)) (same_Some (over p).0 y (sym (over p).1 ∙ h)) (settles.1 p)
 
     end_as : (p : ℕ) (out : Outcome) → IsOutcome Finished N A p (e p) out → (out ≡ More → ⊥) → IsEnd N I p out (e p)
     end_as p Ended h m = end_by p net.Ended h
@@ -239,7 +242,22 @@ module _ (N : Network) (I : Inputs) (bound : ℕ) (watch : Option ℕ) (said : V
     end_as p More h m = m refl
 
     end_of : (p : ℕ) (x : End) → slice_get ends p ≡ Some x → IsEnd N I p x.outcome x.events
-    end_of p x h = subst (IsEnd N I p x.outcome) (sym (count p x h)) (end_as p x.outcome (finished_outcome p x h) (g.finished f p x h))
+    end_of p x h = subst (IsEnd N I p x.outcome) (sym (ends_with p x h).0) (end_as p x.outcome (finished_outcome p x h) (none_goes_on p x h))
+
+  bounded : said ≡ Bound → (done ≡ bound) × ((p : ℕ) × (x : End) × (slice_get ends p ≡ Some x) × (x.outcome ≡ More))
+  bounded f =
+      let (running, (p, x, at, more)) = subst (IsVerdict halted ends) f g.rule in
+      (used running ((g.last.ends p x at).1 more), (p, x, at, more))
+    where
+      used : halted ≡ false → (left ≡ 0) ⊎ (halted ≡ true) → done ≡ bound
+      used r (inl a) = omega (arith, a, count)
+      used r (inr a) = absurd (true≢false (sym a ∙ r))
+
+  total : done ≡ sum_by end_events ends
+  total =
+      let known = g.last.known in
+      let size = g.last.size in
+      omega (arith, g.last.total, same_sums state.cells ends (omega (arith, known, size)) (λ p x h. ((g.last.ends p x h).0).count), count)
 
   pub are_right : AreRight N I bound said ends done
   are_right =
@@ -247,28 +265,32 @@ module _ (N : Network) (I : Inputs) (bound : ℕ) (watch : Option ℕ) (said : V
         tapes = A;
         inputs = inputs;
         others = reached;
-        instances = g.instances;
-        does = λ p x h. subst (λ n. (exec_at N n p A).events ≡ n) (sym (count p x h)) (does p);
-        sends = λ p x h c s. subst (λ n. out N n p A c ≡ A c) (sym (count p x h)) (sends c p s);
-        outcomes = λ p x h. subst (λ n. IsOutcome said N A p n x.outcome) (sym (count p x h)) (outcome p x h);
-        total = g.total;
-        within = g.within;
+        instances = g.last.size;
+        does = λ p x h. subst (λ n. (exec_at N n p A).events ≡ n) (sym (ends_with p x h).0) (does p);
+        sends = λ p x h c s. subst (λ n. out N n p A c ≡ A c) (sym (ends_with p x h).0) (sends c p s);
+        outcomes = λ p x h. subst (λ n. IsOutcome said N A p n x.outcome) (sym (ends_with p x h).0) (ends_with p x h).1;
+        total = total;
+        within = omega (arith, count);
         ended = end_of;
-        bounded = g.bounded;
+        bounded = bounded;
       }
 
   -- ---- what is known of the lines
 
   -- what a writer kept, and what a process printed, is the tape
-  pub kept_values : (p q d : ℕ) → source N (Channel d) ≡ Written p → actual_at (instance_at N p) q ≡ Writes d → is_streamed N watch d ≡ true →
-      map token_value ((view_at g.cells p).kept q) ≡ are_right.tapes (Channel d)
+  pub kept_values : (p q d : ℕ) → source N (Channel d) ≡ Written p → actual_at (instance_at N p) q ≡ Writes d → is_streamed N state.watch d ≡ true →
+      map token_value ((view_at state.cells p).kept q) ≡ are_right.tapes (Channel d)
   unfolding are_right
   kept_values p q d s w streamed =
       ((stood p).kept q d w streamed).values ∙ sym (ap (λ x. fed x I (λ r. sent_on N (e r) r (T r) (Channel d)) (Channel d)) s)
 
-  pub printed_values : (p : ℕ) → map token_value (view_at g.cells p).printed ≡ are_right.tapes (Print p)
+  pub printed_values : (p : ℕ) → map token_value (view_at state.cells p).printed ≡ are_right.tapes (Print p)
   unfolding are_right
   printed_values p = (stood p).printed.values
+
+  pub nobodys_values : (c : Line) → source N c ≡ Nobody → are_right.tapes c ≡ []
+  unfolding are_right
+  nobodys_values c s = ap (λ x. fed x I (λ r. sent_on N (e r) r (T r) c) c) s
 
   pub whole_tapes : said ≡ Finished → (c : Line) → IsWhole N I c (are_right.tapes c)
   unfolding are_right
@@ -276,51 +298,52 @@ module _ (N : Network) (I : Inputs) (bound : ℕ) (watch : Option ℕ) (said : V
 
 -- ---- an answer
 
-module _ (N : Network) (I : Inputs) (bound : ℕ) (watch : Option ℕ) (a : Answer) (g : IsGathered N I bound watch a) where
+module _ {state : RunState} {bound left : ℕ} {halted : Bool} (a : Answer) (g : IsConcluded state bound left halted a.verdict a.ends.items)
+    (streams : AreStreams state a.streams.items (stream_lines state.network state.watch)) (count : a.events + left ≡ bound) where
   abbrev given : Histories
-  given = A N I bound watch a.verdict a.ends.items a.events g.stopped
+  given = A a.events g count
 
   abbrev done_by : ℕ → ℕ
-  done_by = e N I bound watch a.verdict a.ends.items a.events g.stopped
+  done_by = e a.events g count
 
   abbrev took : ℕ → Tapes
-  took = T N I bound watch a.verdict a.ends.items a.events g.stopped
+  took = T a.events g count
 
-  stands_for : (p : ℕ) → StoodBy N I watch p (view_at g.stopped.cells p)
-  stands_for = stood N I bound watch a.verdict a.ends.items a.events g.stopped
+  stands_for : (p : ℕ) → StoodBy state.network state.input state.watch p (view_at state.cells p)
+  stands_for = stood a.events g count
 
   -- ---- streams
 
-  kept_by : (src : Source) (c : Line) (ts : List Token) → source N c ≡ src → IsFrom N I watch g.stopped.cells src c ts →
-      AreKeptTokens N I c (fed src I (λ p. sent_on N (done_by p) p (took p) c) c) ts
+  kept_by : (src : Source) (c : Line) (ts : List Token) → source state.network c ≡ src → IsFrom state.network state.input state.watch state.cells src c ts →
+      AreKeptTokens state.network state.input c (fed src state.input (λ p. sent_on state.network (done_by p) p (took p) c) c) ts
   unfolding stood stands_for
   kept_by Given (Channel c) ts s h = h
   kept_by Given (Print r) ts s h = absurd h
   kept_by (Written p) (Channel c) ts s h =
-      subst (AreKeptTokens N I (Channel c) (sent_on N (done_by p) p (took p) (Channel c))) (sym h.3) ((stands_for p).kept h.0 c h.1 h.2)
+      subst (AreKeptTokens state.network state.input (Channel c) (sent_on state.network (done_by p) p (took p) (Channel c))) (sym h.3) ((stands_for p).kept h.0 c h.1 h.2)
   kept_by (Written p) (Print r) ts s h =
-      subst (λ d. AreKeptTokens N I (Print d) (sent_on N (done_by p) p (took p) (Print d)) ts) (sym (same_writer s))
-      (subst (AreKeptTokens N I (Print p) (sent_on N (done_by p) p (took p) (Print p))) (sym h) (stands_for p).printed)
+      subst (λ d. AreKeptTokens state.network state.input (Print d) (sent_on state.network (done_by p) p (took p) (Print d)) ts) (sym (same_writer s))
+      (subst (AreKeptTokens state.network state.input (Print p) (sent_on state.network (done_by p) p (took p) (Print p))) (sym h) (stands_for p).printed)
   kept_by Nobody c ts s h = absurd h
 
-  kept : (s : Stream) → HasStream a s → AreKeptTokens N I s.line (given s.line) s.tokens.items
-  kept s h = kept_by (source N s.line) s.line s.tokens.items refl (g.streams s h)
+  kept : (s : Stream) → HasStream a s → AreKeptTokens state.network state.input s.line (given s.line) s.tokens.items
+  kept s h = kept_by (source state.network s.line) s.line s.tokens.items refl (streams.each h.0 s h.1)
 
-  whole : a.verdict ≡ Finished → (s : Stream) → HasStream a s → IsWhole N I s.line (values_of s)
-  whole f s h = subst (IsWhole N I s.line) (sym (kept s h).values) ((settles N I bound watch a.verdict a.ends.items a.events g.stopped f).0 s.line)
+  whole : a.verdict ≡ Finished → (s : Stream) → HasStream a s → IsWhole state.network state.input s.line (values_of s)
+  whole f s h = subst (IsWhole state.network state.input s.line) (sym (kept s h).values) ((settles a.events g count f).0 s.line)
 
   tokens : (s : Stream) (k : ℕ) (t : Token) → HasStream a s → slice_get s.tokens.items k ≡ Some t →
-      (t.line ≡ s.line) × (t.place ≡ k) × Stands N I s.line k t.value
+      (t.line ≡ s.line) × (t.place ≡ k) × Stands state.network state.input s.line k t.value
   tokens s k t h x =
       let at = (kept s h).places k t x in
-      (at.0, at.1, stands N I bound watch a.verdict a.ends.items a.events g.stopped s.line k t.value (subst (λ l. slice_get l k ≡ Some t.value) (kept s h).values (get_map token_value s.tokens.items k t x)))
+      (at.0, at.1, stands a.events g count s.line k t.value (subst (λ l. slice_get l k ≡ Some t.value) (kept s h).values (get_map token_value s.tokens.items k t x)))
 
-  pub assembled : IsRight N I bound watch a
+  pub assembled : IsRight state.network state.input bound state.watch a
   unfolding are_right
   assembled =
       record {
-        run = are_right N I bound watch a.verdict a.ends.items a.events g.stopped;
-        named = g.lines;
+        run = are_right a.events g count;
+        named = streams.named;
         tokens = tokens;
         own = λ s k t h x. (kept s h).own k t x;
         values = λ s h. (kept s h).values;

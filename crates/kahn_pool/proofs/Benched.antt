@@ -1,6 +1,6 @@
 -- Cells that stand where their queues stand.
-use Rattle.std.proofs.Common.{arith, ◌≡◌, inl, inr, ℕ, ◌+◌, ◌<◌, ◌≤◌, List, length, map, refl, sym, ap, ◌∙◌, subst, Some, slice_get, slice_set, slice_index_or, false, length-set, ◌⊎◌}
-use Rattle.kahn_pool.proofs.Common.{map-set_same, map-set, get_or_from_slice_get, slice_get_read, Network, Reads, Writes, network_of, instance_at, actual_at, role_at, IsFed, reads, reads_listed, Channel, Inputs, source, inputs_of, View, exec_on, is_output, AreQueued, Joins, queue_of, actual_here, place_at, next_at, taken_of, given_of, waiting_of, Waiting, Seat, LeavesOthers, count, Told, told_view, seat_of, IsAt, IsStill, set_each, set_here, joins_within, IsGiven, TookNoMore, TookAll, view_at, no_view, RunState, PausedAt, Value, Table, IsLaid, IsSeated, sight_of, Pause, IsPause, dry_reads, Store, IsPaused, Cut, Dry, HasRunCell, length-map}
+use Rattle.std.proofs.Common.{Option, arith, ◌≡◌, inl, inr, ℕ, ◌+◌, ◌<◌, ◌≤◌, List, length, map, refl, sym, ap, ◌∙◌, subst, Some, slice_get, slice_set, slice_index_or, false, length-set, ◌⊎◌}
+use Rattle.kahn_pool.proofs.Common.{Program, Lists, map-set_same, map-set, get_or_from_slice_get, slice_get_read, Network, Reads, Writes, network_of, instance_at, actual_at, role_at, IsFed, reads, reads_listed, Channel, Inputs, source, inputs_of, View, exec_on, is_output, AreQueued, queue_of, actual_here, place_at, next_at, taken_of, given_of, waiting_of, Waiting, Site, LeavesOthers, count, Told, told_view, site_of, IsAt, IsStill, set_each, set_here, joins_within, IsGiven, TookNoMore, TookAll, view_at, no_view, RunState, PausedAt, Value, Table, IsLaid, IsSeated, sight_of, Pause, IsPause, dry_reads, Store, IsPaused, Cut, Dry, HasRunCell, length-map}
 pub use Rattle.kahn_streams.proofs.By_number.{there as got, within as within_get, mapped as get_map}
 use Rattle.kahn_streams.specs.Script.{Outcome}
 use Rattle.kahn_code.specs.Lines.{Lines as Queues}
@@ -8,9 +8,6 @@ use Rattle.kahn_code.specs.declared.progress.Pause.TheVariants as pause
 use Rattle.kahn_code.specs.Progress as code
 
 -- ---- lists
-
-pub some_one : {X : Type 0} {x y : X} → Some x ≡ Some y → x ≡ y
-some_one e = cc
 
 pub mapped : {X Y : Type 0} (f : X → Y) (xs : List X) (i : ℕ) (x : X) (d : Y) → slice_get xs i ≡ Some x → slice_index_or (map f xs) i d ≡ f x
 mapped f xs i x d e = get_or_from_slice_get (map f xs) i (f x) d (get_map f xs i x e)
@@ -56,9 +53,6 @@ module _ (b : Table) (laid : IsLaid b) where
   -- ---- what was given and what was taken
 
   module _ (counted : AreQueued b.queues) where
-    joins : (p q d : ℕ) → actual_at (instance_at N p) q ≡ Reads d → Joins (actual_at (instance_at N p) q) d
-    joins p q d e = subst (λ a. Joins a d) (sym e) refl
-
     queue_at : (p q d : ℕ) → actual_at (instance_at N p) q ≡ Reads d → (w : Waiting) × (slice_get b.queues.queues d ≡ Some w)
     queue_at p q d e =
         let same = laid.network in
@@ -71,7 +65,7 @@ module _ (b : Table) (laid : IsLaid b) where
         subst (λ k. IsGiven N I views d k (w.taken + w.waiting)) (sym s.0)
         (sym ((counted.each d w at).given role ∙ ap (λ (l : List (List Value)). length (inputs_of l d)) laid.input))
     put_there d w at (inr s) =
-        let c = seated_at s.0 (joins_within N s.0 s.1 d (subst (λ a. Joins a d) (sym s.3) refl)) in
+        let c = seated_at s.0 (joins_within N s.0 s.1 d (rw s.3 refl)) in
         let sum = sym (sent_there s.0 s.1 d c.0 c.2 s.3 (ap is_output s.4)) ∙ ap given_of at in
         subst (λ k. IsGiven N I views d k (w.taken + w.waiting)) (sym s.2)
         (s.1, s.3, ap (λ v. v.sent s.1) (viewed s.0 c.0 c.1) ∙ sum)
@@ -81,7 +75,7 @@ module _ (b : Table) (laid : IsLaid b) where
         ((view_at views p).taken q ≡ w.taken)
     given_there p q d e =
         let w = queue_at p q d e in
-        let c = seated_at p (joins_within N p q d (joins p q d e)) in (
+        let c = seated_at p (joins_within N p q d (rw e refl)) in (
           w.0,
           w.1,
           put_there d w.0 w.1 (reads b.network laid.wired p q d e),
@@ -121,26 +115,26 @@ abbrev pub ran : Table → ℕ → Told → Queues → Table
 ran b p c q = record { network = b.network; input = b.input; watch = b.watch; code = b.code; cells = slice_set b.cells p c; gone = b.gone; queues = q }
 
 -- the queues as the ports of instance p
-abbrev pub ports_of : Queues → Seat
+abbrev pub ports_of : Queues → Site
 ports_of q = record { network = q.network; input = q.input; instance = q.instance }
 
 pub laid_after : (b : Table) → IsLaid b → (p : ℕ) (c c' : Told) (q : Queues) → slice_get b.cells p ≡ Some c → IsSame c c' →
-    ports_of q ≡ seat_of c' → IsAt c' (λ r. next_at q.queues (actual_at (instance_at (network_of q.network) q.instance) r)) →
+    ports_of q ≡ site_of c' → IsAt c' (λ r. next_at q.queues (actual_at (instance_at (network_of q.network) q.instance) r)) →
     LeavesOthers (record { network = b.queues.network; input = b.queues.input; instance = p }) (place_at b.queues) (place_at q) → IsLaid (ran b p c' q)
-laid_after b laid p c c' q at same seat stands leaves = record {
+laid_after b laid p c c' q at same site stands leaves = record {
   wired = laid.wired;
   code = laid.code;
   count = length-set b.cells p c' ∙ laid.count;
   each = set_each (IsSeated (ran b p c' q)) b.cells p c' others mine;
-  network = ap (λ (s : Seat). s.network) seat ∙ same.0 ∙ old.network;
-  input = ap (λ (s : Seat). s.input) seat ∙ same.1 ∙ old.input;
+  network = ap (λ (s : Site). s.network) site ∙ same.0 ∙ old.network;
+  input = ap (λ (s : Site). s.input) site ∙ same.1 ∙ old.input;
 }
   where
     old : IsSeated b p c
     old = laid.each p c at
 
     is : q.instance ≡ p
-    is = ap (λ (s : Seat). s.instance) seat ∙ same.2 ∙ old.instance
+    is = ap (λ (s : Site). s.instance) site ∙ same.2 ∙ old.instance
 
     mine : IsSeated (ran b p c' q) p c'
     mine = record {
@@ -208,27 +202,25 @@ module _ {b : Table} (laid : IsLaid b) (p : ℕ) {c : Told} (at : slice_get b.ce
   pub code_is : b.code ≡ c.network
   code_is = laid.code ∙ sym seated.network
 
-  pub ports_are : (q : Queues) → q ≡ lent → ports_of q ≡ seat_of c
+  pub ports_are : (q : Queues) → q ≡ lent → ports_of q ≡ site_of c
   ports_are q is =
       ap ports_of is ∙
-      ap (λ t. let s : Seat = record { network = t; input = b.queues.input; instance = p } in s) (laid.network ∙ sym seated.network) ∙
-      ap (λ t. let s : Seat = record { network = c.network; input = t; instance = p } in s) (laid.input ∙ sym seated.input) ∙
-      ap (λ t. let s : Seat = record { network = c.network; input = c.input; instance = t } in s) (sym seated.instance)
+      (λ i. record { network = (laid.network ∙ sym seated.network) i; input = (laid.input ∙ sym seated.input) i; instance = sym seated.instance i })
 
   pub at_is : (q : Queues) → q ≡ lent → IsAt c (λ r. next_at q.queues (actual_here q r))
   at_is q is = subst (λ (x : Queues). IsAt c (λ r. next_at x.queues (actual_here x r))) (sym is) seated.at
 
-  module _ (c' : Told) (q q' : Queues) (is : q ≡ lent) (same : IsSame c c') (seat : ports_of q' ≡ seat_of c')
+  module _ (c' : Told) (q q' : Queues) (is : q ≡ lent) (same : IsSame c c') (site : ports_of q' ≡ site_of c')
       (stands : IsAt c' (λ r. next_at q'.queues (actual_here q' r))) (leaves : LeavesOthers (ports_of q) (place_at q) (place_at q')) where
     pub laid_now : IsLaid (ran b p c' q')
-    laid_now = laid_after b laid p c c' q' at same seat stands (subst (λ (x : Queues). LeavesOthers (ports_of x) (place_at x) (place_at q')) is leaves)
+    laid_now = laid_after b laid p c c' q' at same site stands (subst (λ (x : Queues). LeavesOthers (ports_of x) (place_at x) (place_at q')) is leaves)
 
     mine : IsSeated (ran b p c' q') p c'
     mine = laid_now.each p c' (set_here b.cells p c' (within_get b.cells p c at))
 
     own_actual : (r : ℕ) → actual_here q' r ≡ actual_at (instance_at (network_of b.network) p) r
     own_actual r =
-        ap (λ (s : Seat). actual_at (instance_at (network_of s.network) s.instance) r) seat ∙
+        ap (λ (s : Site). actual_at (instance_at (network_of s.network) s.instance) r) site ∙
         ap (λ t. actual_at (instance_at (network_of t) c'.instance) r) mine.network ∙
         ap (λ i. actual_at (instance_at (network_of b.network) i) r) mine.instance
 
@@ -256,10 +248,8 @@ module _ {b : Table} (laid : IsLaid b) (p : ℕ) {c : Told} (at : slice_get b.ce
       paused_here : code.Paused (network_of b.network) (inputs_of b.input) b.watch p (told_view c')
           (IsPause (network_of b.network) p dry ready (c'.events ≡ c.events + quantum) z)
       paused_here =
-          subst (λ i. code.Paused (network_of b.network) (inputs_of b.input) b.watch i (told_view c') (IsPause (network_of b.network) i dry ready (c'.events ≡ c.events + quantum) z)) mine.instance
-          (subst (λ w. code.Paused (network_of b.network) (inputs_of b.input) w c'.instance (told_view c') (IsPause (network_of b.network) c'.instance dry ready (c'.events ≡ c.events + quantum) z)) mine.watch
-          (subst (λ l. code.Paused (network_of b.network) (inputs_of l) c'.watch c'.instance (told_view c') (IsPause (network_of b.network) c'.instance dry ready (c'.events ≡ c.events + quantum) z)) mine.input
-          (subst (λ t. code.Paused (network_of t) (inputs_of c'.input) c'.watch c'.instance (told_view c') (IsPause (network_of t) c'.instance dry ready (c'.events ≡ c.events + quantum) z)) mine.network paused)))
+          subst (λ (k : Program × Lists × Option ℕ × ℕ). code.Paused (network_of k.0) (inputs_of k.1) k.2 k.3 (told_view c') (IsPause (network_of k.0) k.3 dry ready (c'.events ≡ c.events + quantum) z))
+          (λ i. (mine.network i, mine.input i, mine.watch i, mine.instance i)) paused
 
       abbrev o : Outcome Store
       o = (exec_on (network_of b.network) c'.events p paused_here.stood.tapes).outcome

@@ -8,9 +8,9 @@ pub use Rattle.kahn_code.specs.Cells.{AllStand, AreKeptTokens, StoodBy, View, ex
 pub use Rattle.kahn_code.specs.Lines.{AreFirst, AreQueued, HasPoured, IsPoured, Joins, actual_here, given_of, next_at, place_at, queue_of, route_of, taken_of, waiting_of}
 pub use Rattle.kahn_code.specs.Progress.{IsPause, Paused}
 pub use Rattle.kahn_code.specs.Queues.{Waiting}
-pub use Rattle.kahn_code.specs.Seats.{LeavesOthers, Seat}
+pub use Rattle.kahn_code.specs.Sites.{LeavesOthers, Site}
 pub use Rattle.kahn_code.specs.Standing.{count, tokens}
-pub use Rattle.kahn_code.specs.Told.{IsAt, IsStill, Told, seat_of, told_view}
+pub use Rattle.kahn_code.specs.Told.{IsAt, IsStill, Told, site_of, told_view}
 pub use Rattle.kahn_code.specs.declared.{cell.Kept.Kept, progress.Pause.Pause}
 pub use Rattle.kahn_code.specs.inner.Gone.{Gone, kept_behind, nothing_gone}
 pub use Rattle.kahn_code.specs.inner.Tapped.{HasForgotten, Tapped, regrown_tap}
@@ -34,16 +34,16 @@ pub use Rattle.kahn_job.specs.inner.Tasks.{Continues, IsTrueOf, Tasked, standing
 pub use Rattle.kahn_job.specs.inner.Ways.{no_end}
 pub use Rattle.kahn_job.specs.inner.Works.{IsJob, Work, width_of}
 pub use Rattle.kahn_pool.specs.Flows.{AreNew, Flowing, HasLetGo, HasPouredIn, IsRunOn}
-pub use Rattle.kahn_pool.specs.HeldRuns.{AreCalls, GoesOn, HasFed, HasResumed, HasSoFar, HeldRun, IsAnswerOf, IsCall, IsLineOf, IsResumed, IsRightSoFar, IsSoFar, IsUnfed, IsUnresumed, SaysNoLess, Seen, given_so_far, last_of, seen_at, seen_events, seen_of, so_far, unseen, writing}
+pub use Rattle.kahn_pool.specs.HeldRuns.{AreCalls, GoesOn, HasFed, HasResumed, HeldRun, IsAnswerOf, IsCall, IsLineOf, IsResumed, IsRightSoFar, IsUnfed, IsUnresumed, SaysNoLess, Seen, given_so_far, last_of, seen_at, seen_events, seen_of, so_far, unseen, writing}
 pub use Rattle.kahn_pool.specs.declared.{held_fault.HeldFault.HeldFault, part.Part.Part, part.Stopped.Stopped, rounds.Round.Round}
-pub use Rattle.kahn_pool.specs.inner.Bench.{AreEnds, AreStreams, Goes, HasEndIn, HasRunCell, IsConcluded, IsLast, IsPaused, IsSameRun, IsVerdict, LacksMemory, Marked, PausedAt, RunState, all_events, events_at, view_events, weight}
+pub use Rattle.kahn_pool.specs.inner.Bench.{AreEnds, AreStreams, HasEndIn, HasRunCell, IsConcluded, IsLast, IsPaused, IsVerdict, LacksMemory, PausedAt, RunState, all_events, events_at, view_events}
 pub use Rattle.kahn_pool.specs.inner.Changed.{HaveChanged}
-pub use Rattle.kahn_pool.specs.inner.FlowBench.{AreLast, AreLent, IsFlowing, flow_of, let_go_by, let_go_of, run_of_bench, waits_of}
-pub use Rattle.kahn_pool.specs.inner.Gathered.{EndsWith, IsFrom, IsGathered, IsGiven, IsOutcomeOf, IsStopped, TookAll, TookNoMore, no_view, view_at}
+pub use Rattle.kahn_pool.specs.inner.FlowBench.{AreLast, AreLent, IsFlowOf, flow_of, let_go_by, let_go_of, run_of_bench, waits_of}
+pub use Rattle.kahn_pool.specs.inner.Gathered.{IsFrom, IsGiven, IsOutcomeOf, TookAll, TookNoMore, no_view, view_at}
 pub use Rattle.kahn_pool.specs.inner.Holding.{AreEnded, AreHeld, AreHeldBy, AreWatched, HasRisen, HasStopped, HasStoppedPart, HaveRisen, IsConclusion, IsGiving, IsHolding, cell_alone, cells_seen, held_state, run_of, run_with}
 pub use Rattle.kahn_pool.specs.inner.Rested.{AreEndsOfTasks, AreTasks, AreTold, IsDryOf, IsEndOf, IsInstanceTask, IsLentTo, IsSaid, IsSettledTask, IsToldAs, Says, SettlesTo, cell_of, state_of_tasks}
-pub use Rattle.kahn_pool.specs.inner.Streams.{AreAllGiven, AreAllOf, AreGiven, AreLists, AreNamed, HasBecome, HasInput, HasInputs, HaveBecome, IsBare, IsBegun, IsDeclared, IsFilled, KeepsOtherLines, kept_in, kept_lists, printed_in, printed_list}
-pub use Rattle.kahn_pool.specs.inner.Workbench.{AllStandBy, AreKeptOf, AreLeft, AreOpeningCells, AreStreamsReady, AreWhole, GoesIn, HasEmptied, HasMoved, HasTakenIn, HasTakenTurn, HasWorked, IsLaid, IsLeft, IsSeated, StandsAsTold, Table, actual_count, all_of, gone_in, parameter_count, sight_of, table_of, told_in}
+pub use Rattle.kahn_pool.specs.inner.Streams.{AreAllGiven, AreAllOf, AreGiven, AreLists, AreNamed, HasBecome, HasInput, HasInputs, HaveBecome, IsBegun, IsDeclared, IsFilled, KeepsOtherLines, kept_in, kept_lists, printed_in, printed_list}
+pub use Rattle.kahn_pool.specs.inner.Workbench.{AllStandBy, AreKeptOf, AreLeft, AreOpen, AreOpeningCells, AreStreamsReady, AreWhole, HasAdvanced, HasEmptied, HasComeToRest, HasTakenIn, HasTakenTurn, HasWorked, IsInRound, IsLaid, IsLeft, IsRightAlone, IsSeated, Marked, MayRun, StandsAsTold, Table, actual_count, all_of, gone_in, parameter_count, sight_of, table_of, told_in, turn_of, weight}
 pub use Rattle.kahn_streams.proofs.By_number.{there}
 pub use Rattle.kahn_streams.proofs.Dry.{dry_reads}
 pub use Rattle.kahn_streams.proofs.Entered.{none_of}
@@ -70,15 +70,14 @@ pub use Rattle.kahn_streams.specs.Tokens.{IsOwn, token_value}
 pub use Rattle.kahn_streams.specs.View.{Scope, place_of}
 pub use Rattle.kahn_streams.specs.Wires.{process_at}
 pub use Rattle.kahn_streams.specs.Wiring.{IsWellWired, side_at}
-pub use Rattle.kahn_streams.specs.declared.{answer.Answer.Answer, answer.Outcome.TheVariants.Ended, answer.Outcome.TheVariants.Faulted, answer.Outcome.TheVariants.More, answer.Stream.Stream, answer.Verdict.Verdict, answer.Verdict.TheVariants.Bound, answer.Verdict.TheVariants.Finished, answer.Verdict.TheVariants.Memory, sides.Side.Side, token.Token.Token, tree.Declaration.Declaration, tree.Kind.Kind, tree.Kind.TheVariants.Integer, tree.Process.Process, tree.Program.Program, tree.Role.Role, tree.Role.TheVariants.Inner, tree.Role.TheVariants.Input, tree.Role.TheVariants.Output, value.Line.Line, value.Line.TheVariants.Channel, value.Line.TheVariants.Print, value.Value.Value}
+pub use Rattle.kahn_streams.specs.declared.{answer.Answer.Answer, answer.Outcome.TheVariants.Ended, answer.Outcome.TheVariants.Faulted, answer.Outcome.TheVariants.More, answer.Stream.Stream, answer.Verdict.Verdict, answer.Verdict.TheVariants.Bound, answer.Verdict.TheVariants.Finished, answer.Verdict.TheVariants.Memory, sides.Side.Side, token.Token.Token, tree.Declaration.Declaration, tree.Kind.TheVariants.Integer, tree.Process.Process, tree.Program.Program, tree.Role.Role, tree.Role.TheVariants.Inner, tree.Role.TheVariants.Input, tree.Role.TheVariants.Output, value.Line.Line, value.Line.TheVariants.Channel, value.Line.TheVariants.Print, value.Value.Value}
 pub use Rattle.kahn_streams.specs.inner.Sources.{IsFed}
 pub use Rattle.std.proofs.Math.Nat.{le-max_left, le-max_right}
 pub use Rattle.std.proofs.Math.Seq.{map-set_same}
 pub use Rattle.std.proofs.lemmas.Bool.{cases_eq, cases_lt}
 pub use Rattle.std.proofs.lemmas.List.Folds.{fold-map}
 pub use Rattle.std.proofs.lemmas.List.Sums.{get_or-le-sum_by, sum_by-cons, sum_by-set}
-pub use Rattle.std.proofs.lemmas.List.{get_or-map, get_or-set_other, get_or-set_same, get_or_past, length-map, map-append, map-set, replicate-append-replicate, take_all, take_at}
+pub use Rattle.std.proofs.lemmas.List.{get_or-map, get_or-set_other, get_or_past, length-map, map-append, map-set, replicate-append-replicate, take_all, take_at}
 pub use Rattle.std.proofs.lemmas.Option.{get_or_from_slice_get, none-some, same_Some, slice_get-get_or, slice_get_read, slice_get_within}
 pub use Rattle.std.proofs.lemmas.Result.{err_from_is_err_and}
-pub use Rattle.std.specs.List.{All}
 pub use Rattle.std.specs.Option.{SomeIff}

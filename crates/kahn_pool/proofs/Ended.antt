@@ -2,7 +2,7 @@
 use Rattle.std.proofs.Common.{arith, ◌≡◌, ◌⊎◌, inl, inr, ℕ, suc, ◌<◌, List, [], ◌∷◌, ◌++◌, length, refl, sym, ap, ◌∙◌, subst, Some, None, slice_get, length-append}
 use Rattle.kahn_pool.proofs.Common.{Program, Side, Reads, Writes, network_of, instance_at, actual_at, IsWriter, IsOnly, IsFed, IsWellWired, side_at, handed_within, reads, writes, Lists, inputs_of, Joins, at_last, joins_parameter, count, Tasked, handed_to_task, AreAll, AreEndsOfTasks, AreTold, IsEndOf, IsToldAs, same_Some}
 use Rattle.kahn_streams.specs.declared.answer.End.{End}
-use Rattle.kahn_pool.proofs.Benched.{got, some_one}
+use Rattle.kahn_pool.proofs.Benched.{got}
 use Rattle.kahn_job.specs.declared.standing.Standing.TheVariants as standing
 use Rattle.kahn_streams.specs.declared.answer.Outcome.TheVariants as outcome
 
@@ -26,7 +26,7 @@ module _ (t : Program) (tasks : List Tasked) (h : AreTold t tasks) where
         let s = only.1 (side_at r o) (writer_side t r o c (sym (handed_as r o z f) ∙ k)) in
         let i : r ≡ w.instance = ap (λ (u : Side). u.instance) s in
         let q : o ≡ w.parameter = ap (λ (u : Side). u.parameter) s in
-        let same : z ≡ x = some_one (sym f ∙ ap (slice_get tasks) i ∙ at) in
+        let same : z ≡ x = same_Some _ _ (sym f ∙ ap (slice_get tasks) i ∙ at) in
         ap (λ y. count y.work.cell.sent o) same ∙ ap (count x.work.cell.sent) q ∙ sym e;
   }
 

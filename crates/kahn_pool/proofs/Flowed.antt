@@ -1,39 +1,26 @@
 -- A flow: what its parts, more input and letting go make of it.
-use Rattle.std.proofs.Common.{arith, ◌≡◌, ℕ, zero, suc, ◌+◌, ◌-◌, ◌<◌, ◌≤◌, ◌^◌, Bool, List, [], ◌∷◌, ◌++◌, length, map, replicate, take, refl, sym, ap, ◌∙◌, subst, append-nil, Option, Some, slice_get, slice_index_or}
-use Rattle.kahn_pool.proofs.Common.{length-map, map-append, take_all, take_at, Source, Given, Written, Nobody, Writes, channel_source, network_of, instance_at, actual_at, role_at, Token, Value, Line, Channel, Print, AreInputsExtended, source, Lists, inputs_of, none_of, prefix_refl, View, token_value, IsPoured, tokens, Told, told_view, Gone, nothing_gone, poured_grown, GoesOn, IsLineOf, HeldRun, given_so_far, seen_at, seen_of, so_far, writing, stream_lines, Verdict, RunState, all_events, IsConcluded, AreEnded, AreNew, HasLetGo, IsRunOn, AreLast, AreLent, IsFlowing, flow_of, let_go_by, let_go_of, run_of_bench, waits_of, no_view, AreAllGiven, AllStandBy, AreWhole, HasEmptied, HasTakenIn, HasWorked, IsLaid, Table, all_of, sight_of, writes, HaveRisen, run_with}
+use Rattle.std.proofs.Common.{vec_capacity, sum_by, arith, ◌≡◌, ℕ, zero, suc, ◌+◌, ◌-◌, ◌<◌, ◌≤◌, ◌^◌, List, [], ◌∷◌, ◌++◌, length, map, replicate, take, refl, sym, ap, ◌∙◌, subst, append-nil, Option, Some, slice_get, slice_index_or}
+use Rattle.kahn_pool.proofs.Common.{length-map, map-append, take_all, take_at, Source, Given, Written, Nobody, Writes, channel_source, network_of, instance_at, actual_at, role_at, Token, Value, Line, Channel, Print, AreInputsExtended, source, Lists, inputs_of, none_of, prefix_refl, View, token_value, IsPoured, tokens, Told, told_view, Gone, nothing_gone, poured_grown, GoesOn, IsLineOf, HeldRun, given_so_far, seen_at, seen_of, so_far, writing, stream_lines, Verdict, all_events, IsConcluded, AreEnded, AreNew, HasLetGo, IsRunOn, AreLast, AreLent, IsFlowOf, flow_of, let_go_by, let_go_of, run_of_bench, waits_of, no_view, AreAllGiven, AllStandBy, AreWhole, HasEmptied, HasTakenIn, HasWorked, IsLaid, Table, all_of, sight_of, writes, HaveRisen, Plan, Program, seen_events}
 use Rattle.std.proofs.lemmas.List.{length-append}
 use Rattle.kahn_streams.specs.declared.answer.End.{End}
 use Rattle.kahn_pool.proofs.Benched.{mapped}
 use Rattle.kahn_pool.proofs.Giving.{input_role}
-use Rattle.kahn_pool.proofs.Going_on.{risen_here}
+use Rattle.kahn_pool.proofs.Going_on.{Grows, goes_on, grows_not, seen_grows}
 use Rattle.kahn_pool.proofs.Once_written.{input_watched, written_once}
 use Rattle.kahn_pool.proofs.Named.{HasLine, has_line}
-use Rattle.kahn_pool.proofs.Righted.{settled_by}
-use Rattle.kahn_pool.proofs.Going_on as Going
+use Rattle.kahn_pool.proofs.Righted.{events_seen, settled_by}
+use Rattle.kahn_pool.specs.declared.part_alone.PartEnd.{PartEnd}
+use Rattle.kahn_pool.specs.inner.FlowBench.{IsPartEnd}
 
 -- ---- it goes on
 
--- the run of a later table, with the names of the first
-named_first : (b d : Table) → d.network ≡ b.network → d.input ≡ b.input → d.watch ≡ b.watch → (workers quantum bound : ℕ) (said : Option Verdict) →
-    run_with b.network b.input b.watch workers quantum bound d.cells said ≡ run_of_bench d workers quantum bound said
-named_first b d n l w workers quantum bound said = λ i. record {
-  network = sym n i;
-  input = sym l i;
-  watch = sym w i;
-  workers = workers;
-  quantum = quantum;
-  bound = bound;
-  cells = map seen_of d.cells;
-  verdict = said;
-}
-
 pub worked_goes_on : (b d : Table) → IsLaid b → IsLaid d → AllStandBy b.network b.watch b.cells → AllStandBy d.network d.watch d.cells → HasWorked b d →
-    (workers quantum bound total : ℕ) (said next : Option Verdict) → GoesOn (run_of_bench b workers quantum bound said) (run_of_bench d workers quantum total next)
-worked_goes_on b d laid later old new h workers quantum bound total said next =
-    subst (GoesOn (run_of_bench b workers quantum bound said)) (named_first b d h.network h.input h.watch workers quantum total next)
-    (Going.goes_on b.network laid.wired b.input b.input (λ c. prefix_refl (inputs_of b.input c)) b.watch workers quantum bound total b.cells d.cells
-    laid.count (later.count ∙ ap (λ t. length (network_of t).instances) h.network) old
-    (subst (λ t. AllStandBy t b.watch d.cells) h.network (subst (λ w. AllStandBy d.network w d.cells) h.watch new)) risen said next)
+    (plan : Plan) (total : ℕ) (said next : Option Verdict) → GoesOn (run_of_bench b plan said) (run_of_bench d (record plan { bound = total }) next)
+worked_goes_on b d laid later old new h plan total said next =
+    goes_on (run_of_bench b plan said) (run_of_bench d (record plan { bound = total }) next) h.network h.watch refl refl
+    (subst (λ l. AreInputsExtended (inputs_of b.input) (inputs_of l)) (sym h.input) (λ c. prefix_refl (inputs_of b.input c)))
+    (seen_grows b.network b.watch b.cells d.cells (later.count ∙ ap (λ t. length (network_of t).instances) h.network ∙ sym laid.count) old
+    (subst (λ t. AllStandBy t b.watch d.cells) h.network (subst (λ w. AllStandBy d.network w d.cells) h.watch new)) risen)
   where
     risen : HaveRisen b.cells d.cells
     risen p x y e f =
@@ -43,24 +30,12 @@ worked_goes_on b d laid later old new h workers quantum bound total said next =
         let same : y.input ≡ x.input = (later.each p y f).input ∙ h.input ∙ sym (laid.each p x e).input in
         record { events = omega (arith, a, z, l); input = subst (λ k. AreInputsExtended (inputs_of x.input) (inputs_of k)) (sym same) (λ c. prefix_refl (inputs_of x.input c)) }
 
-pub poured_goes_on : (b d : Table) → IsLaid b → AllStandBy b.network b.watch b.cells → (c n : ℕ) (values : List Value) (input : Lists) → IsPoured b.input c values input →
-    HasTakenIn c n input b d → (workers quantum bound : ℕ) (said next : Option Verdict) → GoesOn (run_of_bench b workers quantum bound said) (run_of_bench d workers quantum bound next)
-poured_goes_on b d laid old c n values input poured h workers quantum bound said next =
-    subst (GoesOn (run_of_bench b workers quantum bound said)) named
-    (Going.goes_on b.network laid.wired b.input input (poured_grown b.input c values input poured) b.watch workers quantum bound bound b.cells b.cells
-    laid.count laid.count old old (risen_here b.cells) said next)
-  where
-    named : run_with b.network input b.watch workers quantum bound b.cells next ≡ run_of_bench d workers quantum bound next
-    named = λ i. record {
-      network = sym h.network i;
-      input = sym h.lists i;
-      watch = sym h.watch i;
-      workers = workers;
-      quantum = quantum;
-      bound = bound;
-      cells = sym h.seen i;
-      verdict = next;
-    }
+pub poured_goes_on : (b d : Table) (c n : ℕ) (values : List Value) (input : Lists) → IsPoured b.input c values input → HasTakenIn c n input b d →
+    (plan : Plan) (said next : Option Verdict) → GoesOn (run_of_bench b plan said) (run_of_bench d plan next)
+poured_goes_on b d c n values input poured h plan said next =
+    goes_on (run_of_bench b plan said) (run_of_bench d plan next) h.network h.watch refl refl
+    (subst (λ l. AreInputsExtended (inputs_of b.input) (inputs_of l)) (sym h.lists) (poured_grown b.input c values input poured))
+    (λ p. subst (λ cells. Grows (seen_at (map seen_of b.cells) p) (seen_at cells p)) (sym h.seen) (grows_not (seen_at (map seen_of b.cells) p)))
 
 -- ---- what was let go of
 
@@ -117,25 +92,20 @@ pub let_go_same : (b d : Table) → d.network ≡ b.network → d.input ≡ b.in
 let_go_same b d m l w gone g n = λ i. let_go_of (let x : Table = record { network = m i; input = l i; watch = w i; code = b.code; cells = b.cells; gone = g i; queues = b.queues } in x) n
 
 -- all, where the cells let go of all that they kept
-kept_all : (cells : List Told) (p : ℕ) → (slice_index_or (map all_of cells) p nothing_gone).kept ≡ (seen_at (map seen_of cells) p).kept
-kept_all [] p = refl
-kept_all (c ∷ cells) zero = refl
-kept_all (c ∷ cells) (suc p) = kept_all cells p
+all_gone : (cells : List Told) (p : ℕ) → let g = slice_index_or (map all_of cells) p nothing_gone in let c = seen_at (map seen_of cells) p in (g.kept ≡ c.kept) × (g.printed ≡ c.printed)
+all_gone [] p = (refl, refl)
+all_gone (c ∷ cells) zero = (refl, refl)
+all_gone (c ∷ cells) (suc p) = all_gone cells p
 
-printed_all : (cells : List Told) (p : ℕ) → (slice_index_or (map all_of cells) p nothing_gone).printed ≡ (seen_at (map seen_of cells) p).printed
-printed_all [] p = refl
-printed_all (c ∷ cells) zero = refl
-printed_all (c ∷ cells) (suc p) = printed_all cells p
-
-module _ (b : Table) (workers quantum bound : ℕ) (said : Option Verdict) where
+module _ (b : Table) (plan : Plan) (said : Option Verdict) where
   abbrev run : HeldRun
-  run = run_of_bench b workers quantum bound said
+  run = run_of_bench b plan said
 
   go_all : (s : Source) (c : Line) → let_go_by (record b { gone = map all_of b.cells }) 0 s c ≡ given_so_far run s c
   go_all Given (Channel c) = take_all (length (inputs_of b.input c) - 0) (inputs_of b.input c) (omega arith)
   go_all Given (Print r) = refl
-  go_all (Written p) (Channel c) = ap (λ k. map token_value (tokens k (writing (instance_at (network_of b.network) p).actuals c))) (kept_all b.cells p)
-  go_all (Written p) (Print r) = ap (map token_value) (printed_all b.cells p)
+  go_all (Written p) (Channel c) = ap (λ k. map token_value (tokens k (writing (instance_at (network_of b.network) p).actuals c))) (all_gone b.cells p).0
+  go_all (Written p) (Print r) = ap (map token_value) (all_gone b.cells p).1
   go_all Nobody c = refl
 
   pub all_let_go : (d : Table) → HasEmptied b d → let_go_of d 0 ≡ map (so_far run) (stream_lines (network_of b.network) b.watch)
@@ -143,58 +113,36 @@ module _ (b : Table) (workers quantum bound : ℕ) (said : Option Verdict) where
       let_go_same b d h.network h.input h.watch (map all_of b.cells) h.gone 0
       ∙ (λ i. map (λ c. go_all (source (network_of b.network) c) c i) (stream_lines (network_of b.network) b.watch))
 
--- the run stays where all is let go of
-pub emptied_run : (b d : Table) → HasEmptied b d → (workers quantum bound : ℕ) (said : Option Verdict) →
-    run_of_bench d workers quantum bound said ≡ run_of_bench b workers quantum bound said
-emptied_run b d h workers quantum bound said = λ i. record {
-  network = h.network i;
-  input = h.input i;
-  watch = h.watch i;
-  workers = workers;
-  quantum = quantum;
-  bound = bound;
-  cells = h.seen i;
-  verdict = said;
-}
-
 -- ---- what is new of a stream
 
--- by number
-new_by : (b : Table) (workers quantum bound : ℕ) (said : Option Verdict) (n : ℕ) (line : Line) (ts : List Token) →
-    so_far (run_of_bench b workers quantum bound said) line ≡ let_go_by b n (source (network_of b.network) line) line ++ map token_value ts →
-    AreNew (flow_of b workers quantum bound said n) line ts
-new_by b workers quantum bound said n line ts e j at =
-    e ∙ ap (λ l. l ++ map token_value ts)
-    (sym (mapped (λ c. let_go_by b n (source (network_of b.network) c) c) (stream_lines (network_of b.network) b.watch) j line [] at))
+-- by its source
+new_by : (b : Table) (plan : Plan) (said : Option Verdict) (n : ℕ) {line c : Line} {s : Source} (ts : List Token) → line ≡ c → source (network_of b.network) c ≡ s →
+    given_so_far (run_of_bench b plan said) s c ≡ let_go_by b n s c ++ map token_value ts → AreNew (flow_of b plan said n) line ts
+new_by b plan said n {line} {c} {s} ts e from so j at =
+    subst (λ l. so_far (run_of_bench b plan said) l ≡ let_go_by b n (source (network_of b.network) l) l ++ map token_value ts) (sym e)
+    (subst (λ s. given_so_far (run_of_bench b plan said) s c ≡ let_go_by b n s c ++ map token_value ts) (sym from) so)
+    ∙ ap (λ l. l ++ map token_value ts) (sym (mapped (λ c. let_go_by b n (source (network_of b.network) c) c) (stream_lines (network_of b.network) b.watch) j line [] at))
 
-module _ (b : Table) (workers quantum bound : ℕ) (said : Option Verdict) (n : ℕ) where
+module _ (b : Table) (plan : Plan) (said : Option Verdict) (n : ℕ) where
   pub new_kept : IsLaid b → (line : Line) (c p q : ℕ) (ts : List Token) → line ≡ Channel c → channel_source (network_of b.network) c ≡ Written p →
       actual_at (instance_at (network_of b.network) p) q ≡ Writes c →
-      tokens (seen_at (map seen_of b.cells) p).kept q ≡ tokens (slice_index_or b.gone p nothing_gone).kept q ++ ts → AreNew (flow_of b workers quantum bound said n) line ts
+      tokens (seen_at (map seen_of b.cells) p).kept q ≡ tokens (slice_index_or b.gone p nothing_gone).kept q ++ ts → AreNew (flow_of b plan said n) line ts
   new_kept laid line c p q ts e from writes kept =
-      let one = written_once b.network laid.wired p q c writes in
       let values : map token_value (tokens (seen_at (map seen_of b.cells) p).kept q) ≡ map token_value (tokens (slice_index_or b.gone p nothing_gone).kept q) ++ map token_value ts =
       ap (map token_value) kept ∙ map-append token_value (tokens (slice_index_or b.gone p nothing_gone).kept q) ts in
-      let here = subst (λ k. map token_value (tokens (seen_at (map seen_of b.cells) p).kept k) ≡ map token_value (tokens (slice_index_or b.gone p nothing_gone).kept k) ++ map token_value ts) one values in
-      new_by b workers quantum bound said n line ts
-      (subst (λ l. so_far (run_of_bench b workers quantum bound said) l ≡ let_go_by b n (source (network_of b.network) l) l ++ map token_value ts) (sym e)
-      (subst (λ s. given_so_far (run_of_bench b workers quantum bound said) s (Channel c) ≡ let_go_by b n s (Channel c) ++ map token_value ts) (sym from) here))
+      new_by b plan said n ts e from
+      (subst (λ k. map token_value (tokens (seen_at (map seen_of b.cells) p).kept k) ≡ map token_value (tokens (slice_index_or b.gone p nothing_gone).kept k) ++ map token_value ts)
+      (written_once b.network laid.wired p q c writes) values)
 
   pub new_printed : (line : Line) (p : ℕ) (ts : List Token) → line ≡ Print p →
-      (seen_at (map seen_of b.cells) p).printed ≡ (slice_index_or b.gone p nothing_gone).printed ++ ts → AreNew (flow_of b workers quantum bound said n) line ts
-  new_printed line p ts e printed =
-      new_by b workers quantum bound said n line ts
-      (subst (λ l. so_far (run_of_bench b workers quantum bound said) l ≡ let_go_by b n (source (network_of b.network) l) l ++ map token_value ts) (sym e)
-      (ap (map token_value) printed ∙ map-append token_value (slice_index_or b.gone p nothing_gone).printed ts))
+      (seen_at (map seen_of b.cells) p).printed ≡ (slice_index_or b.gone p nothing_gone).printed ++ ts → AreNew (flow_of b plan said n) line ts
+  new_printed line p ts e printed = new_by b plan said n ts e refl (ap (map token_value) printed ∙ map-append token_value (slice_index_or b.gone p nothing_gone).printed ts)
 
-pub new_given : (b : Table) (workers quantum bound : ℕ) (said : Option Verdict) (line : Line) (c : ℕ) (ts : List Token) → line ≡ Channel c →
-    channel_source (network_of b.network) c ≡ Given → HasLine (network_of b.network) b.watch line → AreLent b ts → AreNew (flow_of b workers quantum bound said (length ts)) line ts
-new_given b workers quantum bound said line c ts e from here lent =
+pub new_given : (b : Table) (plan : Plan) (said : Option Verdict) (line : Line) (c : ℕ) (ts : List Token) → line ≡ Channel c →
+    channel_source (network_of b.network) c ≡ Given → HasLine (network_of b.network) b.watch line → AreLent b ts → AreNew (flow_of b plan said (length ts)) line ts
+new_given b plan said line c ts e from here lent =
     let last = lent_here b ts lent c from (subst (HasLine (network_of b.network) b.watch) e here) in
-    new_by b workers quantum bound said (length ts) line ts
-    (subst (λ l. so_far (run_of_bench b workers quantum bound said) l ≡ let_go_by b (length ts) (source (network_of b.network) l) l ++ map token_value ts) (sym e)
-    (subst (λ s. given_so_far (run_of_bench b workers quantum bound said) s (Channel c) ≡ let_go_by b (length ts) s (Channel c) ++ map token_value ts) (sym from)
-    (last.1 ∙ ap (λ l. l ++ map token_value ts) (sym (front_of (inputs_of b.input c) last.0 ts last.1)))))
+    new_by b plan said (length ts) ts e from (last.1 ∙ ap (λ l. l ++ map token_value ts) (sym (front_of (inputs_of b.input c) last.0 ts last.1)))
 
 -- ---- what the type keeps
 
@@ -205,44 +153,77 @@ lent_same b d n l w ts h c seen role =
 pub none_lent : (b : Table) (ts : List Token) → ts ≡ [] → AreLent b ts
 none_lent b ts e c w role = (inputs_of b.input c, sym (append-nil (inputs_of b.input c)) ∙ ap (λ (l : List Token). inputs_of b.input c ++ map token_value l) (sym e))
 
-pub flowing_same : (b d : Table) → d.network ≡ b.network → sight_of d ≡ sight_of b → {quantum bound budget room : ℕ} {ends : List End} {said : Option Verdict} →
-    IsFlowing b quantum bound budget room ends said → IsFlowing d quantum bound budget room ends said
-flowing_same b d n e {bound = bound} {budget = budget} {room = room} {ends = ends} {said = said} h = record {
-  some = h.some;
-  left = ap (λ (s : RunState). budget + all_events s) e ∙ h.left;
-  few = h.few;
-  enough = subst (λ t. length (network_of t).instances ≤ room) (sym n) h.enough;
-  ended = subst (λ s. AreEnded s bound budget ends said) (sym e) h.ended;
+-- also with other ends and other lent tokens
+pub flow_stays : {t : Program} {plan : Plan} {b : Table} {budget room : ℕ} {ends : List End} {said : Option Verdict} {ts : List Token} → IsFlowOf t plan b budget room ends said ts → (d : Table) →
+    d.network ≡ b.network → d.watch ≡ b.watch → map seen_of d.cells ≡ map seen_of b.cells → (next : Option Verdict) → AreEnded (sight_of d) plan.bound budget ends next →
+    (us : List Token) → AreLent d us → IsFlowOf t plan d budget room ends next us
+flow_stays {budget = budget} {room = room} f d network watch seen next ended us lent = record {
+  network = network ∙ f.network;
+  watch = watch ∙ f.watch;
+  some = f.some;
+  left = ap (λ cells. budget + sum_by seen_events cells) seen ∙ f.left;
+  few = f.few;
+  enough = subst (λ t. length (network_of t).instances ≤ room) (sym network) f.enough;
+  ended = ended;
+  lent = lent;
 }
 
 pub emptied_state : (b d : Table) → HasEmptied b d → sight_of d ≡ sight_of b
 emptied_state b d h = λ i. record { network = network_of (h.network i); input = inputs_of (h.input i); watch = h.watch i; cells = h.views i }
 
-pub emptied_flow : (b d : Table) → HasEmptied b d → (workers quantum bound : ℕ) (said : Option Verdict) (n : ℕ) (ts : List Token) → ts ≡ [] →
-    HasLetGo (flow_of b workers quantum bound said n) (flow_of d workers quantum bound said (length ts))
-emptied_flow b d h workers quantum bound said n ts e =
-    let out : let_go_of d (length ts) ≡ map (so_far (run_of_bench b workers quantum bound said)) (stream_lines (network_of b.network) b.watch) =
-    ap (λ (l : List Token). let_go_of d (length l)) e ∙ all_let_go b workers quantum bound said d h in
-    λ i. record { run = emptied_run b d h workers quantum bound said i; out = out i; waits = waits_of (h.queues i) }
+pub emptied_flow : (b d : Table) → HasEmptied b d → (plan : Plan) (said : Option Verdict) (n : ℕ) (ts : List Token) → ts ≡ [] →
+    HasLetGo (flow_of b plan said n) (flow_of d plan said (length ts))
+emptied_flow b d h plan said n ts e =
+    let out : let_go_of d (length ts) ≡ map (so_far (run_of_bench b plan said)) (stream_lines (network_of b.network) b.watch) =
+    ap (λ (l : List Token). let_go_of d (length l)) e ∙ all_let_go b plan said d h in
+    λ i. record {
+      run = record {
+        network = h.network i;
+        input = h.input i;
+        watch = h.watch i;
+        workers = plan.workers;
+        quantum = plan.quantum;
+        bound = plan.bound;
+        cells = h.seen i;
+        verdict = said;
+      };
+      out = out i;
+      waits = waits_of (h.queues i);
+    }
 
 -- a part of it
-module _ (b d : Table) (laid : IsLaid b) (later : IsLaid d) (old : AllStandBy b.network b.watch b.cells) (new : AllStandBy d.network d.watch d.cells) (h : HasWorked b d)
-    (workers quantum bound budget more left : ℕ) (sum : budget + all_events (sight_of b) ≡ bound) (few : bound + more < 2 ^ 48) (said : Option Verdict) (v : Verdict) (ends : List End)
-    (c : (halted : Bool) × IsConcluded (sight_of d) (all_events (sight_of b) + (budget + more)) left halted v ends) where
-  whole : all_events (sight_of b) + (budget + more) ≡ bound + more
-  whole = omega (arith, sum)
+module _ {t : Program} {plan : Plan} {b : Table} {budget room : ℕ} {last : List End} {said : Option Verdict} {ts : List Token} (f : IsFlowOf t plan b budget room last said ts)
+    (d : Table) (h : HasWorked b d) (more : ℕ) (below : more ≤ 281474976710655 - plan.bound) (r : PartEnd) (c : IsPartEnd d (all_events (sight_of b) + (budget + more)) r) where
+  abbrev after : Plan
+  after = record plan { bound = plan.bound + more }
 
-  pub part_ended : AreEnded (sight_of d) (bound + more) left ends (Some v)
-  part_ended = (c.0, subst (λ n. IsConcluded (sight_of d) n left c.0 v ends) whole c.1)
+  few : plan.bound + more < 2 ^ 48
+  few = let m = f.few in omega (arith, below, m)
 
-  pub part_left : left + all_events (sight_of d) ≡ bound + more
-  part_left = let t = c.1.last.total in omega (arith, t, whole)
+  whole : all_events (sight_of b) + (budget + more) ≡ plan.bound + more
+  whole = let l = f.left in let s = events_seen b.cells in omega (arith, l, s)
 
-  pub flowed_on : (n : ℕ) → IsRunOn more (flow_of b workers quantum bound said n) (flow_of d workers quantum (bound + more) (Some v) n) v
-  flowed_on n = (
+  part_ended : AreEnded (sight_of d) (plan.bound + more) r.left r.ends.items (Some r.verdict)
+  part_ended = (c.0, subst (λ n. IsConcluded (sight_of d) n r.left c.0 r.verdict r.ends.items) whole c.1)
+
+  pub flow_after : length (network_of d.network).instances ≤ vec_capacity r.ends → IsFlowOf t after d r.left (vec_capacity r.ends) r.ends.items (Some r.verdict) ts
+  flow_after enough = record {
+    network = h.network ∙ f.network;
+    watch = h.watch ∙ f.watch;
+    some = f.some;
+    left = let l = c.1.last.total in let s = events_seen d.cells in omega (arith, l, s, whole);
+    few = few;
+    enough = enough;
+    ended = part_ended;
+    lent = lent_same b d h.network h.input h.watch ts f.lent;
+  }
+
+  pub flowed_on : IsLaid b → IsLaid d → AllStandBy b.network b.watch b.cells → AllStandBy d.network d.watch d.cells → (n : ℕ) →
+      IsRunOn more (flow_of b plan said n) (flow_of d after (Some r.verdict) n) r.verdict
+  flowed_on laid later old new n = (
     (
       record {
-        goes_on = worked_goes_on b d laid later old new h workers quantum bound (bound + more) said (Some v);
+        goes_on = worked_goes_on b d laid later old new h plan (plan.bound + more) said (Some r.verdict);
         input = h.input;
         bound = refl;
         few = few;
@@ -254,6 +235,6 @@ module _ (b d : Table) (laid : IsLaid b) (later : IsLaid d) (old : AllStandBy b.
   )
 
 -- a line of its streams
-pub line_here : (b : Table) (workers quantum bound : ℕ) (said : Option Verdict) (line : Line) → IsLineOf (run_of_bench b workers quantum bound said) line →
+pub line_here : (b : Table) (plan : Plan) (said : Option Verdict) (line : Line) → IsLineOf (run_of_bench b plan said) line →
     HasLine (network_of b.network) b.watch line
-line_here b workers quantum bound said line (j, at) = has_line (network_of b.network) b.watch j line at
+line_here b plan said line (j, at) = has_line (network_of b.network) b.watch j line at

@@ -1,8 +1,6 @@
 -- Streams of input channels, which get the whole list of the input.
-use Rattle.std.proofs.Common.{arith, ◌≡◌, ◌⊎◌, inl, inr, ℕ, suc, ◌-◌, ◌<◌, Bool, true, false, if◌then◌else◌, List, [], ◌∷◌, ◌++◌, length, map, Some, None, refl, sym, ap, ◌∙◌, subst, slice_get, slice_set, append_assoc, slice_index_or, ◌+◌}
-use Rattle.kahn_pool.proofs.Common.{All, length-map, map-append, slice_get_within, get_or_from_slice_get, Role, Value, Inner, Input, Output, Channel, Token, Inputs, source, IsPrefix, Network, Instance, Source, Given, Written, Nobody, any_written, first_writer, source_by, channel_source, role_at, IsOwn, token_value, Stream, AreNamed, AreAllOf, HasBecome, HaveBecome, IsBegun, IsDeclared, IsBare, HasInput, HasInputs, at_last}
-use Rattle.kahn_pool.proofs.Named.{declared}
-use Rattle.kahn_pool.proofs.Lists.{ChangedTo, next_old, one_changed, old_item}
+use Rattle.std.proofs.Common.{arith, ◌≡◌, ◌⊎◌, inl, inr, ℕ, suc, ◌-◌, ◌<◌, Bool, true, false, if◌then◌else◌, List, [], ◌∷◌, ◌++◌, length, map, Some, None, refl, sym, ap, ◌∙◌, subst, slice_get, append_assoc}
+use Rattle.kahn_pool.proofs.Common.{same_Some, length-map, map-append, Role, Value, Inner, Input, Output, Channel, Token, Inputs, source, IsPrefix, Network, Instance, Source, Given, Written, Nobody, any_written, first_writer, source_by, channel_source, role_at, IsOwn, token_value, Stream, AreAllOf, AreKeptTokens, IsBegun, HasInput, HasInputs, at_last}
 
 -- ---- the list of a channel, token by token
 
@@ -20,10 +18,7 @@ prefix_more xs vs v (zs, e) f = by zs e
     by [] e = let g : None ≡ Some v = sym (seam xs []) ∙ (ap (λ l. slice_get l (length xs)) (sym e) ∙ f) in absurd cc
     by (z ∷ zs) e =
         let g : Some z ≡ Some v = sym (seam xs (z ∷ zs)) ∙ (ap (λ l. slice_get l (length xs)) (sym e) ∙ f) in
-        (zs, e ∙ (ap (λ y. xs ++ y ∷ zs) (same g) ∙ sym (append_assoc xs (v ∷ []) zs)))
-      where
-        same : Some z ≡ Some v → z ≡ v
-        same h = cc
+        (zs, e ∙ (ap (λ y. xs ++ y ∷ zs) (same_Some z v g) ∙ sym (append_assoc xs (v ∷ []) zs)))
 
 pub begun_more : (N : Network) (I : Inputs) (c : ℕ) (vs : List Value) (ts us : List Token) (t : Token) (n : ℕ) → IsBegun N I c vs ts → us ≡ ts ++ t ∷ [] → n ≡ length ts →
     t.line ≡ Channel c → t.place ≡ n → slice_get vs n ≡ Some t.value → IsOwn N I t → IsBegun N I c vs us
@@ -75,27 +70,13 @@ channel_given N I c before after f g = by (source N (Channel c)) refl
     by (Written p) e = g (λ r. absurd (let h : Given ≡ Written p = sym (given_role (role_at N c) (first_writer N.instances 0 c) r) ∙ e in cc))
     by Nobody e = g (λ r. absurd (let h : Given ≡ Nobody = sym (given_role (role_at N c) (first_writer N.instances 0 c) r) ∙ e in cc))
 
--- ---- the first streams have their input
-
-pub record Giving (N : Network) (I : Inputs) (old now : List Stream) (n : ℕ) : Type 0 where
-  pub named : AreNamed N old
-  pub bare : All IsBare old
-  pub changed : ChangedTo (λ x y. (y.line ≡ x.line) × HasBecome N (HasInput N I) x y) old now n
-
-module _ {N : Network} {I : Inputs} {old now : List Stream} {n : ℕ} (f : Giving N I old now n) {x : Stream} (here : n < length now) (value : x ≡ slice_index_or now n x) where
-  pub giving_declared : IsDeclared N x.line
-  giving_declared = declared N old n x f.named (next_old f.changed here value)
-
-  pub giving_bare : IsBare x
-  giving_bare =
-      let g = next_old f.changed here value in
-      subst IsBare (get_or_from_slice_get old n x x g) (f.bare n x (slice_get_within old n x g))
-
-  pub giving_goes : (y : Stream) → y.line ≡ x.line → HasBecome N (HasInput N I) x y → Giving N I old (slice_set now n y) (n + 1)
-  giving_goes y same given = record { named = f.named; bare = f.bare; changed = one_changed f.changed here value (same, given) }
-
--- each stream of an input channel has the whole list
-pub have_inputs : (N : Network) (I : Inputs) (old new : List Stream) → HaveBecome N (HasInput N I) old new → HasInputs N I new
-have_inputs N I old new h j c y e at given =
-    let x = old_item h j y e in
-    subst (λ s. HasInput N I s (Channel c) x.0.tokens.items y.tokens.items) given (subst (λ d. HasInput N I (source N d) d x.0.tokens.items y.tokens.items) at x.2.1)
+-- one stream more
+pub inputs_more : (N : Network) (I : Inputs) (streams : List Stream) (x : Stream) (before : List Token) → HasInputs N I streams →
+    HasInput N I (source N x.line) x.line before x.tokens.items → HasInputs N I (streams ++ x ∷ [])
+inputs_more N I streams x before h mine j c y e at given = by (at_last streams x j y e)
+  where
+    by : (slice_get streams j ≡ Some y) ⊎ ((j ≡ length streams) × (x ≡ y)) → AreKeptTokens N I (Channel c) (I c) y.tokens.items
+    by (inl f) = h j c y f at given
+    by (inr (f, same)) =
+        subst (λ s. HasInput N I s (Channel c) before y.tokens.items) given
+        (subst (λ d. HasInput N I (source N d) d before y.tokens.items) at (subst (λ (z : Stream). HasInput N I (source N z.line) z.line before z.tokens.items) same mine))

@@ -1,7 +1,7 @@
 -- What a process sent by some of its events is a prefix of what it sent by more of them, also for longer inputs.
 use mathlib.Core.Path.{fun_ext}
-use Rattle.std.proofs.Common.{◌≡◌, ◌⊎◌, inl, inr, ℕ, ◌≤◌, [], map, sym, ap, subst, Option, true, List, length, arith, ◌<◌, ◌∙◌, ◌++◌}
-use Rattle.kahn_pool.proofs.Common.{Line, Network, Reads, Writes, instance_at, actual_at, Channel, Print, AreInputsExtended, Inputs, IsPrefix, goes_to, values_at, inputs_grow, prefix_refl, prefix_trans, StoodBy, View, is_streamed, token_value, stand_in, Value, cases_lt, AllStand, sent_on, and_more, Begins, exec_on, play_alike, exec_alike, grows_play, script_at, values_append}
+use Rattle.std.proofs.Common.{refl, Bool, false, true≢false, ◌≡◌, ◌⊎◌, inl, inr, ℕ, ◌≤◌, [], map, sym, ap, subst, Option, true, List, length, arith, ◌<◌, ◌∙◌, ◌++◌}
+use Rattle.kahn_pool.proofs.Common.{Actual, Hands, Token, begins_nil, Line, Network, Reads, Writes, instance_at, actual_at, Channel, Print, AreInputsExtended, Inputs, IsPrefix, goes_to, values_at, inputs_grow, prefix_refl, prefix_trans, StoodBy, View, is_streamed, token_value, stand_in, Value, cases_lt, AllStand, sent_on, and_more, Begins, exec_on, play_alike, exec_alike, grows_play, script_at, values_append}
 use Rattle.kahn_pool.proofs.Events.{same_sends}
 use Rattle.kahn_pool.proofs.Lists.{reads_or, prefix_stands, both_stand}
 
@@ -38,11 +38,25 @@ module _ (N : Network) (I J : Inputs) (grown : AreInputsExtended I J) (watch : O
         ap (values_at (goes_to N p l)) (sym same ∙ b.1) ∙ values_append (goes_to N p l) (exec_on N c.events p old.tapes).sent b.0,
       )
 
-  pub kept_grows : (q r e : ℕ) → actual_at (instance_at N p) q ≡ Writes e → actual_at (instance_at N p) r ≡ Writes e → is_streamed N watch e ≡ true →
-      IsPrefix (map token_value (c.kept q)) (map token_value (d.kept r))
-  kept_grows q r e w u s =
-      subst (λ xs. IsPrefix xs (map token_value (d.kept r))) (sym (old.kept q e w s).values)
-      (subst (IsPrefix (sent_on N c.events p old.tapes (Channel e))) (sym (new.kept r e u s).values) (sends_grow (Channel e)))
+  streamed : (q e : ℕ) → actual_at (instance_at N p) q ≡ Writes e → is_streamed N watch e ≡ true → IsPrefix (map token_value (c.kept q)) (map token_value (d.kept q))
+  streamed q e w s =
+      subst (λ xs. IsPrefix xs (map token_value (d.kept q))) (sym (old.kept q e w s).values)
+      (subst (IsPrefix (sent_on N c.events p old.tapes (Channel e))) (sym (new.kept q e w s).values) (sends_grow (Channel e)))
+
+  bare : (q : ℕ) → ((e : ℕ) → actual_at (instance_at N p) q ≡ Writes e → is_streamed N watch e ≡ true → ⊥) → IsPrefix (map token_value (c.kept q)) (map token_value (d.kept q))
+  bare q n = subst (λ (ts : List Token). IsPrefix (map token_value ts) (map token_value (d.kept q))) (sym (old.bare q n)) (begins_nil (map token_value (d.kept q)))
+
+  pub kept_grows : (q : ℕ) → IsPrefix (map token_value (c.kept q)) (map token_value (d.kept q))
+  kept_grows q = by (actual_at (instance_at N p) q) refl
+    where
+      by : (a : Actual) → actual_at (instance_at N p) q ≡ a → IsPrefix (map token_value (c.kept q)) (map token_value (d.kept q))
+      by (Reads k) w = bare q (λ e u s. absurd (let f : Reads k ≡ Writes e = sym w ∙ u in cc))
+      by (Hands v) w = bare q (λ e u s. absurd (let f : Hands v ≡ Writes e = sym w ∙ u in cc))
+      by (Writes e) w = kept (is_streamed N watch e) refl
+        where
+          kept : (b : Bool) → is_streamed N watch e ≡ b → IsPrefix (map token_value (c.kept q)) (map token_value (d.kept q))
+          kept true s = streamed q e w s
+          kept false s = bare q (λ k u t. true≢false (let same : k ≡ e = cc in sym t ∙ ap (is_streamed N watch) same ∙ s))
 
   pub printed_grows : IsPrefix (map token_value c.printed) (map token_value d.printed)
   printed_grows =

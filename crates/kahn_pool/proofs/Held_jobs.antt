@@ -1,7 +1,8 @@
 -- The jobs of a held run: how they become tasks, and how tasks come to rest.
 use Rattle.std.proofs.Common.{false, true, IfOk, IsOk, arith, ◌≡◌, ℕ, ◌+◌, List, length, map, sum_by, sym, ap, ◌∙◌, subst, Some, slice_get, Bool, Option, Result, Err, refl, Ok}
-use Rattle.kahn_pool.proofs.Common.{length-map, Program, network_of, AreInputsExtended, Lists, inputs_of, StoodBy, Told, told_view, AreIdle, AreJoinedJobs, HaveMet, cells_of, rows_of, AreJoinedOn, IsJob, Work, all_idle, idle_grown, idle_met, events_told, woken_task, Tasked, AreUntouched, HaveGone, task_events, told_tale, work_of, all_told, at_mapped, mapped_at, IsConcluded, seen_of, AreEnded, AreHeld, AreHeldBy, HasRisen, HasStoppedPart, HaveRisen, cell_alone, held_state, cell_of, state_of_tasks, RunState, Verdict, Part, Stopped, IsLack, CrewFault, NoMemory, IsWellWired, HaveChanged, SettlesTo, view_events, AreWatched, AllStandBy, IsConclusion}
+use Rattle.kahn_pool.proofs.Common.{length-map, Program, network_of, AreInputsExtended, Lists, inputs_of, StoodBy, Told, told_view, AreIdle, AreJoinedJobs, HaveMet, cells_of, rows_of, AreJoinedOn, IsJob, Work, all_idle, idle_grown, idle_met, events_told, woken_task, Tasked, AreUntouched, HaveGone, task_events, told_tale, work_of, all_told, at_mapped, mapped_at, IsConcluded, seen_of, AreEnded, AreHeld, AreHeldBy, HasRisen, HasStoppedPart, HaveRisen, cell_alone, held_state, cell_of, state_of_tasks, RunState, Verdict, Part, Stopped, IsLack, CrewFault, NoMemory, IsWellWired, HaveChanged, SettlesTo, view_events, seen_events, same_Some, prefix_refl, AreWatched, AllStandBy, IsConclusion}
 use Rattle.kahn_streams.specs.declared.answer.End.{End as RunEnd}
+use Rattle.kahn_pool.proofs.Righted.{events_seen}
 use Rattle.kahn_pool.proofs.Lists.{map_map, sum_over, map_changed}
 use Rattle.kahn_pool.proofs.Over as over
 use Rattle.kahn_pool.proofs.Rests as rests
@@ -44,7 +45,7 @@ module _ {t : Program} (wired : IsWellWired t) {lists : Lists} {watch : Option �
         let says = rests.says_here t wired lists watch new (over.tasks_new gone asked) (over.settled_new gone asked) p x.0 x.1 in
         subst (λ (d : Told). StoodBy (network_of t) (inputs_of d.input) watch p (told_view d)) (sym x.2)
         (subst (λ l. StoodBy (network_of t) (inputs_of l) watch p (told_view x.0.work.cell)) (sym (over.of_new gone asked p x.0 x.1).input) says.stood);
-    events = ap (λ cs. budget + sum_by view_events (map told_view cs)) cells_new ∙ over.events_new gone asked;
+    events = ap (λ n. budget + n) (events_seen (cells_of ws)) ∙ ap (λ cs. budget + sum_by view_events (map told_view cs)) cells_new ∙ over.events_new gone asked;
   }
 
   -- also where their ends have met
@@ -62,7 +63,7 @@ pub woken_events : {t : Program} {lists : Lists} {watch : Option ℕ} {bound : �
 woken_events {lists = lists} {ws = ws} {budget = budget} h same =
     ap (λ (l : List Tasked). budget + events_told told_tale l) same
     ∙ ap (λ n. budget + n) (sym (all_told (map (woken_task lists) ws)) ∙ sum_over task_events (woken_task lists) ws
-    ∙ sym (sum_over view_events told_view (cells_of ws) ∙ sum_over (λ (c : Told). c.events) (λ (w : Work). w.cell) ws)) ∙ h.events
+    ∙ sym (sum_over seen_events seen_of (cells_of ws) ∙ sum_over (λ (c : Told). c.events) (λ (w : Work). w.cell) ws)) ∙ h.events
 
 module _ {t : Program} {lists : Lists} {watch : Option ℕ} {bound : ℕ} {ws : List Work} {budget : ℕ} (h : AreHeld t lists watch bound ws budget)
     {tasks : List Tasked} (woken : tasks ≡ map (woken_task lists) ws) {old : List Tasked} {total left : ℕ} (gone : HaveGone t lists watch total tasks old left)
@@ -87,6 +88,9 @@ module _ {t : Program} {lists : Lists} {watch : Option ℕ} {bound : ℕ} {ws : 
 
 -- ---- jobs whose cells are as they were
 
+pub risen_here : (cells : List Told) → HaveRisen cells cells
+risen_here cells p c d e f = subst (HasRisen c) (same_Some c d (sym e ∙ f)) (record { events = omega arith; input = λ k. prefix_refl (inputs_of c.input k) })
+
 -- but for their inputs
 module _ (us ws : List Work) (same : map cell_alone (cells_of us) ≡ map cell_alone (cells_of ws)) where
   pub same_seen : map seen_of (cells_of us) ≡ map seen_of (cells_of ws)
@@ -105,7 +109,7 @@ module _ {t : Program} {lists : Lists} {watch : Option ℕ} {bound : ℕ} {ws : 
     idle = idle;
     watched = subst (AreWatched watch) (sym same) h.watched;
     stood = subst (AllStandBy t watch) (sym same) h.stood;
-    events = ap (λ cs. budget + sum_by view_events (map told_view cs)) same ∙ h.events;
+    events = ap (λ cs. budget + sum_by seen_events (map seen_of cs)) same ∙ h.events;
   }
 
   -- where their ends have met
@@ -125,9 +129,6 @@ module _ {t : Program} {lists : Lists} {watch : Option ℕ} {bound : ℕ} {ws : 
 
 -- ---- how a part stopped
 
-err_same : {A B : Type 0} {a b : B} → ◌≡◌ {A = Result A B} (Err a) (Err b) → a ≡ b
-err_same e = cc
-
 -- it ended, with these jobs
 pub ended_so : (part : Part) (old : List Work) (r : Stopped) (halted : Bool) → AreHeldBy part r.idles.items r.budget → IfOk r.outcome (λ v. IsConclusion part halted v r) → IsOk r.outcome →
     HaveRisen (cells_of old) (cells_of r.idles.items) → HasStoppedPart part old r
@@ -140,12 +141,12 @@ ended_so part old r halted held ended one risen = by r.outcome refl ended one
 -- it was refused, with the jobs as they are
 pub refused_so : (part : Part) (old : List Work) (r : Stopped) → AreHeldBy part r.idles.items r.budget → HaveRisen (cells_of old) (cells_of r.idles.items) → (fault : CrewFault) →
     IsLack part.plan.workers fault → r.outcome ≡ Err fault →
-    (fault ≡ NoMemory → (r.budget ≡ part.plan.bound) × (map cell_alone (cells_of r.idles.items) ≡ map cell_alone (cells_of old))) → HasStoppedPart part old r
+    (fault ≡ NoMemory → (r.budget ≡ part.left) × (map cell_alone (cells_of r.idles.items) ≡ map cell_alone (cells_of old))) → HasStoppedPart part old r
 refused_so part old r held risen fault want e still = record {
   held = held;
   risen = risen;
   outcome = rw e want;
-  untouched = λ f. still (err_same (sym e ∙ f));
+  untouched = λ f. still (cc);
 }
 
 -- jobs whose cells are the same

@@ -1,45 +1,40 @@
 -- A held run goes on: its streams grow, and no instance has fewer events.
-use Rattle.std.proofs.Common.{◌≡◌, ℕ, ◌+◌, ◌<◌, ◌^◌, List, length, map, refl, sym, ap, ◌∙◌, subst, Bool, Option, Some, None, Ok, Err, arith, ◌≤◌, ◌-◌}
-use Rattle.kahn_pool.proofs.Common.{length-map, Program, Line, IsInRange, IsRight, stream_lines, Source, Given, Written, Nobody, network_of, IsWellWired, Token, Channel, Print, AreInputsExtended, source, Lists, inputs_of, prefix_refl, token_value, cells_of, NoMemory, NoThread, Plan, Stopped, Work, AreStreams, IsConcluded, IsFrom, GoesOn, HasResumed, HeldRun, IsAnswerOf, IsResumed, IsSoFar, Seen, AreHeld, HasStopped, HaveRisen, IsGiving, IsHolding, cells_seen, held_state, run_of, Answer, Verdict}
+use Rattle.std.proofs.Common.{◌≡◌, ℕ, ◌+◌, ◌<◌, ◌^◌, List, length, map, refl, sym, ap, ◌∙◌, subst, Bool, Option, Some, None, Ok, Err, arith, ◌≤◌, ◌-◌, [], slice_index_or}
+use Rattle.kahn_pool.proofs.Common.{length-map, Program, Line, IsRight, stream_lines, Source, Given, Written, Nobody, network_of, IsWellWired, Token, Channel, Print, AreInputsExtended, source, Lists, inputs_of, prefix_refl, token_value, cells_of, NoMemory, NoThread, Plan, Stopped, Work, AreStreams, IsConcluded, IsFrom, GoesOn, HasResumed, HeldRun, IsAnswerOf, IsResumed, Seen, given_so_far, seen_at, seen_of, HasStopped, IsGiving, IsHolding, cells_seen, held_state, run_of, Answer, Verdict}
 use Rattle.kahn_streams.specs.declared.answer.End.{End}
 use Rattle.kahn_pool.proofs.Held_jobs.{ended_alike, held_again, held_grown, same_seen}
-use Rattle.kahn_pool.proofs.Going_on.{risen_here, risen_here}
+use Rattle.kahn_pool.proofs.Going_on.{goes_on, grows_not, seen_grows}
+use Rattle.kahn_pool.proofs.Once_written.{written_once}
 use Rattle.kahn_pool.proofs.Righted.{seen_there, settled_by}
-use Rattle.kahn_pool.proofs.Going_on as Going
 
 module _ (t : Program) (lists : Lists) (plan : Plan) (ws : List Work) (verdict : Option Verdict) where
   abbrev held : HeldRun
   held = run_of t lists plan ws verdict
 
-  so_far : (s : Source) (c : Line) (ts : List Token) → IsFrom (network_of t) (inputs_of lists) plan.watch (cells_seen ws) s c ts → IsSoFar held s c (map token_value ts)
-  so_far Given (Channel c) ts h = h.values
-  so_far Given (Print r) ts h = absurd h
-  so_far (Written p) (Channel c) ts (q, w, s, e) = (q, w, s, ap (map token_value) (e ∙ (seen_there (cells_of ws) p).1 q))
-  so_far (Written p) (Print r) ts h = ap (map token_value) (h ∙ (seen_there (cells_of ws) p).2)
-  so_far Nobody c ts h = absurd h
+  so_far_in : IsWellWired t → (s : Source) (c : Line) (ts : List Token) → IsFrom (network_of t) (inputs_of lists) plan.watch (cells_seen ws) s c ts → map token_value ts ≡ given_so_far held s c
+  so_far_in wired Given (Channel c) ts h = h.values
+  so_far_in wired Given (Print r) ts h = absurd h
+  so_far_in wired (Written p) (Channel c) ts (q, w, s, e) =
+      ap (map token_value) (e ∙ (seen_there (cells_of ws) p).1 q) ∙ ap (λ k. map token_value (slice_index_or (seen_at held.cells p).kept k [])) (written_once t wired p q c w)
+  so_far_in wired (Written p) (Print r) ts h = ap (map token_value) (h ∙ (seen_there (cells_of ws) p).2)
+  so_far_in wired Nobody c ts h = absurd h
 
-  pub answer_is : {budget : ℕ} {halted : Bool} (a : Answer) → IsConcluded (held_state t lists plan.watch ws) plan.bound budget halted a.verdict a.ends.items →
+  pub answer_is : IsWellWired t → {budget : ℕ} {halted : Bool} (a : Answer) → IsConcluded (held_state t lists plan.watch ws) plan.bound budget halted a.verdict a.ends.items →
       AreStreams (held_state t lists plan.watch ws) a.streams.items (stream_lines (network_of t) plan.watch) → verdict ≡ Some a.verdict →
       IsRight (network_of t) (inputs_of lists) plan.bound plan.watch a → IsAnswerOf held a
-  answer_is a c streams v right = record {
+  answer_is wired a c streams v right = record {
     right = right;
     verdict = v;
-    streams = λ s h. so_far (source (network_of t) s.line) s.line s.tokens.items (streams.each h.0 s h.1);
+    streams = λ s h. so_far_in wired (source (network_of t) s.line) s.line s.tokens.items (streams.each h.0 s h.1);
     events = λ p x h. ((c.last.ends p x h).0).count ∙ (seen_there (cells_of ws) p).0;
   }
 
 -- ---- what a held run keeps
 
-module _ (t : Program) (wired : IsWellWired t) {compiled : Program} (lists : Lists) (plan : Plan) (ws : List Work) {budget : ℕ}
+module _ (t : Program) {compiled : Program} (lists : Lists) (plan : Plan) (ws : List Work) {budget : ℕ}
     {ends : List End} {given : List Token} (verdict : Option Verdict) (h : IsHolding t compiled lists plan ws budget ends given verdict) where
   abbrev held_run : ℕ → List Work → Option Verdict → HeldRun
   held_run total vs next = run_of t lists (record plan { bound = total }) vs next
-
-  goes_on : (after : Lists) → AreInputsExtended (inputs_of lists) (inputs_of after) → {total left : ℕ} {us : List Work} → AreHeld t after plan.watch total us left →
-      HaveRisen (cells_of ws) (cells_of us) → (next : Option Verdict) → GoesOn (held_run plan.bound ws verdict) (run_of t after (record plan { bound = total }) us next)
-  goes_on after grown {total} {us = us} new risen next =
-      Going.goes_on t wired lists after grown plan.watch plan.workers plan.quantum plan.bound total (cells_of ws) (cells_of us)
-      (length-map ws (λ (w : Work). w.cell) ∙ h.held.idle.count) (length-map us (λ (w : Work). w.cell) ∙ new.idle.count) h.held.stood new.stood risen verdict next
 
   -- more input
   module _ (after : Lists) (grown : AreInputsExtended (inputs_of lists) (inputs_of after)) where
@@ -54,7 +49,7 @@ module _ (t : Program) (wired : IsWellWired t) {compiled : Program} (lists : Lis
     }
 
     pub goes_on_fed : GoesOn (held_run plan.bound ws verdict) (run_of t after plan ws None)
-    goes_on_fed = goes_on after grown (held_grown h.held after grown) (risen_here (cells_of ws)) None
+    goes_on_fed = goes_on (held_run plan.bound ws verdict) (run_of t after plan ws None) refl refl refl refl grown (λ p. grows_not (seen_at (map seen_of (cells_of ws)) p))
 
   -- a part with so many events more
   module _ (more : ℕ) {us : List Work} {r : Stopped} (part : HasStopped t lists plan.watch plan.workers (plan.bound + more) us (budget + more) r) (same : us ≡ ws)
@@ -66,7 +61,16 @@ module _ (t : Program) (wired : IsWellWired t) {compiled : Program} (lists : Lis
     few = let b = h.range.4 in omega (arith, below, b)
 
     pub resumed : (next : Option Verdict) → HasResumed more (held_run plan.bound ws verdict) (held_run (plan.bound + more) r.idles.items next)
-    resumed next = record { goes_on = goes_on lists (λ c. prefix_refl (inputs_of lists c)) s.held s.risen next; input = refl; bound = refl; few = few }
+    resumed next = record {
+      goes_on = goes_on (held_run plan.bound ws verdict) (held_run (plan.bound + more) r.idles.items next) refl refl refl refl (λ c. prefix_refl (inputs_of lists c))
+          (seen_grows t plan.watch (cells_of ws) (cells_of r.idles.items) count h.held.stood s.held.stood s.risen);
+      input = refl;
+      bound = refl;
+      few = few;
+    }
+      where
+        count : length (cells_of r.idles.items) ≡ length (cells_of ws)
+        count = length-map r.idles.items (λ (w : Work). w.cell) ∙ s.held.idle.count ∙ sym (length-map ws (λ (w : Work). w.cell) ∙ h.held.idle.count)
 
     pub resumed_ok : (v : Verdict) → r.outcome ≡ Ok v → IsResumed more (held_run plan.bound ws verdict) (held_run (plan.bound + more) r.idles.items (Some v)) v
     resumed_ok v e = let c = rw e at s.outcome in (resumed (Some v), refl, settled_by c.1)
@@ -90,7 +94,3 @@ module _ (t : Program) (wired : IsWellWired t) {compiled : Program} (lists : Lis
 
     pub several : r.outcome ≡ Err NoThread → 1 < plan.workers
     several e = rw e at s.outcome
-
-pub in_range_alike : (w q b x r c : ℕ) → x ≡ w → r ≡ q → c ≡ b → IsInRange w q b → IsInRange x r c
-in_range_alike w q b x r c e f g h =
-    subst (λ n. IsInRange n r c) (sym e) (subst (λ n. IsInRange w n c) (sym f) (subst (IsInRange w q) (sym g) h))

@@ -1,9 +1,8 @@
 -- The streams of a held run so far: what is lent of them, and that they are those of a right answer.
 use Rattle.std.proofs.Common.{◌≡◌, ℕ, ◌<◌, length, slice_get, Some, true, List, [], map, sym, ap, ◌∙◌, subst, Option, slice_index_or, refl, arith}
-use Rattle.kahn_pool.proofs.Common.{Program, Line, Network, Given, Written, Writes, channel_source, network_of, instance_at, actual_at, Token, Channel, Print, Inputs, source, AreInputsExtended, prefix_trans, Lists, inputs_of, is_streamed, token_value, AreIdle, cells_of, Work, width_of, Plan, AreAllGiven, AreGiven, run_of, HasSoFar, HeldRun, IsLineOf, IsSoFar, Seen, Verdict, seen_at, seen_of, unseen, at_mapped, slice_get_read, Source}
-pub use Rattle.kahn_pool.proofs.Once_written.{so_far_is}
+use Rattle.kahn_pool.proofs.Common.{Program, Line, Network, Given, Written, Writes, channel_source, network_of, instance_at, actual_at, Token, Channel, Print, Inputs, source, AreInputsExtended, prefix_trans, Lists, inputs_of, is_streamed, token_value, AreIdle, cells_of, Work, width_of, Plan, AreAllGiven, AreGiven, run_of, IsWellWired, HeldRun, IsLineOf, given_so_far, so_far, Seen, Verdict, seen_at, seen_of, unseen, at_mapped, slice_get_read, Source}
 use Rattle.kahn_pool.proofs.Giving.{input_role}
-use Rattle.kahn_pool.proofs.Once_written.{input_watched}
+use Rattle.kahn_pool.proofs.Once_written.{input_watched, written_once}
 use Rattle.kahn_pool.proofs.Named.{HasLine, has_line}
 use Rattle.kahn_pool.proofs.Benched.{mapped}
 
@@ -46,23 +45,23 @@ module _ (t : Program) (lists : Lists) (plan : Plan) (ws : List Work) (verdict :
       (subst (λ i. q < length (instance_at (network_of t) i).actuals) (sym o.instance) few)
 
   -- what the source of a line gave
-  by_source : (s : Source) (c line : Line) (ts : List Token) → line ≡ c → source (network_of t) c ≡ s → IsSoFar (run_of t lists plan ws verdict) s c (map token_value ts) → HasSoFar h line (map token_value ts)
+  by_source : (s : Source) (c line : Line) (ts : List Token) → line ≡ c → source (network_of t) c ≡ s → map token_value ts ≡ given_so_far (run_of t lists plan ws verdict) s c →
+      map token_value ts ≡ so_far h line
   by_source s c line ts e from so =
-      subst (λ (k : HeldRun). HasSoFar k line (map token_value ts)) is
-      (subst (λ l. HasSoFar (run_of t lists plan ws verdict) l (map token_value ts)) (sym e) (subst (λ s. IsSoFar (run_of t lists plan ws verdict) s c (map token_value ts)) (sym from) so))
+      so ∙ ap (λ s. given_so_far (run_of t lists plan ws verdict) s c) (sym from) ∙ ap (so_far (run_of t lists plan ws verdict)) (sym e) ∙ ap (λ (k : HeldRun). so_far k line) is
 
-  pub kept_so_far : (line : Line) (c p q : ℕ) (w : Work) (ts : List Token) → line ≡ Channel c → IsLineOf h line → channel_source (network_of t) c ≡ Written p →
-      actual_at (instance_at (network_of t) p) q ≡ Writes c → slice_get ws p ≡ Some w → ts ≡ slice_index_or w.cell.kept q [] → HasSoFar h line (map token_value ts)
-  kept_so_far line c p q w ts e here from writes at kept =
+  pub kept_so_far : IsWellWired t → (line : Line) (c p q : ℕ) (w : Work) (ts : List Token) → line ≡ Channel c → channel_source (network_of t) c ≡ Written p →
+      actual_at (instance_at (network_of t) p) q ≡ Writes c → slice_get ws p ≡ Some w → ts ≡ slice_index_or w.cell.kept q [] → map token_value ts ≡ so_far h line
+  kept_so_far wired line c p q w ts e from writes at kept =
       by_source (Written p) (Channel c) line ts e from
-      (q, writes, (streamed_here e here).1, ap (map token_value) (kept ∙ ap (λ (z : Seen). slice_index_or z.kept q []) (sym (cell_seen ws p w at))))
+      (ap (map token_value) (kept ∙ ap (λ (z : Seen). slice_index_or z.kept q []) (sym (cell_seen ws p w at)) ∙ ap (λ k. slice_index_or (seen_at (map seen_of (cells_of ws)) p).kept k []) (written_once t wired p q c writes)))
 
-  pub printed_so_far : (line : Line) (p : ℕ) (w : Work) (ts : List Token) → line ≡ Print p → slice_get ws p ≡ Some w → ts ≡ w.cell.printed → HasSoFar h line (map token_value ts)
+  pub printed_so_far : (line : Line) (p : ℕ) (w : Work) (ts : List Token) → line ≡ Print p → slice_get ws p ≡ Some w → ts ≡ w.cell.printed → map token_value ts ≡ so_far h line
   printed_so_far line p w ts e at printed =
       by_source (Written p) (Print p) line ts e refl (ap (map token_value) (printed ∙ ap (λ (z : Seen). z.printed) (sym (cell_seen ws p w at))))
 
   pub given_so_far_here : (line : Line) (c : ℕ) (ts : List Token) → line ≡ Channel c → IsLineOf h line → channel_source (network_of t) c ≡ Given →
-      AreAllGiven (network_of t) (inputs_of lists) plan.watch ts → HasSoFar h line (map token_value ts)
+      AreAllGiven (network_of t) (inputs_of lists) plan.watch ts → map token_value ts ≡ so_far h line
   given_so_far_here line c ts e here from all =
       let role = input_role (network_of t) c from in
       by_source Given (Channel c) line ts e from (all c (input_watched (network_of t) plan.watch c role (streamed_here e here).1) role)

@@ -3,7 +3,6 @@ pub mod Lists
 pub mod Events
 pub mod Assembling
 pub mod Turns
-pub mod Final
 pub mod Lacking
 pub mod Unique
 pub mod Sizes
@@ -16,7 +15,6 @@ pub mod Named
 pub mod Filled
 pub mod Giving
 pub mod Printing
-pub mod Seen
 pub mod Settled
 pub mod Ended
 pub mod Rests

@@ -1,6 +1,6 @@
 -- Lists whose values stand.
 use Rattle.std.proofs.Common.{arith, ◌≡◌, ◌⊎◌, inl, inr, subst, slice_set, slice_index_or, sum_by, ℕ, zero, suc, ◌+◌, ◌<◌, ◌≤◌, List, [], ◌∷◌, ◌++◌, length, map, refl, sym, ap, ◌∙◌, Some, slice_get, append-nil, le_of_suc-le-suc, not-suc-le-zero, length-append, le_refl}
-use Rattle.kahn_pool.proofs.Common.{cases_lt, get_or_past, fold-map, get_or-le-sum_by, same_Some, slice_get_read, slice_get_within, there, HaveChanged, Value, Line, Network, Inputs, iterate, IsPrefix, prefix_get, one_value, AllStand, Actual, Reads, Writes, Hands, Written}
+use Rattle.kahn_pool.proofs.Common.{set_each, cases_lt, get_or_past, fold-map, get_or-le-sum_by, same_Some, slice_get_read, slice_get_within, there, HaveChanged, Value, Line, Network, Inputs, iterate, IsPrefix, prefix_get, one_value, AllStand, Actual, Reads, Writes, Hands, Written}
 use Rattle.std.proofs.lemmas.List.{length-set}
 
 -- a list that agrees with a longer one begins it
@@ -43,52 +43,27 @@ reads_or (Hands v) = inr (λ b e. absurd cc)
 pub same_writer : {p r : ℕ} → Written p ≡ Written r → p ≡ r
 same_writer e = cc
 
--- ---- lists of which one place is set
-
-pub set_get : {X : Type 0} (xs : List X) (n j : ℕ) (y z : X) → slice_get (slice_set xs n y) j ≡ Some z → ((j ≡ n) × (y ≡ z)) ⊎ ((j ≡ n → ⊥) × (slice_get xs j ≡ Some z))
-set_get [] n j y z e = absurd cc
-set_get (x ∷ xs) zero zero y z e = inl (refl, same e)
-  where
-    same : Some y ≡ Some z → y ≡ z
-    same f = cc
-set_get (x ∷ xs) zero (suc j) y z e = inr (λ f. omega (arith, f), e)
-set_get (x ∷ xs) (suc n) zero y z e = inr (λ f. omega (arith, f), e)
-set_get (x ∷ xs) (suc n) (suc j) y z e = by (set_get xs n j y z e)
-  where
-    by : ((j ≡ n) × (y ≡ z)) ⊎ ((j ≡ n → ⊥) × (slice_get xs j ≡ Some z)) → ((suc j ≡ suc n) × (y ≡ z)) ⊎ ((suc j ≡ suc n → ⊥) × (slice_get xs j ≡ Some z))
-    by (inl h) = inl (ap suc h.0, h.1)
-    by (inr h) = inr (λ f. h.0 (omega (arith, f)), h.1)
-
-pub set_else : {X : Type 0} (xs : List X) (n j : ℕ) (y : X) → (j ≡ n → ⊥) → slice_get (slice_set xs n y) j ≡ slice_get xs j
-set_else [] n j y f = refl
-set_else (x ∷ xs) zero zero y f = absurd (f refl)
-set_else (x ∷ xs) zero (suc j) y f = refl
-set_else (x ∷ xs) (suc n) zero y f = refl
-set_else (x ∷ xs) (suc n) (suc j) y f = set_else xs n j y (λ e. f (ap suc e))
-
 -- ---- lists that change item by item
 
 -- the first n have changed so, and the others are as they were
 pub record ChangedTo {X : Type 0} (R : X → X → Type 0) (old new : List X) (n : ℕ) : Type 0 where
   pub count : length new ≡ length old
   pub done : (p : ℕ) (x y : X) → p < n → slice_get old p ≡ Some x → slice_get new p ≡ Some y → R x y
-  pub rest : (p : ℕ) → n ≤ p → slice_get new p ≡ slice_get old p
+  pub rest : (p : ℕ) (y : X) → n ≤ p → slice_get new p ≡ Some y → slice_get old p ≡ Some y
 
 module _ {X : Type 0} {R : X → X → Type 0} {old new : List X} {n : ℕ} (h : ChangedTo R old new n) where
   -- the next one
   pub next_old : {x : X} → n < length new → x ≡ slice_index_or new n x → slice_get old n ≡ Some x
-  next_old here value = sym (h.rest n (le_refl n)) ∙ slice_get_read new (length new) n _ refl here value
+  next_old {x} here value = h.rest n x (le_refl n) (slice_get_read new (length new) n x refl here value)
 
   pub one_changed : {x y : X} → n < length new → x ≡ slice_index_or new n x → R x y → ChangedTo R old (slice_set new n y) (n + 1)
   one_changed {x} {y} here value s = record {
     count = length-set new n y ∙ h.count;
-    done = λ p u v l a b. by p u v l a (set_get new n p y v b);
-    rest = λ p l. set_else new n p y (λ e. absurd (omega (arith, e, l))) ∙ h.rest p (omega (arith, l));
+    done = λ p u v l a b. set_each (λ k w. (z : X) → k < n + 1 → slice_get old k ≡ Some z → R z w) new n y
+        (λ k w apart f z m e. h.done k z w (omega (arith, m, apart)) e f)
+        (λ z m e. subst (λ w. R w y) (same_Some x z (sym (next_old here value) ∙ e)) s) p v b u l a;
+    rest = λ p v l b. set_each (λ k w. n + 1 ≤ k → slice_get old k ≡ Some w) new n y (λ k w apart f m. h.rest k w (omega (arith, m)) f) (λ m. absurd (omega (arith, m))) p v b l;
   }
-    where
-      by : (p : ℕ) (u v : X) → p < n + 1 → slice_get old p ≡ Some u → ((p ≡ n) × (y ≡ v)) ⊎ ((p ≡ n → ⊥) × (slice_get new p ≡ Some v)) → R u v
-      by p u v l a (inl k) = subst (R u) k.1 (subst (λ w. R w y) (same_Some x u (sym (next_old here value) ∙ ap (slice_get old) (sym k.0) ∙ a)) s)
-      by p u v l a (inr k) = h.done p u v (let o = k.0 in omega (arith, l, o)) a k.1
 
   pub all_changed : length new ≤ n → HaveChanged R old new
   all_changed e = record {

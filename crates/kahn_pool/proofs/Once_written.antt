@@ -1,47 +1,53 @@
--- What a run has of a line so far: the parameter that writes a channel is one, and an input channel with a stream is watched.
-use Rattle.std.proofs.Common.{◌≡◌, ℕ, zero, suc, ◌||◌, eqb-true, eq-eqb, Some, None, Bool, true, false, true≢false, List, [], ◌∷◌, map, refl, sym, ap, ◌∙◌, subst, Option, slice_index_or, pos, if◌then◌else◌}
-use Rattle.kahn_pool.proofs.Common.{Number, Program, Value, Line, Input, Network, Actual, Hands, Reads, Source, Given, Written, Nobody, Writes, network_of, instance_at, actual_at, is_written, role_at, IsWellWired, Channel, Print, source, is_streamed, is_output, is_watched, token_value, driven, HasSoFar, HeldRun, IsSoFar, seen_at, so_far, given_so_far, writing}
+-- The parameter that writes a channel is one, and an input channel with a stream is watched.
+use Rattle.std.proofs.Common.{arith, ◌≡◌, ℕ, suc, ◌+◌, ◌||◌, eqb-true, Some, None, Bool, true, false, List, [], ◌∷◌, refl, ap, subst, Option, slice_index_or, pos, if◌then◌else◌}
+use Rattle.kahn_pool.proofs.Lists.{same_writer}
+use Rattle.kahn_pool.proofs.Common.{Number, Program, Inner, Input, Output, Network, Instance, Actual, Hands, Reads, Role, Source, Written, Writes, any_written, channel_source, first_writer, idle, network_of, instance_at, actual_at, is_written, role_at, source_by, IsWellWired, is_streamed, is_output, is_watched, driven, writes, writing}
 
 -- ---- the parameter that writes a channel
 
 abbrev none : Actual
 none = Hands (Number (pos 0))
 
+by_role : (r : Role) (s : Source) (p : ℕ) → source_by r s ≡ Written p → s ≡ Written p
+by_role Input s p e = absurd cc
+by_role Inner s p e = e
+by_role Output s p e = e
+
+first : (is : List Instance) (m p c : ℕ) → first_writer is m c ≡ Written p → (k : ℕ) × (p ≡ m + k) × (any_written (slice_index_or is k idle).actuals c ≡ true)
+first [] m p c e = absurd cc
+first (i ∷ rest) m p c e = by (first rest (suc m) p c) (any_written i.actuals c) refl e
+  where
+    by : (first_writer rest (suc m) c ≡ Written p → (k : ℕ) × (p ≡ suc m + k) × (any_written (slice_index_or rest k idle).actuals c ≡ true)) → (b : Bool) → any_written i.actuals c ≡ b →
+        (if b then Written m else first_writer rest (suc m) c) ≡ Written p → (k : ℕ) × (p ≡ m + k) × (any_written (slice_index_or (i ∷ rest) k idle).actuals c ≡ true)
+    by go true is e = let same : m ≡ p = same_writer e in (0, omega (arith, same), is)
+    by go false is e = let (k, at, any) = go e in (suc k, omega (arith, at), any)
+
 written : (a : Actual) (c : ℕ) → is_written a c ≡ true → a ≡ Writes c
 written (Reads d) c e = absurd cc
 written (Hands v) c e = absurd cc
 written (Writes d) c e = ap Writes (eqb-true d c e)
 
-writes : (a : Actual) (c : ℕ) → a ≡ Writes c → is_written a c ≡ true
-writes a c e = subst (λ b. is_written b c ≡ true) (sym e) (eq-eqb c c refl)
-
-writes_there : (actuals : List Actual) (q c : ℕ) → slice_index_or actuals q none ≡ Writes c → slice_index_or actuals (writing actuals c) none ≡ Writes c
-writes_there [] q c e = absurd cc
-writes_there (a ∷ rest) q c e = by (λ r. writes_there rest r c) (is_written a c) refl q e
+there : (xs : List Actual) (c : ℕ) → any_written xs c ≡ true → slice_index_or xs (writing xs c) none ≡ Writes c
+there [] c e = absurd cc
+there (a ∷ rest) c e = by (there rest c) (is_written a c) refl e
   where
-    by : ((r : ℕ) → slice_index_or rest r none ≡ Writes c → slice_index_or rest (writing rest c) none ≡ Writes c) → (b : Bool) → is_written a c ≡ b → (q : ℕ) →
-        slice_index_or (a ∷ rest) q none ≡ Writes c → slice_index_or (a ∷ rest) (if b then 0 else suc (writing rest c)) none ≡ Writes c
-    by go true f q g = written a c f
-    by go false f zero g = absurd (true≢false (sym (writes a c g) ∙ f))
-    by go false f (suc q) g = go q g
+    by : (any_written rest c ≡ true → slice_index_or rest (writing rest c) none ≡ Writes c) → (b : Bool) → is_written a c ≡ b → (if b then true else any_written rest c) ≡ true →
+        slice_index_or (a ∷ rest) (if b then 0 else suc (writing rest c)) none ≡ Writes c
+    by go true is e = written a c is
+    by go false is e = go e
 
+-- the process from which a channel comes writes it
+pub wrote : (N : Network) (p c : ℕ) → channel_source N c ≡ Written p → actual_at (instance_at N p) (writing (instance_at N p).actuals c) ≡ Writes c
+wrote N p c e =
+    let (k, at, any) = first N.instances 0 p c (by_role (role_at N c) (first_writer N.instances 0 c) p e) in
+    let same : k ≡ p = omega (arith, at) in
+    there (instance_at N p).actuals c (subst (λ (i : ℕ). any_written (instance_at N i).actuals c ≡ true) same any)
+
+-- and by no other parameter
 pub written_once : (t : Program) → IsWellWired t → (p q c : ℕ) → actual_at (instance_at (network_of t) p) q ≡ Writes c →
     q ≡ writing (instance_at (network_of t) p).actuals c
 written_once t wired p q c w =
-    let i = instance_at (network_of t) p in
-    (driven t wired).once p q (writing i.actuals c) c w (writes_there i.actuals q c w)
-
--- a line has the values of its stream so far, and no others
-so_far_by : (h : HeldRun) → IsWellWired h.network → (s : Source) (c : Line) (vs : List Value) → IsSoFar h s c vs → vs ≡ given_so_far h s c
-so_far_by h wired Given (Channel c) vs e = e
-so_far_by h wired Given (Print r) vs e = absurd e
-so_far_by h wired (Written p) (Channel c) vs (q, w, s, e) =
-    e ∙ ap (λ k. map token_value (slice_index_or (seen_at h.cells p).kept k [])) (written_once h.network wired p q c w)
-so_far_by h wired (Written p) (Print r) vs e = e
-so_far_by h wired Nobody c vs e = absurd e
-
-pub so_far_is : (h : HeldRun) → IsWellWired h.network → (c : Line) (vs : List Value) → HasSoFar h c vs → vs ≡ so_far h c
-so_far_is h wired c vs e = so_far_by h wired (source (network_of h.network) c) c vs e
+    (driven t wired).once p q (writing (instance_at (network_of t) p).actuals c) c w (wrote (network_of t) p c (writes t wired p q c w).0)
 
 -- ---- an input channel that has a stream
 

@@ -1,6 +1,6 @@
 -- A run that is over.
-use Rattle.std.proofs.Common.{arith, ◌≡◌, ◌⊎◌, inl, inr, ℕ, ◌+◌, ◌^◌, ◌<◌, ◌≤◌, Bool, true, false, List, [], length, map, sum_by, sym, ap, ◌∙◌, subst, Option, Some, slice_get}
-use Rattle.kahn_pool.proofs.Common.{length-map, Program, Reads, network_of, IsWellWired, Lists, count, told_view, end_at, AreBehindOn, AreJoinedOn, end_in, Work, same_lanes, Tasked, handed_to_task, is_over, task_rows, work_of, AreAll, HaveGone, IsQuietTask, IsOver, task_events, IsLentTo, AreEndsOfTasks, AreTasks, IsInstanceTask, IsSettledTask, IsToldAs, SettlesTo, cell_of, state_of_tasks, Verdict, IsVerdict, HasEndIn, view_events, IsConcluded, get_or_from_slice_get, get_or-le-sum_by, HaveChanged, cases_lt, get_or_past, all_events, Told}
+use Rattle.std.proofs.Common.{true≢false, arith, ◌≡◌, ◌⊎◌, inl, inr, ℕ, ◌+◌, ◌^◌, ◌<◌, ◌≤◌, Bool, true, List, [], length, map, sum_by, sym, ap, ◌∙◌, subst, Option, Some, slice_get}
+use Rattle.kahn_pool.proofs.Common.{length-map, Program, network_of, IsWellWired, Lists, count, told_view, end_at, AreBehindOn, AreJoinedOn, end_in, Work, same_lanes, Tasked, handed_to_task, is_over, task_rows, work_of, AreAll, HaveGone, IsQuietTask, IsOver, task_events, IsLentTo, AreEndsOfTasks, AreTasks, IsInstanceTask, IsSettledTask, IsToldAs, SettlesTo, cell_of, state_of_tasks, Verdict, IsVerdict, HasEndIn, view_events, IsConcluded, get_or_from_slice_get, get_or-le-sum_by, HaveChanged, cases_lt, get_or_past, all_events, Told}
 use Rattle.kahn_streams.specs.declared.answer.End.{End}
 use Rattle.kahn_pool.proofs.Benched.{got, within_get}
 use Rattle.kahn_job.specs.inner.Ends.{End as LaneEnd}
@@ -8,9 +8,6 @@ use Rattle.kahn_pool.proofs.Lists.{old_item, map_changed, sum_over}
 use Rattle.kahn_job.specs.declared.standing.Standing.TheVariants as standing
 use Rattle.kahn_streams.specs.declared.answer.Outcome.TheVariants as outcome
 use Rattle.kahn_pool.proofs.Rests as rests
-
-going_over : true ≡ false → ⊥
-going_over e = cc
 
 -- ---- after each was asked
 
@@ -68,11 +65,8 @@ module _ {t : Program} {lists : Lists} {watch : Option ℕ} {bound : ℕ} {first
     cells_same = map_changed cell_of cell_of (λ x y s. s.later.still s.events) old new h
 
     going_apart : (x : Tasked) → IsQuietTask t lists old x → x.standing ≡ standing.Going → ⊥
-    going_apart x (inl o) g = going_over (sym o ∙ ap is_over g)
-    going_apart x (inr (q, d, s, r, k)) g = differ (sym s ∙ g)
-      where
-        differ : standing.Dry q ≡ standing.Going → ⊥
-        differ f = cc
+    going_apart x (inl o) g = true≢false (sym o ∙ ap is_over g)
+    going_apart x (inr (q, d, s, r, k)) g = let f : standing.Dry q ≡ standing.Going = sym s ∙ g in cc
 
     rest_new : ((p : ℕ) (x : Tasked) → slice_get old p ≡ Some x → IsQuietTask t lists old x) → (p : ℕ) (y : Tasked) → slice_get new p ≡ Some y → IsQuietTask t lists new y
     rest_new rest p y e =
@@ -120,22 +114,13 @@ module _ {t : Program} (wired : IsWellWired t) {lists : Lists} {watch : Option �
     (behind : (c : ℕ) → AreBehindOn (network_of t) (task_rows tasks) c) {ends : List End} (are : AreEndsOfTasks t lists tasks ends (length tasks)) where
   -- a task at rest wants no more
   no_more : (x : Tasked) → IsQuietTask t lists tasks x → IsToldAs t lists tasks x outcome.More → ⊥
-  no_more x (inl o) (inl g) = going_over (sym o ∙ ap is_over g)
-  no_more x (inl o) (inr (q, d, s, r, k)) = going_over (sym o ∙ ap is_over s)
-  no_more x (inr (q, d, s, r, a)) (inl g) = differ (sym s ∙ g)
-    where
-      differ : standing.Dry q ≡ standing.Going → ⊥
-      differ f = cc
+  no_more x (inl o) (inl g) = true≢false (sym o ∙ ap is_over g)
+  no_more x (inl o) (inr (q, d, s, r, k)) = true≢false (sym o ∙ ap is_over s)
+  no_more x (inr (q, d, s, r, a)) (inl g) = let f : standing.Dry q ≡ standing.Going = sym s ∙ g in cc
   no_more x (inr (q, d, s, r, a)) (inr (q', d', s', r', n)) =
-      let e : q ≡ q' = same (sym s ∙ s') in
-      let f : d ≡ d' = channel (sym r ∙ ap (handed_to_task x.work) e ∙ r') in
+      let e : q ≡ q' = cc in
+      let f : d ≡ d' = cc in
       n (subst (λ k. AreAll t lists tasks k (count x.work.cell.taken q')) f (subst (λ k. AreAll t lists tasks d (count x.work.cell.taken k)) e a))
-    where
-      same : {q p : ℕ} → standing.Dry q ≡ standing.Dry p → q ≡ p
-      same f = cc
-
-      channel : {c d : ℕ} → Reads c ≡ Reads d → c ≡ d
-      channel f = cc
 
   pub concluded : {v : Verdict} → IsVerdict halted ends v → IsConcluded (state_of_tasks t lists watch tasks) bound budget halted v ends
   concluded rule = record {

@@ -1,7 +1,6 @@
 -- A flow that is given more input.
-use Rattle.std.proofs.Common.{arith, ◌≡◌, ℕ, zero, suc, ◌+◌, ◌≤◌, ◌==◌, Bool, true, false, if◌then◌else◌, eqb-true, eq-eqb, true≢false, List, [], ◌∷◌, ◌++◌, length, map, sum_by, refl, sym, ap, ◌∙◌, subst, append-nil, append_assoc, Option, Some, None, slice_get, slice_index_or}
-use Rattle.kahn_pool.proofs.Common.{Source, Given, Written, Nobody, network_of, role_at, Token, Value, Line, Channel, Print, Entry, channel_of, most_values, Lists, inputs_of, IsMeant, source, is_watched, stream_lines, token_value, AreQueued, IsPoured, waiting_of, Waiting, Verdict, view_events, HasPouredIn, AreLent, IsFlowing, flow_of, let_go_by, let_go_of, waits_of, AllStandBy, HasTakenIn, IsLaid, Table}
-use Rattle.kahn_streams.specs.declared.answer.End.{End}
+use Rattle.std.proofs.Common.{drop, arith, ◌≡◌, ℕ, zero, suc, ◌+◌, ◌≤◌, ◌==◌, Bool, true, false, if◌then◌else◌, eqb-true, eq-eqb, true≢false, List, [], ◌∷◌, ◌++◌, length, map, refl, sym, ap, ◌∙◌, subst, append-nil, append_assoc, Option, Some, None, slice_get, slice_index_or}
+use Rattle.kahn_pool.proofs.Common.{Source, Given, Written, Nobody, network_of, role_at, Token, Value, Line, Channel, Print, Entry, channel_of, most_values, Lists, inputs_of, IsMeant, source, is_watched, stream_lines, token_value, AreQueued, IsPoured, waiting_of, Waiting, Verdict, HasPouredIn, AreLent, Plan, flow_of, let_go_by, let_go_of, waits_of, HasTakenIn, IsLaid, Table}
 use Rattle.kahn_pool.proofs.Flowed.{front_of, let_go_same, map_on, poured_goes_on}
 use Rattle.kahn_pool.proofs.Giving.{input_role}
 use Rattle.kahn_pool.proofs.Named.{HasLine, has_line}
@@ -38,6 +37,16 @@ is_poured c values ls d = by (c == d) refl
     by true f = subst (λ k. inputs_of (poured_lists c values ls) k ≡ inputs_of ls k ++ values) (eqb-true c d f) (here c values ls)
     by false f = other c d values ls (λ e. true≢false (sym (eq-eqb c d e) ∙ f)) ∙ sym (append-nil (inputs_of ls d))
 
+-- the values that begin those from a place on stand from there on
+pub from_there : (xs : List Value) (n : ℕ) (vs : List Value) → drop n xs ≡ vs → (k : ℕ) (v : Value) → slice_get vs k ≡ Some v → slice_get xs (n + k) ≡ Some v
+from_there xs n vs e k v f = along xs n (n + k) refl ∙ ap (λ l. slice_get l k) e ∙ f
+  where
+    along : (xs : List Value) (n m : ℕ) → m ≡ n + k → slice_get xs m ≡ slice_get (drop n xs) k
+    along xs zero m e = let s : m ≡ k = omega (arith, e) in ap (slice_get xs) s
+    along [] (suc n) m e = refl
+    along (x ∷ xs) (suc n) zero e = absurd (omega (arith, e))
+    along (x ∷ xs) (suc n) (suc m) e = along xs n m (omega (arith, e))
+
 -- ---- what waits
 
 pub waits_at : (qs : List Waiting) (c : ℕ) → slice_index_or (map (λ w. w.waiting) qs) c 0 ≡ waiting_of (slice_get qs c)
@@ -61,9 +70,9 @@ module _ (b d : Table) (c : ℕ) (h : HasTakenIn c 0 b.input b d) where
       by true e = omega (arith, e)
       by false e = omega (arith, e)
 
-  pub refused_same : IsLaid b → IsLaid d → AreQueued b.queues → AreQueued d.queues → (workers quantum bound : ℕ) (said : Option Verdict) (ts us : List Token) → us ≡ ts →
-      flow_of d workers quantum bound said (length us) ≡ flow_of b workers quantum bound said (length ts)
-  refused_same laid later old new workers quantum bound said ts us e =
+  pub refused_same : IsLaid b → IsLaid d → AreQueued b.queues → AreQueued d.queues → (plan : Plan) (said : Option Verdict) (ts us : List Token) → us ≡ ts →
+      flow_of d plan said (length us) ≡ flow_of b plan said (length ts)
+  refused_same laid later old new plan said ts us e =
       let size : length d.queues.queues ≡ length b.queues.queues =
       new.count ∙ ap (λ t. length (network_of t).channels) (later.network ∙ h.network ∙ sym laid.network) ∙ sym old.count in
       let waits = same_waits d.queues.queues b.queues.queues size nothing_more in
@@ -73,9 +82,9 @@ module _ (b d : Table) (c : ℕ) (h : HasTakenIn c 0 b.input b d) where
           network = h.network i;
           input = h.lists i;
           watch = h.watch i;
-          workers = workers;
-          quantum = quantum;
-          bound = bound;
+          workers = plan.workers;
+          quantum = plan.quantum;
+          bound = plan.bound;
           cells = h.seen i;
           verdict = said;
         };
@@ -85,24 +94,14 @@ module _ (b d : Table) (c : ℕ) (h : HasTakenIn c 0 b.input b d) where
 
 -- ---- they were poured
 
-pub poured_flowing : (b d : Table) (c n : ℕ) (input : Lists) → HasTakenIn c n input b d → {quantum bound budget room : ℕ} {ends : List End} {said : Option Verdict} →
-    IsFlowing b quantum bound budget room ends said → IsFlowing d quantum bound budget room ends None
-poured_flowing b d c n input h {bound = bound} {budget = budget} {room = room} g = record {
-  some = g.some;
-  left = ap (λ vs. budget + sum_by view_events vs) h.views ∙ g.left;
-  few = g.few;
-  enough = subst (λ t. length (network_of t).instances ≤ room) (sym h.network) g.enough;
-  ended = tt;
-}
-
 module _ (b d : Table) (c : ℕ) (values : List Value) (input : Lists) (poured : IsPoured b.input c values input) (h : HasTakenIn c (length values) input b d)
-    (ts mid us : List Token) (lent : AreLent b ts) (kept : mid ≡ ts) (lends : Bool) (is : lends ≡ is_watched b.watch c)
-    (longer_by : lends ≡ true → map token_value us ≡ map token_value mid ++ values) (still : lends ≡ false → us ≡ mid) where
+    (ts us : List Token) (lent : AreLent b ts) (more : List Value) (all : is_watched b.watch c ≡ true → more ≡ values) (none : is_watched b.watch c ≡ false → more ≡ [])
+    (longer_by : map token_value us ≡ map token_value ts ++ more) where
   grown : is_watched b.watch c ≡ true → map token_value us ≡ map token_value ts ++ values
-  grown e = longer_by (is ∙ e) ∙ ap (λ (l : List Token). map token_value l ++ values) kept
+  grown e = longer_by ∙ ap (λ l. map token_value ts ++ l) (all e)
 
-  same : is_watched b.watch c ≡ false → us ≡ ts
-  same e = still (is ∙ e) ∙ kept
+  same : is_watched b.watch c ≡ false → map token_value us ≡ map token_value ts
+  same e = longer_by ∙ ap (λ l. map token_value ts ++ l) (none e) ∙ append-nil (map token_value ts)
 
   watched_as : (k : ℕ) → b.watch ≡ Some k → (x : Bool) → (k == c) ≡ x → is_watched b.watch c ≡ x
   watched_as k w x e = ap (λ o. is_watched o c) w ∙ e
@@ -123,7 +122,7 @@ module _ (b d : Table) (c : ℕ) (values : List Value) (input : Lists) (poured :
           ∙ ap (λ l. front ++ l) (sym (grown (watched_as k w true f)))
       by false f =
           with_values false (apart f (c == k) refl) ∙ append-nil (inputs_of b.input k) ∙ e
-          ∙ ap (λ (l : List Token). front ++ map token_value l) (sym (same (watched_as k w false f)))
+          ∙ ap (λ l. front ++ l) (sym (same (watched_as k w false f)))
 
   pub poured_lent : AreLent d us
   poured_lent k w role =
@@ -151,10 +150,10 @@ module _ (b d : Table) (c : ℕ) (values : List Value) (input : Lists) (poured :
       ∙ map_on (λ x. let_go_by fed (length us) (source (network_of b.network) x) x) (λ x. let_go_by b (length ts) (source (network_of b.network) x) x)
       (stream_lines (network_of b.network) b.watch) (λ j x e. go_same (source (network_of b.network) x) x refl (has_line (network_of b.network) b.watch j x e))
 
-  pub poured_flow : IsLaid b → AllStandBy b.network b.watch b.cells → (workers quantum bound : ℕ) (said : Option Verdict) (entry : Entry) → c ≡ channel_of b.network entry → values ≡ entry.1 →
+  pub poured_flow : (plan : Plan) (said : Option Verdict) (entry : Entry) → c ≡ channel_of b.network entry → values ≡ entry.1 →
       IsMeant b.network entry → waiting_of (slice_get b.queues.queues c) + length values ≤ most_values →
-      HasPouredIn entry (flow_of b workers quantum bound said (length ts)) (flow_of d workers quantum bound None (length us))
-  poured_flow laid old workers quantum bound said entry is behind meant few = record {
+      HasPouredIn entry (flow_of b plan said (length ts)) (flow_of d plan None (length us))
+  poured_flow plan said entry is behind meant few = record {
     poured = record {
       meant = meant;
       lists = subst (λ k. IsPoured b.input k entry.1 d.input) is (subst (λ vs. IsPoured b.input c vs d.input) behind (subst (IsPoured b.input c values) (sym h.lists) poured));
@@ -168,12 +167,12 @@ module _ (b d : Table) (c : ℕ) (values : List Value) (input : Lists) (poured :
       network = h.network i;
       input = d.input;
       watch = h.watch i;
-      workers = workers;
-      quantum = quantum;
-      bound = bound;
+      workers = plan.workers;
+      quantum = plan.quantum;
+      bound = plan.bound;
       cells = h.seen i;
       verdict = None;
     };
     out = out_same;
-    goes_on = poured_goes_on b d laid old c (length values) values input poured h workers quantum bound said None;
+    goes_on = poured_goes_on b d c (length values) values input poured h plan said None;
   }

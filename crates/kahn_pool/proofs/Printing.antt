@@ -1,5 +1,5 @@
 -- The lines that are still to come, and which processes print.
-use Rattle.std.proofs.Common.{arith, ◌≡◌, ℕ, zero, suc, ◌<◌, Bool, true, false, if◌then◌else◌, List, [], ◌∷◌, ◌++◌, length, drop, map, Option, Some, refl, sym, ap, ◌∙◌, slice_get, slice_index_or, append_assoc, cond, append-nil}
+use Rattle.std.proofs.Common.{drop-cons, ◌≡◌, ℕ, zero, suc, ◌<◌, Bool, true, false, if◌then◌else◌, List, [], ◌∷◌, ◌++◌, length, drop, map, Option, Some, sym, ap, ◌∙◌, slice_get, append_assoc, cond, append-nil}
 use Rattle.kahn_pool.proofs.Common.{Integer, Inner, Declaration, Process, Line, declaration_prints, process_prints, prints_in, Channel, Print, Network, instance_at, idle, process_at, is_streamed, channel_lines, print_lines}
 use Rattle.kahn_streams.specs.declared.tree.Declaration.TheVariants as D
 
@@ -15,17 +15,6 @@ printed_at (d ∷ ds) (suc k) p h = printed_at ds k p h
 
 -- ---- lines
 
-drop_all : {X : Type 0} (xs : List X) (n : ℕ) → n ≡ length xs → drop n xs ≡ []
-drop_all [] zero e = refl
-drop_all [] (suc n) e = refl
-drop_all (x ∷ xs) zero e = absurd (omega (arith, e))
-drop_all (x ∷ xs) (suc n) e = drop_all xs n (omega (arith, e))
-
-drop_one : {X : Type 0} (xs : List X) (n : ℕ) (d : X) → n < length xs → drop n xs ≡ slice_index_or xs n d ∷ drop (suc n) xs
-drop_one [] n d l = absurd (omega (arith, l))
-drop_one (x ∷ xs) zero d l = refl
-drop_one (x ∷ xs) (suc n) d l = drop_one xs n d (omega (arith, l))
-
 add_one : (before after rest whole : List Line) (x : Line) → after ≡ before ++ x ∷ [] → before ++ x ∷ rest ≡ whole → after ++ rest ≡ whole
 add_one before after rest whole x e f = ap (λ l. l ++ rest) e ∙ (append_assoc before (x ∷ []) rest ∙ f)
 
@@ -38,11 +27,11 @@ pub channel_more : (N : Network) (watch : Option ℕ) (c : ℕ) (before after wh
     after ++ channel_lines watch (drop (suc c) N.channels) (suc c) ≡ whole
 channel_more N watch c before after whole l e f =
     one_line (is_streamed N watch c) (Channel c) (channel_lines watch (drop (suc c) N.channels) (suc c)) before after whole
-    (ap (λ rows. before ++ channel_lines watch rows c) (sym (drop_one N.channels c (Integer, Inner) l)) ∙ e) f
+    (ap (λ rows. before ++ channel_lines watch rows c) (sym (drop-cons N.channels c (Integer, Inner) l)) ∙ e) f
 
 pub print_more : (N : Network) (p : ℕ) (before after whole : List Line) → p < length N.instances →
     before ++ print_lines (drop p N.instances) p ≡ whole → after ≡ before ++ cond (prints_in (instance_at N p).body) (Print p ∷ []) [] →
     after ++ print_lines (drop (suc p) N.instances) (suc p) ≡ whole
 print_more N p before after whole l e f =
     one_line (prints_in (instance_at N p).body) (Print p) (print_lines (drop (suc p) N.instances) (suc p)) before after whole
-    (ap (λ is. before ++ print_lines is p) (sym (drop_one N.instances p idle l)) ∙ e) f
+    (ap (λ is. before ++ print_lines is p) (sym (drop-cons N.instances p idle l)) ∙ e) f

@@ -1,10 +1,10 @@
 -- What settled tasks whose ends have met say of the cells.
 use Rattle.std.proofs.Common.{arith, ◌≡◌, inl, inr, ℕ, zero, suc, ◌+◌, ◌<◌, ◌≤◌, List, [], length, map, refl, sym, ap, ◌∙◌, subst, Option, Some, slice_get, length-append}
-use Rattle.kahn_pool.proofs.Common.{Program, Role, Value, Inner, Input, Network, Reads, Writes, Given, network_of, instance_at, actual_at, role_at, IsWellWired, reads, writes, Channel, Store, Inputs, fed, iterate, out, source, Lists, inputs_of, dry_reads, AllStand, View, exec_on, is_output, Joins, count, told_view, joins_within, driven, IsBehind, IsReady, AreBehindOn, end_in, row_there, Serves, end_at, Tasked, handed_to_task, task_rows, work_of, at_mapped, AreAll, AreTasks, AreTold, IsDryOf, IsEndOf, IsSaid, IsSettledTask, IsInstanceTask, IsToldAs, cell_of, state_of_tasks, HasEndIn, TookNoMore, IsGiven, IsOutcomeOf, no_view, view_at, stand_in, StoodBy}
+use Rattle.kahn_pool.proofs.Common.{same_Some, Program, Role, Value, Inner, Input, Network, Reads, Writes, Given, network_of, instance_at, actual_at, role_at, IsWellWired, reads, writes, Channel, Store, Inputs, fed, iterate, out, source, Lists, inputs_of, dry_reads, AllStand, View, exec_on, is_output, count, told_view, joins_within, driven, IsBehind, IsReady, AreBehindOn, end_in, row_there, Serves, end_at, Tasked, handed_to_task, task_rows, work_of, at_mapped, AreAll, AreTasks, AreTold, IsDryOf, IsEndOf, IsSaid, IsSettledTask, IsInstanceTask, IsToldAs, cell_of, state_of_tasks, HasEndIn, TookNoMore, IsGiven, IsOutcomeOf, no_view, view_at, stand_in, StoodBy}
 use Rattle.kahn_streams.specs.inner.Sources.{IsFed as IsFedBy}
 use Rattle.kahn_streams.specs.declared.answer.End.{End}
 use Rattle.kahn_streams.specs.declared.answer.Outcome.{Outcome}
-use Rattle.kahn_pool.proofs.Benched.{get_map, got, mapped, some_one}
+use Rattle.kahn_pool.proofs.Benched.{get_map, got, mapped}
 use Rattle.kahn_pool.proofs.Ended.{handed_to, one_number}
 use Rattle.kahn_pool.proofs.Lists.{same_writer}
 use Rattle.kahn_streams.specs.Script as script
@@ -50,21 +50,12 @@ module _ (t : Program) (wired : IsWellWired t) (lists : Lists) (watch : Option �
   pub task_at : (p : ℕ) → p < length N.instances → (x : Tasked) × (slice_get tasks p ≡ Some x)
   task_at p l = got tasks p (subst (λ n. p < n) (sym of.count) l)
 
-  joins_read : (p q d : ℕ) → actual_at (instance_at N p) q ≡ Reads d → p < length N.instances
-  joins_read p q d e = joins_within N p q d (subst (λ a. Joins a d) (sym e) refl)
-
-  joins_write : (p q d : ℕ) → actual_at (instance_at N p) q ≡ Writes d → p < length N.instances
-  joins_write p q d e = joins_within N p q d (subst (λ a. Joins a d) (sym e) refl)
-
   -- by the names of the run
   pub says_here : (p : ℕ) (x : Tasked) → slice_get tasks p ≡ Some x → code.Paused N I watch p (told_view x.work.cell) (IsSaid x.work x.standing)
   says_here p x e =
       let o = of.each p x e in
-      let h = (settled p x e).says in
-      subst (λ i. code.Paused N I watch i (told_view x.work.cell) (IsSaid x.work x.standing)) o.instance
-      (subst (λ w. code.Paused N I w x.work.cell.instance (told_view x.work.cell) (IsSaid x.work x.standing)) o.watched
-      (subst (λ l. code.Paused N (inputs_of l) x.work.cell.watch x.work.cell.instance (told_view x.work.cell) (IsSaid x.work x.standing)) o.input
-      (subst (λ k. code.Paused (network_of k) (inputs_of x.work.cell.input) x.work.cell.watch x.work.cell.instance (told_view x.work.cell) (IsSaid x.work x.standing)) o.network h)))
+      subst (λ (k : Program × Lists × Option ℕ × ℕ). code.Paused (network_of k.0) (inputs_of k.1) k.2 k.3 (told_view x.work.cell) (IsSaid x.work x.standing))
+      (λ i. (o.network i, o.input i, o.watched i, o.instance i)) (settled p x e).says
 
   pub dry_of : (p q : ℕ) (x : Tasked) → slice_get tasks p ≡ Some x → x.standing ≡ standing.Dry q → IsDryOf t p q
   dry_of p q x e s =
@@ -128,7 +119,7 @@ module _ (t : Program) (wired : IsWellWired t) (lists : Lists) (watch : Option �
           },
         )
         by (inr f) =
-            let y = task_at f.0 (joins_write f.0 f.1 d f.3) in
+            let y = task_at f.0 (joins_within N f.0 f.1 d (rw f.3 refl)) in
             let h : IsBehind (end_at y.0.work.ends f.1) (end_at x.work.ends q) =
             subst (λ z. IsBehind z (end_at x.work.ends q)) (row_at tasks f.0 f.1 y.0 y.1) (subst (IsBehind (end_in (task_rows tasks) f.0 f.1)) (row_at tasks p q x e) (behind d f.0 p f.1 q f.3 r))
             in
@@ -144,7 +135,7 @@ module _ (t : Program) (wired : IsWellWired t) (lists : Lists) (watch : Option �
                   sent = λ s w z g k.
                       let a : actual_at (instance_at N s) w ≡ Writes d = sym (handed_as s w z g) ∙ k in
                       let i : s ≡ f.0 = same_writer (sym (writes t wired s w d a).0 ∙ f.2) in
-                      let same : z ≡ y.0 = some_one (sym g ∙ ap (slice_get tasks) i ∙ y.1) in
+                      let same : z ≡ y.0 = same_Some _ _ (sym g ∙ ap (slice_get tasks) i ∙ y.1) in
                       let v : w ≡ f.1 = (driven t wired).once f.0 w f.1 d (subst (λ n. actual_at (instance_at N n) w ≡ Writes d) i a) f.3 in
                       ap (λ u. count u.work.cell.sent w) same ∙ ap (count y.0.work.cell.sent) v;
                 };
@@ -155,7 +146,7 @@ module _ (t : Program) (wired : IsWellWired t) (lists : Lists) (watch : Option �
 
     pub within : TookNoMore N I cells
     within p q d r =
-        let x = task_at p (joins_read p q d r) in
+        let x = task_at p (joins_within N p q d (rw r refl)) in
         let h = counted p q d x.0 x.1 r in
         let v : (view_at cells p).taken q ≡ count x.0.work.cell.taken q = ap (λ u. u.taken q) (viewed p x.0 x.1) in
         let le = h.1.within in

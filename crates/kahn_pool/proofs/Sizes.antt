@@ -1,7 +1,7 @@
 -- The events of an answer and the size of the solution.
 use mathlib.Core.Path.{fun_ext}
-use Rattle.std.proofs.Common.{arith, ◌≡◌, ◌≢◌, ◌↔◌, ℕ, zero, suc, ◌+◌, ◌≤◌, max, List, [], ◌∷◌, ◌++◌, length, sum_by, refl, sym, subst, le_trans, le_of_suc-le-suc, suc-le-suc, not-suc-le-zero, Option, Some, slice_get, pos}
-use Rattle.kahn_pool.proofs.Common.{le-max_left, le-max_right, sum_by-cons, Value, Line, Number, Tapes, Script, Give, Fail, Sends, Turns, Rest, Reached, wait_at, play, Network, Instance, Hands, instance_at, Histories, Inputs, tapes_of, exec_at, iterate, IsPrefix, Ending, HasEnd, HasSizes, none_left, one_more, HasSize, and_more, put_more, play_alike, prefix_trans, Feeds, feeds, script_at, exec_alike, chain, iterates_rise, fits_all, Answer, Verdict, Finished, Bound, Memory, Ended, Faulted, More, AreRight, IsRight, IsOutcome, IsEnd, end_events, IsWithinBound, Settles, AreBegun}
+use Rattle.std.proofs.Common.{arith, ◌≡◌, ◌≢◌, ◌↔◌, ℕ, zero, suc, ◌+◌, ◌≤◌, max, List, [], ◌∷◌, ◌++◌, length, sum_by, refl, sym, subst, le_trans, le_of_suc-le-suc, suc-le-suc, not-suc-le-zero, Option, Some, slice_get, pos, ap, ◌∙◌, slice_set, length-set}
+use Rattle.kahn_pool.proofs.Common.{le-max_left, le-max_right, sum_by-cons, Value, Line, Number, Tapes, Script, Give, Fail, Sends, Turns, Rest, Reached, wait_at, play, Network, Instance, Hands, instance_at, Histories, Inputs, tapes_of, exec_at, iterate, IsPrefix, Ending, HasEnd, HasSizes, none_left, one_more, HasSize, and_more, put_more, play_alike, prefix_trans, Feeds, feeds, script_at, exec_alike, chain, iterates_rise, fits_all, Answer, Verdict, Finished, Bound, Memory, Ended, Faulted, More, AreRight, IsRight, IsOutcome, IsEnd, end_events, IsWithinBound, Settles, AreBegun, sum_by-set, slice_get_within, get_or_from_slice_get, set_each}
 use Rattle.kahn_streams.specs.Script.{Waits}
 use Rattle.kahn_streams.specs.declared.answer.End.{End}
 use Rattle.kahn_streams.specs.declared.answer.Outcome.{Outcome}
@@ -97,37 +97,6 @@ module _ (N : Network) (I : Inputs) where
         no_more (suc p) is xs total (omega (arith, l)) (λ k j y e g. each (suc k) j y (omega (arith, e)) g) rest,
       )
 
-  -- where one of them does fewer
-  fewer : (p : ℕ) (is : List Instance) (xs : List End) (total : ℕ) → length xs ≡ length is →
-      ((k j : ℕ) (x : End) → j ≡ p + k → slice_get xs k ≡ Some x → Below j x.events) → HasSizes N I p is total →
-      (k j : ℕ) (x : End) → j ≡ p + k → slice_get xs k ≡ Some x → Below j (suc x.events) → suc (sum_by end_events xs) ≤ total
-  fewer p [] [] total l each h k j x e g less = absurd cc
-  fewer p [] (y ∷ ys) total l each h k j x e g less = absurd (omega (arith, l))
-  fewer p (i ∷ is) [] total l each h k j x e g less = absurd (omega (arith, l))
-  fewer p (i ∷ is) (y ∷ ys) _ l each (one_more {o = o} {e = f} {total = total} h rest) zero j x e g less =
-      omega (
-        arith,
-        sum_by-cons end_events y ys,
-        first,
-        no_more (suc p) is ys total (omega (arith, l)) (λ k j y e g. each (suc k) j y (omega (arith, e)) g) rest,
-      )
-    where
-      same : Some y ≡ Some x → y ≡ x
-      same s = cc
-
-      at : j ≡ p
-      at = omega (arith, e)
-
-      first : suc y.events ≤ f
-      first = subst (λ z. suc z.events ≤ f) (sym (same g)) (less f o (subst (λ b. HasEnd N I b o f) (sym at) h))
-  fewer p (i ∷ is) (y ∷ ys) _ l each (one_more {o = o} {e = f} {total = total} h rest) (suc k) j x e g less =
-      omega (
-        arith,
-        sum_by-cons end_events y ys,
-        each 0 p y (omega arith) refl f o h,
-        fewer (suc p) is ys total (omega (arith, l)) (λ k j y e g. each (suc k) j y (omega (arith, e)) g) rest k j x (omega (arith, e)) g less,
-      )
-
 -- ---- right ends
 
 has_end : (N : Network) (I : Inputs) (p e : ℕ) (o : Outcome) → IsEnd N I p o e → (y : Ending) × HasEnd N I p y e
@@ -136,41 +105,37 @@ has_end N I p e (Faulted k) h = (net.Faulted k, h)
 has_end N I p e (Waits c) h = (net.Waiting h.0, h.2)
 has_end N I p e More h = absurd h
 
-module _ (N : Network) (I : Inputs) (bound : ℕ) (said : Verdict) (ends : List End) (done : ℕ) (r : AreRight N I bound said ends done) where
+by_number : {j k : ℕ} → j ≡ 0 + k → k ≡ j
+by_number e = omega (arith, e)
+
+module _ {N : Network} {I : Inputs} {bound : ℕ} {said : Verdict} {ends : List End} {done : ℕ} (r : AreRight N I bound said ends done) where
   pub counted_ends : said ≡ Finished → HasSize N I done
   counted_ends f =
       rw r.total (all_ends N I 0 N.instances ends r.instances (λ k j x e g.
       let t = has_end N I k x.events x.outcome (r.ended f k x g) in
-      (t.0, subst (λ b. HasEnd N I b t.0 x.events) (at e) t.1)))
-    where
-      at : {j k : ℕ} → j ≡ 0 + k → k ≡ j
-      at e = omega (arith, e)
+      (t.0, subst (λ b. HasEnd N I b t.0 x.events) (by_number e) t.1)))
 
   below : (p : ℕ) (x : End) → slice_get ends p ≡ Some x → Below N I p x.events
   below p x h e o g = at_most N I r.tapes r.others p x.events e o (r.does p x h) g
 
+  -- an instance that has a next event in it does one more there
   stopped : said ≡ Bound → IsWithinBound N I bound → ⊥
   stopped v w =
       let b = r.bounded v in
       let p = b.1.0 in
       let x = b.1.1 in
       let next : IsOutcome said N r.tapes p x.events More = subst (IsOutcome said N r.tapes p x.events) b.1.3 (r.outcomes p x b.1.2) in
+      let y : End = record { outcome = x.outcome; events = suc x.events } in
+      let each = set_each (λ k z. Below N I k z.events) ends p y (λ k z n. below k z) (λ e o. at_most N I r.tapes r.others p (suc x.events) e o next) in
       omega (
         arith,
         r.total,
         b.0,
         w.2,
-        fewer N I 0 N.instances ends w.0 r.instances
-            (λ k j y e g. below_at k j y e g)
-            w.1 p p x (omega arith) b.1.2
-            (λ e o g. at_most N I r.tapes r.others p (suc x.events) e o next g),
+        sum_by-set end_events ends p y x (slice_get_within ends p x b.1.2),
+        ap end_events (get_or_from_slice_get ends p x x b.1.2),
+        no_more N I 0 N.instances (slice_set ends p y) w.0 (length-set ends p y ∙ r.instances) (λ k j z e g. subst (λ b. Below N I b z.events) (by_number e) (each k z g)) w.1,
       )
-    where
-      below_at : (k j : ℕ) (y : End) → j ≡ 0 + k → slice_get ends k ≡ Some y → Below N I j y.events
-      below_at k j y e g = subst (λ b. Below N I b y.events) (at e) (below k y g)
-        where
-          at : j ≡ 0 + k → k ≡ j
-          at e = omega (arith, e)
 
   settled_by : (v : Verdict) → said ≡ v → IsWithinBound N I bound → (v ≡ Memory → ⊥) → v ≡ Finished
   settled_by Finished e w m = refl
@@ -184,10 +149,10 @@ module _ (N : Network) (I : Inputs) (bound : ℕ) (said : Verdict) (ends : List 
 
 module _ (N : Network) (I : Inputs) (bound : ℕ) (watch : Option ℕ) (a : Answer) (r : IsRight N I bound watch a) where
   pub counted : a.verdict ≡ Finished → HasSize N I a.events
-  counted = counted_ends N I bound a.verdict a.ends.items a.events r.run
+  counted = counted_ends r.run
 
   pub settles : Settles N I bound a.verdict
-  settles = settles_ends N I bound a.verdict a.ends.items a.events r.run
+  settles = settles_ends r.run
 
   pub begun : AreBegun N I a
   begun s h = let o = r.run.others s.line in (o.0, subst (λ l. IsPrefix l (iterate N I o.0 s.line)) (sym (r.values s h)) o.1)

@@ -2,19 +2,12 @@
 use Rattle.std.proofs.Common.{arith, ◌≡◌, ℕ, zero, suc, ◌+◌, ◌==◌, Bool, true, false, List, [], ◌∷◌, map, refl, sym, ap, ◌∙◌, subst, eqb-true, Option, Some, None, slice_get, if◌then◌else◌}
 use Rattle.kahn_pool.proofs.Common.{length-map, Program, Input, Actual, Reads, Writes, Hands, network_of, instance_at, actual_at, role_at, writes, AreInputsExtended, Lists, inputs_of, HasPoured, given_of, next_at, place_at, taken_of, waiting_of, Waiting, Told, told_view, Tapped, regrown_tap, seen_of, HasTakenIn, IsLaid, IsSeated, Table, gone_in, table_of, told_in}
 use Rattle.kahn_code.specs.Lines.{Lines as Queues}
+use Rattle.kahn_pool.proofs.Benched.{get_map}
+use Rattle.kahn_pool.proofs.Lists.{map_map}
 
 given_sum : (o : Option Waiting) → given_of o ≡ taken_of o + waiting_of o
 given_sum None = refl
 given_sum (Some w) = refl
-
--- what is read of all is read of the same taps for another input
-map_regrown : {X : Type 0} (f : Tapped → X) (input : Lists) → ((x : Tapped) → f (regrown_tap input x) ≡ f x) → (taps : List Tapped) → map f (map (regrown_tap input) taps) ≡ map f taps
-map_regrown f input e [] = refl
-map_regrown f input e (x ∷ taps) = ap (λ y. y ∷ map f (map (regrown_tap input) taps)) (e x) ∙ ap (λ ys. f x ∷ ys) (map_regrown f input e taps)
-
-views_of : {X : Type 0} (f : Told → X) (taps : List Tapped) → map f (map told_in taps) ≡ map (λ x. f x.told) taps
-views_of f [] = refl
-views_of f (x ∷ taps) = ap (λ ys. f x.told ∷ ys) (views_of f taps)
 
 regrown_from : (input : Lists) (taps : List Tapped) (p : ℕ) (c : Told) → slice_get (map told_in (map (regrown_tap input) taps)) p ≡ Some c →
     (d : Told) × (slice_get (map told_in taps) p ≡ Some d) × (c ≡ record d { input = input })
@@ -70,11 +63,10 @@ module _ {t : Program} {lists : Lists} {watch : Option ℕ} {code : Program} (ta
       input = poured.lists ∙ same;
     }
 
-    roomier_in : HasTakenIn c n lists old (table_of t lists watch code taps q')
-    roomier_in = record { network = refl; lists = refl; watch = refl; gone = refl; views = refl; seen = refl; waiting = poured.waiting }
-
     pub roomier_then : {s : Table} → old ≡ s → HasTakenIn c n s.input s (table_of t lists watch code taps q')
-    roomier_then is = subst (λ (x : Table). HasTakenIn c n x.input x (table_of t lists watch code taps q')) is roomier_in
+    roomier_then is =
+        subst (λ (x : Table). HasTakenIn c n x.input x (table_of t lists watch code taps q')) is
+        (record { network = refl; lists = refl; watch = refl; gone = refl; views = refl; seen = refl; waiting = poured.waiting })
 
   -- and the taps
   module _ (name : Lists) (named : name ≡ input) where
@@ -106,9 +98,9 @@ module _ {t : Program} {lists : Lists} {watch : Option ℕ} {code : Program} (ta
       network = refl;
       lists = named;
       watch = refl;
-      gone = map_regrown gone_in input (λ x. refl) taps;
-      views = views_of told_view (map (regrown_tap input) taps) ∙ map_regrown (λ x. told_view x.told) input (λ x. refl) taps ∙ sym (views_of told_view taps);
-      seen = views_of seen_of (map (regrown_tap input) taps) ∙ map_regrown (λ x. seen_of x.told) input (λ x. refl) taps ∙ sym (views_of seen_of taps);
+      gone = map_map gone_in (regrown_tap input) taps;
+      views = map_map told_view told_in (map (regrown_tap input) taps) ∙ map_map (λ x. told_view x.told) (regrown_tap input) taps ∙ sym (map_map told_view told_in taps);
+      seen = map_map seen_of told_in (map (regrown_tap input) taps) ∙ map_map (λ x. seen_of x.told) (regrown_tap input) taps ∙ sym (map_map seen_of told_in taps);
       waiting = poured.waiting;
     }
 
@@ -119,9 +111,4 @@ module _ {t : Program} {lists : Lists} {watch : Option ℕ} {code : Program} (ta
 pub taps_grow : {t : Program} {lists : Lists} {watch : Option ℕ} {code : Program} (taps : List Tapped) {q : Queues} → IsLaid (table_of t lists watch code taps q) → (input : Lists) →
     AreInputsExtended (inputs_of lists) (inputs_of input) → (p : ℕ) (x : Tapped) → slice_get taps p ≡ Some x → AreInputsExtended (inputs_of x.told.input) (inputs_of input)
 taps_grow taps laid input grown p x at =
-    subst (λ l. AreInputsExtended (inputs_of l) (inputs_of input)) (sym (laid.each p x.told (told_at taps p x at)).input) grown
-  where
-    told_at : (taps : List Tapped) (p : ℕ) (x : Tapped) → slice_get taps p ≡ Some x → slice_get (map told_in taps) p ≡ Some x.told
-    told_at [] p x e = absurd cc
-    told_at (y ∷ taps) zero x e = cc
-    told_at (y ∷ taps) (suc p) x e = told_at taps p x e
+    subst (λ l. AreInputsExtended (inputs_of l) (inputs_of input)) (sym (laid.each p x.told (get_map told_in taps p x at)).input) grown

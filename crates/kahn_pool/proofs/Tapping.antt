@@ -1,6 +1,6 @@
 -- Taps over plain queues, one of which runs.
 use Rattle.std.proofs.Common.{arith, ◌≡◌, ◌⊎◌, inl, inr, ℕ, ◌<◌, ◌≤◌, List, [], ◌∷◌, ◌++◌, length, map, replicate, refl, sym, ap, ◌∙◌, subst, zero, suc, Option, Some, slice_get, slice_set, slice_index_or}
-use Rattle.kahn_pool.proofs.Common.{map-set_same, get_or-set_other, length-map, map-set, cases_eq, slice_get_read, Program, network_of, Lists, Gone, kept_behind, nothing_gone, Tapped, View, Told, Pause, Kept, HasRunCell, RunState, events_at, no_view, view_at, kept_lists, printed_list, AreKeptOf, AreLeft, AreWhole, IsLaid, IsLeft, HasWorked, Table, actual_count, gone_in, parameter_count, sight_of, table_of, told_in, IsSameRun, inputs_of}
+use Rattle.kahn_pool.proofs.Common.{map-set_same, get_or-set_other, length-map, map-set, cases_eq, slice_get_read, Program, network_of, Lists, Gone, kept_behind, nothing_gone, Tapped, View, Pause, Kept, HasRunCell, RunState, events_at, no_view, view_at, kept_lists, printed_list, AreKeptOf, AreLeft, IsLaid, IsLeft, HasWorked, Table, actual_count, gone_in, parameter_count, sight_of, table_of, told_in}
 use Rattle.kahn_code.specs.Lines.{Lines as Queues}
 use Rattle.kahn_pool.proofs.Benched.{get_map, ran, viewed}
 
@@ -14,9 +14,6 @@ worked_on h k = record {
   gone = k.gone ∙ h.gone;
   events = λ p. let a = h.events p in let b = k.events p in omega (arith, a, b);
 }
-
-pub same_run : {b d : Table} → HasWorked b d → IsSameRun (sight_of b) (sight_of d)
-same_run h = ((λ i. network_of (h.network i)), (λ i. inputs_of (h.input i)), h.watch)
 
 -- the events of an instance that ran, and of the others
 ran_events : (s t : RunState) (p quantum : ℕ) (z : Pause) → HasRunCell s t p quantum z → (o : ℕ) → events_at s o ≤ events_at t o
@@ -52,9 +49,7 @@ module _ {t : Program} {lists : Lists} {watch : Option ℕ} {code : Program} (ta
     gone_same = map-set_same gone_in taps p y x (gone ∙ ap gone_in value)
 
     pub ran_is : ran b p y.told q' ≡ table_of t lists watch code (slice_set taps p y) q'
-    ran_is =
-        ap (λ (cs : List Told). let z : Table = record { network = t; input = lists; watch = watch; code = code; cells = cs; gone = map gone_in taps; queues = q' } in z) (sym (map-set told_in taps p y)) ∙
-        ap (λ (gs : List Gone). let z : Table = record { network = t; input = lists; watch = watch; code = code; cells = map told_in (slice_set taps p y); gone = gs; queues = q' } in z) (sym gone_same)
+    ran_is = λ i. record { network = t; input = lists; watch = watch; code = code; cells = sym (map-set told_in taps p y) i; gone = sym gone_same i; queues = q' }
 
     abbrev now : Table
     now = table_of t lists watch code (slice_set taps p y) q'
@@ -92,8 +87,3 @@ left_whole (x ∷ taps) (k ∷ kept) (suc n) h e =
       printed = ap (λ l. l ∷ map printed_list kept) all.1 ∙ ap (λ l. x.told.printed ∷ l) r.printed;
       parameters = ap (λ l. l ∷ map parameter_count kept) h.0.2 ∙ ap (λ l. actual_count x.told ∷ l) r.parameters;
     }
-
--- the lists of a bench on which nothing was let go of
-pub all_left : {A : Type 0} (taps : List Tapped) (kept : List (Kept A)) (b : Table) → map told_in taps ≡ b.cells → map gone_in taps ≡ b.gone → AreLeft taps kept → (n : ℕ) → AreWhole n b.gone →
-    AreKeptOf b.cells kept
-all_left taps kept b told gone h n whole = subst (λ cs. AreKeptOf cs kept) told (left_whole taps kept n h (gone ∙ whole))

@@ -1,6 +1,6 @@
 -- Finished answers say the same.
 use Rattle.std.proofs.Common.{arith, ◌≡◌, ℕ, zero, suc, List, [], ◌∷◌, length, map, sum_by, refl, sym, ap, ◌∙◌, subst, Option, Some, slice_get}
-use Rattle.kahn_pool.proofs.Common.{Line, Network, Actual, Reads, Writes, Hands, instance_at, actual_at, Inputs, HasEnd, IsWhole, Ending, determined, Answer, Stream, Finished, Ended, Faulted, More, IsRight, IsEnd, AreOne, stream_line, values_of, end_events}
+use Rattle.kahn_pool.proofs.Common.{Network, Actual, Reads, Writes, Hands, instance_at, actual_at, Inputs, HasEnd, IsWhole, Ending, determined, Answer, Stream, Finished, Ended, Faulted, More, IsRight, IsEnd, AreOne, stream_line, values_of, end_events}
 use Rattle.kahn_streams.specs.declared.answer.End.{End}
 use Rattle.kahn_streams.specs.declared.answer.Outcome.{Outcome}
 use Rattle.kahn_streams.specs.declared.answer.Outcome.TheVariants.{Waits}
@@ -40,12 +40,6 @@ same_lists (x ∷ xs) [] l h = absurd (omega (arith, l))
 same_lists (x ∷ xs) (y ∷ ys) l h =
     ap (λ z. z ∷ xs) (h zero x y refl refl) ∙ ap (λ zs. y ∷ zs) (same_lists xs ys (omega (arith, l)) (λ p. h (suc p)))
 
-head_line : {a b : Line} {xs ys : List Line} → a ∷ xs ≡ b ∷ ys → a ≡ b
-head_line e = cc
-
-tail_lines : {a b : Line} {xs ys : List Line} → a ∷ xs ≡ b ∷ ys → xs ≡ ys
-tail_lines e = cc
-
 same_streams : (N : Network) (I : Inputs) (ss ts : List Stream) → map stream_line ss ≡ map stream_line ts →
     ((j : ℕ) (s : Stream) → slice_get ss j ≡ Some s → IsWhole N I s.line (values_of s)) →
     ((j : ℕ) (t : Stream) → slice_get ts j ≡ Some t → IsWhole N I t.line (values_of t)) → map values_of ss ≡ map values_of ts
@@ -53,11 +47,11 @@ same_streams N I [] [] e h g = refl
 same_streams N I [] (t ∷ ts) e h g = absurd cc
 same_streams N I (s ∷ ss) [] e h g = absurd cc
 same_streams N I (s ∷ ss) (t ∷ ts) e h g =
-    let l : s.line ≡ t.line = head_line e in
+    let l : s.line ≡ t.line = cc in
     let w : IsWhole N I t.line (values_of s) = subst (λ c. IsWhole N I c (values_of s)) l (h zero s refl) in
     let v : values_of s ≡ values_of t = (determined N I).one_whole t.line (values_of s) (values_of t) w (g zero t refl) in
     ap (λ z. z ∷ map values_of ss) v ∙
-    ap (λ zs. values_of t ∷ zs) (same_streams N I ss ts (tail_lines e) (λ j. h (suc j)) (λ j. g (suc j)))
+    ap (λ zs. values_of t ∷ zs) (same_streams N I ss ts (cc) (λ j. h (suc j)) (λ j. g (suc j)))
 
 pub finished_is_one : (N : Network) (I : Inputs) (watch : Option ℕ) (n m : ℕ) (a b : Answer) → IsRight N I n watch a → IsRight N I m watch b →
     a.verdict ≡ Finished → b.verdict ≡ Finished → AreOne a b

@@ -1,14 +1,9 @@
 -- Believed. A run that is fed as it goes, and that lets go of what it kept: what contracts see of it, and what its calls make of it (this
 -- project's profile).
 use Rattle.std.specs.Prelude.{◌≡◌, ◌⊎◌, ℕ, ◌+◌, ◌<◌, ◌≤◌, ◌^◌, List, [], ◌++◌, length, map, replicate, None, Some, slice_get, slice_index_or}
-use Rattle.kahn_streams.specs.declared.{tree.Program.Program, feeds.FeedFault.FeedFault, value.Line.Line, value.Value.Value, config.Config.Config, feeds.FeedFault.TheVariants.UnknownName, feeds.FeedFault.TheVariants.NotAnInput, feeds.FeedFault.TheVariants.WrongKind, feeds.FeedFault.TheVariants.TooMany, feeds.FeedFault.TheVariants.NoMemory, token.Token.Token, answer.Verdict.Verdict}
-use Rattle.kahn_streams.specs.Network.{network_of}
-use Rattle.kahn_streams.specs.Inputs.{Entry, channel_of, most_values, Lists}
-use Rattle.kahn_streams.specs.Feeds.{IsMeant, IsNotMeant, total_after}
-use Rattle.kahn_streams.specs.Tokens.{token_value}
-use Rattle.kahn_code.specs.Lines.{IsPoured}
+use Rattle.kahn_pool.specs.inner.Below.{Config, Entry, FeedFault, IsMeant, IsNotMeant, IsPoured, Line, Lists, NotAnInput, Program, Token, TooMany, UnknownName, Value, Verdict, WrongKind, channel_of, most_values, network_of, stream_lines, token_value, total_after}
+use Rattle.kahn_streams.specs.declared.{feeds.FeedFault.TheVariants.NoMemory}
 use Rattle.kahn_pool.specs.HeldRuns.{GoesOn, HasStarted, HeldRun, IsResumed, so_far}
-use Rattle.kahn_streams.specs.Answers.{stream_lines}
 use Rattle.kahn_pool.specs.declared.{held_fault.HeldFault.HeldFault, held_fault.HeldFault.TheVariants.BadMore}
 
 pub record Flowing : Type 0 where

@@ -1,14 +1,6 @@
 -- Believed. A run that is held between its parts: what contracts see of it, and what its calls make of it (this project's profile).
-use Rattle.std.specs.Prelude.{◌≡◌, ◌⊎◌, ℕ, suc, ◌+◌, ◌<◌, ◌≤◌, ◌^◌, true, List, [], ◌∷◌, map, sum_by, Option, Some, None, slice_get, slice_index_or, if◌then◌else◌}
-use Rattle.kahn_streams.specs.declared.{tree.Program.Program, value.Value.Value, value.Line.Line, feeds.FeedFault.FeedFault, config.Config.Config, token.Token.Token, value.Line.TheVariants.Channel, value.Line.TheVariants.Print, answer.Answer.Answer, answer.End.End, answer.Stream.Stream, answer.Verdict.Verdict, answer.Verdict.TheVariants.Finished, fault.RunFault.RunFault}
-use Rattle.kahn_streams.specs.Network.{Network, Actual, Source, Given, Written, Nobody, Writes, network_of, instance_at, actual_at, is_written}
-use Rattle.kahn_streams.specs.Inputs.{Entry, Lists, inputs_of}
-use Rattle.kahn_streams.specs.Feeds.{IsEntryFed, IsUnwelcome}
-use Rattle.kahn_streams.specs.Solution.{AreInputsExtended, Inputs, IsPrefix, IsWhole, source}
-use Rattle.kahn_code.specs.Cells.{is_streamed}
-use Rattle.kahn_streams.specs.Tokens.{token_value}
-use Rattle.kahn_code.specs.Told.{Told}
-use Rattle.kahn_streams.specs.Answers.{Settles, AreRight, IsRight, HasStream, HasEndAt, stream_lines, values_of, IsAllowed, IsUndeclared, IsWatched}
+use Rattle.std.specs.Prelude.{◌≡◌, ◌⊎◌, ℕ, suc, ◌+◌, ◌<◌, ◌≤◌, ◌^◌, List, [], ◌∷◌, map, sum_by, Option, Some, None, slice_get, slice_index_or, if◌then◌else◌}
+use Rattle.kahn_pool.specs.inner.Below.{Actual, Answer, AreInputsExtended, AreRight, Channel, Config, End, Entry, FeedFault, Finished, Given, HasEndAt, HasStream, Inputs, IsAllowed, IsEntryFed, IsPrefix, IsRight, IsUndeclared, IsUnwelcome, IsWatched, IsWhole, Line, Lists, Network, Nobody, Print, Program, RunFault, Settles, Source, Stream, Token, Told, Value, Verdict, Written, inputs_of, instance_at, is_written, network_of, source, stream_lines, token_value, values_of}
 use Rattle.kahn_streams.specs.declared.fault.RunFault.TheVariants as fault
 use Rattle.kahn_pool.specs.declared.held_fault.HeldFault.{HeldFault}
 use Rattle.kahn_pool.specs.declared.held_fault.HeldFault.TheVariants as held
@@ -45,20 +37,6 @@ pub record HeldRun : Type 0 where
   -- the verdict of the last part, where nothing changed since
   pub verdict : Option Verdict
 
--- these values were given to the line so far
-abbrev pub IsSoFar : HeldRun → Source → Line → List Value → Type 0
-IsSoFar h Given (Channel c) vs = vs ≡ inputs_of h.input c
-IsSoFar h (Written p) (Channel c) vs =
-    (q : ℕ) × (actual_at (instance_at (network_of h.network) p) q ≡ Writes c) × (is_streamed (network_of h.network) h.watch c ≡ true) ×
-    (vs ≡ map token_value (slice_index_or (seen_at h.cells p).kept q []))
-IsSoFar h (Written p) (Print r) vs = vs ≡ map token_value (seen_at h.cells p).printed
-IsSoFar h Given (Print r) vs = ⊥
-IsSoFar h Nobody c vs = ⊥
-
--- these values are those of the stream of the line so far
-abbrev pub HasSoFar : HeldRun → Line → List Value → Type 0
-HasSoFar h c vs = IsSoFar h (source (network_of h.network) c) c vs
-
 -- the number of the first parameter by which the channel is written
 abbrev pub writing : List Actual → ℕ → ℕ
 writing [] c = 0
@@ -81,15 +59,14 @@ so_far h c = given_so_far h (source (network_of h.network) c) c
 abbrev pub IsLineOf : HeldRun → Line → Type 0
 IsLineOf h c = (j : ℕ) × (slice_get (stream_lines (network_of h.network) h.watch) j ≡ Some c)
 
--- the second is the first later on: each stream of the first is there in the second, and begins it, and no instance's events
--- go down
+-- the second is the first later on: each stream of the first begins that of the second, and no instance's events go down
 pub record GoesOn (old new : HeldRun) : Type 0 where
   pub network : new.network ≡ old.network
   pub watch : new.watch ≡ old.watch
   pub workers : new.workers ≡ old.workers
   pub quantum : new.quantum ≡ old.quantum
   pub input : AreInputsExtended (inputs_of old.input) (inputs_of new.input)
-  pub streams : (c : Line) (vs : List Value) → HasSoFar old c vs → (ws : List Value) × HasSoFar new c ws × IsPrefix vs ws
+  pub streams : (c : Line) → IsPrefix (so_far old c) (so_far new c)
   pub events : (p : ℕ) → (seen_at old.cells p).events ≤ (seen_at new.cells p).events
 
 -- ---- the start
@@ -152,15 +129,15 @@ IsUnfed entry old new f = (new ≡ old) × IsUnwelcome old.network old.input ent
 pub record IsAnswerOf (h : HeldRun) (a : Answer) : Type 0 where
   pub right : IsRight (network_of h.network) (inputs_of h.input) h.bound h.watch a
   pub verdict : h.verdict ≡ Some a.verdict
-  pub streams : (s : Stream) → HasStream a s → HasSoFar h s.line (values_of s)
+  pub streams : (s : Stream) → HasStream a s → values_of s ≡ so_far h s.line
   pub events : (p : ℕ) (x : End) → HasEndAt a p x → x.events ≡ (seen_at h.cells p).events
 
 -- a verdict and ends that are right for the input so far and the bound so far, with the streams so far: these are the tapes of the
 -- right answer, and where it has finished they are whole
 pub record IsRightSoFar (h : HeldRun) (v : Verdict) (ends : List End) : Type 0 where
   pub right : AreRight (network_of h.network) (inputs_of h.input) h.bound v ends (sum_by seen_events h.cells)
-  pub values : (c : Line) (vs : List Value) → HasSoFar h c vs → vs ≡ right.tapes c
-  pub whole : v ≡ Finished → (c : Line) (vs : List Value) → HasSoFar h c vs → IsWhole (network_of h.network) (inputs_of h.input) c vs
+  pub values : (c : Line) → IsLineOf h c → so_far h c ≡ right.tapes c
+  pub whole : v ≡ Finished → (c : Line) → IsLineOf h c → IsWhole (network_of h.network) (inputs_of h.input) c (so_far h c)
   pub events : (p : ℕ) (x : End) → slice_get ends p ≡ Some x → x.events ≡ (seen_at h.cells p).events
 
 -- ---- answers

@@ -1,20 +1,16 @@
 -- Believed. Why a run is refused.
 use Rattle.std.specs.Prelude.{ℕ, ◌≤◌, ◌<◌, ◌^◌}
-use Rattle.kahn_streams.specs.declared.fault.RunFault.{RunFault}
+use Rattle.kahn_pool.specs.inner.Below.{RunFault}
 use Rattle.kahn_streams.specs.declared.fault.RunFault.TheVariants as fault
 
 -- why a run on one thread is refused
 abbrev pub IsRefusedRun : ℕ → RunFault → Type 0
 IsRefusedRun bound fault.BadConfig = 2 ^ 48 ≤ bound
 IsRefusedRun bound fault.NoMemory = bound < 2 ^ 48
-IsRefusedRun bound fault.UnknownWatch = ⊥
-IsRefusedRun bound fault.NoThread = ⊥
-IsRefusedRun bound fault.Stalled = ⊥
+IsRefusedRun bound f = ⊥
 
 -- memory was wanting, or a thread for one of several workers
 abbrev pub IsWant : ℕ → RunFault → Type 0
-IsWant workers fault.BadConfig = ⊥
-IsWant workers fault.UnknownWatch = ⊥
 IsWant workers fault.NoMemory = Unit {0}
 IsWant workers fault.NoThread = 1 < workers
-IsWant workers fault.Stalled = ⊥
+IsWant workers f = ⊥

@@ -1,3 +1,4 @@
+pub mod Below
 pub mod Bench
 pub mod Changed
 pub mod FlowBench

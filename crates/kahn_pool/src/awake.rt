@@ -1,19 +1,24 @@
-//! Who may go on in a run on one thread, and who waits for what.
+//! Which instances may go on in a run on one thread, which wait for what, and which are far ahead of their readers.
 
 use crate::run_queue::RunQueue;
 use kahn_code::Plain;
 use kahn_streams::{Network, NoMemory, Outcome};
 use std::alloc::Global;
 
-/// Who may go on. A reader that finds its channel empty sleeps until something was sent there. It is a hint, as the run queue
-/// is.
+// A writer is far ahead if this many values more wait on one of its channels.
+const FAR: usize = 1_024;
+
+/// The instances that may go on. A reader that finds its channel empty sleeps until something was sent there.
 #[derive(Drop)]
 pub(crate) struct Awake {
     // The channels that each instance writes.
     written: Vec<Vec<usize>>,
-    // Of each channel the reader that found it empty.
+    // The reader of each channel, if it found it empty.
     sleepers: Vec<Option<usize>>,
     queue: RunQueue,
+    // Whether each instance was far ahead of its readers after its last turn, and how many were.
+    ahead: Vec<bool>,
+    ahead_count: usize,
 }
 
 // The channels that each instance writes.
@@ -22,21 +27,15 @@ fn written_by(alloc: Global, network: &Network) -> Result<Vec<Vec<usize>>, NoMem
     for _ in 0..network.instances() {
         written.push(Vec::new(alloc))?;
     }
-    put_channels(network, &mut written)?;
+    for channel in 0..network.channels() {
+        if let Some(side) = network.writer(channel) {
+            put_channel(&mut written, side.instance, channel)?;
+        }
+    }
     Ok(written)
 }
 
-// Puts each channel to those of its writer.
-fn put_channels(network: &Network, written: &mut Vec<Vec<usize>>) -> Result<(), NoMemory> {
-    for channel in 0..network.channels() {
-        if let Some(side) = network.writer(channel) {
-            put_channel(written, side.instance, channel)?;
-        }
-    }
-    Ok(())
-}
-
-// Puts a channel to those of an instance.
+// Adds a channel to those of an instance.
 fn put_channel(
     written: &mut Vec<Vec<usize>>,
     instance: usize,
@@ -48,16 +47,7 @@ fn put_channel(
     Ok(())
 }
 
-// Nobody sleeps at any channel.
-fn no_sleepers(alloc: Global, channels: usize) -> Result<Vec<Option<usize>>, NoMemory> {
-    let mut sleepers = Vec::with_capacity(alloc, channels)?;
-    for _ in 0..channels {
-        sleepers.push(None)?;
-    }
-    Ok(sleepers)
-}
-
-// Who sleeps at a channel, and now no longer.
+// The reader that slept at a channel, and no longer does.
 fn woken(sleepers: &mut Vec<Option<usize>>, channel: usize) -> Option<usize> {
     let sleeper = sleepers.get_mut(channel)?;
     let reader = *sleeper;
@@ -66,17 +56,24 @@ fn woken(sleepers: &mut Vec<Option<usize>>, channel: usize) -> Option<usize> {
 }
 
 impl Awake {
-    /// Nobody is awake. It refuses only where memory was refused.
+    /// No instance is awake. It refuses only if memory was refused.
     pub(crate) fn new(alloc: Global, network: &Network) -> Result<Awake, NoMemory> {
         Ok(Awake {
             written: written_by(alloc, network)?,
-            sleepers: no_sleepers(alloc, network.channels())?,
+            sleepers: vec![in alloc; None; network.channels()]?,
             queue: RunQueue::new(alloc, network.instances())?,
+            ahead: vec![in alloc; false; network.instances()]?,
+            ahead_count: 0,
         })
     }
 
-    /// The instance stands so: it may go on, or sleeps until something comes on a channel that is empty, or is over.
-    pub(crate) fn stands(&mut self, instance: usize, outcome: Outcome, queues: &Plain<Global>) {
+    /// Notes how an instance stands: it may go on, sleeps until something comes on a channel that is empty, or is over.
+    pub(crate) fn note_status(
+        &mut self,
+        instance: usize,
+        outcome: Outcome,
+        queues: &Plain<Global>,
+    ) {
         match outcome {
             Outcome::More => self.queue.wake(instance),
             Outcome::Waits(channel) if queues.waiting(channel) > 0 => self.queue.wake(instance),
@@ -93,12 +90,53 @@ impl Awake {
         }
     }
 
-    /// Whose turn it is; nobody's where all sleep.
+    /// Whose turn it is; nobody's if all sleep.
     pub(crate) fn next(&mut self) -> Option<usize> {
         self.queue.pop()
     }
 
-    /// Wakes who sleeps at a channel that the instance writes, where something waits there now.
+    // Whether more values wait on a channel of this writer than its reader takes soon.
+    fn is_far_ahead(&self, instance: usize, queues: &Plain<Global>) -> bool {
+        let Some(channels) = self.written.get(instance) else {
+            return false;
+        };
+        for channel in channels {
+            if queues.waiting(*channel) > FAR {
+                return true;
+            }
+        }
+        false
+    }
+
+    /// Notes after a long turn whether the instance is far ahead of its readers.
+    pub(crate) fn note_ahead(&mut self, instance: usize, queues: &Plain<Global>) {
+        if !self.is_far_ahead(instance, queues) {
+            return;
+        }
+        if let Some(ahead) = self.ahead.get_mut(instance) {
+            self.ahead_count = self.ahead_count.wrapping_add(usize::from(!*ahead));
+            *ahead = true;
+        }
+    }
+
+    /// Whether an instance that is far ahead of its readers is passed over. It isn't the next time.
+    #[inline(always)]
+    pub(crate) fn passes_over(&mut self, instance: usize) -> bool {
+        self.ahead_count > 0 && self.takes_back(instance)
+    }
+
+    // Whether the instance was noted as far ahead, which it is no longer.
+    fn takes_back(&mut self, instance: usize) -> bool {
+        let Some(ahead) = self.ahead.get_mut(instance) else {
+            return false;
+        };
+        let was_ahead = *ahead;
+        *ahead = false;
+        self.ahead_count = self.ahead_count.wrapping_sub(usize::from(was_ahead));
+        was_ahead
+    }
+
+    /// Wakes the readers that sleep at channels of this writer on which something waits now.
     pub(crate) fn wake_readers(&mut self, instance: usize, queues: &Plain<Global>) {
         let Some(channels) = self.written.get(instance) else {
             return;

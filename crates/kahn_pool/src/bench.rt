@@ -1,22 +1,18 @@
 //! The processes of a network over its plain queues.
 
-ghost use Rattle.kahn_streams.specs.Network.{Reads, network_of, instance_at, actual_at, role_at};
-ghost use Rattle.kahn_streams.specs.Inputs.{Lists, inputs_of};
-ghost use Rattle.kahn_code.specs.Lines.{AreQueued, IsPoured};
-ghost use Rattle.kahn_code.specs.Standing.{tokens};
-ghost use Rattle.kahn_code.specs.inner.Tapped.{HasForgotten, Tapped};
-ghost use Rattle.kahn_streams.specs.declared.tree.Role.TheVariants.{Input as InputRole};
-ghost use Rattle.kahn_pool.specs.inner.Bench.{HasRunCell, all_events, events_at};
+ghost use Rattle.kahn_pool.specs.inner.Below.{AreQueued, HasForgotten, Input as InputRole, IsPoured, Lists, Reads, Tapped, actual_at, inputs_of, instance_at, network_of, role_at, stream_lines, tokens};
+ghost use Rattle.kahn_pool.specs.inner.Bench.{AreStreams, HasRunCell, all_events, events_at};
 ghost use Rattle.kahn_pool.specs.inner.Changed.{HaveChanged};
 ghost use Rattle.kahn_pool.specs.inner.Gathered.{TookNoMore};
-ghost use Rattle.kahn_pool.specs.inner.Workbench.{AllStandBy, AreOpeningCells, AreWhole, HasEmptied, HasFresh, HasFreshPrints, HasTakenIn, HasWorked, IsCrowded, IsLaid, IsNextPlace, StandsAsTold, gone_in, sight_of, table_of, told_in};
-ghost use Rattle.std.specs.Prelude.{◌≡◌, ◌<◌, ◌+◌, ◌++◌, ◌^◌, ℕ, Some, length, map, slice_get, IfOk, IfErr, IfSome, MatchOption, SomeIff};
+ghost use Rattle.kahn_pool.specs.inner.Workbench.{AllStandBy, AreLeft, AreOpeningCells, AreStreamsReady, AreWhole, HasEmptied, HasFresh, HasFreshPrints, HasTakenIn, HasWorked, IsCrowded, IsLaid, IsNextPlace, StandsAsTold, gone_in, sight_of, table_of, told_in};
+ghost use Rattle.std.specs.Prelude.{◌≡◌, ◌<◌, ◌≤◌, ◌+◌, ◌++◌, ◌^◌, ℕ, [], Some, length, map, slice_get, vec_capacity, IfOk, IfErr, IfSome, MatchOption, SomeIff};
 
 use crate::awake::Awake;
 use crate::ends::channel_read;
-use crate::looks::Looks;
-use kahn_code::{Code, CodeFault, Pause, Plain, Steps, Tap, compile, regrow_taps};
-use kahn_streams::{About, Carried, Input, MOST_BOUND, Network, NoMemory, Outcome, Value};
+use crate::looks::{LONG_TURN, Looks};
+use crate::streams::fill;
+use kahn_code::{Code, CodeFault, Kept, Pause, Plain, Steps, Tap, compile, regrow_taps};
+use kahn_streams::{About, Carried, Input, MOST_BOUND, Network, NoMemory, Outcome, Stream, Value};
 use std::alloc::Global;
 use std::marker::Model;
 use std::sync::ledger::Ledger;
@@ -72,21 +68,6 @@ fn named_taps(
     Ok(taps)
 }
 
-// The taps of all instances at their openings.
-fn opening_taps(
-    alloc: Global,
-    network: &Network,
-    code: &Code,
-    input: &Input,
-    watch: Option<usize>,
-) -> Result<Vec<Tap>, CodeFault>
-    requires code { code.now.network.value ≡ network.now }
-    ensures opening { IfOk result (λ taps. AreOpeningCells network.now input.now watch (map told_in taps.items) (length (network_of network.now).instances)) }
-    ensures whole { IfOk result (λ taps. AreWhole (length (network_of network.now).instances) (map gone_in taps.items)) }
-{
-    named_taps(alloc, network, code, input, watch)
-}
-
 // All taps let go of what they keep.
 fn forget_all(taps: &mut Vec<Tap>)
     ensures { HaveChanged HasForgotten taps.old.items taps.new.items }
@@ -106,7 +87,7 @@ fn all_stood(network: &Network, taps: &[Tap])
     }
 }
 
-// What a tap sent on a parameter since it last let go, where it is kept.
+// What a tap sent on a parameter since it last let go, if it is kept.
 fn fresh_of(tap: &Tap, parameter: usize) -> &[Carried]
     requires { parameter < length (instance_at (network_of tap.now.told.network) tap.now.told.instance).actuals }
     ensures { tokens tap.now.told.kept parameter ≡ tokens tap.now.gone.kept parameter ++ result.now }
@@ -115,8 +96,20 @@ fn fresh_of(tap: &Tap, parameter: usize) -> &[Carried]
     tap.fresh(parameter)
 }
 
+// What is there of what each tap kept. The list that is given has room for all.
+fn all_kept(taps: Vec<Tap>, mut kept: Vec<Kept>) -> Vec<Kept>
+    requires empty { kept.items ≡ [] }
+    requires room { length taps.items ≤ vec_capacity kept }
+    ensures { AreLeft taps.items result.items }
+{
+    for tap in taps {
+        kept.push_reserved(tap.into_lists());
+    }
+    kept
+}
+
 impl<'n> Bench<'n> {
-    /// All processes at their openings. It refuses only where memory was refused.
+    /// All processes at their openings. It refuses only if memory was refused.
     pub(crate) fn new(
         alloc: Global,
         network: &'n Network,
@@ -128,14 +121,14 @@ impl<'n> Bench<'n> {
         ensures whole { IfOk result (λ b. AreWhole (length (network_of network.now).instances) b.gone) }
     {
         let code = compile(alloc, network)?;
-        let taps = opening_taps(alloc, network, &code, input, watch)?;
+        let taps = named_taps(alloc, network, &code, input, watch)?;
         let queues = Plain::new(alloc, network, input)?;
         let awake = Awake::new(alloc, network)?;
         let _program = network.program();
         Ok(Bench::named(network, input, watch, code, taps, queues, awake))
     }
 
-    // Those of the input that is named.
+    // The bench for the input that is named.
     fn named(
         network: &'n Network,
         _input: &Input,
@@ -169,7 +162,7 @@ impl<'n> Bench<'n> {
         self.network.instances()
     }
 
-    /// Runs a process for at most so many events.
+    /// Runs a process for at most `quantum` events.
     #[inline(always)]
     pub(crate) fn run<L: Ledger>(
         &mut self,
@@ -203,25 +196,43 @@ impl<'n> Bench<'n> {
         channel_read(&self.code, instance, parameter)
     }
 
-    /// Remembers a visit of so many events, for `is_wide`.
-    pub(crate) fn saw(&mut self, instance: usize, done: u64)
+    /// Notes a turn of `done` events, for `is_wide` and `passes_over`.
+    pub(crate) fn note_visit(&mut self, instance: usize, done: u64)
         ensures { self.new ≡ self.old }
     {
-        self.looks.saw(instance, done);
+        self.looks.note_visit(instance, done);
+        self.note_ahead(instance, done);
     }
 
-    /// Remembers how an instance stands, for `next`.
-    pub(crate) fn stands(&mut self, instance: usize, outcome: Outcome)
+    // Notes after a long turn whether an instance is far ahead of its readers, for `passes_over`.
+    fn note_ahead(&mut self, instance: usize, done: u64)
         ensures { self.new ≡ self.old }
     {
-        self.awake.stands(instance, outcome, &self.queues);
+        if done >= LONG_TURN {
+            self.awake.note_ahead(instance, &self.queues);
+        }
     }
 
-    /// Remembers how a visit left an instance, for `next`.
-    pub(crate) fn left(&mut self, instance: usize, outcome: Outcome)
+    /// Whether an instance is passed over, since it was far ahead of its readers. It isn't the next time.
+    #[inline(always)]
+    pub(crate) fn passes_over(&mut self, instance: usize) -> bool
         ensures { self.new ≡ self.old }
     {
-        self.awake.stands(instance, outcome, &self.queues);
+        self.awake.passes_over(instance)
+    }
+
+    /// Notes how an instance stands, for `next`.
+    pub(crate) fn note_status(&mut self, instance: usize, outcome: Outcome)
+        ensures { self.new ≡ self.old }
+    {
+        self.awake.note_status(instance, outcome, &self.queues);
+    }
+
+    /// Notes how an instance stands after a turn, and that what it sent has come, for `next`.
+    pub(crate) fn note_left(&mut self, instance: usize, outcome: Outcome)
+        ensures { self.new ≡ self.old }
+    {
+        self.awake.note_status(instance, outcome, &self.queues);
         self.awake.wake_readers(instance, &self.queues);
     }
 
@@ -236,7 +247,7 @@ impl<'n> Bench<'n> {
         }
     }
 
-    /// Whether there is work for several, as far as is known.
+    /// Whether there is work for several workers, as far as is known.
     pub(crate) fn is_wide(&self) -> bool {
         self.looks.is_wide() && self.looks.is_apart(self.taken())
     }
@@ -258,7 +269,7 @@ impl<'n> Bench<'n> {
     }
 
     /// Goes on for a longer input, in which these values stand behind those of an input channel: they wait there. It refuses only
-    /// where memory was refused, and then all goes on as before. The caller names the input for contracts alone.
+    /// if memory was refused, and then all goes on as before. The caller names the input for contracts alone.
     pub(crate) fn pour(&mut self, channel: usize, values: &[Value]) -> Result<(), NoMemory>
         ghost input: { Lists }
         requires role { role_at (network_of self.old.network) channel ≡ InputRole }
@@ -277,7 +288,7 @@ impl<'n> Bench<'n> {
         }
     }
 
-    /// The processes let go of all that they kept. It takes no memory.
+    /// The processes let go of all that they kept. It never allocates.
     pub(crate) fn forget(&mut self)
         ensures { HasEmptied self.old self.new }
     {
@@ -294,7 +305,7 @@ impl<'n> Bench<'n> {
         all_stood(self.network, &self.taps);
     }
 
-    /// What an instance sent on a parameter, where it is kept, since that was last let go of.
+    /// What an instance sent on a parameter since that was last let go of, if it is kept.
     pub(crate) fn fresh(&self, instance: usize, parameter: usize) -> &[Carried]
         requires here { instance < length (network_of self.now.network).instances }
         requires parameter { parameter < length (instance_at (network_of self.now.network) instance).actuals }
@@ -311,7 +322,7 @@ impl<'n> Bench<'n> {
         self.taps[instance].fresh_prints()
     }
 
-    /// How many values the list of an input channel has; nothing where that is 2^64 or more.
+    /// How many values the list of an input channel has; nothing if that is 2^64 or more.
     pub(crate) fn given(&self, channel: usize) -> Option<u64>
         requires { role_at (network_of self.now.network) channel ≡ InputRole }
         ensures { SomeIff result (length (inputs_of self.now.input channel) < 2 ^ 64) (length (inputs_of self.now.input channel)) }
@@ -321,7 +332,7 @@ impl<'n> Bench<'n> {
         taken.checked_add(self.queues.waiting(channel) as u64)
     }
 
-    /// The place of the next value of an input channel, where so many more may be poured: at most 1,048,576 may wait, and places are
+    /// The place of the next value of an input channel, if `count` more may be poured: at most 1,048,576 may wait, and places are
     /// below 2^48.
     pub(crate) fn next_place(&self, channel: usize, count: usize) -> Option<u64>
         requires { role_at (network_of self.now.network) channel ≡ InputRole }
@@ -337,12 +348,15 @@ impl<'n> Bench<'n> {
         Some(place)
     }
 
-    /// Its taps, without the queues. It takes no memory.
-    pub(crate) fn into_taps(self) -> Vec<Tap>
-        ensures told { map told_in result.items ≡ self.entry.cells }
-        ensures gone { map gone_in result.items ≡ self.entry.gone }
-        ensures laid { IsLaid self.entry }
+    /// The streams of an answer: what the writers kept, if nothing was let go of. There is room for what each kept. It never
+    /// allocates.
+    pub(crate) fn into_streams(self, mut streams: Vec<Stream>, kept: Vec<Kept>) -> Vec<Stream>
+        requires whole { AreWhole (length (network_of self.network).instances) self.gone }
+        requires ready { AreStreamsReady self.network self.input self.watch streams.items kept.items (vec_capacity kept) }
+        ensures { AreStreams (sight_of self.entry) result.items (stream_lines (sight_of self.entry).network (sight_of self.entry).watch) }
     {
-        self.taps
+        let mut kept = all_kept(self.taps, kept);
+        fill(self.network, &mut streams, &mut kept);
+        streams
     }
 }

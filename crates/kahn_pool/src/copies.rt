@@ -1,18 +1,15 @@
 //! Copies of what a held run keeps.
 
-ghost use Rattle.std.specs.Prelude.{◌≡◌, IfOk};
-ghost use Rattle.kahn_streams.specs.Network.{network_of};
-ghost use Rattle.kahn_job.specs.inner.Idles.{AreIdle, cells_of};
+ghost use Rattle.std.specs.Prelude.{IfOk};
+ghost use Rattle.kahn_pool.specs.inner.Below.{AreIdle, cells_of, network_of, stream_lines};
 ghost use Rattle.kahn_pool.specs.inner.Bench.{AreStreams};
 ghost use Rattle.kahn_pool.specs.inner.Holding.{held_state};
-ghost use Rattle.kahn_streams.specs.Answers.{stream_lines};
 ghost use Rattle.kahn_pool.specs.inner.Workbench.{AreKeptOf};
 
-use crate::streams::fill;
-use crate::workbench::opening_streams;
+use crate::streams::{fill, opening_streams};
 use kahn_code::Kept;
 use kahn_job::Idle;
-use kahn_streams::{End, Input, Network, NoMemory, Stream};
+use kahn_streams::{Input, Network, NoMemory, Stream};
 use std::alloc::Global;
 
 // What the cell of each job kept.
@@ -26,18 +23,7 @@ fn copied_lists(alloc: Global, idles: &[Idle]) -> Result<Vec<Kept>, NoMemory>
     Ok(lists)
 }
 
-/// The same ends once more.
-pub(crate) fn copied_ends(alloc: Global, ends: &[End]) -> Result<Vec<End>, NoMemory>
-    ensures { IfOk result (λ copy. copy.items ≡ ends.now) }
-{
-    let mut copy = Vec::with_capacity(alloc, ends.len())?;
-    for instance in 0..ends.len() {
-        copy.push_reserved(ends[instance]);
-    }
-    Ok(copy)
-}
-
-/// The streams of an answer: copies of what the cells of idle jobs kept. It refuses only where memory was refused.
+/// The streams of an answer: copies of what the cells of idle jobs kept. It refuses only if memory was refused.
 pub(crate) fn copied_streams(
     alloc: Global,
     network: &Network,

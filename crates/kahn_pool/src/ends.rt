@@ -1,9 +1,7 @@
 //! The ends of all instances, from where their tasks stand.
 
 ghost use Rattle.std.specs.Prelude.{◌≡◌, ℕ, ◌<◌, ◌≤◌, length, Some, slice_get, vec_capacity};
-ghost use Rattle.kahn_streams.specs.Network.{network_of, instance_at, actual_at, Reads};
-ghost use Rattle.kahn_crew.specs.inner.Left.{AreAll};
-ghost use Rattle.kahn_job.specs.inner.Tasks.{Tasked};
+ghost use Rattle.kahn_pool.specs.inner.Below.{AreAll, Reads, Tasked, actual_at, instance_at, network_of};
 ghost use Rattle.kahn_pool.specs.inner.Rested.{AreEndsOfTasks, AreTold, IsDryOf, IsEndOf, IsToldAs};
 ghost use Rattle.kahn_job.specs.declared.standing.Standing.TheVariants as standing;
 

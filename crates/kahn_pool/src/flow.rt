@@ -1,31 +1,29 @@
 //! Runs on one thread that are fed as they go, and let go of what they kept.
 
 ghost use Rattle.std.specs.Prelude.{◌≡◌, ◌↔◌, ◌≤◌, ◌+◌, Some, length, sum_by, vec_capacity, IfOk, IsTrue, MatchResult};
-ghost use Rattle.kahn_streams.specs.Network.{network_of};
+ghost use Rattle.kahn_pool.specs.inner.Below.{Verdict as VerdictOf, network_of, stream_lines};
 ghost use Rattle.kahn_pool.specs.HeldRuns.{IsLineOf, IsRightSoFar, IsUnstarted, seen_events};
-ghost use Rattle.kahn_streams.specs.Answers.{stream_lines};
 ghost use Rattle.kahn_pool.specs.Flows.{AreNew, HasFlowed, HasLetGo, HasPouredIn, IsNotRun, IsRunOn, IsUnpoured};
-ghost use Rattle.kahn_streams.specs.declared.answer.Verdict.{Verdict as VerdictOf};
 
 use crate::bench::Bench;
-use crate::held::lines_of;
 use crate::held_fault::HeldFault;
-use crate::lent::{is_watched, lend, make_room};
+use crate::lent::{is_watched, lend, lent_of, make_room};
 use crate::part_alone::run_part_alone;
 use crate::plan::plan_of;
 use crate::running::watched;
-use crate::streams::{empty_streams, give_watched};
+use crate::streams::{give_watched, lines_of};
 use kahn_crew::{Gate, Plan};
 use kahn_streams::{
     Carried, Config, End, FeedFault, Input, Line, MOST_BOUND, Network, NoMemory, RunFault, Side,
     Value, Verdict, channel_meant,
 };
 use std::alloc::Global;
-use std::marker::Model;
+use std::marker::{Brand, Model};
 use std::mem;
+use std::sync::ledger::Blank;
 
 /// A run on one thread that is fed between its parts, and that lets go of what it kept of its streams: a network, the sum of its
-/// bounds so far, and where each process stands. What it let go of, and the input of which all was taken, contracts alone see.
+/// bounds so far, and where each process stands. Only contracts see what it let go of, and the input that was taken.
 ///
 /// Whatever its calls answer, what was sent on a stream stays as contracts see it, and no process has fewer events.
 #[derive(Drop)]
@@ -53,7 +51,7 @@ impl<'n> Model for Flow<'n> {
 
     ghost coded = { Prim.hlevel (codes, action.the_row.coded, form.the_row.coded) };
 
-    ghost view = { λ f. flow_of f.bench f.plan.workers f.plan.quantum f.plan.bound f.verdict (length f.given.items) };
+    ghost view = { λ f. flow_of f.bench f.plan f.verdict (length f.given.items) };
 
     ghost invariant = { λ f. IsFlowOf f.network.now f.plan f.bench f.budget (vec_capacity f.ends) f.ends.items f.verdict f.given.items };
 }
@@ -67,10 +65,11 @@ fn room_for_ends(alloc: Global, network: &Network) -> Result<Vec<End>, NoMemory>
 
 impl<'n> Flow<'n> {
     /// A run of a network with an input, before its first event. It keeps the allocator for its later calls. The bound of the
-    /// configuration is the first one: `resume(0)` runs for that many events. Its workers are one, whatever the number says.
+    /// configuration is the first one: `resume(0)` runs for that many events. It runs on the caller's thread alone, whatever
+    /// number of workers the configuration has.
     ///
-    /// It refuses with `BadConfig` where a number of the configuration is out of its limit, then with `UnknownWatch` where
-    /// no channel has the name that is to be watched, and with `NoMemory` where memory was refused.
+    /// It refuses with `BadConfig` if a number of the configuration is out of its limit, then with `UnknownWatch` if no channel
+    /// has the name that is to be watched, and with `NoMemory` if memory was refused.
     pub fn start(
         alloc: Global,
         network: &'n Network,
@@ -103,7 +102,7 @@ impl<'n> Flow<'n> {
     /// Allows so many events more, and runs until the sum of all bounds is used up, or every process has ended or waits on a
     /// channel of which it took all, or memory was refused. Before each quantum of an instance the gate is entered.
     ///
-    /// It refuses only with `BadMore`, where the sum of all bounds would pass 2^48 - 1, and then nothing changes.
+    /// It refuses only with `BadMore`, if the sum of all bounds would pass 2^48 - 1, and then nothing changes.
     pub fn resume<G: Gate>(&mut self, more: u64, gate: &G) -> Result<Verdict, HeldFault>
         ensures { MatchResult result (IsRunOn more self.old self.new) (IsNotRun more self.old self.new) }
     {
@@ -113,7 +112,17 @@ impl<'n> Flow<'n> {
         let ends = mem::replace(&mut self.ends, Vec::new(self.alloc));
         let (quantum, bound) = (self.plan.quantum, self.budget + more);
         self.bench.stood();
-        let part = run_part_alone(&mut self.bench, gate, ends, quantum, bound);
+        let Some(part) = run_part_alone::<G, Brand>(
+            Blank::new(1),
+            &mut self.bench,
+            gate,
+            false,
+            ends,
+            quantum,
+            bound,
+        ) else {
+            unreachable!()
+        };
         self.bench.stood();
         self.plan.bound += more;
         self.budget = part.left;
@@ -122,12 +131,12 @@ impl<'n> Flow<'n> {
         Ok(part.verdict)
     }
 
-    /// Appends values to the list of an input channel. No process runs before the next part, and there is no verdict until then, also
-    /// where there are no values.
+    /// Appends values to the list of an input channel. No process runs before the next part, and there is no verdict until then,
+    /// even if there are no values.
     ///
-    /// It refuses with `UnknownName` where no channel has the name, then with `NotAnInput` where the channel isn't an
-    /// input, `WrongKind` where a value isn't of its kind, `TooMany` where more than 1,048,576 values would wait there or a place would
-    /// be 2^48 or more, and `NoMemory` where memory was refused. A refusal leaves all as it was.
+    /// It refuses with `UnknownName` if no channel has the name, then with `NotAnInput` if the channel isn't an input,
+    /// `WrongKind` if a value isn't of its kind, `TooMany` if more than 1,048,576 values would wait there or a place would be
+    /// 2^48 or more, and `NoMemory` if memory was refused. A refusal leaves all as it was.
     pub fn feed(&mut self, channel: &str, values: &[Value]) -> Result<(), FeedFault>
         ensures { MatchResult result (λ _. HasPouredIn (channel.now, values.now) self.old self.new) (IsUnpoured (channel.now, values.now) self.old self.new) }
     {
@@ -137,16 +146,17 @@ impl<'n> Flow<'n> {
             return Err(FeedFault::TooMany);
         };
         let lends = is_watched(self.plan.watch, number);
-        make_room(&mut self.given, lends, values.len())?;
+        let lent = lent_of(lends, values);
+        make_room(&mut self.given, lent.len())?;
         let poured = self.bench.pour(number, values);
         self.bench.stood();
         poured?;
-        lend(&self.bench, &mut self.given, lends, number, place, values);
+        lend(&self.bench, &mut self.given, number, place, lent);
         self.verdict = None;
         Ok(())
     }
 
-    /// Lets go of all that it kept of its streams. It takes no memory.
+    /// Lets go of all that it kept of its streams. It never allocates.
     pub fn forget(&mut self)
         ensures { HasLetGo self.old self.new }
     {
@@ -154,8 +164,8 @@ impl<'n> Flow<'n> {
         self.given.clear();
     }
 
-    /// What is new of the stream of a line since it was last let go of, in place order. It is asked for only for a line of `lines`.
-    /// It takes no memory.
+    /// What is new of the stream of a line since it was last let go of, in place order. May be called only for a line of `lines`.
+    /// It never allocates.
     pub fn fresh(&self, line: Line) -> &[Carried]
         requires { IsLineOf self.now.run line }
         ensures { AreNew self.now line result.now }
@@ -182,7 +192,7 @@ impl<'n> Flow<'n> {
         self.budget
     }
 
-    /// The verdict of the last part, where nothing changed since. It takes no memory.
+    /// The verdict of the last part, if nothing changed since. It never allocates.
     pub fn verdict(&self) -> Option<Verdict>
         ensures { result ≡ self.now.run.verdict }
     {
@@ -196,23 +206,22 @@ impl<'n> Flow<'n> {
         self.verdict.is_some()
     }
 
-    /// The events of all parts so far. It takes no memory.
+    /// The events of all parts so far. It never allocates.
     pub fn events(&self) -> u64
         ensures { result ≡ sum_by seen_events self.now.run.cells }
     {
         self.plan.bound - self.budget
     }
 
-    /// The lines of its streams, in order. It refuses only where memory was refused.
+    /// The lines of its streams, in order. It refuses only if memory was refused.
     pub fn lines(&self) -> Result<Vec<Line>, NoMemory>
         ensures { IfOk result (λ lines. lines.items ≡ stream_lines (network_of self.now.run.network) self.now.run.watch) }
     {
-        let streams = empty_streams(self.alloc, self.network, self.plan.watch)?;
-        lines_of(self.alloc, &streams)
+        lines_of(self.alloc, self.network, self.plan.watch)
     }
 
-    /// How each instance stands, right for the input so far and the bound so far. It is asked for only where the run is
-    /// settled. It takes no memory.
+    /// How each instance stands, right for the input so far and the bound so far. May be called only if the run is settled. It
+    /// never allocates.
     pub fn ends(&self) -> &[End]
         requires { (v : VerdictOf) × (self.now.run.verdict ≡ Some v) }
         ensures { (v : VerdictOf) → self.now.run.verdict ≡ Some v → IsRightSoFar self.now.run v result.now }

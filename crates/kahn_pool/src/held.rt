@@ -1,41 +1,27 @@
 //! Runs that are cut into parts: between two parts a run is held, more events may be allowed and more values fed.
 
-ghost use Rattle.std.specs.Prelude.{◌≡◌, ◌↔◌, ℕ, ◌+◌, Some, length, map, slice_get, sum_by, IfOk, IsTrue, MatchResult};
-ghost use Rattle.kahn_streams.specs.Network.{network_of};
-ghost use Rattle.kahn_streams.specs.Tokens.{token_value};
-ghost use Rattle.kahn_pool.specs.HeldRuns.{HasFed, HasSoFar, HasStarted, IsAnswerOf, IsLineOf, IsResumed, IsRightSoFar, IsUnfed, IsUnresumed, IsUnstarted, seen_events};
-ghost use Rattle.kahn_streams.specs.Answers.{stream_line, stream_lines};
-ghost use Rattle.kahn_streams.specs.declared.answer.Verdict.{Verdict as VerdictOf};
+ghost use Rattle.std.specs.Prelude.{◌≡◌, ◌↔◌, ◌+◌, Some, length, map, sum_by, IfOk, IsTrue, MatchResult};
+ghost use Rattle.kahn_pool.specs.inner.Below.{Verdict as VerdictOf, network_of, stream_lines, token_value};
+ghost use Rattle.kahn_pool.specs.HeldRuns.{HasFed, HasStarted, IsAnswerOf, IsLineOf, IsResumed, IsRightSoFar, IsUnfed, IsUnresumed, IsUnstarted, seen_events, so_far};
 
-use crate::copies::{copied_ends, copied_streams};
+use crate::copies::copied_streams;
 use crate::held_fault::HeldFault;
 use crate::part::{Part, PartRoom, first_idles, run_part};
 use crate::plan::plan_of;
 use crate::running::watched;
-use crate::streams::{empty_streams, give_watched};
+use crate::streams::{give_watched, lines_of};
 use kahn_code::{Code, compile};
 use kahn_crew::{CrewFault, Gate, Plan};
 use kahn_job::Idle;
 use kahn_streams::{
     Answer, Carried, Config, End, FeedFault, Input, Line, MOST_BOUND, Network, NoMemory, RunFault,
-    Side, Stream, Value, Verdict,
+    Side, Value, Verdict,
 };
 use std::alloc::Global;
 use std::marker::Model;
 use std::mem;
 use std::sync::Wait;
 use std::thread::Threads;
-
-/// The lines of streams. It refuses only where memory was refused.
-pub(crate) fn lines_of(alloc: Global, streams: &[Stream]) -> Result<Vec<Line>, NoMemory>
-    ensures { IfOk result (λ lines. lines.items ≡ map stream_line streams.now) }
-{
-    let mut lines = Vec::with_capacity(alloc, streams.len())?;
-    for number in 0..streams.len() {
-        lines.push_reserved(streams[number].line);
-    }
-    Ok(lines)
-}
 
 /// A run between its parts: a network, its input so far, the sum of its bounds so far, and where each process stands.
 ///
@@ -76,8 +62,8 @@ impl<'n> Held<'n> {
     /// A run of a network with an input that fits it, before its first event. It keeps the allocator for its later calls. The bound
     /// of the configuration is the first one: `resume(0)` runs for that many events.
     ///
-    /// It refuses with `BadConfig` where a number of the configuration is out of its limit, then with `UnknownWatch` where
-    /// no channel has the name that is to be watched, and with `NoMemory` where memory was refused.
+    /// It refuses with `BadConfig` if a number of the configuration is out of its limit, then with `UnknownWatch` if no channel
+    /// has the name that is to be watched, and with `NoMemory` if memory was refused.
     pub fn start(
         alloc: Global,
         network: &'n Network,
@@ -112,10 +98,9 @@ impl<'n> Held<'n> {
     /// every process has ended or waits on a channel of which it took all, or memory was refused. Before each quantum of
     /// an instance the gate is entered.
     ///
-    /// It refuses with `BadMore` where the sum of all bounds would pass 2^48 - 1, and with `NoMemory` where memory was
-    /// refused before the first event: both leave all as it was. It refuses with `NoThread` where a thread couldn't be
-    /// started, which one worker never takes: so many events more are allowed then, each process stands where the workers
-    /// left it, and the run may go on.
+    /// It refuses with `BadMore` if the sum of all bounds would pass 2^48 - 1, and with `NoMemory` if memory was refused before
+    /// the first event: both leave all as it was. It refuses with `NoThread` if a thread couldn't be started, and one worker
+    /// starts none: so many events more are allowed then, each process stands where the workers left it, and the run may go on.
     pub fn resume<R: Threads + Wait + Sync, G: Gate + Sync>(
         &mut self,
         rt: &R,
@@ -131,22 +116,23 @@ impl<'n> Held<'n> {
         give_watched(self.network, &self.input, self.plan.watch, &mut self.given)?;
         let idles = mem::replace(&mut self.idles, Vec::new(self.alloc));
         let _program = self.network.program();
+        let plan = Plan {
+            bound: self.plan.bound + more,
+            ..self.plan
+        };
         let part = Part {
             network: self.network,
             input: &self.input,
             code: &self.code,
-            plan: Plan {
-                bound: self.budget + more,
-                ..self.plan
-            },
-            bound: self.plan.bound + more,
+            plan,
+            left: self.budget + more,
         };
-        let stopped = run_part(rt, self.alloc, self.plan, &part, idles, room, gate);
+        let stopped = run_part(rt, self.alloc, &part, idles, room, gate);
         self.idles = stopped.idles;
         if let Err(CrewFault::NoMemory) = stopped.outcome {
             return Err(HeldFault::NoMemory);
         }
-        self.plan.bound += more;
+        self.plan = plan;
         self.budget = stopped.budget;
         self.ends = stopped.ends;
         match stopped.outcome {
@@ -161,12 +147,12 @@ impl<'n> Held<'n> {
         }
     }
 
-    /// Appends values to the list of an input channel. No process runs before the next part, and there is no answer until
-    /// then, also where there are no values.
+    /// Appends values to the list of an input channel. No process runs before the next part, and there is no answer until then,
+    /// even if there are no values.
     ///
-    /// It refuses with `UnknownName` where no channel has the name, then with `NotAnInput` where the channel isn't an
-    /// input, `WrongKind` where a value isn't of its kind, `TooMany` where its list would have more than 1,048,576 values,
-    /// and `NoMemory` where memory was refused. A refusal leaves all as it was.
+    /// It refuses with `UnknownName` if no channel has the name, then with `NotAnInput` if the channel isn't an input,
+    /// `WrongKind` if a value isn't of its kind, `TooMany` if its list would have more than 1,048,576 values, and `NoMemory` if
+    /// memory was refused. A refusal leaves all as it was.
     pub fn feed(&mut self, channel: &str, values: Vec<Value>) -> Result<(), FeedFault>
         ensures { MatchResult result (λ _. HasFed (channel.now, values.items) self.old self.new) (IsUnfed (channel.now, values.items) self.old self.new) }
     {
@@ -183,7 +169,7 @@ impl<'n> Held<'n> {
         self.budget
     }
 
-    /// The verdict of the last part, where nothing changed since. It takes no memory.
+    /// The verdict of the last part, if nothing changed since. It never allocates.
     pub fn verdict(&self) -> Option<Verdict>
         ensures { result ≡ self.now.verdict }
     {
@@ -197,27 +183,26 @@ impl<'n> Held<'n> {
         self.verdict.is_some()
     }
 
-    /// The events of all parts so far. It takes no memory.
+    /// The events of all parts so far. It never allocates.
     pub fn events(&self) -> u64
         ensures { result ≡ sum_by seen_events self.now.cells }
     {
         self.plan.bound - self.budget
     }
 
-    /// The lines of the streams of an answer, in order. It refuses only where memory was refused.
+    /// The lines of the streams of an answer, in order. It refuses only if memory was refused.
     pub fn lines(&self) -> Result<Vec<Line>, NoMemory>
         ensures { IfOk result (λ lines. lines.items ≡ stream_lines (network_of self.now.network) self.now.watch) }
     {
-        let streams = empty_streams(self.alloc, self.network, self.plan.watch)?;
-        lines_of(self.alloc, &streams)
+        lines_of(self.alloc, self.network, self.plan.watch)
     }
 
-    /// What the stream of a line has so far, in place order. It is asked for only where the run is settled, and for a line
-    /// of `lines`. It takes no memory.
+    /// What the stream of a line has so far, in place order. May be called only if the run is settled, and for a line of `lines`.
+    /// It never allocates.
     pub fn stream(&self, line: Line) -> &[Carried]
         requires settled { (v : VerdictOf) × (self.now.verdict ≡ Some v) }
         requires line { IsLineOf self.now line }
-        ensures { HasSoFar self.now line (map token_value result.now) }
+        ensures { map token_value result.now ≡ so_far self.now line }
     {
         let _program = self.network.program();
         match line {
@@ -234,8 +219,8 @@ impl<'n> Held<'n> {
         }
     }
 
-    /// How each instance stands, right for the input so far and the bound so far. It is asked for only where the run is
-    /// settled. It takes no memory.
+    /// How each instance stands, right for the input so far and the bound so far. May be called only if the run is settled. It
+    /// never allocates.
     pub fn ends(&self) -> &[End]
         requires { (v : VerdictOf) × (self.now.verdict ≡ Some v) }
         ensures { (v : VerdictOf) → self.now.verdict ≡ Some v → IsRightSoFar self.now v result.now }
@@ -243,8 +228,8 @@ impl<'n> Held<'n> {
         &self.ends
     }
 
-    /// A copy of the answer, right for the input so far and the bound so far. It is asked for only where the run is
-    /// settled. It refuses only where memory was refused.
+    /// A copy of the answer, right for the input so far and the bound so far. May be called only if the run is settled. It
+    /// refuses only if memory was refused.
     pub fn answer(&self) -> Result<Answer, NoMemory>
         requires { (v : VerdictOf) × (self.now.verdict ≡ Some v) }
         ensures { IfOk result (IsAnswerOf self.now) }
@@ -252,6 +237,7 @@ impl<'n> Held<'n> {
         let Some(verdict) = self.verdict else {
             unreachable!()
         };
+        let _program = self.network.program();
         let streams = copied_streams(
             self.alloc,
             self.network,
@@ -259,7 +245,7 @@ impl<'n> Held<'n> {
             self.plan.watch,
             &self.idles,
         )?;
-        let ends = copied_ends(self.alloc, &self.ends)?;
+        let ends = Vec::from_slice(self.alloc, &self.ends)?;
         Ok(Answer {
             verdict,
             streams,

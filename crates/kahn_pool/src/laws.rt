@@ -1,15 +1,7 @@
 //! Laws of answers. Each function does nothing: its contract is the law.
 
-ghost use Rattle.kahn_streams.specs.Network.{Network};
-ghost use Rattle.kahn_streams.specs.Wiring.{IsWellWired};
-ghost use Rattle.kahn_streams.specs.Solution.{HasSize, Inputs};
-ghost use Rattle.kahn_streams.specs.declared.value.Line.{Line};
-ghost use Rattle.kahn_streams.specs.declared.value.Value.{Value};
-ghost use Rattle.kahn_streams.specs.Answers.{AreBegun, Settles, AreOne, IsRight};
+ghost use Rattle.kahn_pool.specs.inner.Below.{Answer, AreBegun, AreOne, Finished, HasSize, Inputs, IsRight, Memory, Network, Settles, Verdict};
 ghost use Rattle.kahn_pool.specs.HeldRuns.{AreCalls, GoesOn, HasFinished, HeldRun, IsAnswerOf, SaysNoLess, last_of};
-ghost use Rattle.kahn_streams.specs.declared.answer.Answer.{Answer};
-ghost use Rattle.kahn_streams.specs.declared.answer.Verdict.{Verdict};
-ghost use Rattle.kahn_streams.specs.declared.answer.Verdict.TheVariants.{Finished, Memory};
 ghost use Rattle.std.specs.Prelude.{◌≡◌, ◌≢◌, ℕ, List, Option};
 
 /// Finished answers for one network, input and watch say the same, whatever their bounds.
@@ -17,8 +9,8 @@ pub fn finished_is_one()
     ensures { (N : Network) (I : Inputs) (watch : Option ℕ) (a b : Answer) → HasFinished N I watch a → HasFinished N I watch b → AreOne a b }
 {}
 
-/// Want of memory apart, a right answer is finished exactly where the size of the solution is a number at most the bound;
-/// a finished one has done just so many events.
+/// Want of memory apart, a right answer is finished exactly if the size of the solution is a number at most the bound; a finished
+/// one has done just so many events.
 pub fn finished_exactly()
     ensures settles { (N : Network) (I : Inputs) (bound : ℕ) (watch : Option ℕ) (a : Answer) → IsRight N I bound watch a → Settles N I bound a.verdict }
     ensures counted { (N : Network) (I : Inputs) (n : ℕ) (watch : Option ℕ) (a : Answer) → IsRight N I n watch a → a.verdict ≡ Finished → HasSize N I a.events }
@@ -35,9 +27,9 @@ pub fn stopped_begins()
     ensures { (N : Network) (I : Inputs) (bound : ℕ) (watch : Option ℕ) (a : Answer) → IsRight N I bound watch a → AreBegun N I a }
 {}
 
-/// A held run of a network that is well wired goes on as it is: each stream is a prefix of itself.
+/// A held run goes on as it is: each stream is a prefix of itself.
 pub fn goes_on_same()
-    ensures { (h : HeldRun) → IsWellWired h.network → GoesOn h h }
+    ensures { (h : HeldRun) → GoesOn h h }
 {}
 
 /// What goes on from a later run goes on from an earlier one.
@@ -49,6 +41,6 @@ pub fn goes_on_then()
 /// the other; so each stream of an answer is a prefix of the same stream in every later answer, and no instance's events go
 /// down.
 pub fn calls_go_on()
-    ensures calls { (h : HeldRun) (later : List HeldRun) → IsWellWired h.network → AreCalls h later → GoesOn h (last_of h later) }
-    ensures answers { (h k : HeldRun) (a b : Answer) → IsWellWired h.network → GoesOn h k → IsAnswerOf h a → IsAnswerOf k b → SaysNoLess a b }
+    ensures calls { (h : HeldRun) (later : List HeldRun) → AreCalls h later → GoesOn h (last_of h later) }
+    ensures answers { (h k : HeldRun) (a b : Answer) → GoesOn h k → IsAnswerOf h a → IsAnswerOf k b → SaysNoLess a b }
 {}

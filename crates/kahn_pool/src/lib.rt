@@ -3,7 +3,6 @@
 
 mod awake;
 mod bench;
-mod conclude;
 mod copies;
 mod ends;
 mod flow;
@@ -21,7 +20,6 @@ mod run_queue;
 mod running;
 mod settle;
 mod streams;
-mod workbench;
 mod workers;
 
 pub use held::Held;

@@ -1,29 +1,32 @@
-//! Whether a run on one thread has work for several.
+//! Whether a run on one thread has work for several workers.
 
-// A visit of so many events is long: lanes and workers cost less than they gain then.
-const LONG: u64 = 64;
+// A turn of at least this many events is long: several workers then gain more time than lanes and threads cost.
+pub(crate) const LONG_TURN: u64 = 64;
 
-// How many events a run does before it is known, and up to how many it may begin anew.
-const FIRST: u64 = 30_000;
+// After this many events it is known whether there is work for several.
+const KNOWN_AFTER: u64 = 30_000;
 
-const LAST: u64 = 100_000;
+// After this many events a run goes on alone: several workers begin anew, and more would be lost than they gain.
+const TOO_LATE: u64 = 100_000;
 
-// So many instances with long visits are work for several, also where they hand one another tokens all the time.
+// This many instances with long turns are work for several, even if they send one another tokens all the time.
 const MANY: u64 = 8;
 
-// How many events there are for each token that is taken, where instances mostly reckon by themselves.
-const APART: u64 = 8;
+// Instances that do at least this many events for each token that they take mostly compute by themselves.
+const EVENTS_A_TOKEN: u64 = 8;
 
-/// How many events were done, how many of them by long visits, and how many instances had such visits, as far as these came one behind
-/// the other in their order. It is a hint, on which no answer depends.
+/// How many events were done, how many of them in long turns, and how many instances at most had long turns one after another in their
+/// order.
 #[derive(Clone, Copy, Drop)]
 pub(crate) struct Looks {
     done: u64,
     long: u64,
+    // Who had the last long turn, and whether another one had one before.
     busy: Option<usize>,
     several: bool,
-    row: u64,
-    longest: u64,
+    // How many had long turns in order: now, and at most.
+    in_order: u64,
+    most_in_order: u64,
 }
 
 impl Looks {
@@ -34,39 +37,40 @@ impl Looks {
             long: 0,
             busy: None,
             several: false,
-            row: 0,
-            longest: 0,
+            in_order: 0,
+            most_in_order: 0,
         }
     }
 
-    /// Notes a visit of so many events.
-    pub(crate) fn saw(&mut self, instance: usize, done: u64) {
+    /// Notes a turn of `done` events.
+    pub(crate) fn note_visit(&mut self, instance: usize, done: u64) {
         self.done = self.done.wrapping_add(done);
-        if done >= LONG {
+        if done >= LONG_TURN {
             self.long = self.long.saturating_add(done);
             let (is_other, is_behind) = match self.busy {
                 Some(busy) => (busy != instance, busy < instance),
                 None => (false, false),
             };
             self.several = self.several || is_other;
-            self.row = if is_behind {
-                self.row.saturating_add(1)
+            self.in_order = if is_behind {
+                self.in_order.saturating_add(1)
             } else {
                 1
             };
-            self.longest = self.longest.max(self.row);
+            self.most_in_order = self.most_in_order.max(self.in_order);
             self.busy = Some(instance);
         }
     }
 
-    /// Whether so many tokens are few beside the events, or many instances had long visits: where a few hand one another tokens all the
-    /// time, several threads lose more than they gain.
+    /// Whether the tokens that were taken are few beside the events, or many instances had long turns: if a few send one another tokens
+    /// all the time, several threads lose more than they gain.
     pub(crate) fn is_apart(&self, taken: u64) -> bool {
-        MANY <= self.longest || taken <= self.done / APART
+        MANY <= self.most_in_order || taken <= self.done / EVENTS_A_TOKEN
     }
 
-    /// Whether most was done by long visits of several instances, in a run that is still short.
+    /// Whether most was done in long turns of several instances, in a run that is still short.
     pub(crate) fn is_wide(&self) -> bool {
-        self.several && FIRST <= self.done && self.done < LAST && self.done / 2 < self.long
+        let is_time = KNOWN_AFTER <= self.done && self.done < TOO_LATE;
+        self.several && is_time && self.done / 2 < self.long
     }
 }

@@ -1,23 +1,45 @@
 //! A run on the caller's thread.
 
-ghost use Rattle.kahn_streams.specs.Network.{network_of};
-ghost use Rattle.kahn_streams.specs.Answers.{IsCutShort, Settles, IsRight};
+ghost use Rattle.kahn_pool.specs.inner.Below.{IsCutShort, IsRight, Settles, inputs_of, network_of};
 ghost use Rattle.kahn_pool.specs.Limits.{IsRefusedRun};
-ghost use Rattle.kahn_streams.specs.Inputs.{inputs_of};
-ghost use Rattle.std.specs.Prelude.{◌≡◌, ◌<◌, ◌^◌, ℕ, length, true, IfOk, IfErr, IfSome, MatchOption, MatchResult, None};
+ghost use Rattle.kahn_pool.specs.inner.FlowBench.{IsPartEnd};
+ghost use Rattle.kahn_pool.specs.inner.Workbench.{AreStreamsReady, AreWhole, IsRightAlone};
+ghost use Rattle.std.specs.Prelude.{◌≡◌, ◌<◌, ◌^◌, ℕ, length, true, IfOk, IfErr, MatchOption, None, vec_capacity};
 
+use crate::bench::Bench;
 use crate::laws;
-use crate::rounds::run_bench;
-use crate::workbench::Workbench;
-use kahn_code::{CodeFault, Steps};
+use crate::part_alone::{PartEnd, run_part_alone};
+use crate::streams::room_for_answer;
+use kahn_code::{CodeFault, Kept};
 use kahn_crew::{Gate, Open, Plan};
-use kahn_streams::{Answer, Input, MOST_BOUND, Network, RunFault};
+use kahn_streams::{Answer, Input, MOST_BOUND, Network, RunFault, Stream};
 use std::alloc::Global;
 use std::marker::Brand;
 use std::sync::ledger::{Blank, Ledger};
 
 // How many events a process may do before the next one is run.
 const QUANTUM: u64 = 1000;
+
+// The answer of a run on a bench that ended so. There is room for all that it wants.
+fn answered(
+    bench: Bench<'_>,
+    part: PartEnd,
+    streams: Vec<Stream>,
+    kept: Vec<Kept>,
+    bound: u64,
+) -> Answer
+    requires ended { IsPartEnd bench bound part }
+    requires whole { AreWhole (length (network_of bench.network).instances) bench.gone }
+    requires ready { AreStreamsReady bench.network bench.input bench.watch streams.items kept.items (vec_capacity kept) }
+    ensures { IsRightAlone bench.entry.network bench.entry.input bench.entry.watch bound result }
+{
+    Answer {
+        verdict: part.verdict,
+        streams: bench.into_streams(streams, kept),
+        events: bound - part.left,
+        ends: part.ends,
+    }
+}
 
 // Counts steps on a ledger of its own, and runs.
 fn run_opened<G: Gate, L: Ledger>(
@@ -34,19 +56,21 @@ fn run_opened<G: Gate, L: Ledger>(
     requires parts { blank.parts ≡ L.parts }
     requires some { 0 < blank.parts }
     requires bound { plan.bound < 2 ^ 48 }
-    ensures right { IfOk result (λ a. MatchOption a (may_leave ≡ true) (IsRight (network_of network.now) (inputs_of input.now) plan.bound plan.watch)) }
-    ensures short { IfOk result (λ a. IfSome a (IsCutShort plan.bound)) }
+    ensures { IfOk result (λ a. MatchOption a (may_leave ≡ true) (IsRightAlone network.now input.now plan.watch plan.bound)) }
 {
-    let mut steps = Steps::<L>::open(blank);
-    let ends = Vec::with_capacity(alloc, network.instances())?;
-    let bench = Workbench::new(alloc, network, input, plan.watch)?;
     let (quantum, bound) = (plan.quantum, plan.bound);
-    Ok(run_bench(bench, &mut steps, gate, ends, quantum, bound, may_leave))
+    let ends = Vec::with_capacity(alloc, network.instances())?;
+    let mut bench = Bench::new(alloc, network, input, plan.watch)?;
+    let (streams, kept) = room_for_answer(alloc, network, input, plan.watch)?;
+    match run_part_alone::<G, L>(blank, &mut bench, gate, may_leave, ends, quantum, bound) {
+        Some(part) => Ok(Some(answered(bench, part, streams, kept, bound))),
+        None => Ok(None),
+    }
 }
 
-/// Runs a network on the caller's thread over plain queues, with a watched channel or none, each process for at most
-/// the quantum of events before the next one. Before each quantum the gate is entered. It answers nothing where the run may be left
-/// and there is work for several. It refuses only where memory was refused before the first event.
+/// Runs a network on the caller's thread over plain queues, with a watched channel or none, each process for at most the quantum of
+/// events before the next one. Before each quantum the gate is entered. It answers nothing if the run may be left and there is work
+/// for several workers. It refuses only if memory was refused before the first event.
 pub(crate) fn run_alone<G: Gate>(
     alloc: Global,
     gate: &G,
@@ -56,10 +80,8 @@ pub(crate) fn run_alone<G: Gate>(
     may_leave: bool,
 ) -> Result<Option<Answer>, CodeFault>
     requires quantum { 0 < plan.quantum }
-    requires fits { length input.now ≡ length (network_of network.now).channels }
     requires bound { plan.bound < 2 ^ 48 }
-    ensures right { IfOk result (λ a. MatchOption a (may_leave ≡ true) (IsRight (network_of network.now) (inputs_of input.now) plan.bound plan.watch)) }
-    ensures short { IfOk result (λ a. IfSome a (IsCutShort plan.bound)) }
+    ensures { IfOk result (λ a. MatchOption a (may_leave ≡ true) (IsRightAlone network.now input.now plan.watch plan.bound)) }
 {
     run_opened::<G, Brand>(alloc, Blank::new(1), gate, network, input, plan, may_leave)
 }
@@ -73,10 +95,8 @@ pub(crate) fn run_watched<G: Gate>(
     plan: Plan,
 ) -> Result<Answer, CodeFault>
     requires quantum { 0 < plan.quantum }
-    requires fits { length input.now ≡ length (network_of network.now).channels }
     requires bound { plan.bound < 2 ^ 48 }
-    ensures right { IfOk result (IsRight (network_of network.now) (inputs_of input.now) plan.bound plan.watch) }
-    ensures short { IfOk result (IsCutShort plan.bound) }
+    ensures { IfOk result (IsRightAlone network.now input.now plan.watch plan.bound) }
 {
     match run_alone(alloc, gate, network, input, plan, false)? {
         Some(answer) => Ok(answer),

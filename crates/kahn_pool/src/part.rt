@@ -1,17 +1,17 @@
 //! A part of a held run: idle jobs go on, and come to rest again.
 
-ghost use Rattle.std.specs.Prelude.{◌≡◌, ℕ, ◌≤◌, ◌<◌, [], Err, Some, length, map, slice_get, vec_capacity, IfOk, OnOk};
-ghost use Rattle.kahn_streams.specs.Network.{network_of};
-ghost use Rattle.kahn_job.specs.inner.Idles.{HaveSettled, cells_of, rows_of};
-ghost use Rattle.kahn_job.specs.inner.Settling.{AreResting, HaveStood};
-ghost use Rattle.kahn_pool.specs.inner.Holding.{AreHeld, AreHeldBy, HasStoppedPart, HaveAllLeft, IsHeldPart, IsPartOf, IsRoomFor};
+ghost use Rattle.std.specs.Prelude.{◌≡◌, ◌↔◌, ℕ, ◌≤◌, ◌<◌, [], Err, Ok, length, map, true, vec_capacity, IfOk, IsOk, OnOk};
+ghost use Rattle.kahn_pool.specs.inner.Below.{AreResting, HaveSettled, HaveStood, IsOver, cells_of, network_of, rows_of};
+ghost use Rattle.kahn_pool.specs.inner.Holding.{AreHeld, AreHeldBy, HasStoppedPart, HaveAllLeft, IsConclusion, IsHeldPart, IsRoomFor};
 ghost use Rattle.kahn_pool.specs.inner.Rested.{cell_of};
+ghost use Rattle.kahn_streams.specs.declared.answer.Verdict.TheVariants as verdict;
 
-use crate::conclude::conclude;
+use crate::ends::ends_of;
+use crate::rounds::verdict_of;
 use crate::settle::settle_all;
 use kahn_code::{Code, Steps};
 use kahn_crew::{CrewFault, Gate, Left, Plan, first_tasks, rest_all, run_tasks, wake_all};
-use kahn_job::{Idle, Task, settle};
+use kahn_job::{Idle, Task, meet, settle};
 use kahn_streams::{End, Input, Network, NoMemory, Verdict};
 use std::alloc::Global;
 use std::marker::Brand;
@@ -28,7 +28,7 @@ pub(crate) struct PartRoom {
 }
 
 impl PartRoom {
-    /// Room for so many of each. It refuses only where memory was refused.
+    /// Room for so many of each. It refuses only if memory was refused.
     pub(crate) fn new(alloc: Global, instances: usize) -> Result<PartRoom, NoMemory>
         ensures { IfOk result (IsRoomFor instances) }
     {
@@ -39,15 +39,15 @@ impl PartRoom {
     }
 }
 
-/// A part of a run: the network, its input so far, its code, who works on it and for how many events, and the sum of all
-/// bounds with it.
+/// A part of a run: the network, its input so far, its code, the plan of the whole run, whose bound is the sum of all bounds with this
+/// part's, and how many events are left of that bound.
 #[derive(Drop)]
 pub(crate) struct Part<'n> {
     pub(crate) network: &'n Network,
     pub(crate) input: &'n Input,
     pub(crate) code: &'n Code,
     pub(crate) plan: Plan,
-    pub(crate) bound: u64,
+    pub(crate) left: u64,
 }
 
 /// How a part of a run stopped: its jobs at rest, what is left of the bound, the end of each instance, and the verdict.
@@ -83,7 +83,7 @@ fn first_counted<L: Ledger>(
     Ok(rest_all(tasks, room))
 }
 
-/// The jobs of all instances before their first events. It refuses only where memory was refused.
+/// The jobs of all instances before their first events. It refuses only if memory was refused.
 pub(crate) fn first_idles(
     alloc: Global,
     network: &Network,
@@ -95,6 +95,40 @@ pub(crate) fn first_idles(
     ensures { IfOk result (λ idles. (bound : ℕ) → AreHeld network.now input.now watch bound idles.items bound) }
 {
     first_counted::<Brand>(alloc, Blank::new(1), network, input, code, watch)
+}
+
+// The jobs, the ends and the verdict of a run that is over: `Memory` exactly if it was halted, and it was halted only if memory
+// was refused to a worker. The lists that are given have room for the jobs and for the ends. It never allocates.
+fn conclude<L: Ledger>(
+    part: &Part<'_>,
+    mut left: Left,
+    idles: Vec<Idle>,
+    ends: Vec<End>,
+    steps: &mut Steps<L>,
+) -> Stopped
+    requires left { HaveAllLeft part.now left }
+    requires over { IsOver part.now.network.now part.now.input.now left.tasks.items left.budget left.halted }
+    requires cause { left.halted ≡ true → left.wanted ≡ true }
+    requires idles { (idles.items ≡ []) × (length (network_of part.now.network.now).instances ≤ vec_capacity idles) }
+    requires ends { length (network_of part.now.network.now).instances ≤ vec_capacity ends }
+    ensures held { AreHeldBy part.now result.idles.items result.budget }
+    ensures cells { cells_of result.idles.items ≡ map cell_of left.tasks.items }
+    ensures ended { IfOk result.outcome (λ v. IsConclusion part.now left.halted v result) }
+    ensures verdict { result.outcome ≡ Ok verdict.Memory ↔ left.halted ≡ true }
+    ensures memory { result.outcome ≡ Ok verdict.Memory → left.wanted ≡ true }
+    ensures is_one { IsOk result.outcome }
+{
+    let _program = part.network.program();
+    settle_all(&mut left.tasks, part.code, part.network, part.input, steps);
+    let ends = ends_of(part.network, part.input, part.code, &left.tasks, ends);
+    let verdict = verdict_of(left.halted, &ends);
+    let idles = rest_all(left.tasks, idles);
+    Stopped {
+        idles: meet(part.network, idles),
+        budget: left.budget,
+        ends,
+        outcome: Ok(verdict),
+    }
 }
 
 // The jobs of a run that was given up.
@@ -122,7 +156,7 @@ fn give_up<L: Ledger>(
     }
 }
 
-// Runs idle jobs whose ends have settled for the input.
+// Runs idle jobs whose ends are ready for the input so far.
 fn run_settled<R: Threads + Wait + Sync, G: Gate + Sync, L: Ledger>(
     rt: &R,
     alloc: Global,
@@ -149,14 +183,18 @@ fn run_settled<R: Threads + Wait + Sync, G: Gate + Sync, L: Ledger>(
     let (network, input) = (part.network, part.input);
     let _program = network.program();
     let tasks = wake_all(network, input, idles, tasks);
-    match run_tasks(rt, alloc, network, input, part.code, part.plan, tasks, gate) {
+    let plan = Plan {
+        bound: part.left,
+        ..part.plan
+    };
+    match run_tasks(rt, alloc, network, input, part.code, plan, tasks, gate) {
         Ok(left) => conclude(part, left, rest, ends, &mut steps),
         Err((fault, left)) => give_up(fault, part, left, rest, ends, &mut steps),
     }
 }
 
-// The jobs with the ends of their channels settled for the input, and whether all are. Where memory was refused each looks
-// the same to every call.
+// The jobs with their ends made ready for the input so far, and whether all are. If memory was refused, each job looks the same
+// to every call.
 fn settle_ends(
     network: &Network,
     input: &Input,
@@ -172,22 +210,19 @@ fn settle_ends(
     (idles, settled)
 }
 
-/// Runs idle jobs for so many events as the plan of the part has, until every worker has left. Its workers and its quantum are
-/// those of the whole run.
+/// Runs idle jobs for as many events as are left for the part, until every worker has left.
 ///
-/// Where memory was refused before the first event each job is as it was; where a thread couldn't be started those that
-/// were are halted and gathered, and the jobs are where they were left.
+/// If memory was refused before the first event, each job is as it was. If a thread couldn't be started, those that were are
+/// halted and gathered, and the jobs stand where they were left.
 pub(crate) fn run_part<R: Threads + Wait + Sync, G: Gate + Sync>(
     rt: &R,
     alloc: Global,
-    _whole: Plan,
     part: &Part<'_>,
     idles: Vec<Idle>,
     room: PartRoom,
     gate: &G,
 ) -> Stopped
     requires part { IsHeldPart part.now idles.items }
-    requires plan { IsPartOf _whole part.now.plan }
     requires room { IsRoomFor (length (network_of part.now.network.now).instances) room }
     ensures { HasStoppedPart part.now idles.items result }
 {
@@ -195,7 +230,7 @@ pub(crate) fn run_part<R: Threads + Wait + Sync, G: Gate + Sync>(
     if settled.is_err() {
         return Stopped {
             idles,
-            budget: part.plan.bound,
+            budget: part.left,
             ends: room.ends,
             outcome: Err(CrewFault::NoMemory),
         };

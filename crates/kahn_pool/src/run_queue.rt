@@ -11,38 +11,34 @@ struct Place {
     queued: bool,
 }
 
-/// The instances that may go on, in the order of their turns. It is a hint, on which no answer depends: one that is
-/// wrongly missing is asked in the next round of all, and one that is wrongly there is asked in vain.
+/// The instances that may go on, in the order of their turns. One that is wrongly missing has its turn in the next round of all, and
+/// one that is wrongly there does nothing in its turn.
 #[derive(Drop)]
 pub(crate) struct RunQueue {
     places: Vec<Place>,
     turns: VecDeque<usize>,
     // A reader that comes before all others, since something was just sent to it.
     next: Option<usize>,
-    // How many readers came so, one after another.
+    // How many readers came before all others, one after another.
     handed: usize,
 }
 
 impl RunQueue {
-    /// Nobody, of so many instances. It refuses only where memory was refused.
+    /// No instance of `instances`. It refuses only if memory was refused.
     pub(crate) fn new(alloc: Global, instances: usize) -> Result<RunQueue, NoMemory> {
-        let mut places = Vec::with_capacity(alloc, instances)?;
-        let turns = VecDeque::with_capacity(alloc, instances)?;
-        for _ in 0..instances {
-            places.push(Place {
-                awake: false,
-                queued: false,
-            })?;
-        }
+        let asleep = Place {
+            awake: false,
+            queued: false,
+        };
         Ok(RunQueue {
-            places,
-            turns,
+            places: vec![in alloc; asleep; instances]?,
+            turns: VecDeque::with_capacity(alloc, instances)?,
             next: None,
             handed: 0,
         })
     }
 
-    /// The instance goes on when its turn comes, behind all that stand there.
+    /// The instance goes on when its turn comes, behind all that are in the queue.
     pub(crate) fn wake(&mut self, instance: usize) {
         if let Some(place) = self.places.get_mut(instance) {
             place.awake = true;
@@ -59,8 +55,8 @@ impl RunQueue {
         }
     }
 
-    /// The instance reads what was just sent: it goes on before all others, unless so many as there are came so one after
-    /// another, or another one does.
+    /// The instance reads what was just sent: it goes on before all others, unless another one does, or as many as there are instances
+    /// did so one after another.
     pub(crate) fn hand(&mut self, instance: usize) {
         if self.next.is_none() && self.handed < self.places.len() {
             self.next = Some(instance);
@@ -69,7 +65,7 @@ impl RunQueue {
         }
     }
 
-    // Takes an instance out of the queue. Whether it is awake.
+    // Takes an instance out of the queue, and tells whether it is awake.
     fn leaves(&mut self, instance: usize) -> bool {
         match self.places.get_mut(instance) {
             Some(place) => {
@@ -80,7 +76,7 @@ impl RunQueue {
         }
     }
 
-    /// Whose turn it is; nobody's where all sleep.
+    /// Whose turn it is; nobody's if all sleep.
     pub(crate) fn pop(&mut self) -> Option<usize> {
         if let Some(reader) = self.next {
             self.next = None;

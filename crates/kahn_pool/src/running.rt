@@ -1,11 +1,8 @@
 //! Runs of a network.
 
-ghost use Rattle.kahn_streams.specs.Network.{network_of};
-ghost use Rattle.kahn_streams.specs.Answers.{IsCutShort, Settles, IsRight, IsRightRun, IsUndeclared, IsWatched, IsUnrun};
+ghost use Rattle.kahn_pool.specs.inner.Below.{IsCutShort, IsInRange, IsRight, IsRightRun, IsUndeclared, IsUnrun, IsWatched, Settles, UnknownWatch, inputs_of, network_of};
 ghost use Rattle.kahn_pool.specs.Limits.{IsWant};
-ghost use Rattle.kahn_streams.specs.declared.fault.RunFault.TheVariants.{UnknownWatch};
-ghost use Rattle.kahn_streams.specs.Inputs.{inputs_of};
-ghost use Rattle.std.specs.Prelude.{◌≡◌, ◌<◌, ◌≤◌, ◌^◌, length, IfOk, MatchResult};
+ghost use Rattle.std.specs.Prelude.{◌≡◌, ◌<◌, length, IfOk, MatchResult};
 
 use crate::laws;
 use crate::one::{run_alone, run_watched};
@@ -25,7 +22,7 @@ fn first_quantum(instances: usize) -> u64
     (30_000 / instances.max(1) as u64).max(100).min(1000)
 }
 
-// How many threads may run side by side, where the system tells.
+// How many threads may run side by side, if the system tells.
 fn processors<R: Threads>(rt: &R) -> usize {
     match available_parallelism(rt) {
         Ok(count) => count.get(),
@@ -46,9 +43,9 @@ pub(crate) fn watched(network: &Network, name: &Option<String>) -> Result<Option
     }
 }
 
-// Runs a network by several workers where the gate is open: at first on the caller's thread alone, over plain queues. Where
-// there is work for several, the run begins anew with as many workers as may run side by side, of which nobody sees anything;
-// where that is one, or memory is refused for them, it is made to the end alone.
+// Runs a network by several workers if the gate is open: at first on the caller's thread alone, over plain queues. If there is
+// work for several, the run begins anew with as many workers as may run side by side, and no caller can tell; if that is one, or
+// memory is refused for them, it is made to the end alone.
 fn run_first<R: Threads + Wait + Sync, G: Gate + Sync>(
     rt: &R,
     alloc: Global,
@@ -58,9 +55,7 @@ fn run_first<R: Threads + Wait + Sync, G: Gate + Sync>(
     gate: &G,
 ) -> Result<Answer, RunFault>
     requires fits { length input.now ≡ length (network_of network.now).channels }
-    requires few { (1 ≤ plan.workers) × (plan.workers ≤ 16) }
-    requires quantum { 0 < plan.quantum }
-    requires bound { plan.bound < 2 ^ 48 }
+    requires range { IsInRange plan.workers plan.quantum plan.bound }
     ensures { MatchResult result (IsRight (network_of network.now) (inputs_of input.now) plan.bound plan.watch) (IsWant plan.workers) }
 {
     let quantum = plan.quantum.min(first_quantum(network.instances()));
@@ -78,19 +73,18 @@ fn run_first<R: Threads + Wait + Sync, G: Gate + Sync>(
     }
 }
 
-/// Runs a network with an input that fits it. Its answer is right, whatever the number of workers and the quantum are.
-/// Where its verdict isn't `Memory` it is `Finished` exactly where the size of the solution is at most the bound, so the
-/// two change no verdict. A finished answer is the same for all of them and for every bound; of one that was stopped, which
-/// events were done may depend on them, and never what stands at a place of a stream.
+/// Runs a network with an input that fits it. Its answer is right, whatever the number of workers and the quantum are. If its
+/// verdict isn't `Memory`, it is `Finished` exactly if the size of the solution is at most the bound, so the two change no
+/// verdict. A finished answer is the same for all of them and for every bound; of one that was stopped, which events were done
+/// may depend on them, and never what stands at a place of a stream.
 ///
-/// It refuses with `BadConfig` where a number of the configuration is out of its limit, then with `UnknownWatch` where
-/// no channel has the name that is to be watched, with `NoMemory` where memory was refused before the first event, and
-/// with `NoThread` where a thread couldn't be started, which one worker never takes: it has the caller's thread, where it
-/// runs one process after another over plain queues. Of several each other one has a thread of its own. Where the gate is
-/// open several begin as one does, and start threads only once there is work for two, for as many workers as there are
-/// instances and processors at most. Memory that is refused later stops the run: its answer has the verdict `Memory`, by one worker only where
-/// an instance has a next event and the bound isn't used up. Before each quantum of an instance a gate that isn't open is
-/// entered.
+/// It refuses with `BadConfig` if a number of the configuration is out of its limit, then with `UnknownWatch` if no channel has
+/// the name that is to be watched, with `NoMemory` if memory was refused before the first event, and with `NoThread` if a thread
+/// couldn't be started. One worker starts none: it has the caller's thread, on which it runs one process after another over plain
+/// queues. Each further worker has a thread of its own. If the gate is open, several begin as one does, and start threads only
+/// once there is work for two, for as many workers as there are instances and processors at most. Memory that is refused later
+/// stops the run: its answer has the verdict `Memory`, by one worker only if an instance has a next event and the bound isn't
+/// used up. Before each quantum of an instance a gate that isn't open is entered.
 pub fn run<R: Threads + Wait + Sync, G: Gate + Sync>(
     rt: &R,
     alloc: Global,

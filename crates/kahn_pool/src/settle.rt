@@ -1,8 +1,7 @@
 //! Each task that may go on is asked once more what comes next.
 
 ghost use Rattle.std.specs.Prelude.{◌≡◌, ℕ, Some, slice_get};
-ghost use Rattle.kahn_job.specs.inner.Berths.{IsWithinInput, end_at};
-ghost use Rattle.kahn_job.specs.inner.Tasks.{Tasked};
+ghost use Rattle.kahn_pool.specs.inner.Below.{IsWithinInput, Tasked, end_at};
 ghost use Rattle.kahn_pool.specs.inner.Changed.{HaveChanged};
 ghost use Rattle.kahn_pool.specs.inner.Rested.{IsLentTo, IsSettledTask, SettlesTo};
 ghost use Rattle.kahn_job.specs.declared.standing.Standing.TheVariants as standing;
@@ -31,7 +30,7 @@ fn keep(task: &Task)
     fed(task);
 }
 
-// Asks a task that may go on what comes next. No event is done, and no memory is taken.
+// Asks a task that may go on what comes next. No event is done, and it never allocates.
 fn ask<L: Ledger>(
     task: &mut Task,
     code: &Code,
@@ -48,7 +47,7 @@ fn ask<L: Ledger>(
     fed(task);
 }
 
-// Asks a task what comes next, where it may go on.
+// Asks a task what comes next, if it may go on.
 fn settle<L: Ledger>(
     task: &mut Task,
     code: &Code,

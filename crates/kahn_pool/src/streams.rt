@@ -1,15 +1,9 @@
 //! The streams of an answer: their lines, and the tokens that fill them.
 
-ghost use Rattle.std.specs.Prelude.{◌≡◌, ◌<◌, ◌++◌, ◌∷◌, [], cond, length, map, slice_set, slice_index_or, IfOk, OnOk};
-ghost use Rattle.std.specs.List.{All};
-ghost use Rattle.kahn_streams.specs.Prints.{declaration_prints};
-ghost use Rattle.kahn_streams.specs.Syntax.{prints_in};
-ghost use Rattle.kahn_streams.specs.Network.{network_of, instance_at, role_at};
-ghost use Rattle.kahn_streams.specs.declared.tree.Role.TheVariants.{Input as InputRole};
-ghost use Rattle.kahn_streams.specs.Inputs.{inputs_of};
-ghost use Rattle.kahn_code.specs.Cells.{is_streamed};
-ghost use Rattle.kahn_streams.specs.Answers.{stream_line, channel_lines, print_lines, stream_lines};
-ghost use Rattle.kahn_pool.specs.inner.Streams.{AreAllGiven, AreGiven, AreNamed, IsBegun, IsDeclared, IsBare, kept_lists, AreAllOf, AreLists, HasBecome, HaveBecome, IsFilled, KeepsOtherLines, HasInput, HasInputs};
+ghost use Rattle.std.specs.Prelude.{◌≡◌, ◌<◌, ◌++◌, ◌∷◌, [], cond, length, map, slice_set, slice_index_or, vec_capacity, IfOk, OnOk};
+ghost use Rattle.kahn_pool.specs.inner.Below.{Input as InputRole, channel_lines, declaration_prints, inputs_of, instance_at, is_streamed, network_of, print_lines, prints_in, role_at, source, stream_lines};
+ghost use Rattle.kahn_pool.specs.inner.Workbench.{AreOpen, AreStreamsReady};
+ghost use Rattle.kahn_pool.specs.inner.Streams.{AreAllGiven, AreGiven, AreNamed, IsBegun, IsDeclared, IsBare, kept_lists, AreAllOf, AreLists, HasBecome, HaveBecome, IsFilled, KeepsOtherLines, HasInput};
 
 use kahn_code::Kept;
 use kahn_streams::{
@@ -50,70 +44,56 @@ fn has_stream(network: &Network, watch: Option<usize>, channel: usize) -> bool
     network.channel(channel).role == Role::Output || watch == Some(channel)
 }
 
-// One stream more, without tokens, where there is one.
-fn add_stream(
-    alloc: Global,
-    streams: &mut Vec<Stream>,
-    has_one: bool,
-    line: Line,
-) -> Result<(), NoMemory>
-    ensures lines { OnOk result (map stream_line streams.new.items ≡ map stream_line streams.old.items ++ cond has_one (line ∷ []) []) }
-    ensures bare { OnOk result (All IsBare streams.old.items → All IsBare streams.new.items) }
+// One line more, if it has a stream.
+fn add_line(lines: &mut Vec<Line>, has_one: bool, line: Line) -> Result<(), NoMemory>
+    ensures { OnOk result (lines.new.items ≡ lines.old.items ++ cond has_one (line ∷ []) []) }
 {
-    if !has_one {
-        return Ok(());
+    if has_one {
+        lines.push(line)?;
     }
-    streams.push(Stream {
-        line,
-        tokens: Vec::new(alloc),
-    })?;
     Ok(())
 }
 
-// The streams of the channels.
+// The lines of the channels that have a stream.
 fn add_channels(
-    alloc: Global,
-    streams: &mut Vec<Stream>,
+    lines: &mut Vec<Line>,
     network: &Network,
     watch: Option<usize>,
 ) -> Result<(), NoMemory>
-    ensures lines { OnOk result (map stream_line streams.new.items ≡ map stream_line streams.old.items ++ channel_lines watch (network_of network.now).channels 0) }
-    ensures bare { OnOk result (All IsBare streams.old.items → All IsBare streams.new.items) }
+    ensures { OnOk result (lines.new.items ≡ lines.old.items ++ channel_lines watch (network_of network.now).channels 0) }
 {
     for channel in 0..network.channels() {
         let has_one = has_stream(network, watch, channel);
-        add_stream(alloc, streams, has_one, Line::Channel(channel))?;
+        add_line(lines, has_one, Line::Channel(channel))?;
     }
     Ok(())
 }
 
-// The print streams.
-fn add_prints(alloc: Global, streams: &mut Vec<Stream>, network: &Network) -> Result<(), NoMemory>
-    ensures lines { OnOk result (map stream_line streams.new.items ≡ map stream_line streams.old.items ++ print_lines (network_of network.now).instances 0) }
-    ensures bare { OnOk result (All IsBare streams.old.items → All IsBare streams.new.items) }
+// The lines of the print streams.
+fn add_prints(alloc: Global, lines: &mut Vec<Line>, network: &Network) -> Result<(), NoMemory>
+    ensures { OnOk result (lines.new.items ≡ lines.old.items ++ print_lines (network_of network.now).instances 0) }
 {
     let printing = printing(alloc, network)?;
     for instance in 0..network.instances() {
         let prints = instance_prints(network, &printing, instance);
-        add_stream(alloc, streams, prints, Line::Print(instance))?;
+        add_line(lines, prints, Line::Print(instance))?;
     }
     Ok(())
 }
 
-/// The streams of an answer, in order of declaration, without tokens: those of the output channels and of the channel
-/// `watch`, and then the print streams. It refuses only where memory was refused.
-pub fn empty_streams(
+/// The lines of the streams of an answer, in order of declaration: those of the output channels and of the channel `watch`, and
+/// then those of prints. It refuses only if memory was refused.
+pub(crate) fn lines_of(
     alloc: Global,
     network: &Network,
     watch: Option<usize>,
-) -> Result<Vec<Stream>, NoMemory>
-    ensures lines { IfOk result (λ streams. map stream_line streams.items ≡ stream_lines (network_of network.now) watch) }
-    ensures bare { IfOk result (λ streams. All IsBare streams.items) }
+) -> Result<Vec<Line>, NoMemory>
+    ensures { IfOk result (λ lines. lines.items ≡ stream_lines (network_of network.now) watch) }
 {
-    let mut streams = Vec::new(alloc);
-    add_channels(alloc, &mut streams, network, watch)?;
-    add_prints(alloc, &mut streams, network)?;
-    Ok(streams)
+    let mut lines = Vec::new(alloc);
+    add_channels(&mut lines, network, watch)?;
+    add_prints(alloc, &mut lines, network)?;
+    Ok(lines)
 }
 
 // Hands over what was kept on a parameter, for these tokens.
@@ -151,8 +131,8 @@ fn fill_one(network: &Network, stream: &mut Stream, lists: &mut Vec<Kept>)
     }
 }
 
-/// Fills each stream from what the cells kept: that of a channel with what its writer kept on the parameter, and a
-/// print stream with what was printed. A stream of an input channel stays. It takes no memory.
+/// Fills each stream from what the cells kept: that of a channel with what its writer kept on the parameter, and a print stream
+/// with what was printed. A stream of an input channel stays. It never allocates.
 pub fn fill(network: &Network, streams: &mut Vec<Stream>, lists: &mut Vec<Kept>)
     requires named { AreNamed (network_of network.now) streams.old.items }
     requires lists { AreLists (network_of network.now) lists.old.items }
@@ -181,9 +161,8 @@ fn give_list(
     Ok(())
 }
 
-// The whole list of the channel, where the stream is that of an input channel.
+// The whole list of the channel, if the stream is that of an input channel.
 fn give_input(network: &Network, input: &Input, stream: &mut Stream) -> Result<(), NoMemory>
-    requires declared { IsDeclared (network_of network.now) stream.old.line }
     requires bare { IsBare stream.old }
     ensures line { stream.new.line ≡ stream.old.line }
     ensures given { OnOk result (HasBecome (network_of network.now) (HasInput (network_of network.now) (inputs_of input.now)) stream.old stream.new) }
@@ -194,7 +173,7 @@ fn give_input(network: &Network, input: &Input, stream: &mut Stream) -> Result<(
     Ok(())
 }
 
-/// Gives the rest of the list of a watched input channel. It refuses only where memory was refused.
+/// Gives the rest of the list of a watched input channel. It refuses only if memory was refused.
 pub(crate) fn give_watched(
     network: &Network,
     input: &Input,
@@ -215,20 +194,52 @@ pub(crate) fn give_watched(
     give_list(network, input, channel, tokens)
 }
 
-/// Gives each stream of an input channel the whole list of that channel; the others stay. It refuses only where memory
-/// was refused.
-pub fn watched_input(
+// The stream of a line before any token was moved there.
+fn opening_stream(
+    alloc: Global,
     network: &Network,
     input: &Input,
-    streams: &mut Vec<Stream>,
-) -> Result<(), NoMemory>
-    requires named { AreNamed (network_of network.now) streams.old.items }
-    requires bare { All IsBare streams.old.items }
-    ensures each { OnOk result (HaveBecome (network_of network.now) (HasInput (network_of network.now) (inputs_of input.now)) streams.old.items streams.new.items) }
-    ensures given { OnOk result (HasInputs (network_of network.now) (inputs_of input.now) streams.new.items) }
+    line: Line,
+) -> Result<Stream, NoMemory>
+    ensures line { IfOk result (λ x. x.line ≡ line) }
+    ensures given { IfOk result (λ x. HasInput (network_of network.now) (inputs_of input.now) (source (network_of network.now) line) line [] x.tokens.items) }
 {
-    for number in 0..streams.len() {
-        give_input(network, input, &mut streams[number])?;
+    let mut stream = Stream {
+        line,
+        tokens: Vec::new(alloc),
+    };
+    give_input(network, input, &mut stream)?;
+    Ok(stream)
+}
+
+/// The streams of an answer, in order, before any token was moved there: a watched input channel has its whole list. It refuses
+/// only if memory was refused.
+pub(crate) fn opening_streams(
+    alloc: Global,
+    network: &Network,
+    input: &Input,
+    watch: Option<usize>,
+) -> Result<Vec<Stream>, NoMemory>
+    ensures { IfOk result (λ streams. AreOpen network.now input.now watch streams.items) }
+{
+    let lines = lines_of(alloc, network, watch)?;
+    let mut streams = Vec::with_capacity(alloc, lines.len())?;
+    for number in 0..lines.len() {
+        streams.push_reserved(opening_stream(alloc, network, input, lines[number])?);
     }
-    Ok(())
+    Ok(streams)
+}
+
+/// Room for all that the answer of a run wants. It refuses only if memory was refused.
+pub(crate) fn room_for_answer(
+    alloc: Global,
+    network: &Network,
+    input: &Input,
+    watch: Option<usize>,
+) -> Result<(Vec<Stream>, Vec<Kept>), NoMemory>
+    ensures { IfOk result (λ r. AreStreamsReady network.now input.now watch r.0.items r.1.items (vec_capacity r.1)) }
+{
+    let streams = opening_streams(alloc, network, input, watch)?;
+    let kept = Vec::with_capacity(alloc, network.instances())?;
+    Ok((streams, kept))
 }

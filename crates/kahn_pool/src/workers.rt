@@ -1,19 +1,14 @@
 //! A run by several workers: a held run in one part.
 
-ghost use Rattle.std.specs.Prelude.{◌≡◌, ◌<◌, ◌≤◌, ◌^◌, [], length, vec_capacity, IfErr, IfOk, MatchResult};
-ghost use Rattle.kahn_streams.specs.Network.{network_of};
-ghost use Rattle.kahn_streams.specs.Inputs.{inputs_of};
-ghost use Rattle.kahn_streams.specs.Answers.{IsRight, stream_lines};
-ghost use Rattle.kahn_job.specs.inner.Idles.{AreIdle, cells_of};
-ghost use Rattle.kahn_crew.specs.inner.Wants.{IsLack};
+ghost use Rattle.std.specs.Prelude.{◌≡◌, ◌<◌, ◌≤◌, [], length, vec_capacity, IfErr, IfOk, MatchResult};
+ghost use Rattle.kahn_pool.specs.inner.Below.{AreIdle, IsInRange, IsLack, IsRight, cells_of, inputs_of, network_of, stream_lines};
 ghost use Rattle.kahn_pool.specs.Limits.{IsWant};
 ghost use Rattle.kahn_pool.specs.inner.Bench.{AreStreams};
 ghost use Rattle.kahn_pool.specs.inner.Holding.{AreHeldBy, HasEnded, held_state};
 ghost use Rattle.kahn_pool.specs.inner.Workbench.{AreKeptOf, AreStreamsReady};
 
 use crate::part::{Part, PartRoom, Stopped, first_idles, run_part};
-use crate::streams::fill;
-use crate::workbench::room_for_answer;
+use crate::streams::{fill, room_for_answer};
 use kahn_code::{Kept, compile};
 use kahn_crew::{CrewFault, Gate, Plan};
 use kahn_job::Idle;
@@ -52,7 +47,7 @@ fn streams_of(
     streams
 }
 
-// The answer of a part that is a whole run. It takes no memory: the room is given.
+// The answer of a part that is a whole run. It never allocates: the room is given.
 fn answered(
     part: &Part<'_>,
     stopped: Stopped,
@@ -60,9 +55,9 @@ fn answered(
     kept: Vec<Kept>,
 ) -> Result<Answer, CrewFault>
     requires held { AreHeldBy part.now stopped.idles.items stopped.budget }
-    requires ended { HasEnded part.now.network.now part.now.input.now part.now.plan.watch part.now.plan.workers part.now.bound stopped }
+    requires ended { HasEnded part.now.network.now part.now.input.now part.now.plan.watch part.now.plan.workers part.now.plan.bound stopped }
     requires ready { AreStreamsReady part.now.network.now part.now.input.now part.now.plan.watch streams.items kept.items (vec_capacity kept) }
-    ensures right { IfOk result (IsRight (network_of part.now.network.now) (inputs_of part.now.input.now) part.now.bound part.now.plan.watch) }
+    ensures right { IfOk result (IsRight (network_of part.now.network.now) (inputs_of part.now.input.now) part.now.plan.bound part.now.plan.watch) }
     ensures lack { IfErr result (IsLack part.now.plan.workers) }
 {
     let (network, input, watch) = (part.network, part.input, part.plan.watch);
@@ -71,14 +66,14 @@ fn answered(
             verdict,
             streams: streams_of(network, input, watch, stopped.idles, streams, kept),
             ends: stopped.ends,
-            events: part.bound - stopped.budget,
+            events: part.plan.bound - stopped.budget,
         }),
         Err(fault) => Err(fault),
     }
 }
 
-/// Runs a network by several workers, one in the caller's thread and each other in one of its own, and answers right. It
-/// refuses only where memory was refused before the first event, or where a thread couldn't be started for one of several.
+/// Runs a network by several workers, one in the caller's thread and each other in one of its own, and answers right. It refuses
+/// only if memory was refused before the first event, or if a thread couldn't be started for one of several.
 pub(crate) fn run_workers<R: Threads + Wait + Sync, G: Gate + Sync>(
     rt: &R,
     alloc: Global,
@@ -87,9 +82,7 @@ pub(crate) fn run_workers<R: Threads + Wait + Sync, G: Gate + Sync>(
     plan: Plan,
     gate: &G,
 ) -> Result<Answer, RunFault>
-    requires few { (1 ≤ plan.workers) × (plan.workers ≤ 16) }
-    requires quantum { 0 < plan.quantum }
-    requires bound { plan.bound < 2 ^ 48 }
+    requires range { IsInRange plan.workers plan.quantum plan.bound }
     ensures { MatchResult result (IsRight (network_of network.now) (inputs_of input.now) plan.bound plan.watch) (IsWant plan.workers) }
 {
     let code = compile(alloc, network)?;
@@ -101,8 +94,8 @@ pub(crate) fn run_workers<R: Threads + Wait + Sync, G: Gate + Sync>(
         input,
         code: &code,
         plan,
-        bound: plan.bound,
+        left: plan.bound,
     };
-    let stopped = run_part(rt, alloc, plan, &part, idles, room, gate);
+    let stopped = run_part(rt, alloc, &part, idles, room, gate);
     Ok(answered(&part, stopped, streams, kept)?)
 }

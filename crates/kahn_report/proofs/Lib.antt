@@ -12,3 +12,4 @@ pub mod Same_programs
 pub mod Same_inputs
 pub mod Same_reports
 pub mod Sample_spelt
+pub mod Cut

@@ -3,3 +3,4 @@ pub mod News
 pub mod Reading
 pub mod Work
 pub mod SampleText
+pub mod inner

@@ -7,8 +7,10 @@ mod input;
 mod laws;
 mod names;
 mod news;
+mod pieces;
 mod plain;
 mod read;
+mod several;
 mod values;
 mod working;
 mod write;
@@ -17,6 +19,7 @@ pub use input::{TextFault, read_input};
 pub use kahn_write::WriteFault;
 pub use laws::{one_report, sample_text};
 pub use read::{ReadFault, read_text};
+pub use several::write_report_by;
 pub use working::{WorkFault, work};
 pub use write::write_report;
 

@@ -15,7 +15,7 @@ use std::marker::Brand;
 use std::sync::ledger::{Blank, Ledger};
 
 /// Writes the line of a stream that has these tokens more, and nothing where there are none; and counts the writes.
-pub fn news_counted<W: Write, L: Ledger>(
+fn news_counted<W: Write, L: Ledger>(
     writer: &mut W,
     network: &Network,
     line: Line,
@@ -65,7 +65,7 @@ pub fn write_news<W: Write>(
 }
 
 /// Writes the last lines of a report and flushes, and counts both.
-pub fn closing_counted<W: Write, L: Ledger>(
+pub(crate) fn closing_counted<W: Write, L: Ledger>(
     writer: &mut W,
     network: &Network,
     verdict: Verdict,

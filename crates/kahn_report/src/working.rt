@@ -4,7 +4,7 @@ ghost use Rattle.kahn_report.specs.Work.{IsChecked, FinishesWithin, IsTextAnswer
 ghost use Rattle.std.specs.Prelude.{IfOk, MatchResult};
 
 use crate::input::{TextFault, read_input};
-use crate::write::write_report;
+use crate::several::write_for;
 use kahn_check::{CheckFault, check};
 use kahn_pool::{Answer, Config, Gate, RunFault, Verdict, run};
 use kahn_streams::Network;
@@ -90,7 +90,7 @@ fn answered<R: Threads + Wait + Sync, G: Gate + Sync>(
 
 /// Reads a program and an input, runs the program, and writes the report of its answer: from the bytes of the texts to
 /// the bytes of the report. Nothing is written before the answer stands; where a write fails a prefix of the report went
-/// out.
+/// out. As many threads as work put a long report into text.
 ///
 /// The verdict, where it isn't `Memory`, is `Finished` exactly where the size of the solution is at most the bound.
 ///
@@ -107,6 +107,7 @@ pub fn work<R: Threads + Wait + Sync, G: Gate + Sync, W: Write>(
     ensures told { IsWorked program.now input.now config (W.contents writer.old) (W.contents writer.new) result }
     ensures exact { IfOk result (FinishesWithin program.now input.now config) }
 {
+    let workers = config.workers;
     let network = match checked(alloc, program) {
         Ok(network) => network,
         Err(fault) => return Err(fault),
@@ -115,7 +116,7 @@ pub fn work<R: Threads + Wait + Sync, G: Gate + Sync, W: Write>(
         Ok(answer) => answer,
         Err(fault) => return Err(fault),
     };
-    match write_report(writer, &network, &answer) {
+    match write_for(rt, alloc, writer, &network, &answer, workers) {
         Ok(()) => Ok(answer.verdict),
         Err(fault) => Err(WorkFault::Write(fault)),
     }

@@ -5,16 +5,17 @@ ghost use Rattle.kahn_streams.specs.Written.{Writes};
 ghost use Rattle.kahn_report.specs.Formats.{report_text, line_head, tokens_text, stream_text, outcome_word, waited_name, end_words, end_text, ends_text, last_line, IsLine, HasItsLines};
 
 use crate::names::{channel_name, process_name};
+use crate::news::closing_counted;
 use itoa::Buffer;
 use kahn_pool::{Answer, End, Outcome, Stream, Verdict};
 use kahn_streams::{Carried, Failure, Line, Network, Steps};
-use kahn_write::{Spaced, WriteFault, flush, put, put_all, put_values};
+use kahn_write::{Spaced, WriteFault, put, put_all, put_values};
 use std::io::Write;
 use std::marker::Brand;
 use std::sync::ledger::{Blank, Ledger};
 
 /// Writes what a stream's line begins with.
-fn put_head<W: Write, L: Ledger>(
+pub(crate) fn put_head<W: Write, L: Ledger>(
     writer: &mut W,
     network: &Network,
     line: Line,
@@ -157,7 +158,7 @@ pub(crate) fn put_last<W: Write, L: Ledger>(
 }
 
 /// Writes the lines of the streams.
-fn put_streams<W: Write, L: Ledger>(
+pub(crate) fn put_streams<W: Write, L: Ledger>(
     writer: &mut W,
     network: &Network,
     streams: &[Stream],
@@ -190,7 +191,7 @@ pub(crate) fn put_ends<W: Write, L: Ledger>(
 }
 
 /// Writes the report text and flushes, and counts both: at most one write for each byte, and one flush.
-pub fn write_counted<W: Write, L: Ledger>(
+fn write_counted<W: Write, L: Ledger>(
     writer: &mut W,
     network: &Network,
     answer: &Answer,
@@ -201,9 +202,14 @@ pub fn write_counted<W: Write, L: Ledger>(
     ensures few { writes.new ≤ writes.old + length (report_text network.now answer.now) + 1 }
 {
     put_streams(writer, network, &answer.streams, writes)?;
-    put_ends(writer, network, &answer.ends, writes)?;
-    put_last(writer, answer.verdict, answer.events, writes)?;
-    flush(writer, writes)
+    closing_counted(
+        writer,
+        network,
+        answer.verdict,
+        &answer.ends,
+        answer.events,
+        writes,
+    )
 }
 
 /// Opens a count, and writes.

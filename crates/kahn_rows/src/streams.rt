@@ -1,20 +1,25 @@
 //! Texts in and out over readers and writers that fail.
 
 ghost use Rattle.std.specs.Prelude.{Some};
+ghost use Rattle.kahn_report.specs.Formats.{HasItsLines};
 
 use crate::held::network_of;
 use crate::programs::COUNT;
 use crate::rows::{AMPLE, config};
 use kahn_check::CheckFault;
 use kahn_fault::{Fault, fault_line};
-use kahn_pool::{Open, Verdict, run_one};
-use kahn_report::{ReadFault, WorkFault, WriteFault, read_text, work, write_closing, write_line};
-use kahn_streams::Input;
+use kahn_pool::{Answer, Open, Verdict, run_one};
+use kahn_report::{
+    ReadFault, WorkFault, WriteFault, read_text, work, write_closing, write_line, write_report_by,
+};
+use kahn_streams::{Input, Network};
 use kahn_syntax::Span;
 use std::alloc::Global;
 use std::io;
 use std::io::{Error, ErrorKind, Read, Write};
+use std::process::Abort;
 use std::test::Fail;
+use std::thread::Threads;
 
 // A writer that takes one byte a call, and at one call answers an error, or, where none is named, takes no byte.
 #[derive(Drop)]
@@ -143,6 +148,34 @@ fn the_flush_alone_fails(rt: HostRuntime) -> Result<(), Fail> {
         assert_eq!(rt; (writer.calls, writer.flushes), (33, 1));
     }
     Ok(())
+}
+
+// By each number of threads the same bytes go out in the same order, up to the call that fails.
+fn writes_by_several<R: Abort + Threads + Sync>(
+    rt: &R,
+    alloc: Global,
+    network: &Network,
+    answer: &Answer,
+) -> Result<(), Fail>
+    requires { HasItsLines network.now answer.now }
+{
+    for threads in 1..6usize {
+        for sent in 0..48usize {
+            let mut writer = Slow::new(alloc, sent + 1, Some(ErrorKind::Other), false);
+            let told = write_report_by(rt, alloc, &mut writer, network, answer, threads);
+            assert_eq!(rt; told.is_ok(), sent == 47);
+            assert_eq!(rt; writer.taken.as_slice(), &REPORT[..sent]);
+        }
+    }
+    Ok(())
+}
+
+#[test]
+fn several_threads_write_a_report(rt: HostRuntime) -> Result<(), Fail> {
+    let alloc = rt.alloc();
+    let network = network_of(alloc, COUNT)?;
+    let answer = run_one(alloc, &network, Input::none(alloc, &network)?, 100)?;
+    writes_by_several(&rt, alloc, &network, &answer)
 }
 
 // What a writer took whose calls count, where its flush fails or not, and what each call of a writer said of it.

@@ -1,7 +1,6 @@
 -- What a line makes of a session.
 use Rattle.std.proofs.Common.{◌≡◌, ◌∙◌, inl, inr, ℕ, ◌+◌, Bool, List, sum_by, Option, refl, sym, ap, subst}
 use Rattle.std.specs.Prelude.{min}
-use Rattle.kahn_streams.specs.Wiring.{IsWellWired}
 use Rattle.kahn_streams.specs.declared.value.Value.{Value}
 use Rattle.kahn_pool.specs.HeldRuns.{GoesOn, HeldRun, IsRightSoFar, Seen, seen_events}
 use Rattle.kahn_pool.specs.Flows.{Flowing, flow_lines}
@@ -14,9 +13,9 @@ use Rattle.kahn_session.specs.Pace.{IsPart, Pace, most_bound, part_bound}
 use Rattle.kahn_session.specs.inner.Shown.{OutBegins, news_of}
 use Rattle.kahn_session.proofs.Showing.{news_fit}
 
-fed_on : (line : List ℕ) (a b : Flowing) → IsWellWired a.run.network → IsFedBy line a b → GoesOn a.run b.run
-fed_on line a b wired (text, inl (blank, same)) = subst (λ (f : Flowing). GoesOn a.run f.run) (sym same) (goes_on_same a.run wired)
-fed_on line a b wired (text, inr (entry, is, poured)) = poured.goes_on
+fed_on : (line : List ℕ) (a b : Flowing) → IsFedBy line a b → GoesOn a.run b.run
+fed_on line a b (text, inl (blank, same)) = subst (λ (f : Flowing). GoesOn a.run f.run) (sym same) (goes_on_same a.run)
+fed_on line a b (text, inr (entry, is, poured)) = poured.goes_on
 
 fed_cells : (line : List ℕ) (a b : Flowing) → IsFedBy line a b → b.run.cells ≡ a.run.cells
 fed_cells line a b (text, inl (blank, same)) = ap (λ (f : Flowing). f.run.cells) same
@@ -26,10 +25,10 @@ fed_out : (line : List ℕ) (a b : Flowing) → IsFedBy line a b → b.out ≡ a
 fed_out line a b (text, inl (blank, same)) = ap (λ (f : Flowing). f.out) same
 fed_out line a b (text, inr (entry, is, poured)) = poured.out
 
-module _ (line : List ℕ) (h : Flowing) (wired : IsWellWired h.run.network) (p q : Pace) (fed : IsFedBy line h p.flow) (v : Verdict) (part : IsPart p q v) where
+module _ (line : List ℕ) (h : Flowing) (p q : Pace) (fed : IsFedBy line h p.flow) (v : Verdict) (part : IsPart p q v) where
   -- a run that was fed and had its part
   pub whole_on : GoesOn h.run q.flow.run
-  whole_on = goes_on_then h.run p.flow.run q.flow.run (fed_on line h p.flow wired fed) part.run.goes_on
+  whole_on = goes_on_then h.run p.flow.run q.flow.run (fed_on line h p.flow fed) part.run.goes_on
 
   -- a line that was fed, and whose part has a verdict
   pub answered : (step : ℕ) → p.step ≡ step → (broken torn : Bool) (plain : Option ℕ) (out : List (List Value)) (waits : List ℕ) (ends : List End) →

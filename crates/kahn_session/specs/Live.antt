@@ -13,6 +13,7 @@ use Rattle.kahn_streams.specs.Network.{Network, channel_names, network_of, role_
 use Rattle.kahn_streams.specs.declared.value.Line.TheVariants.{Channel}
 use Rattle.kahn_streams.specs.Inputs.{Entry, inputs_of}
 use Rattle.kahn_streams.specs.Answers.{Settles}
+use Rattle.kahn_chain.specs.Chain.{HasRing, stands}
 use Rattle.kahn_pool.specs.HeldRuns.{GoesOn, HeldRun, IsRightSoFar, IsUnstarted, so_far}
 use Rattle.kahn_pool.specs.Flows.{Flowing, HasFlowed, HasPouredIn, IsUnpoured, flow_lines}
 use Rattle.kahn_streams.specs.declared.answer.End.{End}
@@ -212,6 +213,11 @@ is_stuck N v ends = (is_finished v && not (list_any (waits_on_input N) ends)) &&
 abbrev pub IsStuck : HeldRun → Bool → Type 0
 IsStuck h stuck =
     (v : Verdict) × (h.verdict ≡ Some v) × ((ends : List End) × IsRightSoFar h v ends × (stuck ≡ is_stuck (network_of h.network) v ends))
+
+-- whether processes wait on one another in a ring, of the ends that are right for the input so far and the bound so far
+abbrev pub IsRinged : HeldRun → Bool → Type 0
+IsRinged h ringed =
+    (v : Verdict) × (h.verdict ≡ Some v) × ((ends : List End) × IsRightSoFar h v ends × HasRing (network_of h.network) (map stands ends) ringed)
 
 -- the first input channel has this name, or there is none
 abbrev pub IsFirstInput : Program → Option (List ℕ) → Type 0

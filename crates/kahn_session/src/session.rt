@@ -1,24 +1,25 @@
 //! Sessions: what a line of input makes of a run, and what goes out after it.
 
-ghost use Rattle.std.specs.Prelude.{◌≡◌, ◌↔◌, ◌&&◌, not, ℕ, List, Some, false, slice_index_or, true, [], IsTrue, MatchOption, MatchResult, option_copied};
+ghost use Rattle.std.specs.Prelude.{◌≡◌, ◌↔◌, ◌&&◌, not, ℕ, IfOk, List, Some, false, slice_index_or, true, [], IsTrue, MatchOption, MatchResult, option_copied};
 ghost use Rattle.std.specs.List.{list_any};
 ghost use Rattle.kahn_streams.specs.Network.{network_of};
 ghost use Rattle.kahn_pool.specs.Flows.{Flowing, flow_lines};
 ghost use Rattle.kahn_report.specs.Formats.{IsReadLine, content, channel_name};
 ghost use Rattle.kahn_report.specs.News.{news_text, plain_text};
 ghost use Rattle.kahn_streams.specs.Written.{Writes};
-ghost use Rattle.kahn_session.specs.Live.{HasOpened, IsClosed, IsDeaf, IsFaulty, IsFedBy, IsFirstInput, IsOtherInput, HasVerdict, IsNamedAt, IsNamedLine, IsStreamOf, IsStuck, IsTakenLine, IsText, IsUnfedBy, IsUnopened, breaks, form_text, is_faulted, is_finished, is_input, is_other_input, is_stuck, is_waiting, waits_on_input, wants_input};
+ghost use Rattle.kahn_session.specs.Live.{HasOpened, IsClosed, IsDeaf, IsFaulty, IsFedBy, IsFirstInput, IsOtherInput, HasVerdict, IsNamedAt, IsNamedLine, IsRinged, IsStreamOf, IsStuck, IsTakenLine, IsText, IsUnfedBy, IsUnopened, breaks, form_text, is_faulted, is_finished, is_input, is_other_input, is_stuck, is_waiting, waits_on_input, wants_input};
 ghost use Rattle.kahn_session.specs.inner.Shown.{OutBegins, news_of};
 
 use crate::fault::TakeFault;
 use crate::pace::Paced;
+use kahn_chain::{has_ring, standings};
 use kahn_pool::{Config, End, Gate, Outcome, RunFault, Verdict};
 use kahn_report::{
     LineFault, MOST_BYTES, WriteFault, channel_name, read_line, write_closing, write_news,
     write_plain,
 };
 use kahn_streams::{Input, Line, Network, Role, Value};
-use std::alloc::Global;
+use std::alloc::{AllocError, Global};
 use std::io::Write;
 use std::marker::Model;
 use std::str;
@@ -415,6 +416,17 @@ impl<'n> Session<'n> {
             unreachable!()
         };
         is_stuck_by(self.network, verdict, self.paced.ends())
+    }
+
+    /// Whether processes wait on one another in a ring. It is asked only where the session is settled, and refuses only where memory was
+    /// refused.
+    pub fn has_ring(&self) -> Result<bool, AllocError>
+        requires { HasVerdict self.now }
+        ensures { IfOk result (IsRinged self.now.flow.run) }
+    {
+        let _program = self.network.program();
+        let standings = standings(self.alloc, self.paced.ends())?;
+        has_ring(self.alloc, self.network, &standings)
     }
 
     /// The name of the first input channel, where there is one.

@@ -10,16 +10,16 @@ use Rattle.kahn_code.specs.Lines.{Lines as Queues, AreFirst, next_at}
 use Rattle.kahn_code.specs.Told.{Told}
 use Rattle.kahn_streams.proofs.Entered.{none_of}
 use Rattle.kahn_code.proofs.Queued.{given_zero, taken_zero}
-use Rattle.kahn_units.specs.inner.Standing.{IsOfSeat}
+use Rattle.kahn_units.specs.inner.Standing.{IsOfSite}
 
 -- the first cell stands where the queues stand, as the first instance's ports
 pub stands_first : (t : Program) (lists : Lists) (c : Told) (q : Queues) → IsWellWired t → 0 < length (network_of t).instances →
     (c.network ≡ t) × (c.input ≡ lists) × (c.instance ≡ 0) →
     (let n = length (instance_at (network_of t) 0).actuals in (c.taken ≡ replicate n 0) × (c.sent ≡ replicate n 0)) →
-    (q.network ≡ t) × (q.input ≡ lists) → AreFirst t lists q.queues → IsOfSeat c (record q { instance = 0 })
+    (q.network ≡ t) × (q.input ≡ lists) → AreFirst t lists q.queues → IsOfSite c (record q { instance = 0 })
 stands_first t lists c q wired some names none queued first = record {
   here = subst (λ k. c.instance < length (network_of k).instances) (sym names.0) (omega (arith, names.2, some));
-  seat =
+  site =
       ap (λ k. record { network = k; input = c.input; instance = c.instance }) (names.0 ∙ sym queued.0) ∙
       ap (λ k. record { network = q.network; input = k; instance = c.instance }) (names.1 ∙ sym queued.1) ∙
       ap (λ k. record { network = q.network; input = q.input; instance = k }) names.2;

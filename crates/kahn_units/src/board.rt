@@ -114,7 +114,7 @@ fn add(
     ensures square { IsSquare board.now.table.shared.table_id seat.new × KeepsShare seat.old seat.new }
     ensures cells { KeepsCells seat.old seat.new }
 {
-    let mut cell = seat.cell(board, p);
+    let mut cell = seat.take_cell(board, p);
     cell.claims = cell.claims.wrapping_add(claims);
     cell.taken = cell.taken.wrapping_add(taken);
     let now = (cell.claims, cell.taken);

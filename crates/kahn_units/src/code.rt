@@ -3,7 +3,7 @@
 ghost use Rattle.std.specs.Prelude.{◌≡◌, ◌<◌, length, IfOk, replicate};
 ghost use Rattle.kahn_streams.specs.Network.{network_of, instance_at};
 ghost use Rattle.kahn_streams.specs.Inputs.{Lists};
-ghost use Rattle.kahn_units.specs.inner.Standing.{IsOfSeat};
+ghost use Rattle.kahn_units.specs.inner.Standing.{IsOfSite};
 
 use crate::rationed::Rationed;
 use kahn_check::{Network, check};
@@ -68,7 +68,7 @@ fn opening<A: Allocator + Copy + Drop>(
 ) -> Result<(Code<A>, Cell<A>, Plain<A>), CodeFault>
     requires { 0 < length (network_of network.now).instances }
     ensures code { IfOk result (λ o. o.0.network.value ≡ o.1.network) }
-    ensures stands { IfOk result (λ o. IsOfSeat o.1 o.2) }
+    ensures stands { IfOk result (λ o. IsOfSite o.1 o.2) }
 {
     let code = compile(alloc, network)?;
     let cell = named(alloc, network, &code, input)?;
@@ -87,9 +87,9 @@ fn run<A: Allocator + Copy + Drop, L: Ledger>(
     quantum: u64,
 ) -> Option<Pause>
     requires code { code.now.network.value ≡ cell.old.network }
-    requires stands { IsOfSeat cell.old queues.old }
+    requires stands { IsOfSite cell.old queues.old }
     ensures code { code.now.network.value ≡ cell.new.network }
-    ensures stands { IsOfSeat cell.new queues.new }
+    ensures stands { IsOfSite cell.new queues.new }
 {
     if quantum > MANY || cell.events() > MANY {
         return None;

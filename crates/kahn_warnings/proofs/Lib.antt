@@ -7,3 +7,4 @@ mod Innocent
 mod Nowhere
 mod Placing
 mod Reading
+mod Noted

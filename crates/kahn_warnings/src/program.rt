@@ -91,16 +91,14 @@ fn first_standing(statements: &[Statement]) -> Option<Span>
 fn first_unreached(statements: &[Statement]) -> Option<Span>
     ensures { result ≡ first_unreached statements.now }
 {
-    match statements.split_first() {
-        None => None,
-        Some((first, rest)) => {
-            if never_ends(first) {
-                first_standing(rest)
-            } else {
-                first_unreached(rest)
-            }
+    let mut rest = statements;
+    'statements: while let Some((first, behind)) = rest.split_first() {
+        if never_ends(first) {
+            return first_standing(behind);
         }
+        rest = behind;
     }
+    None
 }
 
 /// Whether a statement stands there that is no block.
@@ -153,8 +151,11 @@ fn is_on_line(text: &str, before: Option<Span>, next: Option<Span>) -> bool
 fn place_beside(text: &str, first: &Statement, rest: &[Statement]) -> Option<Span>
     ensures { result ≡ place_beside text.now first.now rest.now }
 {
+    if !is_short_if(first) {
+        return None;
+    }
     let next = first_standing(rest);
-    if is_short_if(first) && is_on_line(text, first.span, next) {
+    if is_on_line(text, first.span, next) {
         next
     } else {
         None
@@ -169,17 +170,16 @@ fn add_beside(
 ) -> Result<(), AllocError>
     ensures { IfOk result (λ _. warnings.new.items ≡ warnings.old.items ++ beside_warnings text.now statements.now) }
 {
-    match statements.split_first() {
-        None => Ok(()),
-        Some((first, rest)) => {
-            add_where(
-                warnings,
-                WarningKind::Beside,
-                place_beside(text, first, rest),
-            )?;
-            add_beside(warnings, text, rest)
-        }
+    let mut rest = statements;
+    'statements: while let Some((first, behind)) = rest.split_first() {
+        add_where(
+            warnings,
+            WarningKind::Beside,
+            place_beside(text, first, behind),
+        )?;
+        rest = behind;
     }
+    Ok(())
 }
 
 /// Adds those of a list of statements beside those of each.

@@ -17,7 +17,7 @@ use Rattle.kahn_streams.specs.declared.tree.Program.{Program}
 use Rattle.kahn_streams.specs.Network.{channels_of, network_of, channel_names}
 use Rattle.kahn_streams.specs.Wiring.{IsWellWired}
 use Rattle.kahn_streams.proofs.By_number.{distinct_channels}
-use Rattle.kahn_chain.specs.Chain.{AreStandings}
+use Rattle.kahn_chain.specs.Chain.{AreStandings, standing_of, stands}
 use Rattle.kahn_chain.specs.declared.standing.Standing.TheVariants as S
 use Rattle.kahn_streams.specs.declared.value.Failure.TheVariants.{Overflow, Division}
 use Rattle.kahn_graph.specs.Report.{end_heading, without}
@@ -31,7 +31,6 @@ use Rattle.kahn_streams.specs.declared.answer.Verdict.{Verdict}
 use Rattle.kahn_streams.specs.declared.answer.Verdict.TheVariants.{Finished, Bound, Memory}
 use Rattle.kahn_report.specs.Formats.{channel_name, process_name, end_text, ends_text, last_line, last_text, line_head, outcome_word, report_text, stream_text, token_text, verdict_text, waited_name}
 use Rattle.kahn_why.specs.Back.{HasDarkNames, HasNumbers, IsDark, IsReadBack}
-use Rattle.kahn_why.specs.Why.{standing_of, stands}
 use Rattle.kahn_why.specs.Reading.{counted, end_as, end_behind, end_told, ends_told, first_end, last_in, last_lines, last_told, line_told, number_behind, number_told, verdict_as, waits_told}
 use Rattle.kahn_why.proofs.Numbers.{number_of_digits, own, same_digits}
 

@@ -6,14 +6,14 @@ use Rattle.std.specs.Prelude.{option_map}
 use Rattle.std.proofs.lemmas.Option.{slice_get-map, slice_get-get_or, slice_get_within}
 use Rattle.kahn_streams.specs.declared.tree.Program.{Program}
 use Rattle.kahn_streams.specs.Network.{Network, network_of}
-use Rattle.kahn_chain.specs.Chain.{AreCauses, AreStandings, IsCause}
+use Rattle.kahn_chain.specs.Chain.{AreCauses, AreStandings, IsCause, standing_of, stands}
 use Rattle.kahn_chain.specs.declared.standing.Standing.{Standing}
 use Rattle.kahn_chain.specs.declared.standing.Standing.TheVariants as S
 use Rattle.kahn_chain.specs.declared.standing.Cause.{Cause}
 use Rattle.kahn_chain.specs.declared.standing.Cause.TheVariants.{Input, Stopped, Ring}
 use Rattle.kahn_streams.specs.declared.answer.Answer.{Answer}
 use Rattle.kahn_streams.specs.declared.answer.End.{End}
-use Rattle.kahn_why.specs.Why.{standing_of, standings_of, stands}
+use Rattle.kahn_why.specs.Why.{standings_of}
 use Rattle.kahn_why.specs.Words.{AreOfNetwork, IsOfNetwork, ends_at}
 
 place_within : (N : Network) (ss : List Standing) (p : ℕ) (y : Cause) → IsCause N ss p y → ends_at y < length ss

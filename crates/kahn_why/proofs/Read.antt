@@ -8,7 +8,7 @@ use Rattle.kahn_streams.specs.declared.tree.Instance.{Instance}
 use Rattle.kahn_streams.specs.declared.tree.Program.{Program}
 use Rattle.kahn_streams.specs.declared.value.Failure.{Failure}
 use Rattle.kahn_streams.specs.Network.{channels_of, network_of, channel_names}
-use Rattle.kahn_chain.specs.Chain.{AreStandings}
+use Rattle.kahn_chain.specs.Chain.{AreStandings, stands}
 use Rattle.kahn_chain.specs.declared.standing.Standing.TheVariants as S
 use Rattle.kahn_graph.specs.Report.{end_heading, without}
 use Rattle.kahn_graph.specs.Stands.{wait_pieces}
@@ -18,8 +18,7 @@ use Rattle.kahn_streams.specs.declared.answer.Outcome.TheVariants.{Ended, Waits,
 use Rattle.kahn_streams.specs.declared.answer.Verdict.{Verdict}
 use Rattle.kahn_streams.specs.declared.value.Failure.TheVariants.{Overflow, Division}
 use Rattle.kahn_why.specs.Reading.{counted, end_as, end_behind, end_told, ends_joined, ends_told, first_end, last_in, line_told, said_lines, waits_told}
-use Rattle.kahn_why.specs.Why.{stands}
-use Rattle.kahn_why.proofs.Stands.{end_of, waiting}
+use Rattle.kahn_chain.proofs.Standing_ends.{end_of, waiting}
 
 -- the instance whose line tells nothing is one of them
 untold_by : (i j n : ℕ) (o : Option End) (r : Result (List End) ℕ) → ((k : ℕ) → r ≡ Err k → k < i + 1 + n) → first_end i o r ≡ Err j → j < i + suc n

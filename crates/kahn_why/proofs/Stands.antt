@@ -9,10 +9,11 @@ use Rattle.kahn_streams.specs.Script.{Outcome as Came, Dry, Cut}
 use Rattle.kahn_streams.specs.Meaning.{Store}
 use Rattle.kahn_streams.specs.Solution as net
 use Rattle.kahn_streams.specs.Solution.{Inputs, Histories, ending, exec_at, AreInputsExtended}
-use Rattle.kahn_chain.specs.Chain.{Awaits, Leads, stays, onward, LeadsOn}
+use Rattle.kahn_chain.specs.Chain.{Awaits, Leads, stays, onward, LeadsOn, standing_of, stands}
 use Rattle.kahn_chain.specs.declared.standing.Standing.{Standing}
 use Rattle.kahn_chain.specs.declared.standing.Standing.TheVariants as S
 use Rattle.kahn_chain.specs.declared.standing.Cause.TheVariants.{Input, Stopped, Ring}
+use Rattle.kahn_chain.proofs.Standing_ends.{end_of, waiting}
 use Rattle.kahn_streams.specs.Answers.{HasEndAt, IsDryOn, IsEnd, IsOutcome, IsRight, IsWaiting}
 use Rattle.kahn_streams.specs.declared.answer.Answer.{Answer}
 use Rattle.kahn_streams.specs.declared.answer.End.{End}
@@ -20,7 +21,7 @@ use Rattle.kahn_streams.specs.declared.answer.Outcome.{Outcome}
 use Rattle.kahn_streams.specs.declared.answer.Outcome.TheVariants.{Ended, Waits, Faulted, More}
 use Rattle.kahn_streams.specs.declared.answer.Verdict.{Verdict}
 use Rattle.kahn_streams.specs.declared.answer.Verdict.TheVariants.{Finished, Bound, Memory}
-use Rattle.kahn_why.specs.Why.{IsEndedOrFaulted, StayForGood, standing_of, standings_of, stands}
+use Rattle.kahn_why.specs.Why.{IsEndedOrFaulted, StayForGood, standings_of}
 use Rattle.kahn_why.specs.inner.Stuck.{AreStuck}
 use Rattle.kahn_why.proofs.Good.{stays_so}
 
@@ -115,23 +116,6 @@ module _ (N : Network) (ss : List Standing) where
 
 abbrev nobody : End
 nobody = record { outcome = Ended; events = 0 }
-
-pub end_of : (xs : List End) (q : ℕ) (s : Standing) (o : Option End) → slice_get xs q ≡ o → option_map stands o ≡ Some s
-    → (x : End) × (slice_get xs q ≡ Some x) × (stands x ≡ s)
-end_of xs q s None e f = absurd cc
-end_of xs q s (Some x) e f = (x, e, same)
-  where
-    same : stands x ≡ s
-    same = cc
-
-pub waiting : (o : Outcome) (c : ℕ) → standing_of o ≡ S.Waits c → o ≡ Waits c
-waiting Ended c e = absurd cc
-waiting (Waits d) c e = ap Waits same
-  where
-    same : d ≡ c
-    same = cc
-waiting (Faulted k) c e = absurd cc
-waiting More c e = absurd cc
 
 dry_of : (v : Verdict) (N : Network) (A : Histories) (p e c : ℕ) → (v ≡ Memory → ⊥) → IsWaiting v N A p e c → IsDryOn N A p e c
 dry_of Finished N A p e c clear h = h

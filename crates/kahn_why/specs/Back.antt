@@ -5,11 +5,10 @@ use Rattle.kahn_streams.specs.View.{bytes_of}
 use Rattle.kahn_streams.specs.declared.tree.Program.{Program}
 use Rattle.kahn_streams.specs.Network.{network_of, channel_names}
 use Rattle.kahn_streams.specs.Wiring.{IsWellWired}
-use Rattle.kahn_chain.specs.Chain.{AreStandings}
+use Rattle.kahn_chain.specs.Chain.{AreStandings, stands}
 use Rattle.kahn_streams.specs.declared.answer.Answer.{Answer}
 use Rattle.kahn_report.specs.Formats.{report_text}
 use Rattle.kahn_why.specs.Reading.{ends_told, last_in, last_lines}
-use Rattle.kahn_why.specs.Why.{stands}
 
 -- no byte is a blank or a control character
 abbrev pub IsDark : List ℕ → Type 0

@@ -2,7 +2,7 @@
 use Rattle.std.specs.Prelude.{ℕ, List, map}
 use Rattle.kahn_streams.specs.Network.{Network}
 use Rattle.kahn_streams.specs.Solution.{Inputs, AreInputsExtended}
-use Rattle.kahn_chain.specs.Chain.{IsCause}
+use Rattle.kahn_chain.specs.Chain.{IsCause, stands}
 use Rattle.kahn_chain.specs.declared.standing.Standing.{Standing}
 use Rattle.kahn_chain.specs.declared.standing.Standing.TheVariants as S
 use Rattle.kahn_chain.specs.declared.standing.Cause.{Cause}
@@ -10,17 +10,6 @@ use Rattle.kahn_chain.specs.declared.standing.Cause.TheVariants.{Input, Stopped,
 use Rattle.kahn_streams.specs.Answers.{HasEndAt, IsEnd}
 use Rattle.kahn_streams.specs.declared.answer.Answer.{Answer}
 use Rattle.kahn_streams.specs.declared.answer.End.{End}
-use Rattle.kahn_streams.specs.declared.answer.Outcome.{Outcome}
-use Rattle.kahn_streams.specs.declared.answer.Outcome.TheVariants.{Ended, Waits, Faulted, More}
-
-abbrev pub standing_of : Outcome → Standing
-standing_of Ended = S.Ended
-standing_of (Waits c) = S.Waits c
-standing_of (Faulted k) = S.Faulted
-standing_of More = S.More
-
-abbrev pub stands : End → Standing
-stands x = standing_of x.outcome
 
 -- how the instances of an answer stand
 abbrev pub standings_of : Answer → List Standing

@@ -1,5 +1,5 @@
 -- Believed. What is said of a run that stopped: a line for each process that hasn't ended, advice to each ring, and how the run ended.
-use Rattle.std.specs.Prelude.{◌≡◌, ℕ, ◌+◌, ◌<◌, ◌==◌, List, [], ◌∷◌, ◌++◌, Bool, true, false, codes, decimal, if◌then◌else◌, flat_map, length, map, nat_lt, string_bytes, IfOk, Option, Some, None, Result, option_map, slice_index_or}
+use Rattle.std.specs.Prelude.{◌≡◌, ℕ, ◌+◌, ◌<◌, ◌==◌, List, [], ◌∷◌, ◌++◌, Bool, true, false, codes, decimal, drop, if◌then◌else◌, flat_map, length, map, nat_lt, string_bytes, IfOk, Option, Some, None, Result, option_map, slice_index_or, take}
 use Rattle.std.proofs.Common.{Bor}
 use Rattle.std.specs.declared.alloc.Global.{Global}
 use Rattle.std.specs.declared.string.String.{String}
@@ -10,7 +10,7 @@ use Rattle.kahn_streams.specs.declared.tree.Program.{Program}
 use Rattle.kahn_streams.specs.declared.tree.Statement.{Statement}
 use Rattle.kahn_streams.specs.declared.value.Failure.{Failure}
 use Rattle.kahn_streams.specs.Network.{Source, Given, Written, Nobody, channel_source, network_of, process_of}
-use Rattle.kahn_chain.specs.Chain.{AreCauses, AreStandings}
+use Rattle.kahn_chain.specs.Chain.{AreCauses, AreStandings, stands}
 use Rattle.kahn_chain.specs.declared.standing.Standing.{Standing}
 use Rattle.kahn_chain.specs.declared.standing.Standing.TheVariants as S
 use Rattle.kahn_chain.specs.declared.standing.Cause.{Cause}
@@ -26,8 +26,9 @@ use Rattle.kahn_streams.specs.declared.answer.Verdict.TheVariants.{Finished, Bou
 use Rattle.kahn_marks.specs.Marks.{marked, spot_text}
 use Rattle.kahn_warnings.specs.Faults.{fault_places}
 use Rattle.kahn_report.specs.Formats.{channel_name, process_name, last_text}
+use Rattle.kahn_why.specs.Noting.{unsaid_text}
 use Rattle.kahn_why.specs.Waits.{instance_waits}
-use Rattle.kahn_why.specs.Why.{standings_of, stands}
+use Rattle.kahn_why.specs.Why.{standings_of}
 use Rattle.kahn_why.specs.declared.why.told.Explanation.{Explanation}
 use Rattle.kahn_why.specs.declared.why.told.Told.{Told}
 use Rattle.kahn_why.specs.declared.why.told.Told.TheVariants.{Fault, Deadlock, Stop}
@@ -163,7 +164,11 @@ instance_body t p = process_body (process_of t.declarations.items (process_name 
 abbrev pub marks_text : List ℕ → List ℕ → List ℕ → List Span → List ℕ
 marks_text path source words xs = flat_map (λ x. marked path source x words) xs
 
--- the line of p, which has this fault, and notes on all places in the program text that it can have come from
+-- on the first 20 places there is a note
+abbrev pub first_marks : List ℕ → List ℕ → List ℕ → List Span → List ℕ
+first_marks path source words xs = marks_text path source words (take 20 xs) ++ unsaid_text [] (codes "place") (length (drop 20 xs))
+
+-- the line of p, which has this fault, and notes on the places in the program text that it can have come from
 abbrev pub fault_words : Failure → List ℕ
 fault_words Overflow = codes " has a fault, overflow\n"
 fault_words Division = codes " has a fault, division\n"
@@ -173,7 +178,7 @@ here_words Overflow = codes "overflow can have come from here"
 here_words Division = codes "division can have come from here"
 
 abbrev pub places_text : List ℕ → List ℕ → Program → ℕ → Failure → List ℕ
-places_text path source t p k = marks_text path source (here_words k) (fault_places k (instance_body t p))
+places_text path source t p k = first_marks path source (here_words k) (fault_places k (instance_body t p))
 
 abbrev pub faulted_text : List ℕ → List ℕ → Program → ℕ → Failure → List ℕ
 faulted_text path source t p k = who_text t p ++ (fault_words k ++ places_text path source t p k)

@@ -1,7 +1,8 @@
 //! The notes on what is wrong with the network that a program text spells.
 
-ghost use Rattle.std.specs.Prelude.{◌≡◌, ◌++◌, IfOk, string_bytes};
-ghost use Rattle.kahn_why.specs.Noting.{counted_text, faults_text, further_text, held_words, note_text, notes_text, unsaid_text};
+ghost use Rattle.std.specs.Prelude.{◌≡◌, ◌≤◌, ◌++◌, IfOk, length, string_bytes};
+ghost use Rattle.std.specs.List.{position_or_len};
+ghost use Rattle.kahn_why.specs.Noting.{counted_text, faults_text, further_text, held_words, is_limit, note_text, notes_text, unsaid_text};
 
 use itoa::Buffer;
 use kahn_fault::{check_span, check_words};
@@ -11,8 +12,8 @@ use kahn_notes::held_remark;
 use kahn_streams::{CheckFault, NoMemory, Program, Span};
 use std::alloc::{AllocError, Global};
 
-/// The most faults on which there is a note.
-const MOST_NOTES: usize = 20;
+/// The most faults, or places, on which there is a note.
+pub(crate) const MOST_NOTES: usize = 20;
 
 /// What is said below the note on a name that isn't declared: of the comment that holds its declaration.
 fn held_words(
@@ -92,31 +93,65 @@ fn add_notes(
     }
 }
 
-/// Adds that there are so many faults more.
-fn add_count(notes: &mut String, more: usize) -> Result<(), AllocError>
-    ensures { IfOk result (λ _. string_bytes notes.new ≡ string_bytes notes.old ++ counted_text more) }
+/// Adds that there are so many more of something.
+fn add_count<'a>(
+    notes: &mut String,
+    before: &'a str,
+    what: &'a str,
+    more: usize,
+) -> Result<(), AllocError>
+    ensures { IfOk result (λ _. string_bytes notes.new ≡ string_bytes notes.old ++ counted_text before.now what.now more) }
 {
     let mut digits = Buffer::new();
     let more = digits.format(more);
-    add(notes, &["\nand ", more, " faults more\n"])
+    add(notes, &[before, "and ", more, " ", what, "s more\n"])
 }
 
-/// Adds how many faults more there are than were told.
+/// Adds how many more of something there are than were told.
 #[tactic(auto, using(crate::proofs::Noted::counted))]
-fn add_more(notes: &mut String, more: usize) -> Result<(), AllocError>
-    ensures { IfOk result (λ _. string_bytes notes.new ≡ string_bytes notes.old ++ unsaid_text more) }
+pub(crate) fn add_more<'a>(
+    notes: &mut String,
+    before: &'a str,
+    what: &'a str,
+    more: usize,
+) -> Result<(), AllocError>
+    ensures { IfOk result (λ _. string_bytes notes.new ≡ string_bytes notes.old ++ unsaid_text before.now what.now more) }
 {
     if more == 0 {
         return Ok(());
     }
     if more == 1 {
-        return notes.push_str("\nand 1 fault more\n");
+        return add(notes, &[before, "and 1 ", what, " more\n"]);
     }
-    add_count(notes, more)
+    add_count(notes, before, what, more)
 }
 
-/// The notes on the faults of a program whose text has these comments, of at most 20 of them, and how many more there are. It refuses
-/// only where memory was refused.
+/// Whether a fault is that a limit is exceeded.
+fn is_limit(fault: CheckFault) -> bool
+    ensures { result ≡ is_limit fault }
+{
+    matches!(fault, CheckFault::TooMany(_))
+}
+
+/// How many faults stand before the first of a limit, or how many there are.
+fn before_limit(faults: &[CheckFault]) -> usize
+    ensures within { result ≤ length faults.now }
+    ensures before { result ≡ position_or_len is_limit faults.now }
+{
+    let mut number = 0;
+    let mut rest = faults;
+    'faults: while let Some((fault, behind)) = rest.split_first() {
+        if is_limit(*fault) {
+            return number;
+        }
+        number += 1;
+        rest = behind;
+    }
+    number
+}
+
+/// The notes on the faults of a program whose text has these comments, of at most 20 of them and none behind the first of a limit, and
+/// how many more there are. It refuses only where memory was refused.
 #[tactic(auto, using(crate::proofs::Noted::first_notes, crate::proofs::Noted::last_notes))]
 pub(crate) fn faults_note(
     alloc: Global,
@@ -128,9 +163,10 @@ pub(crate) fn faults_note(
 ) -> Result<String, NoMemory>
     ensures { IfOk result (λ notes. string_bytes notes ≡ faults_text path.now program.now tree.now comments.now faults.now) }
 {
-    let (told, more) = faults.split_at(MOST_NOTES.min(faults.len()));
+    let most = MOST_NOTES.min(before_limit(faults) + 1);
+    let (told, more) = faults.split_at(most.min(faults.len()));
     let mut notes = String::new(alloc);
     add_notes(&mut notes, alloc, path, program, tree, comments, told)?;
-    add_more(&mut notes, more.len())?;
+    add_more(&mut notes, "\n", "fault", more.len())?;
     Ok(notes)
 }

@@ -3,11 +3,11 @@ use Rattle.std.specs.Prelude.{◌≡◌, ◌≢◌, ◌⊎◌, ℕ, suc, zero, �
 use Rattle.atomic_table.specs.Seated.{TableId}
 use Rattle.kahn_board.specs.Calls.{Draws, Was, HoldsNothing}
 use Rattle.kahn_board.specs.Dealt.{belongs, wired}
-use Rattle.kahn_board.specs.Rule.{all_parts, channel_at, count_at}
+use Rattle.kahn_board.specs.Rule.{IsDone, KnowsHalted, all_parts, channel_at, count_at}
 use Rattle.kahn_board.specs.declared.rule.Terms.{Terms}
-use Rattle.kahn_board.specs.Tale.{Tale, FlushedAll, flushed_of, events_past}
+use Rattle.kahn_board.specs.Summary.{Summary, FlushedAll, flushed_of, events_past}
 use Rattle.kahn_board.specs.Wires.{Wires}
-use Rattle.kahn_board.specs.Plays.{Carries, Sat, IsIn, SeesMore, gave, noted_view, paid_down}
+use Rattle.kahn_board.specs.Plays.{Carries, Sat, IsIn, SeesMore, after_giving_up, after_step, after_counting_down}
 use Rattle.kahn_board.specs.declared.view.View.{View}
 use Rattle.kahn_board.specs.declared.board.Draw.{Draw}
 use Rattle.kahn_board.specs.declared.board.Draw.TheVariants.{Got, Lost, Empty}
@@ -15,7 +15,7 @@ use Rattle.kahn_board.specs.declared.board.Seat.{Seat}
 
 -- it has no instance, drew n events and owes nothing, and each event that it told as done was told by a cell
 abbrev pub RestsWith : ℕ → View → Type 0
-RestsWith n v = (HoldsNothing v × (v.drawn ≡ n) × (v.owed ≡ []) × (v.down ≡ 0)) × (v.loose ≡ 0)
+RestsWith n v = (HoldsNothing v × (v.drawn ≡ n) × (v.owed ≡ []) × (v.down ≡ 0)) × (v.untold ≡ 0)
 
 abbrev pub Rests : View → Type 0
 Rests v = RestsWith 0 v
@@ -23,14 +23,14 @@ Rests v = RestsWith 0 v
 -- what is known of the instance p stays: what its channels' numbers are, what its cell told when it was got; and no less was seen
 pub record Knows (w : Wires) (p : ℕ) (old new : View) : Type 0 where
   pub flushed : (c : ℕ) → c < w.channels → w.writer c ≡ Some p → slice_index new.flushed c ≡ slice_index old.flushed c
-  pub got : slice_index new.got p ≡ slice_index old.got p
+  pub events_when_got : slice_index new.events_when_got p ≡ slice_index old.events_when_got p
   pub seen : SeesMore old.seen new.seen
 
 -- p told that k tokens of its channel c are published
 pub record HasPublished (w : Wires) (p c k : ℕ) (old new : View) : Type 0 where
   pub here : slice_index new.flushed c ≡ k
   pub others : (d : ℕ) → d ≢ c → d < w.channels → w.writer d ≡ Some p → slice_index new.flushed d ≡ slice_index old.flushed d
-  pub got : slice_index new.got p ≡ slice_index old.got p
+  pub events_when_got : slice_index new.events_when_got p ≡ slice_index old.events_when_got p
   pub seen : SeesMore old.seen new.seen
 
 module _ {T : Type 0} where
@@ -42,7 +42,7 @@ module _ {T : Type 0} where
     pub owed : m.0.owed ≡ []
     pub down : m.0.down ≡ 0
     pub drawn : m.0.drawn ≡ n
-    pub loose : m.0.loose ≡ l
+    pub untold : m.0.untold ≡ l
 
   -- between two instances of a turn, with n events of its draw left
   abbrev pub IsBetween : ℕ → Seat T → Type 0
@@ -61,34 +61,29 @@ module _ {T : Type 0} where
   IsSeatOf s t =
       (t.seat.table_id ≡ s.seat.table_id) × (t.seat.id ≡ s.seat.id) × (t.seat.me.0.parts ≡ s.seat.me.0.parts) × (t.seat.me.0.raised ≡ s.seat.me.0.raised)
 
-  -- the same seat, with the same parts, which halted the run once
-  abbrev pub HasHalted : Seat T → Seat T → Type 0
-  HasHalted s t =
-      (t.seat.table_id ≡ s.seat.table_id) × (t.seat.id ≡ s.seat.id) × (t.seat.me.0.parts ≡ s.seat.me.0.parts) × (t.seat.me.0.raised ≡ s.seat.me.0.raised + 1)
-
   -- p with its cell was set down ready, where the view was v
-  abbrev pub SetsReady : (T → Option Tale) → Seat T → View → Seat T → ℕ → Type 0
-  SetsReady told s v t p = (y : T) → Carries s.seat.me.1 p (Some y) → t.seat.me.0 ≡ gave v p (told y) 0
+  abbrev pub SetsReady : (T → Option Summary) → Seat T → View → Seat T → ℕ → Type 0
+  SetsReady told s v t p = (y : T) → Carries s.seat.me.1 p (Some y) → t.seat.me.0 ≡ after_giving_up v p (told y) 0
 
-module _ {T : Type 0} (told : T → Option Tale) (owns : ℕ → T → Type 0) (w : Wires) where
+module _ {T : Type 0} (told : T → Option Summary) (owns : ℕ → T → Type 0) (w : Wires) where
   -- the cell y of p may be left: what it tells as flushed is published, its events are those told as done, it flushed all that it sent unless the run is halted, it belongs to p
   pub record Fits (p : ℕ) (y : T) (v : View) : Type 0 where
     pub published : (c l : ℕ) → flushed_of (told y) c ≡ Some l → (c < w.channels) × (w.writer c ≡ Some p) × (l ≡ slice_index v.flushed c)
-    pub events : events_past (told y) (slice_index v.got p) ≡ slice_index v.got p + v.loose
-    pub flushed : (v.seen ≡ 2) ⊎ FlushedAll (told y)
+    pub events : events_past (told y) (slice_index v.events_when_got p) ≡ slice_index v.events_when_got p + v.untold
+    pub flushed : KnowsHalted v ⊎ FlushedAll (told y)
     pub belonging : owns p y
 
-module _ {T : Type 0} (told : T → Option Tale) (after : T → T → Type 0) (key : Terms T) where
+module _ {T : Type 0} (told : T → Option Summary) (after : T → T → Type 0) (key : Terms T) where
   -- p with its cell was parked, or is over: the seat owed a count down for it at a moment of the call, and paid it
   abbrev pub SetsStill : Seat T → Seat T → ℕ → Type 0
   SetsStill s t p = (y : T) → Carries s.seat.me.1 p (Some y) → (q : ℕ)
-      × Was told after key s (gave s.seat.me.0 p (told y) 1) (count_at (wired key)) q
-      × (t.seat.me.0 ≡ paid_down (gave s.seat.me.0 p (told y) 1))
+      × Was told after key s (after_giving_up s.seat.me.0 p (told y) 1) (count_at (wired key)) q
+      × (t.seat.me.0 ≡ after_counting_down (after_giving_up s.seat.me.0 p (told y) 1))
 
   -- p was set down ready, since other than k tokens of the channel c were published at a moment of the call
   abbrev pub SetsLate : ℕ → ℕ → Seat T → Seat T → ℕ → Type 0
   SetsLate c k s t p =
-      (r : ℕ) × (r / 2 ≢ k) × Was told after key s s.seat.me.0 (channel_at (wired key) c) r × SetsReady told s (noted_view s.seat.me.0) t p
+      (r : ℕ) × (r / 2 ≢ k) × Was told after key s s.seat.me.0 (channel_at (wired key) c) r × SetsReady told s (after_step s.seat.me.0) t p
 
   -- a turn of p begins: its cell is at home and may be left, n events are drawn, and none of them is told as done
   abbrev pub BeginsTurn : ℕ → ℕ → Seat T → Type 0
@@ -145,7 +140,7 @@ module _ {T : Type 0} where
 
   -- which has left
   abbrev pub IsDoneAt : TableId → Seat T → Type 0
-  IsDoneAt z s = (s.seat.table_id ≡ z) × IsBetweenTurns s × (s.seat.me.0.stage ≡ 1)
+  IsDoneAt z s = (s.seat.table_id ≡ z) × IsBetweenTurns s × IsDone s.seat.me.0
 
   -- which is the board's one seat
   abbrev pub IsLoneSeat : TableId → Seat T → Type 0

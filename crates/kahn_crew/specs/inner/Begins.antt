@@ -1,18 +1,7 @@
 -- Inner. A run before its next events, and what its workers are lent.
-use Rattle.std.specs.Prelude.{◌≡◌, ℕ, ◌+◌, ◌^◌, ◌<◌, false, List, length, Option, Some, slice_get, slice_index}
-use Rattle.kahn_streams.specs.declared.tree.Program.{Program}
+use Rattle.std.specs.Prelude.{◌≡◌, ◌+◌, ◌^◌, ◌<◌}
+use Rattle.kahn_crew.specs.inner.Words.{ℕ, false, List, length, Option, Some, slice_get, slice_index, Program, Writes, network_of, instance_at, actual_at, role_at, Lists, inputs_of, is_output, count, AreJoinedOn, IsDelivered, some, get_elem?, dealt, events_told, wired, Terms, Tasked}
 use Rattle.kahn_streams.specs.declared.tree.Role.TheVariants as role
-use Rattle.kahn_streams.specs.Network.{Writes, network_of, instance_at, actual_at, role_at}
-use Rattle.kahn_streams.specs.Inputs.{Lists, inputs_of}
-use Rattle.kahn_streams.specs.Answers.{is_output}
-use Rattle.kahn_code.specs.Standing.{count}
-use Rattle.kahn_job.specs.inner.Lanes.{AreJoinedOn}
-use Rattle.kahn_job.specs.inner.Works.{IsDelivered}
-use mathlib.Core.Option.{some}
-use lib.ListN.{get_elem?}
-use Rattle.kahn_board.specs.Dealt.{dealt, events_told, wired}
-use Rattle.kahn_board.specs.declared.rule.Terms.{Terms}
-use Rattle.kahn_job.specs.inner.Tasks.{Tasked}
 use Rattle.kahn_crew.specs.inner.Tasks.{task_rows, told_tale}
 
 -- the task is that of instance p, which may go on; all that it sent was flushed, and counts as published

@@ -1,17 +1,9 @@
 -- Inner. How the tasks of a run stand once all workers have left.
-use Rattle.std.specs.Prelude.{◌≡◌, ◌⊎◌, ℕ, ◌+◌, Bool, true, List, length, sum_by, Option, Some, slice_get}
-use Rattle.kahn_streams.specs.declared.tree.Program.{Program}
-use Rattle.kahn_streams.specs.declared.tree.Role.TheVariants.{Input}
-use Rattle.kahn_streams.specs.Network.{Reads, Writes, network_of, role_at}
-use Rattle.kahn_streams.specs.Inputs.{Lists, inputs_of}
-use Rattle.kahn_code.specs.Standing.{count}
-use Rattle.kahn_board.specs.Dealt.{events_told}
-use Rattle.kahn_board.specs.declared.rule.Terms.{Terms}
-use Rattle.kahn_crew.specs.inner.Begins.{AreReadyTasks, most_events}
+use Rattle.std.specs.Prelude.{◌≡◌, ◌⊎◌, ◌+◌}
+use Rattle.kahn_crew.specs.inner.Words.{ℕ, Bool, true, List, length, sum_by, Option, Some, slice_get, Program, Input, Reads, Writes, network_of, role_at, Lists, inputs_of, count, events_told, Terms, Tasked, Continues}
+use Rattle.kahn_crew.specs.inner.Begins.{AreReadyTasks}
 use Rattle.kahn_crew.specs.declared.left.Left.{Left}
-use Rattle.kahn_crew.specs.declared.plan.Plan.{Plan}
 use Rattle.kahn_job.specs.declared.standing.Standing.TheVariants as standing
-use Rattle.kahn_job.specs.inner.Tasks.{Tasked, Continues}
 use Rattle.kahn_crew.specs.inner.Tasks.{handed_to_task, is_over, told_tale}
 
 abbrev pub task_events : Tasked → ℕ
@@ -46,20 +38,9 @@ pub record AreUntouched (bound : ℕ) (first tasks : List Tasked) (budget : ℕ)
   pub unused : budget ≡ bound
   pub cells : (p : ℕ) (x y : Tasked) → slice_get first p ≡ Some x → slice_get tasks p ≡ Some y → y.work.cell ≡ x.work.cell
 
--- so after a run of which all workers have left
-pub record HaveLeft (t : Program) (lists : Lists) (watch : Option ℕ) (bound : ℕ) (tasks : List Tasked) (budget : ℕ) (halted : Bool) : Type 0 where
-  pub first : List Tasked
-  pub gone : HaveGone t lists watch bound first tasks budget
-  pub over : IsOver t lists tasks budget halted
-
--- what is left of a run by such a plan of tasks that were ready
-abbrev pub IsLeftBy : Program → Lists → Plan → List Tasked → Left → Type 0
-IsLeftBy t lists plan first left =
-    HaveGone t lists plan.watch (plan.bound + events_told told_tale first) first left.tasks.items left.budget
-
--- what is left of a board that was made with these terms
-abbrev pub IsLeftOf : Program → Lists → Option ℕ → Terms Tasked → Left → Type 0
-IsLeftOf t lists watch key left = HaveGone t lists watch (most_events key) key.cells.value.items left.tasks.items left.budget
+-- what is left of a run of tasks that were ready, of so many events more
+abbrev pub IsLeftOf : Program → Lists → Option ℕ → ℕ → List Tasked → Left → Type 0
+IsLeftOf t lists watch bound first left = HaveGone t lists watch (bound + events_told told_tale first) first left.tasks.items left.budget
 
 -- and nothing was done on it
 abbrev pub IsUntouched : Terms Tasked → Left → Type 0

@@ -1,15 +1,6 @@
 -- Inner. What a task tells the board.
-use Rattle.std.specs.Prelude.{◌≡◌, ℕ, suc, Bool, true, false, List, [], ◌∷◌, map, Option, Some, None, if◌then◌else◌, ◌==◌}
-use Rattle.kahn_streams.specs.Network.{Network, Actual, Reads, Writes, Hands, network_of, instance_at, actual_at, role_at}
-use Rattle.kahn_streams.specs.Answers.{is_output}
-use Rattle.kahn_code.specs.Standing.{count}
-use Rattle.kahn_job.specs.inner.Berths.{end_at}
-use Rattle.kahn_job.specs.inner.Ends.{End}
-use Rattle.kahn_job.specs.inner.Idles.{rows_of}
-use Rattle.kahn_job.specs.inner.Tasks.{Continues, Tasked}
-use Rattle.kahn_job.specs.inner.Works.{Work}
-use Rattle.kahn_board.specs.Tale.{Tale}
-use Rattle.kahn_job.specs.declared.standing.Standing.{Standing}
+use Rattle.std.specs.Prelude.{◌≡◌, if◌then◌else◌, ◌==◌}
+use Rattle.kahn_crew.specs.inner.Words.{ℕ, Bool, true, false, List, map, position, Option, Some, None, Network, Actual, Reads, Writes, Hands, network_of, instance_at, actual_at, role_at, is_output, count, end_at, End, rows_of, Continues, Tasked, Work, Summary, Standing}
 use Rattle.kahn_job.specs.declared.standing.Standing.TheVariants as standing
 
 abbrev pub work_of : Tasked → Work
@@ -39,20 +30,15 @@ abbrev pub is_channel : Option ℕ → ℕ → Bool
 is_channel None c = false
 is_channel (Some d) c = d == c
 
--- the number of the first one that passes, counted from q on
-abbrev pub first_that : (Actual → Bool) → List Actual → ℕ → Option ℕ
-first_that f [] q = None
-first_that f (a ∷ rest) q = if f a then Some q else first_that f rest (suc q)
-
 abbrev pub actuals_here : Work → List Actual
 actuals_here w = (instance_at (network_of w.cell.network) w.cell.instance).actuals
 
--- the parameter that reads the channel, and the one that writes it, where it is a channel between processes
+-- the parameter that reads the channel, and the one that writes it if it is a channel between processes
 abbrev pub reads_at : Work → ℕ → Option ℕ
-reads_at w c = first_that (λ a. is_channel (read_by a) c) (actuals_here w) 0
+reads_at w c = position (λ a. is_channel (read_by a) c) (actuals_here w)
 
 abbrev pub writes_at : Work → ℕ → Option ℕ
-writes_at w c = first_that (λ a. is_channel (written_by (network_of w.cell.network) a) c) (actuals_here w) 0
+writes_at w c = position (λ a. is_channel (written_by (network_of w.cell.network) a) c) (actuals_here w)
 
 abbrev pub count_on : List ℕ → Option ℕ → ℕ
 count_on xs None = 0
@@ -75,7 +61,7 @@ waits_on w standing.Ended = None
 waits_on w (standing.Faulted k) = None
 waits_on w (standing.Dry q) = read_by (handed_to_task w q)
 
-abbrev pub tale_of : Tasked → Tale
+abbrev pub tale_of : Tasked → Summary
 tale_of t = record {
   events = t.work.cell.events;
   has_ended = is_over t.standing;
@@ -84,7 +70,7 @@ tale_of t = record {
   wrote = λ c. wrote_by t.work (writes_at t.work c);
 }
 
-abbrev pub told_tale : Tasked → Option Tale
+abbrev pub told_tale : Tasked → Option Summary
 told_tale t = Some (tale_of t)
 
 -- the number of tokens published by each parameter that writes a channel between processes is the one that is known of the channel

@@ -1,31 +1,24 @@
 -- Inner. What a worker has between two turns and in a turn, how a task is set down, and what the workers of a run have together.
-use Rattle.std.specs.Prelude.{◌≡◌, ◌≢◌, ◌⊎◌, ℕ, ◌+◌, ◌*◌, ◌/◌, ◌^◌, ◌<◌, ◌≤◌, Bool, true, Option, None, Some, slice_index, false, List, length, slice_index_or, sum_by}
-use Rattle.atomic_table.specs.Seated.{TableId}
-use Rattle.kahn_board.specs.Calls.{Was}
-use Rattle.kahn_board.specs.Dealt.{belongs, wired}
-use Rattle.kahn_board.specs.Plays.{SeesMore}
-use Rattle.kahn_board.specs.Rule.{channel_at}
-use Rattle.kahn_board.specs.Tale.{TellsEnd, TellsWait}
+use Rattle.std.specs.Prelude.{◌≡◌, ◌≢◌, ◌⊎◌, ◌+◌, ◌*◌, ◌/◌, ◌^◌, ◌<◌, ◌≤◌}
+use Rattle.kahn_crew.specs.inner.Words.{ℕ, Bool, true, Option, None, Some, slice_index, false, List, length, slice_index_or, map, TableId, Was, belongs, wired, SeesMore, channel_at, TellsEnd, TellsWait, Seat, Terms, View, BeginsTurn, EndsTurn, HoldsInTurn, IsBetween, IsDoneAt, IsSeatOf, SetsStill, SitsAt, parts_of, raised_of, Continues, Tasked}
 use Rattle.kahn_board.specs.Wires.{Wires}
-use Rattle.kahn_board.specs.declared.board.Seat.{Seat}
-use Rattle.kahn_board.specs.declared.rule.Terms.{Terms}
-use Rattle.kahn_board.specs.declared.view.View.{View}
-use Rattle.kahn_board.specs.inner.Turn.{BeginsTurn, EndsTurn, HoldsInTurn, IsBetween, IsDoneAt, SetsStill, SitsAt}
 use Rattle.kahn_crew.specs.declared.run.Run.{Run}
 use Rattle.kahn_crew.specs.declared.worker.Worker.{Worker}
 use Rattle.kahn_crew.specs.declared.turn.Due.{Due}
 use Rattle.kahn_crew.specs.declared.turn.Due.TheVariants as due
 use Rattle.kahn_job.specs.declared.standing.Standing.TheVariants as standing
 use Rattle.kahn_crew.specs.inner.Begins.{IsTaskOf}
-use Rattle.kahn_job.specs.inner.Tasks.{Continues, Tasked}
 use Rattle.kahn_crew.specs.inner.Tasks.{AgreesWith, IsLater, told_tale}
 
 abbrev pub terms_of : Run → Terms Tasked
 terms_of run = run.board.now.table.shared.key
 
+abbrev pub table_id_of : Run → TableId
+table_id_of run = run.board.now.table.shared.table_id
+
 -- the seat is at the board of the run
 abbrev pub SitsIn : Run → Seat Tasked → Type 0
-SitsIn run s = s.seat.table_id ≡ run.board.now.table.shared.table_id
+SitsIn run s = s.seat.table_id ≡ table_id_of run
 
 -- between two instances of a turn, with n events of its draw left
 abbrev pub SitsWith : Run → ℕ → Seat Tasked → Type 0
@@ -34,7 +27,7 @@ SitsWith run n s = SitsIn run s × IsBetween n s
 -- a turn of p begins, with n events drawn: its task is at home and may be left
 abbrev pub HasTask : Run → ℕ → ℕ → Seat Tasked → Type 0
 HasTask run p n s =
-    SitsIn run s × (p < (wired (terms_of run)).instances) × (slice_index s.seat.me.0.got p + n < 2 ^ 48)
+    SitsIn run s × (p < (wired (terms_of run)).instances) × (slice_index s.seat.me.0.events_when_got p + n < 2 ^ 48)
     × BeginsTurn told_tale IsLater (terms_of run) p n s
 
 -- in a turn of p, with n events drawn: its task is x now, which did k of them, and is in the worker's hands; what it counts as
@@ -42,14 +35,14 @@ HasTask run p n s =
 pub record IsAtWork (run : Run) (p n k : ℕ) (x : Tasked) (s : Seat Tasked) : Type 0 where
   pub seated : SitsIn run s
   pub inside : p < (wired (terms_of run)).instances
-  pub few : slice_index s.seat.me.0.got p + n < 2 ^ 48
+  pub few : slice_index s.seat.me.0.events_when_got p + n < 2 ^ 48
   pub most : k ≤ n
   pub holds : HoldsInTurn p n 0 None s
-  pub events : x.work.cell.events ≡ slice_index s.seat.me.0.got p + k
+  pub events : x.work.cell.events ≡ slice_index s.seat.me.0.events_when_got p + k
   pub agrees : AgreesWith x.work x.published s.seat.me.0.flushed
   pub first : belongs Continues (terms_of run) p x
 
--- x is the task of the instance p of the run, and did so few events that their number fits
+-- x is the task of the instance p of the run, whose number of events fits
 abbrev pub IsTaskIn : Run → ℕ → Tasked → Type 0
 IsTaskIn run p x =
     (p < (wired (terms_of run)).instances) × IsTaskOf (terms_of run).network.value p x × (x.work.cell.events < 2 ^ 48)
@@ -58,23 +51,32 @@ IsTaskIn run p x =
 pub record StandsStill (s t : Seat Tasked) : Type 0 where
   pub holds : (p n l : ℕ) (x : Option Tasked) → HoldsInTurn p n l x s → HoldsInTurn p n l x t
   pub rests : (n : ℕ) → IsBetween n s → IsBetween n t
-  pub got : t.seat.me.0.got ≡ s.seat.me.0.got
+  pub events_when_got : t.seat.me.0.events_when_got ≡ s.seat.me.0.events_when_got
   pub flushed : t.seat.me.0.flushed ≡ s.seat.me.0.flushed
   pub seen : SeesMore s.seat.me.0.seen t.seat.me.0.seen
 
--- of whether memory was wanted and how often the run was halted, before and after: it was halted where memory was wanted, and nowhere else
+-- of whether memory was wanted and how often the run was halted, before and after: it was halted just if memory was wanted meanwhile
 abbrev pub RaisesAsWanted : Bool → ℕ → Bool → ℕ → Type 0
 RaisesAsWanted wanted j wants k = ((k ≡ j) × (wants ≡ wanted)) ⊎ ((j < k) × (wants ≡ true))
 
--- the same seat, with the same parts, which halted the run where its worker wanted memory, and nowhere else
-abbrev pub Heeds : Bool → Seat Tasked → Bool → Seat Tasked → Type 0
-Heeds wanted s wants t =
-    (t.seat.table_id ≡ s.seat.table_id) × (t.seat.id ≡ s.seat.id) × (t.seat.me.0.parts ≡ s.seat.me.0.parts)
-    × RaisesAsWanted wanted s.seat.me.0.raised wants t.seat.me.0.raised
+-- what each call of a worker keeps: it is the same worker at the same seat, which halted the run just if memory was refused to it
+abbrev pub Heeds : Worker → Worker → Type 0
+Heeds old new =
+    (new.seat.seat.table_id ≡ old.seat.seat.table_id) × (new.seat.seat.id ≡ old.seat.seat.id) × (new.seat.seat.me.0.parts ≡ old.seat.seat.me.0.parts)
+    × RaisesAsWanted old.hints.wanted old.seat.seat.me.0.raised new.hints.wanted new.seat.seat.me.0.raised × (new.start ≡ old.start)
+
+-- and of those calls that refuse nothing: it didn't halt the run either
+abbrev pub IsSameWorker : Worker → Worker → Type 0
+IsSameWorker old new = IsSeatOf old.seat new.seat × (new.hints.wanted ≡ old.hints.wanted) × (new.start ≡ old.start)
 
 -- the instance p wasn't ready at a moment at which the seat had such a view
 abbrev pub WasNotReady : Run → Seat Tasked → ℕ → Type 0
 WasNotReady run s p = (v : View) × (r : ℕ) × (r ≢ 0) × Was told_tale IsLater (terms_of run) s v (8 * p) r
+
+-- between two turns it picked an instance; or none, and then each wasn't ready at a moment of the call
+abbrev pub HasPicked : Run → Option ℕ → Worker → Worker → Type 0
+HasPicked run (Some p) old new = HasTask run p 0 new.seat
+HasPicked run None old new = SitsWith run 0 new.seat × ((p : ℕ) → p < run.board.now.instances → WasNotReady run old.seat p)
 
 -- the task of p may be set down so: it may go on; or it has ended; or it waits on the channel, which it reads
 abbrev pub IsDue : Wires → ℕ → Tasked → Due → Type 0
@@ -94,7 +96,7 @@ IsSetDown run p (due.Waits c k) s t =
     SetsStill told_tale IsLater (terms_of run) s t p
     ⊎ ((r : ℕ) × (r / 2 ≢ k) × Was told_tale IsLater (terms_of run) s s.seat.me.0 (channel_at (wired (terms_of run)) c) r)
 
--- it did its work; or it quit, where one couldn't be started
+-- it did its work; or it quit, if one couldn't be started
 abbrev pub Went : {A : Type 0} → Bool → (A → A → Type 0) → (A → A → Type 0) → A → A → Type 0
 Went refused did quit old new = did old new ⊎ ((refused ≡ true) × quit old new)
 
@@ -106,25 +108,36 @@ AllWent {A} did old new = (i : ℕ) (d : A) → i < length old → did (slice_in
 abbrev pub OneWent : {A : Type 0} → (A → A → Type 0) → List A → List A → Type 0
 OneWent {A} did old new = (i : ℕ) × (i < length old) × ((d : A) → did (slice_index_or old i d) (slice_index_or new i d))
 
+abbrev pub seat_of : Worker → Seat Tasked
+seat_of w = w.seat
+
 abbrev pub crew_parts : List Worker → ℕ
-crew_parts workers = sum_by (λ w. w.seat.seat.me.0.parts) workers
+crew_parts workers = parts_of (map seat_of workers)
 
 -- how often they halted the run
 abbrev pub crew_raised : List Worker → ℕ
-crew_raised workers = sum_by (λ w. w.seat.seat.me.0.raised) workers
+crew_raised workers = raised_of (map seat_of workers)
 
--- it halted the run where it wanted memory, and nowhere else
+-- it is true just if the number isn't 0
+abbrev pub IsTrueIfAny : Bool → ℕ → Type 0
+IsTrueIfAny b n = (0 < n → b ≡ true) × (b ≡ true → 0 < n)
+
+-- it halted the run just if memory was refused to it
 abbrev pub HasCause : Worker → Type 0
-HasCause w = (0 < w.seat.seat.me.0.raised → w.hints.wanted ≡ true) × (w.hints.wanted ≡ true → 0 < w.seat.seat.me.0.raised)
+HasCause w = IsTrueIfAny w.hints.wanted w.seat.seat.me.0.raised
 
--- the worker has a seat at the board, is between two turns, and wanted no memory yet
-abbrev pub HasSeat : TableId → Worker → Type 0
-HasSeat z w = SitsAt z w.seat × (w.hints.wanted ≡ false)
+-- it was refused no memory yet
+abbrev pub WantsNone : Worker → Type 0
+WantsNone w = w.hints.wanted ≡ false
+
+-- and has a seat at the board of the run, between two turns
+abbrev pub HasSeat : Run → Worker → Type 0
+HasSeat run w = SitsAt (table_id_of run) w.seat × WantsNone w
 
 -- and it has left
-abbrev pub HasGone : TableId → Worker → Type 0
-HasGone z w = IsDoneAt z w.seat
+abbrev pub HasGone : Run → Worker → Type 0
+HasGone run w = IsDoneAt (table_id_of run) w.seat
 
 -- and it halted the run
-abbrev pub HasQuit : TableId → Worker → Worker → Type 0
-HasQuit z old new = HasGone z new × (new.seat.seat.me.0.parts ≡ old.seat.seat.me.0.parts) × (0 < new.seat.seat.me.0.raised)
+abbrev pub HasQuit : Run → Worker → Worker → Type 0
+HasQuit run old new = HasGone run new × (new.seat.seat.me.0.parts ≡ old.seat.seat.me.0.parts) × (0 < new.seat.seat.me.0.raised)

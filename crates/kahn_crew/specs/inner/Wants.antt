@@ -1,8 +1,8 @@
 -- Inner. Why the workers of a run leave nothing (this project's profile).
-use Rattle.std.specs.Prelude.{ℕ, ◌<◌}
+use Rattle.std.specs.Prelude.{◌<◌}
+use Rattle.kahn_crew.specs.inner.Words.{ℕ, RunFault}
 use Rattle.kahn_crew.specs.declared.fault.CrewFault.{CrewFault}
 use Rattle.kahn_crew.specs.declared.fault.CrewFault.TheVariants as fault
-use Rattle.kahn_streams.specs.declared.fault.RunFault.{RunFault}
 use Rattle.kahn_streams.specs.declared.fault.RunFault.TheVariants as run
 
 -- memory was wanting, or a thread for one of several workers: one works in the caller's

@@ -1,15 +1,7 @@
 -- Inner. What contracts see of the ends of an instance's channels.
-use Rattle.std.specs.Prelude.{◌≡◌, ◌⊎◌, ℕ, ◌<◌, ◌≤◌, true, false, List, length, map, None, Some, slice_index_or}
-use Rattle.std.specs.Coded.{Unit-prop}
-use Rattle.std.proofs.Props.{props}
-use Rattle.kahn_streams.specs.declared.tree.Program.{Program}
-use Rattle.kahn_streams.specs.declared.tree.Role.TheVariants.{Input}
-use Rattle.kahn_streams.specs.Network.{Actual, Reads, Writes, Hands, network_of, instance_at, actual_at, role_at}
-use Rattle.kahn_streams.specs.Inputs.{Lists, inputs_of}
-use Rattle.kahn_streams.specs.Answers.{is_output}
-use Rattle.kahn_lane.specs.declared.name.LaneName.{LaneName}
-use Rattle.kahn_lane.specs.Places.{lane_name, name-prop}
-use Rattle.kahn_job.specs.inner.Ends.{End, Identity, IsSame, IsReady, IsFlushed, identity_of}
+use Rattle.std.specs.Prelude.{◌≡◌, ◌⊎◌, ◌<◌, ◌≤◌}
+use Rattle.kahn_job.specs.inner.Words.{ℕ, true, false, List, length, map, None, Some, slice_index_or, Unit-prop, props, Program, Input, Actual, Reads, Writes, Hands, network_of, instance_at, actual_at, role_at, Lists, inputs_of, is_output, LaneName, lane_name, name-prop}
+use Rattle.kahn_job.specs.inner.Ends.{End, Identity, IsSame, IsReady, identity_of}
 use Rattle.kahn_job.specs.inner.Ways.{no_end}
 
 abbrev pub end_at : List End → ℕ → End
@@ -68,7 +60,3 @@ pub record HasFlushed (old new : End) : Type 0 where
 pub record HaveFlushed (old new : List End) : Type 0 where
   pub count : length new ≡ length old
   pub each : (q : ℕ) → HasFlushed (end_at old q) (end_at new q)
-
--- on each channel what was put was flushed
-abbrev pub AreFlushed : List End → Type 0
-AreFlushed ends = (q : ℕ) → IsFlushed (end_at ends q)

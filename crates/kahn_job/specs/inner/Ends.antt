@@ -1,9 +1,6 @@
 -- Inner. What contracts see of the end of a channel that a parameter has.
-use Rattle.std.specs.Prelude.{◌≡◌, ◌⊎◌, ℕ, ◌+◌, ◌<◌, ◌≤◌, Bool, true, Option, Some}
-use Rattle.std.specs.declared.alloc.Global.{Global}
-use Rattle.kahn_streams.specs.declared.tree.Program.{Program}
-use Rattle.kahn_streams.specs.Inputs.{Lists}
-use Rattle.kahn_lane.specs.Places.{Named}
+use Rattle.std.specs.Prelude.{◌≡◌, ◌⊎◌, ◌+◌, ◌<◌, ◌≤◌}
+use Rattle.kahn_job.specs.inner.Words.{ℕ, Bool, true, Option, Some, Global, Program, Lists, Named}
 
 -- which lane it is an end of
 abbrev pub Lane : Type 0

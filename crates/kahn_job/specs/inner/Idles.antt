@@ -1,11 +1,6 @@
 -- Inner. Jobs on which nobody works.
-use Rattle.std.specs.Prelude.{◌≡◌, ℕ, false, List, [], length, map, Some, slice_get, slice_index_or}
-use Rattle.kahn_streams.specs.declared.tree.Program.{Program}
-use Rattle.kahn_streams.specs.Network.{Writes, network_of, instance_at, actual_at, role_at}
-use Rattle.kahn_streams.specs.Solution.{AreInputsExtended}
-use Rattle.kahn_streams.specs.Inputs.{Lists, inputs_of}
-use Rattle.kahn_streams.specs.Answers.{is_output}
-use Rattle.kahn_code.specs.Told.{Told, IsAt}
+use Rattle.std.specs.Prelude.{◌≡◌}
+use Rattle.kahn_job.specs.inner.Words.{ℕ, false, List, [], length, map, Some, slice_get, slice_index_or, Program, Writes, network_of, instance_at, actual_at, role_at, AreInputsExtended, Lists, inputs_of, is_output, Told, IsAt}
 use Rattle.kahn_job.specs.inner.Ends.{End, IsFlushed}
 use Rattle.kahn_job.specs.inner.Berths.{AreServed, end_at}
 use Rattle.kahn_job.specs.inner.Lanes.{AreJoinedOn, HaveStayed, end_in}

@@ -1,7 +1,6 @@
 -- Inner. The ends of all instances, and the two of each channel.
-use Rattle.std.specs.Prelude.{◌≡◌, ℕ, ◌<◌, List, [], length, slice_index_or}
-use Rattle.kahn_streams.specs.Network.{Network, Reads, Writes, instance_at, actual_at}
-use Rattle.kahn_streams.specs.declared.sides.Side.{Side}
+use Rattle.std.specs.Prelude.{◌≡◌, ◌<◌}
+use Rattle.kahn_job.specs.inner.Words.{ℕ, List, [], length, slice_index_or, Network, Reads, Writes, instance_at, actual_at, Side}
 use Rattle.kahn_job.specs.inner.Ends.{End, IsBehind, ShareLane}
 use Rattle.kahn_job.specs.inner.Berths.{HasStayed, end_at}
 

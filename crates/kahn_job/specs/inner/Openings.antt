@@ -1,13 +1,6 @@
 -- Inner. Jobs before their first event.
-use Rattle.std.specs.Prelude.{◌≡◌, ℕ, ◌<◌, true, List, [], length, replicate, Option, None, Some, slice_get, slice_set, slice_index_or}
-use Rattle.kahn_streams.specs.declared.tree.Program.{Program}
-use Rattle.kahn_streams.specs.declared.sides.Side.{Side}
-use Rattle.kahn_streams.specs.declared.tree.Role.TheVariants.{Inner, Input, Output}
-use Rattle.kahn_streams.specs.Network.{network_of, instance_at, actual_at, role_at}
-use Rattle.kahn_streams.specs.Inputs.{Lists}
-use Rattle.kahn_code.specs.Lines.{Joins}
-use Rattle.kahn_code.specs.Told.{Told}
-use Rattle.kahn_lane.specs.Places.{lane_name}
+use Rattle.std.specs.Prelude.{◌≡◌, ◌<◌}
+use Rattle.kahn_job.specs.inner.Words.{ℕ, true, List, [], length, replicate, Option, None, Some, slice_get, slice_set, slice_index_or, Program, Side, Inner, Output, Reads, network_of, instance_at, actual_at, role_at, Lists, Joins, Told, lane_name}
 use Rattle.kahn_job.specs.inner.Ends.{End, ShareLane}
 use Rattle.kahn_job.specs.inner.Idles.{AreIdle, HaveSettled, rows_of}
 use Rattle.kahn_job.specs.inner.Lanes.{AreJoinedOn, end_in}
@@ -22,8 +15,7 @@ IsFresh e = (e.next ≡ 0) × (e.flushed ≡ 0)
 -- the two ends of a channel, the writer's and the reader's
 pub record AreEndsOf (t : Program) (lists : Lists) (c : ℕ) (writer reader : End) : Type 0 where
   pub puts : role_at (network_of t) c ≡ Inner → (writer.writes ≡ true) × (writer.name ≡ Some (lane_name t lists c))
-  pub takes : (role_at (network_of t) c ≡ Output → ⊥) → (reader.reads ≡ true) × (reader.name ≡ Some (lane_name t lists c))
-  pub feeds : role_at (network_of t) c ≡ Input → reader.lane ≡ None
+  pub takes : (role_at (network_of t) c ≡ Output → ⊥) → Serves t lists (Reads c) reader
   -- they are the ends of one lane
   pub lane : role_at (network_of t) c ≡ Inner → ShareLane writer reader
   pub new_writer : IsFresh writer

@@ -1,18 +1,7 @@
 -- Inner. The ends of channels go on with an input that has grown.
-use Rattle.std.specs.Prelude.{◌≡◌, ◌⊎◌, ℕ, ◌≤◌, true, false, List, [], length, None, Some, slice_index_or, Result, MatchResult}
-use Rattle.kahn_streams.specs.declared.tree.Program.{Program}
-use Rattle.kahn_streams.specs.declared.sides.Side.{Side}
-use Rattle.kahn_streams.specs.declared.tree.Role.TheVariants.{Input}
-use Rattle.kahn_streams.specs.Wiring.{side_at}
-use Rattle.kahn_streams.specs.Network.{Actual, Reads, Writes, Hands, network_of, instance_at, actual_at, role_at}
-use Rattle.kahn_streams.specs.Solution.{AreInputsExtended}
-use Rattle.kahn_streams.specs.Inputs.{Lists, inputs_of}
-use Rattle.kahn_streams.specs.Answers.{is_output}
-use Rattle.kahn_code.specs.Lines.{Joins}
-use Rattle.kahn_lane.specs.declared.name.LaneName.{LaneName}
-use Rattle.kahn_lane.specs.Places.{lane_name, moved_to}
-use Rattle.kahn_lane.specs.inner.Settles.{IsGrown}
-use Rattle.kahn_job.specs.inner.Ends.{End, IsFlushed, ShareLane}
+use Rattle.std.specs.Prelude.{◌≡◌, ◌⊎◌, ◌≤◌}
+use Rattle.kahn_job.specs.inner.Words.{ℕ, true, false, List, [], length, None, Some, slice_index_or, Result, MatchResult, Program, Side, Input, side_at, Actual, Reads, Writes, Hands, network_of, instance_at, actual_at, role_at, AreInputsExtended, Lists, inputs_of, is_output, Joins, LaneName, lane_name, moved_to, IsGrown}
+use Rattle.kahn_job.specs.inner.Ends.{End, IsFlushed, MayMeet, ShareLane}
 use Rattle.kahn_job.specs.inner.Lanes.{AreJoinedOn, end_in, end_of_side}
 
 -- it has become an end of what the name says: it stands where it stood, and what was put is flushed
@@ -77,9 +66,7 @@ HaveStood old new = (p q : ℕ) → HasStood (end_in old p q) (end_in new p q)
 
 -- they are the two ends of a lane, for an input whose lists begin those of this one
 pub record CanSettle (lists : Lists) (writer reader : End) : Type 0 where
-  pub writes : writer.writes ≡ true
-  pub reads : reader.reads ≡ true
-  pub lane : ShareLane writer reader
+  pub ends : MayMeet writer reader
   pub grown : (n : LaneName) × (writer.name ≡ Some n) × IsGrown n lists
 
 -- it is the end of an input channel, for such an input
@@ -96,18 +83,14 @@ BothSettle name writer reader sender receiver = HasSettled name writer sender ×
 pub record HaveExchanged (lists : Lists) (writer reader : Side) (old new : List (List End)) : Type 0 where
   pub elsewhere : AreElsewhere (λ s. (s ≡ writer) ⊎ (s ≡ reader)) old new
   pub lane : ShareLane (end_of_side new writer) (end_of_side new reader)
-  pub writes : (n : LaneName) → (end_of_side old writer).name ≡ Some n → HasSettled (moved_to lists n) (end_of_side old writer) (end_of_side new writer)
-  pub reads : (n : LaneName) → (end_of_side old writer).name ≡ Some n → HasSettled (moved_to lists n) (end_of_side old reader) (end_of_side new reader)
+  pub both : (n : LaneName) → (end_of_side old writer).name ≡ Some n →
+      BothSettle (moved_to lists n) (end_of_side old writer) (end_of_side old reader) (end_of_side new writer) (end_of_side new reader)
 
 -- the end of the input channel has settled
 pub record HasExchanged (lists : Lists) (reader : Side) (old new : List (List End)) : Type 0 where
   pub elsewhere : AreElsewhere (λ s. s ≡ reader) old new
   pub reads : (n : LaneName) → (end_of_side old reader).name ≡ Some n → HasSettled (moved_to lists n) (end_of_side old reader) (end_of_side new reader)
 
--- all are as they were
-abbrev pub AreAlike : List (List End) → List (List End) → Type 0
-AreAlike = AreElsewhere (λ s. ⊥)
-
--- it goes so, or where memory was refused the ends are the same
+-- it goes so, or where memory was refused all ends are as they were
 abbrev pub GoesOrStays : {A E : Type 0} → Result A E → (List (List End) → List (List End) → Type 0) → List (List End) → List (List End) → Type 0
-GoesOrStays result goes old new = MatchResult result (λ _. goes old new) (λ _. AreAlike old new)
+GoesOrStays result goes old new = MatchResult result (λ _. goes old new) (λ _. AreElsewhere (λ s. ⊥) old new)

@@ -1,15 +1,8 @@
 -- Inner. What contracts see of a task: a job on its way, with what the workers have to know of it.
-use Rattle.std.specs.Prelude.{◌≡◌, ◌≤◌, ℕ, List, length, Some}
-use Rattle.kahn_streams.specs.Network.{network_of}
-use Rattle.kahn_streams.specs.Inputs.{Lists, inputs_of}
-use Rattle.kahn_streams.specs.Meaning.{Store}
-use Rattle.kahn_streams.specs.Script.{Outcome, Dry as IsDryAt}
+use Rattle.std.specs.Prelude.{◌≡◌, ◌≤◌}
+use Rattle.kahn_job.specs.inner.Words.{ℕ, List, length, Some, network_of, Lists, inputs_of, Store, Outcome, Dry as IsDryAt, ending, Pause, Paused, told_view}
 use Rattle.kahn_streams.specs.Solution as end
-use Rattle.kahn_streams.specs.Solution.{ending}
-use Rattle.kahn_code.specs.declared.progress.Pause.{Pause}
 use Rattle.kahn_code.specs.declared.progress.Pause.TheVariants as pause
-use Rattle.kahn_code.specs.Progress.{Paused}
-use Rattle.kahn_code.specs.Told.{told_view}
 use Rattle.kahn_job.specs.declared.standing.Standing.{Standing}
 use Rattle.kahn_job.specs.declared.standing.Standing.TheVariants as standing
 use Rattle.kahn_job.specs.inner.Berths.{HaveAdvanced}
@@ -42,9 +35,7 @@ HasStanding w s =
 -- where it has one, the standing is that of the process
 abbrev pub IsTrueOf : Work → Standing → Type 0
 IsTrueOf w standing.Going = Unit {0}
-IsTrueOf w standing.Ended = HasStanding w standing.Ended
-IsTrueOf w (standing.Faulted k) = HasStanding w (standing.Faulted k)
-IsTrueOf w (standing.Dry q) = HasStanding w (standing.Dry q)
+IsTrueOf w s = HasStanding w s
 
 -- what is so of a task of instance p at all times
 pub record IsTask (p : ℕ) (w : Work) (s : Standing) (published : List ℕ) : Type 0 where
@@ -53,13 +44,9 @@ pub record IsTask (p : ℕ) (w : Work) (s : Standing) (published : List ℕ) : T
   pub says : IsTrueOf w s
   pub each : length published ≡ width_of w
 
--- the task of a job that may go on, of which all that it sent is published
-abbrev pub ready_task : Work → Tasked
-ready_task w = record { work = w; standing = standing.Going; published = w.cell.sent }
-
--- the task of an idle job that goes on with this input
+-- the task of an idle job that goes on with this input, of which all that it sent is published
 abbrev pub woken_task : Lists → Work → Tasked
-woken_task lists w = ready_task (grown_work lists w)
+woken_task lists w = record { work = grown_work lists w; standing = standing.Going; published = w.cell.sent }
 
 -- the second continues the first: of the same instance of the same network and input, with the same ends; and where it did
 -- no event, its cell is as it was

@@ -1,31 +1,13 @@
 -- Inner. What is seen of an end, by what it does.
-use Rattle.std.specs.Prelude.{◌-◌, ℕ, true, false, length, Some, None}
-use Rattle.std.specs.declared.alloc.Global.{Global}
-use Rattle.kahn_streams.specs.Inputs.{inputs_of}
-use Rattle.kahn_lane.specs.declared.segments.Sender.{Sender}
-use Rattle.kahn_lane.specs.declared.segments.Receiver.{Receiver}
-use Rattle.kahn_lane.specs.LaneEnds.{sender_lane, receiver_lane, sender_name, receiver_name, flushed, sent, filled, capacity, received, waiting, heard, left}
-use Rattle.kahn_lane.specs.Places.{lane_name}
+use Rattle.std.specs.Prelude.{◌-◌}
+use Rattle.kahn_job.specs.inner.Words.{ℕ, true, false, length, Some, None, Global, inputs_of, Sender, Receiver, sender_lane, receiver_lane, sender_name, receiver_name, flushed, sent, filled, capacity, received, waiting, heard, left, lane_name}
 use Rattle.kahn_job.specs.inner.Ends.{End, Feeding}
 use Rattle.kahn_job.specs.declared.port.Way.{Way}
 use Rattle.kahn_job.specs.declared.port.Way.TheVariants as way
 
 -- no end
 abbrev pub no_end : End
-no_end = record {
-  reads = false;
-  writes = false;
-  lane = None;
-  name = None;
-  next = 0;
-  waiting = 0;
-  known = 0;
-  left = 0;
-  asked = 0;
-  flushed = 0;
-  filled = 0;
-  capacity = 0;
-}
+no_end = record { reads = false; writes = false; lane = None; name = None; next = 0; waiting = 0; known = 0; left = 0; asked = 0; flushed = 0; filled = 0; capacity = 0 }
 
 -- the reader's end of a lane, and how many segments it knew to have left when it was last asked
 abbrev pub taking : Receiver Global → ℕ → End

@@ -1,12 +1,6 @@
 -- Inner. What contracts see of a job: a cell with the ends of its channels.
-use Rattle.std.specs.Prelude.{◌≡◌, ℕ, ◌+◌, ◌<◌, false, List, length}
-use Rattle.kahn_streams.specs.Network.{Writes, network_of, instance_at, actual_at, role_at}
-use Rattle.kahn_streams.specs.Inputs.{Lists, inputs_of}
-use Rattle.kahn_code.specs.declared.progress.Pause.{Pause}
-use Rattle.kahn_streams.specs.Answers.{is_output}
-use Rattle.kahn_code.specs.Progress.{Paused, IsPause}
-use Rattle.kahn_code.specs.Standing.{count}
-use Rattle.kahn_code.specs.Told.{Told, IsAt, told_view}
+use Rattle.std.specs.Prelude.{◌≡◌, ◌+◌, ◌<◌}
+use Rattle.kahn_job.specs.inner.Words.{ℕ, false, List, length, Writes, network_of, instance_at, actual_at, role_at, Lists, inputs_of, Pause, is_output, Paused, IsPause, count, Told, IsAt, told_view}
 use Rattle.kahn_job.specs.inner.Ends.{End, IsDry, IsReady}
 use Rattle.kahn_job.specs.inner.Berths.{AreServed, end_at}
 

@@ -1,18 +1,10 @@
 -- Inner. A run over cells.
-use Rattle.std.specs.Prelude.{◌≡◌, ◌⊎◌, ℕ, ◌+◌, ◌<◌, ◌≤◌, Bool, true, false, List, length, map, sum_by, Option, Some, slice_get, slice_set, cond, min}
+use Rattle.std.specs.Prelude.{◌≡◌, ◌⊎◌, ℕ, ◌+◌, ◌<◌, ◌≤◌, Bool, true, false, List, length, map, sum_by, Option, Some, slice_get, slice_set}
 use Rattle.kahn_streams.specs.Script as script
-use Rattle.kahn_streams.specs.Script.{Dry, Cut}
-use Rattle.kahn_streams.specs.Meaning.{Store}
+use Rattle.kahn_pool.specs.inner.Below.{StoodBy, exec_on, Bound, Cut, Dry, End, Finished, Inputs, Line, Memory, More, Network, Pause, Paused, Reads, Store, Stream, Verdict, View, actual_at, ending, instance_at, source, stream_line}
 use Rattle.kahn_streams.specs.Solution as net
-use Rattle.kahn_streams.specs.Network.{Network, Reads, instance_at, actual_at}
-use Rattle.kahn_streams.specs.Solution.{Inputs, source, ending}
-use Rattle.kahn_code.specs.declared.progress.Pause.{Pause}
 use Rattle.kahn_code.specs.declared.progress.Pause.TheVariants as pause
-use Rattle.kahn_code.specs.Cells.{View}
-use Rattle.kahn_code.specs.Progress.{Paused}
-use Rattle.kahn_streams.specs.declared.{answer.End.End, answer.Outcome.TheVariants.More, answer.Verdict.Verdict, answer.Stream.Stream, answer.Verdict.TheVariants.Finished, answer.Verdict.TheVariants.Bound, answer.Verdict.TheVariants.Memory, value.Line.Line}
-use Rattle.kahn_pool.specs.inner.Gathered.{view_at, TookAll, TookNoMore, HasUntaken, EndsWith, IsFrom}
-use Rattle.kahn_streams.specs.Answers.{stream_line}
+use Rattle.kahn_pool.specs.inner.Gathered.{view_at, TookAll, TookNoMore, HasUntaken, IsOutcomeOf, IsFrom}
 
 pub record RunState : Type 0 where
   pub network : Network
@@ -36,13 +28,9 @@ IsPaused s p pause.NoMemory o = o ≡ Cut
 abbrev pub PausedAt : RunState → ℕ → Pause → Type 0
 PausedAt s p z = Paused s.network s.input s.watch p (view_at s.cells p) (IsPaused s p z)
 
--- of the same network and input, with the same channel watched
-abbrev pub IsSameRun : RunState → RunState → Type 0
-IsSameRun s t = (t.network ≡ s.network) × (t.input ≡ s.input) × (t.watch ≡ s.watch)
-
 -- the cell of p was run for at most so many events, and paused so
 pub record HasRunCell (s t : RunState) (p quantum : ℕ) (z : Pause) : Type 0 where
-  pub same : IsSameRun s t
+  pub same : (t.network ≡ s.network) × (t.input ≡ s.input) × (t.watch ≡ s.watch)
   pub known : length t.cells ≡ length t.network.instances
   -- the other cells are left as they are
   pub only : t.cells ≡ slice_set s.cells p (view_at t.cells p)
@@ -53,8 +41,11 @@ pub record HasRunCell (s t : RunState) (p quantum : ℕ) (z : Pause) : Type 0 wh
   pub spent : z ≡ pause.Spent → events_at t p ≡ events_at s p + quantum
   pub wanted : z ≡ pause.NoMemory → events_at t p < events_at s p + quantum
 
-abbrev pub HasEndIn : RunState → ℕ → End → Type 0
-HasEndIn s p x = EndsWith s.network s.input s.watch s.cells p x
+-- the cell of p stands so, and x is its end
+pub record HasEndIn (s : RunState) (p : ℕ) (x : End) : Type 0 where
+  pub stood : StoodBy s.network s.input s.watch p (view_at s.cells p)
+  pub count : x.events ≡ (view_at s.cells p).events
+  pub told : IsOutcomeOf s.network s.input s.cells p (exec_on s.network (view_at s.cells p).events p stood.tapes).outcome x.outcome
 
 -- where memory was refused, so much is left of the bound and some instance stands where it paused for want of memory
 abbrev pub LacksMemory : RunState → ℕ → Bool → Type 0
@@ -69,34 +60,10 @@ view_events v = v.events
 abbrev pub all_events : RunState → ℕ
 all_events s = sum_by view_events s.cells
 
--- how much there is to do: it falls with each event, and where memory is wanted for the first time
-abbrev pub weight : ℕ → Bool → ℕ
-weight left memory = left + cond memory 0 1
-
 -- each end is that of its instance, which wants more only where it may not go on
 abbrev pub AreEnds : RunState → ℕ → Bool → List End → Type 0
 AreEnds s left memory ends =
     (p : ℕ) (x : End) → slice_get ends p ≡ Some x → HasEndIn s p x × (x.outcome ≡ More → (left ≡ 0) ⊎ (memory ≡ true))
-
--- a round from s0 with so much to do and so many events in all, at instance k
-pub record Goes (s0 : RunState) (w0 t0 : ℕ) (s : RunState) (left : ℕ) (memory moved : Bool) (ends : List End) (k : ℕ) : Type 0 where
-  pub known : length s.cells ≡ length s.network.instances
-  pub total : all_events s + left ≡ t0
-  pub size : length ends ≡ k
-  pub still : moved ≡ false → AreEnds s left memory ends
-  pub falls : moved ≡ true → weight left memory < w0
-  pub rises : weight left memory ≤ w0
-  pub lacks : LacksMemory s left memory
-
--- how a round is marked after so many events and this pause
-abbrev pub Marked : Pause → ℕ → Bool → Bool → Bool → Bool → Type 0
-Marked z done memory moved memory' moved' =
-    ((z ≡ pause.NoMemory) × (memory' ≡ true) × (moved' ≡ true)) ⊎
-    ((z ≡ pause.NoMemory → ⊥) × (memory' ≡ memory) × (((0 < done) × (moved' ≡ true)) ⊎ ((done ≡ 0) × (moved' ≡ moved))))
-
--- how many events an instance may do in its turn: none once memory was refused, else its share, or what is left where that is less
-abbrev pub turn_of : ℕ → ℕ → Bool → ℕ
-turn_of share left memory = cond memory 0 (min share left)
 
 -- after the last round: with so many events and so much left in all, each end is that of its instance
 pub record IsLast (s : RunState) (t0 left : ℕ) (memory : Bool) (xs : List End) : Type 0 where

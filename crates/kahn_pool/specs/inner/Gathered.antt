@@ -1,14 +1,8 @@
 -- Inner. Cells at rest, and the answer that is put together from them.
-use Rattle.std.specs.Prelude.{◌≡◌, ◌⊎◌, ℕ, ◌<◌, ◌≤◌, List, [], length, map, sum_by, Option, Some, slice_get, slice_index_or, true}
-use Rattle.kahn_streams.specs.declared.{value.Line.Line, value.Line.TheVariants.Channel, value.Line.TheVariants.Print, answer.Answer.Answer, answer.Stream.Stream, answer.End.End, token.Token.Token, answer.Verdict.Verdict, answer.Verdict.TheVariants.Finished, answer.Verdict.TheVariants.Bound, answer.Outcome.Outcome, answer.Outcome.TheVariants.Ended, answer.Outcome.TheVariants.Waits, answer.Outcome.TheVariants.Faulted, answer.Outcome.TheVariants.More}
+use Rattle.std.specs.Prelude.{◌≡◌, ◌⊎◌, ℕ, ◌<◌, ◌≤◌, List, [], length, Option, Some, slice_index_or, true}
+use Rattle.kahn_pool.specs.inner.Below.{AreKeptTokens, Channel, Cut, Dry, Ended, Faulted, Given, Inputs, Line, More, Network, Nobody, Outcome, Print, Reads, Source, Store, Token, View, Waits, Writes, Written, actual_at, ending, instance_at, is_streamed, source}
 use Rattle.kahn_streams.specs.Script as script
-use Rattle.kahn_streams.specs.Script.{Dry, Cut}
-use Rattle.kahn_streams.specs.Meaning.{Store}
 use Rattle.kahn_streams.specs.Solution as net
-use Rattle.kahn_streams.specs.Network.{Network, Reads, Writes, instance_at, actual_at, Source, Given, Written, Nobody}
-use Rattle.kahn_streams.specs.Solution.{Inputs, source, ending}
-use Rattle.kahn_code.specs.Cells.{StoodBy, View, AreKeptTokens, exec_on, is_streamed}
-use Rattle.kahn_streams.specs.Answers.{stream_line, end_events, stream_lines, HasStream}
 
 abbrev pub no_view : View
 no_view = record { events = 0; taken = λ q. 0; sent = λ q. 0; kept = λ q. []; printed = [] }
@@ -43,39 +37,10 @@ IsOutcomeOf N I cells p o (Faulted k) = ending o ≡ Some (net.Faulted k)
 IsOutcomeOf N I cells p o (Waits c) = (q : ℕ) × (actual_at (instance_at N p) q ≡ Reads c) × (o ≡ Dry q) × TookAll N I cells p q c
 IsOutcomeOf N I cells p o More = (o ≡ Cut) ⊎ HasUntaken N I cells p o
 
--- the cell of p stands so, and x is its end
-pub record EndsWith (N : Network) (I : Inputs) (watch : Option ℕ) (cells : List View) (p : ℕ) (x : End) : Type 0 where
-  pub stood : StoodBy N I watch p (view_at cells p)
-  pub count : x.events ≡ (view_at cells p).events
-  pub told : IsOutcomeOf N I cells p (exec_on N (view_at cells p).events p stood.tapes).outcome x.outcome
-
 -- these tokens are the stream of line c: what its writer kept, or the input's list
 abbrev pub IsFrom : Network → Inputs → Option ℕ → List View → Source → Line → List Token → Type 0
 IsFrom N I watch cells Given (Channel c) ts = AreKeptTokens N I (Channel c) (I c) ts
 IsFrom N I watch cells (Written p) (Channel c) ts =
     (q : ℕ) × (actual_at (instance_at N p) q ≡ Writes c) × (is_streamed N watch c ≡ true) × (ts ≡ (view_at cells p).kept q)
 IsFrom N I watch cells (Written p) (Print r) ts = ts ≡ (view_at cells p).printed
-IsFrom N I watch cells Given (Print r) ts = ⊥
-IsFrom N I watch cells Nobody c ts = ⊥
-
--- these are the verdict, the ends and the events of a run that stopped
-pub record IsStopped (N : Network) (I : Inputs) (bound : ℕ) (watch : Option ℕ) (v : Verdict) (ends : List End) (events : ℕ) : Type 0 where
-  -- from the cells
-  pub cells : List View
-  pub known : length cells ≡ length N.instances
-  pub instances : length ends ≡ length N.instances
-  pub each : (p : ℕ) (x : End) → slice_get ends p ≡ Some x → EndsWith N I watch cells p x
-  -- from the channels
-  pub channels : TookNoMore N I cells
-  -- the rule of verdicts
-  pub finished : v ≡ Finished → (p : ℕ) (x : End) → slice_get ends p ≡ Some x → x.outcome ≡ More → ⊥
-  pub bounded : v ≡ Bound → (events ≡ bound) × ((p : ℕ) × (x : End) × (slice_get ends p ≡ Some x) × (x.outcome ≡ More))
-  -- the count of events
-  pub total : events ≡ sum_by end_events ends
-  pub within : events ≤ bound
-
-pub record IsGathered (N : Network) (I : Inputs) (bound : ℕ) (watch : Option ℕ) (a : Answer) : Type 0 where
-  pub stopped : IsStopped N I bound watch a.verdict a.ends.items a.events
-  -- the lists that the cells kept, and the list of a watched input channel
-  pub lines : map stream_line a.streams.items ≡ stream_lines N watch
-  pub streams : (s : Stream) → HasStream a s → IsFrom N I watch stopped.cells (source N s.line) s.line s.tokens.items
+IsFrom N I watch cells s c ts = ⊥

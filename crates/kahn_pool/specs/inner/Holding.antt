@@ -1,23 +1,12 @@
 -- Inner. The jobs of a held run.
-use Rattle.std.specs.Prelude.{◌≡◌, ℕ, ◌+◌, ◌<◌, ◌≤◌, ◌^◌, Bool, List, [], length, map, Option, Some, None, Err, MatchResult, slice_get, vec_capacity}
-use Rattle.kahn_streams.specs.declared.{tree.Program.Program, token.Token.Token, answer.End.End, answer.Verdict.Verdict}
-use Rattle.kahn_streams.specs.Network.{network_of}
-use Rattle.kahn_streams.specs.Solution.{AreInputsExtended}
-use Rattle.kahn_streams.specs.Inputs.{Lists, inputs_of}
-use Rattle.kahn_code.specs.Cells.{View}
-use Rattle.kahn_code.specs.Told.{Told, told_view}
-use Rattle.kahn_job.specs.inner.Idles.{AreIdle, cells_of}
-use Rattle.kahn_job.specs.inner.Works.{Work}
-use Rattle.kahn_pool.specs.HeldRuns.{HeldRun, seen_of}
-use Rattle.kahn_pool.specs.inner.Bench.{IsConcluded, RunState, all_events}
+use Rattle.std.specs.Prelude.{◌≡◌, ℕ, ◌+◌, ◌<◌, ◌≤◌, ◌^◌, Bool, List, [], length, map, sum_by, Option, Some, None, Err, MatchResult, slice_get, vec_capacity}
+use Rattle.kahn_pool.specs.inner.Below.{AreIdle, AreInputsExtended, End, HaveGone, IsInRange, IsLack, Left, Lists, Plan, Program, Tasked, Token, Told, Verdict, View, Work, cells_of, inputs_of, network_of, told_view}
+use Rattle.kahn_pool.specs.HeldRuns.{HeldRun, seen_events, seen_of}
+use Rattle.kahn_pool.specs.inner.Bench.{IsConcluded, RunState}
 use Rattle.kahn_pool.specs.inner.Streams.{AreAllGiven, AreGiven}
 use Rattle.kahn_pool.specs.inner.Workbench.{AllStandBy}
-use Rattle.kahn_streams.specs.Answers.{IsInRange}
 use Rattle.kahn_pool.specs.declared.{part.Part.Part, part.PartRoom.PartRoom, part.Stopped.Stopped}
-use Rattle.kahn_crew.specs.inner.Left.{HaveGone}
-use Rattle.kahn_job.specs.inner.Tasks.{Tasked}
-use Rattle.kahn_crew.specs.inner.Wants.{IsLack}
-use Rattle.kahn_crew.specs.declared.{left.Left.Left, plan.Plan.Plan, fault.CrewFault.TheVariants.NoMemory}
+use Rattle.kahn_crew.specs.declared.{fault.CrewFault.TheVariants.NoMemory}
 
 abbrev pub cells_seen : List Work → List View
 cells_seen ws = map told_view (cells_of ws)
@@ -39,7 +28,7 @@ pub record AreHeld (t : Program) (lists : Lists) (watch : Option ℕ) (bound : �
   pub idle : AreIdle t lists ws
   pub watched : AreWatched watch (cells_of ws)
   pub stood : AllStandBy t watch (cells_of ws)
-  pub events : budget + all_events (held_state t lists watch ws) ≡ bound
+  pub events : budget + sum_by seen_events (map seen_of (cells_of ws)) ≡ bound
 
 -- where there is a verdict, it and the ends are those of the last part
 abbrev pub AreEnded : RunState → ℕ → ℕ → List End → Option Verdict → Type 0
@@ -52,13 +41,13 @@ IsGiving t lists watch given verdict =
     AreGiven (network_of t) (inputs_of lists) watch given × ((v : Verdict) → verdict ≡ Some v → AreAllGiven (network_of t) (inputs_of lists) watch given)
 
 -- what contracts see of a run with these cells
-abbrev pub run_with : Program → Lists → Option ℕ → ℕ → ℕ → ℕ → List Told → Option Verdict → HeldRun
-run_with t lists watch workers quantum bound cells verdict =
-    record { network = t; input = lists; watch = watch; workers = workers; quantum = quantum; bound = bound; cells = map seen_of cells; verdict = verdict }
+abbrev pub run_with : Program → Lists → Option ℕ → Plan → List Told → Option Verdict → HeldRun
+run_with t lists watch plan cells verdict =
+    record { network = t; input = lists; watch = watch; workers = plan.workers; quantum = plan.quantum; bound = plan.bound; cells = map seen_of cells; verdict = verdict }
 
 -- of a held run with these jobs
 abbrev pub run_of : Program → Lists → Plan → List Work → Option Verdict → HeldRun
-run_of t lists plan ws verdict = run_with t lists plan.watch plan.workers plan.quantum plan.bound (cells_of ws) verdict
+run_of t lists plan ws verdict = run_with t lists plan.watch plan (cells_of ws) verdict
 
 -- all that it keeps
 pub record IsHolding (t compiled : Program) (lists : Lists) (plan : Plan) (ws : List Work) (budget : ℕ) (ends : List End) (given : List Token) (verdict : Option Verdict) : Type 0 where
@@ -79,30 +68,24 @@ HaveRisen old new = (p : ℕ) (c d : Told) → slice_get old p ≡ Some c → sl
 
 -- the jobs of a part at rest, with so much left of the bound of all
 abbrev pub AreHeldBy : Part → List Work → ℕ → Type 0
-AreHeldBy part ws budget = AreHeld part.network.now part.input.now part.plan.watch part.bound ws budget
+AreHeldBy part ws budget = AreHeld part.network.now part.input.now part.plan.watch part.plan.bound ws budget
 
 -- such a part may run: the code is the network's, the numbers are within their limits, and the jobs are those of a held run
 pub record IsHeldPart (part : Part) (ws : List Work) : Type 0 where
   pub code : part.code.now.network.value ≡ part.network.now
-  pub few : (1 ≤ part.plan.workers) × (part.plan.workers ≤ 16)
-  pub quantum : 0 < part.plan.quantum
-  pub bounded : part.bound < 2 ^ 48
-  pub held : AreHeldBy part ws part.plan.bound
+  pub range : IsInRange part.plan.workers part.plan.quantum part.plan.bound
+  pub held : AreHeldBy part ws part.left
 
 -- all workers have left the part
 pub record HaveAllLeft (part : Part) (left : Left) : Type 0 where
   pub code : part.code.now.network.value ≡ part.network.now
-  pub bounded : part.bound < 2 ^ 48
+  pub bounded : part.plan.bound < 2 ^ 48
   pub first : List Tasked
-  pub gone : HaveGone part.network.now part.input.now part.plan.watch part.bound first left.tasks.items left.budget
+  pub gone : HaveGone part.network.now part.input.now part.plan.watch part.plan.bound first left.tasks.items left.budget
 
 -- so a part that is over has stopped, with this verdict
 abbrev pub IsConclusion : Part → Bool → Verdict → Stopped → Type 0
-IsConclusion part halted v r = IsConcluded (held_state part.network.now part.input.now part.plan.watch r.idles.items) part.bound r.budget halted v r.ends.items
-
--- a part goes by the plan of its run: with its workers and its quantum
-abbrev pub IsPartOf : Plan → Plan → Type 0
-IsPartOf whole part = (part.watch ≡ whole.watch) × (part.workers ≡ whole.workers) × (part.quantum ≡ whole.quantum)
+IsConclusion part halted v r = IsConcluded (held_state part.network.now part.input.now part.plan.watch r.idles.items) part.plan.bound r.budget halted v r.ends.items
 
 -- so it ended: with a verdict, it and the ends are those of the jobs, or else it was refused
 abbrev pub HasEnded : Program → Lists → Option ℕ → ℕ → ℕ → Stopped → Type 0
@@ -119,7 +102,7 @@ pub record HasStopped (t : Program) (lists : Lists) (watch : Option ℕ) (worker
 
 -- so of this part
 abbrev pub HasStoppedPart : Part → List Work → Stopped → Type 0
-HasStoppedPart part old r = HasStopped part.network.now part.input.now part.plan.watch part.plan.workers part.bound old part.plan.bound r
+HasStoppedPart part old r = HasStopped part.network.now part.input.now part.plan.watch part.plan.workers part.plan.bound old part.left r
 
 -- there is room for so many tasks, jobs and ends
 pub record IsRoomFor (n : ℕ) (r : PartRoom) : Type 0 where

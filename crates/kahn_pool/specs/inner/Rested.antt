@@ -1,22 +1,8 @@
 -- Inner. How tasks stand when no more is run, and what stands in the answer for each.
 use Rattle.std.specs.Prelude.{◌≡◌, ◌⊎◌, ℕ, ◌<◌, ◌^◌, List, length, map, Option, Some, slice_get}
-use Rattle.kahn_streams.specs.declared.{tree.Program.Program, answer.End.End, answer.Outcome.Outcome}
-use Rattle.kahn_streams.specs.Network.{Reads, network_of, instance_at, actual_at}
+use Rattle.kahn_pool.specs.inner.Below.{AreAll, Continues, Cut, Dry, End, IsJob, IsReady, IsWithinInput, Lists, Outcome, Paused, Program, Reads, Standing, Store, Tasked, TellsOutcome, Told, Work, actual_at, count, end_at, handed_to_task, inputs_of, instance_at, network_of, told_view}
 use Rattle.kahn_streams.specs.Script as script
-use Rattle.kahn_streams.specs.Script.{Cut, Dry}
-use Rattle.kahn_streams.specs.Meaning.{Store}
-use Rattle.kahn_streams.specs.Inputs.{Lists, inputs_of}
-use Rattle.kahn_code.specs.Progress.{Paused}
-use Rattle.kahn_code.specs.Standing.{count}
-use Rattle.kahn_code.specs.Told.{Told, told_view}
-use Rattle.kahn_job.specs.inner.Ends.{IsReady}
-use Rattle.kahn_job.specs.inner.Berths.{IsWithinInput, end_at}
-use Rattle.kahn_job.specs.inner.Works.{Work, IsJob}
-use Rattle.kahn_job.specs.declared.standing.Standing.{Standing}
 use Rattle.kahn_job.specs.declared.standing.Standing.TheVariants as standing
-use Rattle.kahn_job.specs.inner.Tasks.{Tasked, Continues, TellsOutcome}
-use Rattle.kahn_crew.specs.inner.Tasks.{handed_to_task}
-use Rattle.kahn_crew.specs.inner.Left.{AreAll}
 use Rattle.kahn_pool.specs.inner.Bench.{RunState}
 use Rattle.kahn_streams.specs.declared.answer.Outcome.TheVariants as outcome
 
@@ -44,9 +30,7 @@ pub record AreTasks (t : Program) (lists : Lists) (watch : Option ℕ) (tasks : 
 -- ready on the channel that it reads
 abbrev pub IsSaid : Work → Standing → script.Outcome Store → Type 0
 IsSaid w standing.Going o = (o ≡ Cut) ⊎ ((q d : ℕ) × (handed_to_task w q ≡ Reads d) × (o ≡ Dry q) × IsReady (end_at w.ends q))
-IsSaid w standing.Ended o = TellsOutcome standing.Ended o
-IsSaid w (standing.Faulted k) o = TellsOutcome (standing.Faulted k) o
-IsSaid w (standing.Dry q) o = TellsOutcome (standing.Dry q) o
+IsSaid w s o = TellsOutcome s o
 
 abbrev pub Says : Work → Standing → Type 0
 Says w s =

@@ -1,12 +1,6 @@
 -- Inner. The streams of an answer, and the lists from which they are filled.
 use Rattle.std.specs.Prelude.{◌≡◌, ℕ, ◌<◌, List, [], length, map, Option, Some, slice_get, slice_index_or}
-use Rattle.kahn_streams.specs.declared.{tree.Role.TheVariants.Input, value.Value.Value, value.Line.Line, value.Line.TheVariants.Channel, value.Line.TheVariants.Print, token.Token.Token, answer.Stream.Stream}
-use Rattle.kahn_streams.specs.Solution.{Inputs, IsPrefix, source}
-use Rattle.kahn_streams.specs.Network.{Network, Writes, Source, Given, Written, Nobody, instance_at, actual_at, role_at}
-use Rattle.kahn_code.specs.declared.cell.Kept.{Kept}
-use Rattle.kahn_code.specs.Cells.{AreKeptTokens}
-use Rattle.kahn_streams.specs.Tokens.{IsOwn, token_value}
-use Rattle.kahn_streams.specs.Answers.{stream_line, stream_lines}
+use Rattle.kahn_pool.specs.inner.Below.{AreKeptTokens, Channel, Given, Input, Inputs, IsOwn, IsPrefix, Kept, Line, Network, Nobody, Print, Source, Stream, Token, Value, Writes, Written, actual_at, instance_at, role_at, source, stream_line, stream_lines, token_value}
 use Rattle.kahn_pool.specs.inner.Changed.{HaveChanged}
 
 -- the lines of the streams, for some watched channel
@@ -94,6 +88,4 @@ HasInputs N I streams =
 -- a line of this source with these tokens before has those after: the whole list of an input channel; all others stay
 abbrev pub HasInput : Network → Inputs → Source → Line → List Token → List Token → Type 0
 HasInput N I Given (Channel c) before after = AreKeptTokens N I (Channel c) (I c) after
-HasInput N I Given (Print r) before after = after ≡ before
-HasInput N I (Written p) c before after = after ≡ before
-HasInput N I Nobody c before after = after ≡ before
+HasInput N I s c before after = after ≡ before

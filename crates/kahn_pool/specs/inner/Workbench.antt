@@ -1,22 +1,10 @@
 -- Inner. The cells of a network over its plain queues, as a run on one thread has them.
-use Rattle.std.specs.Prelude.{◌≡◌, ◌⊎◌, ℕ, ◌+◌, ◌<◌, ◌≤◌, ◌^◌, ◌==◌, Bool, true, cond, List, [], ◌∷◌, ◌++◌, length, map, replicate, Option, Some, slice_get, slice_index_or, if◌then◌else◌}
-use Rattle.kahn_streams.specs.declared.{tree.Program.Program, token.Token.Token, answer.End.End, answer.Outcome.TheVariants.More, answer.Stream.Stream}
-use Rattle.kahn_streams.specs.Network.{network_of, instance_at}
-use Rattle.kahn_streams.specs.Wiring.{IsWellWired}
-use Rattle.kahn_streams.specs.Inputs.{most_values, Lists, inputs_of}
-use Rattle.kahn_code.specs.Lines.{Lines as Queues, place_at, waiting_of}
-use Rattle.kahn_code.specs.Cells.{StoodBy}
-use Rattle.kahn_code.specs.Standing.{tokens}
-use Rattle.kahn_code.specs.Told.{Told, told_view, IsAt}
-use Rattle.kahn_code.specs.declared.{cell.Kept.Kept, progress.Pause.Pause}
-use Rattle.kahn_code.specs.inner.Gone.{Gone, kept_behind, nothing_gone}
-use Rattle.kahn_code.specs.inner.Tapped.{Tapped}
-use Rattle.kahn_job.specs.inner.Openings.{IsOpening}
-use Rattle.kahn_pool.specs.inner.Bench.{Goes, HasEndIn, HasRunCell, LacksMemory, Marked, RunState, all_events, events_at, turn_of, weight}
+use Rattle.std.specs.Prelude.{◌≡◌, ◌⊎◌, ℕ, ◌+◌, ◌<◌, ◌≤◌, ◌^◌, ◌==◌, true, false, cond, min, vec_capacity, List, [], ◌∷◌, ◌++◌, length, map, replicate, Option, Some, slice_get, slice_index_or, if◌then◌else◌}
+use Rattle.kahn_pool.specs.inner.Below.{Answer, End, Gone, IsAt, IsCutShort, IsOpening, IsRight, IsWellWired, Kept, Lists, More, Pause, Program, Queues, StoodBy, Stream, Tapped, Token, Told, inputs_of, instance_at, kept_behind, most_values, network_of, nothing_gone, place_at, stream_line, stream_lines, tokens, told_view, waiting_of}
+use Rattle.kahn_pool.specs.inner.Bench.{AreEnds, HasEndIn, HasRunCell, IsLast, LacksMemory, RunState, all_events, events_at}
 use Rattle.kahn_code.specs.declared.progress.Pause.TheVariants as pause
 use Rattle.kahn_pool.specs.declared.rounds.Round.{Round}
 use Rattle.kahn_pool.specs.HeldRuns.{seen_at, seen_of}
-use Rattle.kahn_streams.specs.Answers.{stream_line, stream_lines}
 use Rattle.kahn_pool.specs.inner.Streams.{HasInputs, kept_lists, printed_list}
 
 -- the program and the input, the watched channel, the program of the code, the cells, what they let go of, and the queues
@@ -56,41 +44,76 @@ pub record HasWorked (old new : Table) : Type 0 where
   pub gone : new.gone ≡ old.gone
   pub events : (p : ℕ) → events_at (sight_of old) p ≤ events_at (sight_of new) p
 
--- an instance was run for at most so many events until this pause, and the round is marked; its ends and its share stay
+-- ---- rounds
+
+-- it may go on: so many events are left below 2^48, a quantum is not empty, and there is room for the end of each instance
+pub record MayRun (s : RunState) (r : Round) : Type 0 where
+  pub known : length s.cells ≡ length s.network.instances
+  pub some : 0 < r.quantum
+  pub bound : all_events s + r.left < 2 ^ 48
+  pub room : length s.network.instances ≤ vec_capacity r.ends
+  pub lacks : LacksMemory s r.left r.memory
+
+-- how much there is to do: it falls with each event, and where memory is wanted for the first time
+abbrev pub weight : Round → ℕ
+weight r = r.left + cond r.memory 0 1
+
+-- how many events a turn may do: none once memory was refused, else a quantum, or what is left where that is less
+abbrev pub turn_of : Round → ℕ
+turn_of r = cond r.memory 0 (min r.quantum r.left)
+
+-- a turn of so many events progressed, and wants memory, or didn't
+abbrev pub Marked : ℕ → Pause → Round → Round → Type 0
+Marked done z old new =
+    ((z ≡ pause.NoMemory) × (new.memory ≡ true) × (new.progressed ≡ true)) ⊎
+    ((z ≡ pause.NoMemory → ⊥) × (new.memory ≡ old.memory) × (((0 < done) × (new.progressed ≡ true)) ⊎ ((done ≡ 0) × (new.progressed ≡ old.progressed))))
+
+-- a turn did so many events until this pause: they are taken from what is left
+pub record IsMarked (done : ℕ) (z : Pause) (old new : Round) : Type 0 where
+  pub left : new.left + done ≡ old.left
+  pub marks : Marked done z old new
+  pub quantum : new.quantum ≡ old.quantum
+  pub ends : new.ends ≡ old.ends
+
+-- instance p had its turn, until this pause
 pub record HasTakenTurn (b d : Table) (old new : Round) (p : ℕ) (z : Pause) : Type 0 where
-  pub quantum : ℕ
-  pub turn : quantum ≡ turn_of old.share old.left old.memory
-  pub most : quantum ≤ cond old.memory 0 old.left
-  pub none : quantum ≡ 0 → (old.left ≡ 0) ⊎ (old.memory ≡ true)
-  pub ran : HasRunCell (sight_of b) (sight_of d) p quantum z
+  pub ran : HasRunCell (sight_of b) (sight_of d) p (turn_of old) z
   pub done : ℕ
   pub counts : events_at (sight_of b) p + done ≡ events_at (sight_of d) p
-  pub left : new.left + done ≡ old.left
-  pub marked : Marked z done old.memory old.moved new.memory new.moved
-  pub ends : new.ends ≡ old.ends
-  pub share : new.share ≡ old.share
+  pub marked : IsMarked done z old new
   pub worked : HasWorked b d
 
 -- that is so, after which it stands so
 pub record HasVisited (b d : Table) (old new : Round) (p : ℕ) (x : End) : Type 0 where
   pub stopped : Pause
-  pub gone : HasTakenTurn b d old new p stopped
+  pub turn : HasTakenTurn b d old new p stopped
   pub rests : HasEndIn (sight_of d) p x
   pub more : x.outcome ≡ More → (stopped ≡ pause.Spent) ⊎ (stopped ≡ pause.NoMemory)
 
--- instances were visited in a round; its ends and its share stay
-pub record HasMoved (b d : Table) (old new : Round) : Type 0 where
+-- instances had turns, and it may go on: what they did is taken from what is left, and the quantum and the room for ends stay
+pub record HasAdvanced (b d : Table) (old new : Round) : Type 0 where
   pub worked : HasWorked b d
+  pub may : MayRun (sight_of d) new
   pub total : all_events (sight_of d) + new.left ≡ all_events (sight_of b) + old.left
-  pub lighter : weight new.left new.memory ≤ weight old.left old.memory
-  pub lacks : LacksMemory (sight_of b) old.left old.memory → LacksMemory (sight_of d) new.left new.memory
-  pub ends : new.ends ≡ old.ends
-  pub share : new.share ≡ old.share
+  pub lighter : weight new ≤ weight old
+  pub quantum : new.quantum ≡ old.quantum
+  pub room : vec_capacity new.ends ≡ vec_capacity old.ends
 
--- a round of a bench with so many events left, and whether memory was refused, at instance k
-abbrev pub GoesIn : Table → ℕ → Bool → Table → Round → ℕ → Type 0
-GoesIn old left memory new r k =
-    Goes (sight_of old) (weight left memory) (all_events (sight_of old) + left) (sight_of new) r.left r.memory r.moved r.ends.items k
+-- a round from its beginning, in which the first k instances had their turns: it has their ends, unless it progressed
+pub record IsInRound (b : Table) (old : Round) (d : Table) (new : Round) (k : ℕ) : Type 0 where
+  pub advanced : HasAdvanced b d old new
+  pub size : length new.ends.items ≡ k
+  pub still : new.progressed ≡ false → AreEnds (sight_of d) new.left new.memory new.ends.items
+  pub falls : new.progressed ≡ true → weight new < weight old
+
+-- rounds came to an end, with the last one in which nothing was done
+pub record HasComeToRest (b d : Table) (old new : Round) : Type 0 where
+  pub advanced : HasAdvanced b d old new
+  pub last : IsLast (sight_of d) (all_events (sight_of b) + old.left) new.left new.memory new.ends.items
+
+-- a right answer of this network and input for so many events, which want of memory cut short only before the last one
+abbrev pub IsRightAlone : Program → Lists → Option ℕ → ℕ → Answer → Type 0
+IsRightAlone t lists watch bound a = IsRight (network_of t) (inputs_of lists) bound watch a × IsCutShort bound a
 
 -- it goes on for this input: so many values more wait on channel c, and nothing else changes
 pub record HasTakenIn (c n : ℕ) (input : Lists) (old new : Table) : Type 0 where
@@ -178,11 +201,6 @@ pub record AreStreamsReady {A : Type 0} (t : Program) (lists : Lists) (watch : O
   pub begun : AreOpen t lists watch streams
   pub empty : kept ≡ []
   pub enough : length (network_of t).instances ≤ room
-
--- what a workbench of this network keeps
-abbrev pub IsWorkbenchOf : {A : Type 0} → Program → Table → List Stream → List A → ℕ → Type 0
-IsWorkbenchOf t b streams kept room =
-    (b.network ≡ t) × AreWhole (length (network_of t).instances) b.gone × AreStreamsReady t b.input b.watch streams kept room
 
 abbrev pub parameter_count : {A : Type 0} → Kept A → ℕ
 parameter_count k = length k.kept.items

@@ -1,8 +1,9 @@
 //! Where in its process a fault of arithmetic can have come from.
 
 ghost use Rattle.std.specs.Prelude.{◌≡◌, ◌<◌, ◌++◌, IfOk, length, string_bytes};
-ghost use Rattle.kahn_why.specs.Words.{here_words, instance_body, marks_text, places_text};
+ghost use Rattle.kahn_why.specs.Words.{first_marks, here_words, instance_body, marks_text, places_text};
 
+use crate::noting::{MOST_NOTES, add_more};
 use kahn_marks::marked;
 use kahn_streams::{Failure, Network, Span, Statement};
 use kahn_warnings::fault_places;
@@ -44,7 +45,24 @@ fn add_notes(
     Ok(())
 }
 
-/// Adds notes on all places in the program text that a fault of an instance can have come from.
+/// Adds notes on the first 20 places, and how many more there are.
+fn add_told(
+    text: &mut String,
+    alloc: Global,
+    path: &str,
+    program: &str,
+    words: &str,
+    places: &[Span],
+) -> Result<(), AllocError>
+    ensures { IfOk result (λ _. string_bytes text.new ≡ string_bytes text.old ++ first_marks path.now program.now words.now places.now) }
+{
+    let (told, more) = places.split_at(MOST_NOTES.min(places.len()));
+    add_notes(text, alloc, path, program, words, told)?;
+    add_more(text, "", "place", more.len())
+}
+
+/// Adds notes on the places in the program text that a fault of an instance can have come from, at most 20 of them, and how many more there
+/// are.
 pub(crate) fn add_places(
     text: &mut String,
     alloc: Global,
@@ -58,5 +76,5 @@ pub(crate) fn add_places(
     ensures { IfOk result (λ _. string_bytes text.new ≡ string_bytes text.old ++ places_text path.now program.now network.now instance kind) }
 {
     let places = fault_places(alloc, kind, instance_body(network, instance))?;
-    add_notes(text, alloc, path, program, from_here(kind), &places)
+    add_told(text, alloc, path, program, from_here(kind), &places)
 }

@@ -1,42 +1,19 @@
 //! Why the run of an answer stopped.
 
-ghost use Rattle.std.specs.Prelude.{◌≡◌, ◌++◌, IfOk, map, string_bytes};
+ghost use Rattle.std.specs.Prelude.{◌≡◌, ◌++◌, IfOk, string_bytes};
 ghost use Rattle.kahn_report.specs.Formats.{last_text};
 ghost use Rattle.kahn_streams.specs.Network.{network_of};
 ghost use Rattle.kahn_chain.specs.Chain.{AreStandings};
-ghost use Rattle.kahn_why.specs.Why.{standing_of, standings_of, stands};
+ghost use Rattle.kahn_why.specs.Why.{standings_of};
 ghost use Rattle.kahn_why.specs.Words.{IsExplained, bound_text, fed_lists};
 
 use crate::why::lines::add_lines;
 use crate::why::told::{Explanation, came_to};
 use itoa::Buffer;
-use kahn_chain::{Standing, causes};
+use kahn_chain::{causes, standings};
 use kahn_marks::add;
-use kahn_streams::{Answer, End, Input, Network, Outcome, Verdict};
+use kahn_streams::{Answer, Input, Network, Verdict};
 use std::alloc::{AllocError, Global};
-
-/// How an instance stands that has this outcome.
-fn standing_of(outcome: Outcome) -> Standing
-    ensures { result ≡ standing_of outcome }
-{
-    match outcome {
-        Outcome::Ended => Standing::Ended,
-        Outcome::Waits(channel) => Standing::Waits(channel),
-        Outcome::Faulted(_) => Standing::Faulted,
-        Outcome::More => Standing::More,
-    }
-}
-
-/// How the instances stand that have these ends.
-fn standings(alloc: Global, ends: &[End]) -> Result<Vec<Standing>, AllocError>
-    ensures { IfOk result (λ list. list.items ≡ map stands ends.now) }
-{
-    let mut list = Vec::new(alloc);
-    for end in ends {
-        list.push(standing_of(end.outcome))?;
-    }
-    Ok(list)
-}
 
 /// Says how a run can go on that was stopped so.
 fn go_on(verdict: Verdict) -> &'static str

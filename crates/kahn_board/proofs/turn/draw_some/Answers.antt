@@ -1,6 +1,9 @@
-use Rattle.kahn_board.proofs.Common.{arith, ◌∙◌, ◌≡◌, ℕ, suc, ◌+◌, ◌-◌, subst, AreLost}
-use Rattle.kahn_board.proofs.Drawn.{same_noted_twice}
+use Rattle.kahn_board.proofs.Common.{arith, refl, ◌∙◌, ◌≡◌, ℕ, suc, ◌+◌, ◌-◌, subst, AreLost}
+use Rattle.kahn_board.proofs.Drawn.{same_noted_twice, same_self}
 use Rattle.kahn_board.proofs.turn.draw_some.Goals as goal
+
+pub loop-init : goal.loop-init
+loop-init g c = (refl, refl, same_self c.args.seat.now.seat.me, refl)
 
 pub returns-in-Got-clause-draws : goal.returns-in-Got-clause-draws
 returns-in-Got-clause-draws g c = (c.loop.counter - 1, c.loop.seat, omega (arith, c.loop-test.true), c.loop.invariant.3, c.in-Got.ensures, λ lost. absurd cc)

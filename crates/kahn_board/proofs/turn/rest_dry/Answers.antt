@@ -1,4 +1,4 @@
-use Rattle.kahn_board.proofs.Common.{refl, ap, ◌∙◌, belongs, holds, wired, gave, paid_down}
+use Rattle.kahn_board.proofs.Common.{refl, ap, ◌∙◌, belongs, holds, wired, after_counting_down}
 use Rattle.kahn_board.proofs.Keeps.{was_at}
 use Rattle.kahn_board.proofs.Kept.{kept_turn, kept_fits}
 use Rattle.kahn_board.proofs.turn.rest_dry.Goals as goal
@@ -13,15 +13,9 @@ rest_ready-requires-clause-holds g c = let k = c.args.board.now.table.shared.key
   tt,
 )
 
-pub returns-then-not-park-clause-late : goal.returns-then-not-park-clause-late
-returns-then-not-park-clause-late g c = λ _.
-    let e = c.if-not-park.ensures.1 refl in
-    let k = e.1 in
-    (k.0, k.1, k.2, λ y had. c.rest_ready.ensures.ready y (e.2 c.args.p _ had) ∙ ap (λ v. gave v c.args.p (g.T.Told.told y) 0) k.3)
-
 pub returns-clause-parked : goal.returns-clause-parked
 returns-clause-parked g c = λ _ y had.
     let up = c.if-not-park.ensures.0 refl in
     let e = up.1 y had in
     let d = c.count_down.ensures.1 in
-    (d.0, was_at (holds g.T.Told.told g.T.Told.after c.args.board.now.table.shared.key) _ _ _ _ _ _ _ _ up.0.1 e refl refl d.1, ap (λ m. m.0) d.2 ∙ ap paid_down e)
+    (d.0, was_at (holds g.T.Told.told g.T.Told.after c.args.board.now.table.shared.key) _ _ _ _ _ _ _ _ up.0.1 e refl refl d.1, ap (λ m. m.0) d.2 ∙ ap after_counting_down e)

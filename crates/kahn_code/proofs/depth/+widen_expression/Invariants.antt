@@ -1,6 +1,5 @@
-use Rattle.std.proofs.Common.{◌≡◌, ◌+◌, ◌<◌, ◌≤◌, drop, length}
-use Rattle.kahn_code.proofs.Common.{names_of, expression_of}
-use Rattle.kahn_code.specs.Flat.{need, widened}
+use Rattle.std.proofs.Common.{◌≡◌, ◌+◌, ◌<◌, max, drop, length}
+use Rattle.kahn_code.proofs.Common.{names_of, expression_of, need}
 use Rattle.kahn_code.proofs.Widths.{operands_need}
 use Rattle.kahn_code.proofs.depth.+widen_expression.Given as goal
 
@@ -9,6 +8,5 @@ decreases-widen_expression g l = goal.size-widen_expression g l
 
 abbrev pub invariant-loop-operand : goal.invariant-loop-operand
 invariant-loop-operand g l =
-    (widened l.registers.items (l.free + operands_need (names_of l._process) (drop l.operand-index l.operand-items)) ≡ widened l.fn.registers.items (l.free + need (expression_of (names_of l._process) l.expression)))
-    × (l.free < length l.registers.items)
-    × (length l.fn.registers.items ≤ length l.registers.items)
+    (max (length l.parts.items) (l.free + operands_need (names_of l._process) (drop l.operand-index l.operand-items)) ≡ max (length l.fn.parts.items) (l.free + need (expression_of (names_of l._process) l.expression)))
+    × (l.free < length l.parts.items)

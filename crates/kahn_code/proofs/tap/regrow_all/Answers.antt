@@ -1,36 +1,27 @@
-use Rattle.std.proofs.Common.{arith, ap, ◌∙◌, slice_index_or, slice_set}
-use Rattle.kahn_code.specs.inner.Tapped.{regrown_tap}
-use Rattle.kahn_code.proofs.Poured.{changed_next, changed_more, changed_all}
+use Rattle.std.proofs.Common.{arith, ◌<◌, ◌≤◌, ◌++◌, ap, ◌∙◌, length, map, slice_index_or, slice_set}
+use Rattle.std.proofs.lemmas.List.{drop_all, take_all}
+use Rattle.std.proofs.lemmas.List.Edits.{map_over_more}
+use Rattle.kahn_code.proofs.Common.{append-nil, regrown_tap}
+use Rattle.kahn_code.proofs.Lists.{changed_next}
 use Rattle.kahn_code.proofs.tap.regrow_all.Goals as goal
 
 pub loop-number-preserved : goal.loop-number-preserved
 loop-number-preserved g c =
     let old = c.args.taps.now.items in
-    let i = c.loop-number.number in
-    let x = c.index_mut.result.now in
-    let held = c.loop-number.invariant in
-    let l = c.loop-number-test.true in
-    let e = c.len-number-end.ensures in
-    let size = c.args.taps.now.ok.0 in
-    changed_more (regrown_tap g.input) old i _ x c.regrow.new.self (omega arith)
-    (changed_next (regrown_tap g.input) old i x (omega (arith, l, e, size)) (c.index_mut.ensures.value ∙ ap (λ l. slice_index_or l i x) held)) c.regrow.ensures
-    (ap (λ l. slice_set l i c.regrow.new.self) held)
+    let lt : c.loop-number.number < length old = omega (arith, c.loop-number-test.true, c.len-number-end.ensures, c.args.taps.now.ok.0) in
+    ap (slice_set c.loop-number.taps.items c.loop-number.number) c.regrow.ensures
+    ∙ map_over_more (regrown_tap g.input) old c.loop-number.taps.items c.loop-number.number c.index_mut.result.now lt c.loop-number.invariant c.index_mut.ensures.value
 
 pub regrow-requires : goal.regrow-requires
 regrow-requires g c κs within =
     let old = c.args.taps.now.items in
     let i = c.loop-number.number in
-    let x = c.index_mut.result.now in
-    let held = c.loop-number.invariant in
-    let l = c.loop-number-test.true in
-    let e = c.len-number-end.ensures in
-    let size = c.args.taps.now.ok.0 in
-    (within, c.requires.1 i x (changed_next (regrown_tap g.input) old i x (omega (arith, l, e, size)) (c.index_mut.ensures.value ∙ ap (λ l. slice_index_or l i x) held)))
+    let lt : i < length old = omega (arith, c.loop-number-test.true, c.len-number-end.ensures, c.args.taps.now.ok.0) in
+    (within, c.requires.1 i _ (changed_next (regrown_tap g.input) old i c.index_mut.result.now lt (c.index_mut.ensures.value ∙ ap (λ l. slice_index_or l i c.index_mut.result.now) c.loop-number.invariant)))
 
 pub returns : goal.returns
 returns g c =
-    let l = c.loop-number-test.false in
-    let far = c.loop-number.auto.number-end in
-    let e = c.len-number-end.ensures in
-    let size = c.args.taps.now.ok.0 in
-    c.loop-number.invariant ∙ changed_all (regrown_tap g.input) c.args.taps.now.items c.loop-number.number (omega (arith, l, far, e, size))
+    let old = c.args.taps.now.items in
+    let n = c.loop-number.number in
+    let far : length old ≤ n = omega (arith, c.loop-number-test.false, c.len-number-end.ensures, c.args.taps.now.ok.0) in
+    c.loop-number.invariant ∙ (λ j. map (regrown_tap g.input) (take_all n old far j) ++ drop_all n old far j) ∙ append-nil _

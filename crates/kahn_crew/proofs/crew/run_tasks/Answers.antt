@@ -20,8 +20,8 @@ invariant_of-run g c = record {
   some = c.requires.quantum;
 }
 
-pub returns-in-Ok-employ-clause-over : goal.returns-in-Ok-employ-clause-over
-returns-in-Ok-employ-clause-over g c = c.leave-left.ensures.over c.in-Ok-employ.ensures.left.1
+pub returns-in-Ok-run_workers-clause-over : goal.returns-in-Ok-run_workers-clause-over
+returns-in-Ok-run_workers-clause-over g c = c.leave-left.ensures.over c.in-Ok-run_workers.ensures.left.1
 
 pub returns-in_default-clause-untouched : goal.returns-in_default-clause-untouched
 returns-in_default-clause-untouched g c = λ none.

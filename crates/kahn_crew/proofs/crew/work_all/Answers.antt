@@ -5,21 +5,21 @@ use Rattle.kahn_crew.proofs.crew.work_all.Goals as goal
 
 pub returns : goal.returns
 returns g c =
-    let t = all_gone c.args.run.now.board.now.table.shared.table_id c.args.workers.items c.labor_all.result.hands.items c.labor_all.ensures.count (λ i d h. ⊎_elim (λ done. (done.0, done.1.2)) (λ left. (left.1.0, left.1.1)) (c.labor_all.ensures.each i d h)) in
+    let t = all_gone c.args.run.now c.args.workers.items c.run_all.result.workers.items c.run_all.ensures.count (λ i d h. ⊎_elim (λ done. (done.0, done.1.2)) (λ left. (left.1.0, left.1.1)) (c.run_all.ensures.each i d h)) in
     record {
-      count = c.labor_all.ensures.count;
+      count = c.run_all.ensures.count;
       each = t.0;
       sums = t.1;
-      several = c.labor_all.ensures.several;
-      halted = λ yes. let q = c.labor_all.ensures.quits yes in one_raised c.labor_all.result.hands.items q.0 (omega (arith, q.1, c.labor_all.ensures.count)) (λ d. (q.2 d).2);
-      cause = λ no none. all_caused c.args.workers.items c.labor_all.result.hands.items c.labor_all.ensures.count none (λ i d lt. (c.requires.each i d lt).1)
-          (λ i d h. ⊎_elim (λ done. done.1) (λ left. absurd (true≢false (sym left.0 ∙ no))) (c.labor_all.ensures.each i d h));
+      several = c.run_all.ensures.several;
+      halted = λ yes. let q = c.run_all.ensures.quits yes in one_raised c.run_all.result.workers.items q.0 (omega (arith, q.1, c.run_all.ensures.count)) (λ d. (q.2 d).2);
+      cause = λ no none. all_caused c.args.workers.items c.run_all.result.workers.items c.run_all.ensures.count none (λ i d lt. (c.requires.each i d lt).1)
+          (λ i d h. ⊎_elim (λ done. done.1) (λ left. absurd (true≢false (sym left.0 ∙ no))) (c.run_all.ensures.each i d h));
     }
 
 -- a worker may go to another thread
-pub labor_all-requires-send-T : goal.labor_all-requires-send-T
-labor_all-requires-send-T g c κs = search (worker_send, sendable) depth 20
+pub run_all-requires-send-T : goal.run_all-requires-send-T
+run_all-requires-send-T g c κs = search (worker_send, sendable) depth 20
 
 -- threads may share the run
-pub labor_all-requires-sync-C : goal.labor_all-requires-sync-C
-labor_all-requires-sync-C g c κs = search (run_sync, sendable) depth 20
+pub run_all-requires-sync-C : goal.run_all-requires-sync-C
+run_all-requires-sync-C g c κs = search (run_sync, sendable) depth 20

@@ -24,10 +24,10 @@ rest_dry-requires-clause-holds c =
 pub returns-then-not-rest_dry-clause-rests : goal.returns-then-not-rest_dry-clause-rests
 returns-then-not-rest_dry-clause-rests c =
     let h = c.hint-then-not-rest_dry.ensures in
-    (h.same.0 ∙ (c.rest_dry.ensures.same.0 ∙ c.requires.0), h.still.rests c.args.seat.now.seat.me.0.drawn c.rest_dry.ensures.rests)
+    (h.same.0 ∙ (c.rest_dry.ensures.same.0 ∙ c.requires.0), h.still.rests c.args.worker.now.seat.seat.me.0.drawn c.rest_dry.ensures.rests)
 
 pub returns-then-not-rest_dry-clause-set_down : goal.returns-then-not-rest_dry-clause-set_down
 returns-then-not-rest_dry-clause-set_down c =
     let late = c.if-not-rest_dry.ensures.late refl in
-    subst (λ due. IsSetDown c.args.run.now c.args.p due c.args.seat.now c.hint-then-not-rest_dry.new.seat) (sym c.in-Waits.is)
+    subst (λ due. IsSetDown c.args.run.now c.args.p due c.args.worker.now.seat c.hint-then-not-rest_dry.new.worker.seat) (sym c.in-Waits.is)
     (inr (late.0, late.1, late.2))

@@ -25,7 +25,7 @@ going_spent N p dry ready S H (pause.Fault k) o e says halts = absurd cc
 going_spent N p dry ready S H (pause.Dry q) o e says halts = absurd cc
 
 pub run-pause-requires-clause-code : goal.run-pause-requires-clause-code
-run-pause-requires-clause-code g c = let run = c.args.run.now in run.fits.code ∙ sym (in_hand run c.args.p c.args.drawn 0 c.args.task.now c.args.seat.now c.requires).1.0
+run-pause-requires-clause-code g c = let run = c.args.run.now in run.fits.code ∙ sym (in_hand run c.args.p c.args.drawn 0 c.args.task.now c.args.worker.now.seat c.requires).1.0
 
 pub run-pause-requires-clause-lent : goal.run-pause-requires-clause-lent
 run-pause-requires-clause-lent g c = is_lent c.args.run.now c.args.p c.args.task.now c.requires.inside c.requires.first
@@ -47,7 +47,7 @@ publish_all-requires g c =
       works = (
         c.args.drawn,
         z.work.cell.events - x.work.cell.events,
-        went c.args.run.now c.args.p c.args.drawn x y z c.args.seat.now c.heed.new.seat c.requires c.heed.ensures.still c.heed.ensures.same.0 r.continues r.published r.events f.continues f.published f.cell,
+        went c.args.run.now c.args.p c.args.drawn x y z c.args.worker.now.seat c.heed.new.worker.seat c.requires c.heed.ensures.still c.heed.ensures.same.0 r.continues r.published r.events f.continues f.published f.cell,
       );
     }
 
@@ -58,13 +58,13 @@ returns-clause-works g c =
     let z = c.flush-flushed.new.self in
     let r = c.run-pause.ensures in
     let f = c.flush-flushed.ensures in
-    let a = went c.args.run.now c.args.p c.args.drawn x y z c.args.seat.now c.heed.new.seat c.requires c.heed.ensures.still c.heed.ensures.same.0 r.continues r.published r.events f.continues f.published f.cell in
-    subst (λ (k : ℕ). IsAtWork c.args.run.now c.args.p c.args.drawn k c.publish_all.new.task c.publish_all.new.seat) (omega (arith, ap (λ (k : Work). k.cell.events) c.publish_all.ensures.task.0, c.events.ensures, c.events-before.ensures))
+    let a = went c.args.run.now c.args.p c.args.drawn x y z c.args.worker.now.seat c.heed.new.worker.seat c.requires c.heed.ensures.still c.heed.ensures.same.0 r.continues r.published r.events f.continues f.published f.cell in
+    subst (λ (k : ℕ). IsAtWork c.args.run.now c.args.p c.args.drawn k c.publish_all.new.task c.publish_all.new.worker.seat) (omega (arith, ap (λ (k : Work). k.cell.events) c.publish_all.ensures.task.0, c.events.ensures, c.events-before.ensures))
     (c.publish_all.ensures.works c.args.drawn (z.work.cell.events - x.work.cell.events) a)
 
 pub returns-clause-delivered : goal.returns-clause-delivered
 returns-clause-delivered g c =
-    ⊎_elim (λ e. inl (sees_two c.heed.new.seat.seat.me.0.seen c.publish_all.new.seat.seat.me.0.seen c.publish_all.ensures.seen e))
+    ⊎_elim (λ e. inl (sees_two c.heed.new.worker.seat.seat.me.0.seen c.publish_all.new.worker.seat.seat.me.0.seen c.publish_all.ensures.seen e))
     (λ d. inr (subst IsDelivered (sym c.publish_all.ensures.task.0) d))
     (either_of c.flush-flushed.result c.flush-flushed.ensures.all c.heed.ensures.refused)
 
@@ -72,8 +72,8 @@ pub returns-clause-spent : goal.returns-clause-spent
 returns-clause-spent g c = λ going.
     let w = c.run-pause.new.self.work in
     ⊎_elim (λ all. inl (ap (λ (k : Work). k.cell.events) c.publish_all.ensures.task.0 ∙ (ap (λ v. v.events) c.flush-flushed.ensures.cell ∙ all)))
-    (λ halted. inr (sees_two c.heed.new.seat.seat.me.0.seen c.publish_all.new.seat.seat.me.0.seen c.publish_all.ensures.seen halted))
+    (λ halted. inr (sees_two c.heed.new.worker.seat.seat.me.0.seen c.publish_all.new.worker.seat.seat.me.0.seen c.publish_all.ensures.seen halted))
     (going_spent (network_of w.cell.network) w.cell.instance (λ q. IsDry (end_at w.ends q)) (λ q. IsReady (end_at w.ends q))
-    (w.cell.events ≡ c.args.task.now.work.cell.events + c.args.drawn) (c.heed.new.seat.seat.me.0.seen ≡ 2)
+    (w.cell.events ≡ c.args.task.now.work.cell.events + c.args.drawn) (c.heed.new.worker.seat.seat.me.0.seen ≡ 2)
     c.run-pause.result (exec_on (network_of w.cell.network) w.cell.events w.cell.instance c.run-pause.ensures.paused.stood.tapes).outcome
     (sym c.run-pause.ensures.standing ∙ (sym c.flush-flushed.ensures.standing ∙ (sym c.publish_all.ensures.task.1 ∙ going))) c.run-pause.ensures.paused.is c.heed.ensures.wanted)

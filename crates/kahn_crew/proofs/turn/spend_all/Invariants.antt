@@ -3,8 +3,8 @@ use Rattle.kahn_crew.proofs.turn.spend_all.Given as goal
 
 abbrev pub invariant-loop-first : goal.invariant-loop-first
 invariant-loop-first g l = record {
-  same : Heeds l.fn.hints.wanted l.fn.seat l.hints.wanted l.seat;
-  holds : HasTask l.fn.run l.p l.left l.seat;
+  same : Heeds l.fn.worker l.worker;
+  holds : HasTask l.fn.run l.p l.left l.worker.seat;
 }
 
 abbrev pub decreases-loop-first : goal.decreases-loop-first

@@ -10,14 +10,14 @@ spend_all-left-requires g c =
     let run = c.args.run.now in
     let well = subst IsWellWired run.fits.network c.program-program.ensures.wired in
     let d = c.draw_some.ensures in
-    still_has run well c.args.p c.in-Got.drawn c.args.seat.now c.draw_some.new.seat c.requires d.same.0 d.knows c.in-Got.ensures.drawn c.in-Got.ensures.fits.2
+    still_has run well c.args.p c.in-Got.drawn c.args.worker.now.seat c.draw_some.new.seat c.requires d.same.0 d.knows c.in-Got.ensures.drawn c.in-Got.ensures.fits.2
 
 pub rest_ready-requires-clause-holds : goal.rest_ready-requires-clause-holds
 rest_ready-requires-clause-holds g c =
     let run = c.args.run.now in
     let well = subst IsWellWired run.fits.network c.program-program.ensures.wired in
     let d = c.draw_some.ensures in
-    let h = still_has run well c.args.p 0 c.args.seat.now c.draw_some.new.seat c.requires d.same.0 d.knows c.in-Lost.ensures.drawn (omega (arith, c.requires.2, d.knows.got)) in
+    let h = still_has run well c.args.p 0 c.args.worker.now.seat c.draw_some.new.seat c.requires d.same.0 d.knows c.in-Lost.ensures.drawn (omega (arith, c.requires.2, d.knows.events_when_got)) in
     (0, 0, h.3.0, h.3.1, h.3.2, tt)
 
 pub rest_ready-requires-in-Empty-clause-holds : goal.rest_ready-requires-in-Empty-clause-holds
@@ -25,7 +25,7 @@ rest_ready-requires-in-Empty-clause-holds g c =
     let run = c.args.run.now in
     let well = subst IsWellWired run.fits.network c.program-program.ensures.wired in
     let d = c.draw_some.ensures in
-    let h = still_has run well c.args.p 0 c.args.seat.now c.draw_some.new.seat c.requires d.same.0 d.knows c.in-Empty.ensures.drawn (omega (arith, c.requires.2, d.knows.got)) in
+    let h = still_has run well c.args.p 0 c.args.worker.now.seat c.draw_some.new.seat c.requires d.same.0 d.knows c.in-Empty.ensures.drawn (omega (arith, c.requires.2, d.knows.events_when_got)) in
     (0, 0, h.3.0, h.3.1, h.3.2, tt)
 
 pub returns-in-Lost-clause-idle : goal.returns-in-Lost-clause-idle

@@ -1,27 +1,22 @@
-use Rattle.kahn_crew.proofs.Common.{arith, rules, length, woken_task}
-use Rattle.kahn_crew.proofs.Started.{all_taken, goes_on, next_at, none_taken, one_taken, room_for}
+use Rattle.kahn_crew.proofs.Common.{◌≡◌, List, [], ◌∷◌, ◌++◌, length, map, sym, ap, ◌∙◌, subst, Some, slice_get, append_assoc, map-append, Work, Tasked, woken_task}
+use Rattle.kahn_crew.proofs.Started.{goes_on, middle_at}
 use Rattle.kahn_crew.proofs.waking.wake_all.Goals as goal
-
-pub loop-idle-init : goal.loop-idle-init
-loop-idle-init c = (none_taken (woken_task c.args.input.now) c.args.idles.items c.reverse.new.self.items c.args.tasks.items c.reverse.ensures.items c.requires.room.0, c.requires.room.1)
 
 pub woken-requires : goal.woken-requires
 woken-requires c =
-    let at = next_at (woken_task c.args.input.now) c.args.idles.items c.loop-idle.idles.items c.loop-idle.tasks.items c.pop.new.self.items c.in-Some.idle c.loop-idle.invariant.0 c.in-Some.ensures.items in
-    goes_on c.args.network.now c.args.input.now c.args.idles.items c.requires.idle c.requires.settled (length c.loop-idle.tasks.items) c.in-Some.idle at
-
-pub push_reserved-requires : goal.push_reserved-requires
-push_reserved-requires c =
-    let few = room_for (woken_task c.args.input.now) c.args.idles.items c.loop-idle.idles.items c.loop-idle.tasks.items c.pop.new.self.items c.in-Some.idle c.loop-idle.invariant.0 c.in-Some.ensures.items in
-    let room = c.loop-idle.invariant.1 in
-    omega (arith, few, room)
+    let done = c.loop-idle.yielded in
+    let split = c.loop-idle.invariant.2 ∙ ap (λ (l : List Work). done ++ l) c.in-Some.ensures.steps.0 in
+    goes_on c.args.network.now c.args.input.now c.args.idles.items c.requires.idle c.requires.settled (length done) c.in-Some.idle
+    (subst (λ (l : List Work). slice_get l (length done) ≡ Some c.in-Some.idle) (sym split) (middle_at done c.next.new.self.rest.items c.in-Some.idle))
 
 pub loop-idle-preserved : goal.loop-idle-preserved
-loop-idle-preserved c = (
-  one_taken (woken_task c.args.input.now) c.args.idles.items c.loop-idle.idles.items c.loop-idle.tasks.items c.pop.new.self.items c.in-Some.idle c.push_reserved.new.self.items c.loop-idle.invariant.0
-      c.in-Some.ensures.items (search rules),
-  search rules,
-)
-
-pub returns : goal.returns
-returns c = all_taken (woken_task c.args.input.now) c.args.idles.items c.loop-idle.idles.items c.loop-idle.tasks.items c.loop-idle.invariant.0 (search rules)
+loop-idle-preserved c =
+    let done = c.loop-idle.yielded in
+    let i = c.loop-idle.invariant in
+    let task = woken_task c.args.input.now in (
+      tt,
+      tt,
+      i.2 ∙ (ap (λ (l : List Work). done ++ l) c.in-Some.ensures.steps.0 ∙ sym (append_assoc done (c.in-Some.idle ∷ []) c.next.new.self.rest.items)),
+      c.push_reserved.ensures.items ∙ (ap (λ (l : List Tasked). l ++ c.woken.result ∷ []) i.3 ∙ (ap (λ (x : Tasked). map task done ++ x ∷ []) c.woken.ensures ∙ sym (map-append task done (c.in-Some.idle ∷ [])))),
+      c.push_reserved.ensures.capacity ∙ i.4,
+    )

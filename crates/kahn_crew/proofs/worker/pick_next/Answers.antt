@@ -1,11 +1,18 @@
-use Rattle.kahn_crew.proofs.Round.{none_of}
+use Rattle.kahn_crew.proofs.Round.{picked_since}
 use Rattle.kahn_crew.proofs.worker.pick_next.Goals as goal
 
 pub pick_hinted-requires : goal.pick_hinted-requires
 pick_hinted-requires c = (0, c.requires)
 
-pub returns-in-Some-clause-picked : goal.returns-in-Some-clause-picked
-returns-in-Some-clause-picked c = c.in-Some.ensures.picked 0 c.requires
+pub returns-in-Some-clause-found : goal.returns-in-Some-clause-found
+returns-in-Some-clause-found c = c.in-Some.ensures.picked 0 c.requires
 
-pub returns-in-None-clause-none : goal.returns-in-None-clause-none
-returns-in-None-clause-none c = none_of c.args.run.now c.args.worker.now.seat c.pick_hinted.new.seat c.args.run.now.board.now.instances c.pick_elsewhere.result c.pick_hinted.ensures.same.1 c.pick_elsewhere.ensures.none
+pub returns-in-Some-pick_hinted-clause-found : goal.returns-in-Some-pick_hinted-clause-found
+returns-in-Some-pick_hinted-clause-found c = c.in-Some-pick_hinted.ensures.picked 0 (c.in_default.ensures.left 0 c.requires)
+
+pub returns-clause-found : goal.returns-clause-found
+returns-clause-found c =
+    let run = c.args.run.now in
+    let b = c.pick_hinted.new.worker in
+    let d = c.pick_any.new.worker in
+    picked_since run c.args.worker.now b d c.pick_any.result c.pick_hinted.ensures.same (picked_since run b c.pick_hinted-2.new.worker d c.pick_any.result c.pick_hinted-2.ensures.same c.pick_any.ensures.found)

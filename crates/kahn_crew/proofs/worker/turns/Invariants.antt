@@ -3,4 +3,4 @@ use Rattle.kahn_crew.proofs.worker.turns.Given as goal
 
 abbrev pub invariant-loop : goal.invariant-loop
 invariant-loop g l =
-    (goal.iterator-loop g).can_next l.iterator' × (goal.iterator-loop g).is_finite l.iterator' × Heeds l.initial.worker.hints.wanted l.initial.worker.seat l.worker.hints.wanted l.worker.seat × SitsWith l.fn.run 0 l.worker.seat
+    (goal.iterator-loop g).can_next l.iterator' × (goal.iterator-loop g).is_finite l.iterator' × Heeds l.initial.worker l.worker × SitsWith l.fn.run 0 l.worker.seat

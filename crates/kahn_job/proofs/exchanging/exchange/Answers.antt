@@ -7,4 +7,4 @@ returns-clause-rows c =
 
 pub returns-clause-cells : goal.returns-clause-cells
 returns-clause-cells c =
-    cells_exchanged c.args.idles.now c.args.side.instance c.args.side.parameter c.args.port c.index-idles-side.result c.replace.new.self c.requires.0 c.replace.ensures.rest
+    cells_exchanged c.args.idles.now c.args.side.instance c.args.side.parameter c.args.port c.index-idles-side.result c.replace.new.self c.replace.ensures.rest

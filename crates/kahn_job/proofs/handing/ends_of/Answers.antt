@@ -11,8 +11,7 @@ returns-in-Ok c =
     (subst (λ y. AreEndsOf c.args.network.now c.args.input.now c.args.channel (putting s) y) (sym c.takes.ensures)
     (record {
       puts = λ i. (refl, h.name.0);
-      takes = λ n. (refl, h.name.1);
-      feeds = λ i. absurd (inner_is_not_input (search rules) i);
+      takes = λ n. (refl, h.name.1, λ i. absurd (inner_is_not_input (search rules) i));
       lane = λ i. (receiver_lane r, ap Some h.lane, refl);
       new_writer = (h.start.0, h.start.1);
       new_reader = (h.start.2, refl);

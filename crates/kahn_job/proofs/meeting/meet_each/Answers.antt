@@ -1,7 +1,6 @@
 use Rattle.kahn_job.proofs.Common.{arith, ⊎_elim, sym, subst, network_of, reads_listed, rows_of, AreBehindOn}
 use Rattle.kahn_job.proofs.Idles.{met_self, met_then}
-use Rattle.kahn_job.proofs.Meeting_ends.{behind_before, rests_met}
-use Rattle.kahn_job.proofs.Settles.{below_or}
+use Rattle.kahn_job.proofs.Settles.{behind_before, below_or, rests_met}
 use Rattle.kahn_job.proofs.meeting.meet_each.Goals as goal
 
 pub loop-channel-init : goal.loop-channel-init

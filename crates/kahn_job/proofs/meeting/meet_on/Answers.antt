@@ -1,12 +1,12 @@
 use Rattle.kahn_job.proofs.Common.{network_of, IsBehind, rows_of}
-use Rattle.kahn_job.proofs.Settles.{may_meet, none_reads, none_writes, on_only}
+use Rattle.kahn_job.proofs.Settles.{can_settle, none_reads, none_writes, on_only}
 use Rattle.kahn_job.proofs.meeting.meet_on.Goals as goal
 
 pub meet_sides-requires-clause-lane : goal.meet_sides-requires-clause-lane
 meet_sides-requires-clause-lane c =
     let r = c.requires.resting in
-    may_meet c.args.network.now c.program-program.ensures.wired r.0 (rows_of c.args.idles.now) r.1 c.args.channel c.in-Some.writer c.in-Some-reader.reader
-    c.in-Some.ensures.only c.in-Some-reader.ensures.only
+    (can_settle c.args.network.now c.program-program.ensures.wired r.0 (rows_of c.args.idles.now) r.1 c.args.channel c.in-Some.writer c.in-Some-reader.reader
+    c.in-Some.ensures.only c.in-Some-reader.ensures.only).ends
 
 pub returns-in-Some-reader-clause-behind : goal.returns-in-Some-reader-clause-behind
 returns-in-Some-reader-clause-behind c =

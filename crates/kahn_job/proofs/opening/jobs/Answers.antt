@@ -1,5 +1,4 @@
-use Rattle.kahn_job.proofs.Bare.{all_bare}
-use Rattle.kahn_job.proofs.Begun.{all_opening}
+use Rattle.kahn_job.proofs.Begun.{all_bare, all_opening}
 use Rattle.kahn_job.proofs.opening.jobs.Goals as goal
 
 pub hand_all-requires : goal.hand_all-requires

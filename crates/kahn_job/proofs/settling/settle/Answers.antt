@@ -1,26 +1,22 @@
 use Rattle.kahn_job.proofs.Common.{arith, ◌≡◌, length, refl, ◌∙◌, subst, network_of, rows_of}
 use Rattle.kahn_job.proofs.Idles.{all_settled}
-use Rattle.kahn_job.proofs.Settles.{AreGoing, going_first, going_on, rests_alike, stood_alike}
+use Rattle.kahn_job.proofs.Settles.{AreGoing, going_first, alike_stayed, going_on, rests_met, stood_still, stood_then}
 use Rattle.kahn_job.proofs.settling.settle.Goals as goal
 
 pub loop-channel-init : goal.loop-channel-init
 loop-channel-init c = (going_first c.args.network.now c.args.input.now (rows_of c.args.idles.now) c.requires, refl)
 
-pub settle_channel-requires-clause-resting : goal.settle_channel-requires-clause-resting
-settle_channel-requires-clause-resting c = c.loop-channel.invariant.0.resting
-
 pub returns-in_err-settle_channel-clause-resting : goal.returns-in_err-settle_channel-clause-resting
 returns-in_err-settle_channel-clause-resting c =
-    rests_alike c.args.network.now c.args.input.now (rows_of c.loop-channel.idles) (rows_of c.settle_channel.new.idles) c.in_err-settle_channel.ensures.ends
-    c.loop-channel.invariant.0.resting
+    let now = rows_of c.loop-channel.idles in
+    let new = rows_of c.settle_channel.new.idles in
+    rests_met c.args.network.now c.args.input.now now new (alike_stayed now new c.in_err-settle_channel.ensures.ends) c.loop-channel.invariant.0.resting
 
 pub returns-in_err-settle_channel-clause-stood : goal.returns-in_err-settle_channel-clause-stood
 returns-in_err-settle_channel-clause-stood c =
-    stood_alike (rows_of c.args.idles.now) (rows_of c.loop-channel.idles) (rows_of c.settle_channel.new.idles) c.loop-channel.invariant.0.stood
-    c.in_err-settle_channel.ensures.ends
-
-pub returns-in_err-settle_channel-clause-cells : goal.returns-in_err-settle_channel-clause-cells
-returns-in_err-settle_channel-clause-cells c = c.settle_channel.ensures.cells ∙ c.loop-channel.invariant.1
+    let now = rows_of c.loop-channel.idles in
+    let new = rows_of c.settle_channel.new.idles in
+    stood_then (rows_of c.args.idles.now) now new c.loop-channel.invariant.0.stood (stood_still now new (alike_stayed now new c.in_err-settle_channel.ensures.ends))
 
 pub loop-channel-preserved : goal.loop-channel-preserved
 loop-channel-preserved c = (
@@ -37,12 +33,3 @@ returns-clause-settled c =
     let all : c.loop-channel.channel ≡ length (network_of c.args.network.now).channels = omega (arith, least, most, end) in
     all_settled c.args.network.now c.program-program.ensures.wired c.args.input.now (rows_of c.args.idles.now) (rows_of c.loop-channel.idles)
     (subst (λ k. AreGoing c.args.network.now c.args.input.now k (rows_of c.args.idles.now) (rows_of c.loop-channel.idles)) all c.loop-channel.invariant.0)
-
-pub returns-clause-resting : goal.returns-clause-resting
-returns-clause-resting c = c.loop-channel.invariant.0.resting
-
-pub returns-clause-stood : goal.returns-clause-stood
-returns-clause-stood c = c.loop-channel.invariant.0.stood
-
-pub returns-clause-cells : goal.returns-clause-cells
-returns-clause-cells c = c.loop-channel.invariant.1

@@ -15,5 +15,6 @@ returns c =
     let three = c.in_ok-arg-3.ensures.shape c.number_arg.ensures.local ∙ ap₂ with_rule two c.number_arg.ensures.rule in
     let four = c.in_ok-arg-4.ensures.shape c.watch_arg.ensures.local ∙ ap₂ with_rule three c.watch_arg.ensures.rule in
     let five = c.in_ok-arg-5.ensures.shape c.flag_arg.ensures.local ∙ ap₂ with_rule four c.flag_arg.ensures.rule in
-    let six = c.in_ok-arg-6.ensures.shape c.at_end_arg.ensures.local ∙ ap₂ with_rule five c.at_end_arg.ensures.rule in
-    IfOk-weaker c.arg-7.result _ _ (λ r h. h.shape c.plain_arg.ensures.local ∙ ap₂ with_rule six c.plain_arg.ensures.rule) c.arg-7.ensures
+    let six = c.in_ok-arg-6.ensures.shape c.flag_arg-2.ensures.local ∙ ap₂ with_rule five c.flag_arg-2.ensures.rule in
+    let seven = c.in_ok-arg-7.ensures.shape c.at_end_arg.ensures.local ∙ ap₂ with_rule six c.at_end_arg.ensures.rule in
+    IfOk-weaker c.arg-8.result _ _ (λ r h. h.shape c.plain_arg.ensures.local ∙ ap₂ with_rule seven c.plain_arg.ensures.rule) c.arg-8.ensures

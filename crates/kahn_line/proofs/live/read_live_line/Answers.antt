@@ -25,7 +25,7 @@ returns g c =
     let faults = c.in_ok-matches.ensures.kinds (ap is_simple_and_free is) in
     let matches = subst (λ ws. HasMatchesOf (app_of c.in_ok-live_command.field-0) ws c.in_ok-matches.matches) same c.in_ok-matches.ensures.matches in (
       asked_live c.in_ok-live_command.field-0 c.in_ok-matches.matches words c.in_ok-matches.ensures.parsed matches is _
-          (c.in_ok-copied.ensures ∙ c.get_str-2.ensures) _ c.in_ok-config_of.ensures refl (c.was_given.ensures ∙ ap was_given c.get_str-3.ensures)
+          (c.in_ok-copied.ensures ∙ c.get_str-2.ensures) _ c.in_ok-config_of.ensures refl (c.was_given.ensures ∙ ap was_given c.get_str-3.ensures) (c.was_given-2.ensures ∙ ap was_given c.get_str-4.ensures)
           c.in_ok-lines_at_end.ensures (c.in_ok-plain.ensures ∙ ap (option_map (parted 44)) c.get_str.ensures),
       ap₂ fault_of (sym is) (sym same) ∙ faults,
     )

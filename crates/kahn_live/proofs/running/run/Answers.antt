@@ -18,6 +18,6 @@ returns-in-Ok-checked g c =
     let new = telling_of g.E.Write.contents c.run_network.result.1 in
     let r = c.run_network.result.0 in
     let watches = subst (λ (p : Option Plain). WatchesPlain p o.config config) c.as_ref.ensures.value c.in-Ok.ensures in
-    let named = subst (λ (p : Option Plain). HasRunNetwork (record { plain = p; at_end = map string_bytes c.deref.result.now }) t config text out old new r) c.as_ref.ensures.value c.run_network.ensures in
-    let ran = subst (λ (ls : List (String Global)). HasRunNetwork (record { plain = o.plain; at_end = map string_bytes ls }) t config text out old new r) c.deref.ensures.value named in
+    let named = subst (λ (p : Option Plain). HasRunNetwork (record { plain = p; at_end = map string_bytes c.deref.result.now; strict = o.strict }) t config text out old new r) c.as_ref.ensures.value c.run_network.ensures in
+    let ran = subst (λ (ls : List (String Global)). HasRunNetwork (record { plain = o.plain; at_end = map string_bytes ls; strict = o.strict }) t config text out old new r) c.deref.ensures.value named in
     inr (inr (t, config, c.in-Ok-checked.ensures, watches, ran))

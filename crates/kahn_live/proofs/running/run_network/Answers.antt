@@ -17,5 +17,5 @@ returns g c =
     let before = writer_contents g.W.Write.contents c.new-2.result.writer in
     let made = c.in-Ok-new.ensures in
     let out = ap (λ o. writer_contents g.W.Write.contents o.writer) c.new-2.ensures ∙ unwritten g.W.Write.contents c.in-Ok-new.writer c.args.output made.inner made.empty in
-    let served = served_as (option_copied c.input_of.result) input at_end s text before (g.W.Write.contents c.args.output) old last c.work-ending.result c.input_of.ensures out c.work-ending.ensures in
+    let served = served_as c.args.asked.strict (option_copied c.input_of.result) input at_end s text before (g.W.Write.contents c.args.output) old last c.work-ending.result c.input_of.ensures out c.work-ending.ensures in
     inr (inr (s, c.in-Ok.ensures, (last, c.work-ending.result, c.sent-ending.new.outlet.gone, served, c.sent-ending.ensures.sent, c.tell_stuck.ensures)))

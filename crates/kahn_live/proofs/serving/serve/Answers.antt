@@ -1,4 +1,4 @@
-use Rattle.std.proofs.Common.{◌≡◌, ◌∙◌, inl, inr, Bool, Ok, Err, rules, subst, true}
+use Rattle.std.proofs.Common.{◌≡◌, ◌∙◌, inl, inr, Bool, Ok, Err, refl, rules, subst, true}
 use Rattle.std.specs.Prelude.{is_some}
 use Rattle.std.proofs.lemmas.Result.{err_from_is_err_and}
 use Rattle.std.specs.Io.Buffered.{reader_remaining}
@@ -12,6 +12,16 @@ returns-in_err-take_all g c =
     let p = err_from_is_err_and c.from_residual.result c.from_residual.ensures.1 in
     rw (p.1, p.2) (inl c.in_err-take_all.ensures.met)
 
+pub returns-in_err-amiss : goal.returns-in_err-amiss
+returns-in_err-amiss g c =
+    let f = lines_given c.args.fed in
+    let text = reader_remaining g.I.Read.remaining c.args.reader.now in
+    let old = point_of g.W.Write.contents g.E.Write.contents c.args.stage.now in
+    let last = point_of g.W.Write.contents g.E.Write.contents c.take_all.new.stage in
+    let there : c.in_ok-take_all.field-0 ≡ true = search rules in
+    let p = err_from_is_err_and c.from_residual-in_err-amiss.result c.from_residual-in_err-amiss.ensures.1 in
+    rw (p.1, p.2) (inr (last, all_there f text old last c.in_ok-take_all.field-0 there c.in_ok-take_all.ensures.met, inl (c.in_err-amiss.ensures, refl)))
+
 pub returns-in_err-verdict : goal.returns-in_err-verdict
 returns-in_err-verdict g c =
     let f = lines_given c.args.fed in
@@ -21,9 +31,10 @@ returns-in_err-verdict g c =
     let new = point_of g.W.Write.contents g.E.Write.contents c.close.new.stage in
     let there : c.in_ok-take_all.field-0 ≡ true = search rules in
     let plain : c.is_some.result ≡ is_some f.input = c.is_some.ensures ∙ copied_some c.args.fed.input in
-    let ended = subst (λ (b : Bool). IsEnded b last new (Err c.in_err-verdict.field-0.0)) plain c.in_err-verdict.ensures in
+    let amiss = c.in_ok-amiss.amiss in
+    let ended = subst (λ (b : Bool). IsEnded b amiss last new (Err c.in_err-verdict.field-0.0)) plain c.in_err-verdict.ensures in
     let p = err_from_is_err_and c.from_residual-in_err-verdict.result c.from_residual-in_err-verdict.ensures.1 in
-    rw (p.1, p.2) (inr (last, all_there f text old last c.in_ok-take_all.field-0 there c.in_ok-take_all.ensures.met, ended))
+    rw (p.1, p.2) (inr (last, all_there f text old last c.in_ok-take_all.field-0 there c.in_ok-take_all.ensures.met, inr (amiss, (c.in_ok-amiss.ensures, ended))))
 
 pub returns : goal.returns
 returns g c =
@@ -34,5 +45,6 @@ returns g c =
     let new = point_of g.W.Write.contents g.E.Write.contents c.close.new.stage in
     let there : c.in_ok-take_all.field-0 ≡ true = search rules in
     let plain : c.is_some.result ≡ is_some f.input = c.is_some.ensures ∙ copied_some c.args.fed.input in
-    let ended = subst (λ (b : Bool). IsEnded b last new (Ok c.in_ok-verdict.verdict)) plain c.in_ok-verdict.ensures in
-    (last, all_there f text old last c.in_ok-take_all.field-0 there c.in_ok-take_all.ensures.met, ended)
+    let amiss = c.in_ok-amiss.amiss in
+    let ended = subst (λ (b : Bool). IsEnded b amiss last new (Ok c.in_ok-verdict.verdict)) plain c.in_ok-verdict.ensures in
+    (last, all_there f text old last c.in_ok-take_all.field-0 there c.in_ok-take_all.ensures.met, (c.in_ok-amiss.ensures, ended))

@@ -10,4 +10,4 @@ returns g c =
     let new = point_of g.W.Write.contents g.E.Write.contents c.serve.new.stage in
     let made = c.in-Ok.ensures in
     let same = fresh g.I.Read.remaining c.in-Ok.reader c.args.input made.inner made.empty made.capacity in
-    inl (subst (λ (t : Option (List ℕ)). HasServedAll (lines_given c.args.fed) c.serve.result t old new) same c.serve.ensures)
+    inl (subst (λ (t : Option (List ℕ)). HasServedAll c.args.strict (lines_given c.args.fed) c.serve.result t old new) same c.serve.ensures)

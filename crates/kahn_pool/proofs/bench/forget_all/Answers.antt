@@ -1,4 +1,4 @@
-use Rattle.std.proofs.Common.{rules, rules}
+use Rattle.std.proofs.Common.{rules}
 use Rattle.kahn_pool.proofs.Lists.{one_changed, all_changed}
 use Rattle.kahn_pool.proofs.bench.forget_all.Goals as goal
 

@@ -1,7 +1,6 @@
-use Rattle.kahn_pool.proofs.Common.{cells_of, held_state}
+use Rattle.kahn_pool.proofs.Common.{cells_of}
 use Rattle.kahn_pool.proofs.Filled.{are_streams}
 use Rattle.kahn_pool.proofs.Kept.{idle_lists}
-use Rattle.kahn_pool.proofs.Seen.{kept_seen, printed_seen}
 use Rattle.kahn_pool.proofs.copies.copied_streams.Goals as goal
 
 pub fill-requires-clause-named : goal.fill-requires-clause-named
@@ -13,7 +12,4 @@ fill-requires-clause-lists c =
 
 pub returns : goal.returns
 returns c =
-    let ls = c.in_ok-lists.lists.items in
-    let cells = cells_of c.args.idles.now in
-    are_streams (held_state c.args.network.now c.args.input.now c.args.watch c.args.idles.now) ls c.in_ok-streams.streams.items c.fill.new.streams.items c.in_ok-streams.ensures.lines c.fill.ensures
-    (kept_seen ls cells c.in_ok-lists.ensures.sent) (printed_seen ls cells c.in_ok-lists.ensures.printed) c.in_ok-streams.ensures.given
+    are_streams c.args.network.now c.args.input.now c.args.watch (cells_of c.args.idles.now) c.in_ok-lists.ensures c.in_ok-streams.ensures c.fill.ensures

@@ -1,6 +1,5 @@
 use Rattle.std.proofs.Common.{◌≡◌, inl, sym, ap, ◌∙◌, subst, length, refl}
-use Rattle.kahn_pool.proofs.Common.{Tasked, IsToldAs, slice_get_read}
-use Rattle.kahn_pool.proofs.Benched.{some_one}
+use Rattle.kahn_pool.proofs.Common.{same_Some, Tasked, IsToldAs, slice_get_read}
 use Rattle.kahn_pool.proofs.ends.end_of.Goals as goal
 use Rattle.kahn_pool.proofs.ends.end_of.Goals.{in-Going, in-Ended, in-Faulted, in-Dry}
 
@@ -19,7 +18,7 @@ returns c x e =
     let p = c.args.instance in
     let y = c.index-tasks-instance.result in
     let at = slice_get_read tasks (length tasks) p y refl c.requires.here c.index-tasks-instance.is in
-    let same : y ≡ x = some_one (sym at ∙ e) in
+    let same : y ≡ x = same_Some _ _ (sym at ∙ e) in
     let stands : x.standing ≡ c.standing.result = ap (λ (z : Tasked). z.standing) (sym same) ∙ sym c.standing.ensures.result in
     record {
       events = c.events.ensures ∙ ap (λ (z : Tasked). z.work.cell.events) same;

@@ -1,7 +1,6 @@
 use Rattle.std.proofs.Common.{Err, refl, ap, map, subst}
 use Rattle.kahn_pool.proofs.Common.{idle_still, NoMemory, cell_alone, Stopped, HaveRisen, cells_of}
-use Rattle.kahn_pool.proofs.Held_jobs.{held_alike, refused_so, stopped_since}
-use Rattle.kahn_pool.proofs.Going_on.{risen_here}
+use Rattle.kahn_pool.proofs.Held_jobs.{held_alike, refused_so, risen_here, stopped_since}
 use Rattle.kahn_pool.proofs.part.run_part.Goals as goal
 
 pub run_settled-requires-clause-part : goal.run_settled-requires-clause-part
@@ -12,9 +11,7 @@ run_settled-requires-clause-part g c κs within =
     let us = c.settle_ends-idles.result.0.items in
     record {
       code = p.code;
-      few = p.few;
-      quantum = p.quantum;
-      bounded = p.bounded;
+      range = p.range;
       held = held_alike p.held us e.cells (idle_still t.network.now t.input.now c.args.idles.items p.held.idle us e.cells e.stood e.resting);
     }
 
@@ -25,7 +22,7 @@ returns-then-is_err g c =
     let ws = c.args.idles.items in
     let us = c.settle_ends-idles.result.0.items in
     let held = c.requires.part.held in
-    let r : Stopped = record { idles = c.settle_ends-idles.result.0; budget = t.plan.bound; ends = c.args.room.ends; outcome = Err NoMemory } in
+    let r : Stopped = record { idles = c.settle_ends-idles.result.0; budget = t.left; ends = c.args.room.ends; outcome = Err NoMemory } in
     refused_so t ws r (held_alike held us e.cells (idle_still t.network.now t.input.now ws held.idle us e.cells e.stood e.resting))
     (subst (λ cs. HaveRisen cs (cells_of us)) e.cells (risen_here (cells_of us))) NoMemory tt refl (λ f. (refl, ap (map cell_alone) e.cells))
 

@@ -1,6 +1,6 @@
 use Rattle.std.proofs.Common.{arith, sym, ◌∙◌, subst}
 use Rattle.kahn_pool.proofs.Common.{AreReadyTasks, HaveGone, woken_ready, Work, at_mapped}
-use Rattle.kahn_pool.proofs.Held_jobs.{alone_still, have_risen, refused_so, woken_events, alone_still, have_risen, refused_so, ended_so}
+use Rattle.kahn_pool.proofs.Held_jobs.{alone_still, have_risen, refused_so, woken_events, ended_so}
 use Rattle.kahn_pool.proofs.part.run_settled.Goals as goal
 
 pub wake_all-tasks-requires-clause-room : goal.wake_all-tasks-requires-clause-room
@@ -20,7 +20,7 @@ run_tasks-requires-clause-ready g c κs within =
 pub run_tasks-requires-clause-bound : goal.run_tasks-requires-clause-bound
 run_tasks-requires-clause-bound g c =
     let all = woken_events c.requires.part.held c.wake_all-tasks.ensures in
-    let b = c.requires.part.bounded in
+    let b = c.requires.part.range.4 in
     omega (arith, all, b)
 
 pub conclude-requires-clause-left : goal.conclude-requires-clause-left
@@ -30,7 +30,7 @@ conclude-requires-clause-left g c =
     let all = woken_events c.requires.part.held c.wake_all-tasks.ensures in
     record {
       code = c.requires.part.code;
-      bounded = c.requires.part.bounded;
+      bounded = c.requires.part.range.4;
       first = c.wake_all-tasks.result.items;
       gone = subst (λ b. HaveGone t.network.now t.input.now t.plan.watch b c.wake_all-tasks.result.items left.tasks.items left.budget) all c.in-Ok.ensures.gone;
     }
@@ -42,7 +42,7 @@ give_up-requires-clause-left g c =
     let all = woken_events c.requires.part.held c.wake_all-tasks.ensures in
     record {
       code = c.requires.part.code;
-      bounded = c.requires.part.bounded;
+      bounded = c.requires.part.range.4;
       first = c.wake_all-tasks.result.items;
       gone = subst (λ b. HaveGone t.network.now t.input.now t.plan.watch b c.wake_all-tasks.result.items left.tasks.items left.budget) all c.in-Err.ensures.refused;
     }

@@ -1,4 +1,4 @@
-use Rattle.std.proofs.Common.{rules, ◌∙◌, rules}
+use Rattle.std.proofs.Common.{rules, ◌∙◌}
 use Rattle.std.proofs.lemmas.List.{length-set}
 use Rattle.kahn_pool.proofs.Filled.{next_declared, filling_goes}
 use Rattle.kahn_pool.proofs.Lists.{all_changed}

@@ -1,5 +1,6 @@
-use Rattle.std.proofs.Common.{refl}
+use Rattle.std.proofs.Common.{refl, rules}
 use Rattle.kahn_pool.proofs.Sizes.{settles}
+use Rattle.kahn_report.specs.Formats.{HasItsLines}
 use Rattle.kahn_report.proofs.Right_lines.{right_lines}
 use Rattle.kahn_report.proofs.Worked.{unchecked, unanswered}
 use Rattle.kahn_report.proofs.working.work.Goals as goal
@@ -10,22 +11,23 @@ returns-in-Err-clause-told g c = unchecked _ _ _ _ _ c.in-Err.ensures
 pub returns-in-Err-answered-clause-told : goal.returns-in-Err-answered-clause-told
 returns-in-Err-answered-clause-told g c = unanswered _ _ _ _ c.in-Ok.network _ c.in-Ok.ensures c.in-Err-answered.ensures
 
-pub write_report-requires : goal.write_report-requires
-write_report-requires g c =
+pub write_for-requires : goal.write_for-requires
+write_for-requires g c =
     let h = c.in-Ok-answered.ensures in
-    right_lines c.in-Ok.network h.2.1.0 c.in-Ok-answered.answer h.2.1.2.named
+    let lines : HasItsLines c.in-Ok.network c.in-Ok-answered.answer = right_lines c.in-Ok.network h.2.1.0 c.in-Ok-answered.answer h.2.1.2.named in
+    search (rules, lines)
 
-pub returns-in-Ok-write_report-clause-told : goal.returns-in-Ok-write_report-clause-told
-returns-in-Ok-write_report-clause-told g c =
+pub returns-in-Ok-write_for-clause-told : goal.returns-in-Ok-write_for-clause-told
+returns-in-Ok-write_for-clause-told g c =
     let h = c.in-Ok-answered.ensures in
-    (c.in-Ok.network, h.0, c.in-Ok-answered.answer, (c.in-Ok.ensures, h.1, h.2), refl, c.in-Ok-write_report.ensures)
+    (c.in-Ok.network, h.0, c.in-Ok-answered.answer, (c.in-Ok.ensures, h.1, h.2), refl, c.in-Ok-write_for.ensures)
 
-pub returns-in-Ok-write_report-clause-exact : goal.returns-in-Ok-write_report-clause-exact
-returns-in-Ok-write_report-clause-exact g c =
+pub returns-in-Ok-write_for-clause-exact : goal.returns-in-Ok-write_for-clause-exact
+returns-in-Ok-write_for-clause-exact g c =
     let h = c.in-Ok-answered.ensures in
     (c.in-Ok.network, h.0, c.in-Ok.ensures, h.1, settles _ _ _ h.2.1.0 c.in-Ok-answered.answer h.2.1.2)
 
 pub returns-clause-told : goal.returns-clause-told
 returns-clause-told g c =
     let h = c.in-Ok-answered.ensures in
-    (c.in-Ok.network, h.0, c.in-Ok-answered.answer, (c.in-Ok.ensures, h.1, h.2), c.in-Err-write_report.ensures)
+    (c.in-Ok.network, h.0, c.in-Ok-answered.answer, (c.in-Ok.ensures, h.1, h.2), c.in-Err-write_for.ensures)

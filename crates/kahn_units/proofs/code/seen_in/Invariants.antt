@@ -1,6 +1,6 @@
 use Rattle.std.proofs.Common.{◌≡◌}
-use Rattle.kahn_units.specs.inner.Standing.{IsOfSeat}
+use Rattle.kahn_units.specs.inner.Standing.{IsOfSite}
 use Rattle.kahn_units.proofs.code.seen_in.Given as goal
 
 abbrev pub invariant-loop-number : goal.invariant-loop-number
-invariant-loop-number g l = (l.code.network.value ≡ l.cell.network) × IsOfSeat l.cell l.queues
+invariant-loop-number g l = (l.code.network.value ≡ l.cell.network) × IsOfSite l.cell l.queues

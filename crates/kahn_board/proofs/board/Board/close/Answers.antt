@@ -1,4 +1,4 @@
-use Rattle.kahn_board.proofs.Common.{arith, ◌+◌, ◌*◌, ne_eqb, eqb, ◌≡◌, ℕ, Bool, cond, [], ◌∷◌, map, length, sym, ap, ◌∙◌, Some, map-append, some, some-injective, get_elem?, slots_filled, slots_items, belongs, wired, dealt}
+use Rattle.kahn_board.proofs.Common.{arith, ne_eqb, eqb, ◌≡◌, ℕ, Bool, cond, [], ◌∷◌, map, length, sym, ap, ◌∙◌, Some, map-append, some, some-injective, get_elem?, slots_filled, slots_items, belongs, wired, dealt}
 use Rattle.std.proofs.lemmas.List.{length-append}
 use Rattle.kahn_board.proofs.Emptied.{is_full}
 use Rattle.kahn_board.proofs.Reseats.{all_home}
@@ -31,5 +31,5 @@ returns g c = let b = c.args.self in let told = g.T.Told.told in let v = c.loop-
     let xs = slots_items c.close_with-closed.result.slots in let n = b.instances in
     let long : length xs ≡ n = omega (arith, f.3, f.1.0.ruled.deep, b.counts.0) in
     let is = all_read xs (map Some c.loop-i.room.items) c.loop-i.i n long c.loop-i.auto.i-end c.loop-i-test.false v.4 in
-    closes told own w d f.0 f.1.0 _ _ f.1.1 c.requires.1 c.requires.2 _ xs _ f.2 f.3 f.4 is (8 * (n + b.channels)) (8 * (n + b.channels) + 16) c.word-halted.result (omega (arith, b.counts.0, b.counts.1)) (omega (arith, b.counts.0, b.counts.1)) c.word-budget.ensures c.word-halted.ensures (λ ne. ap not (ne_eqb c.word-halted.result 0 ne))
+    closes told own w d f.0 f.1.0 _ _ f.1.1 c.requires.1 c.requires.2 _ xs _ f.2 f.3 f.4 is _ _ c.word-halted.result c.budget_word-budget_word.ensures c.halted_word-halted_word.ensures c.word-budget.ensures c.word-halted.ensures (λ ne. ap not (ne_eqb c.word-halted.result 0 ne))
     (λ yes z. let f : Bool → ℕ = λ b. cond b 1 0 in let e : f (not (eqb c.word-halted.result 0)) ≡ 0 = ap (λ (n : ℕ). f (not (eqb n 0))) z in absurd (omega (arith, e, ap f yes)))

@@ -1,10 +1,8 @@
-use Rattle.std.proofs.Common.{ap, ◌≡◌, ◌+◌, subst}
-use Rattle.kahn_code.proofs.Common.{network_of, inputs_of}
-use Rattle.kahn_code.specs.Progress.{Paused, IsPause}
-use Rattle.kahn_code.specs.Told.{told_view}
+use Rattle.std.proofs.Common.{subst}
+use Rattle.kahn_code.proofs.Common.{HasRunFor}
 use Rattle.kahn_code.proofs.cell.Cell.run.Goals as goal
 
-pub returns-clause-paused : goal.returns-clause-paused
-returns-clause-paused g c =
-    let new = c.run.new.self.told in
-    subst (λ n. Paused (network_of new.network) (inputs_of new.input) new.watch new.instance (told_view new) (IsPause (network_of new.network) new.instance (g.P.Ports.is_dry c.run.new.ports) (g.P.Ports.is_ready c.run.new.ports) (new.events ≡ n + c.args.quantum) c.run.result)) (ap (λ v. v.events) c.self.view_is) c.run.ensures.paused
+pub returns-clause-ran : goal.returns-clause-ran
+returns-clause-ran g c =
+    let P = g.P.Ports in
+    subst (λ v. HasRunFor P.site P.next P.is_dry P.is_ready P.has_room c.args.quantum c.run.result c.args.ports.now c.run.new.ports c.args.steps.now c.run.new.steps v c.run.new.self.told) c.self.view_is c.run.ensures.ran

@@ -17,7 +17,7 @@ pub returns : goal.returns
 returns g c =
     let e = c.take.ensures in
     let t = took c.self.view_is c.self.invariant c.args._parameter c.args.channel c.requires.reads c.index_mut.ensures.value _ _ e.names e.token e.moved e.none in record {
-      seat = search rules;
+      site = search rules;
       others = t.others;
       which = refl;
       delivered = λ q. omega arith;

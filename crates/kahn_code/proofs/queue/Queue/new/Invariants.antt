@@ -1,4 +1,7 @@
 use Rattle.kahn_code.proofs.queue.Queue.new.Given as goal
 
 abbrev pub ghost-named : goal.ghost-named
-ghost-named g a = record { network = a._network.now; input = a._input.now }
+ghost-named g a = g.names.network
+
+abbrev pub ghost-named-2 : goal.ghost-named-2
+ghost-named-2 g a = g.names.input

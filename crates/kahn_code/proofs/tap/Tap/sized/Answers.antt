@@ -1,7 +1,5 @@
 use Rattle.std.proofs.Common.{subst}
-use Rattle.kahn_code.proofs.Common.{network_of, inputs_of}
-use Rattle.kahn_code.specs.Progress.{core_of}
-use Rattle.kahn_code.specs.Told.{AreCounts}
+use Rattle.kahn_code.proofs.Common.{network_of, inputs_of, core_of, AreCounts}
 use Rattle.kahn_code.proofs.Few.{taken_bound, sent_bound}
 use Rattle.kahn_code.proofs.tap.Tap.sized.Goals as goal
 

@@ -1,10 +1,5 @@
 use Rattle.std.proofs.Common.{◌≡◌, sym, ap, ◌∙◌, subst}
-use Rattle.kahn_code.proofs.Common.{IsWellWired, network_of, inputs_of}
-use Rattle.kahn_code.specs.Cells.{StoodBy}
-use Rattle.kahn_code.specs.inner.Tapped.{Tapped}
-use Rattle.kahn_code.specs.Progress.{core_of}
-use Rattle.kahn_code.specs.Standing.{core_view}
-use Rattle.kahn_code.specs.Told.{told_view}
+use Rattle.kahn_code.proofs.Common.{IsWellWired, network_of, inputs_of, StoodBy, Tapped, core_of, core_view, told_view}
 use Rattle.kahn_code.proofs.Readers.{driven}
 use Rattle.kahn_code.proofs.Stand.{stood_by}
 use Rattle.kahn_code.proofs.tap.Tap.stood.Goals as goal

@@ -1,4 +1,5 @@
-use Rattle.std.proofs.Common.{Bool, Some, ap, ap₂}
+use Rattle.std.proofs.Common.{Bool, Some, ap₂}
+use Rattle.kahn_live.specs.Course.{Complaints}
 use Rattle.kahn_live.proofs.telling.Teller.tell_new.Goals as goal
 
 pub returns : goal.returns
@@ -9,6 +10,6 @@ returns g c = record {
   refused = c.put_new.ensures.refused;
   path = c.put_new.ensures.path;
   complaints =
-      ap₂ (λ (b s : Bool). record { last = Some c.args.fault; first = c.args.number; number = c.args.number; hinted = b; stepped = s })
-      c.is_hinted-hinted.ensures (ap (λ k. k.stepped) c.put_new.ensures.complaints);
+      ap₂ (λ (b : Bool) (k : Complaints). record k { last = Some c.args.fault; first = c.args.number; number = c.args.number; hinted = b })
+      c.is_hinted-hinted.ensures c.put_new.ensures.complaints;
 }

@@ -30,9 +30,9 @@ invariant_of-self g c =
     let at = Tapping.found c.self.inside.taps.items c.self.view_is c.self.invariant c.args.instance c.requires.here c.index_mut.ensures.value in
     let new = c.run-pause.new.self in
     let ports = c.run-pause.new.ports in
-    let e = c.run-pause.ensures in
-    subst IsLaid (Tapping.ran_is c.self.inside.taps.items c.self.view_is c.self.invariant c.args.instance c.requires.here c.index_mut.ensures.value new e.gone ports)
-    (Benched.laid_now c.self.invariant c.args.instance at new.told c.at.new.self ports c.at.ensures e.names e.ports e.at e.others)
+    let e = c.run-pause.ensures.ran in
+    subst IsLaid (Tapping.ran_is c.self.inside.taps.items c.self.view_is c.self.invariant c.args.instance c.requires.here c.index_mut.ensures.value new c.run-pause.ensures.gone ports)
+    (Benched.laid_now c.self.invariant c.args.instance at new.told c.at.new.self ports c.at.ensures e.names e.ports e.at c.run-pause.ensures.served.1)
 
 pub returns : goal.returns
 returns g c =
@@ -43,12 +43,12 @@ returns g c =
     let tap = c.run-pause.new.self in
     let new = tap.told in
     let ports = c.run-pause.new.ports in
-    let e = c.run-pause.ensures in
+    let e = c.run-pause.ensures.ran in
     let z = c.run-pause.result in
     let n = c.args.quantum in
     let ran = subst (λ (y : Table). HasRunCell (sight_of c.args.self.now) (sight_of y) c.args.instance n z)
-    (Tapping.ran_is c.self.inside.taps.items c.self.view_is laid c.args.instance c.requires.here c.index_mut.ensures.value tap e.gone ports)
+    (Tapping.ran_is c.self.inside.taps.items c.self.view_is laid c.args.instance c.requires.here c.index_mut.ensures.value tap c.run-pause.ensures.gone ports)
     (subst (λ (x : Table). HasRunCell (sight_of x) (sight_of (Benched.ran b c.args.instance new ports)) c.args.instance n z) c.self.view_is
-    (Benched.ran_now laid c.args.instance at new c.at.new.self ports c.at.ensures e.names e.ports e.at e.others c.counted.ensures n z e.paused e.events e.still))
+    (Benched.ran_now laid c.args.instance at new c.at.new.self ports c.at.ensures e.names e.ports e.at c.run-pause.ensures.served.1 c.counted.ensures n z e.paused e.events e.still))
     in
-    (ran, Tapping.run_worked c.self.inside.taps.items c.self.view_is laid c.args.instance c.requires.here c.index_mut.ensures.value tap e.gone ports n z ran)
+    (ran, Tapping.run_worked c.self.inside.taps.items c.self.view_is laid c.args.instance c.requires.here c.index_mut.ensures.value tap c.run-pause.ensures.gone ports n z ran)

@@ -1,23 +1,20 @@
-use Rattle.std.proofs.Common.{◌∙◌, length, subst}
-use Rattle.kahn_pool.proofs.Common.{Flowing, HasLetGo, flow_of}
-use Rattle.kahn_pool.proofs.Flowed.{emptied_flow, emptied_state, flowing_same, none_lent}
+use Rattle.std.proofs.Common.{length, sym, subst}
+use Rattle.kahn_pool.proofs.Common.{AreEnded, Flowing, HasLetGo, flow_of}
+use Rattle.kahn_pool.proofs.Flowed.{emptied_flow, emptied_state, flow_stays, none_lent}
 use Rattle.kahn_pool.proofs.flow.Flow.forget.Goals as goal
 
 pub invariant_of-self : goal.invariant_of-self
 invariant_of-self c =
     let i = c.self.inside in
     let d = c.forget.new.self in
-    let h = c.forget.ensures in (
-      h.network ∙ c.self.invariant.0,
-      h.watch ∙ c.self.invariant.1,
-      flowing_same i.bench d h.network (emptied_state i.bench d h) c.self.invariant.2,
-      none_lent d c.clear.new.self.items c.clear.ensures.items,
-    )
+    let h = c.forget.ensures in
+    let ended = subst (λ s. AreEnded s i.plan.bound i.budget i.ends.items i.verdict) (sym (emptied_state i.bench d h)) c.self.invariant.ended in
+    flow_stays c.self.invariant d h.network h.watch h.seen i.verdict ended c.clear.new.self.items (none_lent d c.clear.new.self.items c.clear.ensures.items)
 
 pub returns : goal.returns
 returns c =
     let i = c.self.inside in
     let d = c.forget.new.self in
     let ts = c.clear.new.self.items in
-    subst (λ (f : Flowing). HasLetGo f (flow_of d i.plan.workers i.plan.quantum i.plan.bound i.verdict (length ts))) c.self.view_is
-    (emptied_flow i.bench d c.forget.ensures i.plan.workers i.plan.quantum i.plan.bound i.verdict (length i.given.items) ts c.clear.ensures.items)
+    subst (λ (f : Flowing). HasLetGo f (flow_of d i.plan i.verdict (length ts))) c.self.view_is
+    (emptied_flow i.bench d c.forget.ensures i.plan i.verdict (length i.given.items) ts c.clear.ensures.items)

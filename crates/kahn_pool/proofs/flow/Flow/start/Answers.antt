@@ -1,9 +1,8 @@
-use Rattle.std.proofs.Common.{arith, rules, ◌≤◌, length, vec_capacity, refl, sym, ◌∙◌, subst}
-use Rattle.kahn_pool.proofs.Common.{IsInRange, IsWatched, network_of, inputs_of, AreAllGiven}
+use Rattle.std.proofs.Common.{ℕ, Option, arith, rules, ◌≤◌, length, vec_capacity, refl, sym, ◌∙◌, subst}
+use Rattle.kahn_pool.proofs.Common.{Program, Lists, IsInRange, IsWatched, network_of, inputs_of, AreAllGiven}
 use Rattle.kahn_pool.proofs.Flowed.{all_lent, none_let_go}
-use Rattle.kahn_pool.proofs.Righted.{none_done}
+use Rattle.kahn_pool.proofs.Righted.{events_seen, none_done}
 use Rattle.kahn_pool.proofs.Giving.{begun_none}
-use Rattle.kahn_pool.proofs.Held_runs.{in_range_alike}
 use Rattle.kahn_pool.proofs.flow.Flow.start.Goals as goal
 
 pub give_watched-requires : goal.give_watched-requires
@@ -15,25 +14,22 @@ pub invariant_of-result : goal.invariant_of-result
 invariant_of-result c =
     let range : IsInRange c.args.config.workers c.args.config.quantum c.args.config.bound = search rules in
     let p = c.plan_of-plan.ensures in
-    let r = in_range_alike _ _ _ _ _ _ p.workers p.quantum p.bound range in
+    let r : IsInRange c.plan_of-plan.result.workers c.plan_of-plan.result.quantum c.plan_of-plan.result.bound = rw (p.workers, p.quantum, p.bound) range in
     let b = c.in_ok-bench.bench in
     let e = c.in_ok-bench.ensures in
     let fresh = e.fresh in
     let ts = c.give_watched.new.tokens.items in
-    let all = subst (λ t. AreAllGiven (network_of t) (inputs_of b.input) b.watch ts) (sym e.names.0)
-    (subst (λ l. AreAllGiven (network_of c.args.network.now) (inputs_of l) b.watch ts) (sym e.names.1)
-    (subst (λ w. AreAllGiven (network_of c.args.network.now) (inputs_of c.args.input) w ts) (sym e.names.2) c.in_ok-give_watched.ensures.all)) in (
-      e.names.0,
-      e.names.2 ∙ sym p.watch,
-      record {
-        some = let q = r.2 in omega (arith, q);
-        left = omega (arith, fresh);
-        few = r.4;
-        enough = subst (λ t. length (network_of t).instances ≤ vec_capacity c.in_ok-ends.ends) (sym e.names.0) c.in_ok-ends.ensures;
-        ended = tt;
-      },
-      all_lent b (length (network_of c.args.network.now).instances) e.whole ts all,
-    )
+    let all = subst (λ (x : Program × Lists × Option ℕ). AreAllGiven (network_of x.0) (inputs_of x.1) x.2 ts) (λ i. (sym e.names.0 i, sym e.names.1 i, sym e.names.2 i))
+    c.in_ok-give_watched.ensures.all in record {
+      network = e.names.0;
+      watch = e.names.2 ∙ sym p.watch;
+      some = let q = r.2 in omega (arith, q);
+      left = let s = events_seen b.cells in omega (arith, fresh, s);
+      few = r.4;
+      enough = subst (λ t. length (network_of t).instances ≤ vec_capacity c.in_ok-ends.ends) (sym e.names.0) c.in_ok-ends.ensures;
+      ended = tt;
+      lent = all_lent b (length (network_of c.args.network.now).instances) e.whole ts all;
+    }
 
 pub returns : goal.returns
 returns c =
@@ -42,9 +38,8 @@ returns c =
     let b = c.in_ok-bench.bench in
     let e = c.in_ok-bench.ensures in
     let ts = c.give_watched.new.tokens.items in
-    let all = subst (λ t. AreAllGiven (network_of t) (inputs_of b.input) b.watch ts) (sym e.names.0)
-    (subst (λ l. AreAllGiven (network_of c.args.network.now) (inputs_of l) b.watch ts) (sym e.names.1)
-    (subst (λ w. AreAllGiven (network_of c.args.network.now) (inputs_of c.args.input) w ts) (sym e.names.2) c.in_ok-give_watched.ensures.all)) in
+    let all = subst (λ (x : Program × Lists × Option ℕ). AreAllGiven (network_of x.0) (inputs_of x.1) x.2 ts) (λ i. (sym e.names.0 i, sym e.names.1 i, sym e.names.2 i))
+    c.in_ok-give_watched.ensures.all in
     record {
       run = record {
         allowed = range;
@@ -54,7 +49,7 @@ returns c =
         workers = p.workers;
         quantum = p.quantum;
         bound = p.bound;
-        none = none_done b.cells e.fresh;
+        none = none_done b.cells (events_seen b.cells ∙ e.fresh);
         unsettled = refl;
       };
       out = none_let_go b (length (network_of c.args.network.now).instances) e.whole ts all;

@@ -13,4 +13,4 @@ returns c v e =
     let ended = subst (AreEnded (held_state t i.input i.plan.watch ws) i.plan.bound i.budget i.ends.items) is c.self.invariant.ended in
     subst (λ (xs : List End). IsRightSoFar c.args.self.now v xs) (sym c.deref.ensures.value)
     (subst (λ (r : HeldRun). IsRightSoFar r v i.ends.items) c.self.view_is
-    (right_with t i.input i.plan.watch i.plan.workers i.plan.quantum i.plan.bound (cells_of ws) i.verdict ended.1))
+    (right_with t i.input i.plan.watch i.plan (cells_of ws) i.verdict ended.1))

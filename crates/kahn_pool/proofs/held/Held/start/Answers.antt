@@ -1,7 +1,6 @@
 use Rattle.std.proofs.Common.{arith, rules, refl, sym, subst}
 use Rattle.kahn_pool.proofs.Common.{network_of, inputs_of, IsInRange, IsWatched, cells_of}
 use Rattle.kahn_pool.proofs.Giving.{begun_none}
-use Rattle.kahn_pool.proofs.Held_runs.{in_range_alike}
 use Rattle.kahn_pool.proofs.Righted.{none_done}
 use Rattle.kahn_pool.proofs.held.Held.start.Goals as goal
 
@@ -12,7 +11,7 @@ invariant_of-result c =
     let I = inputs_of c.args.input in record {
       code = c.in_ok-code.ensures;
       fits = c.requires.fits;
-      range = in_range_alike _ _ _ _ _ _ p.workers p.quantum p.bound range;
+      range = rw (p.workers, p.quantum, p.bound) range;
       held = c.in_ok-idles.ensures c.plan_of-plan.result.bound;
       ended = tt;
       giving = (λ channel e. begun_none (network_of c.args.network.now) I channel (I channel) c.new-2.result.items (search rules), λ v e. absurd cc);

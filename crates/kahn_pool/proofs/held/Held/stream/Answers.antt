@@ -37,8 +37,8 @@ returns-in-Some c =
     let w = c.index.result.now in
     let only = c.in-Some.ensures.only.0 in
     let at = job_there i.network.now i.input i.plan i.idles.items i.verdict c.self.view_is idle p w only.0.0 c.index.ensures in
-    kept_so_far i.network.now i.input i.plan i.idles.items i.verdict c.self.view_is idle c.args.line c.in-Channel.channel p c.in-Some.field-0.parameter w
-    c.kept.result.now c.in-Channel.is c.requires.line c.in-Some.ensures.source only.1 at c.kept.ensures
+    kept_so_far i.network.now i.input i.plan i.idles.items i.verdict c.self.view_is idle c.program-program.ensures.wired c.args.line c.in-Channel.channel p c.in-Some.field-0.parameter w
+    c.kept.result.now c.in-Channel.is c.in-Some.ensures.source only.1 at c.kept.ensures
 
 pub returns-in-None : goal.returns-in-None
 returns-in-None c =

@@ -1,6 +1,5 @@
 use Rattle.std.proofs.Common.{◌∙◌, ℕ, map, true, sym, subst, refl}
 use Rattle.std.specs.Io.KnownBytes.{Appends}
-use Rattle.kahn_streams.specs.Wiring.{IsWellWired}
 use Rattle.kahn_pool.specs.HeldRuns.{so_far}
 use Rattle.kahn_pool.specs.Flows.{Flowing, flow_lines}
 use Rattle.kahn_streams.specs.Written.{AppendsFront}
@@ -14,22 +13,20 @@ pub invariant_of-self-in-Err-show : goal.invariant_of-self-in-Err-show
 invariant_of-self-in-Err-show g c =
     let i = c.self.inside in
     let h = i.paced.flow in
-    let wired : IsWellWired h.run.network = subst IsWellWired (sym c.self.invariant.0) c.program-program.ensures.wired in
-    let on = whole_on c.args.line.now h wired c.feed_line.new.paced c.part-verdict.new.self c.in_default.ensures.fed c.part-verdict.result c.part-verdict.ensures in
+    let on = whole_on c.args.line.now h c.feed_line.new.paced c.part-verdict.new.self c.in_default.ensures.fed c.part-verdict.result c.part-verdict.ensures in
     (on.network ∙ c.self.invariant.0, kept_lines h.run c.part-verdict.new.self.flow.run i.lines.items c.self.invariant.1 on)
 
 pub returns-in-Err-show-clause-taken : goal.returns-in-Err-show-clause-taken
 returns-in-Err-show-clause-taken g c =
     let i = c.self.inside in
     let h = i.paced.flow in
-    let wired : IsWellWired h.run.network = subst IsWellWired (sym c.self.invariant.0) c.program-program.ensures.wired in
     let p = c.feed_line.new.paced in
     let q = c.part-verdict.new.self in
     let fed = c.in_default.ensures.fed in
     let line = c.args.line.now in
     let v = c.part-verdict.result in
     let n = c.part-verdict.ensures in
-    let on = whole_on line h wired p q fed v n in
+    let on = whole_on line h p q fed v n in
     let before = g.W.Write.contents c.args.writer.now in
     let after = g.W.Write.contents c.show.new.writer in
     let texts = news_texts i.plain i.network.now q.flow i.lines.items (sym (on.network ∙ c.self.invariant.0)) (kept_lines h.run q.flow.run i.lines.items c.self.invariant.1 on) in
@@ -38,7 +35,7 @@ returns-in-Err-show-clause-taken g c =
     (record {
       verdict = v;
       news = news_of q.flow (flow_lines q.flow.run);
-      answered = answered line h wired p q fed v n i.paced.step c.feed_line.ensures.step i.broken true i.plain q.flow.out q.flow.waits c.ends-ends.result.now (c.ends-ends.ensures v n.settled) c.begun.ensures;
+      answered = answered line h p q fed v n i.paced.step c.feed_line.ensures.step i.broken true i.plain q.flow.out q.flow.waits c.ends-ends.result.now (c.ends-ends.ensures v n.settled) c.begun.ensures;
       text = subst (AppendsFront before after) texts (rw c.deref-2.ensures.value at c.in-Err-show.ensures);
     })
 
@@ -46,14 +43,13 @@ pub returns-clause-taken : goal.returns-clause-taken
 returns-clause-taken g c =
     let i = c.self.inside in
     let h = i.paced.flow in
-    let wired : IsWellWired h.run.network = subst IsWellWired (sym c.self.invariant.0) c.program-program.ensures.wired in
     let p = c.feed_line.new.paced in
     let q = c.part-verdict.new.self in
     let fed = c.in_default.ensures.fed in
     let line = c.args.line.now in
     let v = c.part-verdict.result in
     let n = c.part-verdict.ensures in
-    let on = whole_on line h wired p q fed v n in
+    let on = whole_on line h p q fed v n in
     let before = g.W.Write.contents c.args.writer.now in
     let after = g.W.Write.contents c.show.new.writer in
     let texts = news_texts i.plain i.network.now q.flow i.lines.items (sym (on.network ∙ c.self.invariant.0)) (kept_lines h.run q.flow.run i.lines.items c.self.invariant.1 on) in
@@ -65,7 +61,7 @@ returns-clause-taken g c =
     (subst (λ (f : Flowing). HasTaken line old (record { flow = f; step = q.step; broken = i.broken; plain = i.plain }) before after v) (sym c.forget.ensures.gone)
     (record {
       news = news_of q.flow (flow_lines q.flow.run);
-      answered = answered line h wired p q fed v n i.paced.step c.feed_line.ensures.step i.broken i.broken i.plain gone q.flow.waits c.ends-ends.result.now (c.ends-ends.ensures v n.settled) c.begun.ensures;
+      answered = answered line h p q fed v n i.paced.step c.feed_line.ensures.step i.broken i.broken i.plain gone q.flow.waits c.ends-ends.result.now (c.ends-ends.ensures v n.settled) c.begun.ensures;
       out = refl;
       text = subst (Appends before after) texts (rw c.deref-2.ensures.value at c.in_default-show.ensures);
     })))

@@ -1,7 +1,6 @@
 use Rattle.std.proofs.Common.{◌∙◌, ap, map, subst, sym}
 use Rattle.kahn_streams.specs.Network.{network_of}
-use Rattle.kahn_chain.specs.Chain.{AreStandings}
-use Rattle.kahn_why.specs.Why.{stands}
+use Rattle.kahn_chain.specs.Chain.{AreStandings, stands}
 use Rattle.kahn_why.proofs.Lined.{all_of}
 use Rattle.kahn_why.proofs.why.telling.explained.Goals as goal
 

@@ -1,0 +1,7 @@
+-- The standings so far.
+use Rattle.std.proofs.Common.{◌≡◌, map, take}
+use Rattle.kahn_chain.specs.Chain.{stands}
+use Rattle.kahn_chain.proofs.standing.standings.Given as goal
+
+abbrev pub invariant-loop-end : goal.invariant-loop-end
+invariant-loop-end l = l.list.items ≡ map stands (take l.end-index l.ends)

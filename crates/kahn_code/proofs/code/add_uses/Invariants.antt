@@ -1,9 +1,0 @@
-use Rattle.std.proofs.Common.{◌≡◌, ◌++◌, map, drop}
-use Rattle.kahn_code.proofs.Common.{network_of, actuals_of, channel_names}
-use Rattle.kahn_code.specs.Machines.{use_of}
-use Rattle.kahn_code.proofs.code.add_uses.Given as goal
-
-abbrev pub invariant-loop-number : goal.invariant-loop-number
-invariant-loop-number g l =
-    (l.uses.items ++ map (use_of (network_of l.network)) (actuals_of (channel_names l.network) (drop l.number l.parameters) (drop l.number l.arguments)))
-    ≡ (l.fn.uses.items ++ map (use_of (network_of l.network)) (actuals_of (channel_names l.network) l.parameters l.arguments))

@@ -1,0 +1,27 @@
+use Rattle.std.proofs.Common.{arith, ◌<◌, ◌≤◌, ◌++◌, ap, ◌∙◌, length, map, slice_index_or, slice_set}
+use Rattle.std.proofs.lemmas.List.{drop_all, take_all}
+use Rattle.std.proofs.lemmas.List.Edits.{map_over_more}
+use Rattle.kahn_code.proofs.Common.{append-nil, regrown}
+use Rattle.kahn_code.proofs.Lists.{changed_next}
+use Rattle.kahn_code.proofs.queue.regrow_all.Goals as goal
+
+pub loop-number-preserved : goal.loop-number-preserved
+loop-number-preserved g c =
+    let old = c.args.queues.now.items in
+    let lt : c.loop-number.number < length old = omega (arith, c.loop-number-test.true, c.len-number-end.ensures, c.args.queues.now.ok.0) in
+    ap (slice_set c.loop-number.queues.items c.loop-number.number) c.regrow.ensures
+    ∙ map_over_more (regrown g.input) old c.loop-number.queues.items c.loop-number.number c.index_mut.result.now lt c.loop-number.invariant c.index_mut.ensures.value
+
+pub regrow-requires : goal.regrow-requires
+regrow-requires g c κs within =
+    let old = c.args.queues.now.items in
+    let i = c.loop-number.number in
+    let lt : i < length old = omega (arith, c.loop-number-test.true, c.len-number-end.ensures, c.args.queues.now.ok.0) in
+    (within, c.requires.1 i _ (changed_next (regrown g.input) old i c.index_mut.result.now lt (c.index_mut.ensures.value ∙ ap (λ l. slice_index_or l i c.index_mut.result.now) c.loop-number.invariant)))
+
+pub returns : goal.returns
+returns g c =
+    let old = c.args.queues.now.items in
+    let n = c.loop-number.number in
+    let far : length old ≤ n = omega (arith, c.loop-number-test.false, c.len-number-end.ensures, c.args.queues.now.ok.0) in
+    c.loop-number.invariant ∙ (λ j. map (regrown g.input) (take_all n old far j) ++ drop_all n old far j) ∙ append-nil _

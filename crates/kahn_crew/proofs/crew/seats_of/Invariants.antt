@@ -1,0 +1,11 @@
+use Rattle.kahn_crew.proofs.Common.{◌≡◌, All, map, vec_capacity}
+use Rattle.kahn_crew.specs.inner.Turns.{HasCause, IsTrueIfAny, crew_raised, seat_of}
+use Rattle.kahn_crew.proofs.crew.seats_of.Given as goal
+
+abbrev pub invariant-loop-worker : goal.invariant-loop-worker
+invariant-loop-worker l =
+    (goal.iterator-loop-worker).can_next l.worker-iterator
+    × (goal.iterator-loop-worker).is_finite l.worker-iterator
+    × (l.seats.items ≡ map seat_of l.yielded)
+    × (All HasCause l.yielded → IsTrueIfAny l.wanted (crew_raised l.yielded))
+    × (vec_capacity l.seats ≡ vec_capacity l.fn.seats)

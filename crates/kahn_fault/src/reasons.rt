@@ -1,0 +1,84 @@
+//! Why a text can't be read.
+
+ghost use Rattle.std.specs.Prelude.{◌≡◌, Err};
+ghost use Rattle.kahn_streams.specs.Written.{Writes};
+ghost use Rattle.kahn_fault.specs.Reasons.{reason_line, file_words};
+ghost use Rattle.kahn_fault.specs.Status.{status_of};
+
+use crate::fault::Fault;
+use crate::telling::tell;
+use kahn_report::{ReadFault, WriteFault, write_line};
+use std::fs;
+use std::io::{ErrorKind, Read, Write};
+use std::rt::Runtime;
+
+/// What is said of why the system opens or reads no file.
+fn file_words(kind: ErrorKind) -> &'static str
+    ensures { result.now ≡ file_words kind }
+{
+    match kind {
+        ErrorKind::NotFound => "there is no such file",
+        ErrorKind::PermissionDenied => "there is no permission to read it",
+        ErrorKind::IsADirectory => "it is a folder",
+        ErrorKind::NotADirectory => "its path leads through what is no folder",
+        ErrorKind::FilesystemLoop => "its path has too many symbolic links",
+        ErrorKind::InvalidFilename => "its name is too long",
+        _ => "",
+    }
+}
+
+/// What is said of why the next byte can't be read, and nothing where it can.
+fn reading_words<R: Read>(reader: &mut R) -> &'static str {
+    let mut byte = [0; 1];
+    match reader.read(&mut byte) {
+        Ok(_) => "",
+        Err(error) => file_words(error.kind()),
+    }
+}
+
+/// What is said of why the file of a path can't be read. It is tried once more, so nothing is said where it can be read by now.
+fn opening_words<R: Runtime>(rt: &R, path: &str) -> &'static str {
+    match fs::open(rt, path) {
+        Ok(mut file) => reading_words(&mut file),
+        Err(_) if path == "-" => "standard input is /dev/stdin",
+        Err(error) => file_words(error.kind()),
+    }
+}
+
+/// What is said of why a text can't be read, behind the words of its fault.
+fn unread_words<R: Runtime>(rt: &R, fault: &Fault) -> &'static str {
+    match fault {
+        Fault::Open(path) => opening_words(rt, path.as_str()),
+        Fault::Program(Some(path), ReadFault::Failed) => opening_words(rt, path.as_str()),
+        Fault::InputText(path, ReadFault::Failed) => opening_words(rt, path.as_str()),
+        Fault::Program(None, ReadFault::Failed) => reading_words(&mut rt.reader()),
+        Fault::Program(_, ReadFault::TooLong) => "it may have at most 1048576 bytes",
+        Fault::InputText(_, ReadFault::TooLong) => "it may have at most 16777216 bytes",
+        _ => "",
+    }
+}
+
+/// Writes a line with a reason, behind the name of the program that gives it. After a fault a prefix of it went out.
+pub fn tell_reason<'a, W: Write>(
+    name: &'a str,
+    reason: &'a str,
+    writer: &mut W,
+) -> Result<(), WriteFault>
+    ensures { Writes (W.contents writer.old) (W.contents writer.new) result (reason_line name.now reason.now) }
+{
+    write_line(writer, &[name.as_bytes(), b": ", reason.as_bytes(), b"\n"])
+}
+
+/// Tells why the texts of a run can't be read: the line of the fault, and then, behind the name of the program, the reason, where
+/// there is one. It gives the status.
+pub fn tell_unread<R: Runtime, W: Write>(rt: &R, name: &str, fault: Fault, writer: &mut W) -> u8
+    ensures { result ≡ status_of (Err fault) }
+{
+    let reason = unread_words(rt, &fault);
+    let status = tell(&Err(fault), "", writer).status;
+    if !reason.is_empty() {
+        // What can't be written here changes no status.
+        let _told = tell_reason(name, reason, writer);
+    }
+    status
+}

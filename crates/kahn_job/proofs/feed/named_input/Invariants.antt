@@ -1,4 +1,0 @@
-use Rattle.kahn_job.proofs.feed.named_input.Given as goal
-
-abbrev pub ghost-named : goal.ghost-named
-ghost-named g a = g.name

@@ -1,0 +1,56 @@
+use Rattle.std.proofs.Common.{arith, ℕ, List, length, sym, ap, ◌∙◌, subst}
+use Rattle.kahn_pool.proofs.Common.{network_of, AreBehindOn, rows_of, Tasked, task_rows, IsVerdict, AreEndsOfTasks, AreTold}
+use Rattle.kahn_pool.proofs.Held_jobs.{cells_after, held_after, held_concluded, held_met}
+use Rattle.kahn_pool.proofs.Over.{events_new, left_lent, over_new, settled_new, tasks_new, concluded}
+use Rattle.kahn_pool.proofs.Rests as rests
+use Rattle.kahn_pool.proofs.part.conclude.Goals as goal
+
+pub settle_all-requires : goal.settle_all-requires
+settle_all-requires g c = let l = c.requires.left in left_lent l.gone l.code l.bounded
+
+pub ends_of-ends-requires-clause-told : goal.ends_of-ends-requires-clause-told
+ends_of-ends-requires-clause-told g c =
+    let t = c.args.part.now in
+    let l = c.requires.left in
+    let asked = c.settle_all.ensures in
+    subst (AreTold t.network.now) (sym c.deref.ensures.value)
+    (rests.are_told t.network.now c.program-program.ensures.wired t.input.now t.plan.watch c.settle_all.new.tasks.items (tasks_new l.gone asked) (settled_new l.gone asked))
+
+pub ends_of-ends-requires-clause-room : goal.ends_of-ends-requires-clause-room
+ends_of-ends-requires-clause-room g c =
+    let room = c.requires.ends in
+    let all = ap length c.deref.ensures.value ∙ c.settle_all.ensures.count ∙ c.requires.left.gone.count in
+    omega (arith, room, all)
+
+pub rest_all-idles-requires : goal.rest_all-idles-requires
+rest_all-idles-requires g c =
+    let room = c.requires.idles.1 in
+    let all = c.settle_all.ensures.count ∙ c.requires.left.gone.count in
+    record { room = (c.requires.idles.0, omega (arith, room, all)) }
+
+pub meet-requires : goal.meet-requires
+meet-requires g c =
+    let held = held_after c.program-program.ensures.wired c.requires.left.gone c.settle_all.ensures c.rest_all-idles.ensures.same in
+    (c.args.part.now.input.now, held.idle.resting)
+
+pub returns-clause-held : goal.returns-clause-held
+returns-clause-held g c = held_met (held_after c.program-program.ensures.wired c.requires.left.gone c.settle_all.ensures c.rest_all-idles.ensures.same) c.meet.ensures.met
+
+pub returns-clause-ended : goal.returns-clause-ended
+returns-clause-ended g c =
+    let t = c.args.part.now in
+    let wired = c.program-program.ensures.wired in
+    let gone = c.requires.left.gone in
+    let new = c.settle_all.new.tasks.items in
+    let asked = c.settle_all.ensures in
+    let same = c.rest_all-idles.ensures.same in
+    let met = c.meet.ensures.met in
+    let behind : (d : ℕ) → AreBehindOn (network_of t.network.now) (task_rows new) d = λ d. subst (λ l. AreBehindOn (network_of t.network.now) (rows_of l) d) same (c.meet.ensures.behind d) in
+    let are : AreEndsOfTasks t.network.now t.input.now new c.ends_of-ends.result.items (length new) =
+    subst (λ (l : List Tasked). AreEndsOfTasks t.network.now t.input.now l c.ends_of-ends.result.items (length l)) c.deref.ensures.value c.ends_of-ends.ensures in
+    let rule = subst (λ xs. IsVerdict c.args.left.halted xs c.verdict_of-verdict.result) c.deref-2.ensures.value c.verdict_of-verdict.ensures in
+    held_concluded wired gone asked same c.meet.result.items met.cells
+    (concluded wired (tasks_new gone asked) (settled_new gone asked) (events_new gone asked) (over_new gone asked c.requires.over) behind are rule)
+
+pub returns-clause-cells : goal.returns-clause-cells
+returns-clause-cells g c = c.meet.ensures.met.cells ∙ cells_after c.program-program.ensures.wired c.requires.left.gone c.settle_all.ensures c.rest_all-idles.ensures.same

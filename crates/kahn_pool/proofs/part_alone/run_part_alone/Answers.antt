@@ -1,0 +1,21 @@
+use Rattle.std.proofs.Common.{◌+◌, subst}
+use Rattle.kahn_pool.proofs.Common.{HasComeToRest, IsLast, IsVerdict, all_events, sight_of}
+use Rattle.kahn_pool.proofs.part_alone.run_part_alone.Goals as goal
+
+pub returns-clause-concluded : goal.returns-clause-concluded
+returns-clause-concluded g c =
+    let last = c.in-Some.last in
+    let ended : HasComeToRest c.args.bench.now c.last_round.new.bench c.new-first.result last = rw c.in-Some.is at c.last_round.ensures.last in (
+      last.memory,
+      record {
+        last = subst (λ n. IsLast (sight_of c.last_round.new.bench) (all_events (sight_of c.args.bench.now) + n) last.left last.memory last.ends.items) c.new-first.ensures.same.1 ended.last;
+        rule = subst (λ ends. IsVerdict last.memory ends c.verdict_of-verdict.result) c.deref.ensures.value c.verdict_of-verdict.ensures;
+        within = c.within.ensures;
+      },
+      ended.advanced.may.lacks,
+    )
+
+pub returns-clause-room : goal.returns-clause-room
+returns-clause-room g c =
+    let ended : HasComeToRest c.args.bench.now c.last_round.new.bench c.new-first.result c.in-Some.last = rw c.in-Some.is at c.last_round.ensures.last in
+    ended.advanced.may.room

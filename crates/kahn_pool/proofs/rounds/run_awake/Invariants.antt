@@ -1,5 +1,0 @@
-use Rattle.kahn_pool.proofs.Common.{HasMoved}
-use Rattle.kahn_pool.proofs.rounds.run_awake.Given as goal
-
-abbrev pub invariant-loop : goal.invariant-loop
-invariant-loop g l = HasMoved l.fn.bench l.bench l.fn.last l.round

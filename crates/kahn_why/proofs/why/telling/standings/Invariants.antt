@@ -1,7 +1,0 @@
--- The standings so far.
-use Rattle.std.proofs.Common.{◌≡◌, map, take}
-use Rattle.kahn_why.specs.Why.{stands}
-use Rattle.kahn_why.proofs.why.telling.standings.Given as goal
-
-abbrev pub invariant-loop-end : goal.invariant-loop-end
-invariant-loop-end l = l.list.items ≡ map stands (take l.end-index l.ends)
