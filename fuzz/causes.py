@@ -5,7 +5,7 @@
 Who waits on whom is read off the report's end lines and the wiring of reference.py. Whoever has gone as many waits onward as there are
 instances, and still waits on one of them, is in a ring, whose mending is told once. What is said to be for ever is tried: the interpreter of reference.py runs the
 network on a longer input, and each such process has to end there as it did; where it has a fault, the place where that came has to be
-one of those that are told. The places of waits are read off the tree of reference.py. A difference is printed, and its texts are kept.
+one of those that are told, or not told beside twenty others. The places of waits are read off the tree of reference.py. A difference is printed, and its texts are kept.
 """
 import os
 import random
@@ -22,7 +22,8 @@ import reference as ref
 
 WARNED = re.compile(r"[^\n]*:\d+:\d+: warning: ")
 PLACE = r"[^\n]*:(\d+:\d+): error: \w+ can have come from here\n[^\n]*\n[^\n]*\n"
-FAULTED = re.compile(rf"(?m)^(\d+)( \w+ has a fault, \w+)\n((?:{PLACE})+)")
+UNTOLD = r"and (?:1 place|\d+ places) more\n"
+FAULTED = re.compile(rf"(?m)^(\d+)( \w+ has a fault, \w+)\n((?:{PLACE})+(?:{UNTOLD})?)")
 OWN = "\n  = its own queue is empty: let it send before it waits"
 RING = "\n  = this ring wants a first value (let one of its processes send before it waits), or one of them takes more than another sends: --trace shows what came"
 GO_ON = "--bound N with a greater N lets the run go on"
@@ -153,8 +154,9 @@ def wanted_of(checked, text, path, inputs, ends, last):
 
 
 def without_places(told):
-    """The same without the places of faults, and these: the lines and columns by the number of the process."""
-    places = {int(found.group(1)) - 1: re.findall(PLACE, found.group(3)) for found in FAULTED.finditer(told)}
+    """The same without the places of faults, and these: the lines and columns by the number of the process, and whether these are all."""
+    found = {int(it.group(1)) - 1: it.group(3) for it in FAULTED.finditer(told)}
+    places = {p: (re.findall(PLACE, told), re.search(UNTOLD, told) is None) for p, told in found.items()}
     return FAULTED.sub(r"\1\2\n", told), places
 
 
@@ -174,7 +176,8 @@ def lasts(checked, inputs, ends, causes, text, places, rng):
             now = it.state if it.state != "more" else "wants more" if it.waits() is None else "waits on " + checked.channels[it.waits()][0]
             if it.events > ends[p][2] or finished and (now, it.events) != (ends[p][0], ends[p][2]):
                 return f"{p + 1} {ends[p]}, and with a longer input {now} after {it.events}"
-            if it.failed_at is not None and "{}:{}".format(*ref.place(text.encode(), it.failed_at)) not in places.get(p, []):
+            told, all_told = places.get(p, ([], True))
+            if it.failed_at is not None and (all_told or len(told) != 20) and "{}:{}".format(*ref.place(text.encode(), it.failed_at)) not in told:
                 return f"{p + 1} {now} at {ref.place(text.encode(), it.failed_at)}, which isn't told"
             count += finished
     return count
