@@ -1,5 +1,5 @@
 -- The steps on the words budget, count and halted.
-use Rattle.kahn_board.proofs.Common.{◌≡◌, ℕ, ◌+◌, ◌-◌, ◌*◌, ◌%◌, ◌^◌, ◌<◌, ◌≤◌, ◌≢◌, ◌⊎◌, inl, inr, eqb, List, drop, length, get_or, set, sym, refl, ap, ◌∙◌, subst, arith, Option, length-set, get_or-set_same, get_or-set_other, dite, ℕ_discrete, some, none, get_elem?, set-get_or, either, step, keeps, stepped, Allows, exchanged, Summary, Wires, Owed, Owes, is_up, Place, ready, held, parked, over, St, Deal, Whole, budget, count, halted, Sat, after_step, after_looking, stage_after_looking, after_drawing, after_reporting, after_giving_back, after_counting_up, after_counting_down, after_halting, drew, sees_halted, sees_count, sees_budget, View, becomes}
+use Rattle.kahn_board.proofs.Common.{◌≡◌, ℕ, ◌+◌, ◌-◌, ◌*◌, ◌%◌, ◌^◌, ◌<◌, ◌≤◌, ◌≢◌, ◌⊎◌, inl, inr, eqb, List, drop, length, get_or, set, sym, refl, ap, ◌∙◌, subst, arith, Option, length-set, get_or-set_same, get_or-set_other, dite, ℕ_discrete, some, none, get_elem?, set-get_or, either, step, keeps, stepped, Allows, exchanged, Summary, Wires, Owed, Owes, is_up, Place, ready, held, parked, over, St, Deal, Whole, budget, count, halted, Sat, after_step, after_looking, after_drawing, after_reporting, after_giving_back, after_counting_up, after_counting_down, after_halting, drew, sees_halted, sees_count, sees_budget, View, becomes}
 use Rattle.kahn_board.proofs.Sums.{term_le}
 use Rattle.kahn_board.proofs.Counting.{below-le, below-term}
 use Rattle.kahn_board.proofs.Quiet.{owed_less, downs_few}
@@ -24,8 +24,8 @@ module _ {T : Type 0} (told : T → Option Summary) (belongs : ℕ → T → Typ
 
   -- what a look sees, where it is true
   sights : (s : St T) (a : Whole told belongs w d s) (i id : ℕ) (m : Sat T) (seen : ℕ) → get_elem? s.views id ≡ some m.0 → Fit w m → (seen ≡ 1 → count w s.words ≡ 0) → (seen ≡ 2 → halted w s.words ≢ 0)
-      → (m.0.seen ≡ 2 → seen ≡ 2) → seen ≤ 2 → (halted w s.words ≢ 0) ⊎ ((count w s.words ≡ 0) ⊎ (budget w s.words ≡ 0)) → Whole told belongs w d (stepped s i (get_or s.words i 0) id m.1 (after_looking m.0 seen (stage_after_looking m.0)) keeps)
-  sights s a i id m seen me fit quiet_is halted_is knows small stopped = let o = a.ruled.seats id m.0 me in let v' = after_looking m.0 seen (stage_after_looking m.0) in
+      → (m.0.seen ≡ 2 → seen ≡ 2) → seen ≤ 2 → (halted w s.words ≢ 0) ⊎ ((count w s.words ≡ 0) ⊎ (budget w s.words ≡ 0)) → Whole told belongs w d (stepped s i (get_or s.words i 0) id m.1 (after_looking m.0 seen) keeps)
+  sights s a i id m seen me fit quiet_is halted_is knows small stopped = let o = a.ruled.seats id m.0 me in let v' = after_looking m.0 seen in
       subst (λ (l : List ℕ). Whole told belongs w d record { words = l; homes = s.homes; views = set s.views id v' }) (sym (set-get_or s.words i 0)) (idles told belongs w d s a.place a.tally a.ruled id m v' s.words me fit record {
         wide = refl;
         low = λ q h. refl;
@@ -51,19 +51,19 @@ module _ {T : Type 0} (told : T → Option Summary) (belongs : ℕ → T → Typ
       dite (ℕ_discrete r 0)
       (λ z. (after_step m.0, keeps, tt, unchanged told belongs w d s a i id m me fit, ((λ ne. absurd (ne z)), λ _. ((λ two. (a.ruled.seats id m.0 me).saw_halted two (sym is ∙ z)), refl))))
       (λ ne. let yes : halted w s.words ≢ 0 = (λ z. ne (is ∙ z)) in
-      (after_looking m.0 2 (stage_after_looking m.0), keeps, tt, sights s a i id m 2 me fit (λ e. absurd (omega (arith, e))) (λ _. yes) (λ _. refl) (omega arith) (inl yes), ((λ _. refl), λ z. absurd (ne z))))
+      (after_looking m.0 2, keeps, tt, sights s a i id m 2 me fit (λ e. absurd (omega (arith, e))) (λ _. yes) (λ _. refl) (omega arith) (inl yes), ((λ _. refl), λ z. absurd (ne z))))
 
   pub looks_count : (n id : ℕ) (m : Sat T) (i : ℕ) → Fit w m → m.0.seen ≢ 2 → i ≡ 8 * (w.instances + w.channels) + 8 → Allows (Whole told belongs w d) n id m i (λ y. y) (sees_count (step n i 0 0 none) m)
   looks_count n id m i fit alive at s a wide me _ = let r : ℕ = get_or s.words i 0 in let is : r ≡ count w s.words = ap (λ (k : ℕ). get_or s.words k 0) at in
       dite (ℕ_discrete r 0)
       (λ z. let yes : count w s.words ≡ 0 = sym is ∙ z in
-      (after_looking m.0 1 (stage_after_looking m.0), keeps, tt, sights s a i id m 1 me fit (λ _. yes) (λ e. absurd (omega (arith, e))) (λ two. absurd (alive two)) (omega arith) (inr (inl yes)), ((λ _. refl), λ ne. absurd (ne z))))
+      (after_looking m.0 1, keeps, tt, sights s a i id m 1 me fit (λ _. yes) (λ e. absurd (omega (arith, e))) (λ two. absurd (alive two)) (omega arith) (inr (inl yes)), ((λ _. refl), λ ne. absurd (ne z))))
       (λ ne. (after_step m.0, keeps, tt, unchanged told belongs w d s a i id m me fit, ((λ z. absurd (ne z)), λ _. ((λ one. ne (is ∙ (a.ruled.seats id m.0 me).saw_quiet one)), refl))))
 
   pub looks_budget : (n id : ℕ) (m : Sat T) (i : ℕ) → Fit w m → i ≡ 8 * (w.instances + w.channels) → Allows (Whole told belongs w d) n id m i (λ y. y) (sees_budget (step n i 0 0 none) m)
   looks_budget n id m i fit at s a wide me _ = let r : ℕ = get_or s.words i 0 in let is : r ≡ budget w s.words = ap (λ (k : ℕ). get_or s.words k 0) at in
       dite (ℕ_discrete r 0)
-      (λ z. (after_looking m.0 m.0.seen (stage_after_looking m.0), keeps, tt, sights s a i id m m.0.seen me fit ((a.ruled.seats id m.0 me).saw_quiet) ((a.ruled.seats id m.0 me).saw_halted) (λ e. e) (a.ruled.seats id m.0 me).sights.0 (inr (inr (sym is ∙ z))), ((λ _. refl), λ ne. absurd (ne z))))
+      (λ z. (after_looking m.0 m.0.seen, keeps, tt, sights s a i id m m.0.seen me fit ((a.ruled.seats id m.0 me).saw_quiet) ((a.ruled.seats id m.0 me).saw_halted) (λ e. e) (a.ruled.seats id m.0 me).sights.0 (inr (inr (sym is ∙ z))), ((λ _. refl), λ ne. absurd (ne z))))
       (λ ne. (after_step m.0, keeps, tt, unchanged told belongs w d s a i id m me fit, ((λ z. absurd (ne z)), λ _. refl)))
 
   pub notes : (n id : ℕ) (m : Sat T) (i : ℕ) → Fit w m → Allows (Whole told belongs w d) n id m i (λ y. y) (becomes (λ _. after_step) (step n i 0 0 none) m)

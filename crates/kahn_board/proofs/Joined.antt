@@ -1,5 +1,5 @@
 -- Seats that are made one, and one that is made several.
-use Rattle.kahn_board.proofs.Common.{◌≡◌, ◌+◌, ◌≤◌, ◌<◌, List, [], ◌∷◌, ◌++◌, length, All, sym, refl, ap, ◌∙◌, arith, subst, get_or_append_left, get_or_push, TableId, AreCut, after_joining, Sat, Seat, Rests}
+use Rattle.kahn_board.proofs.Common.{◌≡◌, ◌+◌, ◌≤◌, ◌<◌, List, [], ◌∷◌, ◌++◌, length, All, sym, refl, ap, ◌∙◌, arith, subst, get_or_append_left, get_or_push, TableId, AreCut, after_joining, Sat, Seat, RestsWith}
 use Rattle.std.proofs.lemmas.List.Sums.{sum_by_push}
 use Rattle.std.proofs.lemmas.List.{length-append}
 use Rattle.std.proofs.lemmas.List.Elements.{All-push}
@@ -28,7 +28,7 @@ module _ {T : Type 0} where
   pub join_one : (z : TableId) (first : Seat T) (others : List (Seat T)) (now : Seat T) (left : List (Seat T)) (next other : Seat T) (rest : List (Seat T))
       → Joining z first others now left → left ≡ rest ++ other ∷ [] → next.seat.table_id ≡ now.seat.table_id → next.seat.me ≡ (after_joining now.seat.me.0 other.seat.me.0, now.seat.me.1) → Joining z first others next rest
   join_one z first others now left next other rest j split same is = let t = all_but_last (SitsAt z) rest other (subst (All (SitsAt z)) split j.each) in let v = now.seat.me.0 in let u = other.seat.me.0 in record {
-    sits = (same ∙ j.sits.0, subst (λ (m : Sat T). Rests m.0) (sym is) (j.sits.1.0, omega (arith, j.sits.1.1, t.1.1.1)));
+    sits = (same ∙ j.sits.0, subst (λ (m : Sat T). RestsWith 0 m.0) (sym is) (j.sits.1.0, omega (arith, j.sits.1.1, t.1.1.1)));
     each = t.0;
     parts = omega (arith, j.parts, ap (λ (m : Sat T). m.0.parts) is, ap parts_of split, sum_by_push (λ (s : Seat T). s.seat.me.0.parts) rest other);
     done = omega (arith, j.done, ap (λ (m : Sat T). m.0.done) is, ap done_of split, sum_by_push (λ (s : Seat T). s.seat.me.0.done) rest other);
@@ -47,8 +47,8 @@ module _ {T : Type 0} where
   pub split_one : (z : TableId) (whole : Seat T) (made : List (Seat T)) (now : Seat T) (made' : List (Seat T)) (kept cut : Seat T) → Splitting z whole made now → made' ≡ made ++ cut ∷ [] → 1 < now.seat.me.0.parts
       → AreCut now kept cut → Splitting z whole made' kept
   split_one z whole made now made' kept cut s is more e = record {
-    sits = (e.0.0 ∙ s.sits.0, subst (λ (m : Sat T). Rests m.0) (sym e.1) s.sits.1);
-    each = subst (All (SitsAt z)) (sym is) (All-push (SitsAt z) made cut s.each (e.2 ∙ s.sits.0, subst (λ (m : Sat T). Rests m.0) (sym e.3) ((zeros (length now.seat.me.0.hands), refl, refl, refl), refl)));
+    sits = (e.0.0 ∙ s.sits.0, subst (λ (m : Sat T). RestsWith 0 m.0) (sym e.1) s.sits.1);
+    each = subst (All (SitsAt z)) (sym is) (All-push (SitsAt z) made cut s.each (e.2 ∙ s.sits.0, subst (λ (m : Sat T). RestsWith 0 m.0) (sym e.3) ((zeros (length now.seat.me.0.hands), refl, refl, refl), refl)));
     parts = (
       omega (arith, s.parts.0, ap (λ (m : Sat T). m.0.parts) e.1, ap length is, length-append made (cut ∷ []), more),
       omega (arith, s.parts.1, ap parts_of is, sum_by_push (λ (s : Seat T). s.seat.me.0.parts) made cut, ap (λ (m : Sat T). m.0.parts) e.3, ap length is, length-append made (cut ∷ [])),

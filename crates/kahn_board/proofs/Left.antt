@@ -1,5 +1,5 @@
 -- A seat that looks, and leaves.
-use Rattle.kahn_board.proofs.Common.{◌≡◌, ◌≢◌, ℕ, suc, cond, List, [], ◌∷◌, Option, length, get_or, ap, sym, refl, ◌∙◌, arith, eq-eqb, subst, Summary, Terms, total, burden, stage_after_looking, Looks, View, Seat, Rests, IsBetweenTurns, IsSeatOf}
+use Rattle.kahn_board.proofs.Common.{◌≡◌, ◌≢◌, ℕ, suc, cond, List, [], ◌∷◌, Option, length, get_or, ap, sym, refl, ◌∙◌, arith, eq-eqb, subst, Summary, Terms, total, burden, after_looking, Looks, View, Seat, RestsWith, IsBetweenTurns, IsSeatOf}
 use Rattle.kahn_board.specs.declared.board.Look.{Look}
 use Rattle.kahn_board.specs.declared.board.Look.TheVariants.{Halted, Quiet, NoBudget, Go}
 
@@ -8,8 +8,8 @@ none_total [] h = refl
 none_total (x ∷ xs) h = omega (arith, h 0, none_total xs (λ p. h (suc p)))
 
 -- a seat that rests leaves
-pub leaves_done : (v : View) → Rests v → stage_after_looking v ≡ 1
-leaves_done v r = let none : burden v ≡ 0 = omega (arith, none_total v.hands r.0.0, r.0.1, ap length r.0.2, r.0.3) in
+pub leaves_done : (v : View) (seen : ℕ) → RestsWith 0 v → (after_looking v seen).stage ≡ 1
+leaves_done v seen r = let none : burden v ≡ 0 = omega (arith, none_total v.hands r.0.0, r.0.1, ap length r.0.2, r.0.3) in
     ap (λ b. cond b 1 2) (eq-eqb (burden v) 0 none)
 
 module _ {T : Type 0} (told : T → Option Summary) (after : T → T → Type 0) (key : Terms T) where
@@ -17,11 +17,11 @@ module _ {T : Type 0} (told : T → Option Summary) (after : T → T → Type 0)
   abbrev pub Left : Seat T → Seat T → Type 0
   Left s t = IsSeatOf s t × IsBetweenTurns t × (t.seat.me.0.stage ≡ 1)
 
-  leaves : (s t : Seat T) (u : View) → t.seat.table_id ≡ s.seat.table_id → t.seat.id ≡ s.seat.id → t.seat.me.0 ≡ u → u.parts ≡ s.seat.me.0.parts → u.raised ≡ s.seat.me.0.raised → Rests u → u.stage ≡ 1 → Left s t
-  leaves s t u table seat is parts raised rests stage = ((table, seat, ap (λ v. v.parts) is ∙ parts, ap (λ v. v.raised) is ∙ raised), subst Rests (sym is) rests, ap (λ v. v.stage) is ∙ stage)
+  leaves : (s t : Seat T) (u : View) → t.seat.table_id ≡ s.seat.table_id → t.seat.id ≡ s.seat.id → t.seat.me.0 ≡ u → u.parts ≡ s.seat.me.0.parts → u.raised ≡ s.seat.me.0.raised → RestsWith 0 u → u.stage ≡ 1 → Left s t
+  leaves s t u table seat is parts raised rests stage = ((table, seat, ap (λ v. v.parts) is ∙ parts, ap (λ v. v.raised) is ∙ raised), subst (RestsWith 0) (sym is) rests, ap (λ v. v.stage) is ∙ stage)
 
   pub left : (s t : Seat T) (k : Look) → Looks told after key s t k → IsBetweenTurns s → k ≢ Go → Left s t
-  left s t Halted l r ne = leaves s t _ l.0.0 l.0.1 (ap (λ m. m.0) l.1.3) refl refl r (leaves_done s.seat.me.0 r)
-  left s t Quiet l r ne = leaves s t _ l.0.0 l.0.1 (ap (λ m. m.0) l.4) refl refl r (leaves_done s.seat.me.0 r)
-  left s t NoBudget l r ne = leaves s t _ l.0.0 l.0.1 (ap (λ m. m.0) l.4.4) refl refl r (leaves_done s.seat.me.0 r)
+  left s t Halted l r ne = leaves s t _ l.0.0.0 l.0.0.1 (ap (λ m. m.0) l.0.1) refl refl r (leaves_done s.seat.me.0 2 r)
+  left s t Quiet l r ne = leaves s t _ l.0.0.0 l.0.0.1 (ap (λ m. m.0) l.0.1) refl refl r (leaves_done s.seat.me.0 1 r)
+  left s t NoBudget l r ne = leaves s t _ l.0.0.0 l.0.0.1 (ap (λ m. m.0) l.0.1) refl refl r (leaves_done s.seat.me.0 0 r)
   left s t Go l r ne = absurd (ne refl)

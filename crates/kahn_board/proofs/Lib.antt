@@ -1,4 +1,5 @@
 pub mod Common
+pub mod Tells
 pub mod Keeps
 pub mod Moved
 pub mod Sums

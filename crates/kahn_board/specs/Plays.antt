@@ -1,10 +1,10 @@
 -- Believed. What a seat knows of its own view and slots, and what each step tells it: of the step, the seat before, the number found and the seat after.
-use Rattle.std.specs.Prelude.{◌≡◌, ◌≢◌, ◌⊎◌, ℕ, ◌+◌, ◌-◌, ◌*◌, ◌/◌, ◌%◌, ◌^◌, ◌<◌, ◌≤◌, ◌==◌, cond, List, [], ◌∷◌, ◌++◌, map, drop, length, slice_index, slice_set, Option, Some}
+use Rattle.std.specs.Prelude.{◌≡◌, ◌≢◌, ◌⊎◌, ℕ, ◌+◌, ◌-◌, ◌*◌, ◌^◌, ◌<◌, ◌≤◌, ◌==◌, cond, List, [], ◌∷◌, ◌++◌, map, drop, length, slice_index, slice_set, Option, Some}
 use mathlib.Core.Option.{none}
 use Rattle.atomic_table.specs.Seated.{TableId}
-use Rattle.atomic_table.specs.Table.{Allows, Me, Step, rest, step}
+use Rattle.atomic_table.specs.Table.{Allows, Me, Step, step}
 use Rattle.atomic_table.specs.declared.shared.Seat as shared
-use Rattle.kahn_board.specs.Summary.{Summary, TellsWait, TellsEvents, FlushedAll, flushed_of, events_past}
+use Rattle.kahn_board.specs.Summary.{Summary, TellsEvents, FlushedAll, flushed_of, events_past}
 use Rattle.kahn_board.specs.Wires.{Wires}
 use Rattle.kahn_board.specs.Rule.{KnowsHalted, KnowsQuiet, St, WordWas}
 use Rattle.kahn_board.specs.Place.{total, only}
@@ -14,14 +14,11 @@ use Rattle.kahn_board.specs.declared.view.View.{View}
 abbrev pub ListsHands : List ℕ → List ℕ → Type 0
 ListsHands items hands = (p : ℕ) → total (only p) items ≡ slice_index hands p
 
-abbrev pub AtMostOnce : List ℕ → Type 0
-AtMostOnce hands = (p : ℕ) → slice_index hands p ≤ 1
-
 module _ {T : Type 0} where
   -- it isn't spent; its lists are as long as the table is; the instances are listed in the order of the slots; there is room for all of them
   abbrev pub Facts : Me (Option T) View → TableId → List ℕ → ℕ → Type 0
   Facts m z items room = (0 < m.0.parts) × (length m.0.hands ≡ z.slots) × (8 * (z.slots + length m.0.flushed) + 24 ≡ z.words)
-      × (map (λ x. x.0) m.1 ≡ items) × ListsHands items m.0.hands × AtMostOnce m.0.hands × (z.slots ≤ room) × (length m.0.events_when_got ≡ z.slots)
+      × (map (λ x. x.0) m.1 ≡ items) × ListsHands items m.0.hands × ((p : ℕ) → slice_index m.0.hands p ≤ 1) × (z.slots ≤ room) × (length m.0.events_when_got ≡ z.slots)
 
   -- the slot p is out with the seat, with x in it
   abbrev pub Carries : List (ℕ × Option T) → ℕ → Option T → Type 0
@@ -76,9 +73,6 @@ after_counting_up v = record (after_step v) { owed = drop 1 v.owed }
 abbrev pub after_counting_down : View → View
 after_counting_down v = record (after_step v) { down = v.down - 1 }
 
-abbrev pub after_looking : View → ℕ → ℕ → View
-after_looking v seen stage = record (after_step v) { seen = seen; stage = stage }
-
 -- it halted the run
 abbrev pub after_halting : View → View
 after_halting v = record (after_step v) { seen = 2; raised = v.raised + 1 }
@@ -87,9 +81,9 @@ after_halting v = record (after_step v) { seen = 2; raised = v.raised + 1 }
 abbrev pub burden : View → ℕ
 burden v = total (λ x. x) v.hands + v.drawn + length v.owed + v.down
 
--- done where it holds, drew and owes nothing, else busy
-abbrev pub stage_after_looking : View → ℕ
-stage_after_looking v = cond (burden v == 0) 1 2
+-- it saw that, and is done where it holds, drew and owes nothing, else busy
+abbrev pub after_looking : View → ℕ → View
+after_looking v seen = record (after_step v) { seen = seen; stage = cond (burden v == 0) 1 2 }
 
 -- the numbers L are those of v where v has the writer
 abbrev pub AgreesOnFlushed : Wires → View → List ℕ → Type 0
@@ -99,22 +93,6 @@ AgreesOnFlushed w v L = (q c : ℕ) → q < w.instances → c < w.channels → I
 abbrev pub SeesMore : ℕ → ℕ → Type 0
 SeesMore old new = (new ≡ old) ⊎ (new ≡ 2)
 
-module _ {T : Type 0} (told : T → Option Summary) (w : Wires) where
-  -- the seat gave up the instance p with the cell y, whose slot it took last
-  abbrev pub GaveUp : Sat T → ℕ → ℕ → Sat T → T → Type 0
-  GaveUp m p more n y = n ≡ (after_giving_up m.0 p (told y) more, rest m.1)
-
-  -- the cell that comes first
-  abbrev pub TheFirst : Sat T → ℕ → T → Type 0
-  TheFirst m p y = m.1 ≡ (p, Some y) ∷ rest m.1
-
-  -- over: a count down is owed
-  abbrev pub set_down : ℕ → Play T
-  set_down p st m r n = (y : T) × TheFirst m p y × GaveUp m p (r / 2) n y
-
-  abbrev pub parked_or_not : ℕ → Play T
-  parked_or_not p st m r n = (r ≡ st.first → (y : T) × TheFirst m p y × GaveUp m p 1 n y) × (r ≢ st.first → (r % 2 ≡ 0) × (n ≡ (after_step m.0, m.1)))
-
 module _ {T : Type 0} (told : T → Option Summary) (belongs : ℕ → T → Type 0) (w : Wires) where
   -- the seat took the cell y of the instance p: what y tells as flushed is published; it has flushed all that it sent, or the run is halted; it belongs to p;
   -- its events and those drawn are a number of 48 bits
@@ -123,14 +101,6 @@ module _ {T : Type 0} (told : T → Option Summary) (belongs : ℕ → T → Typ
       × AgreesOnFlushed w m.0 L × ((c k : ℕ) → flushed_of (told y) c ≡ Some k → (w.writer c ≡ Some p) × (c < w.channels) × (k ≡ slice_index L c))
       × TellsEvents (told y) e × SeesMore m.0.seen seen × ((seen ≡ 2) ⊎ FlushedAll (told y)) × belongs p y
       × (slice_index (slice_set m.0.events_when_got p e) p + m.0.drawn < 2 ^ 48)
-
-  abbrev pub claimed : ℕ → Play T
-  claimed p st m r n = (r ≡ 0 → (y : T) × Got m p n y) × (r ≢ 0 → n ≡ (after_step m.0, m.1))
-
-  -- where the number found was odd, the seat took the reader's cell, which waits on the channel c and took all that was published
-  abbrev pub publishes : ℕ → Play T
-  publishes c st m r n = (r % 2 ≡ 0 → n ≡ (after_step (with_published m.0 c (st.first / 2)), m.1))
-      × (r % 2 ≡ 1 → (p : ℕ) × (q : ℕ) × (y : T) × (w.reader c ≡ Some p) × (w.writer c ≡ Some q) × TellsWait (told y) c (r / 2) × Got (after_waking m.0 c (st.first / 2) p q, m.1) p n y)
 
 module _ {T : Type 0} where
   -- the word was as found when the view of the seat id was as before
@@ -150,20 +120,11 @@ module _ {T : Type 0} where
   abbrev pub becomes : (ℕ → View → View) → Play T
   becomes f st m r n = n ≡ (f st.first m.0, m.1)
 
-  -- it drew the difference where the budget was still what it had found
-  abbrev pub drew : Play T
-  drew st m r n = (r ≡ st.first → (n ≡ (after_drawing m.0 (st.first - st.second), m.1)) × ((p : ℕ) → IsIn m.0 p → slice_index m.0.events_when_got p + (st.first - st.second) < 2 ^ 48)) × (r ≢ st.first → n ≡ (after_step m.0, m.1))
-
   abbrev pub sees_halted : Play T
-  sees_halted st m r n = (r ≢ 0 → n ≡ (after_looking m.0 2 (stage_after_looking m.0), m.1)) × (r ≡ 0 → ¬ KnowsHalted m.0 × (n ≡ (after_step m.0, m.1)))
+  sees_halted st m r n = (r ≢ 0 → n ≡ (after_looking m.0 2, m.1)) × (r ≡ 0 → ¬ KnowsHalted m.0 × (n ≡ (after_step m.0, m.1)))
 
   abbrev pub sees_count : Play T
-  sees_count st m r n = (r ≡ 0 → n ≡ (after_looking m.0 1 (stage_after_looking m.0), m.1)) × (r ≢ 0 → ¬ KnowsQuiet m.0 × (n ≡ (after_step m.0, m.1)))
+  sees_count st m r n = (r ≡ 0 → n ≡ (after_looking m.0 1, m.1)) × (r ≢ 0 → ¬ KnowsQuiet m.0 × (n ≡ (after_step m.0, m.1)))
 
   abbrev pub sees_budget : Play T
-  sees_budget st m r n = (r ≡ 0 → n ≡ (after_looking m.0 m.0.seen (stage_after_looking m.0), m.1)) × (r ≢ 0 → n ≡ (after_step m.0, m.1))
-
--- the slot that a seat took last
-abbrev pub first_of : {T : Type 0} → List (ℕ × Option T) → ℕ
-first_of [] = 0
-first_of (x ∷ xs) = x.0
+  sees_budget st m r n = (r ≡ 0 → n ≡ (after_looking m.0 m.0.seen, m.1)) × (r ≢ 0 → n ≡ (after_step m.0, m.1))

@@ -1,16 +1,13 @@
 //! The board, and the seats that step on it.
 
-ghost use Rattle.std.specs.Prelude.{◌≡◌, ◌≢◌, ℕ, ◌+◌, ◌-◌, ◌*◌, ◌%◌, ◌^◌, ◌<◌, ◌≤◌, ◌==◌, [], map, length, Option, slice_index, slice_index_or, None, Some};
+ghost use Rattle.std.specs.Prelude.{◌≡◌, ◌≢◌, ℕ, ◌+◌, ◌*◌, ◌^◌, ◌<◌, ◌≤◌, ◌==◌, [], map, length, Option, slice_index, slice_index_or, None, Some};
 ghost use Rattle.std.specs.VecDeque.{deque_capacity};
 ghost use Rattle.std.specs.Vec.{vec_capacity};
 ghost use Rattle.kahn_board.specs.Plays.{Facts};
 ghost use Rattle.kahn_board.specs.Dealt.{holds, wired};
 ghost use Rattle.kahn_board.specs.Rule.{channel_at, budget_at, count_at, halted_at};
 
-use crate::plays::{
-    CountingDown, CountingUp, Drawing, GivingBack, Halting, Notes, SeesBudget, SeesCount,
-    SeesHalted,
-};
+use crate::plays::{CountingUp, GivingBack, Halting, Notes, SeesBudget, SeesCount, SeesHalted};
 use crate::rule::{Rule, Terms, Told};
 use crate::view::View;
 use atomic_table::{Play, Table};
@@ -77,19 +74,6 @@ impl<T: Told> Board<T> {
         self.table
             .shared
             .compare_exchange::<Brand>(seat, word, old, new)
-    }
-
-    // A fetch and subtract: the word was so at a moment of the call.
-    fn fetch_sub<P: Play<Option<T>, View>>(
-        &self,
-        seat: &mut atomic_table::Seat<Option<T>, View>,
-        word: usize,
-        k: u64,
-    ) -> u64
-        requires { MayStep (holds T.told T.after self.now.table.shared.key) self.now.table.shared.table_id seat.old word k 0 (λ n. (n + (2 ^ 64 - k)) % 2 ^ 64) P.then }
-        ensures { HasPlayed (holds T.told T.after self.now.table.shared.key) self.now.table.shared.table_id seat.old seat.new word k 0 P.then result }
-    {
-        self.table.shared.fetch_sub::<Brand>(seat, word, k)
     }
 
     // The word of the channel.
@@ -317,7 +301,10 @@ impl<T: Told> Seat<T> {
         ensures { CountsDown T.told T.after board.now.table.shared.key self.old self.new }
     {
         let word = board.count_word();
-        board.fetch_sub::<CountingDown>(&mut self.seat, word, 1);
+        board
+            .table
+            .shared
+            .fetch_sub::<Brand>(&mut self.seat, word, 1);
     }
 
     /// Draws up to `quantum` events from the budget.
@@ -332,7 +319,7 @@ impl<T: Told> Seat<T> {
             return Draw::Empty;
         }
         let n = quantum.min(found);
-        if board.compare_exchange::<Drawing>(&mut self.seat, word, found, found - n) == found {
+        if board.compare_exchange::<Brand>(&mut self.seat, word, found, found - n) == found {
             Draw::Got(n)
         } else {
             Draw::Lost

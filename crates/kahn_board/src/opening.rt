@@ -74,7 +74,6 @@ struct Reserved<T> {
     wiring: Wiring,
     words: Vec<u64, Global>,
     held: VecDeque<usize, Global>,
-    room: Vec<T, Global>,
     slots: Vec<Option<T>, Global>,
 }
 
@@ -89,22 +88,16 @@ impl<T> Reserved<T> {
         ensures wiring { IfOk result (λ w. IsWiringOf network.now w.wiring) }
         ensures words { IfOk result (λ w. AreFirstWords w.wiring.instances bound published.now w.words.items) }
         ensures held { IfOk result (λ w. (w.held.items ≡ []) × (w.wiring.instances ≤ deque_capacity w.held)) }
-        ensures room { IfOk result (λ w. (w.room.items ≡ []) × (w.wiring.instances ≤ vec_capacity w.room)) }
         ensures slots { IfOk result (λ w. (w.slots.items ≡ []) × (w.wiring.instances ≤ vec_capacity w.slots)) }
     {
         let wiring = Wiring::of(alloc, network)?;
         let words = lay_words(alloc, wiring.instances, published, bound)?;
         let held = VecDeque::with_capacity(alloc, wiring.instances)?;
-        let room = Vec::with_capacity(alloc, wiring.instances)?;
-        let Ok(slots) = Vec::with_capacity(alloc, wiring.instances) else {
-            room.destroy_empty();
-            return Err(NoMemory);
-        };
+        let slots = Vec::with_capacity(alloc, wiring.instances)?;
         Ok(Reserved {
             wiring,
             words,
             held,
-            room,
             slots,
         })
     }
@@ -126,15 +119,13 @@ impl<T: Told> Board<T> {
         ensures published { IfOk result (λ t. (c : ℕ) → c < length published.now → (dealt T.told t.0.table.shared.key).published c ≡ slice_index published.now c) }
         ensures refused { IfErr result (λ e. e.1.items ≡ cells.items) }
     {
-        let reserved = match Reserved::new(alloc, network, published, bound) {
-            Ok(reserved) => reserved,
-            Err(fault) => return Err((fault, cells)),
+        let Ok(reserved) = Reserved::new(alloc, network, published, bound) else {
+            return Err((NoMemory, cells));
         };
         let Reserved {
             wiring,
             words,
             held,
-            room,
             slots,
         } = reserved;
         let terms = Terms {
@@ -145,18 +136,14 @@ impl<T: Told> Board<T> {
         };
         let (cells, slots) = into_slots(cells, slots);
         match Table::new(alloc, words.as_slice(), slots, &terms) {
-            Err(Refused { slots }) => {
-                room.destroy_empty();
-                Err((NoMemory, out_of_slots(slots, cells)))
-            }
+            Err(Refused { slots }) => Err((NoMemory, out_of_slots(slots, cells))),
             Ok((table, seat)) => {
-                cells.destroy_empty();
                 let board = Board {
                     table,
                     instances: wiring.instances,
                     channels: wiring.channels,
                     readers: wiring.readers,
-                    room,
+                    room: cells,
                 };
                 Ok((board, Seat { seat, held }))
             }

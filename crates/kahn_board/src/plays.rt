@@ -1,13 +1,12 @@
 //! What each step tells its seat.
 
-ghost use Rattle.kahn_board.specs.Plays.{becomes, drew, after_step, after_giving_back, after_counting_up, after_counting_down, after_halting, sees_halted, sees_count, sees_budget};
+ghost use Rattle.kahn_board.specs.Plays.{becomes, after_step, after_giving_back, after_counting_up, after_halting, sees_halted, sees_count, sees_budget};
 
 use crate::view::View;
 use atomic_table::Play;
 use std::marker::Brand;
 
-// What a step on the word of an instance or a channel tells is picked where the step is made, since it speaks of cells
-// and of the network.
+// What a step tells that speaks of cells, of the network or of a moment is picked where the step is made.
 impl<T> Play<Option<T>, View> for Brand {
     ghost then = { λ _ _ _ _. Unit {0} };
 }
@@ -17,13 +16,6 @@ pub struct Notes;
 
 impl<T> Play<Option<T>, View> for Notes {
     ghost then = { becomes (λ _. after_step) };
-}
-
-/// What the exchange of a draw tells.
-pub struct Drawing;
-
-impl<T> Play<Option<T>, View> for Drawing {
-    ghost then = { drew };
 }
 
 /// What giving back tells.
@@ -38,13 +30,6 @@ pub struct CountingUp;
 
 impl<T> Play<Option<T>, View> for CountingUp {
     ghost then = { becomes (λ _. after_counting_up) };
-}
-
-/// What a count down tells.
-pub struct CountingDown;
-
-impl<T> Play<Option<T>, View> for CountingDown {
-    ghost then = { becomes (λ _. after_counting_down) };
 }
 
 /// What halting tells.

@@ -21,22 +21,12 @@ pub trait Told {
 
 /// What a board was made of: the network, the first words, the cells and the bound. Contracts alone read the first
 /// three, which take no bytes.
+#[derive(Drop)]
 pub struct Terms<T> {
     pub network: Snapshot<Network>,
     pub words: Snapshot<Vec<u64, Global>>,
     pub cells: Snapshot<Vec<T, Global>>,
     pub bound: u64,
-}
-
-impl<T> Drop for Terms<T> {
-    fn drop(self) {
-        let Terms {
-            network: _,
-            words: _,
-            cells: _,
-            bound: _,
-        } = self;
-    }
 }
 
 /// The rule of a board's table, which holds between any two steps of any seats.

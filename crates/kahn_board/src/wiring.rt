@@ -20,10 +20,8 @@ pub fn reader_of(network: &Network, channel: usize) -> Option<usize>
     requires { channel < (wires network.now).channels }
     ensures { result ≡ (wires network.now).reader channel }
 {
-    match network.reader(channel) {
-        Some(side) => Some(side.instance),
-        None => None,
-    }
+    let side = network.reader(channel)?;
+    Some(side.instance)
 }
 
 /// The instance that writes the channel, where one does; none writes an input channel. It takes no memory.
@@ -31,10 +29,8 @@ pub fn writer_of(network: &Network, channel: usize) -> Option<usize>
     requires { channel < (wires network.now).channels }
     ensures { result ≡ (wires network.now).writer channel }
 {
-    match network.writer(channel) {
-        Some(side) => Some(side.instance),
-        None => None,
-    }
+    let side = network.writer(channel)?;
+    Some(side.instance)
 }
 
 impl Wiring {

@@ -14,7 +14,7 @@ met n a p la lp = by (p - a) refl (a - p) refl
 
 -- a seat that looked rests as it did
 pub looked : (run : Run) (s t : Seat Tasked) (p n : ℕ) (b : Bool) → LooksAt told_tale IsLater (terms_of run) s t p b → SitsWith run n s → SitsWith run n t
-looked run s t p n b e r = (e.0.0 ∙ r.0, subst (λ (m : Sat Tasked). RestsWith n m.0) (sym e.1.3) r.1)
+looked run s t p n b e r = (e.0.0.0 ∙ r.0, subst (λ (m : Sat Tasked). RestsWith n m.0) (sym e.0.1) r.1)
 
 -- the same seat tells it
 pub not_ready_of : (run : Run) (s t : Seat Tasked) (p : ℕ) → t.seat.id ≡ s.seat.id → WasNotReady run t p → WasNotReady run s p

@@ -1,10 +1,13 @@
 -- Jobs before their first events.
-use Rattle.kahn_job.proofs.Common.{arith, ◌≡◌, ℕ, ◌<◌, List, length, refl, sym, ap, ◌∙◌, subst, Option, Some, slice_get, slice_index_or, Program, Actual, Reads, Writes, Hands, network_of, instance_at, actual_at, IsWellWired, reads_listed, writes_listed, AreInputsExtended, Lists, inputs_of, prefix_refl, Joins, End, Serves, end_at, Work, HaveSettled, IsIdle, cells_of, rows_of, end_in, HaveNoEnds, AreHanded, AreOpening, IsFresh, IsOpening, no_end}
+use Rattle.kahn_job.proofs.Common.{arith, ◌≡◌, ℕ, ◌<◌, List, length, refl, sym, ap, ◌∙◌, subst, Option, Some, slice_get, slice_index_or, Program, Actual, Reads, Writes, Hands, network_of, instance_at, actual_at, IsWellWired, reads_listed, writes_listed, AreInputsExtended, Lists, inputs_of, prefix_refl, Joins, End, Serves, end_at, Work, HaveSettled, IsIdle, cells_of, rows_of, end_in, AreFirst, HasNoEnds, AreHanded, AreOpening, IsFresh, IsOpening, no_end}
 use Rattle.kahn_streams.proofs.Entered.{none_of}
 use Rattle.std.proofs.lemmas.List.{length-map, length-replicate}
 use Rattle.kahn_job.proofs.Idles.{cell_there, cells_count, each_row, past, row_there, settled_rest}
 
--- jobs whose parameters have no ends yet
+-- the jobs of all instances, whose parameters have no ends yet
+abbrev pub HaveNoEnds : Program → Lists → Option ℕ → List Work → Type 0
+HaveNoEnds t lists watch ws = AreFirst (HasNoEnds t lists watch) ws (length (network_of t).instances)
+
 pub all_bare : (t : Program) (lists : Lists) (watch : Option ℕ) (ws : List Work) → HaveNoEnds t lists watch ws → AreHanded t lists 0 (rows_of ws)
 all_bare t lists watch ws h = record {
   count = length-map ws (λ (w : Work). w.ends) ∙ h.count;

@@ -16,10 +16,10 @@ within_written t lists p es h q d e = let l = (handed_within (network_of t) p q 
 
 identity_same : (old new : End) → identity_of new ≡ identity_of old → IsSame old new
 identity_same old new e = record {
-  reads = ap (λ (i : Identity). i.reads) e;
-  writes = ap (λ (i : Identity). i.writes) e;
-  lane = ap (λ (i : Identity). i.lane) e;
-  name = ap (λ (i : Identity). i.name) e;
+  reads = ap (λ (i : Identity). i.0) e;
+  writes = ap (λ (i : Identity). i.1) e;
+  lane = ap (λ (i : Identity). i.2) e;
+  name = ap (λ (i : Identity). i.3) e;
 }
 
 pub advanced : (old new : List End) → identities new ≡ identities old → Grows (λ q. (end_at old q).flushed) (λ q. (end_at new q).flushed) → HaveAdvanced old new
@@ -36,7 +36,7 @@ pub same_ends : (borrow q : ℕ) (es : List End) (old new : End) → old ≡ sli
 same_ends borrow q es old new is s = ap (λ i. (borrow, i)) (map-set_same identity_of es q new old (same ∙ ap identity_of is))
   where
     same : identity_of new ≡ identity_of old
-    same = λ i. record { reads = s.reads i; writes = s.writes i; lane = s.lane i; name = s.name i }
+    same = λ i. (s.reads i, s.writes i, s.lane i, s.name i)
 
 pub past_none : (es : List End) (q : ℕ) → (q < length es) ⊎ (end_at es q ≡ no_end)
 past_none es q = ⊎_elim inl (λ l. inr (get_or_past es q no_end l)) (cases_lt q (length es))

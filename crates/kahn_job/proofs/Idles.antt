@@ -14,6 +14,10 @@ rows_exchanged ws p q e d w l i =
     map-set (λ (w : Work). w.ends) ws p w ∙ ap (slice_set (rows_of ws) p) (ap (λ (w : Work). w.ends) i ∙
     ap (λ es. slice_set es q e) (sym (get_or-map (λ (w : Work). w.ends) ws p d [] (subst (λ n. p < n) (length-map ws (λ (w : Work). w.ends)) l))))
 
+-- its ends are a row
+pub row_at : (ws : List Work) (p : ℕ) (w : Work) → p < length (rows_of ws) → w ≡ slice_index_or ws p w → w.ends ≡ slice_index_or (rows_of ws) p []
+row_at ws p w l i = ap (λ (z : Work). z.ends) i ∙ sym (get_or-map (λ (z : Work). z.ends) ws p w [] (subst (λ n. p < n) (length-map ws (λ (z : Work). z.ends)) l))
+
 pub cells_exchanged : (ws : List Work) (p q : ℕ) (e : End) (d w : Work) → w ≡ record (slice_index_or ws p d) { ends = slice_set (slice_index_or ws p d).ends q e } →
     cells_of (slice_set ws p w) ≡ cells_of ws
 cells_exchanged ws p q e d w i = map-set_same (λ (w : Work). w.cell) ws p w d (ap (λ (w : Work). w.cell) i)

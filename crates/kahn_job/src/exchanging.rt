@@ -10,28 +10,28 @@ use crate::port::Port;
 use kahn_streams::Side;
 
 /// Gives a parameter another end, and gives out the one it had.
-pub(crate) fn exchange(idles: &mut [Idle], side: Side, port: Port) -> Port
-    requires { HasPlace (rows_of idles.old) side }
-    ensures port { result ≡ end_of_side (rows_of idles.old) side }
-    ensures rows { rows_of idles.new ≡ placed (rows_of idles.old) (Some side) port }
-    ensures cells { cells_of idles.new ≡ cells_of idles.old }
+pub(crate) fn exchange(idles: &mut Vec<Idle>, side: Side, port: Port) -> Port
+    requires { HasPlace (rows_of idles.old.items) side }
+    ensures port { result ≡ end_of_side (rows_of idles.old.items) side }
+    ensures rows { rows_of idles.new.items ≡ placed (rows_of idles.old.items) (Some side) port }
+    ensures cells { cells_of idles.new.items ≡ cells_of idles.old.items }
 {
     idles[side.instance].replace(side.parameter, port)
 }
 
 /// Gives two parameters other ends, and gives out those they had.
 pub(crate) fn exchange_two(
-    idles: &mut [Idle],
+    idles: &mut Vec<Idle>,
     writer: Side,
     sender: Port,
     reader: Side,
     receiver: Port,
 ) -> (Port, Port)
-    requires places { HasPlace (rows_of idles.old) writer × HasPlace (rows_of idles.old) reader }
+    requires places { HasPlace (rows_of idles.old.items) writer × HasPlace (rows_of idles.old.items) reader }
     requires apart { writer ≡ reader → ⊥ }
-    ensures ends { (result.0 ≡ end_of_side (rows_of idles.old) writer) × (result.1 ≡ end_of_side (rows_of idles.old) reader) }
-    ensures rows { rows_of idles.new ≡ placed (placed (rows_of idles.old) (Some writer) sender) (Some reader) receiver }
-    ensures cells { cells_of idles.new ≡ cells_of idles.old }
+    ensures ends { (result.0 ≡ end_of_side (rows_of idles.old.items) writer) × (result.1 ≡ end_of_side (rows_of idles.old.items) reader) }
+    ensures rows { rows_of idles.new.items ≡ placed (placed (rows_of idles.old.items) (Some writer) sender) (Some reader) receiver }
+    ensures cells { cells_of idles.new.items ≡ cells_of idles.old.items }
 {
     let sender = exchange(idles, writer, sender);
     let receiver = exchange(idles, reader, receiver);

@@ -13,7 +13,7 @@ pub(crate) struct Feed {
     network: About<Network>,
     input: About<Input>,
     channel: usize,
-    next: u64,
+    pub(crate) next: u64,
 }
 
 impl Model for Feed {
@@ -76,12 +76,5 @@ impl Feed {
         let token = input.token(network, self.channel, self.next)?;
         self.next += 1;
         Some(token)
-    }
-
-    /// The place of the next token.
-    pub(crate) fn next(&self) -> u64
-        ensures { result ≡ self.now.next }
-    {
-        self.next
     }
 }

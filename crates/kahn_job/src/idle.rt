@@ -4,7 +4,6 @@ ghost use Rattle.std.specs.Prelude.{◌≡◌, ◌<◌, length, map, slice_index
 ghost use Rattle.kahn_job.specs.inner.Berths.{end_at};
 ghost use Rattle.kahn_job.specs.inner.Works.{width_of};
 
-use crate::copies::{copied, kept_of};
 use crate::port::Port;
 use kahn_code::{Cell, Kept};
 use kahn_streams::{Carried, NoMemory};
@@ -36,6 +35,17 @@ impl Model for Idle {
     ghost view = { λ j. record { cell = j.cell; ends = j.ports.items } };
 
     ghost invariant = { λ j. (j.instance ≡ j.cell.instance) × (length j.numbers.items ≡ width_of (record { cell = j.cell; ends = j.ports.items })) };
+}
+
+// The same tokens once more.
+fn copied(alloc: Global, tokens: &[Carried]) -> Result<Vec<Carried>, NoMemory>
+    ensures { IfOk result (λ v. v.items ≡ tokens.now) }
+{
+    let mut copy = Vec::with_capacity(alloc, tokens.len())?;
+    for place in 0..tokens.len() {
+        copy.push_reserved(tokens[place].again());
+    }
+    Ok(copy)
 }
 
 impl Idle {
@@ -84,8 +94,11 @@ impl Idle {
         ensures printed { IfOk result (λ k. k.printed.items ≡ self.now.cell.printed) }
         ensures parameters { IfOk result (λ k. length k.kept.items ≡ width_of self.now) }
     {
-        let _parameters = self.cell.parameters();
-        let kept = kept_of(alloc, &self.cell)?;
+        let parameters = self.cell.parameters();
+        let mut kept = Vec::with_capacity(alloc, parameters)?;
+        for parameter in 0..parameters {
+            kept.push_reserved(copied(alloc, self.cell.kept(parameter))?);
+        }
         let printed = copied(alloc, self.cell.printed())?;
         Ok(Kept { kept, printed })
     }

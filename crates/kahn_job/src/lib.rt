@@ -1,7 +1,6 @@
 //! A process of a network together with the ends of its channels, which travel with it from worker to worker.
 #![tactic(auto)]
 
-mod copies;
 mod exchanging;
 mod feed;
 mod handing;

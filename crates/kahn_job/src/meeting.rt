@@ -1,11 +1,11 @@
 //! The two ends of each channel between processes meet, and tell that no reader took more than was flushed.
 
 ghost use Rattle.std.specs.Prelude.{◌≡◌, ◌<◌};
-ghost use Rattle.kahn_job.specs.inner.Words.{ℕ, length, network_of};
+ghost use Rattle.kahn_job.specs.inner.Words.{ℕ, length, network_of, Lists};
 ghost use Rattle.kahn_job.specs.inner.Ends.{IsBehind, MayMeet};
 ghost use Rattle.kahn_job.specs.inner.Idles.{HaveMet, rows_of};
 ghost use Rattle.kahn_job.specs.inner.Lanes.{AreBehindOn, HasPlace, end_of_side};
-ghost use Rattle.kahn_job.specs.inner.Settling.{AreAtRest};
+ghost use Rattle.kahn_job.specs.inner.Settling.{AreResting};
 
 use crate::exchanging::exchange_two;
 use crate::idle::Idle;
@@ -13,12 +13,12 @@ use crate::port::Port;
 use kahn_streams::{Network, Side};
 
 // The two ends of a lane meet.
-fn meet_sides(idles: &mut [Idle], writer: Side, reader: Side)
-    requires places { HasPlace (rows_of idles.old) writer × HasPlace (rows_of idles.old) reader }
+fn meet_sides(idles: &mut Vec<Idle>, writer: Side, reader: Side)
+    requires places { HasPlace (rows_of idles.old.items) writer × HasPlace (rows_of idles.old.items) reader }
     requires apart { writer ≡ reader → ⊥ }
-    requires lane { MayMeet (end_of_side (rows_of idles.old) writer) (end_of_side (rows_of idles.old) reader) }
-    ensures met { HaveMet idles.old idles.new }
-    ensures behind { IsBehind (end_of_side (rows_of idles.old) writer) (end_of_side (rows_of idles.old) reader) }
+    requires lane { MayMeet (end_of_side (rows_of idles.old.items) writer) (end_of_side (rows_of idles.old.items) reader) }
+    ensures met { HaveMet idles.old.items idles.new.items }
+    ensures behind { IsBehind (end_of_side (rows_of idles.old.items) writer) (end_of_side (rows_of idles.old.items) reader) }
 {
     let (sender, receiver) = exchange_two(idles, writer, Port::nothing(), reader, Port::nothing());
     let (sender, receiver) = sender.meet(receiver);
@@ -26,11 +26,11 @@ fn meet_sides(idles: &mut [Idle], writer: Side, reader: Side)
 }
 
 // The two ends of a channel meet, if it has two.
-fn meet_on(network: &Network, idles: &mut [Idle], channel: usize)
+fn meet_on(network: &Network, idles: &mut Vec<Idle>, channel: usize)
     requires here { channel < length (network_of network.now).channels }
-    requires resting { AreAtRest network.now (rows_of idles.old) }
-    ensures met { HaveMet idles.old idles.new }
-    ensures behind { AreBehindOn (network_of network.now) (rows_of idles.old) channel }
+    requires resting { (lists : Lists) × AreResting network.now lists (rows_of idles.old.items) }
+    ensures met { HaveMet idles.old.items idles.new.items }
+    ensures behind { AreBehindOn (network_of network.now) (rows_of idles.old.items) channel }
 {
     let _program = network.program();
     if let Some(writer) = network.writer(channel) {
@@ -40,25 +40,16 @@ fn meet_on(network: &Network, idles: &mut [Idle], channel: usize)
     }
 }
 
-// The two ends of each channel meet.
-fn meet_each(network: &Network, idles: &mut [Idle])
-    requires { AreAtRest network.now (rows_of idles.old) }
-    ensures met { HaveMet idles.old idles.new }
-    ensures behind { (c : ℕ) → AreBehindOn (network_of network.now) (rows_of idles.old) c }
-{
-    let _program = network.program();
-    for channel in 0..network.channels() {
-        meet_on(network, idles, channel);
-    }
-}
-
 /// The two ends of each channel meet, which tells that no reader took more than was flushed. The jobs stay as they are, but for
 /// what their ends know. It never allocates.
 pub fn meet(network: &Network, mut idles: Vec<Idle>) -> Vec<Idle>
-    requires { AreAtRest network.now (rows_of idles.items) }
+    requires { (lists : Lists) × AreResting network.now lists (rows_of idles.items) }
     ensures met { HaveMet idles.items result.items }
     ensures behind { (c : ℕ) → AreBehindOn (network_of network.now) (rows_of idles.items) c }
 {
-    meet_each(network, &mut idles);
+    let _program = network.program();
+    for channel in 0..network.channels() {
+        meet_on(network, &mut idles, channel);
+    }
     idles
 }

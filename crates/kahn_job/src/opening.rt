@@ -2,9 +2,9 @@
 
 ghost use Rattle.std.specs.Prelude.{◌≡◌, ◌<◌};
 ghost use Rattle.kahn_job.specs.inner.Words.{length, IfOk, network_of, Lists};
-ghost use Rattle.kahn_job.specs.inner.Openings.{HaveNoEnds, AreOpening, HasNoEnds};
+ghost use Rattle.kahn_job.specs.inner.Openings.{AreOpening, HasNoEnds};
 
-use crate::handing::hand_all;
+use crate::handing::{ends_of, place};
 use crate::idle::Idle;
 use crate::port::Port;
 use kahn_code::{Cell, Code};
@@ -38,24 +38,6 @@ fn bare_job(
     Ok(Idle::new(cell, instance, ports, numbers))
 }
 
-// The jobs of all instances, whose parameters have no ends yet.
-fn bare_jobs(
-    alloc: Global,
-    network: &Network,
-    input: &Input,
-    code: &Code,
-    watch: Option<usize>,
-) -> Result<Vec<Idle>, NoMemory>
-    requires { code.now.network.value ≡ network.now }
-    ensures { IfOk result (λ idles. HaveNoEnds network.now input.now watch idles.items) }
-{
-    let mut idles = Vec::new(alloc);
-    for instance in 0..network.instances() {
-        idles.push(bare_job(alloc, network, input, code, instance, watch)?)?;
-    }
-    Ok(idles)
-}
-
 /// The jobs of all instances before their first events, in order. Each inner channel has a new lane, whose ends are with
 /// the channel's writer and reader. It refuses only if memory was refused.
 pub fn jobs(
@@ -69,7 +51,14 @@ pub fn jobs(
     ensures { IfOk result (λ idles. AreOpening network.now input.now watch idles.items) }
 {
     let _program = network.program();
-    let bare = bare_jobs(alloc, network, input, code, watch)?;
-    let idles = hand_all(alloc, network, input, bare)?;
+    let mut idles = Vec::new(alloc);
+    for instance in 0..network.instances() {
+        idles.push(bare_job(alloc, network, input, code, instance, watch)?)?;
+    }
+    for channel in 0..network.channels() {
+        let (writer, reader) = ends_of(alloc, network, input, channel)?;
+        place(&mut idles, network.writer(channel), writer);
+        place(&mut idles, network.reader(channel), reader);
+    }
     Ok(idles)
 }

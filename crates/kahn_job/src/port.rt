@@ -2,7 +2,7 @@
 
 ghost use Rattle.std.specs.Prelude.{◌≡◌, ◌⊎◌, ◌<◌, ◌+◌, ◌^◌};
 ghost use Rattle.kahn_job.specs.inner.Words.{ℕ, true, length, Some, IfSome, IfNone, IsOk, IsSome, IsTrue, IsFalse, OnOk, OnErr, MatchResult, network_of, role_at, flushed, left, moved_to, token_name, LaneName, Input as InputRole};
-ghost use Rattle.kahn_job.specs.inner.Ends.{Advances, FlushesFull, HasRoom, IsBehind, IsDry, IsFlushed, IsReady, IsSame, MayMeet, ShareLane};
+ghost use Rattle.kahn_job.specs.inner.Ends.{Advances, FlushesFull, HasRoom, IsBehind, IsDry, IsFlushed, IsReady, MayMeet, ShareLane};
 ghost use Rattle.kahn_job.specs.inner.Berths.{HasStayed, IsWithinInput, IsFor};
 ghost use Rattle.kahn_job.specs.inner.Settling.{BothSettle, CanFeed, CanSettle, HasSettled};
 ghost use Rattle.kahn_job.specs.inner.Ways.{taking, feeding, putting, no_end};
@@ -98,7 +98,6 @@ impl Port {
     pub(crate) fn ready(&mut self, _network: &Network, input: &Input) -> bool
         requires reads { self.old.reads ≡ true }
         requires of { IsFor _network.now input.now self.old }
-        ensures same { IsSame self.old self.new }
         ensures advances { Advances self.old self.new }
         ensures counts { (self.new.next ≡ self.old.next) × (self.new.known ≡ self.old.known) }
         ensures asked { self.new.asked ≡ self.old.left }
@@ -122,7 +121,6 @@ impl Port {
         requires reads { self.old.reads ≡ true }
         requires of { IsFor network.now input.now self.old }
         requires bound { self.old.next < 2 ^ 48 }
-        ensures same { IsSame self.old self.new }
         ensures advances { Advances self.old self.new }
         ensures known { self.new.known ≡ self.old.known }
         ensures token { IfSome result (λ t. (self.old.name ≡ Some (token_name t)) × (t.place ≡ self.old.next)) }
@@ -146,7 +144,6 @@ impl Port {
     /// allocates.
     pub(crate) fn room(&mut self) -> Result<(), NoMemory>
         requires { self.old.writes ≡ true }
-        ensures same { IsSame self.old self.new }
         ensures advances { Advances self.old self.new }
         ensures counts { FlushesFull self.old self.new }
         ensures room { OnOk result (HasRoom self.new) }
@@ -167,7 +164,6 @@ impl Port {
         requires bound { self.old.next < 2 ^ 48 }
         requires room { HasRoom self.old }
         requires token { (self.old.name ≡ Some (token_name token)) × (token.place ≡ self.old.next) }
-        ensures same { IsSame self.old self.new }
         ensures advances { Advances self.old self.new }
         ensures moved { (self.new.next ≡ self.old.next + 1) × (self.new.flushed ≡ self.old.flushed) }
         ensures keeps { IsReady self.old → IsReady self.new }
@@ -180,7 +176,6 @@ impl Port {
 
     /// Flushes what was put, so that the reader can take it. A refusal leaves the tokens in the open segment.
     pub(crate) fn flush(&mut self) -> Result<(), NoMemory>
-        ensures same { IsSame self.old self.new }
         ensures advances { Advances self.old self.new }
         ensures counts { (self.new.next ≡ self.old.next) × (self.new.known ≡ self.old.known) }
         ensures flushed { MatchResult result (λ _. IsFlushed self.new) (λ _. self.new.flushed ≡ self.old.flushed) }
@@ -253,7 +248,7 @@ impl Port {
     {
         match &self.way {
             Way::Takes(receiver, _) => receiver.taken(),
-            Way::Feeds(feed) => feed.next(),
+            Way::Feeds(feed) => feed.next,
             Way::Puts(sender) => sender.sent(),
             Way::Nothing => 0,
         }

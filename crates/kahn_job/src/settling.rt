@@ -13,16 +13,16 @@ use kahn_streams::{Input, Network, NoMemory, Side};
 
 // The lane between two parameters goes on with the input.
 fn settle_lane(
-    idles: &mut [Idle],
+    idles: &mut Vec<Idle>,
     writer: Side,
     reader: Side,
     input: &Input,
 ) -> Result<(), NoMemory>
-    requires places { HasPlace (rows_of idles.old) writer × HasPlace (rows_of idles.old) reader }
+    requires places { HasPlace (rows_of idles.old.items) writer × HasPlace (rows_of idles.old.items) reader }
     requires apart { writer ≡ reader → ⊥ }
-    requires lane { CanSettle input.now (end_of_side (rows_of idles.old) writer) (end_of_side (rows_of idles.old) reader) }
-    ensures ends { GoesOrStays result (HaveExchanged input.now writer reader) (rows_of idles.old) (rows_of idles.new) }
-    ensures cells { cells_of idles.new ≡ cells_of idles.old }
+    requires lane { CanSettle input.now (end_of_side (rows_of idles.old.items) writer) (end_of_side (rows_of idles.old.items) reader) }
+    ensures ends { GoesOrStays result (HaveExchanged input.now writer reader) (rows_of idles.old.items) (rows_of idles.new.items) }
+    ensures cells { cells_of idles.new.items ≡ cells_of idles.old.items }
 {
     let (sender, receiver) = exchange_two(idles, writer, Port::nothing(), reader, Port::nothing());
     let (sender, receiver, settled) = sender.settle(receiver, input);
@@ -31,11 +31,11 @@ fn settle_lane(
 }
 
 // The list of an input channel is that of the input from now on.
-fn settle_feed(idles: &mut [Idle], reader: Side, input: &Input)
-    requires place { HasPlace (rows_of idles.old) reader }
-    requires feed { CanFeed input.now (end_of_side (rows_of idles.old) reader) }
-    ensures ends { HasExchanged input.now reader (rows_of idles.old) (rows_of idles.new) }
-    ensures cells { cells_of idles.new ≡ cells_of idles.old }
+fn settle_feed(idles: &mut Vec<Idle>, reader: Side, input: &Input)
+    requires place { HasPlace (rows_of idles.old.items) reader }
+    requires feed { CanFeed input.now (end_of_side (rows_of idles.old.items) reader) }
+    ensures ends { HasExchanged input.now reader (rows_of idles.old.items) (rows_of idles.new.items) }
+    ensures cells { cells_of idles.new.items ≡ cells_of idles.old.items }
 {
     let mut port = exchange(idles, reader, Port::nothing());
     port.regrow(input);
@@ -46,13 +46,13 @@ fn settle_feed(idles: &mut [Idle], reader: Side, input: &Input)
 fn settle_channel(
     network: &Network,
     input: &Input,
-    idles: &mut [Idle],
+    idles: &mut Vec<Idle>,
     channel: usize,
 ) -> Result<(), NoMemory>
     requires here { channel < length (network_of network.now).channels }
-    requires resting { AreResting network.now input.now (rows_of idles.old) }
-    ensures ends { GoesOrStays result (AreSettled network.now input.now channel) (rows_of idles.old) (rows_of idles.new) }
-    ensures cells { cells_of idles.new ≡ cells_of idles.old }
+    requires resting { AreResting network.now input.now (rows_of idles.old.items) }
+    ensures ends { GoesOrStays result (AreSettled network.now input.now channel) (rows_of idles.old.items) (rows_of idles.new.items) }
+    ensures cells { cells_of idles.new.items ≡ cells_of idles.old.items }
 {
     let _program = network.program();
     match network.reader(channel) {
@@ -69,12 +69,12 @@ fn settle_channel(
 
 /// The ends of all channels go on with an input whose lists begin with those of theirs. Each stands where it stood, and all
 /// that was put is flushed. If memory is refused, those that went on already look the same to every call.
-pub fn settle(network: &Network, input: &Input, idles: &mut [Idle]) -> Result<(), NoMemory>
-    requires { AreResting network.now input.now (rows_of idles.old) }
-    ensures settled { OnOk result (HaveSettled network.now input.now (rows_of idles.new)) }
-    ensures resting { AreResting network.now input.now (rows_of idles.new) }
-    ensures stood { HaveStood (rows_of idles.old) (rows_of idles.new) }
-    ensures cells { cells_of idles.new ≡ cells_of idles.old }
+pub fn settle(network: &Network, input: &Input, idles: &mut Vec<Idle>) -> Result<(), NoMemory>
+    requires { AreResting network.now input.now (rows_of idles.old.items) }
+    ensures settled { OnOk result (HaveSettled network.now input.now (rows_of idles.new.items)) }
+    ensures resting { AreResting network.now input.now (rows_of idles.new.items) }
+    ensures stood { HaveStood (rows_of idles.old.items) (rows_of idles.new.items) }
+    ensures cells { cells_of idles.new.items ≡ cells_of idles.old.items }
 {
     let _program = network.program();
     for channel in 0..network.channels() {

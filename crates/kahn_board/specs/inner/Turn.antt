@@ -17,9 +17,6 @@ use Rattle.kahn_board.specs.declared.board.Seat.{Seat}
 abbrev pub RestsWith : ℕ → View → Type 0
 RestsWith n v = (HoldsNothing v × (v.drawn ≡ n) × (v.owed ≡ []) × (v.down ≡ 0)) × (v.untold ≡ 0)
 
-abbrev pub Rests : View → Type 0
-Rests v = RestsWith 0 v
-
 -- what is known of the instance p stays: what its channels' numbers are, what its cell told when it was got; and no less was seen
 pub record Knows (w : Wires) (p : ℕ) (old new : View) : Type 0 where
   pub flushed : (c : ℕ) → c < w.channels → w.writer c ≡ Some p → slice_index new.flushed c ≡ slice_index old.flushed c
@@ -50,7 +47,7 @@ module _ {T : Type 0} where
 
   -- between two turns
   abbrev pub IsBetweenTurns : Seat T → Type 0
-  IsBetweenTurns s = Rests s.seat.me.0
+  IsBetweenTurns s = IsBetween 0 s
 
   -- in a turn of p
   abbrev pub HoldsInTurn : ℕ → ℕ → ℕ → Option T → Seat T → Type 0

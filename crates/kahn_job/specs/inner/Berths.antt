@@ -7,11 +7,15 @@ use Rattle.kahn_job.specs.inner.Ways.{no_end}
 abbrev pub end_at : List End → ℕ → End
 end_at ends q = slice_index_or ends q no_end
 
--- the end is that of the channel that is handed over; an input channel has no lane
+-- the end is that of the channel that is handed over, of which this is so; an input channel has no lane
+abbrev pub ServesSo : (ℕ → End → Type 0) → Program → Actual → End → Type 0
+ServesSo so t (Reads d) e = (e.reads ≡ true) × so d e × (role_at (network_of t) d ≡ Input → e.lane ≡ None)
+ServesSo so t (Writes d) e = is_output (role_at (network_of t) d) ≡ false → (e.writes ≡ true) × so d e
+ServesSo so t (Hands v) e = Unit {0}
+
+-- its tokens are those of this input
 abbrev pub Serves : Program → Lists → Actual → End → Type 0
-Serves t lists (Reads d) e = (e.reads ≡ true) × (e.name ≡ Some (lane_name t lists d)) × (role_at (network_of t) d ≡ Input → e.lane ≡ None)
-Serves t lists (Writes d) e = is_output (role_at (network_of t) d) ≡ false → (e.writes ≡ true) × (e.name ≡ Some (lane_name t lists d))
-Serves t lists (Hands v) e = Unit {0}
+Serves t lists = ServesSo (λ d e. e.name ≡ Some (lane_name t lists d)) t
 
 pub Serves-prop : (t : Program) (lists : Lists) (a : Actual) (e : End) → IsProp (Serves t lists a e)
 Serves-prop t lists (Reads d) e = Prim.hlevel (props, name-prop)

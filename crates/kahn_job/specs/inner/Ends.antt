@@ -34,14 +34,11 @@ pub record Feeding : Type 0 where
   pub next : ℕ
 
 -- what of an end never changes
-pub record Identity : Type 0 where
-  pub reads : Bool
-  pub writes : Bool
-  pub lane : Option Lane
-  pub name : Named
+abbrev pub Identity : Type 0
+Identity = Bool × Bool × Option Lane × Named
 
 abbrev pub identity_of : End → Identity
-identity_of e = record { reads = e.reads; writes = e.writes; lane = e.lane; name = e.name }
+identity_of e = (e.reads, e.writes, e.lane, e.name)
 
 -- it is the same end, of the same channel
 pub record IsSame (old new : End) : Type 0 where
@@ -65,9 +62,9 @@ pub record IsBehind (writer reader : End) : Type 0 where
   pub within : reader.next ≤ writer.flushed
   pub more : 0 < reader.waiting → reader.next < writer.flushed
 
--- nothing that was flushed is taken back, and no more is flushed than was put
+-- it is the same end; nothing that was flushed is taken back, and no more is flushed than was put
 abbrev pub Advances : End → End → Type 0
-Advances old new = (old.flushed ≤ new.flushed) × (new.flushed ≤ new.next)
+Advances old new = IsSame old new × (old.flushed ≤ new.flushed) × (new.flushed ≤ new.next)
 
 -- nothing was flushed, or a full segment
 abbrev pub FlushesFull : End → End → Type 0

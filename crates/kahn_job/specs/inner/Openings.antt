@@ -51,11 +51,6 @@ pub record IsOpening (t : Program) (lists : Lists) (watch : Option ℕ) (p : ℕ
 abbrev pub HasNoEnds : Program → Lists → Option ℕ → ℕ → Work → Type 0
 HasNoEnds t lists watch p w = IsOpening t lists watch p w.cell × (w.ends ≡ replicate (length (instance_at (network_of t) p).actuals) no_end)
 
--- so for all instances
-pub record HaveNoEnds (t : Program) (lists : Lists) (watch : Option ℕ) (ws : List Work) : Type 0 where
-  pub count : length ws ≡ length (network_of t).instances
-  pub each : (p : ℕ) (w : Work) → slice_get ws p ≡ Some w → HasNoEnds t lists watch p w
-
 -- the jobs of all instances before their first events
 pub record AreOpening (t : Program) (lists : Lists) (watch : Option ℕ) (ws : List Work) : Type 0 where
   pub idle : AreIdle t lists ws

@@ -2,6 +2,7 @@
 use Rattle.std.specs.Prelude.{◌≡◌, ◌⊎◌, ◌≤◌}
 use Rattle.kahn_job.specs.inner.Words.{ℕ, true, false, List, [], length, None, Some, slice_index_or, Result, MatchResult, Program, Side, Input, side_at, Actual, Reads, Writes, Hands, network_of, instance_at, actual_at, role_at, AreInputsExtended, Lists, inputs_of, is_output, Joins, LaneName, lane_name, moved_to, IsGrown}
 use Rattle.kahn_job.specs.inner.Ends.{End, IsFlushed, MayMeet, ShareLane}
+use Rattle.kahn_job.specs.inner.Berths.{ServesSo}
 use Rattle.kahn_job.specs.inner.Lanes.{AreJoinedOn, end_in, end_of_side}
 
 -- it has become an end of what the name says: it stands where it stood, and what was put is flushed
@@ -18,11 +19,9 @@ pub record HasSettled (name : LaneName) (old new : End) : Type 0 where
 abbrev pub IsOfBefore : Program → Lists → ℕ → End → Type 0
 IsOfBefore t lists d e = (older : Lists) × (e.name ≡ Some (lane_name t older d)) × AreInputsExtended (inputs_of older) (inputs_of lists)
 
--- the end is that of the channel that is handed over, for such an input; an input channel has no lane
+-- it is the end of the channel that is handed over, for such an input
 abbrev pub ServedBefore : Program → Lists → Actual → End → Type 0
-ServedBefore t lists (Reads d) e = (e.reads ≡ true) × IsOfBefore t lists d e × (role_at (network_of t) d ≡ Input → e.lane ≡ None)
-ServedBefore t lists (Writes d) e = is_output (role_at (network_of t) d) ≡ false → (e.writes ≡ true) × IsOfBefore t lists d e
-ServedBefore t lists (Hands v) e = Unit {0}
+ServedBefore t lists = ServesSo (IsOfBefore t lists) t
 
 -- the ends of all instances, each for an input whose lists begin those of this one
 pub record AreResting (t : Program) (lists : Lists) (rows : List (List End)) : Type 0 where
@@ -31,10 +30,6 @@ pub record AreResting (t : Program) (lists : Lists) (rows : List (List End)) : T
   pub each : (p q : ℕ) → ServedBefore t lists (actual_at (instance_at (network_of t) p) q) (end_in rows p q)
   pub behind : (p q : ℕ) → (end_in rows p q).flushed ≤ (end_in rows p q).next
   pub joined : (d : ℕ) → AreJoinedOn (network_of t) rows d
-
--- they are at rest for some input
-abbrev pub AreAtRest : Program → List (List End) → Type 0
-AreAtRest t rows = (lists : Lists) × AreResting t lists rows
 
 -- a channel that isn't an output is handed over there
 abbrev pub IsCarried : Program → Actual → ℕ → Type 0

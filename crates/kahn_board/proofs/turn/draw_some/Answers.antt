@@ -12,11 +12,11 @@ pub returns-in-Empty-clause-draws : goal.returns-in-Empty-clause-draws
 returns-in-Empty-clause-draws g c = (c.loop.counter - 1, c.loop.seat, omega (arith, c.loop-test.true), c.loop.invariant.3, c.in-Empty.ensures, λ lost. absurd cc)
 
 pub loop-preserved : goal.loop-preserved
-loop-preserved g c = let e = c.in-Lost.ensures in let i = c.loop.invariant in let a = e.1 in
+loop-preserved g c = let e = c.in-Lost.ensures in let i = c.loop.invariant in
     let again : suc (c.loop.counter - 1) ≡ c.loop.counter + 1 - 1 = omega (arith, c.loop.auto.counter) in (
-      e.0.0 ∙ i.0,
-      e.0.1 ∙ i.1,
-      same_noted_twice _ _ _ i.2 a.5,
+      e.0.0.0 ∙ i.0,
+      e.0.0.1 ∙ i.1,
+      same_noted_twice _ _ _ i.2 e.0.1,
       subst (λ (k : ℕ). AreLost g.T.Told.told g.T.Told.after c.args.board.now.table.shared.key c.args.quantum k c.args.seat.now c.draw.new.self) again (c.loop.seat, i.3, e),
     )
 

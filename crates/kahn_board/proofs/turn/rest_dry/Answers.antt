@@ -17,5 +17,5 @@ pub returns-clause-parked : goal.returns-clause-parked
 returns-clause-parked g c = λ _ y had.
     let up = c.if-not-park.ensures.0 refl in
     let e = up.1 y had in
-    let d = c.count_down.ensures.1 in
-    (d.0, was_at (holds g.T.Told.told g.T.Told.after c.args.board.now.table.shared.key) _ _ _ _ _ _ _ _ up.0.1 e refl refl d.1, ap (λ m. m.0) d.2 ∙ ap after_counting_down e)
+    let d = c.count_down.ensures in
+    (d.1.0, was_at (holds g.T.Told.told g.T.Told.after c.args.board.now.table.shared.key) _ _ _ _ _ _ _ _ up.0.1 e refl refl d.1.1, ap (λ m. m.0) d.0.1 ∙ ap after_counting_down e)

@@ -19,7 +19,7 @@ returns-clause-missed c = λ no n r.
 pub returns-clause-late : goal.returns-clause-late
 returns-clause-late c = λ no inside.
     let m = c.claim.ensures.late no in
-    not_ready_of c.args.run.now c.args.seat.now c.looks_ready.new.self c.args.p c.looks_ready.ensures.0.1 (c.looks_ready.new.self.seat.me.0, m.0, m.1, m.2)
+    not_ready_of c.args.run.now c.args.seat.now c.looks_ready.new.self c.args.p c.looks_ready.ensures.0.0.1 (c.looks_ready.new.self.seat.me.0, m.0, m.1, m.2)
 
 pub returns-then-not-looks_ready-clause-missed : goal.returns-then-not-looks_ready-clause-missed
 returns-then-not-looks_ready-clause-missed c = λ _ n. looked c.args.run.now c.args.seat.now c.looks_ready.new.self c.args.p n c.looks_ready.result c.looks_ready.ensures
@@ -27,4 +27,4 @@ returns-then-not-looks_ready-clause-missed c = λ _ n. looked c.args.run.now c.a
 pub returns-then-not-looks_ready-clause-late : goal.returns-then-not-looks_ready-clause-late
 returns-then-not-looks_ready-clause-late c = λ _ inside.
     let e = c.looks_ready.ensures.1 in
-    (c.args.seat.now.seat.me.0, e.0, e.2.1 c.if-not-looks_ready.true, e.1)
+    (c.args.seat.now.seat.me.0, e.0, e.3 c.if-not-looks_ready.true, e.1)

@@ -8,7 +8,7 @@ returns-clause-met c =
     let gave = c.exchange_two-none in
     record {
       cells = gave.ensures.cells ∙ took.ensures.cells;
-      rows = stayed (rows_of c.args.idles.now) (rows_of took.new.idles) (rows_of gave.new.idles) c.args.writer c.args.reader c.requires.places c.requires.apart
+      rows = stayed (rows_of c.args.idles.now.items) (rows_of took.new.idles.items) (rows_of gave.new.idles.items) c.args.writer c.args.reader c.requires.places c.requires.apart
           c.nothing.result c.nothing-2.result took.result.0 took.result.1 c.meet-sender.result.0 c.meet-sender.result.1 took.ensures.rows took.ensures.ends
           gave.ensures.rows c.meet-sender.ensures.stayed;
     }

@@ -4,24 +4,24 @@ use Rattle.kahn_job.proofs.Settles.{AreGoing, going_first, alike_stayed, going_o
 use Rattle.kahn_job.proofs.settling.settle.Goals as goal
 
 pub loop-channel-init : goal.loop-channel-init
-loop-channel-init c = (going_first c.args.network.now c.args.input.now (rows_of c.args.idles.now) c.requires, refl)
+loop-channel-init c = (going_first c.args.network.now c.args.input.now (rows_of c.args.idles.now.items) c.requires, refl)
 
 pub returns-in_err-settle_channel-clause-resting : goal.returns-in_err-settle_channel-clause-resting
 returns-in_err-settle_channel-clause-resting c =
-    let now = rows_of c.loop-channel.idles in
-    let new = rows_of c.settle_channel.new.idles in
+    let now = rows_of c.loop-channel.idles.items in
+    let new = rows_of c.settle_channel.new.idles.items in
     rests_met c.args.network.now c.args.input.now now new (alike_stayed now new c.in_err-settle_channel.ensures.ends) c.loop-channel.invariant.0.resting
 
 pub returns-in_err-settle_channel-clause-stood : goal.returns-in_err-settle_channel-clause-stood
 returns-in_err-settle_channel-clause-stood c =
-    let now = rows_of c.loop-channel.idles in
-    let new = rows_of c.settle_channel.new.idles in
-    stood_then (rows_of c.args.idles.now) now new c.loop-channel.invariant.0.stood (stood_still now new (alike_stayed now new c.in_err-settle_channel.ensures.ends))
+    let now = rows_of c.loop-channel.idles.items in
+    let new = rows_of c.settle_channel.new.idles.items in
+    stood_then (rows_of c.args.idles.now.items) now new c.loop-channel.invariant.0.stood (stood_still now new (alike_stayed now new c.in_err-settle_channel.ensures.ends))
 
 pub loop-channel-preserved : goal.loop-channel-preserved
 loop-channel-preserved c = (
-  going_on c.args.network.now c.program-program.ensures.wired c.args.input.now c.loop-channel.channel (rows_of c.args.idles.now) (rows_of c.loop-channel.idles)
-      (rows_of c.settle_channel.new.idles) c.loop-channel.invariant.0 c.in_ok-settle_channel.ensures.ends,
+  going_on c.args.network.now c.program-program.ensures.wired c.args.input.now c.loop-channel.channel (rows_of c.args.idles.now.items) (rows_of c.loop-channel.idles.items)
+      (rows_of c.settle_channel.new.idles.items) c.loop-channel.invariant.0 c.in_ok-settle_channel.ensures.ends,
   c.settle_channel.ensures.cells ∙ c.loop-channel.invariant.1,
 )
 
@@ -31,5 +31,5 @@ returns-clause-settled c =
     let most = c.loop-channel.auto.channel-end in
     let end = c.channels-channel-end.ensures in
     let all : c.loop-channel.channel ≡ length (network_of c.args.network.now).channels = omega (arith, least, most, end) in
-    all_settled c.args.network.now c.program-program.ensures.wired c.args.input.now (rows_of c.args.idles.now) (rows_of c.loop-channel.idles)
-    (subst (λ k. AreGoing c.args.network.now c.args.input.now k (rows_of c.args.idles.now) (rows_of c.loop-channel.idles)) all c.loop-channel.invariant.0)
+    all_settled c.args.network.now c.program-program.ensures.wired c.args.input.now (rows_of c.args.idles.now.items) (rows_of c.loop-channel.idles.items)
+    (subst (λ k. AreGoing c.args.network.now c.args.input.now k (rows_of c.args.idles.now.items) (rows_of c.loop-channel.idles.items)) all c.loop-channel.invariant.0)

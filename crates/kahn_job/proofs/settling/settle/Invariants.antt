@@ -3,4 +3,4 @@ use Rattle.kahn_job.proofs.Settles.{AreGoing}
 use Rattle.kahn_job.proofs.settling.settle.Given as goal
 
 abbrev pub invariant-loop-channel : goal.invariant-loop-channel
-invariant-loop-channel l = AreGoing l.network l.input l.channel (rows_of l.fn.idles) (rows_of l.idles) × (cells_of l.idles ≡ cells_of l.fn.idles)
+invariant-loop-channel l = AreGoing l.network l.input l.channel (rows_of l.fn.idles.items) (rows_of l.idles.items) × (cells_of l.idles.items ≡ cells_of l.fn.idles.items)

@@ -14,12 +14,12 @@ invariant_of-board g c = let told = g.T.Told.told in let t = c.in-Ok-new.ensures
       sized = (omega (arith, t.0, ap length c.as_slice.ensures.value, b.words.long, c.requires.numbers_are, b.wiring.counts.1), t.1 ∙ (ap length c.into_slots-cells.ensures.2 ∙ (length-map c.args.cells.items Some ∙ (c.requires.cells_are ∙ sym b.wiring.counts.0))));
       counts = (ap (λ w. w.instances) key ∙ sym b.wiring.counts.0, ap (λ w. w.channels) key ∙ sym b.wiring.counts.1);
       limits = b.wiring.limits;
-      roomy = b.room;
+      roomy = (c.into_slots-cells.ensures.0, omega (arith, c.into_slots-cells.ensures.1, c.args.cells.ok.0, c.args.cells.ok.1, c.requires.cells_are, b.wiring.counts.0));
       read = (b.wiring.readers.0, λ q near. b.wiring.readers.1 q near ∙ sym (ap (λ w. w.reader q) key));
     }
 
-pub returns-in-Err-new-clause-refused : goal.returns-in-Err-new-clause-refused
-returns-in-Err-new-clause-refused g c = map_some_once _ _ (sym c.out_of_slots.ensures ∙ (c.in-Err-new.ensures.err ∙ c.into_slots-cells.ensures.2))
+pub returns-in-Err-clause-refused : goal.returns-in-Err-clause-refused
+returns-in-Err-clause-refused g c = map_some_once _ _ (sym c.out_of_slots.ensures ∙ (c.in-Err.ensures.err ∙ c.into_slots-cells.ensures.2))
 
 pub returns-in-Ok-new-clause-published : goal.returns-in-Ok-new-clause-published
 returns-in-Ok-new-clause-published g c = let t = c.in-Ok-new.ensures.ok in let b = c.in-Ok.ensures in λ q near.

@@ -30,17 +30,16 @@ returns-else-load-eq0-2 g c = let b = c.args.board.now in let rule = holds g.T.T
     let e = c.load.ensures in let e' = c.load-2.ensures in let e'' = c.load-3.ensures in let z = e.2.0.1 none in let z' = e'.2.0.1 c.if-load-eq0.false in
     let one : c.load.new.seat.me ≡ (after_step m.me.0, m.me.1) = z.1 in
     let two : c.load-2.new.seat.me ≡ (after_step (after_step m.me.0), m.me.1) = z'.1 ∙ ap (λ k. (after_step k.0, k.1)) one in (
-      (e''.0 ∙ (e'.0 ∙ e.0), e''.1 ∙ (e'.1 ∙ e.1)),
-      z.0,
-      (λ is. z'.0 (ap (λ k. k.0.seen) one ∙ is)),
-      was_at rule _ _ _ _ _ _ _ _ refl refl c.halted_word.ensures none e.2.1,
+      ((e''.0 ∙ (e'.0 ∙ e.0), e''.1 ∙ (e'.1 ∙ e.1)), e''.2.0.1 c.if-load-eq0-2.false ∙ ap (λ k. (after_step k.0, k.1)) two),
       (
-        c.load-2.result,
         c.load-3.result,
-        c.if-load-eq0.false,
         c.if-load-eq0-2.false,
-        was_at rule _ _ _ _ _ _ _ _ e.1 (ap (λ k. k.0) one) c.count_word.ensures refl e'.2.1,
-        was_at rule _ _ _ _ _ _ _ _ (e'.1 ∙ e.1) (ap (λ k. k.0) two) c.budget_word.ensures refl e''.2.1,
-        e''.2.0.1 c.if-load-eq0-2.false ∙ ap (λ k. (after_step k.0, k.1)) two,
+        (
+          z.0,
+          (λ is. z'.0 (ap (λ k. k.0.seen) one ∙ is)),
+          was_at rule _ _ _ _ _ _ _ _ refl refl c.halted_word.ensures none e.2.1,
+          (c.load-2.result, c.if-load-eq0.false, was_at rule _ _ _ _ _ _ _ _ e.1 (ap (λ k. k.0) one) c.count_word.ensures refl e'.2.1),
+          was_at rule _ _ _ _ _ _ _ _ (e'.1 ∙ e.1) (ap (λ k. k.0) two) c.budget_word.ensures refl e''.2.1,
+        ),
       ),
     )

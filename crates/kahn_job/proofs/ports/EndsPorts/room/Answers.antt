@@ -3,7 +3,7 @@ use Rattle.kahn_job.proofs.Berthed.{same_ends, within_written}
 use Rattle.kahn_job.proofs.ports.EndsPorts.room.Goals as goal
 
 pub returns-clause-which : goal.returns-clause-which
-returns-clause-which c = let p = c.args.self.now.ports in same_ends p.ghost_name c.args.parameter p.now.items c.index_mut.result.now c.room.new.self c.index_mut.ensures.value c.room.ensures.same
+returns-clause-which c = let p = c.args.self.now.ports in same_ends p.ghost_name c.args.parameter p.now.items c.index_mut.result.now c.room.new.self c.index_mut.ensures.value c.room.ensures.advances.0
 
 pub returns-clause-full : goal.returns-clause-full
 returns-clause-full c =
