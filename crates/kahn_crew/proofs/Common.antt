@@ -1,5 +1,5 @@
 -- The names of specs and of the crates below that several proofs cite, passed on from one place.
-pub use Rattle.std.proofs.Common.{All, Bool, Err, List, None, Ok, OnErr, OnOk, Option, Result, Some, [], ap, append-nil, arith, eqb-true, false, if◌then◌else◌, inl, inr, length, map, option_to_list, refl, reverse, rules, slice_get, slice_index, slice_index_or, slice_set, subst, suc, sum_by, sym, true, true≢false, zero, ℕ, ⊎_elim, ◌%◌, ◌*◌, ◌++◌, ◌+◌, ◌-◌, ◌<◌, ◌==◌, ◌^◌, ◌||◌, ◌∙◌, ◌∷◌, ◌≡◌, ◌≢◌, ◌≤◌, ◌⊎◌}
+pub use Rattle.std.proofs.Common.{All, Bool, Err, List, None, Ok, OnErr, OnOk, Option, Result, Some, [], ap, append-nil, arith, eqb-true, false, if◌then◌else◌, inl, inr, length, map, option_to_list, refl, reverse, rules, slice_get, slice_index, slice_index_or, slice_set, subst, suc, sum_by, sym, true, true≢false, zero, ℕ, ⊎_elim, ◌%◌, ◌*◌, ◌++◌, ◌+◌, ◌-◌, ◌<◌, ◌==◌, ◌^◌, ◌||◌, ◌∙◌, ◌∷◌, ◌≡◌, ◌≢◌, ◌↔◌, ◌≤◌, ◌⊎◌}
 pub use Rattle.std.proofs.Math.Nat.{add-mod_left, mod-eq_of_lt, mod-lt}
 pub use Rattle.std.proofs.lemmas.List.{append_assoc, get_or-map, get_or-set_other, get_or-set_same, get_or_append_left, length-append, length-map, map-append}
 pub use Rattle.std.proofs.lemmas.List.Elements.{All-map, All-push}
@@ -39,6 +39,6 @@ pub use Rattle.kahn_streams.specs.Wiring.{IsWellWired, side_at}
 pub use Rattle.kahn_streams.specs.declared.sides.Side.{Side}
 pub use Rattle.kahn_streams.specs.declared.tree.Program.{Program}
 pub use Rattle.kahn_crew.specs.declared.run.Run.{Run}
-pub use Rattle.kahn_crew.specs.inner.Begins.{AreReadyTasks, HasBegun, IsNumber, IsReadyTask, most_events, AreOnInput, FitTogether, IsTaskOf}
+pub use Rattle.kahn_crew.specs.inner.Begins.{AreReadyTasks, HasBegun, IsNumber, IsReadyTask, FitTogether, IsTaskOf}
 pub use Rattle.kahn_crew.specs.inner.Turns.{CanRest, IsDue, IsSetDown, IsSameWorker, HasPicked, HasTask, Heeds, IsAtWork, IsTaskIn, RaisesAsWanted, SitsWith, StandsStill, WasNotReady, terms_of}
 pub use Rattle.kahn_crew.specs.inner.Tasks.{AgreesWith, IsLater, IsPublished, count_on, handed_to_task, is_channel, read_by, reads_at, task_rows, told_tale, waits_on, work_of, writes_at, written_by, wrote_by}

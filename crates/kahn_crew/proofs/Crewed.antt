@@ -1,10 +1,14 @@
 -- Workers with their seats.
-use Rattle.kahn_crew.proofs.Common.{arith, ◌≡◌, ◌⊎◌, inl, inr, ⊎_elim, ℕ, suc, ◌+◌, ◌<◌, ◌≤◌, Bool, true, false, true≢false, ◌||◌, List, [], ◌∷◌, ◌++◌, length, All, sum_by, slice_index_or, refl, sym, ap, ◌∙◌, subst, map, length-map, map-append, get_or-map, dite, ℕ_discrete, sum_by_push, sum_by-cons, Seat, Heeds, Run, Tasked}
-use Rattle.kahn_board.specs.inner.Turn.{SitsAt, raised_of}
-use Rattle.kahn_crew.specs.inner.Turns.{HasCause, HasGone, HasSeat, IsTrueIfAny, WantsNone, crew_parts, crew_raised, seat_of, table_id_of}
+use Rattle.kahn_crew.proofs.Common.{arith, ◌≡◌, ◌↔◌, ◌⊎◌, inl, inr, ⊎_elim, ℕ, suc, ◌+◌, ◌<◌, ◌≤◌, Bool, true, false, true≢false, ◌||◌, List, [], ◌∷◌, ◌++◌, length, All, sum_by, slice_index_or, refl, sym, ap, ◌∙◌, subst, map, length-map, map-append, get_or-map, dite, ℕ_discrete, sum_by_push, sum_by-cons, Seat, Heeds, Run, Tasked}
+use Rattle.kahn_board.specs.inner.Turn.{SitsAt, parts_of, raised_of}
+use Rattle.kahn_crew.specs.inner.Turns.{HasCause, HasGone, HasSeat, WantsNone, seat_of, table_id_of}
 use Rattle.kahn_crew.specs.declared.worker.Worker.{Worker}
 use Rattle.kahn_board.proofs.Joined.{all_but_last}
 use Rattle.std.proofs.lemmas.List.Sums.{get_or-le-sum_by}
+
+-- how often they halted the run
+abbrev pub crew_raised : List Worker → ℕ
+crew_raised workers = raised_of (map seat_of workers)
 
 -- a flag that was set stays so
 or_left : (a b : Bool) → a ≡ true → (a || b) ≡ true
@@ -36,7 +40,8 @@ seated run seats workers e sits calm k d lt =
     (subst (SitsAt (table_id_of run)) (get_or-map seat_of workers k d d.seat lt) (subst (All (SitsAt (table_id_of run))) (sym e) sits k d.seat (omega (arith, lt, length-map workers seat_of))), calm k d lt)
 
 -- one worker more gave back its seat
-pub one_more : (workers : List Worker) (w : Worker) (a : Bool) → (All HasCause workers → IsTrueIfAny a (crew_raised workers)) → All HasCause (workers ++ w ∷ []) → IsTrueIfAny (a || w.hints.wanted) (crew_raised (workers ++ w ∷ []))
+pub one_more : (workers : List Worker) (w : Worker) (a : Bool) → (All HasCause workers → 0 < crew_raised workers ↔ a ≡ true) → All HasCause (workers ++ w ∷ []) →
+    0 < crew_raised (workers ++ w ∷ []) ↔ (a || w.hints.wanted) ≡ true
 one_more workers w a before all =
     let t = all_but_last HasCause workers w all in
     let was = before t.0 in
@@ -51,7 +56,7 @@ one_more workers w a before all =
 -- all have worked
 pub all_gone : (run : Run) (old new : List Worker) → length new ≡ length old →
     ((i : ℕ) (d : Worker) → i < length old → HasGone run (slice_index_or new i d) × ((slice_index_or new i d).seat.seat.me.0.parts ≡ (slice_index_or old i d).seat.seat.me.0.parts)) →
-    All (HasGone run) new × (crew_parts new ≡ crew_parts old)
+    All (HasGone run) new × (parts_of (map seat_of new) ≡ parts_of (map seat_of old))
 all_gone run old new e h = (
   (λ i d lt. (h i d (omega (arith, lt, e))).0),
   sum_same (λ (s : Seat Tasked). s.seat.me.0.parts) old new e (λ i d lt. (h i d lt).1),

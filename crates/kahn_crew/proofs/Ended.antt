@@ -1,5 +1,5 @@
 -- What a closed board says of a run.
-use Rattle.kahn_crew.proofs.Common.{append-nil, ◌++◌, reverse, arith, ◌≡◌, ◌⊎◌, inl, inr, ⊎_elim, ℕ, zero, suc, ◌+◌, ◌<◌, ◌≤◌, true, false, List, [], ◌∷◌, length, sum_by, refl, sym, ap, ◌∙◌, subst, Option, Some, slice_get, some, get_elem?, sum_by-cons, slice_get_within, Program, Network, Reads, Writes, Given, channel_source, network_of, instance_at, actual_at, role_at, IsWellWired, Lists, is_output, count, end_at, Work, belongs, dealt, wired, events_told, wires, Terms, View, AreReadyTasks, HasBegun, most_events, IsTaskOf, Tasked, Continues, IsLater, count_on, handed_to_task, read_by, reads_at, told_tale, waits_on, writes_at, wrote_by, no_writer}
+use Rattle.kahn_crew.proofs.Common.{append-nil, ◌++◌, reverse, arith, ◌≡◌, ◌⊎◌, inl, inr, ⊎_elim, ℕ, zero, suc, ◌+◌, ◌<◌, ◌≤◌, true, false, List, [], ◌∷◌, length, sum_by, refl, sym, ap, ◌∙◌, subst, Option, Some, slice_get, some, get_elem?, sum_by-cons, slice_get_within, Program, Network, Reads, Writes, Given, channel_source, network_of, instance_at, actual_at, role_at, IsWellWired, Lists, is_output, count, end_at, Work, belongs, dealt, wired, events_told, wires, Terms, View, AreReadyTasks, HasBegun, IsTaskOf, Tasked, Continues, IsLater, count_on, handed_to_task, read_by, reads_at, told_tale, waits_on, writes_at, wrote_by, no_writer}
 use Rattle.kahn_streams.specs.declared.tree.Role.{Role}
 use Rattle.kahn_board.specs.Opening.{Closes}
 use Rattle.kahn_board.specs.Place.{below}
@@ -16,6 +16,10 @@ use Rattle.kahn_streams.specs.declared.tree.Role.TheVariants as role
 use Rattle.kahn_streams.proofs.Sourced
 use Rattle.kahn_board.specs.Opening as closed
 use Rattle.kahn_job.specs.declared.standing.Standing.TheVariants as standing
+
+-- how many events may have been done in all: those of the tasks so far and the bound of the board
+abbrev most_events : Terms Tasked → ℕ
+most_events key = key.bound + events_told told_tale key.cells.value.items
 
 -- ---- lists
 
@@ -74,7 +78,7 @@ module _ (lists : Lists) (watch : Option ℕ) (key : Terms Tasked) (is_wired : I
 
   of_instance : (p : ℕ) (x : Tasked) → slice_get tasks p ≡ Some x → IsTaskOf t p x
   of_instance p x e =
-      task_of key t t p x (fits_of t lists watch key begun t refl) (within p x e) (λ z f. (belong p x e z f).continues)
+      task_of key p x (fits_of t lists watch key begun t refl) (within p x e) (λ z f. (belong p x e z f).continues)
 
   later : (p : ℕ) (y x : Tasked) → slice_get key.cells.value.items p ≡ Some y → slice_get tasks p ≡ Some x → Continues y x
   later p y x e f = (belong p x f y (both_at key.cells.value.items p y e)).continues

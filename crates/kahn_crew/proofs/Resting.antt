@@ -1,5 +1,5 @@
 -- A task that is set down.
-use Rattle.kahn_crew.proofs.Common.{arith, ◌≡◌, ◌⊎◌, inl, inr, ⊎_elim, ℕ, ◌+◌, ◌<◌, ◌^◌, List, refl, sym, ap, ◌∙◌, subst, Option, Some, None, slice_index, Program, Reads, Writes, network_of, instance_at, actual_at, role_at, IsWellWired, is_output, route_of, count, AreCounts, belongs, wired, wires, SeesMore, Terms, View, Fits, Knows, end_at, Work, IsDelivered, FitTogether, IsTaskOf, IsDue, Tasked, Continues, HasStanding, AgreesWith, IsLater, IsPublished, count_on, handed_to_task, read_by, reads_at, told_tale, waits_on, writes_at, wrote_by, is_there}
+use Rattle.kahn_crew.proofs.Common.{arith, ◌≡◌, ◌⊎◌, inl, inr, ⊎_elim, ℕ, ◌+◌, ◌<◌, ◌^◌, List, refl, sym, ap, ◌∙◌, subst, Option, Some, None, slice_index, Program, Lists, Reads, Writes, network_of, instance_at, actual_at, role_at, IsWellWired, is_output, route_of, count, AreCounts, belongs, wired, wires, SeesMore, Terms, View, Fits, Knows, end_at, Work, IsDelivered, FitTogether, IsTaskOf, IsDue, Tasked, Continues, HasStanding, AgreesWith, IsLater, IsPublished, count_on, handed_to_task, read_by, reads_at, told_tale, waits_on, writes_at, wrote_by, is_there}
 use Rattle.kahn_streams.proofs.Dry.{dry_reads}
 use Rattle.kahn_board.specs.Summary.{FlushedAll, flushed_of, second_of}
 use Rattle.kahn_crew.proofs.Wirings.{reads_first, writes_first, first_writes, reader_is, writer_is, read_inside, written_inside}
@@ -47,18 +47,18 @@ continues_still x y z a b = record {
 }
 
 -- a task that continues that of p is that of p
-pub task_of : (key : Terms Tasked) (lent code : Program) (p : ℕ) (x : Tasked) → FitTogether key lent code → p < (wired key).instances →
+pub task_of : (key : Terms Tasked) (p : ℕ) (x : Tasked) {lent code : Program} {lists : Lists} → FitTogether key lent code lists → p < (wired key).instances →
     belongs Continues key p x → IsTaskOf key.network.value p x
-task_of key lent code p x fit lt b =
+task_of key p x fit lt b =
     let f = is_there key.cells.value.items p (omega (arith, fit.count, lt)) in
     let l = b f.0 f.1 in
     let is = fit.cells p f.0 f.1 in
     (l.network ∙ is.0, l.instance ∙ is.1)
 
 -- and of a later one all that it flushed is published
-pub is_published : (key : Terms Tasked) (lent code : Program) (p : ℕ) (y : Tasked) → FitTogether key lent code → p < (wired key).instances →
+pub is_published : (key : Terms Tasked) (p : ℕ) (y : Tasked) {lent code : Program} {lists : Lists} → FitTogether key lent code lists → p < (wired key).instances →
     belongs IsLater key p y → (o : ℕ) → IsPublished y o
-is_published key lent code p y fit lt b = let f = is_there key.cells.value.items p (omega (arith, fit.count, lt)) in (b f.0 f.1).published
+is_published key p y fit lt b = let f = is_there key.cells.value.items p (omega (arith, fit.count, lt)) in (b f.0 f.1).published
 
 -- ---- what is told
 

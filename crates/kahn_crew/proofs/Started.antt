@@ -1,5 +1,5 @@
 -- The first tasks, and the board that is made of them.
-use Rattle.kahn_crew.proofs.Common.{arith, ◌≡◌, ℕ, zero, suc, ◌+◌, ◌<◌, ◌≤◌, ◌^◌, List, [], ◌∷◌, ◌++◌, length, map, refl, sym, ap, ◌∙◌, subst, true, false, Option, Some, None, slice_get, slice_index, slice_index_or, some, some-injective, some-ne-none, get_elem?, length-map, option_map, slice_get-map, slice_get_read, Program, Side, Writes, network_of, instance_at, actual_at, role_at, IsOnly, IsWriter, IsWellWired, side_at, Lists, inputs_of, is_output, Joins, count, AreCounts, Serves, end_at, IsDelivered, Work, events_told, Opens, wires, Terms, View, woken_task, Tasked, AreReadyTasks, HasBegun, IsNumber, IsReadyTask, AreOnInput, FitTogether, AgreesWith, IsLater, IsPublished, task_rows, told_tale}
+use Rattle.kahn_crew.proofs.Common.{arith, ◌≡◌, ℕ, zero, suc, ◌+◌, ◌<◌, ◌≤◌, ◌^◌, List, [], ◌∷◌, ◌++◌, length, map, refl, sym, ap, ◌∙◌, subst, true, false, Option, Some, None, slice_get, slice_index, slice_index_or, some, some-injective, some-ne-none, get_elem?, length-map, option_map, slice_get-map, slice_get_read, Program, Side, Writes, network_of, instance_at, actual_at, role_at, IsOnly, IsWriter, IsWellWired, side_at, Lists, inputs_of, is_output, Joins, count, AreCounts, Serves, end_at, IsDelivered, Work, events_told, Opens, wires, Terms, View, woken_task, Tasked, AreReadyTasks, HasBegun, IsNumber, IsReadyTask, FitTogether, AgreesWith, IsLater, IsPublished, task_rows, told_tale}
 use Rattle.kahn_streams.specs.declared.tree.Role.TheVariants.{Inner, Input}
 use Rattle.kahn_job.specs.inner.Idles.{AreIdle, CanGoOn, HaveSettled, rows_of}
 use Rattle.kahn_job.specs.inner.Lanes.{AreJoinedOn}
@@ -185,13 +185,11 @@ module _ (t : Program) (wired : IsWellWired t) (lists : Lists) (watch : Option �
 
 -- ---- what all workers of a run share
 
-pub on_input : (t : Program) (lists : Lists) (watch : Option ℕ) (key : Terms Tasked) → HasBegun t lists watch key → AreOnInput key lists
-on_input t lists watch key b p x at = (b.ready.each p x (at_both key.cells.value.items p x at)).input
-
-pub fits_of : (t : Program) (lists : Lists) (watch : Option ℕ) (key : Terms Tasked) → HasBegun t lists watch key → (code : Program) → code ≡ t → FitTogether key t code
+pub fits_of : (t : Program) (lists : Lists) (watch : Option ℕ) (key : Terms Tasked) → HasBegun t lists watch key → (code : Program) → code ≡ t → FitTogether key t code lists
 fits_of t lists watch key b code same = record {
   network = sym b.network;
   code = same ∙ sym b.network;
   count = b.ready.count ∙ (sym (instances_are t) ∙ ap (λ (k : Program). (wires k).instances) (sym b.network));
   cells = λ p x at. let o = b.ready.each p x (at_both key.cells.value.items p x at) in (o.network ∙ sym b.network, o.instance);
+  given = λ p x at. (b.ready.each p x (at_both key.cells.value.items p x at)).input;
 }

@@ -27,14 +27,14 @@ module _ (run : Run) where
   t = key.network.value
 
   pub is_task : (p : ℕ) (x : Tasked) → p < (wired key).instances → belongs Continues key p x → IsTaskOf t p x
-  is_task p x lt b = task_of key run.network.now run.code.now.network.value p x run.fits lt b
+  is_task p x lt b = task_of key p x run.fits lt b
 
   -- its network and its input are those that are lent
   pub is_lent : (p : ℕ) (x : Tasked) → p < (wired key).instances → belongs Continues key p x →
       (run.network.now ≡ x.work.cell.network) × (run.input.now ≡ x.work.cell.input)
   is_lent p x lt b =
       let f = is_there key.cells.value.items p (omega (arith, run.fits.count, lt)) in
-      (run.fits.network ∙ sym (is_task p x lt b).0, sym ((b f.0 f.1).input ∙ run.given p f.0 f.1))
+      (run.fits.network ∙ sym (is_task p x lt b).0, sym ((b f.0 f.1).input ∙ run.fits.given p f.0 f.1))
 
   -- it was run, by a seat that stands still
   pub ran : (p n k j : ℕ) (x z : Tasked) (s u : Seat Tasked) → IsAtWork run p n k x s → StandsStill s u → u.seat.table_id ≡ s.seat.table_id → Continues x z →
@@ -93,7 +93,7 @@ module _ (run : Run) (well : IsWellWired (terms_of run).network.value) where
       let v = s.seat.me.0 in
       let fits : Fits told_tale (belongs IsLater (key run)) (wired (key run)) p x v = subst (λ (k : Tasked). Fits told_tale (belongs IsLater (key run)) (wired (key run)) p k v) same h.3.2 in
       let first : belongs Continues (key run) p x = λ z e. (fits.belonging z e).continues in
-      let published = is_published (key run) run.network.now run.code.now.network.value p x run.fits h.1 fits.belonging in
+      let published = is_published (key run) p x run.fits h.1 fits.belonging in
       let events : x.work.cell.events ≡ slice_index v.events_when_got p + v.untold = fits.events in
       record {
         seated = table ∙ h.0;

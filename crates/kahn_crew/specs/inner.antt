@@ -2,5 +2,4 @@ pub mod Begins
 pub mod Left
 pub mod Tasks
 pub mod Turns
-pub mod Wants
 pub mod Words

@@ -1,46 +1,44 @@
 //! A crew: all workers of a run, the first in the caller's thread and each other in one of its own.
 
-ghost use Rattle.std.specs.Prelude.{◌≡◌, ◌+◌, ◌<◌, ◌≤◌, ◌^◌};
-ghost use Rattle.kahn_crew.specs.inner.Words.{[], true, false, length, map, All, IfOk, IfErr, vec_capacity, network_of, events_told, IsLoneSeat};
-ghost use Rattle.kahn_crew.specs.inner.Turns.{HasCause, HasGone, HasSeat, IsTrueIfAny, WantsNone, crew_parts, crew_raised, seat_of, table_id_of};
+ghost use Rattle.std.specs.Prelude.{◌≡◌, ◌↔◌, ◌+◌, ◌<◌, ◌≤◌, ◌^◌};
+ghost use Rattle.kahn_crew.specs.inner.Words.{[], true, false, Err, length, map, All, IfOk, IfErr, OnOk, vec_capacity, events_told, IsLoneSeat, parts_of, raised_of};
+ghost use Rattle.kahn_crew.specs.inner.Turns.{HasCause, HasGone, HasSeat, WantsNone, seat_of, table_id_of};
 ghost use Rattle.kahn_crew.specs.inner.Begins.{AreReadyTasks};
-ghost use Rattle.kahn_crew.specs.inner.Left.{AreUntouched, IsLeftOf, IsOver};
+ghost use Rattle.kahn_crew.specs.inner.Left.{AreUntouched, IsLack, IsLeftOf, IsOver};
 ghost use Rattle.kahn_crew.specs.inner.Tasks.{told_tale};
-ghost use Rattle.kahn_crew.specs.inner.Wants.{IsLack};
 ghost use Rattle.kahn_crew.specs.declared.fault.CrewFault.TheVariants.{NoMemory as NoMemoryFault, NoThread as NoThreadFault};
 
 use crate::boxes::Boxed;
-use crate::closing::{leave, untouched};
+use crate::closing::{Left, leave, untouched};
 use crate::fault::CrewFault;
 use crate::gate::Gate;
-use crate::hints::Hints;
-use crate::left::Left;
+use crate::hints::{Hints, first_hints};
 use crate::opening::open_board;
 use crate::parallel::{Joined, Parallel, run_all};
-use crate::plan::Plan;
-use crate::rooms::Rooms;
-use crate::run::Run;
+use crate::run::{Plan, Run};
 use crate::worker::Worker;
 use kahn_board::{Board, Seat, join_all, split_all};
 use kahn_code::Code;
 use kahn_job::Task;
-use kahn_streams::{Input, Network, NoMemory};
+use kahn_streams::{Input, Network};
 use std::alloc::Global;
 use std::sync::Wait;
 use std::thread::Threads;
 
-// A worker at each seat, with hints of its own.
+// A worker at each seat, with hints of its own, and the list of the seats, which is empty.
 fn workers_at(
-    seats: Vec<Seat<Boxed>>,
+    mut seats: Vec<Seat<Boxed>>,
     mut hints: Vec<Hints>,
     mut workers: Vec<Worker>,
-) -> Vec<Worker>
+) -> (Vec<Worker>, Vec<Seat<Boxed>>)
     requires hints { length hints.items ≡ length seats.items }
     requires room { (workers.items ≡ []) × (length seats.items ≤ vec_capacity workers) }
-    ensures seats { map seat_of result.items ≡ seats.items }
-    ensures calm { All WantsNone result.items }
+    ensures seats { map seat_of result.0.items ≡ seats.items }
+    ensures calm { All WantsNone result.0.items }
+    ensures room { (result.1.items ≡ []) × (length seats.items ≤ vec_capacity result.1) }
 {
-    for seat in seats {
+    seats.reverse();
+    while let Some(seat) = seats.pop() {
         let own = hints.pop().unwrap();
         workers.push_reserved(Worker {
             seat,
@@ -48,14 +46,14 @@ fn workers_at(
             start: hints.len(),
         });
     }
-    workers
+    (workers, seats)
 }
 
 // The seats of workers, and whether memory was refused to one of them.
 fn seats_of(workers: Vec<Worker>, mut seats: Vec<Seat<Boxed>>) -> (Vec<Seat<Boxed>>, bool)
     requires { (seats.items ≡ []) × (length workers.items ≤ vec_capacity seats) }
     ensures seats { result.0.items ≡ map seat_of workers.items }
-    ensures wanted { All HasCause workers.items → IsTrueIfAny result.1 (crew_raised workers.items) }
+    ensures wanted { All HasCause workers.items → (0 < raised_of (map seat_of workers.items) ↔ result.1 ≡ true) }
 {
     let mut wanted = false;
     for worker in workers {
@@ -108,10 +106,10 @@ fn work_all<R: Threads + Wait + Sync, G: Gate + Sync>(
     requires each { All (HasSeat run.now) workers.items }
     ensures count { length result.workers.items ≡ length workers.items }
     ensures each { All (HasGone run.now) result.workers.items }
-    ensures sums { crew_parts result.workers.items ≡ crew_parts workers.items }
+    ensures sums { parts_of (map seat_of result.workers.items) ≡ parts_of (map seat_of workers.items) }
     ensures several { result.refused ≡ true → 1 < length workers.items }
-    ensures halted { result.refused ≡ true → 0 < crew_raised result.workers.items }
-    ensures cause { result.refused ≡ false → crew_raised workers.items ≡ 0 → All HasCause result.workers.items }
+    ensures halted { result.refused ≡ true → 0 < raised_of (map seat_of result.workers.items) }
+    ensures cause { result.refused ≡ false → raised_of (map seat_of workers.items) ≡ 0 → All HasCause result.workers.items }
 {
     run_all(rt, &Shared { rt, run, gate }, workers)
 }
@@ -125,51 +123,38 @@ fn run_workers<R: Threads + Wait + Sync, G: Gate + Sync>(
     run: &Run<'_>,
     gate: &G,
     seat: Seat<Boxed>,
-    rooms: Rooms,
-) -> Result<(Seat<Boxed>, bool), (CrewFault, Seat<Boxed>, bool)>
+    hints: Vec<Hints>,
+) -> (Result<(), CrewFault>, Seat<Boxed>, bool)
     requires seat { IsLoneSeat (table_id_of run.now) seat }
     requires calm { seat.seat.me.0.raised ≡ 0 }
-    requires plan { (run.now.quantum ≡ _plan.quantum) × (length rooms.hints.items ≡ _plan.workers) }
-    requires few { (1 ≤ length rooms.hints.items) × (length rooms.hints.items ≤ 16) }
-    ensures left { IfOk result (λ r. IsLoneSeat (table_id_of run.now) r.0 × (r.0.seat.me.0.stage ≡ 1)) }
+    requires plan { (run.now.quantum ≡ _plan.quantum) × (length hints.items ≡ _plan.workers) }
+    requires few { (1 ≤ length hints.items) × (length hints.items ≤ 16) }
+    ensures seat { IsLoneSeat (table_id_of run.now) result.1 }
+    ensures left { OnOk result.0 (result.1.seat.me.0.stage ≡ 1) }
     // The run was halted only because memory was refused to a worker, or a thread couldn't be started.
-    ensures cause { IfOk result (λ r. IsTrueIfAny r.1 r.0.seat.me.0.raised) }
-    ensures halted { IfErr result (λ e. e.0 ≡ NoThreadFault → 0 < e.1.seat.me.0.raised) }
-    ensures refused { IfErr result (λ e. IsLack (length rooms.hints.items) e.0 × IsLoneSeat (table_id_of run.now) e.1) }
+    ensures cause { OnOk result.0 (0 < result.1.seat.me.0.raised ↔ result.2 ≡ true) }
+    ensures lack { IfErr result.0 (IsLack (length hints.items)) }
+    ensures halted { result.0 ≡ Err NoThreadFault → 0 < result.1.seat.me.0.raised }
     // If memory was refused nobody worked.
-    ensures idle { IfErr result (λ e. e.0 ≡ NoMemoryFault → e.1.seat.me.0.done ≡ seat.seat.me.0.done) }
+    ensures idle { result.0 ≡ Err NoMemoryFault → result.1.seat.me.0.done ≡ seat.seat.me.0.done }
 {
-    let Rooms {
-        hints,
-        workers,
-        seats: room,
-    } = rooms;
+    let Ok(room) = Vec::with_capacity(alloc, hints.len()) else {
+        return (Err(CrewFault::NoMemory), seat, false);
+    };
     match split_all(alloc, run.board, seat, hints.len()) {
         Ok(seats) => {
-            let workers = workers_at(seats, hints, workers);
+            let (workers, room) = workers_at(seats, hints, room);
             let Joined { workers, refused } = work_all(rt, run, gate, workers);
             let (seats, wanted) = seats_of(workers, room);
             let seat = join_all(run.board, seats);
             if refused {
-                Err((CrewFault::NoThread, seat, wanted))
+                (Err(CrewFault::NoThread), seat, wanted)
             } else {
-                Ok((seat, wanted))
+                (Ok(()), seat, wanted)
             }
         }
-        Err((_fault, seat)) => Err((CrewFault::NoMemory, seat, false)),
+        Err((_fault, seat)) => (Err(CrewFault::NoMemory), seat, false),
     }
-}
-
-// All memory of the workers, before the board is made: their hints and lists, and a list with room for the tasks that they
-// leave.
-fn prepare(alloc: Global, network: &Network, workers: usize) -> Result<(Rooms, Vec<Task>), NoMemory>
-    requires { 0 < workers }
-    ensures hints { IfOk result (λ r. length r.0.hints.items ≡ workers) }
-    ensures tasks { IfOk result (λ r. (r.1.items ≡ []) × (length (network_of network.now).instances ≤ vec_capacity r.1)) }
-{
-    let rooms = Rooms::new(alloc, workers, network.instances())?;
-    let room = Vec::with_capacity(alloc, network.instances())?;
-    Ok((rooms, room))
 }
 
 /// Runs tasks that may go on by several workers, until every worker has left: the run was halted since memory was refused to
@@ -204,10 +189,12 @@ pub fn run_tasks<R: Threads + Wait + Sync, G: Gate + Sync>(
     ensures refused { IfErr result (λ e. IsLeftOf network.now input.now plan.watch plan.bound tasks.items e.1) }
     ensures untouched { IfErr result (λ e. e.0 ≡ NoMemoryFault → AreUntouched plan.bound tasks.items e.1.tasks.items e.1.budget) }
 {
-    let Ok((rooms, room)) = prepare(alloc, network, plan.workers) else {
+    let Ok(hints) = first_hints(alloc, plan.workers, network.instances()) else {
         return Err((CrewFault::NoMemory, untouched(tasks, plan.bound)));
     };
-    let (board, seat) = match open_board(alloc, network, input, plan.watch, plan.bound, tasks) {
+    let (board, seat, room) = match open_board(
+        alloc, network, input, plan.watch, plan.bound, tasks,
+    ) {
         Ok(opened) => opened,
         Err((_fault, tasks)) => {
             return Err((CrewFault::NoMemory, untouched(tasks, plan.bound)));
@@ -220,14 +207,10 @@ pub fn run_tasks<R: Threads + Wait + Sync, G: Gate + Sync>(
         code,
         quantum: plan.quantum,
     };
-    match run_workers(rt, alloc, plan, &run, gate, seat, rooms) {
-        Ok((seat, wanted)) => {
-            let left = leave(board, seat, wanted, room, network, input, plan.watch);
-            Ok(left)
-        }
-        Err((fault, seat, wanted)) => {
-            let left = leave(board, seat, wanted, room, network, input, plan.watch);
-            Err((fault, left))
-        }
+    let (outcome, seat, wanted) = run_workers(rt, alloc, plan, &run, gate, seat, hints);
+    let left = leave(board, seat, wanted, room, network, input, plan.watch);
+    match outcome {
+        Ok(()) => Ok(left),
+        Err(fault) => Err((fault, left)),
     }
 }

@@ -16,7 +16,7 @@ pub enum CrewFault {
 
 impl From<CrewFault> for RunFault {
     ghost use Rattle.std.specs.Prelude.{◌≡◌};
-    ghost use Rattle.kahn_crew.specs.inner.Wants.{run_fault};
+    ghost use Rattle.kahn_crew.specs.inner.Left.{run_fault};
 
     ghost from_gives = { λ f e. e ≡ run_fault f };
 

@@ -1,10 +1,10 @@
 //! Hints: the numbers of instances that may be ready.
 
-ghost use Rattle.std.specs.Prelude.{◌≡◌, false, true};
+ghost use Rattle.std.specs.Prelude.{◌≡◌, ◌<◌, false, length, true, IfOk};
 
 use crossbeam_deque::{Steal, Stealer, Worker};
 use kahn_streams::NoMemory;
-use std::alloc::AllocError;
+use std::alloc::Global;
 
 // One of this many hints that a worker takes from its own is the oldest in any case, so that each comes.
 const CHAIN: usize = 64;
@@ -30,36 +30,12 @@ pub struct Hints {
 }
 
 impl Hints {
-    /// The hints of a worker, of which it has none yet.
-    pub fn new(own: Worker<usize>, others: Vec<Stealer<usize>>) -> Hints
-        ensures { result.wanted ≡ false }
-    {
-        Hints {
-            next: None,
-            taken: 0,
-            own,
-            others,
-            wanted: false,
-        }
-    }
-
     /// The same hints as a run begins: no memory was refused to the worker yet.
     pub fn fresh(mut self) -> Hints
         ensures { result.wanted ≡ false }
     {
         self.wanted = false;
         self
-    }
-
-    /// What others take the hints with.
-    pub fn stealer(&self) -> Result<Stealer<usize>, AllocError> {
-        self.own.stealer()
-    }
-
-    /// Another worker's hints, which it may steal.
-    pub fn add(&mut self, other: Stealer<usize>) -> Result<(), NoMemory> {
-        self.others.push(other)?;
-        Ok(())
     }
 
     /// One hint more. False if memory was refused, which stays noted.
@@ -128,4 +104,68 @@ impl Hints {
         }
         None
     }
+}
+
+// Hints for each worker, each with room for a hint of every instance.
+fn bare_hints(alloc: Global, workers: usize, instances: usize) -> Result<Vec<Hints>, NoMemory>
+    ensures { IfOk result (λ v. length v.items ≡ workers) }
+{
+    let mut all = Vec::with_capacity(alloc, workers)?;
+    for _ in 0..workers {
+        let own = Worker::new_fifo(alloc, instances)?;
+        let others = Vec::with_capacity(alloc, workers)?;
+        all.push_reserved(Hints {
+            next: None,
+            taken: 0,
+            own,
+            others,
+            wanted: false,
+        });
+    }
+    Ok(all)
+}
+
+// A worker may steal the hints of all others.
+fn share_with(all: &mut [Hints], worker: usize) -> Result<(), NoMemory>
+    requires { worker < length all.old }
+    ensures { length all.new ≡ length all.old }
+{
+    for other in 0..all.len() {
+        if other != worker {
+            let stealer = all[other].own.stealer()?;
+            all[worker].others.push(stealer)?;
+        }
+    }
+    Ok(())
+}
+
+// Hints of all instances, to one worker after another.
+fn hint_all(all: &mut [Hints], instances: usize) -> Result<(), NoMemory>
+    requires { 0 < length all.old }
+    ensures { length all.new ≡ length all.old }
+{
+    let workers = all.len();
+    for instance in 0..instances {
+        if !all[instance % workers].push(instance, Order::Last) {
+            return Err(NoMemory);
+        }
+    }
+    Ok(())
+}
+
+/// The hints of all workers, which name each instance once. It refuses only if memory was refused.
+pub(crate) fn first_hints(
+    alloc: Global,
+    workers: usize,
+    instances: usize,
+) -> Result<Vec<Hints>, NoMemory>
+    requires { 0 < workers }
+    ensures { IfOk result (λ v. length v.items ≡ workers) }
+{
+    let mut all = bare_hints(alloc, workers, instances)?;
+    for worker in 0..workers {
+        share_with(&mut all, worker)?;
+    }
+    hint_all(&mut all, instances)?;
+    Ok(all)
 }

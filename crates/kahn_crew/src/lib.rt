@@ -7,25 +7,21 @@ mod crew;
 mod fault;
 mod gate;
 mod hints;
-mod left;
 mod opening;
 mod parallel;
 mod pick;
-mod plan;
 mod publish;
 mod rest;
-mod rooms;
 mod run;
-mod target;
 mod turn;
 mod waking;
 mod worker;
 
 // For the crates above.
+pub use closing::Left;
 pub use crew::run_tasks;
 pub use fault::CrewFault;
 pub use gate::{Gate, Open};
-pub use left::Left;
 pub use opening::first_tasks;
-pub use plan::Plan;
+pub use run::Plan;
 pub use waking::{rest_all, wake_all};

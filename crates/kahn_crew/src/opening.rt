@@ -1,7 +1,7 @@
 //! How a run begins: its tasks, and the board on which they are.
 
-ghost use Rattle.std.specs.Prelude.{◌≡◌, ◌+◌, ◌<◌, ◌^◌};
-ghost use Rattle.kahn_crew.specs.inner.Words.{ℕ, [], length, slice_index, IfOk, IfErr, network_of, events_told, opening_view};
+ghost use Rattle.std.specs.Prelude.{◌≡◌, ◌+◌, ◌<◌, ◌≤◌, ◌^◌};
+ghost use Rattle.kahn_crew.specs.inner.Words.{ℕ, [], length, slice_index, IfOk, IfErr, vec_capacity, network_of, events_told, opening_view};
 ghost use Rattle.kahn_board.specs.Wires.{wires};
 ghost use Rattle.kahn_crew.specs.inner.Begins.{AreNumbersOf, AreReadyTasks, HasBegun, IsNumber};
 ghost use Rattle.kahn_crew.specs.inner.Tasks.{told_tale};
@@ -80,8 +80,8 @@ fn numbers_of(
     Ok(numbers)
 }
 
-/// The board of a run, and its first seat. All that was sent on a channel is published, and all instances are ready. It
-/// refuses only if memory was refused, and gives the tasks back.
+/// The board of a run, its first seat, and a list with room for the tasks that are left. All that was sent on a channel is
+/// published, and all instances are ready. It refuses only if memory was refused, and gives the tasks back.
 pub(crate) fn open_board(
     alloc: Global,
     network: &Network,
@@ -89,12 +89,13 @@ pub(crate) fn open_board(
     watch: Option<usize>,
     bound: u64,
     tasks: Vec<Task>,
-) -> Result<(Board<Boxed>, Seat<Boxed>), (NoMemory, Vec<Task>)>
+) -> Result<(Board<Boxed>, Seat<Boxed>, Vec<Task>), (NoMemory, Vec<Task>)>
     requires ready { AreReadyTasks network.now input.now watch tasks.items }
     requires few { bound + events_told told_tale tasks.items < 2 ^ 48 }
     ensures seat { IfOk result (λ r. (r.1.seat.table_id ≡ r.0.table.shared.table_id) × (r.1.seat.me ≡ (opening_view (wires network.now), []))) }
     ensures begun { IfOk result (λ r. HasBegun network.now input.now watch r.0.table.shared.key) }
     ensures key { IfOk result (λ r. (r.0.table.shared.key.bound ≡ bound) × (r.0.table.shared.key.cells.value.items ≡ tasks.items)) }
+    ensures room { IfOk result (λ r. (r.2.items ≡ []) × (length (network_of network.now).instances ≤ vec_capacity r.2)) }
     ensures refused { IfErr result (λ e. e.1.items ≡ tasks.items) }
 {
     let _program = network.program();
@@ -106,7 +107,7 @@ pub(crate) fn open_board(
         Err(refused) => return Err(refused),
     };
     match Board::new(alloc, network, &numbers, boxes, bound) {
-        Ok(opened) => Ok(opened),
+        Ok((board, seat)) => Ok((board, seat, room)),
         Err((fault, boxes)) => Err((fault, unbox_all(boxes, room))),
     }
 }

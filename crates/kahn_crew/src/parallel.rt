@@ -2,7 +2,7 @@
 
 ghost use Rattle.std.specs.Prelude.{◌≡◌, ◌<◌, ◌≤◌};
 ghost use Rattle.kahn_crew.specs.inner.Words.{true, false, length, All, vec_capacity};
-ghost use Rattle.kahn_crew.specs.inner.Turns.{AllWent, OneWent, Went};
+ghost use Rattle.kahn_crew.specs.inner.Turns.{AllWent, HaveWorked, OneWent};
 
 use std::snapshot::Snapshot;
 use std::sync::Wait;
@@ -70,8 +70,7 @@ fn run_here<C, T: Parallel<C>>(shared: &C, mut workers: Vec<T>) -> Joined<T>
     requires may { All (T.may shared.now) workers.items }
     requires few { length workers.items ≤ 1 }
     ensures room { vec_capacity result.workers ≡ vec_capacity workers }
-    ensures count { length result.workers.items ≡ length workers.items }
-    ensures each { AllWent (T.did shared.now) workers.items result.workers.items }
+    ensures worked { HaveWorked (T.did shared.now) (T.quit shared.now) workers.items result.workers.items result.refused }
     ensures calm { result.refused ≡ false }
 {
     if let Some(worker) = workers.pop() {
@@ -93,24 +92,15 @@ fn run_from<'s, E, R: Threads, C: Sync + 's, T: Parallel<C> + Send + Drop + 's>(
 ) -> Joined<T>
     requires { All (T.may shared.now) workers.items }
     ensures room { vec_capacity result.workers ≡ vec_capacity workers }
-    ensures count { length result.workers.items ≡ length workers.items }
-    ensures each { AllWent (Went result.refused (T.did shared.now) (T.quit shared.now)) workers.items result.workers.items }
-    ensures several { result.refused ≡ true → 1 < length workers.items }
+    ensures worked { HaveWorked (T.did shared.now) (T.quit shared.now) workers.items result.workers.items result.refused }
     ensures quits { result.refused ≡ true → OneWent (T.quit shared.now) workers.items result.workers.items }
 {
-    let Some(worker) = workers.pop() else {
-        return Joined {
-            workers,
-            refused: false,
-        };
-    };
-    if workers.is_empty() {
-        workers.push_reserved(worker.run(shared));
-        return Joined {
-            workers,
-            refused: false,
-        };
+    if workers.len() <= 1 {
+        return run_here(shared, workers);
     }
+    let Some(worker) = workers.pop() else {
+        unreachable!()
+    };
     let promise = Promised {
         shared,
         worker: Snapshot::of(&worker),
@@ -146,9 +136,7 @@ pub(crate) fn run_all<R: Threads + Wait + Sync, C: Sync, T: Parallel<C> + Send +
 ) -> Joined<T>
     requires { All (T.may shared.now) workers.items }
     ensures room { vec_capacity result.workers ≡ vec_capacity workers }
-    ensures count { length result.workers.items ≡ length workers.items }
-    ensures each { AllWent (Went result.refused (T.did shared.now) (T.quit shared.now)) workers.items result.workers.items }
-    ensures several { result.refused ≡ true → 1 < length workers.items }
+    ensures worked { HaveWorked (T.did shared.now) (T.quit shared.now) workers.items result.workers.items result.refused }
     ensures quits { result.refused ≡ true → OneWent (T.quit shared.now) workers.items result.workers.items }
 {
     if workers.len() <= 1 {
@@ -160,9 +148,7 @@ pub(crate) fn run_all<R: Threads + Wait + Sync, C: Sync, T: Parallel<C> + Send +
         move |scope| -> Joined<T>
             requires { All (T.may shared.now) workers.items }
             ensures room { vec_capacity result.workers ≡ vec_capacity workers }
-            ensures count { length result.workers.items ≡ length workers.items }
-            ensures each { AllWent (Went result.refused (T.did shared.entry.now) (T.quit shared.entry.now)) workers.items result.workers.items }
-            ensures several { result.refused ≡ true → 1 < length workers.items }
+            ensures worked { HaveWorked (T.did shared.entry.now) (T.quit shared.entry.now) workers.items result.workers.items result.refused }
             ensures quits { result.refused ≡ true → OneWent (T.quit shared.entry.now) workers.items result.workers.items }
         { run_from(rt, scope, shared, workers) },
     )

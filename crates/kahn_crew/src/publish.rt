@@ -1,17 +1,37 @@
 //! What a task flushed is told to the board, so that the readers that wait for it go on.
 
 ghost use Rattle.std.specs.Prelude.{◌≡◌, ◌≢◌, ◌⊎◌, ◌<◌};
-ghost use Rattle.kahn_crew.specs.inner.Words.{ℕ, IfNone, count, SeesMore, IsSeatOf, width_of};
-ghost use Rattle.kahn_crew.specs.inner.Tasks.{IsPublished};
+ghost use Rattle.kahn_crew.specs.inner.Words.{ℕ, IfNone, length, network_of, instance_at, actual_at, count, SeesMore, IsSeatOf, width_of};
+ghost use Rattle.kahn_crew.specs.inner.Tasks.{IsPublished, written_by};
 ghost use Rattle.kahn_crew.specs.inner.Turns.{Heeds, IsAtWork, SitsIn, StandsStill};
 
 use crate::boxes::Boxed;
 use crate::hints::Order;
 use crate::run::Run;
-use crate::target::target;
 use crate::worker::Worker;
 use kahn_board::{Seat, publish, reader_of};
+use kahn_code::Code;
 use kahn_job::Task;
+use kahn_streams::{Network, Role};
+
+// The channel between processes that a parameter writes.
+fn target(network: &Network, code: &Code, instance: usize, parameter: usize) -> Option<usize>
+    requires code { code.now.network.value ≡ network.now }
+    requires inside { instance < length (network_of network.now).instances }
+    ensures { result ≡ written_by (network_of network.now) (actual_at (instance_at (network_of network.now) instance) parameter) }
+{
+    let _program = network.program();
+    let channel = code.channel(instance, parameter)?;
+    if network.channel(channel).role == Role::Output {
+        return None;
+    }
+    let side = network.writer(channel)?;
+    if side.instance == instance && side.parameter == parameter {
+        Some(channel)
+    } else {
+        None
+    }
+}
 
 // Publishes what was flushed on a parameter, if it is more than before. Answers its reader, which may have waited for it or not.
 pub(crate) fn publish_one(

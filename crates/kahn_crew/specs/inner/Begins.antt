@@ -1,6 +1,6 @@
 -- Inner. A run before its next events, and what its workers are lent.
-use Rattle.std.specs.Prelude.{◌≡◌, ◌+◌, ◌^◌, ◌<◌}
-use Rattle.kahn_crew.specs.inner.Words.{ℕ, false, List, length, Option, Some, slice_get, slice_index, Program, Writes, network_of, instance_at, actual_at, role_at, Lists, inputs_of, is_output, count, AreJoinedOn, IsDelivered, some, get_elem?, dealt, events_told, wired, Terms, Tasked}
+use Rattle.std.specs.Prelude.{◌≡◌, ◌^◌, ◌<◌}
+use Rattle.kahn_crew.specs.inner.Words.{ℕ, false, List, length, Option, Some, slice_get, slice_index, Program, Writes, network_of, instance_at, actual_at, role_at, Lists, inputs_of, is_output, count, AreJoinedOn, IsDelivered, some, get_elem?, dealt, wired, Terms, Tasked}
 use Rattle.kahn_streams.specs.declared.tree.Role.TheVariants as role
 use Rattle.kahn_crew.specs.inner.Tasks.{task_rows, told_tale}
 
@@ -30,10 +30,6 @@ abbrev pub AreNumbersOf : Program → Lists → List Tasked → List ℕ → Typ
 AreNumbersOf t lists tasks numbers =
     (c : ℕ) → c < length numbers → IsNumber t lists tasks c (slice_index numbers c) × (slice_index numbers c < 2 ^ 48)
 
--- how many events may have been done in all: those of the tasks so far and the bound of the board
-abbrev pub most_events : Terms Tasked → ℕ
-most_events key = key.bound + events_told told_tale key.cells.value.items
-
 -- the board was made of such tasks, and that many tokens are published
 pub record HasBegun (t : Program) (lists : Lists) (watch : Option ℕ) (key : Terms Tasked) : Type 0 where
   pub network : key.network.value ≡ t
@@ -44,13 +40,10 @@ pub record HasBegun (t : Program) (lists : Lists) (watch : Option ℕ) (key : Te
 abbrev pub IsTaskOf : Program → ℕ → Tasked → Type 0
 IsTaskOf t p x = (x.work.cell.network ≡ t) × (x.work.cell.instance ≡ p)
 
--- the board was made with the tasks of a program's instances in order, and the network and the code are of that program
-pub record FitTogether (key : Terms Tasked) (lent compiled : Program) : Type 0 where
+-- the board was made with the tasks of a program's instances in order, on the input, and the network and the code are of that program
+pub record FitTogether (key : Terms Tasked) (lent compiled : Program) (lists : Lists) : Type 0 where
   pub network : lent ≡ key.network.value
   pub code : compiled ≡ key.network.value
   pub count : length key.cells.value.items ≡ (wired key).instances
   pub cells : (p : ℕ) (x : Tasked) → get_elem? key.cells.value.items p ≡ some x → IsTaskOf key.network.value p x
-
--- and the input is that of each task
-abbrev pub AreOnInput : Terms Tasked → Lists → Type 0
-AreOnInput key lists = (p : ℕ) (x : Tasked) → get_elem? key.cells.value.items p ≡ some x → x.work.cell.input ≡ lists
+  pub given : (p : ℕ) (x : Tasked) → get_elem? key.cells.value.items p ≡ some x → x.work.cell.input ≡ lists

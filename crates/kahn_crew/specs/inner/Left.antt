@@ -1,8 +1,11 @@
--- Inner. How the tasks of a run stand once all workers have left.
-use Rattle.std.specs.Prelude.{◌≡◌, ◌⊎◌, ◌+◌}
-use Rattle.kahn_crew.specs.inner.Words.{ℕ, Bool, true, List, length, sum_by, Option, Some, slice_get, Program, Input, Reads, Writes, network_of, role_at, Lists, inputs_of, count, events_told, Terms, Tasked, Continues}
+-- Inner. How the tasks of a run stand once all workers have left, and why they leave nothing (this project's profile).
+use Rattle.std.specs.Prelude.{◌≡◌, ◌⊎◌, ◌+◌, ◌<◌}
+use Rattle.kahn_crew.specs.inner.Words.{ℕ, Bool, true, List, length, sum_by, Option, Some, slice_get, Program, Input, Reads, Writes, network_of, role_at, Lists, inputs_of, count, events_told, Terms, Tasked, Continues, RunFault}
 use Rattle.kahn_crew.specs.inner.Begins.{AreReadyTasks}
-use Rattle.kahn_crew.specs.declared.left.Left.{Left}
+use Rattle.kahn_crew.specs.declared.closing.Left.{Left}
+use Rattle.kahn_crew.specs.declared.fault.CrewFault.{CrewFault}
+use Rattle.kahn_crew.specs.declared.fault.CrewFault.TheVariants as fault
+use Rattle.kahn_streams.specs.declared.fault.RunFault.TheVariants as run
 use Rattle.kahn_job.specs.declared.standing.Standing.TheVariants as standing
 use Rattle.kahn_crew.specs.inner.Tasks.{handed_to_task, is_over, told_tale}
 
@@ -45,3 +48,13 @@ IsLeftOf t lists watch bound first left = HaveGone t lists watch (bound + events
 -- and nothing was done on it
 abbrev pub IsUntouched : Terms Tasked → Left → Type 0
 IsUntouched key left = AreUntouched key.bound key.cells.value.items left.tasks.items left.budget
+
+-- memory was wanting, or a thread for one of several workers: one works in the caller's
+abbrev pub IsLack : ℕ → CrewFault → Type 0
+IsLack workers fault.NoMemory = Unit {0}
+IsLack workers fault.NoThread = 1 < workers
+
+-- the same want, as it is told of the run
+abbrev pub run_fault : CrewFault → RunFault
+run_fault fault.NoMemory = run.NoMemory
+run_fault fault.NoThread = run.NoThread

@@ -17,14 +17,12 @@ handed_to_task w q = actual_at (instance_at (network_of w.cell.network) w.cell.i
 -- the channel that is read
 abbrev pub read_by : Actual → Option ℕ
 read_by (Reads c) = Some c
-read_by (Writes c) = None
-read_by (Hands v) = None
+read_by a = None
 
 -- the channel between processes that is written
 abbrev pub written_by : Network → Actual → Option ℕ
-written_by N (Reads c) = None
 written_by N (Writes c) = if is_output (role_at N c) then None else Some c
-written_by N (Hands v) = None
+written_by N a = None
 
 abbrev pub is_channel : Option ℕ → ℕ → Bool
 is_channel None c = false
@@ -50,16 +48,13 @@ wrote_by w None = None
 wrote_by w (Some q) = Some (count w.cell.sent q, (end_at w.ends q).flushed)
 
 abbrev pub is_over : Standing → Bool
-is_over standing.Going = false
 is_over standing.Ended = true
 is_over (standing.Faulted k) = true
-is_over (standing.Dry q) = false
+is_over s = false
 
 abbrev pub waits_on : Work → Standing → Option ℕ
-waits_on w standing.Going = None
-waits_on w standing.Ended = None
-waits_on w (standing.Faulted k) = None
 waits_on w (standing.Dry q) = read_by (handed_to_task w q)
+waits_on w s = None
 
 abbrev pub tale_of : Tasked → Summary
 tale_of t = record {

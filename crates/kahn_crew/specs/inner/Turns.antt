@@ -1,6 +1,6 @@
 -- Inner. What a worker has between two turns and in a turn, how a task is set down, and what the workers of a run have together.
-use Rattle.std.specs.Prelude.{◌≡◌, ◌≢◌, ◌⊎◌, ◌+◌, ◌*◌, ◌/◌, ◌^◌, ◌<◌, ◌≤◌}
-use Rattle.kahn_crew.specs.inner.Words.{ℕ, Bool, true, Option, None, Some, slice_index, false, List, length, slice_index_or, map, TableId, Was, belongs, wired, SeesMore, channel_at, TellsEnd, TellsWait, Seat, Terms, View, BeginsTurn, EndsTurn, HoldsInTurn, IsBetween, IsDoneAt, IsSeatOf, SetsStill, SitsAt, parts_of, raised_of, Continues, Tasked}
+use Rattle.std.specs.Prelude.{◌≡◌, ◌≢◌, ◌⊎◌, ◌↔◌, ◌+◌, ◌*◌, ◌/◌, ◌^◌, ◌<◌, ◌≤◌}
+use Rattle.kahn_crew.specs.inner.Words.{ℕ, Bool, true, Option, None, Some, slice_index, false, List, length, slice_index_or, TableId, Was, belongs, wired, SeesMore, channel_at, TellsEnd, TellsWait, Seat, Terms, View, BeginsTurn, EndsTurn, HoldsInTurn, IsBetween, IsDoneAt, IsSeatOf, SetsStill, SitsAt, Continues, Tasked}
 use Rattle.kahn_board.specs.Wires.{Wires}
 use Rattle.kahn_crew.specs.declared.run.Run.{Run}
 use Rattle.kahn_crew.specs.declared.worker.Worker.{Worker}
@@ -96,10 +96,6 @@ IsSetDown run p (due.Waits c k) s t =
     SetsStill told_tale IsLater (terms_of run) s t p
     ⊎ ((r : ℕ) × (r / 2 ≢ k) × Was told_tale IsLater (terms_of run) s s.seat.me.0 (channel_at (wired (terms_of run)) c) r)
 
--- it did its work; or it quit, if one couldn't be started
-abbrev pub Went : {A : Type 0} → Bool → (A → A → Type 0) → (A → A → Type 0) → A → A → Type 0
-Went refused did quit old new = did old new ⊎ ((refused ≡ true) × quit old new)
-
 -- of two lists each pair is so
 abbrev pub AllWent : {A : Type 0} → (A → A → Type 0) → List A → List A → Type 0
 AllWent {A} did old new = (i : ℕ) (d : A) → i < length old → did (slice_index_or old i d) (slice_index_or new i d)
@@ -108,23 +104,17 @@ AllWent {A} did old new = (i : ℕ) (d : A) → i < length old → did (slice_in
 abbrev pub OneWent : {A : Type 0} → (A → A → Type 0) → List A → List A → Type 0
 OneWent {A} did old new = (i : ℕ) × (i < length old) × ((d : A) → did (slice_index_or old i d) (slice_index_or new i d))
 
+-- each did its work, or quit where one of several couldn't be started
+abbrev pub HaveWorked : {A : Type 0} → (A → A → Type 0) → (A → A → Type 0) → List A → List A → Bool → Type 0
+HaveWorked did quit old new refused =
+    (length new ≡ length old) × AllWent (λ x y. did x y ⊎ ((refused ≡ true) × quit x y)) old new × (refused ≡ true → 1 < length old)
+
 abbrev pub seat_of : Worker → Seat Tasked
 seat_of w = w.seat
 
-abbrev pub crew_parts : List Worker → ℕ
-crew_parts workers = parts_of (map seat_of workers)
-
--- how often they halted the run
-abbrev pub crew_raised : List Worker → ℕ
-crew_raised workers = raised_of (map seat_of workers)
-
--- it is true just if the number isn't 0
-abbrev pub IsTrueIfAny : Bool → ℕ → Type 0
-IsTrueIfAny b n = (0 < n → b ≡ true) × (b ≡ true → 0 < n)
-
 -- it halted the run just if memory was refused to it
 abbrev pub HasCause : Worker → Type 0
-HasCause w = IsTrueIfAny w.hints.wanted w.seat.seat.me.0.raised
+HasCause w = 0 < w.seat.seat.me.0.raised ↔ w.hints.wanted ≡ true
 
 -- it was refused no memory yet
 abbrev pub WantsNone : Worker → Type 0

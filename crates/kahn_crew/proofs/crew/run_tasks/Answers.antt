@@ -1,6 +1,6 @@
-use Rattle.kahn_crew.proofs.Common.{◌∙◌}
+use Rattle.kahn_crew.proofs.Common.{◌≡◌, ◌∙◌, subst, OnOk}
 use Rattle.kahn_crew.proofs.Ended.{untouched_gone, untouched_here}
-use Rattle.kahn_crew.proofs.Started.{fits_of, on_input}
+use Rattle.kahn_crew.proofs.Started.{fits_of}
 use Rattle.kahn_crew.proofs.crew.run_tasks.Goals as goal
 
 pub returns-in_default-clause-refused : goal.returns-in_default-clause-refused
@@ -16,12 +16,12 @@ returns-in-Err-clause-refused g c =
 pub invariant_of-run : goal.invariant_of-run
 invariant_of-run g c = record {
   fits = fits_of c.args.network.now c.args.input.now c.args.plan.watch c.in-Ok-open_board.opened.0.table.shared.key c.in-Ok-open_board.ensures.begun _ c.requires.code;
-  given = on_input c.args.network.now c.args.input.now c.args.plan.watch c.in-Ok-open_board.opened.0.table.shared.key c.in-Ok-open_board.ensures.begun;
   some = c.requires.quantum;
 }
 
-pub returns-in-Ok-run_workers-clause-over : goal.returns-in-Ok-run_workers-clause-over
-returns-in-Ok-run_workers-clause-over g c = c.leave-left.ensures.over c.in-Ok-run_workers.ensures.left.1
+pub returns-in-Ok-outcome-clause-over : goal.returns-in-Ok-outcome-clause-over
+returns-in-Ok-outcome-clause-over g c =
+    c.leave-left.ensures.over (subst (λ o. OnOk o (c.run_workers-outcome.result.1.seat.me.0.stage ≡ 1)) c.in-Ok-outcome.is c.run_workers-outcome.ensures.left)
 
 pub returns-in_default-clause-untouched : goal.returns-in_default-clause-untouched
 returns-in_default-clause-untouched g c = λ none.

@@ -1,5 +1,6 @@
-use Rattle.kahn_crew.proofs.Common.{◌≡◌, All, map, vec_capacity}
-use Rattle.kahn_crew.specs.inner.Turns.{HasCause, IsTrueIfAny, crew_raised, seat_of}
+use Rattle.kahn_crew.proofs.Common.{◌≡◌, ◌↔◌, ◌<◌, true, All, map, vec_capacity}
+use Rattle.kahn_crew.specs.inner.Turns.{HasCause, seat_of}
+use Rattle.kahn_crew.proofs.Crewed.{crew_raised}
 use Rattle.kahn_crew.proofs.crew.seats_of.Given as goal
 
 abbrev pub invariant-loop-worker : goal.invariant-loop-worker
@@ -7,5 +8,5 @@ invariant-loop-worker l =
     (goal.iterator-loop-worker).can_next l.worker-iterator
     × (goal.iterator-loop-worker).is_finite l.worker-iterator
     × (l.seats.items ≡ map seat_of l.yielded)
-    × (All HasCause l.yielded → IsTrueIfAny l.wanted (crew_raised l.yielded))
+    × (All HasCause l.yielded → 0 < crew_raised l.yielded ↔ l.wanted ≡ true)
     × (vec_capacity l.seats ≡ vec_capacity l.fn.seats)
