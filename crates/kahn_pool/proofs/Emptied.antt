@@ -1,5 +1,5 @@
 -- Cells that let go of all that they kept, and how all stand.
-use Rattle.std.proofs.Common.{arith, ◌≡◌, ◌⊎◌, inl, inr, ℕ, ◌+◌, ◌<◌, ◌≤◌, Option, List, ◌++◌, length, map, refl, sym, ap, ◌∙◌, subst, Some, slice_get, slice_index_or}
+use Rattle.std.proofs.Common.{arith, ◌≡◌, ◌⊎◌, inl, inr, ℕ, ◌+◌, ◌<◌, ◌≤◌, Option, List, ◌++◌, length, map, sym, ap, ◌∙◌, subst, Some, slice_get, slice_index_or}
 use Rattle.kahn_pool.proofs.Common.{length-map, Program, Input, network_of, instance_at, role_at, Lists, inputs_of, Token, StoodBy, AreQueued, taken_of, waiting_of, tokens, Told, told_view, Gone, nothing_gone, HasForgotten, Tapped, Seen, seen_at, seen_of, unseen, AllStandBy, HasEmptied, IsLaid, IsSeated, StandsAsTold, Table, all_of, gone_in, table_of, told_in, HaveChanged, mapped_at, cases_lt}
 use Rattle.kahn_code.specs.Lines.{Lines as Queues}
 use Rattle.kahn_pool.proofs.Benched.{got, mapped, get_map}
@@ -35,13 +35,9 @@ module _ {t : Program} {lists : Lists} {watch : Option ℕ} {code : Program} (xs
 
   emptied : HasEmptied old new
   emptied = record {
-    network = refl;
-    input = refl;
-    watch = refl;
-    gone = map_changed gone_in (λ x. all_of x.told) (λ x y e. ap (λ (z : Tapped). z.gone) e) xs ys h ∙ sym (map_map all_of told_in xs);
+    rest = ap (λ (g : List Gone). record new { gone = g }) (map_changed gone_in (λ x. all_of x.told) (λ x y e. ap (λ (z : Tapped). z.gone) e) xs ys h ∙ sym (map_map all_of told_in xs));
     views = map_map told_view told_in ys ∙ map_changed (λ x. told_view x.told) (λ x. told_view x.told) (λ x y e. ap (λ (z : Tapped). told_view z.told) e) xs ys h ∙ sym (map_map told_view told_in xs);
     seen = map_map seen_of told_in ys ∙ map_changed (λ x. seen_of x.told) (λ x. seen_of x.told) (λ x y e. ap (λ (z : Tapped). seen_of z.told) e) xs ys h ∙ sym (map_map seen_of told_in xs);
-    queues = refl;
   }
 
   pub emptied_then : {s : Table} → old ≡ s → HasEmptied s new

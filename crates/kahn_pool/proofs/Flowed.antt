@@ -1,6 +1,6 @@
 -- A flow: what its parts, more input and letting go make of it.
 use Rattle.std.proofs.Common.{vec_capacity, sum_by, arith, ◌≡◌, ℕ, zero, suc, ◌+◌, ◌-◌, ◌<◌, ◌≤◌, ◌^◌, List, [], ◌∷◌, ◌++◌, length, map, replicate, take, refl, sym, ap, ◌∙◌, subst, append-nil, Option, Some, slice_get, slice_index_or}
-use Rattle.kahn_pool.proofs.Common.{length-map, map-append, take_all, take_at, Source, Given, Written, Nobody, Writes, channel_source, network_of, instance_at, actual_at, role_at, Token, Value, Line, Channel, Print, AreInputsExtended, source, Lists, inputs_of, none_of, prefix_refl, View, token_value, IsPoured, tokens, Told, told_view, Gone, nothing_gone, poured_grown, GoesOn, IsLineOf, HeldRun, given_so_far, seen_at, seen_of, so_far, writing, stream_lines, Verdict, all_events, IsConcluded, AreEnded, AreNew, HasLetGo, IsRunOn, AreLast, AreLent, IsFlowOf, flow_of, let_go_by, let_go_of, run_of_bench, waits_of, no_view, AreAllGiven, AllStandBy, AreWhole, HasEmptied, HasTakenIn, HasWorked, IsLaid, Table, all_of, sight_of, writes, HaveRisen, Plan, Program, seen_events}
+use Rattle.kahn_pool.proofs.Common.{length-map, map-append, take_all, take_at, Source, Given, Written, Nobody, Writes, channel_source, network_of, instance_at, actual_at, role_at, Token, Value, Line, Channel, Print, AreInputsExtended, source, Lists, inputs_of, none_of, prefix_refl, View, token_value, IsPoured, tokens, Told, told_view, Gone, nothing_gone, poured_grown, GoesOn, IsLineOf, HeldRun, given_so_far, seen_at, seen_of, so_far, writing, stream_lines, Verdict, all_events, IsConcluded, AreEnded, AreNew, HasLetGo, IsRunOn, AreLent, IsFlowOf, flow_of, let_go_by, let_go_of, run_of_bench, no_view, AreAllGiven, AllStandBy, AreWhole, HasEmptied, HasTakenIn, HasWorked, IsLaid, Table, all_of, sight_of, writes, HaveRisen, Plan, Program, seen_events}
 use Rattle.std.proofs.lemmas.List.{length-append}
 use Rattle.kahn_streams.specs.declared.answer.End.{End}
 use Rattle.kahn_pool.proofs.Benched.{mapped}
@@ -9,7 +9,7 @@ use Rattle.kahn_pool.proofs.Going_on.{Grows, goes_on, grows_not, seen_grows}
 use Rattle.kahn_pool.proofs.Once_written.{input_watched, written_once}
 use Rattle.kahn_pool.proofs.Named.{HasLine, has_line}
 use Rattle.kahn_pool.proofs.Righted.{events_seen, settled_by}
-use Rattle.kahn_pool.specs.declared.part_alone.PartEnd.{PartEnd}
+use Rattle.kahn_pool.specs.declared.rounds.PartEnd.{PartEnd}
 use Rattle.kahn_pool.specs.inner.FlowBench.{IsPartEnd}
 
 -- ---- it goes on
@@ -58,7 +58,7 @@ front_of vs front ts e =
 
 -- an input channel that has a stream is watched
 pub lent_here : (b : Table) (ts : List Token) → AreLent b ts → (c : ℕ) → source (network_of b.network) (Channel c) ≡ Given → HasLine (network_of b.network) b.watch (Channel c) →
-    AreLast (inputs_of b.input c) ts
+    (front : List Value) × (inputs_of b.input c ≡ front ++ map token_value ts)
 lent_here b ts lent c given here =
     let role = input_role (network_of b.network) c given in
     lent c (input_watched (network_of b.network) b.watch c role here.1) role
@@ -110,7 +110,7 @@ module _ (b : Table) (plan : Plan) (said : Option Verdict) where
 
   pub all_let_go : (d : Table) → HasEmptied b d → let_go_of d 0 ≡ map (so_far run) (stream_lines (network_of b.network) b.watch)
   all_let_go d h =
-      let_go_same b d h.network h.input h.watch (map all_of b.cells) h.gone 0
+      ap (λ (x : Table). let_go_of x 0) h.rest
       ∙ (λ i. map (λ c. go_all (source (network_of b.network) c) c i) (stream_lines (network_of b.network) b.watch))
 
 -- ---- what is new of a stream
@@ -148,7 +148,7 @@ new_given b plan said line c ts e from here lent =
 
 pub lent_same : (b d : Table) → d.network ≡ b.network → d.input ≡ b.input → d.watch ≡ b.watch → (ts : List Token) → AreLent b ts → AreLent d ts
 lent_same b d n l w ts h c seen role =
-    subst (λ (x : Lists). AreLast (inputs_of x c) ts) (sym l) (h c (sym w ∙ seen) (ap (λ t. role_at (network_of t) c) (sym n) ∙ role))
+    subst (λ (x : Lists). (front : List Value) × (inputs_of x c ≡ front ++ map token_value ts)) (sym l) (h c (sym w ∙ seen) (ap (λ t. role_at (network_of t) c) (sym n) ∙ role))
 
 pub none_lent : (b : Table) (ts : List Token) → ts ≡ [] → AreLent b ts
 none_lent b ts e c w role = (inputs_of b.input c, sym (append-nil (inputs_of b.input c)) ∙ ap (λ (l : List Token). inputs_of b.input c ++ map token_value l) (sym e))
@@ -169,7 +169,7 @@ flow_stays {budget = budget} {room = room} f d network watch seen next ended us 
 }
 
 pub emptied_state : (b d : Table) → HasEmptied b d → sight_of d ≡ sight_of b
-emptied_state b d h = λ i. record { network = network_of (h.network i); input = inputs_of (h.input i); watch = h.watch i; cells = h.views i }
+emptied_state b d h = ap sight_of h.rest ∙ (λ i. record { network = network_of b.network; input = inputs_of b.input; watch = b.watch; cells = h.views i })
 
 pub emptied_flow : (b d : Table) → HasEmptied b d → (plan : Plan) (said : Option Verdict) (n : ℕ) (ts : List Token) → ts ≡ [] →
     HasLetGo (flow_of b plan said n) (flow_of d plan said (length ts))
@@ -178,9 +178,9 @@ emptied_flow b d h plan said n ts e =
     ap (λ (l : List Token). let_go_of d (length l)) e ∙ all_let_go b plan said d h in
     λ i. record {
       run = record {
-        network = h.network i;
-        input = h.input i;
-        watch = h.watch i;
+        network = (h.rest i).network;
+        input = (h.rest i).input;
+        watch = (h.rest i).watch;
         workers = plan.workers;
         quantum = plan.quantum;
         bound = plan.bound;
@@ -188,7 +188,7 @@ emptied_flow b d h plan said n ts e =
         verdict = said;
       };
       out = out i;
-      waits = waits_of (h.queues i);
+      waits = map (λ w. w.waiting) (h.rest i).queues.queues;
     }
 
 -- a part of it

@@ -1,11 +1,12 @@
 -- The jobs of a held run: how they become tasks, and how tasks come to rest.
-use Rattle.std.proofs.Common.{false, true, IfOk, IsOk, arith, ◌≡◌, ℕ, ◌+◌, List, length, map, sum_by, sym, ap, ◌∙◌, subst, Some, slice_get, Bool, Option, Result, Err, refl, Ok}
-use Rattle.kahn_pool.proofs.Common.{length-map, Program, network_of, AreInputsExtended, Lists, inputs_of, StoodBy, Told, told_view, AreIdle, AreJoinedJobs, HaveMet, cells_of, rows_of, AreJoinedOn, IsJob, Work, all_idle, idle_grown, idle_met, events_told, woken_task, Tasked, AreUntouched, HaveGone, task_events, told_tale, work_of, all_told, at_mapped, mapped_at, IsConcluded, seen_of, AreEnded, AreHeld, AreHeldBy, HasRisen, HasStoppedPart, HaveRisen, cell_alone, held_state, cell_of, state_of_tasks, RunState, Verdict, Part, Stopped, IsLack, CrewFault, NoMemory, IsWellWired, HaveChanged, SettlesTo, view_events, seen_events, same_Some, prefix_refl, AreWatched, AllStandBy, IsConclusion}
+use Rattle.std.proofs.Common.{false, true, IsOk, arith, ◌≡◌, ℕ, ◌+◌, List, length, map, sum_by, sym, ap, ◌∙◌, subst, Some, slice_get, Bool, Option, Result, Err}
+use Rattle.kahn_pool.proofs.Common.{length-map, Program, network_of, AreInputsExtended, Lists, inputs_of, StoodBy, Told, told_view, AreIdle, AreJoinedJobs, HaveMet, cells_of, rows_of, AreJoinedOn, IsJob, Work, all_idle, idle_grown, idle_met, events_told, woken_task, Tasked, AreUntouched, HaveGone, task_events, told_tale, work_of, all_told, at_mapped, mapped_at, IsConcluded, seen_of, AreEnded, AreHeld, AreHeldBy, HasEnded, HasRisen, HasStoppedPart, HaveRisen, cell_alone, held_state, cell_of, RunState, Verdict, Part, Stopped, IsLack, CrewFault, NoMemory, IsWellWired, HaveChanged, SettlesTo, view_events, seen_events, same_Some, prefix_refl, AllStandBy}
 use Rattle.kahn_streams.specs.declared.answer.End.{End as RunEnd}
 use Rattle.kahn_pool.proofs.Righted.{events_seen}
 use Rattle.kahn_pool.proofs.Lists.{map_map, sum_over, map_changed}
 use Rattle.kahn_pool.proofs.Over as over
 use Rattle.kahn_pool.proofs.Rests as rests
+use Rattle.kahn_pool.proofs.Rests.{state_of_tasks}
 
 -- ---- tasks come to rest
 
@@ -107,7 +108,7 @@ module _ {t : Program} {lists : Lists} {watch : Option ℕ} {bound : ℕ} {ws : 
   pub held_alike : (us : List Work) → cells_of us ≡ cells_of ws → AreIdle t lists us → AreHeld t lists watch bound us budget
   held_alike us same idle = record {
     idle = idle;
-    watched = subst (AreWatched watch) (sym same) h.watched;
+    watched = subst (λ cells. (p : ℕ) (c : Told) → slice_get cells p ≡ Some c → c.watch ≡ watch) (sym same) h.watched;
     stood = subst (AllStandBy t watch) (sym same) h.stood;
     events = ap (λ cs. budget + sum_by seen_events (map seen_of cs)) same ∙ h.events;
   }
@@ -130,13 +131,14 @@ module _ {t : Program} {lists : Lists} {watch : Option ℕ} {bound : ℕ} {ws : 
 -- ---- how a part stopped
 
 -- it ended, with these jobs
-pub ended_so : (part : Part) (old : List Work) (r : Stopped) (halted : Bool) → AreHeldBy part r.idles.items r.budget → IfOk r.outcome (λ v. IsConclusion part halted v r) → IsOk r.outcome →
-    HaveRisen (cells_of old) (cells_of r.idles.items) → HasStoppedPart part old r
-ended_so part old r halted held ended one risen = by r.outcome refl ended one
-  where
-    by : (o : Result Verdict CrewFault) → r.outcome ≡ o → IfOk o (λ v. IsConclusion part halted v r) → IsOk o → HasStoppedPart part old r
-    by (Ok v) e so k = record { held = held; risen = risen; outcome = rw e (halted, so); untouched = λ f. absurd (let g : Ok v ≡ Err NoMemory = sym e ∙ f in cc) }
-    by (Err f) e so k = let g : false ≡ true = k in absurd cc
+pub ended_so : (part : Part) (old : List Work) (r : Stopped) → AreHeldBy part r.idles.items r.budget →
+    HasEnded part.network.now part.input.now part.plan.watch part.plan.workers part.plan.bound r → IsOk r.outcome → HaveRisen (cells_of old) (cells_of r.idles.items) → HasStoppedPart part old r
+ended_so part old r held ended one risen = record {
+  held = held;
+  risen = risen;
+  outcome = ended;
+  untouched = λ f. absurd (let g : false ≡ true = subst (λ (o : Result Verdict CrewFault). IsOk o) f one in cc);
+}
 
 -- it was refused, with the jobs as they are
 pub refused_so : (part : Part) (old : List Work) (r : Stopped) → AreHeldBy part r.idles.items r.budget → HaveRisen (cells_of old) (cells_of r.idles.items) → (fault : CrewFault) →

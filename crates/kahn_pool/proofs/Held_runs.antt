@@ -1,6 +1,6 @@
 -- A held run goes on: its streams grow, and no instance has fewer events.
 use Rattle.std.proofs.Common.{◌≡◌, ℕ, ◌+◌, ◌<◌, ◌^◌, List, length, map, refl, sym, ap, ◌∙◌, subst, Bool, Option, Some, None, Ok, Err, arith, ◌≤◌, ◌-◌, [], slice_index_or}
-use Rattle.kahn_pool.proofs.Common.{length-map, Program, Line, IsRight, stream_lines, Source, Given, Written, Nobody, network_of, IsWellWired, Token, Channel, Print, AreInputsExtended, source, Lists, inputs_of, prefix_refl, token_value, cells_of, NoMemory, NoThread, Plan, Stopped, Work, AreStreams, IsConcluded, IsFrom, GoesOn, HasResumed, HeldRun, IsAnswerOf, IsResumed, Seen, given_so_far, seen_at, seen_of, HasStopped, IsGiving, IsHolding, cells_seen, held_state, run_of, Answer, Verdict}
+use Rattle.kahn_pool.proofs.Common.{length-map, Program, Line, IsRight, stream_lines, Source, Given, Written, Nobody, network_of, IsWellWired, Token, Channel, Print, AreInputsExtended, source, Lists, inputs_of, prefix_refl, token_value, cells_of, NoMemory, NoThread, Plan, Stopped, Work, AreStreams, IsConcluded, IsFrom, GoesOn, HasResumed, HeldRun, IsAnswerOf, IsResumed, Seen, given_so_far, seen_at, seen_of, HasStopped, IsGiving, IsHolding, held_state, run_of, told_view, Answer, Verdict}
 use Rattle.kahn_streams.specs.declared.answer.End.{End}
 use Rattle.kahn_pool.proofs.Held_jobs.{ended_alike, held_again, held_grown, same_seen}
 use Rattle.kahn_pool.proofs.Going_on.{goes_on, grows_not, seen_grows}
@@ -11,7 +11,7 @@ module _ (t : Program) (lists : Lists) (plan : Plan) (ws : List Work) (verdict :
   abbrev held : HeldRun
   held = run_of t lists plan ws verdict
 
-  so_far_in : IsWellWired t → (s : Source) (c : Line) (ts : List Token) → IsFrom (network_of t) (inputs_of lists) plan.watch (cells_seen ws) s c ts → map token_value ts ≡ given_so_far held s c
+  so_far_in : IsWellWired t → (s : Source) (c : Line) (ts : List Token) → IsFrom (network_of t) (inputs_of lists) plan.watch (map told_view (cells_of ws)) s c ts → map token_value ts ≡ given_so_far held s c
   so_far_in wired Given (Channel c) ts h = h.values
   so_far_in wired Given (Print r) ts h = absurd h
   so_far_in wired (Written p) (Channel c) ts (q, w, s, e) =

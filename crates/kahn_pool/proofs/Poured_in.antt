@@ -1,6 +1,6 @@
 -- A flow that is given more input.
 use Rattle.std.proofs.Common.{drop, arith, ◌≡◌, ℕ, zero, suc, ◌+◌, ◌≤◌, ◌==◌, Bool, true, false, if◌then◌else◌, eqb-true, eq-eqb, true≢false, List, [], ◌∷◌, ◌++◌, length, map, refl, sym, ap, ◌∙◌, subst, append-nil, append_assoc, Option, Some, None, slice_get, slice_index_or}
-use Rattle.kahn_pool.proofs.Common.{Source, Given, Written, Nobody, network_of, role_at, Token, Value, Line, Channel, Print, Entry, channel_of, most_values, Lists, inputs_of, IsMeant, source, is_watched, stream_lines, token_value, AreQueued, IsPoured, waiting_of, Waiting, Verdict, HasPouredIn, AreLent, Plan, flow_of, let_go_by, let_go_of, waits_of, HasTakenIn, IsLaid, Table}
+use Rattle.kahn_pool.proofs.Common.{Source, Given, Written, Nobody, network_of, role_at, Token, Value, Line, Channel, Print, Entry, channel_of, most_values, Lists, inputs_of, IsMeant, source, is_watched, stream_lines, token_value, AreQueued, IsPoured, waiting_of, Waiting, Verdict, HasPouredIn, AreLent, Plan, flow_of, let_go_by, let_go_of, HasTakenIn, IsLaid, Table}
 use Rattle.kahn_pool.proofs.Flowed.{front_of, let_go_same, map_on, poured_goes_on}
 use Rattle.kahn_pool.proofs.Giving.{input_role}
 use Rattle.kahn_pool.proofs.Named.{HasLine, has_line}
@@ -154,13 +154,11 @@ module _ (b d : Table) (c : ℕ) (values : List Value) (input : Lists) (poured :
       IsMeant b.network entry → waiting_of (slice_get b.queues.queues c) + length values ≤ most_values →
       HasPouredIn entry (flow_of b plan said (length ts)) (flow_of d plan None (length us))
   poured_flow plan said entry is behind meant few = record {
-    poured = record {
-      meant = meant;
-      lists = subst (λ k. IsPoured b.input k entry.1 d.input) is (subst (λ vs. IsPoured b.input c vs d.input) behind (subst (IsPoured b.input c values) (sym h.lists) poured));
-    };
+    meant = meant;
+    lists = subst (λ k. IsPoured b.input k entry.1 d.input) is (subst (λ vs. IsPoured b.input c vs d.input) behind (subst (IsPoured b.input c values) (sym h.lists) poured));
     few =
         let a = waits_at b.queues.queues c in
-        let e = ap (λ k. slice_index_or (waits_of b.queues) k 0) (sym is) in
+        let e = ap (λ k. slice_index_or (map (λ w. w.waiting) b.queues.queues) k 0) (sym is) in
         let l = ap length behind in
         omega (arith, a, e, l, few);
     rest = λ i. record {

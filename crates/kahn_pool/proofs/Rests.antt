@@ -1,6 +1,6 @@
 -- What settled tasks whose ends have met say of the cells.
 use Rattle.std.proofs.Common.{arith, ◌≡◌, inl, inr, ℕ, zero, suc, ◌+◌, ◌<◌, ◌≤◌, List, [], length, map, refl, sym, ap, ◌∙◌, subst, Option, Some, slice_get, length-append}
-use Rattle.kahn_pool.proofs.Common.{same_Some, Program, Role, Value, Inner, Input, Network, Reads, Writes, Given, network_of, instance_at, actual_at, role_at, IsWellWired, reads, writes, Channel, Store, Inputs, fed, iterate, out, source, Lists, inputs_of, dry_reads, AllStand, View, exec_on, is_output, count, told_view, joins_within, driven, IsBehind, IsReady, AreBehindOn, end_in, row_there, Serves, end_at, Tasked, handed_to_task, task_rows, work_of, at_mapped, AreAll, AreTasks, AreTold, IsDryOf, IsEndOf, IsSaid, IsSettledTask, IsInstanceTask, IsToldAs, cell_of, state_of_tasks, HasEndIn, TookNoMore, IsGiven, IsOutcomeOf, no_view, view_at, stand_in, StoodBy}
+use Rattle.kahn_pool.proofs.Common.{same_Some, Program, Role, Value, Inner, Input, Network, Reads, Writes, Given, network_of, instance_at, actual_at, role_at, IsWellWired, reads, writes, Channel, Store, Inputs, fed, iterate, out, source, Lists, inputs_of, dry_reads, AllStand, View, exec_on, is_output, count, told_view, joins_within, driven, IsBehind, IsReady, AreBehindOn, end_in, row_there, Serves, end_at, Tasked, handed_to_task, task_rows, work_of, at_mapped, AreAll, AreTold, IsDryOf, IsEndOf, IsSaid, IsSettledTask, IsToldAs, cell_of, HasEndIn, RunState, TookNoMore, IsGiven, IsOutcomeOf, no_view, view_at, stand_in, StoodBy}
 use Rattle.kahn_streams.specs.inner.Sources.{IsFed as IsFedBy}
 use Rattle.kahn_streams.specs.declared.answer.End.{End}
 use Rattle.kahn_streams.specs.declared.answer.Outcome.{Outcome}
@@ -29,6 +29,25 @@ row_at xs p q x e = ap (λ es. end_at es q) (row_there (map work_of xs) p x.work
 
 role_apart : {r : Role} → r ≡ Inner → r ≡ Input → ⊥
 role_apart a b = let e : Inner ≡ Input = sym a ∙ b in absurd cc
+
+-- ---- tasks of all instances
+
+-- what rounds see of the tasks
+abbrev pub state_of_tasks : Program → Lists → Option ℕ → List Tasked → RunState
+state_of_tasks t lists watch tasks =
+    record { network = network_of t; input = inputs_of lists; watch = watch; cells = map told_view (map cell_of tasks) }
+
+-- the task is that of instance p
+pub record IsInstanceTask (t : Program) (lists : Lists) (watch : Option ℕ) (p : ℕ) (x : Tasked) : Type 0 where
+  pub network : x.work.cell.network ≡ t
+  pub input : x.work.cell.input ≡ lists
+  pub instance : x.work.cell.instance ≡ p
+  pub watched : x.work.cell.watch ≡ watch
+
+-- the tasks of all instances, in order
+pub record AreTasks (t : Program) (lists : Lists) (watch : Option ℕ) (tasks : List Tasked) : Type 0 where
+  pub count : length tasks ≡ length (network_of t).instances
+  pub each : (p : ℕ) (x : Tasked) → slice_get tasks p ≡ Some x → IsInstanceTask t lists watch p x
 
 module _ (t : Program) (wired : IsWellWired t) (lists : Lists) (watch : Option ℕ) (tasks : List Tasked) (of : AreTasks t lists watch tasks)
     (settled : (p : ℕ) (x : Tasked) → slice_get tasks p ≡ Some x → IsSettledTask x) where

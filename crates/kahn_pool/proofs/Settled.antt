@@ -1,6 +1,6 @@
 -- Tasks that are asked what comes next.
 use Rattle.std.proofs.Common.{arith, ◌≡◌, ◌⊎◌, inl, inr, ℕ, ◌+◌, ◌<◌, ◌≤◌, List, length, refl, sym, subst}
-use Rattle.kahn_pool.proofs.Common.{network_of, Store, inputs_of, Pause, Paused, IsPause, told_view, IsReady, IsWithinInput, end_at, no_end, Work, Standing, Tasked, Continues, IsTrueOf, standing_after, past_none, IsSaid, IsSettledTask, Says, SettlesTo}
+use Rattle.kahn_pool.proofs.Common.{network_of, Store, inputs_of, Pause, Paused, IsPause, told_view, IsReady, IsWithinInput, end_at, no_end, Work, Standing, Tasked, Continues, IsTrueOf, standing_after, past_none, IsSaid, IsSettledTask, SettlesTo}
 use Rattle.kahn_job.specs.inner.Ends.{End}
 use Rattle.kahn_streams.specs.Script as script
 use Rattle.kahn_code.specs.declared.progress.Pause.TheVariants as pause
@@ -19,6 +19,10 @@ fed_all es n is h q = by (past_none es q)
     by (inr e) = subst IsWithinInput (sym e) nothing_fed
 
 -- ---- what a standing says
+
+abbrev Says : Work → Standing → Type 0
+Says w s =
+    Paused (network_of w.cell.network) (inputs_of w.cell.input) w.cell.watch w.cell.instance (told_view w.cell) (IsSaid w s)
 
 pub says_still : (w : Work) (s : Standing) → (s ≡ standing.Going → ⊥) → IsTrueOf w s → Says w s
 says_still w standing.Going n h = absurd (n refl)

@@ -1,7 +1,7 @@
 -- Believed. A run that is fed as it goes, and that lets go of what it kept: what contracts see of it, and what its calls make of it (this
 -- project's profile).
 use Rattle.std.specs.Prelude.{◌≡◌, ◌⊎◌, ℕ, ◌+◌, ◌<◌, ◌≤◌, ◌^◌, List, [], ◌++◌, length, map, replicate, None, Some, slice_get, slice_index_or}
-use Rattle.kahn_pool.specs.inner.Below.{Config, Entry, FeedFault, IsMeant, IsNotMeant, IsPoured, Line, Lists, NotAnInput, Program, Token, TooMany, UnknownName, Value, Verdict, WrongKind, channel_of, most_values, network_of, stream_lines, token_value, total_after}
+use Rattle.kahn_pool.specs.inner.Below.{Config, Entry, FeedFault, IsMeant, IsNotMeant, IsPoured, Line, Lists, Program, Token, TooMany, Value, Verdict, channel_of, most_values, network_of, stream_lines, token_value, total_after}
 use Rattle.kahn_streams.specs.declared.{feeds.FeedFault.TheVariants.NoMemory}
 use Rattle.kahn_pool.specs.HeldRuns.{GoesOn, HasStarted, HeldRun, IsResumed, so_far}
 use Rattle.kahn_pool.specs.declared.{held_fault.HeldFault.HeldFault, held_fault.HeldFault.TheVariants.BadMore}
@@ -39,14 +39,10 @@ IsNotRun more old new f = (f ≡ BadMore) × (new ≡ old) × (2 ^ 48 ≤ old.ru
 abbrev pub would_wait : Flowing → Entry → ℕ
 would_wait f entry = slice_index_or f.waits (channel_of f.run.network entry) 0 + length entry.1
 
--- the values are meant for an input channel, and stand behind those of it
-pub record IsPouredBy (t : Program) (before : Lists) (entry : Entry) (after : Lists) : Type 0 where
-  pub meant : IsMeant t entry
-  pub lists : IsPoured before (channel_of t entry) entry.1 after
-
--- they are taken, and nothing else but the answer changes
+-- the values are meant for an input channel, stand behind those of it, and nothing else but the answer changes
 pub record HasPouredIn (entry : Entry) (old new : Flowing) : Type 0 where
-  pub poured : IsPouredBy old.run.network old.run.input entry new.run.input
+  pub meant : IsMeant old.run.network entry
+  pub lists : IsPoured old.run.input (channel_of old.run.network entry) entry.1 new.run.input
   pub few : would_wait old entry ≤ most_values
   pub rest : new.run ≡ record old.run { input = new.run.input; verdict = None }
   pub out : new.out ≡ old.out
@@ -58,9 +54,7 @@ abbrev pub IsUnpoured : Entry → Flowing → Flowing → FeedFault → Type 0
 IsUnpoured entry old new TooMany =
     (new ≡ old) × IsMeant old.run.network entry × ((most_values < would_wait old entry) ⊎ (2 ^ 48 ≤ total_after old.run.network old.run.input entry))
 IsUnpoured entry old new NoMemory = (new ≡ old) × IsMeant old.run.network entry
-IsUnpoured entry old new UnknownName = (new ≡ old) × IsNotMeant old.run.network entry UnknownName
-IsUnpoured entry old new NotAnInput = (new ≡ old) × IsNotMeant old.run.network entry NotAnInput
-IsUnpoured entry old new WrongKind = (new ≡ old) × IsNotMeant old.run.network entry WrongKind
+IsUnpoured entry old new f = (new ≡ old) × IsNotMeant old.run.network entry f
 
 -- ---- what was shown
 

@@ -1,7 +1,7 @@
 -- Believed. A run that is held between its parts: what contracts see of it, and what its calls make of it (this project's profile).
 use Rattle.std.specs.Prelude.{◌≡◌, ◌⊎◌, ℕ, suc, ◌+◌, ◌<◌, ◌≤◌, ◌^◌, List, [], ◌∷◌, map, sum_by, Option, Some, None, slice_get, slice_index_or, if◌then◌else◌}
-use Rattle.kahn_pool.specs.inner.Below.{Actual, Answer, AreInputsExtended, AreRight, Channel, Config, End, Entry, FeedFault, Finished, Given, HasEndAt, HasStream, Inputs, IsAllowed, IsEntryFed, IsPrefix, IsRight, IsUndeclared, IsUnwelcome, IsWatched, IsWhole, Line, Lists, Network, Nobody, Print, Program, RunFault, Settles, Source, Stream, Token, Told, Value, Verdict, Written, inputs_of, instance_at, is_written, network_of, source, stream_lines, token_value, values_of}
-use Rattle.kahn_streams.specs.declared.fault.RunFault.TheVariants as fault
+use Rattle.kahn_pool.specs.inner.Below.{Actual, Answer, AreInputsExtended, AreRight, Channel, Config, End, Entry, FeedFault, Finished, Given, HasEndAt, HasStream, Inputs, IsAllowed, IsEntryFed, IsPrefix, IsRight, IsUnrun, IsUnwelcome, IsWatched, IsWhole, Line, Lists, Network, Nobody, Print, Program, RunFault, Settles, Source, Stream, Token, Told, Value, Verdict, Written, inputs_of, instance_at, is_written, network_of, source, stream_lines, token_value, values_of}
+use Rattle.kahn_streams.specs.declared.fault.RunFault.TheVariants.{NoThread}
 use Rattle.kahn_pool.specs.declared.held_fault.HeldFault.{HeldFault}
 use Rattle.kahn_pool.specs.declared.held_fault.HeldFault.TheVariants as held
 
@@ -83,13 +83,10 @@ pub record HasStarted (t : Program) (lists : Lists) (config : Config) (h : HeldR
   pub none : (p : ℕ) → (seen_at h.cells p).events ≡ 0
   pub unsettled : h.verdict ≡ None
 
--- why there is none: first the numbers, then the watched channel, then want of memory
+-- why there is none: what refuses a run, but that no thread is started
 abbrev pub IsUnstarted : Program → Config → RunFault → Type 0
-IsUnstarted t config fault.BadConfig = IsAllowed config → ⊥
-IsUnstarted t config fault.UnknownWatch = IsAllowed config × IsUndeclared t config.watch
-IsUnstarted t config fault.NoMemory = IsAllowed config × ((watch : Option ℕ) × IsWatched t config.watch watch)
-IsUnstarted t config fault.NoThread = ⊥
-IsUnstarted t config fault.Stalled = ⊥
+IsUnstarted t config NoThread = ⊥
+IsUnstarted t config f = IsUnrun t config f
 
 -- ---- a part of the run
 

@@ -1,6 +1,5 @@
 pub mod Below
 pub mod Bench
-pub mod Changed
 pub mod FlowBench
 pub mod Gathered
 pub mod Holding

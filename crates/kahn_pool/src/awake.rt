@@ -29,30 +29,17 @@ fn written_by(alloc: Global, network: &Network) -> Result<Vec<Vec<usize>>, NoMem
     }
     for channel in 0..network.channels() {
         if let Some(side) = network.writer(channel) {
-            put_channel(&mut written, side.instance, channel)?;
+            if let Some(channels) = written.get_mut(side.instance) {
+                channels.push(channel)?;
+            }
         }
     }
     Ok(written)
 }
 
-// Adds a channel to those of an instance.
-fn put_channel(
-    written: &mut Vec<Vec<usize>>,
-    instance: usize,
-    channel: usize,
-) -> Result<(), NoMemory> {
-    if let Some(channels) = written.get_mut(instance) {
-        channels.push(channel)?;
-    }
-    Ok(())
-}
-
 // The reader that slept at a channel, and no longer does.
 fn woken(sleepers: &mut Vec<Option<usize>>, channel: usize) -> Option<usize> {
-    let sleeper = sleepers.get_mut(channel)?;
-    let reader = *sleeper;
-    *sleeper = None;
-    reader
+    sleepers.get_mut(channel)?.take()
 }
 
 impl Awake {

@@ -1,11 +1,10 @@
 //! The processes of a network over its plain queues.
 
-ghost use Rattle.kahn_pool.specs.inner.Below.{AreQueued, HasForgotten, Input as InputRole, IsPoured, Lists, Reads, Tapped, actual_at, inputs_of, instance_at, network_of, role_at, stream_lines, tokens};
+ghost use Rattle.kahn_pool.specs.inner.Below.{AreQueued, HasForgotten, Input as InputRole, IsPoured, Lists, Reads, Tapped, actual_at, inputs_of, instance_at, network_of, role_at, stream_lines};
 ghost use Rattle.kahn_pool.specs.inner.Bench.{AreStreams, HasRunCell, all_events, events_at};
-ghost use Rattle.kahn_pool.specs.inner.Changed.{HaveChanged};
-ghost use Rattle.kahn_pool.specs.inner.Gathered.{TookNoMore};
+ghost use Rattle.kahn_pool.specs.inner.Streams.{HaveChanged};
 ghost use Rattle.kahn_pool.specs.inner.Workbench.{AllStandBy, AreLeft, AreOpeningCells, AreStreamsReady, AreWhole, HasEmptied, HasFresh, HasFreshPrints, HasTakenIn, HasWorked, IsCrowded, IsLaid, IsNextPlace, StandsAsTold, gone_in, sight_of, table_of, told_in};
-ghost use Rattle.std.specs.Prelude.{◌≡◌, ◌<◌, ◌≤◌, ◌+◌, ◌++◌, ◌^◌, ℕ, [], Some, length, map, slice_get, vec_capacity, IfOk, IfErr, IfSome, MatchOption, SomeIff};
+ghost use Rattle.std.specs.Prelude.{◌≡◌, ◌<◌, ◌≤◌, ◌+◌, ◌^◌, ℕ, [], Some, length, map, slice_get, vec_capacity, IfOk, IfErr, IfSome, MatchOption, SomeIff};
 
 use crate::awake::Awake;
 use crate::ends::channel_read;
@@ -85,15 +84,6 @@ fn all_stood(network: &Network, taps: &[Tap])
     for instance in 0..taps.len() {
         taps[instance].stood(network);
     }
-}
-
-// What a tap sent on a parameter since it last let go, if it is kept.
-fn fresh_of(tap: &Tap, parameter: usize) -> &[Carried]
-    requires { parameter < length (instance_at (network_of tap.now.told.network) tap.now.told.instance).actuals }
-    ensures { tokens tap.now.told.kept parameter ≡ tokens tap.now.gone.kept parameter ++ result.now }
-{
-    let _count = tap.parameters();
-    tap.fresh(parameter)
 }
 
 // What is there of what each tap kept. The list that is given has room for all.
@@ -201,16 +191,10 @@ impl<'n> Bench<'n> {
         ensures { self.new ≡ self.old }
     {
         self.looks.note_visit(instance, done);
-        self.note_ahead(instance, done);
-    }
-
-    // Notes after a long turn whether an instance is far ahead of its readers, for `passes_over`.
-    fn note_ahead(&mut self, instance: usize, done: u64)
-        ensures { self.new ≡ self.old }
-    {
-        if done >= LONG_TURN {
-            self.awake.note_ahead(instance, &self.queues);
+        if done < LONG_TURN {
+            return;
         }
+        self.awake.note_ahead(instance, &self.queues);
     }
 
     /// Whether an instance is passed over, since it was far ahead of its readers. It isn't the next time.
@@ -261,13 +245,6 @@ impl<'n> Bench<'n> {
         sum
     }
 
-    /// Says that no reader took more than was given: its contract is what it does.
-    pub(crate) fn within(&self)
-        ensures { TookNoMore (sight_of self.now).network (sight_of self.now).input (sight_of self.now).cells }
-    {
-        self.queues.counted();
-    }
-
     /// Goes on for a longer input, in which these values stand behind those of an input channel: they wait there. It refuses only
     /// if memory was refused, and then all goes on as before. The caller names the input for contracts alone.
     pub(crate) fn pour(&mut self, channel: usize, values: &[Value]) -> Result<(), NoMemory>
@@ -311,7 +288,9 @@ impl<'n> Bench<'n> {
         requires parameter { parameter < length (instance_at (network_of self.now.network) instance).actuals }
         ensures { HasFresh self.now instance parameter result.now }
     {
-        fresh_of(&self.taps[instance], parameter)
+        let tap = &self.taps[instance];
+        let _count = tap.parameters();
+        tap.fresh(parameter)
     }
 
     /// What an instance printed since that was last let go of.

@@ -7,10 +7,9 @@ ghost use Rattle.kahn_pool.specs.Flows.{AreNew, HasFlowed, HasLetGo, HasPouredIn
 
 use crate::bench::Bench;
 use crate::held_fault::HeldFault;
-use crate::lent::{is_watched, lend, lent_of, make_room};
-use crate::part_alone::run_part_alone;
+use crate::lent::{lend, lent_of, make_room};
 use crate::plan::plan_of;
-use crate::running::watched;
+use crate::rounds::run_part_alone;
 use crate::streams::{give_watched, lines_of};
 use kahn_crew::{Gate, Plan};
 use kahn_streams::{
@@ -78,15 +77,11 @@ impl<'n> Flow<'n> {
     ) -> Result<Flow<'n>, RunFault>
         ensures { MatchResult result (HasFlowed network.now input config) (IsUnstarted network.now config) }
     {
-        if !config.is_in_range() {
-            return Err(RunFault::BadConfig);
-        }
-        let watch = watched(network, &config.watch)?;
-        let plan = plan_of(&config, watch);
+        let plan = plan_of(network, &config)?;
         let ends = room_for_ends(alloc, network)?;
         let mut given = Vec::new(alloc);
-        give_watched(network, &input, watch, &mut given)?;
-        let bench = Bench::new(alloc, network, &input, watch)?;
+        give_watched(network, &input, plan.watch, &mut given)?;
+        let bench = Bench::new(alloc, network, &input, plan.watch)?;
         Ok(Flow {
             alloc,
             network,
@@ -145,8 +140,7 @@ impl<'n> Flow<'n> {
         let Some(place) = self.bench.next_place(number, values.len()) else {
             return Err(FeedFault::TooMany);
         };
-        let lends = is_watched(self.plan.watch, number);
-        let lent = lent_of(lends, values);
+        let lent = lent_of(self.plan.watch, number, values);
         make_room(&mut self.given, lent.len())?;
         let poured = self.bench.pour(number, values);
         self.bench.stood();

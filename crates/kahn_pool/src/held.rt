@@ -1,16 +1,15 @@
 //! Runs that are cut into parts: between two parts a run is held, more events may be allowed and more values fed.
 
 ghost use Rattle.std.specs.Prelude.{◌≡◌, ◌↔◌, ◌+◌, Some, length, map, sum_by, IfOk, IsTrue, MatchResult};
-ghost use Rattle.kahn_pool.specs.inner.Below.{Verdict as VerdictOf, network_of, stream_lines, token_value};
+ghost use Rattle.kahn_pool.specs.inner.Below.{Verdict as VerdictOf, cells_of, network_of, stream_lines, token_value};
 ghost use Rattle.kahn_pool.specs.HeldRuns.{HasFed, HasStarted, IsAnswerOf, IsLineOf, IsResumed, IsRightSoFar, IsUnfed, IsUnresumed, IsUnstarted, seen_events, so_far};
+ghost use Rattle.kahn_pool.specs.inner.Workbench.{AreKeptOf};
 
-use crate::copies::copied_streams;
 use crate::held_fault::HeldFault;
 use crate::part::{Part, PartRoom, first_idles, run_part};
 use crate::plan::plan_of;
-use crate::running::watched;
-use crate::streams::{give_watched, lines_of};
-use kahn_code::{Code, compile};
+use crate::streams::{fill, give_watched, lines_of, opening_streams};
+use kahn_code::{Code, Kept, compile};
 use kahn_crew::{CrewFault, Gate, Plan};
 use kahn_job::Idle;
 use kahn_streams::{
@@ -58,6 +57,17 @@ impl<'n> Model for Held<'n> {
     ghost invariant = { λ h. IsHolding h.network.now h.code.network.value h.input h.plan h.idles.items h.budget h.ends.items h.given.items h.verdict };
 }
 
+// Copies of what the cell of each job kept.
+fn copied_lists(alloc: Global, idles: &[Idle]) -> Result<Vec<Kept>, NoMemory>
+    ensures { IfOk result (λ lists. AreKeptOf (cells_of idles.now) lists.items) }
+{
+    let mut lists = Vec::with_capacity(alloc, idles.len())?;
+    for instance in 0..idles.len() {
+        lists.push_reserved(idles[instance].lists(alloc)?);
+    }
+    Ok(lists)
+}
+
 impl<'n> Held<'n> {
     /// A run of a network with an input that fits it, before its first event. It keeps the allocator for its later calls. The bound
     /// of the configuration is the first one: `resume(0)` runs for that many events.
@@ -73,11 +83,7 @@ impl<'n> Held<'n> {
         requires fits { length input ≡ length (network_of network.now).channels }
         ensures { MatchResult result (HasStarted network.now input config) (IsUnstarted network.now config) }
     {
-        if !config.is_in_range() {
-            return Err(RunFault::BadConfig);
-        }
-        let watch = watched(network, &config.watch)?;
-        let plan = plan_of(&config, watch);
+        let plan = plan_of(network, &config)?;
         let code = compile(alloc, network)?;
         let idles = first_idles(alloc, network, &input, &code, plan.watch)?;
         Ok(Held {
@@ -238,13 +244,9 @@ impl<'n> Held<'n> {
             unreachable!()
         };
         let _program = self.network.program();
-        let streams = copied_streams(
-            self.alloc,
-            self.network,
-            &self.input,
-            self.plan.watch,
-            &self.idles,
-        )?;
+        let mut streams = opening_streams(self.alloc, self.network, &self.input, self.plan.watch)?;
+        let mut lists = copied_lists(self.alloc, &self.idles)?;
+        fill(self.network, &mut streams, &mut lists);
         let ends = Vec::from_slice(self.alloc, &self.ends)?;
         Ok(Answer {
             verdict,

@@ -1,6 +1,5 @@
 //! Why a held run doesn't go on.
 
-use kahn_crew::CrewFault;
 use kahn_streams::NoMemory;
 use thiserror::Error;
 

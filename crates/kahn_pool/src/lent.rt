@@ -6,20 +6,13 @@ ghost use Rattle.kahn_pool.specs.inner.Below.{Holds, Input as InputRole, Names, 
 use crate::bench::Bench;
 use kahn_streams::{Carried, Line, NoMemory, Token, Value, Word};
 
-/// Whether the channel is watched.
-pub(crate) fn is_watched(watch: Option<usize>, channel: usize) -> bool
-    ensures { result ≡ is_watched watch channel }
-{
-    watch == Some(channel)
-}
-
-/// The values of which tokens are lent: all of them, or none.
-pub(crate) fn lent_of(lends: bool, values: &[Value]) -> &[Value]
-    ensures all { lends ≡ true → result.now ≡ values.now }
-    ensures none { lends ≡ false → result.now ≡ [] }
+/// The values of which tokens are lent: all of a watched channel, and none of another one.
+pub(crate) fn lent_of(watch: Option<usize>, channel: usize, values: &[Value]) -> &[Value]
+    ensures all { is_watched watch channel ≡ true → result.now ≡ values.now }
+    ensures none { is_watched watch channel ≡ false → result.now ≡ [] }
     ensures few { length result.now ≤ length values.now }
 {
-    if lends { values } else { &[] }
+    if watch == Some(channel) { values } else { &[] }
 }
 
 /// Makes room for so many tokens more. It refuses only if memory was refused, and then nothing changed.

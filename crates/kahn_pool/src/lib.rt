@@ -3,7 +3,6 @@
 
 mod awake;
 mod bench;
-mod copies;
 mod ends;
 mod flow;
 mod held;
@@ -13,7 +12,6 @@ mod lent;
 mod looks;
 mod one;
 mod part;
-mod part_alone;
 mod plan;
 mod rounds;
 mod run_queue;

@@ -4,11 +4,11 @@ ghost use Rattle.kahn_pool.specs.inner.Below.{IsCutShort, IsRight, Settles, inpu
 ghost use Rattle.kahn_pool.specs.Limits.{IsRefusedRun};
 ghost use Rattle.kahn_pool.specs.inner.FlowBench.{IsPartEnd};
 ghost use Rattle.kahn_pool.specs.inner.Workbench.{AreStreamsReady, AreWhole, IsRightAlone};
-ghost use Rattle.std.specs.Prelude.{◌≡◌, ◌<◌, ◌^◌, ℕ, length, true, IfOk, IfErr, MatchOption, None, vec_capacity};
+ghost use Rattle.std.specs.Prelude.{◌≡◌, ◌<◌, ◌^◌, length, true, IfOk, IfErr, MatchOption, None, vec_capacity};
 
 use crate::bench::Bench;
 use crate::laws;
-use crate::part_alone::{PartEnd, run_part_alone};
+use crate::rounds::{PartEnd, run_part_alone};
 use crate::streams::room_for_answer;
 use kahn_code::{CodeFault, Kept};
 use kahn_crew::{Gate, Open, Plan};
@@ -52,9 +52,7 @@ fn run_opened<G: Gate, L: Ledger>(
     may_leave: bool,
 ) -> Result<Option<Answer>, CodeFault>
     requires quantum { 0 < plan.quantum }
-    requires name { blank.name ≡ L.name }
-    requires parts { blank.parts ≡ L.parts }
-    requires some { 0 < blank.parts }
+    requires blank { (blank.name ≡ L.name) × (blank.parts ≡ L.parts) × (0 < blank.parts) }
     requires bound { plan.bound < 2 ^ 48 }
     ensures { IfOk result (λ a. MatchOption a (may_leave ≡ true) (IsRightAlone network.now input.now plan.watch plan.bound)) }
 {

@@ -2,7 +2,7 @@
 
 ghost use Rattle.std.specs.Prelude.{◌≡◌, ◌↔◌, ℕ, ◌≤◌, ◌<◌, [], Err, Ok, length, map, true, vec_capacity, IfOk, IsOk, OnOk};
 ghost use Rattle.kahn_pool.specs.inner.Below.{AreResting, HaveSettled, HaveStood, IsOver, cells_of, network_of, rows_of};
-ghost use Rattle.kahn_pool.specs.inner.Holding.{AreHeld, AreHeldBy, HasStoppedPart, HaveAllLeft, IsConclusion, IsHeldPart, IsRoomFor};
+ghost use Rattle.kahn_pool.specs.inner.Holding.{AreHeld, AreHeldBy, HasEnded, HasStoppedPart, HaveAllLeft, IsHeldPart, IsRoomFor};
 ghost use Rattle.kahn_pool.specs.inner.Rested.{cell_of};
 ghost use Rattle.kahn_streams.specs.declared.answer.Verdict.TheVariants as verdict;
 
@@ -69,9 +69,7 @@ fn first_counted<L: Ledger>(
     code: &Code,
     watch: Option<usize>,
 ) -> Result<Vec<Idle>, NoMemory>
-    requires name { blank.name ≡ L.name }
-    requires parts { blank.parts ≡ L.parts }
-    requires some { 0 < blank.parts }
+    requires blank { (blank.name ≡ L.name) × (blank.parts ≡ L.parts) × (0 < blank.parts) }
     requires code { code.now.network.value ≡ network.now }
     ensures { IfOk result (λ idles. (bound : ℕ) → AreHeld network.now input.now watch bound idles.items bound) }
 {
@@ -113,7 +111,7 @@ fn conclude<L: Ledger>(
     requires ends { length (network_of part.now.network.now).instances ≤ vec_capacity ends }
     ensures held { AreHeldBy part.now result.idles.items result.budget }
     ensures cells { cells_of result.idles.items ≡ map cell_of left.tasks.items }
-    ensures ended { IfOk result.outcome (λ v. IsConclusion part.now left.halted v result) }
+    ensures ended { HasEnded part.now.network.now part.now.input.now part.now.plan.watch part.now.plan.workers part.now.plan.bound result }
     ensures verdict { result.outcome ≡ Ok verdict.Memory ↔ left.halted ≡ true }
     ensures memory { result.outcome ≡ Ok verdict.Memory → left.wanted ≡ true }
     ensures is_one { IsOk result.outcome }
@@ -166,9 +164,7 @@ fn run_settled<R: Threads + Wait + Sync, G: Gate + Sync, L: Ledger>(
     room: PartRoom,
     gate: &G,
 ) -> Stopped
-    requires name { blank.name ≡ L.name }
-    requires parts { blank.parts ≡ L.parts }
-    requires some { 0 < blank.parts }
+    requires blank { (blank.name ≡ L.name) × (blank.parts ≡ L.parts) × (0 < blank.parts) }
     requires part { IsHeldPart part.now idles.items }
     requires settled { HaveSettled part.now.network.now part.now.input.now (rows_of idles.items) }
     requires room { IsRoomFor (length (network_of part.now.network.now).instances) room }

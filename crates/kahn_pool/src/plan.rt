@@ -1,32 +1,49 @@
-//! What the workers are told of how a run is set up.
+//! The plan of a run, by its configuration.
 
-ghost use Rattle.std.specs.Prelude.{◌≡◌, ◌≤◌, max, min};
+ghost use Rattle.kahn_pool.specs.inner.Below.{IsAllowed, IsUndeclared, IsUnrun, IsWatched, UnknownWatch};
+ghost use Rattle.kahn_pool.specs.HeldRuns.{IsUnstarted};
+ghost use Rattle.std.specs.Prelude.{◌≡◌, max, min, IfErr, IfOk, MatchResult};
 
 use kahn_crew::Plan;
-use kahn_streams::Config;
+use kahn_streams::{Config, Network, RunFault, channel_named};
 
-/// The plan of a run of that configuration, with the channel that is to be watched.
-pub(crate) fn plan_of(config: &Config, watch: Option<usize>) -> Plan
-    requires { config.now.workers ≤ 16 }
-    ensures watch { result.watch ≡ watch }
-    ensures workers { result.workers ≡ config.now.workers }
-    ensures quantum { result.quantum ≡ config.now.quantum }
-    ensures bound { result.bound ≡ config.now.bound }
+// The channel that is to be watched.
+fn watched(network: &Network, name: &Option<String>) -> Result<Option<usize>, RunFault>
+    ensures { MatchResult result (IsWatched network.now name.now) (λ f. (f ≡ UnknownWatch) × IsUndeclared network.now name.now) }
 {
-    Plan {
-        watch,
+    match name {
+        None => Ok(None),
+        Some(name) => match channel_named(network, name.as_str()) {
+            Some(channel) => Ok(Some(channel)),
+            None => Err(RunFault::UnknownWatch),
+        },
+    }
+}
+
+/// The plan of a run of that configuration. It refuses with `BadConfig` if a number is out of its limit, then with `UnknownWatch` if
+/// no channel has the name that is to be watched.
+pub(crate) fn plan_of(network: &Network, config: &Config) -> Result<Plan, RunFault>
+    ensures allowed { IfOk result (λ _. IsAllowed config.now) }
+    ensures watched { IfOk result (λ p. IsWatched network.now config.now.watch p.watch) }
+    ensures workers { IfOk result (λ p. p.workers ≡ config.now.workers) }
+    ensures rest { IfOk result (λ p. (p.quantum ≡ config.now.quantum) × (p.bound ≡ config.now.bound)) }
+    ensures unstarted { IfErr result (IsUnstarted network.now config.now) }
+    ensures unrun { IfErr result (IsUnrun network.now config.now) }
+{
+    if !config.is_in_range() {
+        return Err(RunFault::BadConfig);
+    }
+    Ok(Plan {
+        watch: watched(network, &config.watch)?,
         workers: config.workers as usize,
         quantum: config.quantum,
         bound: config.bound,
-    }
+    })
 }
 
 /// The plan of the workers of a run: no more of them than there are instances.
 pub(crate) fn crew_plan(plan: Plan, instances: usize) -> Plan
-    ensures watch { result.watch ≡ plan.watch }
-    ensures workers { result.workers ≡ min plan.workers (max instances 1) }
-    ensures quantum { result.quantum ≡ plan.quantum }
-    ensures bound { result.bound ≡ plan.bound }
+    ensures { result ≡ record plan { workers = min plan.workers (max instances 1) } }
 {
     Plan {
         workers: plan.workers.min(instances.max(1)),

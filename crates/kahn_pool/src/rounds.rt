@@ -5,16 +5,17 @@
 //! clauses on purpose, since no answer depends on them: they only save time.
 
 ghost use Rattle.kahn_pool.specs.inner.Bench.{HasRunCell, PausedAt, HasEndIn, IsVerdict, all_events, events_at};
-ghost use Rattle.kahn_pool.specs.inner.Workbench.{HasAdvanced, HasComeToRest, HasTakenTurn, HasVisited, HasWorked, IsInRound, IsMarked, MayRun, Table, sight_of, turn_of};
+ghost use Rattle.kahn_pool.specs.inner.FlowBench.{IsPartEnd};
+ghost use Rattle.kahn_pool.specs.inner.Workbench.{HasAdvanced, HasComeToRest, HasTakenTurn, HasVisited, HasWorked, IsInRound, IsMarked, MayRun, sight_of, turn_of};
 ghost use Rattle.kahn_streams.specs.declared.answer.Outcome.TheVariants as outcome;
 ghost use Rattle.kahn_code.specs.declared.progress.Pause.TheVariants as pause;
-ghost use Rattle.std.specs.Prelude.{◌≡◌, ◌⊎◌, ◌<◌, ◌≤◌, ◌+◌, ◌^◌, ℕ, suc, length, true, MatchOption, vec_capacity};
+ghost use Rattle.std.specs.Prelude.{◌≡◌, ◌⊎◌, ◌<◌, ◌≤◌, ◌+◌, ◌^◌, length, true, vec_capacity, IfSome, MatchOption};
 
 use crate::bench::Bench;
 use kahn_code::{Pause, Steps};
 use kahn_crew::Gate;
 use kahn_streams::{End, Outcome, Verdict};
-use std::sync::ledger::Ledger;
+use std::sync::ledger::{Blank, Ledger};
 
 // How many turns, for each instance, those that may go on have at most before the next round of all, which also comes to an instance
 // that the run queue lost.
@@ -26,29 +27,36 @@ const NOTED_ROUNDS: usize = 4;
 // How many brief rounds come one after another at most: a number, since each loop needs an end.
 const BRIEF_ROUNDS: usize = 1_000_000;
 
-/// What is left to do in a run on one thread, and what its last round did.
+// What is left to do in a run on one thread, and what its last round did.
 #[derive(Drop)]
-pub(crate) struct Round {
-    // The most events of a turn.
+struct Round {
+    // The most events of a turn, and how many are left of the bound.
     quantum: u64,
-    /// How many events are left of the bound.
-    pub(crate) left: u64,
-    /// Whether memory was refused.
-    pub(crate) memory: bool,
+    left: u64,
+    // Whether memory was refused.
+    memory: bool,
     progressed: bool,
     // How many turns did nothing.
     idle_turns: usize,
-    /// How each instance stood after its turn.
-    pub(crate) ends: Vec<End>,
+    // How each instance stood after its turn.
+    ends: Vec<End>,
 }
 
-/// What a run on one thread goes by: the count of its steps, the gate before each quantum, and whether it may be left to several
-/// workers.
+// What a run on one thread goes by: the count of its steps, the gate before each quantum, and whether it may be left to several
+// workers.
 #[derive(Drop)]
-pub(crate) struct Driver<'g, L: Ledger, G: Gate> {
-    pub(crate) steps: Steps<L>,
-    pub(crate) gate: &'g G,
-    pub(crate) may_leave: bool,
+struct Driver<'g, L: Ledger, G: Gate> {
+    steps: Steps<L>,
+    gate: &'g G,
+    may_leave: bool,
+}
+
+/// How a part ended: its verdict, the end of each instance, and what is left of its bound.
+#[derive(Drop)]
+pub(crate) struct PartEnd {
+    pub(crate) verdict: Verdict,
+    pub(crate) ends: Vec<End>,
+    pub(crate) left: u64,
 }
 
 // The end of an instance that paused so.
@@ -72,8 +80,8 @@ fn end_of(bench: &Bench<'_>, instance: usize, stopped: Pause) -> End
 }
 
 impl Round {
-    /// Before the first round of a run for so many events. The list of ends has room for each instance.
-    pub(crate) fn new(bench: &Bench<'_>, quantum: u64, bound: u64, ends: Vec<End>) -> Round
+    // Before the first round of a run for so many events. The list of ends has room for each instance.
+    fn new(bench: &Bench<'_>, quantum: u64, bound: u64, ends: Vec<End>) -> Round
         requires quantum { 0 < quantum }
         requires bound { all_events (sight_of bench.now) + bound < 2 ^ 48 }
         requires room { length (sight_of bench.now).network.instances ≤ vec_capacity ends }
@@ -113,10 +121,8 @@ impl Round {
     {
         if self.memory {
             0
-        } else if self.left < self.quantum {
-            self.left
         } else {
-            self.quantum
+            self.quantum.min(self.left)
         }
     }
 
@@ -184,17 +190,6 @@ impl<'g, L: Ledger, G: Gate> Driver<'g, L, G> {
         end_of(bench, instance, stopped)
     }
 
-    // The turn of an instance in a round that notes how each stands.
-    fn visit_noted(&mut self, bench: &mut Bench<'_>, round: &mut Round, instance: usize)
-        requires here { instance < length (sight_of bench.old).network.instances }
-        requires may { MayRun (sight_of bench.old) round.old }
-        requires room { length round.old.ends.items < vec_capacity round.old.ends }
-        ensures { (b : Table) (r : Round) → IsInRound b r bench.old round.old instance → IsInRound b r bench.new round.new (suc instance) }
-    {
-        let end = self.visit(bench, round, instance);
-        round.ends.push_reserved(end);
-    }
-
     // The turn of an instance in a brief round. One that is far ahead of its readers is passed over, so that they come up to it.
     #[inline(always)]
     fn visit_brief(&mut self, bench: &mut Bench<'_>, round: &mut Round, instance: usize)
@@ -231,7 +226,8 @@ impl<'g, L: Ledger, G: Gate> Driver<'g, L, G> {
         round.idle_turns = 0;
         round.ends.clear();
         for instance in 0..count {
-            self.visit_noted(bench, round, instance);
+            let end = self.visit(bench, round, instance);
+            round.ends.push_reserved(end);
         }
     }
 
@@ -305,9 +301,9 @@ impl<'g, L: Ledger, G: Gate> Driver<'g, L, G> {
         round
     }
 
-    /// Rounds, until one in which nothing was done, which is the answer; or, if the run may be left, until there is work for several
-    /// workers.
-    pub(crate) fn last_round(&mut self, bench: &mut Bench<'_>, first: Round) -> Option<Round>
+    // Rounds, until one in which nothing was done, which is the answer; or, if the run may be left, until there is work for several
+    // workers.
+    fn last_round(&mut self, bench: &mut Bench<'_>, first: Round) -> Option<Round>
         requires { MayRun (sight_of bench.old) first }
         ensures last { MatchOption result (self.old.may_leave ≡ true) (HasComeToRest bench.old bench.new first) }
         ensures worked { HasWorked bench.old bench.new }
@@ -342,4 +338,42 @@ pub(crate) fn verdict_of(memory: bool, ends: &[End]) -> Verdict
         }
     }
     Verdict::Finished
+}
+
+/// Runs the processes of a bench on one thread for so many events, each for at most `quantum` at a time, before which the gate is
+/// entered. It answers nothing if the run may be left and there is work for several workers. Steps are counted on a ledger of its
+/// own. The list of ends has room for each instance. It never allocates.
+pub(crate) fn run_part_alone<G: Gate, L: Ledger>(
+    blank: Blank,
+    bench: &mut Bench<'_>,
+    gate: &G,
+    may_leave: bool,
+    ends: Vec<End>,
+    quantum: u64,
+    bound: u64,
+) -> Option<PartEnd>
+    requires blank { (blank.name ≡ L.name) × (blank.parts ≡ L.parts) × (0 < blank.parts) }
+    requires quantum { 0 < quantum }
+    requires bound { all_events (sight_of bench.old) + bound < 2 ^ 48 }
+    requires room { length (sight_of bench.old).network.instances ≤ vec_capacity ends }
+    ensures concluded { MatchOption result (may_leave ≡ true) (IsPartEnd bench.new (all_events (sight_of bench.old) + bound)) }
+    ensures room { IfSome result (λ r. length (sight_of bench.new).network.instances ≤ vec_capacity r.ends) }
+    ensures worked { HasWorked bench.old bench.new }
+{
+    let mut driver = Driver {
+        steps: Steps::<L>::open(blank),
+        gate,
+        may_leave,
+    };
+    let first = Round::new(bench, quantum, bound, ends);
+    let Some(last) = driver.last_round(bench, first) else {
+        return None;
+    };
+    bench.stood();
+    let verdict = verdict_of(last.memory, &last.ends);
+    Some(PartEnd {
+        verdict,
+        ends: last.ends,
+        left: last.left,
+    })
 }

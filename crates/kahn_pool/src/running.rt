@@ -1,6 +1,6 @@
 //! Runs of a network.
 
-ghost use Rattle.kahn_pool.specs.inner.Below.{IsCutShort, IsInRange, IsRight, IsRightRun, IsUndeclared, IsUnrun, IsWatched, Settles, UnknownWatch, inputs_of, network_of};
+ghost use Rattle.kahn_pool.specs.inner.Below.{IsCutShort, IsInRange, IsRight, IsRightRun, IsUnrun, Settles, inputs_of, network_of};
 ghost use Rattle.kahn_pool.specs.Limits.{IsWant};
 ghost use Rattle.std.specs.Prelude.{◌≡◌, ◌<◌, length, IfOk, MatchResult};
 
@@ -9,7 +9,7 @@ use crate::one::{run_alone, run_watched};
 use crate::plan::{crew_plan, plan_of};
 use crate::workers::run_workers;
 use kahn_crew::{Gate, Plan};
-use kahn_streams::{Answer, Config, Input, Network, RunFault, channel_named};
+use kahn_streams::{Answer, Config, Input, Network, RunFault};
 use std::alloc::Global;
 use std::sync::Wait;
 use std::thread::{Threads, available_parallelism};
@@ -27,19 +27,6 @@ fn processors<R: Threads>(rt: &R) -> usize {
     match available_parallelism(rt) {
         Ok(count) => count.get(),
         Err(_) => usize::MAX,
-    }
-}
-
-// The channel that is to be watched.
-pub(crate) fn watched(network: &Network, name: &Option<String>) -> Result<Option<usize>, RunFault>
-    ensures { MatchResult result (IsWatched network.now name.now) (λ f. (f ≡ UnknownWatch) × IsUndeclared network.now name.now) }
-{
-    match name {
-        None => Ok(None),
-        Some(name) => match channel_named(network, name.as_str()) {
-            Some(channel) => Ok(Some(channel)),
-            None => Err(RunFault::UnknownWatch),
-        },
     }
 }
 
@@ -98,12 +85,8 @@ pub fn run<R: Threads + Wait + Sync, G: Gate + Sync>(
     ensures exact { IfOk result (λ a. Settles (network_of network.now) (inputs_of input) config.bound a.verdict) }
     ensures short { IfOk result (λ a. config.workers ≡ 1 → IsCutShort config.bound a) }
 {
-    if !config.is_in_range() {
-        return Err(RunFault::BadConfig);
-    }
-    let watch = watched(network, &config.watch)?;
+    let plan = plan_of(network, &config)?;
     laws::finished_exactly();
-    let plan = plan_of(&config, watch);
     if plan.workers == 1 {
         return Ok(run_watched(alloc, gate, network, &input, plan)?);
     }

@@ -3,7 +3,7 @@
 ghost use Rattle.std.specs.Prelude.{◌≡◌, ◌<◌, ◌++◌, ◌∷◌, [], cond, length, map, slice_set, slice_index_or, vec_capacity, IfOk, OnOk};
 ghost use Rattle.kahn_pool.specs.inner.Below.{Input as InputRole, channel_lines, declaration_prints, inputs_of, instance_at, is_streamed, network_of, print_lines, prints_in, role_at, source, stream_lines};
 ghost use Rattle.kahn_pool.specs.inner.Workbench.{AreOpen, AreStreamsReady};
-ghost use Rattle.kahn_pool.specs.inner.Streams.{AreAllGiven, AreGiven, AreNamed, IsBegun, IsDeclared, IsBare, kept_lists, AreAllOf, AreLists, HasBecome, HaveBecome, IsFilled, KeepsOtherLines, HasInput};
+ghost use Rattle.kahn_pool.specs.inner.Streams.{AreAllGiven, AreGiven, AreNamed, IsBegun, IsDeclared, kept_lists, AreAllOf, AreLists, HasBecome, HaveBecome, IsFilled, KeepsOtherLines, HasInput};
 
 use kahn_code::Kept;
 use kahn_streams::{
@@ -161,18 +161,6 @@ fn give_list(
     Ok(())
 }
 
-// The whole list of the channel, if the stream is that of an input channel.
-fn give_input(network: &Network, input: &Input, stream: &mut Stream) -> Result<(), NoMemory>
-    requires bare { IsBare stream.old }
-    ensures line { stream.new.line ≡ stream.old.line }
-    ensures given { OnOk result (HasBecome (network_of network.now) (HasInput (network_of network.now) (inputs_of input.now)) stream.old stream.new) }
-{
-    if let Line::Channel(channel) = stream.line {
-        give_list(network, input, channel, &mut stream.tokens)?;
-    }
-    Ok(())
-}
-
 /// Gives the rest of the list of a watched input channel. It refuses only if memory was refused.
 pub(crate) fn give_watched(
     network: &Network,
@@ -194,7 +182,7 @@ pub(crate) fn give_watched(
     give_list(network, input, channel, tokens)
 }
 
-// The stream of a line before any token was moved there.
+// The stream of a line before any token was moved there: an input channel has its whole list.
 fn opening_stream(
     alloc: Global,
     network: &Network,
@@ -204,12 +192,12 @@ fn opening_stream(
     ensures line { IfOk result (λ x. x.line ≡ line) }
     ensures given { IfOk result (λ x. HasInput (network_of network.now) (inputs_of input.now) (source (network_of network.now) line) line [] x.tokens.items) }
 {
-    let mut stream = Stream {
-        line,
-        tokens: Vec::new(alloc),
+    let mut tokens = Vec::new(alloc);
+    let Line::Channel(channel) = line else {
+        return Ok(Stream { line, tokens });
     };
-    give_input(network, input, &mut stream)?;
-    Ok(stream)
+    give_list(network, input, channel, &mut tokens)?;
+    Ok(Stream { line, tokens })
 }
 
 /// The streams of an answer, in order, before any token was moved there: a watched input channel has its whole list. It refuses

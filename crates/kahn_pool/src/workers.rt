@@ -1,10 +1,9 @@
 //! A run by several workers: a held run in one part.
 
 ghost use Rattle.std.specs.Prelude.{◌≡◌, ◌<◌, ◌≤◌, [], length, vec_capacity, IfErr, IfOk, MatchResult};
-ghost use Rattle.kahn_pool.specs.inner.Below.{AreIdle, IsInRange, IsLack, IsRight, cells_of, inputs_of, network_of, stream_lines};
+ghost use Rattle.kahn_pool.specs.inner.Below.{IsInRange, IsLack, IsRight, cells_of, inputs_of, network_of};
 ghost use Rattle.kahn_pool.specs.Limits.{IsWant};
-ghost use Rattle.kahn_pool.specs.inner.Bench.{AreStreams};
-ghost use Rattle.kahn_pool.specs.inner.Holding.{AreHeldBy, HasEnded, held_state};
+ghost use Rattle.kahn_pool.specs.inner.Holding.{AreHeldBy, HasEnded};
 ghost use Rattle.kahn_pool.specs.inner.Workbench.{AreKeptOf, AreStreamsReady};
 
 use crate::part::{Part, PartRoom, Stopped, first_idles, run_part};
@@ -29,29 +28,11 @@ fn all_kept(idles: Vec<Idle>, mut kept: Vec<Kept>) -> Vec<Kept>
     kept
 }
 
-// The streams of the answer: what the cells kept.
-fn streams_of(
-    network: &Network,
-    _input: &Input,
-    _watch: Option<usize>,
-    idles: Vec<Idle>,
-    mut streams: Vec<Stream>,
-    kept: Vec<Kept>,
-) -> Vec<Stream>
-    requires idle { AreIdle network.now _input.now idles.items }
-    requires ready { AreStreamsReady network.now _input.now _watch streams.items kept.items (vec_capacity kept) }
-    ensures { AreStreams (held_state network.now _input.now _watch idles.items) result.items (stream_lines (network_of network.now) _watch) }
-{
-    let mut kept = all_kept(idles, kept);
-    fill(network, &mut streams, &mut kept);
-    streams
-}
-
 // The answer of a part that is a whole run. It never allocates: the room is given.
 fn answered(
     part: &Part<'_>,
     stopped: Stopped,
-    streams: Vec<Stream>,
+    mut streams: Vec<Stream>,
     kept: Vec<Kept>,
 ) -> Result<Answer, CrewFault>
     requires held { AreHeldBy part.now stopped.idles.items stopped.budget }
@@ -60,14 +41,17 @@ fn answered(
     ensures right { IfOk result (IsRight (network_of part.now.network.now) (inputs_of part.now.input.now) part.now.plan.bound part.now.plan.watch) }
     ensures lack { IfErr result (IsLack part.now.plan.workers) }
 {
-    let (network, input, watch) = (part.network, part.input, part.plan.watch);
     match stopped.outcome {
-        Ok(verdict) => Ok(Answer {
-            verdict,
-            streams: streams_of(network, input, watch, stopped.idles, streams, kept),
-            ends: stopped.ends,
-            events: part.plan.bound - stopped.budget,
-        }),
+        Ok(verdict) => {
+            let mut kept = all_kept(stopped.idles, kept);
+            fill(part.network, &mut streams, &mut kept);
+            Ok(Answer {
+                verdict,
+                streams,
+                ends: stopped.ends,
+                events: part.plan.bound - stopped.budget,
+            })
+        }
         Err(fault) => Err(fault),
     }
 }

@@ -7,7 +7,7 @@ pub use Rattle.kahn_code.specs.Told.{IsAt, Told, told_view}
 pub use Rattle.kahn_code.specs.declared.{cell.Kept.Kept, progress.Pause.Pause}
 pub use Rattle.kahn_code.specs.inner.Gone.{Gone, kept_behind, nothing_gone}
 pub use Rattle.kahn_code.specs.inner.Tapped.{HasForgotten, Tapped}
-pub use Rattle.kahn_crew.specs.declared.{closing.Left.Left, run.Plan.Plan}
+pub use Rattle.kahn_crew.specs.declared.{closing.Left.Left, fault.CrewFault.TheVariants.NoMemory, run.Plan.Plan}
 pub use Rattle.kahn_crew.specs.inner.Left.{AreAll, HaveGone, IsLack, IsOver}
 pub use Rattle.kahn_crew.specs.inner.Tasks.{handed_to_task}
 pub use Rattle.kahn_job.specs.declared.{standing.Standing.Standing}
@@ -29,4 +29,4 @@ pub use Rattle.kahn_streams.specs.Solution.{AreInputsExtended, HasSize, Inputs, 
 pub use Rattle.kahn_streams.specs.Syntax.{prints_in}
 pub use Rattle.kahn_streams.specs.Tokens.{IsOwn, token_value}
 pub use Rattle.kahn_streams.specs.Wiring.{IsWellWired}
-pub use Rattle.kahn_streams.specs.declared.{answer.Answer.Answer, answer.End.End, answer.Outcome.Outcome, answer.Outcome.TheVariants.Ended, answer.Outcome.TheVariants.Faulted, answer.Outcome.TheVariants.More, answer.Outcome.TheVariants.Waits, answer.Stream.Stream, answer.Verdict.TheVariants.Bound, answer.Verdict.TheVariants.Finished, answer.Verdict.TheVariants.Memory, answer.Verdict.Verdict, config.Config.Config, fault.RunFault.RunFault, fault.RunFault.TheVariants.UnknownWatch, feeds.FeedFault.FeedFault, feeds.FeedFault.TheVariants.NotAnInput, feeds.FeedFault.TheVariants.TooMany, feeds.FeedFault.TheVariants.UnknownName, feeds.FeedFault.TheVariants.WrongKind, token.Token.Token, tree.Program.Program, tree.Role.TheVariants.Input, value.Line.Line, value.Line.TheVariants.Channel, value.Line.TheVariants.Print, value.Value.Value}
+pub use Rattle.kahn_streams.specs.declared.{answer.Answer.Answer, answer.End.End, answer.Outcome.Outcome, answer.Outcome.TheVariants.Ended, answer.Outcome.TheVariants.Faulted, answer.Outcome.TheVariants.More, answer.Outcome.TheVariants.Waits, answer.Stream.Stream, answer.Verdict.TheVariants.Bound, answer.Verdict.TheVariants.Finished, answer.Verdict.TheVariants.Memory, answer.Verdict.Verdict, config.Config.Config, fault.RunFault.RunFault, fault.RunFault.TheVariants.UnknownWatch, feeds.FeedFault.FeedFault, feeds.FeedFault.TheVariants.TooMany, token.Token.Token, tree.Program.Program, tree.Role.TheVariants.Input, value.Line.Line, value.Line.TheVariants.Channel, value.Line.TheVariants.Print, value.Value.Value}

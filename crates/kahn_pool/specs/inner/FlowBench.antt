@@ -1,9 +1,9 @@
 -- Inner. A flow over a bench: what contracts see of it, and what its type keeps.
 use Rattle.std.specs.Prelude.{◌≡◌, ℕ, ◌+◌, ◌-◌, ◌<◌, ◌≤◌, ◌^◌, Bool, List, [], ◌++◌, length, map, sum_by, take, Option, Some, slice_index_or}
-use Rattle.kahn_pool.specs.inner.Below.{Channel, End, Given, Input, Line, Nobody, Plan, Print, Program, Queues, Source, Token, Value, Verdict, Written, inputs_of, instance_at, network_of, nothing_gone, role_at, source, stream_lines, token_value, tokens}
+use Rattle.kahn_pool.specs.inner.Below.{Channel, End, Given, Input, Line, Nobody, Plan, Print, Program, Source, Token, Value, Verdict, Written, inputs_of, instance_at, network_of, nothing_gone, role_at, source, stream_lines, token_value, tokens}
 use Rattle.kahn_pool.specs.HeldRuns.{HeldRun, seen_events, seen_of, writing}
 use Rattle.kahn_pool.specs.inner.Bench.{IsConcluded, LacksMemory}
-use Rattle.kahn_pool.specs.declared.part_alone.PartEnd.{PartEnd}
+use Rattle.kahn_pool.specs.declared.rounds.PartEnd.{PartEnd}
 use Rattle.kahn_pool.specs.inner.Holding.{AreEnded, run_with}
 use Rattle.kahn_pool.specs.inner.Workbench.{Table, sight_of}
 use Rattle.kahn_pool.specs.Flows.{Flowing}
@@ -11,10 +11,6 @@ use Rattle.kahn_pool.specs.Flows.{Flowing}
 -- what contracts see of the run of a bench: all that its taps ever kept
 abbrev pub run_of_bench : Table → Plan → Option Verdict → HeldRun
 run_of_bench b plan verdict = run_with b.network b.input b.watch plan b.cells verdict
-
--- of each channel how many values wait
-abbrev pub waits_of : Queues → List ℕ
-waits_of q = map (λ w. w.waiting) q.queues
 
 -- what was let go of the stream of a line, by its source; of a watched input channel all but the last n values were
 abbrev pub let_go_by : Table → ℕ → Source → Line → List Value
@@ -31,15 +27,12 @@ let_go_of b n = map (λ c. let_go_by b n (source (network_of b.network) c) c) (s
 
 -- what contracts see of the flow of a bench
 abbrev pub flow_of : Table → Plan → Option Verdict → ℕ → Flowing
-flow_of b plan verdict n = record { run = run_of_bench b plan verdict; out = let_go_of b n; waits = waits_of b.queues }
-
--- these tokens are at the end of the list
-abbrev pub AreLast : List Value → List Token → Type 0
-AreLast vs ts = (front : List Value) × (vs ≡ front ++ map token_value ts)
+flow_of b plan verdict n = record { run = run_of_bench b plan verdict; out = let_go_of b n; waits = map (λ w. w.waiting) b.queues.queues }
 
 -- the tokens that are lent of a watched input channel: the last ones of its list
 abbrev pub AreLent : Table → List Token → Type 0
-AreLent b ts = (c : ℕ) → b.watch ≡ Some c → role_at (network_of b.network) c ≡ Input → AreLast (inputs_of b.input c) ts
+AreLent b ts =
+    (c : ℕ) → b.watch ≡ Some c → role_at (network_of b.network) c ≡ Input → (front : List Value) × (inputs_of b.input c ≡ front ++ map token_value ts)
 
 -- all that the type keeps of this network by this plan: so much is left of the bound, there is room for so many ends, and where there
 -- is a verdict, it and the ends are those of the last part. That each tap stands where it says is told by the tap

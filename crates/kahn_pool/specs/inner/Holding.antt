@@ -1,15 +1,11 @@
 -- Inner. The jobs of a held run.
 use Rattle.std.specs.Prelude.{◌≡◌, ℕ, ◌+◌, ◌<◌, ◌≤◌, ◌^◌, Bool, List, [], length, map, sum_by, Option, Some, None, Err, MatchResult, slice_get, vec_capacity}
-use Rattle.kahn_pool.specs.inner.Below.{AreIdle, AreInputsExtended, End, HaveGone, IsInRange, IsLack, Left, Lists, Plan, Program, Tasked, Token, Told, Verdict, View, Work, cells_of, inputs_of, network_of, told_view}
+use Rattle.kahn_pool.specs.inner.Below.{AreIdle, AreInputsExtended, End, HaveGone, IsInRange, IsLack, Left, Lists, NoMemory, Plan, Program, Tasked, Token, Told, Verdict, Work, cells_of, inputs_of, network_of, told_view}
 use Rattle.kahn_pool.specs.HeldRuns.{HeldRun, seen_events, seen_of}
 use Rattle.kahn_pool.specs.inner.Bench.{IsConcluded, RunState}
 use Rattle.kahn_pool.specs.inner.Streams.{AreAllGiven, AreGiven}
 use Rattle.kahn_pool.specs.inner.Workbench.{AllStandBy}
 use Rattle.kahn_pool.specs.declared.{part.Part.Part, part.PartRoom.PartRoom, part.Stopped.Stopped}
-use Rattle.kahn_crew.specs.declared.{fault.CrewFault.TheVariants.NoMemory}
-
-abbrev pub cells_seen : List Work → List View
-cells_seen ws = map told_view (cells_of ws)
 
 -- the cell without its input
 abbrev pub cell_alone : Told → Told
@@ -17,16 +13,12 @@ cell_alone c = record c { input = [] }
 
 -- what rounds see of the jobs
 abbrev pub held_state : Program → Lists → Option ℕ → List Work → RunState
-held_state t lists watch ws = record { network = network_of t; input = inputs_of lists; watch = watch; cells = cells_seen ws }
-
--- each cell keeps what goes to the watched channel
-abbrev pub AreWatched : Option ℕ → List Told → Type 0
-AreWatched watch cells = (p : ℕ) (c : Told) → slice_get cells p ≡ Some c → c.watch ≡ watch
+held_state t lists watch ws = record { network = network_of t; input = inputs_of lists; watch = watch; cells = map told_view (cells_of ws) }
 
 -- the jobs of all instances at rest, with so much left of the bound; what each cell says is true of its process
 pub record AreHeld (t : Program) (lists : Lists) (watch : Option ℕ) (bound : ℕ) (ws : List Work) (budget : ℕ) : Type 0 where
   pub idle : AreIdle t lists ws
-  pub watched : AreWatched watch (cells_of ws)
+  pub watched : (p : ℕ) (c : Told) → slice_get (cells_of ws) p ≡ Some c → c.watch ≡ watch
   pub stood : AllStandBy t watch (cells_of ws)
   pub events : budget + sum_by seen_events (map seen_of (cells_of ws)) ≡ bound
 
@@ -82,10 +74,6 @@ pub record HaveAllLeft (part : Part) (left : Left) : Type 0 where
   pub bounded : part.plan.bound < 2 ^ 48
   pub first : List Tasked
   pub gone : HaveGone part.network.now part.input.now part.plan.watch part.plan.bound first left.tasks.items left.budget
-
--- so a part that is over has stopped, with this verdict
-abbrev pub IsConclusion : Part → Bool → Verdict → Stopped → Type 0
-IsConclusion part halted v r = IsConcluded (held_state part.network.now part.input.now part.plan.watch r.idles.items) part.plan.bound r.budget halted v r.ends.items
 
 -- so it ended: with a verdict, it and the ends are those of the jobs, or else it was refused
 abbrev pub HasEnded : Program → Lists → Option ℕ → ℕ → ℕ → Stopped → Type 0

@@ -1,30 +1,12 @@
 -- Inner. How tasks stand when no more is run, and what stands in the answer for each.
-use Rattle.std.specs.Prelude.{◌≡◌, ◌⊎◌, ℕ, ◌<◌, ◌^◌, List, length, map, Option, Some, slice_get}
+use Rattle.std.specs.Prelude.{◌≡◌, ◌⊎◌, ℕ, ◌<◌, ◌^◌, List, length, Some, slice_get}
 use Rattle.kahn_pool.specs.inner.Below.{AreAll, Continues, Cut, Dry, End, IsJob, IsReady, IsWithinInput, Lists, Outcome, Paused, Program, Reads, Standing, Store, Tasked, TellsOutcome, Told, Work, actual_at, count, end_at, handed_to_task, inputs_of, instance_at, network_of, told_view}
 use Rattle.kahn_streams.specs.Script as script
 use Rattle.kahn_job.specs.declared.standing.Standing.TheVariants as standing
-use Rattle.kahn_pool.specs.inner.Bench.{RunState}
 use Rattle.kahn_streams.specs.declared.answer.Outcome.TheVariants as outcome
 
 abbrev pub cell_of : Tasked → Told
 cell_of x = x.work.cell
-
--- what rounds see of the tasks
-abbrev pub state_of_tasks : Program → Lists → Option ℕ → List Tasked → RunState
-state_of_tasks t lists watch tasks =
-    record { network = network_of t; input = inputs_of lists; watch = watch; cells = map told_view (map cell_of tasks) }
-
--- the task is that of instance p
-pub record IsInstanceTask (t : Program) (lists : Lists) (watch : Option ℕ) (p : ℕ) (x : Tasked) : Type 0 where
-  pub network : x.work.cell.network ≡ t
-  pub input : x.work.cell.input ≡ lists
-  pub instance : x.work.cell.instance ≡ p
-  pub watched : x.work.cell.watch ≡ watch
-
--- the tasks of all instances, in order
-pub record AreTasks (t : Program) (lists : Lists) (watch : Option ℕ) (tasks : List Tasked) : Type 0 where
-  pub count : length tasks ≡ length (network_of t).instances
-  pub each : (p : ℕ) (x : Tasked) → slice_get tasks p ≡ Some x → IsInstanceTask t lists watch p x
 
 -- what it says of the outcome of a process that no more is run: where it may go on it has a next event, or a token is
 -- ready on the channel that it reads
@@ -32,16 +14,13 @@ abbrev pub IsSaid : Work → Standing → script.Outcome Store → Type 0
 IsSaid w standing.Going o = (o ≡ Cut) ⊎ ((q d : ℕ) × (handed_to_task w q ≡ Reads d) × (o ≡ Dry q) × IsReady (end_at w.ends q))
 IsSaid w s o = TellsOutcome s o
 
-abbrev pub Says : Work → Standing → Type 0
-Says w s =
-    Paused (network_of w.cell.network) (inputs_of w.cell.input) w.cell.watch w.cell.instance (told_view w.cell) (IsSaid w s)
-
 -- the code, the network and the input are those of the task, and it did few events
 abbrev pub IsLentTo : Program → Program → Lists → Tasked → Type 0
 IsLentTo compiled t lists x = (compiled ≡ x.work.cell.network) × (t ≡ x.work.cell.network) × (lists ≡ x.work.cell.input) × (x.work.cell.events < 2 ^ 48)
 
 pub record IsSettledTask (x : Tasked) : Type 0 where
-  pub says : Says x.work x.standing
+  pub says :
+      Paused (network_of x.work.cell.network) (inputs_of x.work.cell.input) x.work.cell.watch x.work.cell.instance (told_view x.work.cell) (IsSaid x.work x.standing)
   pub job : IsJob x.work
   pub fed : (q : ℕ) → IsWithinInput (end_at x.work.ends q)
 

@@ -1,7 +1,11 @@
 -- Inner. The streams of an answer, and the lists from which they are filled.
 use Rattle.std.specs.Prelude.{◌≡◌, ℕ, ◌<◌, List, [], length, map, Option, Some, slice_get, slice_index_or}
 use Rattle.kahn_pool.specs.inner.Below.{AreKeptTokens, Channel, Given, Input, Inputs, IsOwn, IsPrefix, Kept, Line, Network, Nobody, Print, Source, Stream, Token, Value, Writes, Written, actual_at, instance_at, role_at, source, stream_line, stream_lines, token_value}
-use Rattle.kahn_pool.specs.inner.Changed.{HaveChanged}
+
+-- each item of the first list became so that of the second at its place
+pub record HaveChanged {X : Type 0} (R : X → X → Type 0) (old new : List X) : Type 0 where
+  pub count : length new ≡ length old
+  pub each : (p : ℕ) (x y : X) → slice_get old p ≡ Some x → slice_get new p ≡ Some y → R x y
 
 -- the lines of the streams, for some watched channel
 abbrev pub AreNamed : Network → List Stream → Type 0
@@ -11,10 +15,6 @@ AreNamed N streams = (watch : Option ℕ) × (map stream_line streams ≡ stream
 abbrev pub IsDeclared : Network → Line → Type 0
 IsDeclared N (Channel c) = c < length N.channels
 IsDeclared N (Print p) = p < length N.instances
-
--- the stream has no tokens yet
-abbrev pub IsBare : Stream → Type 0
-IsBare x = x.tokens.items ≡ []
 
 -- the tokens of a stream became others, which is right for the source of its line
 abbrev pub HasBecome : Network → (Source → Line → List Token → List Token → Type 0) → Stream → Stream → Type 0

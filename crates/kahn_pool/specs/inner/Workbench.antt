@@ -139,13 +139,9 @@ all_of c = record { kept = c.kept; printed = c.printed }
 
 -- all that the cells kept is let go of, of each at its place, and nothing else changes
 pub record HasEmptied (old new : Table) : Type 0 where
-  pub network : new.network ≡ old.network
-  pub input : new.input ≡ old.input
-  pub watch : new.watch ≡ old.watch
-  pub gone : new.gone ≡ map all_of old.cells
+  pub rest : new ≡ record old { cells = new.cells; gone = map all_of old.cells }
   pub views : map told_view new.cells ≡ map told_view old.cells
   pub seen : map seen_of new.cells ≡ map seen_of old.cells
-  pub queues : new.queues ≡ old.queues
 
 -- these tokens are what instance p kept on parameter q since that was last let go of
 abbrev pub HasFresh : Table → ℕ → ℕ → List Token → Type 0
@@ -155,19 +151,13 @@ HasFresh b p q ts = tokens (seen_at (map seen_of b.cells) p).kept q ≡ tokens (
 abbrev pub HasFreshPrints : Table → ℕ → List Token → Type 0
 HasFreshPrints b p ts = (seen_at (map seen_of b.cells) p).printed ≡ (slice_index_or b.gone p nothing_gone).printed ++ ts
 
--- how many values wait on channel c, and how many its list has
-abbrev pub waiting_at : Table → ℕ → ℕ
-waiting_at b c = waiting_of (slice_get b.queues.queues c)
-
-abbrev pub given_at : Table → ℕ → ℕ
-given_at b c = length (inputs_of b.input c)
-
 -- n values more of channel c may be poured, and that is the place of the first; or they may not be
 abbrev pub IsNextPlace : Table → ℕ → ℕ → ℕ → Type 0
-IsNextPlace b c n place = (waiting_at b c + n ≤ most_values) × (given_at b c + n < 2 ^ 48) × (place ≡ given_at b c)
+IsNextPlace b c n place =
+    (waiting_of (slice_get b.queues.queues c) + n ≤ most_values) × (length (inputs_of b.input c) + n < 2 ^ 48) × (place ≡ length (inputs_of b.input c))
 
 abbrev pub IsCrowded : Table → ℕ → ℕ → Type 0
-IsCrowded b c n = (most_values < waiting_at b c + n) ⊎ (2 ^ 48 ≤ given_at b c + n)
+IsCrowded b c n = (most_values < waiting_of (slice_get b.queues.queues c) + n) ⊎ (2 ^ 48 ≤ length (inputs_of b.input c) + n)
 
 -- the cell is that of instance p, and stands where the queues stand
 pub record IsSeated (b : Table) (p : ℕ) (c : Told) : Type 0 where

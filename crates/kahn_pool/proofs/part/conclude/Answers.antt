@@ -48,9 +48,11 @@ returns-clause-ended g c =
     let behind : (d : ℕ) → AreBehindOn (network_of t.network.now) (task_rows new) d = λ d. subst (λ l. AreBehindOn (network_of t.network.now) (rows_of l) d) same (c.meet.ensures.behind d) in
     let are : AreEndsOfTasks t.network.now t.input.now new c.ends_of-ends.result.items (length new) =
     subst (λ (l : List Tasked). AreEndsOfTasks t.network.now t.input.now l c.ends_of-ends.result.items (length l)) c.deref.ensures.value c.ends_of-ends.ensures in
-    let rule = subst (λ xs. IsVerdict c.args.left.halted xs c.verdict_of-verdict.result) c.deref-2.ensures.value c.verdict_of-verdict.ensures in
-    held_concluded wired gone asked same c.meet.result.items met.cells
-    (concluded wired (tasks_new gone asked) (settled_new gone asked) (events_new gone asked) (over_new gone asked c.requires.over) behind are rule)
+    let rule = subst (λ xs. IsVerdict c.args.left.halted xs c.verdict_of-verdict.result) c.deref-2.ensures.value c.verdict_of-verdict.ensures in (
+      c.args.left.halted,
+      held_concluded wired gone asked same c.meet.result.items met.cells
+          (concluded wired (tasks_new gone asked) (settled_new gone asked) (events_new gone asked) (over_new gone asked c.requires.over) behind are rule),
+    )
 
 pub returns-clause-cells : goal.returns-clause-cells
 returns-clause-cells g c = c.meet.ensures.met.cells ∙ cells_after c.program-program.ensures.wired c.requires.left.gone c.settle_all.ensures c.rest_all-idles.ensures.same

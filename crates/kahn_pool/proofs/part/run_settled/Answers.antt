@@ -48,7 +48,7 @@ give_up-requires-clause-left g c =
     }
 
 pub returns-in-Ok : goal.returns-in-Ok
-returns-in-Ok g c = ended_so c.args.part.now c.args.idles.items c.conclude.result c.in-Ok.left.halted c.conclude.ensures.held c.conclude.ensures.ended c.conclude.ensures.is_one
+returns-in-Ok g c = ended_so c.args.part.now c.args.idles.items c.conclude.result c.conclude.ensures.held c.conclude.ensures.ended c.conclude.ensures.is_one
     (have_risen c.requires.part.held c.wake_all-tasks.ensures c.in-Ok.ensures.gone c.conclude.result.idles.items c.conclude.ensures.cells)
 
 pub returns : goal.returns

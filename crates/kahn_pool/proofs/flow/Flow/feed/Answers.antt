@@ -29,9 +29,9 @@ returns-in_err-poured c =
     rw (p.1, p.2) (same, meant)
 
 pub lend-requires-clause-here : goal.lend-requires-clause-here
-lend-requires-clause-here c k v f = by c.is_watched-lends.result refl
+lend-requires-clause-here c k v f = by (is_watched c.self.inside.plan.watch c.in_ok-number.number) refl
   where
-    by : (b : Bool) → c.is_watched-lends.result ≡ b → slice_get (inputs_of c.pour-poured.new.self.input c.in_ok-number.number) (c.in-Some.place + k) ≡ Some v
+    by : (b : Bool) → is_watched c.self.inside.plan.watch c.in_ok-number.number ≡ b → slice_get (inputs_of c.pour-poured.new.self.input c.in_ok-number.number) (c.in-Some.place + k) ≡ Some v
     by true e =
         let b = c.self.inside.bench in
         let number = c.in_ok-number.number in
@@ -51,7 +51,7 @@ invariant_of-self-2 c =
     let vs = c.args.values.now in
     let h = c.in_ok-poured.ensures.poured in
     let lent = c.lent_of-lent.ensures in
-    let is = c.is_watched-lends.ensures ∙ ap (λ w. is_watched w number) (sym c.self.invariant.watch) in
+    let is = ap (λ w. is_watched w number) (sym c.self.invariant.watch) in
     flow_stays c.self.invariant d h.network h.watch h.seen None tt c.lend.new.tokens.items
     (poured_lent b d number vs (poured_lists number vs b.input) (is_poured number vs b.input) h i.given.items c.lend.new.tokens.items c.self.invariant.lent c.lent_of-lent.result.now
     (λ e. lent.all (is ∙ e)) (λ e. lent.none (is ∙ e)) (c.lend.ensures ∙ ap (λ (l : List Token). map token_value l ++ c.lent_of-lent.result.now) c.make_room.ensures.items))
@@ -66,7 +66,7 @@ returns c =
     let us = c.lend.new.tokens.items in
     let entry : Entry = (c.args.channel.now, vs) in
     let lent = c.lent_of-lent.ensures in
-    let is = c.is_watched-lends.ensures ∙ ap (λ w. is_watched w number) (sym c.self.invariant.watch) in
+    let is = ap (λ w. is_watched w number) (sym c.self.invariant.watch) in
     let named = c.in_ok-number.ensures.0 ∙ ap (λ t. channel_of t entry) (sym c.self.invariant.network) in
     let meant = subst (λ t. IsMeant t entry) (sym c.self.invariant.network) c.in_ok-number.ensures.1 in
     subst (λ (f : Flowing). HasPouredIn entry f (flow_of d i.plan None (length us))) c.self.view_is

@@ -12,9 +12,9 @@ give_watched-requires c =
 
 pub invariant_of-result : goal.invariant_of-result
 invariant_of-result c =
-    let range : IsInRange c.args.config.workers c.args.config.quantum c.args.config.bound = search rules in
-    let p = c.plan_of-plan.ensures in
-    let r : IsInRange c.plan_of-plan.result.workers c.plan_of-plan.result.quantum c.plan_of-plan.result.bound = rw (p.workers, p.quantum, p.bound) range in
+    let p = c.in_ok-plan.ensures in
+    let plan = c.in_ok-plan.plan in
+    let r : IsInRange plan.workers plan.quantum plan.bound = rw (p.workers, p.rest.0, p.rest.1) p.allowed in
     let b = c.in_ok-bench.bench in
     let e = c.in_ok-bench.ensures in
     let fresh = e.fresh in
@@ -22,7 +22,7 @@ invariant_of-result c =
     let all = subst (λ (x : Program × Lists × Option ℕ). AreAllGiven (network_of x.0) (inputs_of x.1) x.2 ts) (λ i. (sym e.names.0 i, sym e.names.1 i, sym e.names.2 i))
     c.in_ok-give_watched.ensures.all in record {
       network = e.names.0;
-      watch = e.names.2 ∙ sym p.watch;
+      watch = e.names.2;
       some = let q = r.2 in omega (arith, q);
       left = let s = events_seen b.cells in omega (arith, fresh, s);
       few = r.4;
@@ -33,8 +33,7 @@ invariant_of-result c =
 
 pub returns : goal.returns
 returns c =
-    let range : IsInRange c.args.config.workers c.args.config.quantum c.args.config.bound = search rules in
-    let p = c.plan_of-plan.ensures in
+    let p = c.in_ok-plan.ensures in
     let b = c.in_ok-bench.bench in
     let e = c.in_ok-bench.ensures in
     let ts = c.give_watched.new.tokens.items in
@@ -42,13 +41,13 @@ returns c =
     c.in_ok-give_watched.ensures.all in
     record {
       run = record {
-        allowed = range;
-        watched = subst (IsWatched c.args.network.now c.args.config.watch) (sym e.names.2) c.in_ok-watch.ensures;
+        allowed = p.allowed;
+        watched = subst (IsWatched c.args.network.now c.args.config.watch) (sym e.names.2) p.watched;
         network = e.names.0;
         input = e.names.1;
         workers = p.workers;
-        quantum = p.quantum;
-        bound = p.bound;
+        quantum = p.rest.0;
+        bound = p.rest.1;
         none = none_done b.cells (events_seen b.cells ∙ e.fresh);
         unsettled = refl;
       };

@@ -1,7 +1,7 @@
 use Rattle.std.proofs.Common.{◌≡◌, Some, refl, sym, ap, ◌∙◌, subst, slice_get}
 use Rattle.kahn_pool.proofs.Common.{channel_names, IsUndeclared, IsWatched}
 use Rattle.kahn_pool.proofs.Watching.{named_nowhere, named_there}
-use Rattle.kahn_pool.proofs.running.watched.Goals as goal
+use Rattle.kahn_pool.proofs.plan.watched.Goals as goal
 
 pub returns-in-Some-channel_named : goal.returns-in-Some-channel_named
 returns-in-Some-channel_named c =

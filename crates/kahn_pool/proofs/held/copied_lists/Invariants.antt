@@ -1,7 +1,7 @@
 use Rattle.std.proofs.Common.{◌≡◌, ◌≤◌, length, take}
 use Rattle.kahn_pool.proofs.Common.{cells_of, AreKeptOf}
 use Rattle.std.specs.Vec.{vec_capacity}
-use Rattle.kahn_pool.proofs.copies.copied_lists.Given as goal
+use Rattle.kahn_pool.proofs.held.copied_lists.Given as goal
 
 abbrev pub invariant-loop-instance : goal.invariant-loop-instance
 invariant-loop-instance l =

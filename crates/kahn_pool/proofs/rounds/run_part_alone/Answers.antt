@@ -1,6 +1,7 @@
 use Rattle.std.proofs.Common.{◌+◌, subst}
 use Rattle.kahn_pool.proofs.Common.{HasComeToRest, IsLast, IsVerdict, all_events, sight_of}
-use Rattle.kahn_pool.proofs.part_alone.run_part_alone.Goals as goal
+use Rattle.kahn_pool.proofs.Benched.{within}
+use Rattle.kahn_pool.proofs.rounds.run_part_alone.Goals as goal
 
 pub returns-clause-concluded : goal.returns-clause-concluded
 returns-clause-concluded g c =
@@ -10,7 +11,7 @@ returns-clause-concluded g c =
       record {
         last = subst (λ n. IsLast (sight_of c.last_round.new.bench) (all_events (sight_of c.args.bench.now) + n) last.left last.memory last.ends.items) c.new-first.ensures.same.1 ended.last;
         rule = subst (λ ends. IsVerdict last.memory ends c.verdict_of-verdict.result) c.deref.ensures.value c.verdict_of-verdict.ensures;
-        within = c.within.ensures;
+        within = within _ c.stood.ensures.laid c.stood.ensures.counted;
       },
       ended.advanced.may.lacks,
     )
