@@ -1,2 +1,4 @@
 pub mod Joined
 mod Rows
+mod Shown
+mod Unsaid
