@@ -1,3 +1,4 @@
+mod Feeds
 pub mod Joined
 mod Rows
 mod Shown
