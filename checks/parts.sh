@@ -94,6 +94,7 @@ try_programs() {
   beside "changes that mend random texts" timeout 300 python3 fuzz/mends.py "$KAHN_EXPLAIN" 200
   beside "what may stand in random texts" timeout 300 python3 fuzz/sets.py "$KAHN_EXPLAIN" 150
   beside "why random networks stop" timeout 300 python3 fuzz/causes.py "$KAHN_EXPLAIN" "$KAHN" 150
+  beside "random programs, line by line" timeout 300 python3 fuzz/live.py "$KAHN_LIVE" "$KAHN" 200
   if [ -x "${KAHN_CROWD:-}" ]; then
     beside "rows, by workers that begin at once" bash checks/rows.sh "$KAHN_CROWD"
     beside "random programs, by workers that begin at once" python3 fuzz/fuzz.py "$KAHN_CROWD" 300

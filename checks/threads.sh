@@ -18,16 +18,19 @@ is_refused() {
 }
 
 # refuse RUNNER PROGRAM WORKERS STARTED: so many threads run the network; with each of them refused in turn, and with each of the next
-# eight, which write the report where it is long, or aren't started.
+# eight, which write the report where it is long (counted in beside), or aren't started.
 refuse() {
   local number status
+  beside=0
   for number in $(seq 1 $(($4 + 8))); do
-    FAIL_AT=$number LD_PRELOAD="$work/refuse.so" timeout 60 "$1" --workers "$3" "$2" > "$work/report" 2> "$work/fault"
+    rm -f "$work/refused"
+    FAIL_AT=$number REFUSED="$work/refused" LD_PRELOAD="$work/refuse.so" timeout 60 "$1" --workers "$3" "$2" > "$work/report" 2> "$work/fault"
     status=$?
     if [ "$number" -le "$4" ] && is_refused $status; then
       refused=$((refused + 1))
       pass
     elif [ "$number" -gt "$4" ] && [ $status = 0 ] && cmp -s "${2%.kahn}.report" "$work/report"; then
+      if [ -e "$work/refused" ]; then beside=$((beside + 1)); fi
       pass
     else
       fail "$(basename "$1") $(basename "$2") with thread $number of $3 workers refused: status $status, $(head -c 300 "$work/fault")"
@@ -51,15 +54,16 @@ refuse_held() {
 cat > "$work/long.kahn" <<'P'
 begin integer output channel X, Y, Z;
   process count(integer out W; integer N);
-  begin integer I; while I < N do I := I + 1; send I on W end;
-  count(X, 50000) par count(Y, 50000) par count(Z, 50000)
+  begin integer I; while I < N do begin I := I + 1; send I on W end end;
+  count(X, 160000) par count(Y, 160000) par count(Z, 160000)
 end
 P
 "$kahn" --workers 1 "$work/long.kahn" > "$work/long.report" || fail "three long counts"
-# three instances, so three workers, where so many run side by side; and 150,000 values, which several threads put into text
+# three instances, so three workers, where so many run side by side; and 480,000 values, which several threads put into text
 for workers in 1 2 3 16; do
   most=$(printf '%d\n' "$workers" 3 "$(nproc)" | sort -n | head -n 1)
   refuse "$kahn" "$work/long.kahn" $workers $((most - 1))
+  [ $beside -ge $((most - 1)) ] || fail "$beside threads of $workers workers write the long report"
 done
 
 for program in "$top"/examples/*.kahn; do

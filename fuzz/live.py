@@ -1,0 +1,114 @@
+"""Random programs whose inputs come in lines: what the built kahn_live prints, against the report of kahn on the same values.
+
+    live.py KAHN_LIVE KAHN [COUNT] [SEED]     the same seed makes the same texts; where none is given it is chosen at random
+
+The values of all input channels come in lines of one to four, in any order. What is printed of a stream, line after line, has to be a
+beginning of it; where both have finished streams, ends and events have to be the same. A difference is printed, and its texts are kept.
+"""
+import os
+import random
+import subprocess
+import sys
+import tempfile
+from concurrent.futures import ThreadPoolExecutor
+
+sys.dont_write_bytecode = True
+sys.path.insert(0, os.path.dirname(os.path.abspath(__file__)))
+import causes
+import fuzz
+import reference as ref
+
+ENOUGH = 100000
+
+
+def case(seed):
+    """A program with values on its input channels, these as an input text, and as lines in which they come one after the other."""
+    rng = random.Random(seed)
+    while True:
+        maker = rng.choice((causes.Maker, fuzz.Maker))(rng)
+        text = maker.program()
+        try:
+            checked = ref.Checker(ref.Parser(ref.lex(text.encode()), len(text.encode())).program())
+            source = maker.input()
+            left = {c: [str(v).lower() for v in values] for c, values in ref.input_of(checked, source.encode()).items() if values}
+        except ref.Fault:
+            continue
+        lines = []
+        while left:
+            c, most = rng.choice(list(left)), rng.randint(1, 4)
+            lines.append(f"{checked.channels[c][0]}: {' '.join(left[c][:most])}\n")
+            left[c] = left[c][most:]
+            left = {c: values for c, values in left.items() if values}
+        if lines:
+            return text, source, "".join(lines), rng.choice((ENOUGH, ENOUGH, 1000, 3))
+
+
+def read(report):
+    """The values of each stream by what stands before the colon, the ends, and the last line."""
+    streams, ends, last = {}, [], ""
+    for line in report.split("\n"):
+        if line.startswith("end "):
+            ends.append(line)
+        elif line.startswith(("finished", "stopped")):
+            last = line
+        elif ":" in line:
+            name, values = line.split(":", 1)
+            streams.setdefault(name, []).extend(values.split())
+    return {name: values for name, values in streams.items() if values}, ends, last
+
+
+def difference(ran, whole, step):
+    """What is wrong with a live run, or None."""
+    (streams, ends, last), (solution, ends_then, last_then) = read(ran.stdout.decode()), read(whole)
+    finished = [it.startswith("finished") for it in (last, last_then)]
+    if ran.returncode != (0 if finished[0] else 3):
+        return f"status {ran.returncode}, {ran.stderr[:300]!r}"
+    if all(finished) and (streams, ends, last) != (solution, ends_then, last_then):
+        return f"{streams} {ends} {last}, not {solution} {ends_then} {last_then}"
+    if finished[1] and step == ENOUGH and not finished[0]:
+        return f"{last}, not {last_then}"
+    for name in streams.keys() & solution.keys():
+        shorter = min(len(streams[name]), len(solution[name]))
+        if streams[name][:shorter] != solution[name][:shorter]:
+            return f"{name}: {streams[name]}, not {solution[name]}"
+    return None
+
+
+def one(live, kahn, room, seed):
+    """(what differs or None, the live run's last line or the texts' path)."""
+    text, source, lines, step = case(seed)
+    path = f"{room}/{seed}.kahn"
+    for name, content in ((path, text), (path + ".input", source), (path + ".lines", lines)):
+        with open(name, "w", encoding="utf-8", newline="") as it:
+            it.write(content)
+    words = [kahn, path, "--input", path + ".input", "--bound", str(ENOUGH), "--workers", "1"]
+    whole = subprocess.run(words, stdin=subprocess.DEVNULL, capture_output=True, timeout=60).stdout.decode()
+    ran = subprocess.run([live, path, "--step", str(step)], input=lines.encode(), capture_output=True, timeout=60)
+    what = difference(ran, whole, step)
+    if what is not None:
+        return what, f"{path} --step {step} < {path}.lines"
+    for name in ("", ".input", ".lines"):
+        os.remove(path + name)
+    return None, read(ran.stdout.decode())[2].split()[0]
+
+
+def main():
+    live, kahn, count = os.path.abspath(sys.argv[1]), os.path.abspath(sys.argv[2]), int(sys.argv[3]) if len(sys.argv) > 3 else 150
+    first = int(sys.argv[4]) if len(sys.argv) > 4 else random.randrange(10**6)
+    print(f"seed {first}", flush=True)
+    room = tempfile.mkdtemp(prefix="kahn-lines-")
+    kinds, failed, seeds = {}, 0, range(first, first + count)
+    with ThreadPoolExecutor(os.cpu_count()) as pool:
+        for seed, (what, more) in zip(seeds, pool.map(lambda seed: one(live, kahn, room, seed), seeds)):
+            if what is None:
+                kinds[more] = kinds.get(more, 0) + 1
+            else:
+                failed += 1
+                print(f"FAILED {seed}: {what}\n   {more}", flush=True)
+    for kind in sorted(kinds, key=kinds.get, reverse=True):
+        print(f"{kinds[kind]:6} {kind}")
+    return fuzz.finished(room, count - failed, failed)
+
+
+if __name__ == "__main__":
+    sys.exit(main())
