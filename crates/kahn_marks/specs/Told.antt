@@ -16,5 +16,5 @@ unsaid_text before what (suc zero) = concat (before ∷ codes "and 1 " ∷ what 
 unsaid_text before what (suc (suc n)) = counted_text before what (suc (suc n))
 
 -- the notes on the first so many of a list, and how many more there are
-abbrev pub told_text : {A : Type 0} → (List A → List ℕ) → List ℕ → List ℕ → ℕ → List A → List ℕ
-told_text notes before what most xs = notes (take most xs) ++ unsaid_text before what (length (drop most xs))
+abbrev pub first_told : {A : Type 0} → (List A → List ℕ) → List ℕ → List ℕ → ℕ → List A → List ℕ
+first_told notes before what most xs = notes (take most xs) ++ unsaid_text before what (length (drop most xs))

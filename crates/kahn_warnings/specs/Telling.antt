@@ -3,7 +3,7 @@ use Rattle.std.specs.Prelude.{◌≡◌, ℕ, ◌-◌, List, [], ◌++◌, codes
 use Rattle.kahn_streams.specs.declared.span.Span.{Span}
 use Rattle.kahn_streams.specs.declared.tree.Program.{Program}
 use Rattle.kahn_marks.specs.Marks.{marked_too, marked_warning}
-use Rattle.kahn_marks.specs.Told.{most_notes, told_text}
+use Rattle.kahn_marks.specs.Told.{most_notes, first_told}
 use Rattle.kahn_warnings.specs.Warnings.{AreWarnings}
 use Rattle.kahn_warnings.specs.declared.warning.Warning.{Warning}
 use Rattle.kahn_warnings.specs.declared.warning.WarningKind.{WarningKind}
@@ -40,7 +40,7 @@ warning_note path text w = marked_warning path text w.span (warning_words w.kind
 
 -- notes on the first warnings, and how many more there are
 abbrev pub warnings_text : List ℕ → List ℕ → List Warning → List ℕ
-warnings_text path text ws = told_text (flat_map (warning_note path text)) [] (codes "warning") most_notes ws
+warnings_text path text ws = first_told (flat_map (warning_note path text)) [] (codes "warning") most_notes ws
 
 -- the notes on what is warned of in a program of this text
 abbrev pub AreWarningNotes : List ℕ → List ℕ → Program → List ℕ → Type 0
