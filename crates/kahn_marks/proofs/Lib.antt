@@ -1,2 +1,5 @@
+mod Feeds
 pub mod Joined
 mod Rows
+mod Shown
+mod Unsaid

@@ -1,6 +1,6 @@
 //! How the characters of a source line are shown, and what stands below them.
 
-ghost use Rattle.std.specs.Prelude.{◌≡◌, ◌++◌, ◌<◌, IfOk, string_bytes};
+ghost use Rattle.std.specs.Prelude.{◌≡◌, ◌++◌, ◌<◌, ℕ, IfOk, string_bytes};
 ghost use Rattle.kahn_marks.specs.declared.columns.Row.{Row};
 ghost use Rattle.kahn_marks.specs.Marks.{columns, is_near, piece_of, row_of, shown_character};
 
@@ -27,6 +27,21 @@ fn is_near(from: usize, at: usize) -> bool
     ensures { result ≡ is_near from at }
 {
     from.saturating_sub(NEAR) <= at && at.saturating_sub(from) < NEAR
+}
+
+/// The part of a line that is enough for all of its rows, where the part that they mark begins at a byte of the line, and at
+/// which of its own bytes that begins then.
+pub(crate) fn near_part(line: &str, from: usize) -> (&str, usize)
+    ensures { (row : Row) (bytes : ℕ) → row_of row result.0.now result.1 bytes ≡ row_of row line.now from bytes }
+{
+    let start = line.floor_char_boundary(from.saturating_sub(NEAR));
+    let (_, behind) = line.split_at(start);
+    let from = from - start;
+    if behind.len().saturating_sub(NEAR) <= from {
+        return (behind, from);
+    }
+    let (near, _) = behind.split_at(behind.ceil_char_boundary(from + NEAR));
+    (near, from)
 }
 
 /// The columns that a character takes as it is shown.

@@ -5,8 +5,10 @@ mod columns;
 mod note;
 mod pieces;
 mod places;
+mod told;
 
 // For the crates above.
 pub use note::{marked, marked_too, marked_warning};
 pub use pieces::{add, add_repeated};
 pub use places::{add_spot, place};
+pub use told::{MOST_NOTES, add_more, first_ones};

@@ -3,7 +3,7 @@
 ghost use Rattle.std.specs.Prelude.{◌≡◌, ◌-◌, ◌++◌, IfOk, slice_index_or, string_bytes};
 ghost use Rattle.kahn_marks.specs.Marks.{carets_text, carets_of, heading, line_at, marked, marked_as, marked_too, marked_warning, rows_text};
 
-use crate::columns::{Row, add_row};
+use crate::columns::{Row, add_row, near_part};
 use crate::pieces::{add, add_repeated};
 use crate::places::place;
 use itoa::Buffer;
@@ -55,12 +55,13 @@ fn add_rows(
 ) -> Result<(), AllocError>
     ensures { IfOk result (λ _. string_bytes note.new ≡ string_bytes note.old ++ rows_text line.now number.now from bytes) }
 {
+    let (near, from) = near_part(line, from);
     add(note, &[" ", number, " | "])?;
-    add_row(note, line, Row::Source, from, bytes)?;
+    add_row(note, near, Row::Source, from, bytes)?;
     note.push_str("\n ")?;
     add_repeated(note, " ", number.len())?;
     note.push_str(" | ")?;
-    add_carets(note, alloc, line, from, bytes)
+    add_carets(note, alloc, near, from, bytes)
 }
 
 /// Adds the heading of a note.

@@ -7,4 +7,3 @@ mod Innocent
 mod Nowhere
 mod Placing
 mod Reading
-mod Noted

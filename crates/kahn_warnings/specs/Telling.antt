@@ -1,9 +1,9 @@
 -- Believed. How warnings are told.
-use Rattle.std.specs.Prelude.{◌≡◌, ℕ, zero, suc, ◌-◌, List, [], ◌∷◌, ◌++◌, codes, decimal, drop, flat_map, length, take}
-use Rattle.std.specs.List.{concat}
+use Rattle.std.specs.Prelude.{◌≡◌, ℕ, ◌-◌, List, [], ◌++◌, codes, flat_map}
 use Rattle.kahn_streams.specs.declared.span.Span.{Span}
 use Rattle.kahn_streams.specs.declared.tree.Program.{Program}
 use Rattle.kahn_marks.specs.Marks.{marked_too, marked_warning}
+use Rattle.kahn_marks.specs.Told.{most_notes, first_told}
 use Rattle.kahn_warnings.specs.Warnings.{AreWarnings}
 use Rattle.kahn_warnings.specs.declared.warning.Warning.{Warning}
 use Rattle.kahn_warnings.specs.declared.warning.WarningKind.{WarningKind}
@@ -38,18 +38,9 @@ end_note path text _ at = []
 abbrev pub warning_note : List ℕ → List ℕ → Warning → List ℕ
 warning_note path text w = marked_warning path text w.span (warning_words w.kind) ++ end_note path text w.kind w.span
 
--- how many warnings more there are than were told
-abbrev pub counted_warnings : ℕ → List ℕ
-counted_warnings n = concat (codes "and " ∷ decimal n ∷ codes " warnings more\n" ∷ [])
-
-abbrev pub unsaid_warnings : ℕ → List ℕ
-unsaid_warnings zero = []
-unsaid_warnings (suc zero) = codes "and 1 warning more\n"
-unsaid_warnings (suc (suc n)) = counted_warnings (suc (suc n))
-
--- on the first 20 warnings there is a note
+-- notes on the first warnings, and how many more there are
 abbrev pub warnings_text : List ℕ → List ℕ → List Warning → List ℕ
-warnings_text path text ws = flat_map (warning_note path text) (take 20 ws) ++ unsaid_warnings (length (drop 20 ws))
+warnings_text path text ws = first_told (flat_map (warning_note path text)) [] (codes "warning") most_notes ws
 
 -- the notes on what is warned of in a program of this text
 abbrev pub AreWarningNotes : List ℕ → List ℕ → Program → List ℕ → Type 0

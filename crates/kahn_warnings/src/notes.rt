@@ -1,17 +1,13 @@
 //! How warnings are told.
 
 ghost use Rattle.std.specs.Prelude.{◌≡◌, ◌++◌, IfOk, flat_map, string_bytes};
-ghost use Rattle.kahn_warnings.specs.Telling.{AreWarningNotes, counted_warnings, end_note, last_byte, unsaid_warnings, warning_note, warning_words, warnings_text};
+ghost use Rattle.kahn_warnings.specs.Telling.{AreWarningNotes, end_note, last_byte, warning_note, warning_words, warnings_text};
 
 use crate::program::warnings;
 use crate::warning::{Warning, WarningKind};
-use itoa::Buffer;
-use kahn_marks::{add, marked_too, marked_warning};
+use kahn_marks::{MOST_NOTES, add_more, first_ones, marked_too, marked_warning};
 use kahn_streams::{NoMemory, Program, Span};
 use std::alloc::{AllocError, Global};
-
-/// The most warnings on which there is a note.
-const MOST_NOTES: usize = 20;
 
 /// What is said of a warning.
 fn warning_words(kind: WarningKind) -> &'static str
@@ -103,31 +99,7 @@ fn add_notes(
     Ok(())
 }
 
-/// Adds that there are so many warnings more.
-fn add_count(notes: &mut String, more: usize) -> Result<(), AllocError>
-    ensures { IfOk result (λ _. string_bytes notes.new ≡ string_bytes notes.old ++ counted_warnings more) }
-{
-    let mut digits = Buffer::new();
-    let more = digits.format(more);
-    add(notes, &["and ", more, " warnings more\n"])
-}
-
-/// Adds how many warnings more there are than were told.
-#[tactic(auto, using(crate::proofs::Noted::counted))]
-fn add_more(notes: &mut String, more: usize) -> Result<(), AllocError>
-    ensures { IfOk result (λ _. string_bytes notes.new ≡ string_bytes notes.old ++ unsaid_warnings more) }
-{
-    if more == 0 {
-        return Ok(());
-    }
-    if more == 1 {
-        return notes.push_str("and 1 warning more\n");
-    }
-    add_count(notes, more)
-}
-
 /// The notes on the first 20 warnings, and how many more there are.
-#[tactic(auto, using(crate::proofs::Noted::first_notes, crate::proofs::Noted::last_notes))]
 fn notes_of(
     alloc: Global,
     path: &str,
@@ -136,10 +108,10 @@ fn notes_of(
 ) -> Result<String, AllocError>
     ensures { IfOk result (λ notes. string_bytes notes ≡ warnings_text path.now text.now warnings.now) }
 {
-    let (told, more) = warnings.split_at(MOST_NOTES.min(warnings.len()));
+    let (told, more) = first_ones(warnings, MOST_NOTES);
     let mut notes = String::new(alloc);
     add_notes(&mut notes, alloc, path, text, told)?;
-    add_more(&mut notes, more.len())?;
+    add_more(&mut notes, "", "warning", more.len())?;
     Ok(notes)
 }
 
