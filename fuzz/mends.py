@@ -167,7 +167,7 @@ def blocks(text, lexemes, at, is_mended):
         items, lead = unclosed(text, behind), "no `end` so far for "
     elif lexemes[at][:2] == ("word", "else"):
         is_cut_off = not is_mended and may_stand(lexemes, at, ("word", "end")) and may_stand(lexemes, at, ("sign", ";"))
-        return "`begin` and `end` make one statement of several" if is_cut_off else None
+        return "an `else` stands behind `if E then S`, where S is one statement; `begin` and `end` make one of several" if is_cut_off else None
     elif lexemes[at][:2] == ("sign", ","):
         is_second_value = not is_mended and may_stand(lexemes, at, ("word", "on"))
         return "`send` sends one value: `send E on C; send F on C`" if is_second_value else None

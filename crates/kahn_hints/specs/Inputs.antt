@@ -1,4 +1,4 @@
--- Believed. What is said of a name in an input text that no input channel has.
+-- Believed. What is said of a name that no input channel has, or none at all.
 use Rattle.std.specs.Prelude.{◌==◌, ℕ, List, ◌++◌, Option, Some, None, codes, if◌then◌else◌, length}
 use Rattle.kahn_streams.specs.declared.tree.Name.{Name}
 use Rattle.kahn_streams.specs.declared.tree.Program.{Program}
@@ -7,21 +7,33 @@ use Rattle.kahn_hints.specs.Names.{program_names}
 use Rattle.kahn_hints.specs.Near.{nearest}
 use Rattle.kahn_hints.specs.Sight.{listed_names, meant_words}
 
--- the names of the input channels, in order of declaration
+-- the names of the input channels, and of all channels, in order of declaration
 abbrev pub input_names : Program → List Name
 input_names t = program_names (Some sort.Input) t
+
+abbrev pub names_of_channels : Program → List Name
+names_of_channels t = program_names (Some sort.Channel) t
 
 -- which there are
 abbrev pub inputs_lead : ℕ → List ℕ
 inputs_lead n = if n == 0 then codes "; there is no input channel" else codes "; input channels: "
 
+abbrev pub channels_lead : ℕ → List ℕ
+channels_lead n = if n == 0 then codes "; there is no channel" else codes "; channels: "
+
 abbrev pub inputs_words : List Name → List ℕ
 inputs_words names = inputs_lead (length names) ++ listed_names names
 
 -- the one that is nearest to a word, or else which there are
-abbrev pub near_or_listed : List Name → Option Name → List ℕ
-near_or_listed names (Some n) = meant_words n
-near_or_listed names None = inputs_words names
+abbrev pub meant_or_listed : List ℕ → List Name → Option Name → List ℕ
+meant_or_listed lead names (Some n) = meant_words n
+meant_or_listed lead names None = lead ++ listed_names names
+
+abbrev pub near_or_listed : List ℕ → List ℕ → List Name → List ℕ
+near_or_listed word lead names = meant_or_listed lead names (nearest word names)
 
 abbrev pub unknown_input : List ℕ → List Name → List ℕ
-unknown_input word names = near_or_listed names (nearest word names)
+unknown_input word names = near_or_listed word (inputs_lead (length names)) names
+
+abbrev pub unknown_channel : List ℕ → List Name → List ℕ
+unknown_channel word names = near_or_listed word (channels_lead (length names)) names

@@ -1,7 +1,8 @@
-//! What is said of a name in an input text that no input channel has.
+//! What is said of a name that no input channel has, or none at all.
 
 ghost use Rattle.std.specs.Prelude.{◌≡◌, ◌++◌, IfOk, map, string_bytes};
-ghost use Rattle.kahn_hints.specs.Inputs.{input_names, inputs_lead, inputs_words, unknown_input};
+ghost use Rattle.kahn_hints.specs.Sight.{listed_names};
+ghost use Rattle.kahn_hints.specs.Inputs.{names_of_channels, channels_lead, input_names, inputs_lead, inputs_words, near_or_listed, unknown_channel, unknown_input};
 
 use crate::names::{Sort, program_names};
 use crate::near::nearest;
@@ -9,7 +10,7 @@ use crate::sight::{add_meant, add_names};
 use kahn_streams::{Name, Program};
 use std::alloc::{AllocError, Global};
 
-/// What stands before so many names.
+/// What stands before so many names of input channels.
 fn inputs_lead(count: usize) -> &'static str
     ensures { result.now ≡ inputs_lead count }
 {
@@ -19,12 +20,32 @@ fn inputs_lead(count: usize) -> &'static str
     }
 }
 
-/// Adds which input channels there are.
-fn add_listed(words: &mut String, names: &[&Name]) -> Result<(), AllocError>
-    ensures { IfOk result (λ _. string_bytes words.new ≡ string_bytes words.old ++ inputs_words (map (λ n. n.now) names.now)) }
+/// What stands before so many names of channels.
+fn channels_lead(count: usize) -> &'static str
+    ensures { result.now ≡ channels_lead count }
 {
-    words.push_str(inputs_lead(names.len()))?;
+    match count {
+        0 => "; there is no channel",
+        _ => "; channels: ",
+    }
+}
+
+/// Adds names, behind what stands before them.
+fn add_listed(words: &mut String, lead: &str, names: &[&Name]) -> Result<(), AllocError>
+    ensures { IfOk result (λ _. string_bytes words.new ≡ string_bytes words.old ++ (lead.now ++ listed_names (map (λ n. n.now) names.now))) }
+{
+    words.push_str(lead)?;
     add_names(words, names)
+}
+
+/// Adds the name that is nearest to a word, or else all of them, behind what stands before them.
+fn add_near(words: &mut String, word: &[u8], lead: &str, names: &[&Name]) -> Result<(), AllocError>
+    ensures { IfOk result (λ _. string_bytes words.new ≡ string_bytes words.old ++ near_or_listed word.now lead.now (map (λ n. n.now) names.now)) }
+{
+    match nearest(word, names) {
+        Some(name) => add_meant(words, name),
+        None => add_listed(words, lead, names),
+    }
 }
 
 /// Adds which input channels a program has.
@@ -32,7 +53,7 @@ pub fn add_inputs(words: &mut String, alloc: Global, program: &Program) -> Resul
     ensures { IfOk result (λ _. string_bytes words.new ≡ string_bytes words.old ++ inputs_words (input_names program.now)) }
 {
     let names = program_names(alloc, program, Some(Sort::Input))?;
-    add_listed(words, &names)
+    add_listed(words, inputs_lead(names.len()), &names)
 }
 
 /// Adds which input channel was perhaps meant by a word: the one whose name is nearest, or else which there are.
@@ -45,8 +66,18 @@ pub fn add_unknown_input(
     ensures { IfOk result (λ _. string_bytes words.new ≡ string_bytes words.old ++ unknown_input word.now (input_names program.now)) }
 {
     let names = program_names(alloc, program, Some(Sort::Input))?;
-    match nearest(word, &names) {
-        Some(name) => add_meant(words, name),
-        None => add_listed(words, &names),
-    }
+    add_near(words, word, inputs_lead(names.len()), &names)
+}
+
+/// Adds which channel was perhaps meant by a word: the one whose name is nearest, or else which there are.
+pub fn add_unknown_channel(
+    words: &mut String,
+    alloc: Global,
+    program: &Program,
+    word: &[u8],
+) -> Result<(), AllocError>
+    ensures { IfOk result (λ _. string_bytes words.new ≡ string_bytes words.old ++ unknown_channel word.now (names_of_channels program.now)) }
+{
+    let names = program_names(alloc, program, Some(Sort::Channel))?;
+    add_near(words, word, channels_lead(names.len()), &names)
 }

@@ -17,4 +17,4 @@ pub use near::one_nearest;
 
 // For the crates above.
 pub use hint::check_note;
-pub use inputs::{add_inputs, add_unknown_input};
+pub use inputs::{add_inputs, add_unknown_channel, add_unknown_input};

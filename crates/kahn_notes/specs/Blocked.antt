@@ -88,7 +88,7 @@ is_second_value u = finds (class.Sign sign.Comma ∷ []) u.found && awaits (clas
 abbrev pub one_words : Unexpected → Bool → Option (List ℕ)
 one_words u mended =
     if mended then None
-    else if is_cut_off u then Some (codes "`begin` and `end` make one statement of several")
+    else if is_cut_off u then Some (codes "an `else` stands behind `if E then S`, where S is one statement; `begin` and `end` make one of several")
     else if is_second_value u then Some (codes "`send` sends one value: `send E on C; send F on C`")
     else None
 

@@ -146,7 +146,9 @@ pub(crate) fn one_words(unexpected: &Unexpected, mended: bool) -> Option<&'stati
         return None;
     }
     if is_cut_off(unexpected) {
-        return Some("`begin` and `end` make one statement of several");
+        return Some(
+            "an `else` stands behind `if E then S`, where S is one statement; `begin` and `end` make one of several",
+        );
     }
     if finds(&[Class::Sign(Sign::Comma)], unexpected.found)
         && awaits(Class::Word(Keyword::On), &unexpected.wanted)
