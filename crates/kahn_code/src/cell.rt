@@ -1,9 +1,10 @@
 //! A cell: one process of a network on its way.
 
 ghost use Rattle.std.specs.Prelude.{◌≡◌, ◌+◌, ◌^◌, ◌<◌, length, [], map, slice_index_or, IfOk};
-ghost use Rattle.kahn_code.specs.Common.{network_of, instance_at, Lists, inputs_of, AreInputsExtended};
+ghost use Rattle.kahn_code.specs.Common.{network_of, instance_at, Lists, inputs_of, AreInputsExtended, action_row, form_row, codes};
+ghost use Rattle.kahn_code.specs.inner.Gone.{nothing_gone};
 ghost use Rattle.kahn_code.specs.Sites.{Serve};
-ghost use Rattle.kahn_code.specs.Told.{AreCounts, AreUnused, site_of, HasRunFor, IsAt};
+ghost use Rattle.kahn_code.specs.Told.{AreCounts, AreUnused, site_of, HasRunFor, IsAt, Told};
 
 use crate::code::{Code, CodeFault};
 use crate::ports::Ports;
@@ -30,11 +31,6 @@ pub struct Kept<A: Allocator + Drop = Global> {
 }
 
 impl<A: Allocator + Copy + Drop> Model for Cell<A> {
-    ghost use Rattle.kahn_code.specs.Common.{action_row, form_row, codes};
-    ghost use Rattle.std.specs.Prelude.{◌≡◌};
-    ghost use Rattle.kahn_code.specs.inner.Gone.{nothing_gone};
-    ghost use Rattle.kahn_code.specs.Told.{Told};
-
     ghost Value = { Told };
 
     ghost coded = { Prim.hlevel (codes, action_row.coded, form_row.coded) };

@@ -1,8 +1,8 @@
 //! Every channel of a network in a plain queue, for a run on one thread.
 
 ghost use Rattle.std.specs.Prelude.{◌≡◌, ◌<◌, ◌^◌, IfOk, MatchResult, length, slice_get};
-ghost use Rattle.kahn_code.specs.Common.{Input as InputRole, network_of, role_at, IsWellWired, Lists, inputs_of, Names};
-ghost use Rattle.kahn_code.specs.Lines.{AreFirst, AreQueued, HasPoured, IsPoured, taken_of, waiting_of};
+ghost use Rattle.kahn_code.specs.Common.{Input as InputRole, network_of, role_at, IsWellWired, Lists, inputs_of, Names, action_row, form_row, codes};
+ghost use Rattle.kahn_code.specs.Lines.{AreFirst, AreQueued, HasPoured, IsPoured, Lines, actual_here, next_at, place_at, queue_of, spare_of, taken_of, waiting_of};
 
 use crate::code::CodeFault;
 use crate::ports::Ports;
@@ -21,9 +21,6 @@ pub struct Plain<A: Allocator> {
 }
 
 impl<A: Allocator> Model for Plain<A> {
-    ghost use Rattle.kahn_code.specs.Common.{action_row, form_row, codes};
-    ghost use Rattle.kahn_code.specs.Lines.{Lines, AreQueued};
-
     ghost Value = { Lines };
 
     ghost coded = { Prim.hlevel (codes, action_row.coded, form_row.coded) };
@@ -112,9 +109,6 @@ impl<A: Allocator> Plain<A> {
 }
 
 impl<A: Allocator> Ports for Plain<A> {
-    ghost use Rattle.std.specs.Prelude.{◌≡◌, ◌<◌};
-    ghost use Rattle.kahn_code.specs.Lines.{actual_here, next_at, place_at, queue_of, waiting_of, spare_of};
-
     ghost site = { λ s. record { network = s.network; input = s.input; instance = s.instance } };
 
     ghost next = { λ s q. next_at s.queues (actual_here s q) };

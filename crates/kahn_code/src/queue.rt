@@ -1,10 +1,11 @@
 //! The plain queue of a channel, and those of all channels at the start of a run and for more input.
 
-ghost use Rattle.std.specs.Prelude.{◌≡◌, ◌<◌, ◌≤◌, ◌+◌, ◌^◌, length, slice_get, IfSome, IfNone, OnOk, OnErr, IsOk, Some, map, IfOk, ℕ, drop};
-ghost use Rattle.kahn_code.specs.Common.{network_of, role_at, Input as InputRole, Channel, AreInputsExtended, IsOf, Holds, Names, Lists, inputs_of};
+ghost use Rattle.std.specs.Prelude.{◌≡◌, ◌<◌, ◌≤◌, ◌+◌, ◌-◌, ◌^◌, length, slice_get, IfSome, IfNone, OnOk, OnErr, IsOk, Some, map, IfOk, ℕ, drop};
+ghost use Rattle.kahn_code.specs.Common.{network_of, role_at, Input as InputRole, Channel, AreInputsExtended, IsOf, Holds, Names, Lists, inputs_of, Follow, action_row, form_row, codes};
 ghost use Rattle.kahn_code.specs.Lines.{AreFirst, IsFirst};
-ghost use Rattle.kahn_code.specs.Queues.{HasMore, Waiting};
-ghost use Rattle.kahn_code.specs.inner.Queued.{regrown};
+ghost use Rattle.std.specs.VecDeque.{deque_len, deque_capacity};
+ghost use Rattle.kahn_code.specs.Queues.{HasMore, Waiting, waiting_in};
+ghost use Rattle.kahn_code.specs.inner.Queued.{AllBegin, regrown};
 
 use kahn_streams::{About, Carried, Input, Line, Network, NoMemory, Token, Value, Word};
 use std::alloc::Allocator;
@@ -22,12 +23,6 @@ pub struct Queue<A: Allocator> {
 }
 
 impl<A: Allocator> Model for Queue<A> {
-    ghost use Rattle.kahn_code.specs.Common.{action_row, form_row, codes, Channel, Follow};
-    ghost use Rattle.std.specs.Prelude.{◌-◌, length};
-    ghost use Rattle.std.specs.VecDeque.{deque_len, deque_capacity};
-    ghost use Rattle.kahn_code.specs.Queues.{Waiting, waiting_in};
-    ghost use Rattle.kahn_code.specs.inner.Queued.{AllBegin};
-
     ghost Value = { Waiting };
 
     ghost coded = { Prim.hlevel (codes, action_row.coded, form_row.coded) };

@@ -1,7 +1,7 @@
 //! A tap: one process of a network on its way, which lets go of what it kept.
 
 ghost use Rattle.std.specs.Prelude.{◌≡◌, ℕ, ◌+◌, ◌^◌, ◌<◌, length, [], map, ◌++◌, slice_get, slice_index_or, IfOk, Some};
-ghost use Rattle.kahn_code.specs.Common.{network_of, instance_at, Lists, inputs_of, Names, AreInputsExtended};
+ghost use Rattle.kahn_code.specs.Common.{network_of, instance_at, Lists, inputs_of, Names, AreInputsExtended, action_row, form_row, codes};
 ghost use Rattle.kahn_code.specs.Cells.{StoodBy};
 ghost use Rattle.kahn_code.specs.inner.Gone.{kept_behind, nothing_gone};
 ghost use Rattle.kahn_code.specs.Sites.{Serve};
@@ -29,10 +29,6 @@ pub struct Tap<A: Allocator + Copy + Drop = Global> {
 }
 
 impl<A: Allocator + Copy + Drop> Model for Tap<A> {
-    ghost use Rattle.kahn_code.specs.Common.{action_row, form_row, codes};
-    ghost use Rattle.kahn_code.specs.Told.{IsStanding};
-    ghost use Rattle.kahn_code.specs.inner.Tapped.{Tapped, tapped_of};
-
     ghost Value = { Tapped };
 
     ghost coded = { Prim.hlevel (codes, action_row.coded, form_row.coded) };
