@@ -1,10 +1,15 @@
 -- Jobs before their first events.
-use Rattle.kahn_job.proofs.Common.{arith, ◌≡◌, ℕ, ◌<◌, List, length, refl, sym, ap, ◌∙◌, subst, Option, Some, slice_get, slice_index_or, Program, Actual, Reads, Writes, Hands, network_of, instance_at, actual_at, IsWellWired, reads_listed, writes_listed, AreInputsExtended, Lists, inputs_of, prefix_refl, Joins, End, Serves, end_at, Work, HaveSettled, IsIdle, cells_of, rows_of, end_in, AreFirst, HasNoEnds, AreHanded, AreOpening, IsFresh, IsOpening, no_end}
+use Rattle.kahn_job.proofs.Common.{arith, replicate, ◌≡◌, ℕ, ◌<◌, List, length, refl, sym, ap, ◌∙◌, subst, Option, Some, slice_get, slice_index_or, Program, Actual, Reads, Writes, Hands, network_of, instance_at, actual_at, IsWellWired, reads_listed, writes_listed, AreInputsExtended, Lists, inputs_of, prefix_refl, Joins, End, Serves, end_at, Work, HaveSettled, IsIdle, cells_of, rows_of, end_in, AreFirst, AreOpening, IsFresh, IsOpening, no_end}
 use Rattle.kahn_streams.proofs.Entered.{none_of}
 use Rattle.std.proofs.lemmas.List.{length-map, length-replicate}
+use Rattle.kahn_job.proofs.Handed.{AreHanded}
 use Rattle.kahn_job.proofs.Idles.{cell_there, cells_count, each_row, past, row_there, settled_rest}
 
--- the jobs of all instances, whose parameters have no ends yet
+-- the job of instance p before its first event, whose parameters have no ends yet
+abbrev pub HasNoEnds : Program → Lists → Option ℕ → ℕ → Work → Type 0
+HasNoEnds t lists watch p w = IsOpening t lists watch p w.cell × (w.ends ≡ replicate (length (instance_at (network_of t) p).actuals) no_end)
+
+-- so for all instances
 abbrev pub HaveNoEnds : Program → Lists → Option ℕ → List Work → Type 0
 HaveNoEnds t lists watch ws = AreFirst (HasNoEnds t lists watch) ws (length (network_of t).instances)
 

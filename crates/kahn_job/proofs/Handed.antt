@@ -1,6 +1,15 @@
 -- The ends of a channel come to the parameters that it is handed to.
-use Rattle.kahn_job.proofs.Common.{arith, ◌≡◌, ◌⊎◌, inl, inr, ℕ, ◌+◌, ◌<◌, List, [], length, refl, sym, ap, ◌∙◌, subst, true, false, Option, Some, None, IfSome, slice_set, slice_index_or, cases_eq, length-set, get_or-set_same, get_or-set_other, none-some, same_Some, Program, Role, Side, Inner, Input, Output, Network, Actual, Reads, Writes, Hands, network_of, instance_at, actual_at, role_at, IsWriter, IsReader, IsOnly, IsWithin, IsWellWired, side_at, IsFed, handed_within, reads, writes, Lists, is_output, Joins, End, ShareLane, Serves, end_at, AreJoinedOn, HasPlace, end_in, AreEndsOf, AreHanded, IsFresh, no_end, placed}
+use Rattle.kahn_job.proofs.Common.{arith, ◌≡◌, ◌⊎◌, inl, inr, ℕ, ◌+◌, ◌<◌, List, [], length, refl, sym, ap, ◌∙◌, subst, true, false, Option, Some, None, IfSome, slice_set, slice_index_or, cases_eq, length-set, get_or-set_same, get_or-set_other, none-some, same_Some, Program, Role, Side, Inner, Input, Output, Network, Actual, Reads, Writes, Hands, network_of, instance_at, actual_at, role_at, IsWriter, IsReader, IsOnly, IsWithin, IsWellWired, side_at, IsFed, handed_within, reads, writes, Lists, is_output, Joins, End, ShareLane, Serves, end_at, AreJoinedOn, HasPlace, end_in, AreEndsOf, IsFresh, no_end, placed}
 use Rattle.kahn_job.proofs.Settles.{is_inner}
+
+-- a row for each instance, in which the parameters have the ends of the first k channels
+pub record AreHanded (t : Program) (lists : Lists) (k : ℕ) (rows : List (List End)) : Type 0 where
+  pub count : length rows ≡ length (network_of t).instances
+  pub sizes : (p : ℕ) → length (slice_index_or rows p []) ≡ length (instance_at (network_of t) p).actuals
+  pub each : (p q d : ℕ) → Joins (actual_at (instance_at (network_of t) p) q) d → d < k →
+      Serves t lists (actual_at (instance_at (network_of t) p) q) (end_in rows p q)
+  pub joined : (d : ℕ) → d < k → AreJoinedOn (network_of t) rows d
+  pub fresh : (p q : ℕ) → IsFresh (end_in rows p q)
 
 -- a parameter has the new end or the old one
 abbrev pub Found : List (List End) → Option Side → End → ℕ → ℕ → Type 0
@@ -86,7 +95,7 @@ module _ (t : Program) (wired : IsWellWired t) (lists : Lists) (c : ℕ) (x y : 
       never (inr f) o = let e : Inner ≡ Output = sym f.4 ∙ o in absurd cc
 
   serves_writer : (p q : ℕ) → actual_at (instance_at N p) q ≡ Writes c → Serves t lists (actual_at (instance_at N p) q) x
-  serves_writer p q w = subst (λ a. Serves t lists a x) (sym w) (λ o. e.puts (not_output (role_at N c) (writes t wired p q c w).1 o))
+  serves_writer p q w = subst (λ a. Serves t lists a x) (sym w) (λ o. let z = e.puts (not_output (role_at N c) (writes t wired p q c w).1 o) in (z.0, z.1))
 
   module _ (rows : List (List End)) (h : AreHanded t lists c rows) (w r : Option Side) (ow : IsOnly (IsWriter N c) w) (oo : IsOnly (IsReader N c) r) where
     abbrev first : List (List End)
@@ -141,7 +150,7 @@ module _ (t : Program) (wired : IsWellWired t) (lists : Lists) (c : ℕ) (x y : 
         let i' : actual_at (instance_at N p) o ≡ Writes c = i ∙ ap Writes same in
         let j' : actual_at (instance_at N s) q ≡ Reads c = j ∙ ap Reads same in
         subst (λ z. ShareLane z (end_in (placed first r y) s q)) (sym (writer_end p o i' (found first r y place_r p o) (found rows w x place_w p o)))
-        (subst (λ z. ShareLane x z) (sym (reader_end s q j' (found first r y place_r s q))) (e.lane (is_inner t wired c p o s q i' j')))
+        (subst (λ z. ShareLane x z) (sym (reader_end s q j' (found first r y place_r s q))) (e.puts (is_inner t wired c p o s q i' j')).2)
     both_ends d l (inr n) p s o q i j =
         subst (λ z. ShareLane z (end_in (placed first r y) s q))
         (sym (else_end p o d (subst (λ a. Joins a d) (sym i) refl) n (found first r y place_r p o) (found rows w x place_w p o)))
@@ -170,6 +179,6 @@ module _ (t : Program) (wired : IsWellWired t) (lists : Lists) (c : ℕ) (x y : 
             subst (λ z. Serves t lists (actual_at (instance_at N p) q) z) (sym (a.1 ∙ b.1)) (before p q d _ refl b.0 a.0 j l)
 
         new : (p q : ℕ) → Found first r y p q → Found rows w x p q → IsFresh (end_in (placed first r y) p q)
-        new p q (inl a) b = subst IsFresh (sym a.1) e.new_reader
-        new p q (inr a) (inl b) = subst IsFresh (sym (a.1 ∙ b.1)) e.new_writer
+        new p q (inl a) b = subst IsFresh (sym a.1) e.fresh.1
+        new p q (inr a) (inl b) = subst IsFresh (sym (a.1 ∙ b.1)) e.fresh.0
         new p q (inr a) (inr b) = subst IsFresh (sym (a.1 ∙ b.1)) (h.fresh p q)

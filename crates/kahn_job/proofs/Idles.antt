@@ -1,5 +1,5 @@
 -- Jobs on which nobody works: what changes where one of them gets another end, and which may go on.
-use Rattle.kahn_job.proofs.Common.{arith, ◌≡◌, ℕ, zero, suc, ◌<◌, ◌≤◌, List, [], ◌∷◌, length, refl, sym, ap, ◌∙◌, subst, slice_set, slice_index_or, slice_get, Some, get_or_past, None, Option, no_end, slice_get_within, none-some, same_Some, Program, AreInputsExtended, Actual, Reads, Writes, Hands, network_of, instance_at, actual_at, idle, IsWellWired, reads_listed, writes_listed, Lists, inputs_of, prefix_refl, prefix_trans, Told, IsAt, End, AreServed, Serves, end_at, end_in, Work, AreIdle, AreJoinedJobs, CanGoOn, HaveMet, HaveSettled, IsIdle, cells_of, rows_of, ServedBefore, AreResting, HaveStood, IsOfBefore}
+use Rattle.kahn_job.proofs.Common.{arith, ◌≡◌, ℕ, zero, suc, ◌<◌, ◌≤◌, List, [], ◌∷◌, length, refl, sym, ap, ◌∙◌, subst, slice_set, slice_index_or, slice_get, Some, get_or_past, None, Option, no_end, slice_get_within, none-some, same_Some, Program, AreInputsExtended, Actual, Reads, Writes, Hands, network_of, instance_at, actual_at, idle, IsWellWired, reads_listed, writes_listed, Lists, inputs_of, prefix_refl, prefix_trans, Told, IsAt, End, AreServed, Serves, end_at, end_in, Work, AreIdle, AreJoinedOn, CanGoOn, HaveMet, HaveSettled, IsIdle, IsJob, cells_of, rows_of, ServedBefore, AreResting, HaveStood, IsOfBefore}
 use Rattle.std.proofs.Math.Seq.{map-set_same}
 use Rattle.std.proofs.lemmas.List.{get_or-map, length-map, map-set}
 use Rattle.std.proofs.lemmas.Option.{get_or_from_slice_get, slice_get-map}
@@ -69,6 +69,12 @@ each_row (w ∷ ws) P some none (suc p) = each_row ws (λ k. P (suc k)) (λ k. s
 -- past the last instance nothing is handed over
 pub past : (t : Program) (ws : List Work) → length ws ≡ length (network_of t).instances → (p : ℕ) → length ws ≤ p → instance_at (network_of t) p ≡ idle
 past t ws n p l = get_or_past (network_of t).instances p idle (omega (arith, n, l))
+
+-- the jobs of all instances, with this input; the two ends of each lane are among them
+pub record AreJoinedJobs (t : Program) (lists : Lists) (ws : List Work) : Type 0 where
+  pub count : length ws ≡ length (network_of t).instances
+  pub each : (p : ℕ) (w : Work) → slice_get ws p ≡ Some w → IsJob w × (w.cell.network ≡ t) × (w.cell.input ≡ lists) × (w.cell.instance ≡ p)
+  pub joined : (d : ℕ) → AreJoinedOn (network_of t) (rows_of ws) d
 
 module _ (t : Program) (lists : Lists) (ws : List Work) (h : AreJoinedJobs t lists ws) where
   -- the ends of a job are those of its channels

@@ -4,32 +4,16 @@ ghost use Rattle.std.specs.Prelude.{◌≡◌, ◌<◌, ◌≤◌, ◌+◌, ◌^
 ghost use Rattle.kahn_job.specs.inner.Words.{length, IfSome, IfNone, IsTrue, network_of, role_at, lane_name, token_name, Lists, inputs_of, Names, Input as InputRole};
 
 use kahn_streams::{About, Input, Network, Token};
-use std::marker::Model;
 
 /// An input channel, and the place of the token that is taken next. Of which network it is and for which input, contracts
 /// alone see.
 #[derive(Drop)]
 pub(crate) struct Feed {
-    network: About<Network>,
-    input: About<Input>,
-    channel: usize,
+    pub(crate) network: About<Network>,
+    pub(crate) input: About<Input>,
+    pub(crate) channel: usize,
     pub(crate) next: u64,
-}
-
-impl Model for Feed {
-    ghost use Rattle.kahn_streams.specs.contracts.tree.Action as action;
-    ghost use Rattle.kahn_streams.specs.contracts.tree.Form as form;
-    ghost use Rattle.std.specs.Prelude.{◌≡◌, ◌<◌};
-    ghost use Rattle.kahn_job.specs.inner.Words.{Input, codes, length, network_of, role_at};
-    ghost use Rattle.kahn_job.specs.inner.Ends.{Feeding};
-
-    ghost Value = { Feeding };
-
-    ghost coded = { Prim.hlevel (codes, action.the_row.coded, form.the_row.coded) };
-
-    ghost view = { λ f. record { network = f.network.value; input = f.input.value; channel = f.channel; next = f.next } };
-
-    ghost invariant = { λ f. (f.channel < length (network_of f.network.value).channels) × (role_at (network_of f.network.value) f.channel ≡ Input) };
+    ghost within: { (channel < length (network_of network.value).channels) × (role_at (network_of network.value) channel ≡ InputRole) },
 }
 
 impl Feed {
@@ -38,7 +22,7 @@ impl Feed {
         ghost names: { Names }
         requires inside { channel < length (network_of names.network).channels }
         requires given { role_at (network_of names.network) channel ≡ InputRole }
-        ensures { result ≡ record { network = names.network; input = names.input; channel = channel; next = 0 } }
+        ensures { (result.network.value ≡ names.network) × (result.input.value ≡ names.input) × (result.channel ≡ channel) × (result.next ≡ 0) }
     {
         Feed {
             network: About::named(),
@@ -51,15 +35,15 @@ impl Feed {
     /// Goes on with the list of another input, which is named.
     pub(crate) fn regrow(&mut self, _input: &Input)
         ghost name: { Lists }
-        ensures { self.new ≡ record self.old { input = name } }
+        ensures { (self.new.network ≡ self.old.network) × (self.new.input.value ≡ name) × (self.new.channel ≡ self.old.channel) × (self.new.next ≡ self.old.next) }
     {
         self.input = About::named();
     }
 
     /// Whether there is a token more.
     pub(crate) fn is_ready(&self, input: &Input) -> bool
-        requires { self.now.input ≡ input.now }
-        ensures { IsTrue result ↔ (self.now.next < length (inputs_of self.now.input self.now.channel)) }
+        requires { self.now.input.value ≡ input.now }
+        ensures { IsTrue result ↔ (self.now.next < length (inputs_of self.now.input.value self.now.channel)) }
     {
         self.next < input.count(self.channel) as u64
     }
@@ -67,11 +51,11 @@ impl Feed {
     /// The next token. None past the list.
     pub(crate) fn take(&mut self, network: &Network, input: &Input) -> Option<Token>
         requires bound { self.old.next < 2 ^ 48 }
-        requires of { (self.old.network ≡ network.now) × (self.old.input ≡ input.now) }
+        requires of { (self.old.network.value ≡ network.now) × (self.old.input.value ≡ input.now) }
         ensures same { (self.new.network ≡ self.old.network) × (self.new.input ≡ self.old.input) × (self.new.channel ≡ self.old.channel) }
-        ensures token { IfSome result (λ t. (token_name t ≡ lane_name self.old.network self.old.input self.old.channel) × (t.place ≡ self.old.next)) }
+        ensures token { IfSome result (λ t. (token_name t ≡ lane_name self.old.network.value self.old.input.value self.old.channel) × (t.place ≡ self.old.next)) }
         ensures moved { IfSome result (λ _. self.new.next ≡ self.old.next + 1) }
-        ensures none { IfNone result ((self.new ≡ self.old) × (length (inputs_of self.old.input self.old.channel) ≤ self.old.next)) }
+        ensures none { IfNone result ((self.new ≡ self.old) × (length (inputs_of self.old.input.value self.old.channel) ≤ self.old.next)) }
     {
         let token = input.token(network, self.channel, self.next)?;
         self.next += 1;

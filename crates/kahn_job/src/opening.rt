@@ -1,8 +1,9 @@
 //! The jobs of a network before their first events.
 
 ghost use Rattle.std.specs.Prelude.{◌≡◌, ◌<◌};
-ghost use Rattle.kahn_job.specs.inner.Words.{length, IfOk, network_of, Lists};
-ghost use Rattle.kahn_job.specs.inner.Openings.{AreOpening, HasNoEnds};
+ghost use Rattle.kahn_job.specs.inner.Words.{length, replicate, IfOk, instance_at, network_of, Lists};
+ghost use Rattle.kahn_job.specs.inner.Openings.{AreOpening, IsOpening};
+ghost use Rattle.kahn_job.specs.inner.Ways.{no_end};
 
 use crate::handing::{ends_of, place};
 use crate::idle::Idle;
@@ -23,7 +24,8 @@ fn bare_job(
     ghost input: { Lists }
     requires code { code.now.network.value ≡ network.now }
     requires here { instance < length (network_of network.now).instances }
-    ensures { IfOk result (HasNoEnds network.now input watch instance) }
+    ensures cell { IfOk result (λ w. IsOpening network.now input watch instance w.cell) }
+    ensures ends { IfOk result (λ w. w.ends ≡ replicate (length (instance_at (network_of network.now) instance).actuals) no_end) }
 {
     let Ok(cell) = Cell::new(alloc, code, instance, watch) else {
         return Err(NoMemory);

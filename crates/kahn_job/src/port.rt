@@ -73,7 +73,7 @@ impl Port {
     pub(crate) fn feeds(network: &Network, input: &Input, channel: usize) -> Port
         requires inside { channel < length (network_of network.now).channels }
         requires given { role_at (network_of network.now) channel ≡ InputRole }
-        ensures { result ≡ feeding (record { network = network.now; input = input.now; channel = channel; next = 0 }) }
+        ensures { result ≡ feeding network.now input.now channel 0 }
     {
         let way = Way::Feeds(Feed::of(network, input, channel));
         Port { way }
@@ -189,6 +189,7 @@ impl Port {
     }
 
     /// Goes on with the list of another input. It is the end of an input channel. It never allocates.
+    #[tactic(auto, using(crate::proofs::Fed::regrown))]
     pub(crate) fn regrow(&mut self, input: &Input)
         requires { CanFeed input.now self.old }
         ensures { (n : LaneName) → self.old.name ≡ Some n → HasSettled (moved_to input.now n) self.old self.new }

@@ -26,7 +26,8 @@ pub use Rattle.kahn_job.proofs.Settles.{same_lanes}
 pub use Rattle.kahn_job.specs.declared.{standing.Standing.Standing}
 pub use Rattle.kahn_job.specs.inner.Berths.{IsWithinInput, Serves, end_at}
 pub use Rattle.kahn_job.specs.inner.Ends.{IsBehind, IsReady}
-pub use Rattle.kahn_job.specs.inner.Idles.{AreIdle, AreJoinedJobs, HaveMet, cells_of, rows_of}
+pub use Rattle.kahn_job.specs.inner.Idles.{AreIdle, HaveMet, cells_of, rows_of}
+pub use Rattle.kahn_job.proofs.Idles.{AreJoinedJobs}
 pub use Rattle.kahn_job.specs.inner.Lanes.{AreBehindOn, AreJoinedOn, end_in}
 pub use Rattle.kahn_job.specs.inner.Openings.{IsOpening}
 pub use Rattle.kahn_job.specs.inner.Tasks.{Continues, IsTrueOf, Tasked, standing_after, woken_task}

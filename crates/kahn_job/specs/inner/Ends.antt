@@ -1,6 +1,6 @@
 -- Inner. What contracts see of the end of a channel that a parameter has.
 use Rattle.std.specs.Prelude.{◌≡◌, ◌⊎◌, ◌+◌, ◌<◌, ◌≤◌}
-use Rattle.kahn_job.specs.inner.Words.{ℕ, Bool, true, Option, Some, Global, Program, Lists, Named}
+use Rattle.kahn_job.specs.inner.Words.{ℕ, Bool, true, Option, Some, Global, Named}
 
 -- which lane it is an end of
 abbrev pub Lane : Type 0
@@ -25,13 +25,6 @@ pub record End : Type 0 where
   pub flushed : ℕ
   pub filled : ℕ
   pub capacity : ℕ
-
--- what is read of an input channel: of which network and input, and the place of the next token
-pub record Feeding : Type 0 where
-  pub network : Program
-  pub input : Lists
-  pub channel : ℕ
-  pub next : ℕ
 
 -- what of an end never changes
 abbrev pub Identity : Type 0

@@ -18,12 +18,6 @@ pub record HaveMet (old new : List Work) : Type 0 where
   pub cells : cells_of new ≡ cells_of old
   pub rows : HaveStayed (rows_of old) (rows_of new)
 
--- the jobs of all instances, with this input; the two ends of each lane are among them
-pub record AreJoinedJobs (t : Program) (lists : Lists) (ws : List Work) : Type 0 where
-  pub count : length ws ≡ length (network_of t).instances
-  pub each : (p : ℕ) (w : Work) → slice_get ws p ≡ Some w → IsJob w × (w.cell.network ≡ t) × (w.cell.input ≡ lists) × (w.cell.instance ≡ p)
-  pub joined : (d : ℕ) → AreJoinedOn (network_of t) (rows_of ws) d
-
 -- the job of instance p on which nobody works: its input has lists that begin those of this one, and its ends stand where
 -- the cell stands
 pub record IsIdle (t : Program) (lists : Lists) (p : ℕ) (w : Work) : Type 0 where

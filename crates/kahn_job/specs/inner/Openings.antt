@@ -1,39 +1,25 @@
 -- Inner. Jobs before their first event.
-use Rattle.std.specs.Prelude.{◌≡◌, ◌<◌}
-use Rattle.kahn_job.specs.inner.Words.{ℕ, true, List, [], length, replicate, Option, None, Some, slice_get, slice_set, slice_index_or, Program, Side, Inner, Output, Reads, network_of, instance_at, actual_at, role_at, Lists, Joins, Told, lane_name}
+use Rattle.std.specs.Prelude.{◌≡◌}
+use Rattle.kahn_job.specs.inner.Words.{ℕ, true, List, [], length, replicate, Option, None, Some, slice_get, slice_set, slice_index_or, Program, Side, Inner, Output, Reads, network_of, instance_at, actual_at, role_at, Lists, Told, lane_name}
 use Rattle.kahn_job.specs.inner.Ends.{End, ShareLane}
 use Rattle.kahn_job.specs.inner.Idles.{AreIdle, HaveSettled, rows_of}
-use Rattle.kahn_job.specs.inner.Lanes.{AreJoinedOn, end_in}
 use Rattle.kahn_job.specs.inner.Berths.{Serves}
-use Rattle.kahn_job.specs.inner.Ways.{no_end}
 use Rattle.kahn_job.specs.inner.Works.{Work}
 
 -- nothing was taken, put or flushed
 abbrev pub IsFresh : End → Type 0
 IsFresh e = (e.next ≡ 0) × (e.flushed ≡ 0)
 
--- the two ends of a channel, the writer's and the reader's
+-- the two ends of a channel, the writer's and the reader's; of an inner channel they are those of one lane
 pub record AreEndsOf (t : Program) (lists : Lists) (c : ℕ) (writer reader : End) : Type 0 where
-  pub puts : role_at (network_of t) c ≡ Inner → (writer.writes ≡ true) × (writer.name ≡ Some (lane_name t lists c))
+  pub puts : role_at (network_of t) c ≡ Inner → (writer.writes ≡ true) × (writer.name ≡ Some (lane_name t lists c)) × ShareLane writer reader
   pub takes : (role_at (network_of t) c ≡ Output → ⊥) → Serves t lists (Reads c) reader
-  -- they are the ends of one lane
-  pub lane : role_at (network_of t) c ≡ Inner → ShareLane writer reader
-  pub new_writer : IsFresh writer
-  pub new_reader : IsFresh reader
+  pub fresh : IsFresh writer × IsFresh reader
 
 -- the end comes to that parameter of that instance
 abbrev pub placed : List (List End) → Option Side → End → List (List End)
 placed rows None e = rows
 placed rows (Some s) e = slice_set rows s.instance (slice_set (slice_index_or rows s.instance []) s.parameter e)
-
--- a row for each instance, in which the parameters have the ends of the first k channels
-pub record AreHanded (t : Program) (lists : Lists) (k : ℕ) (rows : List (List End)) : Type 0 where
-  pub count : length rows ≡ length (network_of t).instances
-  pub sizes : (p : ℕ) → length (slice_index_or rows p []) ≡ length (instance_at (network_of t) p).actuals
-  pub each : (p q d : ℕ) → Joins (actual_at (instance_at (network_of t) p) q) d → d < k →
-      Serves t lists (actual_at (instance_at (network_of t) p) q) (end_in rows p q)
-  pub joined : (d : ℕ) → d < k → AreJoinedOn (network_of t) rows d
-  pub fresh : (p q : ℕ) → IsFresh (end_in rows p q)
 
 -- the cell of instance p before its first event
 pub record IsOpening (t : Program) (lists : Lists) (watch : Option ℕ) (p : ℕ) (c : Told) : Type 0 where
@@ -46,10 +32,6 @@ pub record IsOpening (t : Program) (lists : Lists) (watch : Option ℕ) (p : ℕ
   pub sent : c.sent ≡ replicate (length (instance_at (network_of t) p).actuals) 0
   pub kept : c.kept ≡ replicate (length (instance_at (network_of t) p).actuals) []
   pub printed : c.printed ≡ []
-
--- the job of instance p before its first event, whose parameters have no ends yet
-abbrev pub HasNoEnds : Program → Lists → Option ℕ → ℕ → Work → Type 0
-HasNoEnds t lists watch p w = IsOpening t lists watch p w.cell × (w.ends ≡ replicate (length (instance_at (network_of t) p).actuals) no_end)
 
 -- the jobs of all instances before their first events
 pub record AreOpening (t : Program) (lists : Lists) (watch : Option ℕ) (ws : List Work) : Type 0 where

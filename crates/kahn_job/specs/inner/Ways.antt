@@ -1,7 +1,7 @@
 -- Inner. What is seen of an end, by what it does.
 use Rattle.std.specs.Prelude.{◌-◌}
-use Rattle.kahn_job.specs.inner.Words.{ℕ, true, false, length, Some, None, Global, inputs_of, Sender, Receiver, sender_lane, receiver_lane, sender_name, receiver_name, flushed, sent, filled, capacity, received, waiting, heard, left, lane_name}
-use Rattle.kahn_job.specs.inner.Ends.{End, Feeding}
+use Rattle.kahn_job.specs.inner.Words.{ℕ, true, false, length, Some, None, Global, Program, Lists, inputs_of, Sender, Receiver, sender_lane, receiver_lane, sender_name, receiver_name, flushed, sent, filled, capacity, received, waiting, heard, left, lane_name}
+use Rattle.kahn_job.specs.inner.Ends.{End}
 use Rattle.kahn_job.specs.declared.port.Way.{Way}
 use Rattle.kahn_job.specs.declared.port.Way.TheVariants as way
 
@@ -23,13 +23,13 @@ taking r asked = record no_end {
 }
 
 -- an input channel, whose list is known whole
-abbrev pub feeding : Feeding → End
-feeding f = record no_end {
+abbrev pub feeding : Program → Lists → ℕ → ℕ → End
+feeding t lists channel next = record no_end {
   reads = true;
-  name = Some (lane_name f.network f.input f.channel);
-  next = f.next;
-  waiting = length (inputs_of f.input f.channel) - f.next;
-  known = length (inputs_of f.input f.channel);
+  name = Some (lane_name t lists channel);
+  next = next;
+  waiting = length (inputs_of lists channel) - next;
+  known = length (inputs_of lists channel);
 }
 
 -- the writer's end of a lane
@@ -46,6 +46,6 @@ putting s = record no_end {
 
 abbrev pub end_of : Way → End
 end_of (way.Takes r asked) = taking r asked.value
-end_of (way.Feeds f) = feeding f
+end_of (way.Feeds f) = feeding f.network.value f.input.value f.channel f.next
 end_of (way.Puts s) = putting s
 end_of way.Nothing = no_end

@@ -1,6 +1,6 @@
-use Rattle.kahn_job.proofs.Common.{◌≡◌, ℕ, ◌+◌, ap, arith, length, network_of, none_first, one_first, refl, subst, sym, ◌∙◌, rows_of, AreHanded, HasNoEnds, placed}
-use Rattle.kahn_job.proofs.Begun.{all_bare, all_opening}
-use Rattle.kahn_job.proofs.Handed.{handed_more}
+use Rattle.kahn_job.proofs.Common.{◌≡◌, ℕ, ◌+◌, ap, arith, length, network_of, none_first, one_first, refl, subst, sym, ◌∙◌, rows_of, placed}
+use Rattle.kahn_job.proofs.Begun.{HasNoEnds, all_bare, all_opening}
+use Rattle.kahn_job.proofs.Handed.{AreHanded, handed_more}
 use Rattle.kahn_job.proofs.opening.jobs.Goals as goal
 
 pub loop-instance-init : goal.loop-instance-init
@@ -9,7 +9,7 @@ loop-instance-init c = none_first (HasNoEnds c.args.network.now c.args.input.now
 pub loop-instance-preserved : goal.loop-instance-preserved
 loop-instance-preserved c =
     one_first (HasNoEnds c.args.network.now c.args.input.now c.args.watch) c.loop-instance.idles.items c.push.new.self.items c.in_ok-bare_job.field-0
-    c.loop-instance.instance c.loop-instance.invariant c.in_ok-push.ensures.items c.in_ok-bare_job.ensures
+    c.loop-instance.instance c.loop-instance.invariant c.in_ok-push.ensures.items (c.in_ok-bare_job.ensures.cell, c.in_ok-bare_job.ensures.ends)
 
 pub loop-channel-init : goal.loop-channel-init
 loop-channel-init c =

@@ -1,4 +1,6 @@
-use Rattle.kahn_job.proofs.Common.{◌≡◌, cells_of, rows_of, AreFirst, AreHanded, HasNoEnds}
+use Rattle.kahn_job.proofs.Common.{◌≡◌, cells_of, rows_of, AreFirst}
+use Rattle.kahn_job.proofs.Begun.{HasNoEnds}
+use Rattle.kahn_job.proofs.Handed.{AreHanded}
 use Rattle.kahn_job.proofs.opening.jobs.Given as goal
 
 abbrev pub invariant-loop-instance : goal.invariant-loop-instance
