@@ -1,11 +1,12 @@
 -- Believed. The notes on what is wrong with the network that a program text spells.
-use Rattle.std.specs.Prelude.{ℕ, zero, suc, Bool, true, false, List, [], ◌∷◌, ◌++◌, Option, Some, None, codes, decimal, drop, length, map, min, take}
-use Rattle.std.specs.List.{concat, position_or_len}
+use Rattle.std.specs.Prelude.{ℕ, suc, Bool, true, false, List, [], ◌∷◌, ◌++◌, Option, Some, None, codes, map, min}
+use Rattle.std.specs.List.{position_or_len}
 use Rattle.kahn_streams.specs.declared.span.Span.{Span}
 use Rattle.kahn_streams.specs.declared.tree.Program.{Program}
 use Rattle.kahn_streams.specs.declared.fault.CheckFault.{CheckFault}
 use Rattle.kahn_streams.specs.declared.fault.CheckFault.TheVariants.{TooMany, Unknown}
 use Rattle.kahn_fault.specs.Message.{check_span, check_words}
+use Rattle.kahn_marks.specs.Told.{most_notes, first_told}
 use Rattle.kahn_hints.specs.Hints.{check_note}
 use Rattle.kahn_notes.specs.Held.{held_text}
 
@@ -40,23 +41,13 @@ notes_text path program t cs fs = with_blank_lines (map (note_text path program 
 abbrev pub further_text : List ℕ → List ℕ → Program → List Span → List CheckFault → List ℕ
 further_text path program t cs fs = after_blank_lines (map (note_text path program t cs) fs)
 
--- how many more of something there are than were told, behind what stands before that
-abbrev pub counted_text : List ℕ → List ℕ → ℕ → List ℕ
-counted_text before what n = concat (before ∷ codes "and " ∷ decimal n ∷ codes " " ∷ what ∷ codes "s more\n" ∷ [])
-
-abbrev pub unsaid_text : List ℕ → List ℕ → ℕ → List ℕ
-unsaid_text before what zero = []
-unsaid_text before what (suc zero) = concat (before ∷ codes "and 1 " ∷ what ∷ codes " more\n" ∷ [])
-unsaid_text before what (suc (suc n)) = counted_text before what (suc (suc n))
-
 -- the most faults on which there is a note, none of them behind one of a limit: what comes behind that one is past the limit too
 abbrev pub is_limit : CheckFault → Bool
 is_limit (TooMany at) = true
 is_limit _ = false
 
-abbrev pub most_notes : List CheckFault → ℕ
-most_notes fs = min 20 (suc (position_or_len is_limit fs))
+abbrev pub most_faults : List CheckFault → ℕ
+most_faults fs = min most_notes (suc (position_or_len is_limit fs))
 
 abbrev pub faults_text : List ℕ → List ℕ → Program → List Span → List CheckFault → List ℕ
-faults_text path program t cs fs =
-    notes_text path program t cs (take (most_notes fs) fs) ++ unsaid_text (codes "\n") (codes "fault") (length (drop (most_notes fs) fs))
+faults_text path program t cs fs = first_told (notes_text path program t cs) (codes "\n") (codes "fault") (most_faults fs) fs

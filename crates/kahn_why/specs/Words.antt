@@ -1,5 +1,5 @@
 -- Believed. What is said of a run that stopped: a line for each process that hasn't ended, advice to each ring, and how the run ended.
-use Rattle.std.specs.Prelude.{◌≡◌, ℕ, ◌+◌, ◌<◌, ◌==◌, List, [], ◌∷◌, ◌++◌, Bool, true, false, codes, decimal, drop, if◌then◌else◌, flat_map, length, map, nat_lt, string_bytes, IfOk, Option, Some, None, Result, option_map, slice_index_or, take}
+use Rattle.std.specs.Prelude.{◌≡◌, ℕ, ◌+◌, ◌<◌, ◌==◌, List, [], ◌∷◌, ◌++◌, Bool, true, false, codes, decimal, if◌then◌else◌, flat_map, length, map, nat_lt, string_bytes, IfOk, Option, Some, None, Result, option_map, slice_index_or}
 use Rattle.std.proofs.Common.{Bor}
 use Rattle.std.specs.declared.alloc.Global.{Global}
 use Rattle.std.specs.declared.string.String.{String}
@@ -24,9 +24,9 @@ use Rattle.kahn_streams.specs.declared.answer.Outcome.TheVariants.{Ended, Waits,
 use Rattle.kahn_streams.specs.declared.answer.Verdict.{Verdict}
 use Rattle.kahn_streams.specs.declared.answer.Verdict.TheVariants.{Finished, Bound, Memory}
 use Rattle.kahn_marks.specs.Marks.{marked, spot_text}
+use Rattle.kahn_marks.specs.Told.{most_notes, first_told}
 use Rattle.kahn_warnings.specs.Faults.{fault_places}
 use Rattle.kahn_report.specs.Formats.{channel_name, process_name, last_text}
-use Rattle.kahn_why.specs.Noting.{unsaid_text}
 use Rattle.kahn_why.specs.Waits.{instance_waits}
 use Rattle.kahn_why.specs.Why.{standings_of}
 use Rattle.kahn_why.specs.declared.why.told.Explanation.{Explanation}
@@ -164,9 +164,9 @@ instance_body t p = process_body (process_of t.declarations.items (process_name 
 abbrev pub marks_text : List ℕ → List ℕ → List ℕ → List Span → List ℕ
 marks_text path source words xs = flat_map (λ x. marked path source x words) xs
 
--- on the first 20 places there is a note
+-- notes on the first places, and how many more there are
 abbrev pub first_marks : List ℕ → List ℕ → List ℕ → List Span → List ℕ
-first_marks path source words xs = marks_text path source words (take 20 xs) ++ unsaid_text [] (codes "place") (length (drop 20 xs))
+first_marks path source words xs = first_told (marks_text path source words) [] (codes "place") most_notes xs
 
 -- the line of p, which has this fault, and notes on the places in the program text that it can have come from
 abbrev pub fault_words : Failure → List ℕ

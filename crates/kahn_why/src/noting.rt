@@ -2,18 +2,14 @@
 
 ghost use Rattle.std.specs.Prelude.{◌≡◌, ◌≤◌, ◌++◌, IfOk, length, string_bytes};
 ghost use Rattle.std.specs.List.{position_or_len};
-ghost use Rattle.kahn_why.specs.Noting.{counted_text, faults_text, further_text, held_words, is_limit, note_text, notes_text, unsaid_text};
+ghost use Rattle.kahn_why.specs.Noting.{faults_text, further_text, held_words, is_limit, note_text, notes_text};
 
-use itoa::Buffer;
 use kahn_fault::{check_span, check_words};
 use kahn_hints::check_note;
-use kahn_marks::add;
+use kahn_marks::{MOST_NOTES, add_more, first_ones};
 use kahn_notes::held_remark;
 use kahn_streams::{CheckFault, NoMemory, Program, Span};
 use std::alloc::{AllocError, Global};
-
-/// The most faults, or places, on which there is a note.
-pub(crate) const MOST_NOTES: usize = 20;
 
 /// What is said below the note on a name that isn't declared: of the comment that holds its declaration.
 fn held_words(
@@ -93,39 +89,6 @@ fn add_notes(
     }
 }
 
-/// Adds that there are so many more of something.
-fn add_count<'a>(
-    notes: &mut String,
-    before: &'a str,
-    what: &'a str,
-    more: usize,
-) -> Result<(), AllocError>
-    ensures { IfOk result (λ _. string_bytes notes.new ≡ string_bytes notes.old ++ counted_text before.now what.now more) }
-{
-    let mut digits = Buffer::new();
-    let more = digits.format(more);
-    add(notes, &[before, "and ", more, " ", what, "s more\n"])
-}
-
-/// Adds how many more of something there are than were told.
-#[tactic(auto, using(crate::proofs::Noted::counted))]
-pub(crate) fn add_more<'a>(
-    notes: &mut String,
-    before: &'a str,
-    what: &'a str,
-    more: usize,
-) -> Result<(), AllocError>
-    ensures { IfOk result (λ _. string_bytes notes.new ≡ string_bytes notes.old ++ unsaid_text before.now what.now more) }
-{
-    if more == 0 {
-        return Ok(());
-    }
-    if more == 1 {
-        return add(notes, &[before, "and 1 ", what, " more\n"]);
-    }
-    add_count(notes, before, what, more)
-}
-
 /// Whether a fault is that a limit is exceeded.
 fn is_limit(fault: CheckFault) -> bool
     ensures { result ≡ is_limit fault }
@@ -152,7 +115,6 @@ fn before_limit(faults: &[CheckFault]) -> usize
 
 /// The notes on the faults of a program whose text has these comments, of at most 20 of them and none behind the first of a limit, and
 /// how many more there are. It refuses only where memory was refused.
-#[tactic(auto, using(crate::proofs::Noted::first_notes, crate::proofs::Noted::last_notes))]
 pub(crate) fn faults_note(
     alloc: Global,
     path: &str,
@@ -163,8 +125,7 @@ pub(crate) fn faults_note(
 ) -> Result<String, NoMemory>
     ensures { IfOk result (λ notes. string_bytes notes ≡ faults_text path.now program.now tree.now comments.now faults.now) }
 {
-    let most = MOST_NOTES.min(before_limit(faults) + 1);
-    let (told, more) = faults.split_at(most.min(faults.len()));
+    let (told, more) = first_ones(faults, MOST_NOTES.min(before_limit(faults) + 1));
     let mut notes = String::new(alloc);
     add_notes(&mut notes, alloc, path, program, tree, comments, told)?;
     add_more(&mut notes, "\n", "fault", more.len())?;

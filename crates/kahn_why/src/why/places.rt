@@ -3,8 +3,7 @@
 ghost use Rattle.std.specs.Prelude.{◌≡◌, ◌<◌, ◌++◌, IfOk, length, string_bytes};
 ghost use Rattle.kahn_why.specs.Words.{first_marks, here_words, instance_body, marks_text, places_text};
 
-use crate::noting::{MOST_NOTES, add_more};
-use kahn_marks::marked;
+use kahn_marks::{MOST_NOTES, add_more, first_ones, marked};
 use kahn_streams::{Failure, Network, Span, Statement};
 use kahn_warnings::fault_places;
 use std::alloc::{AllocError, Global};
@@ -56,7 +55,7 @@ fn add_told(
 ) -> Result<(), AllocError>
     ensures { IfOk result (λ _. string_bytes text.new ≡ string_bytes text.old ++ first_marks path.now program.now words.now places.now) }
 {
-    let (told, more) = places.split_at(MOST_NOTES.min(places.len()));
+    let (told, more) = first_ones(places, MOST_NOTES);
     add_notes(text, alloc, path, program, words, told)?;
     add_more(text, "", "place", more.len())
 }
