@@ -5,6 +5,7 @@ ghost use Rattle.std.specs.Io.Buffered.{reader_buffer};
 ghost use Rattle.kahn_report.specs.Formats.{content};
 ghost use Rattle.kahn_inputs.specs.Fitting.{line_name};
 ghost use Rattle.kahn_session.specs.Live.{HasVerdict, breaks};
+ghost use Rattle.kahn_session.specs.Pace.{MayBeSlow};
 ghost use Rattle.kahn_session.specs.declared.fault.TakeFault.TheVariants.{Feed};
 ghost use Rattle.kahn_live.specs.Course.{Across, AreAllMet, AreLastMet, AcrossStage, HasSent, IsAnswerTold, IsDeafNow, IsFedPart, IsFirstPart, IsInputMet, IsLineMet, IsNameWords, channel_tail};
 ghost use Rattle.kahn_live.specs.Course.{IsAloneTold, IsHintBy, IsNextMet, IsReadMet, IsRefusalTold, IsRefused, IsRefusedPart, IsStepMet, IsWriteFault, lines_given, is_bad_line, is_bare_line, no_memory, point_of, telling_of, wants_hint};
@@ -55,16 +56,17 @@ pub(crate) fn last_fault(fault: TakeFault) -> Fault
     }
 }
 
-/// Sends what is new, unless the next line can be read without a wait.
+/// Sends what is new, unless the next line can be read without a wait and its part is quick.
 fn send_before<I: Read, W: Write, E: Write>(
     stage: &mut Stage<'_, W, E>,
     reader: &BufReader<I>,
 ) -> Result<(), Fault>
     ensures sent { HasSent (point_of W.contents E.contents stage.old) (point_of W.contents E.contents stage.new) }
     ensures ready { IfOk result (λ _. IsReadyToRead (reader_buffer reader.now) stage.new.outlet) }
+    ensures slow { IfOk result (λ _. MayBeSlow stage.old.session.step stage.old.session.flow.run → stage.new.outlet.due ≡ false) }
     ensures fault { IfErr result IsWriteFault }
 {
-    if has_line(reader) {
+    if has_line(reader) && !stage.session.may_be_slow() {
         return Ok(());
     }
     stage.outlet.send()

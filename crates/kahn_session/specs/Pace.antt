@@ -1,5 +1,5 @@
 -- Believed. A run that is fed as it goes, each part of which may take so many events (this project's profile).
-use Rattle.std.specs.Prelude.{◌≡◌, ℕ, ◌+◌, min, sum_by, Some}
+use Rattle.std.specs.Prelude.{◌≡◌, ◌⊎◌, ◌<◌, ℕ, ◌+◌, ◌-◌, min, sum_by, Some}
 use Rattle.kahn_streams.specs.Network.{network_of}
 use Rattle.kahn_streams.specs.Inputs.{inputs_of}
 use Rattle.kahn_streams.specs.Answers.{Settles}
@@ -23,6 +23,10 @@ most_bound = 281474976710655
 -- the sum of all bounds of a part: the events so far and those of a step
 abbrev pub part_bound : ℕ → HeldRun → ℕ
 part_bound step h = min (events_of h + step) most_bound
+
+-- the next part may take long: each may be of more than a million events, or the last one was of more than ten thousand
+abbrev pub MayBeSlow : ℕ → HeldRun → Type 0
+MayBeSlow step h = (1000000 < step) ⊎ (h.bound < events_of h + (step - 10000))
 
 -- a part was run
 pub record HasRun (old new : Pace) : Type 0 where

@@ -1,15 +1,21 @@
 //! A run that is fed as it goes, each part of which may take so many events.
 
-ghost use Rattle.std.specs.Prelude.{◌≡◌, ℕ, ◌+◌, Some, IfErr, IfOk, MatchResult};
+ghost use Rattle.std.specs.Prelude.{◌≡◌, ◌↔◌, ℕ, ◌+◌, Some, IfErr, IfOk, IsTrue, MatchResult};
 ghost use Rattle.kahn_pool.specs.HeldRuns.{IsLineOf, IsRightSoFar, IsUnstarted};
 ghost use Rattle.kahn_streams.specs.declared.answer.Verdict.{Verdict as VerdictOf};
 ghost use Rattle.kahn_pool.specs.Flows.{AreNew, HasFlowed, HasLetGo, HasPouredIn, IsUnpoured, flow_lines};
-ghost use Rattle.kahn_session.specs.Pace.{IsPart, events_of, part_bound};
+ghost use Rattle.kahn_session.specs.Pace.{IsPart, MayBeSlow, events_of, part_bound};
 
 use kahn_pool::{Config, End, Flow, Gate, MOST_BOUND, RunFault, Verdict};
 use kahn_streams::{Carried, FeedFault, Input, Line, Network, NoMemory, Value};
 use std::alloc::Global;
 use std::marker::Model;
+
+/// Parts of no more events take no time that anybody waits.
+const QUICK: u64 = 10_000;
+
+/// Nor do parts that may be of so many events, where the last one was quick.
+const MOST_QUICK: u64 = 1_000_000;
 
 /// A run that is fed as it goes, each part of which may take so many events.
 #[derive(Drop)]
@@ -72,6 +78,13 @@ impl<'n> Paced<'n> {
         };
         self.allowed += more;
         verdict
+    }
+
+    /// Whether the next part may take long: each may be of more than a million events, or the last one was of more than ten thousand.
+    pub(crate) fn may_be_slow(&self) -> bool
+        ensures { IsTrue result ↔ MayBeSlow self.now.step self.now.flow.run }
+    {
+        self.step > MOST_QUICK || self.flow.budget() < self.step.saturating_sub(QUICK)
     }
 
     /// Puts values behind those of an input channel.

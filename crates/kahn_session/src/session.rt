@@ -8,6 +8,7 @@ ghost use Rattle.kahn_report.specs.Formats.{IsReadLine, content, channel_name};
 ghost use Rattle.kahn_report.specs.News.{news_text, plain_text};
 ghost use Rattle.kahn_streams.specs.Written.{Writes};
 ghost use Rattle.kahn_session.specs.Live.{HasOpened, IsClosed, IsDeaf, IsFaulty, IsFedBy, IsFirstInput, IsOtherInput, HasVerdict, IsNamedAt, IsNamedLine, IsRinged, IsStreamOf, IsStuck, IsTakenLine, IsText, IsUnfedBy, IsUnopened, breaks, form_text, is_faulted, is_finished, is_input, is_other_input, is_stuck, is_waiting, waits_on_input, wants_input};
+ghost use Rattle.kahn_session.specs.Pace.{MayBeSlow};
 ghost use Rattle.kahn_session.specs.inner.Shown.{OutBegins, news_of};
 
 use crate::fault::TakeFault;
@@ -427,6 +428,13 @@ impl<'n> Session<'n> {
         let _program = self.network.program();
         let standings = standings(self.alloc, self.paced.ends())?;
         has_ring(self.alloc, self.network, &standings)
+    }
+
+    /// Whether the next part may take long: each may be of more than a million events, or the last one was of more than ten thousand.
+    pub fn may_be_slow(&self) -> bool
+        ensures { IsTrue result ↔ MayBeSlow self.now.step self.now.flow.run }
+    {
+        self.paced.may_be_slow()
     }
 
     /// The name of the first input channel, where there is one.
