@@ -105,6 +105,21 @@ gives "a step that two lines use up" 3 'B: 2\nend 1 double: wants more after 3\n
 gives "a name in the other letter case" 1 'end 1 double: waits on A after 1\nfinished 1\n' \
   "$double"': input line 1: no such channel: `a`; did you mean `A`?\n' "$double" <<< 'a: 1'
 
+# what is new goes out before a part that may take long, also where its line is there
+cat > slow.kahn <<'P'
+begin integer input channel A; integer output channel B;
+  process slow(integer in U; integer out W);
+  begin integer X, I; repeat begin X := wait(U); I := 0; while I < X do I := I + 1; send X on W end end;
+  slow(A, B)
+end
+P
+start slow.kahn --plain A --step 281474976710655
+send 1 2 500000000000
+wants "before a line that takes long" 1 2
+kill "$process"
+exec 6>&- 5<&-
+wait "$process" 2> /dev/null
+
 # without input channels; print streams; a last line without its line feed
 gives "a program without input" 0 'W: 0 1 2\nend 1 count: ended after 7\nfinished 7\n' '' "$count" < /dev/null
 cat > add.kahn <<'P'
