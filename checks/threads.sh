@@ -55,11 +55,11 @@ cat > "$work/long.kahn" <<'P'
 begin integer output channel X, Y, Z;
   process count(integer out W; integer N);
   begin integer I; while I < N do begin I := I + 1; send I on W end end;
-  count(X, 160000) par count(Y, 160000) par count(Z, 160000)
+  count(X, 50000) par count(Y, 50000) par count(Z, 50000)
 end
 P
 "$kahn" --workers 1 "$work/long.kahn" > "$work/long.report" || fail "three long counts"
-# three instances, so three workers, where so many run side by side; and 480,000 values, which several threads put into text
+# three instances, so three workers, where so many run side by side; and 150,000 values, which several threads put into text
 for workers in 1 2 3 16; do
   most=$(printf '%d\n' "$workers" 3 "$(nproc)" | sort -n | head -n 1)
   refuse "$kahn" "$work/long.kahn" $workers $((most - 1))

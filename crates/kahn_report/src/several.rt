@@ -19,7 +19,7 @@ use std::thread;
 use std::thread::{Threads, available_parallelism};
 
 /// How many values a thread puts into text before they are written.
-const TOGETHER: usize = 262_144;
+const TOGETHER: usize = 65536;
 
 /// Room for a piece of that many values, each of 20 bytes at most and a space.
 const ROOM: usize = 21 * TOGETHER;
