@@ -161,7 +161,7 @@ def still_open(text, lexemes):
 
 
 def blocks(text, lexemes, at, is_mended):
-    """What is said of blocks: of one that an `else` lacks, of a second value, of statements without one at an `end`, of open ones where a declaration or the end stands."""
+    """What is said of blocks: of one that an `else` lacks, of a second value, of a name and `=`, of statements without one at an `end`, of open ones where a declaration or the end stands."""
     behind = lexemes[:at]
     if at == len(lexemes):
         items, lead = unclosed(text, behind), "no `end` so far for "
@@ -171,6 +171,9 @@ def blocks(text, lexemes, at, is_mended):
     elif lexemes[at][:2] == ("sign", ","):
         is_second_value = not is_mended and may_stand(lexemes, at, ("word", "on"))
         return "`send` sends one value: `send E on C; send F on C`" if is_second_value else None
+    elif lexemes[at][:2] == ("sign", "="):
+        is_equated = not is_mended and may_stand(lexemes, at, ("sign", ":="))
+        return "a statement that begins with a name assigns to it: `X := E`" if is_equated else None
     elif lexemes[at][:2] == ("word", "end"):
         items, lead = bare(text, behind), "no `begin` stands behind "
     elif lexemes[at][:2] in (("word", "process"), ("word", "integer"), ("word", "logical")) and not is_mended:
@@ -196,6 +199,7 @@ FOREIGN = {
         ("endif endwhile fi od", "an `if`, a `while` or a `repeat` has no `end` of its own"),
         ("const constant", "there are no constants: an instance hands a number over, `P(A, 10)`"),
         ("xor", "there is no exclusive or: of logicals it is `<>`"),
+        ("shl shr", "there is no shift: `X * 16`, `X div 16`"),
         ("inout", "one process reads a channel, and another one writes it: `in U`, `out W`"),
         ("go spawn cobegin parbegin", "nothing starts an instance: it is `p(A, B)`, and `par` stands between two"),
     ) for word in words.split()
@@ -220,6 +224,10 @@ BEGUN = "a statement that begins with a name assigns to it, `X := E`; `send E on
 ARGUMENTS = "an instance hands over channels and literals, by their places: `P(A, -1, true)`"
 LATE = "channels and processes are declared before all instances"
 BETWEEN = "`par` stands between instances: `p(A) par q(B)`"
+SENT = "a channel's name stands behind `on`: `send E on C`"
+PRINTED = "a value stands behind `print`: `print E`"
+UNSENT = "`on` stands behind the value of a `send`: `send E on C`; `print E` needs no channel"
+HANDS = ("in", "out", "input", "output", "channel", "integer", "logical", "wait", "not", "if", "(")
 STARTED = "instances stand without `begin`: `p(A) par q(B)`"
 SENDS = "`on` and a channel stand behind the value: `send E on C`"
 VARIABLES = "variables are declared right behind the first `begin` of a process, channels outside of processes"
@@ -255,6 +263,10 @@ def behind(lead, found):
     begins = lead in ("begin", "do", "else", "repeat", ";")
     if lead == "wait":
         return "brackets stand round the channel: `wait(C)`"
+    if lead == "on":
+        return SENT
+    if lead == "print" and found in (";", "end", "else", "on"):
+        return PRINTED
     if lead == "then" and found in ("if", "while", "repeat"):
         return f"{'an' if found == 'if' else 'a'} `{found}` behind `then` stands between `begin` and `end`"
     if found == "wait" and (begins or lead == "then"):
@@ -262,7 +274,7 @@ def behind(lead, found):
     if lead != "repeat" and begins and found == "do":
         return "a loop is `while E do S`, or `repeat S`, which has no end"
     if begins and found in ("(", "-"):
-        return "a comment goes from `comment` to `;`"
+        return "a statement begins with a name or a keyword; a comment goes from `comment` to `;`"
     return BEHIND.get((lead, found))
 
 
@@ -381,6 +393,11 @@ def advice(lexemes, at):
         found = None
     if behind(lead, found):
         return behind(lead, found)
+    if found == "on" and stands("*") and stands("end"):
+        return UNSENT
+    is_sign = found == "not" and lexemes[at][3] - lexemes[at][2] == 2
+    if found in HANDS and not is_sign and stands("true") and not stands("wait"):
+        return ARGUMENTS
     if what == "number":
         return COMMAS if handed(stands) else "a name begins with a letter" if named_alone(lexemes, at, stands) else None
     if found == "(" and before[0] == "name":

@@ -111,13 +111,17 @@ before_or_declared (Some n) t d word at = if same_span n.span at then declared_r
 abbrev pub taken_before : List ℕ → Program → Direction → Span → Option (Span × Reason)
 taken_before text t d at = before_or_declared (passed t d (word_at text at)) t d (word_at text at) at
 
--- the first process without an instance
+-- the first process without an instance that takes such a channel
 abbrev pub place_if : Option Process → Option (Span × Reason)
 place_if None = None
 place_if (Some p) = Some (p.name.span, reason.NoInstance)
 
-abbrev pub idle_place : Program → Option (Span × Reason)
-idle_place t = place_if (first_process t sought.Idle)
+abbrev pub idle_for : Program → Direction → Option (Kind × Role) → Option (Span × Reason)
+idle_for t d (Some c) = place_if (first_process t (sought.Idle d c.0))
+idle_for t d None = None
+
+abbrev pub idle_place : List ℕ → Program → Direction → Span → Option (Span × Reason)
+idle_place text t d at = idle_for t d (channel_called t (word_at text at))
 
 -- another place that has to do with a fault, and why
 abbrev pub second_place : List ℕ → Program → CheckFault → Option (Span × Reason)
@@ -130,8 +134,8 @@ second_place text t (checked.WrongDirection at) = declared_here text t at
 second_place text t (checked.TwoWriters at) = taken_before text t Out at
 second_place text t (checked.TwoReaders at) = taken_before text t In at
 second_place text t (checked.Unknown at) = declared_outside text t at
-second_place text t (checked.NoWriter at) = idle_place t
-second_place text t (checked.NoReader at) = idle_place t
+second_place text t (checked.NoWriter at) = idle_place text t Out at
+second_place text t (checked.NoReader at) = idle_place text t In at
 second_place text t (checked.TooMany at) = None
 second_place text t checked.NoMemory = None
 

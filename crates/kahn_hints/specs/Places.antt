@@ -1,5 +1,5 @@
 -- Believed. Where the names of a program are declared and handed over.
-use Rattle.std.specs.Prelude.{ℕ, Bool, ◌&&◌, ◌||◌, List, [], ◌∷◌, Option, Some, None, if◌then◌else◌, is_some, length, nat_le, not, slice_range}
+use Rattle.std.specs.Prelude.{ℕ, Bool, false, ◌&&◌, ◌||◌, List, [], ◌∷◌, Option, Some, None, if◌then◌else◌, is_some, length, nat_le, not, slice_range}
 use Rattle.std.specs.List.{find, list_any}
 use Rattle.std.specs.Option.{option_or}
 use Rattle.std.proofs.Common.{bytes_eq}
@@ -19,6 +19,7 @@ use Rattle.kahn_streams.specs.declared.tree.Program.{Program}
 use Rattle.kahn_streams.specs.declared.tree.Declaration.TheVariants as D
 use Rattle.kahn_streams.specs.declared.tree.Taking.TheVariants as T
 use Rattle.kahn_streams.specs.declared.tree.Argument.TheVariants as A
+use Rattle.kahn_streams.specs.Faults.{same_kind}
 use Rattle.kahn_streams.specs.Wiring.{processes_of, same_direction}
 use Rattle.kahn_hints.specs.declared.names.Sort.{Sort}
 use Rattle.kahn_hints.specs.declared.places.Sought.{Sought}
@@ -45,13 +46,22 @@ process_called t word = find (λ p. is_called word p.name) (processes_of t.decla
 abbrev pub has_none : List Instance → Process → Bool
 has_none is p = not (list_any (λ i. is_called (bytes_of i.process) p.name) is)
 
+-- whether a parameter takes a channel of this kind, in this direction
+abbrev pub takes_as : Direction → Kind → Taking → Bool
+takes_as d k (T.Channel e l) = same_direction d e && same_kind k l
+takes_as d k (T.Value l) = false
+
+abbrev pub takes_channel : Direction → Kind → Parameter → Bool
+takes_channel d k q = takes_as d k q.taking
+
 -- whether a process declares a name at this place
 abbrev pub declares : Span → Process → Bool
 declares at p = list_any (λ q. same_span q.name.span at) p.parameters.items || list_any (λ v. same_span v.name.span at) p.variables.items
 
--- the first process without an instance, the one that declares a name at a place, or the one whose body has a part there
+-- the first process without an instance that takes such a channel, the one that declares a name at a place, or the one whose body has a
+-- part there
 abbrev pub is_sought : Program → Sought → Process → Bool
-is_sought t sought.Idle p = has_none t.instances.items p
+is_sought t (sought.Idle d k) p = list_any (takes_channel d k) p.parameters.items && has_none t.instances.items p
 is_sought t (sought.Declaring at) p = declares at p
 is_sought t (sought.Using at) p = is_some (body_use p at)
 

@@ -42,7 +42,7 @@ pub(crate) enum Reason {
     Output,
     /// The parameter is declared there that takes what is at fault.
     Parameter,
-    /// The process that is declared there has no instance.
+    /// The process that is declared there takes such a channel, and has no instance.
     NoInstance,
 }
 
@@ -220,11 +220,19 @@ fn taken_before(
     placed(alloc, program, None, Some(Sort::Channel), word, reason)
 }
 
-/// Where the first process without an instance is declared.
-fn idle_place(program: &Program) -> Option<(Span, Reason)>
-    ensures { result ≡ idle_place program.now }
+/// Where the first process without an instance is declared that takes the channel at a place in a direction.
+fn idle_place(
+    text: &str,
+    program: &Program,
+    direction: Direction,
+    at: Span,
+) -> Option<(Span, Reason)>
+    ensures { result ≡ idle_place text.now program.now direction at }
 {
-    match first_process(program, Sought::Idle) {
+    let Some((kind, _)) = channel_called(program, word_at(text, at)) else {
+        return None;
+    };
+    match first_process(program, Sought::Idle(direction, kind)) {
         Some(process) => Some((process.name.span, Reason::NoInstance)),
         None => None,
     }
@@ -249,7 +257,8 @@ fn second_place(
         CheckFault::TwoWriters(at) => taken_before(alloc, text, program, Direction::Out, at),
         CheckFault::TwoReaders(at) => taken_before(alloc, text, program, Direction::In, at),
         CheckFault::Unknown(at) => declared_outside(alloc, text, program, at),
-        CheckFault::NoWriter(_) | CheckFault::NoReader(_) => Ok(idle_place(program)),
+        CheckFault::NoWriter(at) => Ok(idle_place(text, program, Direction::Out, at)),
+        CheckFault::NoReader(at) => Ok(idle_place(text, program, Direction::In, at)),
         CheckFault::TooMany(_) | CheckFault::NoMemory => Ok(None),
     }
 }

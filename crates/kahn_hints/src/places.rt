@@ -2,8 +2,9 @@
 
 ghost use Rattle.std.specs.Prelude.{◌≡◌, IfOk, map, option_map};
 ghost use Rattle.std.specs.List.{find, list_any};
+ghost use Rattle.kahn_streams.specs.Faults.{same_kind};
 ghost use Rattle.kahn_streams.specs.Wiring.{processes_of, same_direction};
-ghost use Rattle.kahn_hints.specs.Places.{asked_of, asked_behind, asked_name, called_first, channel_called, declares, first_process, has_none, is_called, is_sought, names_seen, passed, passed_by, passed_if, passed_in, process_called, word_at};
+ghost use Rattle.kahn_hints.specs.Places.{asked_of, asked_behind, asked_name, called_first, channel_called, declares, first_process, has_none, is_called, is_sought, names_seen, passed, passed_by, passed_if, passed_in, process_called, takes_channel, word_at};
 
 use crate::names::{Sort, process_names, program_names};
 use crate::uses::{argument_use, body_use, same_span};
@@ -85,11 +86,43 @@ fn declares(at: Span, process: &Process) -> bool
     false
 }
 
+/// Whether two kinds are the same.
+fn same_kind(first: Kind, second: Kind) -> bool
+    ensures { result ≡ same_kind first second }
+{
+    match (first, second) {
+        (Kind::Integer, Kind::Integer) | (Kind::Logical, Kind::Logical) => true,
+        (Kind::Integer, Kind::Logical) | (Kind::Logical, Kind::Integer) => false,
+    }
+}
+
+/// Whether a parameter takes a channel of this kind, in this direction.
+fn takes_channel(direction: Direction, kind: Kind, parameter: &Parameter) -> bool
+    ensures { result ≡ takes_channel direction kind parameter.now }
+{
+    match parameter.taking {
+        Taking::Channel(taken, found) => same_direction(direction, taken) && same_kind(kind, found),
+        Taking::Value(_) => false,
+    }
+}
+
+/// Whether one of the parameters does.
+fn takes_one(direction: Direction, kind: Kind, parameters: &[Parameter]) -> bool
+    ensures { result ≡ list_any (takes_channel direction kind) parameters.now }
+{
+    for parameter in parameters {
+        if takes_channel(direction, kind, parameter) {
+            return true;
+        }
+    }
+    false
+}
+
 /// Which process is looked for.
 #[derive(Clone, Copy)]
 pub(crate) enum Sought {
-    /// One that no instance names.
-    Idle,
+    /// One that no instance names, and that takes a channel of this kind in this direction.
+    Idle(Direction, Kind),
     /// The one that declares a name at this place.
     Declaring(Span),
     /// The one whose body has a part at this place.
@@ -101,7 +134,9 @@ fn is_sought(program: &Program, sought: Sought, process: &Process) -> bool
     ensures { result ≡ is_sought program.now sought process.now }
 {
     match sought {
-        Sought::Idle => has_none(&program.instances, process),
+        Sought::Idle(direction, kind) => {
+            takes_one(direction, kind, &process.parameters) && has_none(&program.instances, process)
+        }
         Sought::Declaring(at) => declares(at, process),
         Sought::Using(at) => body_use(process, at).is_some(),
     }

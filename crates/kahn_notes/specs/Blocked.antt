@@ -84,12 +84,17 @@ is_cut_off u = finds (class.Word word.Else ∷ []) u.found && awaits (class.Word
 abbrev pub is_second_value : Unexpected → Bool
 is_second_value u = finds (class.Sign sign.Comma ∷ []) u.found && awaits (class.Word word.On) u.wanted
 
+-- `=` behind the name that begins a statement
+abbrev pub is_equated : Unexpected → Bool
+is_equated u = finds (class.Sign sign.Equal ∷ []) u.found && awaits (class.Sign sign.Becomes) u.wanted
+
 -- what is said where no change is told and one statement or one value alone stands
 abbrev pub one_words : Unexpected → Bool → Option (List ℕ)
 one_words u mended =
     if mended then None
     else if is_cut_off u then Some (codes "an `else` stands behind `if E then S`, where S is one statement; `begin` and `end` make one of several")
     else if is_second_value u then Some (codes "`send` sends one value: `send E on C; send F on C`")
+    else if is_equated u then Some (codes "a statement that begins with a name assigns to it: `X := E`")
     else None
 
 -- what is said below the changes: that, or of blocks

@@ -137,8 +137,8 @@ fn is_cut_off(unexpected: &Unexpected) -> bool
         && awaits(Class::Sign(Sign::Semicolon), &unexpected.wanted)
 }
 
-/// What is said where no change is told and one statement or one value alone stands: of such an `else`, and of a `,` behind the value of
-/// a `send`.
+/// What is said where no change is told and one statement or one value alone stands: of such an `else`, of a `,` behind the value of
+/// a `send`, and of `=` behind the name that begins a statement.
 pub(crate) fn one_words(unexpected: &Unexpected, mended: bool) -> Option<&'static str>
     ensures { option_map (λ words. words.now) result ≡ one_words unexpected.now mended }
 {
@@ -154,6 +154,11 @@ pub(crate) fn one_words(unexpected: &Unexpected, mended: bool) -> Option<&'stati
         && awaits(Class::Word(Keyword::On), &unexpected.wanted)
     {
         return Some("`send` sends one value: `send E on C; send F on C`");
+    }
+    if finds(&[Class::Sign(Sign::Equal)], unexpected.found)
+        && awaits(Class::Sign(Sign::Becomes), &unexpected.wanted)
+    {
+        return Some("a statement that begins with a name assigns to it: `X := E`");
     }
     None
 }

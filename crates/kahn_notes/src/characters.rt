@@ -49,11 +49,15 @@ pub(crate) const CHARACTERS: [Told; 47] = [
         b"{",
         "; a block goes from `begin` to `end`, a comment from `comment` to `;`",
     ),
-    (false, b"&&", "; it is the word `and`"),
+    (
+        false,
+        b"&&",
+        "; it is the word `and`, and between instances `par`",
+    ),
     (
         false,
         b"&",
-        "; `and` is a word, and of logicals; a remainder is `X mod 8`",
+        "; `and` is a word, and of logicals; a remainder is `X mod 8`, and between instances stands `par`",
     ),
     (
         false,

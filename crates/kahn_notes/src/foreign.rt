@@ -24,7 +24,7 @@ fn is_one_of(word: &[u8], others: &[&str]) -> bool
 type Told = (&'static [&'static str], &'static str);
 
 /// Those that are told of wherever they stand.
-pub(crate) const FOREIGN: [Told; 10] = [
+pub(crate) const FOREIGN: [Told; 11] = [
     (
         &["for", "until", "loop", "forever"],
         "a loop is `while E do S`, or `repeat S`, which has no end",
@@ -51,6 +51,7 @@ pub(crate) const FOREIGN: [Told; 10] = [
         "there are no constants: an instance hands a number over, `P(A, 10)`",
     ),
     (&["xor"], "there is no exclusive or: of logicals it is `<>`"),
+    (&["shl", "shr"], "there is no shift: `X * 16`, `X div 16`"),
     (
         &["inout"],
         "one process reads a channel, and another one writes it: `in U`, `out W`",

@@ -2,90 +2,19 @@
 
 use crate::advice::Habit;
 use crate::advice::Test::{All, First, May, MayNot, NotAll, Number, Operator, Value};
-use kahn_syntax::Class::{self, Name, Sign, Word};
+use crate::classes::{ACTS, BEGINS, HANDS, OPERATES, STARTS, STOPS, WORDS};
+use kahn_syntax::Class::{Name, Sign, Word};
 use kahn_syntax::Keyword::{
-    And, Begin, Channel, Div, Do, Else, End, False, If, In, Input, Integer, Logical, Mod, Not, On,
-    Or, Out, Output, Par, Print, Process, Repeat, Send, Then, True, Wait, While,
+    Begin, Channel, Do, Else, End, If, In, Input, Integer, Logical, On, Out, Output, Par, Print,
+    Process, Repeat, Send, Then, True, Wait, While,
 };
 use kahn_syntax::Sign::{
-    AtLeast, AtMost, Becomes, Close, Comma, Equal, Greater, Less, Minus, Open, Plus, Semicolon,
-    Times, Unequal,
+    Becomes, Close, Comma, Equal, Greater, Less, Minus, Open, Plus, Semicolon, Times,
 };
 use kahn_wanted::Group::{Arithmetic, Declaration, Operand, Statement};
 
-/// Behind these a statement begins.
-const BEGINS: &[Class] = &[
-    Word(Begin),
-    Word(Do),
-    Word(Else),
-    Sign(Semicolon),
-    Word(Repeat),
-];
-
-/// These begin a statement, or a value.
-const ACTS: &[Class] = &[
-    Word(If),
-    Word(While),
-    Word(Repeat),
-    Word(Wait),
-    Word(Send),
-    Word(Print),
-];
-
-/// These begin a statement of a body, and no block.
-const STARTS: &[Class] = &[
-    Name,
-    Word(If),
-    Word(While),
-    Word(Repeat),
-    Word(Send),
-    Word(Print),
-];
-
-/// With these a statement ends.
-const STOPS: &[Class] = &[Sign(Semicolon), Word(End), Word(Else), Word(Par)];
-
-/// All operators but `=`.
-const OPERATES: &[Class] = &[
-    Sign(Plus),
-    Sign(Minus),
-    Sign(Times),
-    Sign(Less),
-    Sign(Greater),
-    Sign(Unequal),
-    Sign(AtMost),
-    Sign(AtLeast),
-    Word(And),
-    Word(Div),
-    Word(Mod),
-    Word(Or),
-];
-
-/// The keywords of which no more is told where a name alone may stand.
-const WORDS: &[Class] = &[
-    Word(And),
-    Word(Div),
-    Word(Mod),
-    Word(Or),
-    Word(Not),
-    Word(False),
-    Word(True),
-    Word(If),
-    Word(Then),
-    Word(Else),
-    Word(While),
-    Word(Do),
-    Word(Repeat),
-    Word(Begin),
-    Word(End),
-    Word(Wait),
-    Word(Send),
-    Word(On),
-    Word(Print),
-];
-
 /// The first that holds is told.
-pub(crate) const HABITS: [Habit; 69] = [
+pub(crate) const HABITS: [Habit; 73] = [
     (
         &[Word(Then)],
         &[Word(If)],
@@ -120,7 +49,7 @@ pub(crate) const HABITS: [Habit; 69] = [
         BEGINS,
         &[Sign(Open), Sign(Minus)],
         &[],
-        "a comment goes from `comment` to `;`",
+        "a statement begins with a name or a keyword; a comment goes from `comment` to `;`",
     ),
     (
         &[Sign(Open)],
@@ -190,6 +119,30 @@ pub(crate) const HABITS: [Habit; 69] = [
         &[Sign(Less)],
         &[],
         "a value is taken by `wait(C)`",
+    ),
+    (
+        &[Word(On)],
+        &[],
+        &[],
+        "a channel's name stands behind `on`: `send E on C`",
+    ),
+    (
+        &[Word(Print)],
+        &[Sign(Semicolon), Word(End), Word(Else), Word(On)],
+        &[],
+        "a value stands behind `print`: `print E`",
+    ),
+    (
+        &[],
+        &[Word(On)],
+        &[Operator, May(Word(End))],
+        "`on` stands behind the value of a `send`: `send E on C`; `print E` needs no channel",
+    ),
+    (
+        &[],
+        HANDS,
+        &[May(Word(True))],
+        "an instance hands over channels and literals, by their places: `P(A, -1, true)`",
     ),
     (
         &[],

@@ -5,6 +5,7 @@
 mod advice;
 mod blocked;
 mod characters;
+mod classes;
 mod closed;
 mod commented;
 mod foreign;
