@@ -275,6 +275,17 @@ for program in *.kahn; do
     fail "warnings/$name: status $told and $status, $(head -c 600 "$work/output"), $(head -c 300 "$work/error")"
   fi
 done
+# before the run begins, whose bound lets it go on for days
+echo 'begin integer output channel A; process p(integer out W); begin integer I; repeat begin I := I + 1 end; send I on W end; p(A) end' > "$work/endless"
+"$explain" "$work/endless" --bound 281474976710655 > "$work/output" 2> "$work/error" < /dev/null &
+run=$!
+for _ in {1..200}; do if grep -q ': warning: .* never ' "$work/output"; then break; fi; sleep 0.05; done
+if kill "$run" && [ ! -s "$work/error" ] && "$explain" "$work/endless" --strict < /dev/null | cmp -s - "$work/output"; then
+  pass
+else
+  fail "a warning before a run without an end: $(head -c 600 "$work/output")"
+fi
+wait "$run" 2> "$work/error"
 cd "$top/checks/rows" || exit 2
 for program in */program.kahn; do "$explain" "$program" --bound 100 < /dev/null 2> /dev/null | grep ': warning: '; done > "$work/output"
 if cmp -s "$work/output" "$top/checks/warnings/rows.note"; then pass; else fail "warnings of the rows: $(head -c 600 "$work/output")"; fi

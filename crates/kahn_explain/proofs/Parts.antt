@@ -1,15 +1,21 @@
 -- What the parts of explaining say of the whole.
-use Rattle.std.proofs.Common.{ℕ, Bool, List, ◌++◌, Option, Result, Ok, Err, inl, inr, refl, string_bytes, subst, sym}
+use Rattle.std.proofs.Common.{◌∙◌, ℕ, Bool, List, ◌++◌, Option, Result, Ok, Err, ap, append_assoc, inl, inr, refl, string_bytes, subst, sym}
+use Rattle.std.proofs.KnownBytes.{Appends-trans}
+use Rattle.std.specs.Io.KnownBytes.{Appends}
 use Rattle.kahn_streams.specs.declared.config.Config.{Config}
+use Rattle.kahn_streams.specs.declared.fault.RunFault.{RunFault}
+use Rattle.kahn_streams.specs.declared.fault.RunFault.TheVariants.{NoMemory}
 use Rattle.kahn_streams.specs.Inputs.{Lists}
-use Rattle.kahn_streams.specs.Answers.{IsRightRun}
+use Rattle.kahn_streams.specs.Answers.{IsRightRun, IsUnrun}
+use Rattle.kahn_streams.specs.Written.{AppendsFront}
 use Rattle.kahn_streams.specs.declared.answer.Answer.{Answer}
-use Rattle.kahn_report.specs.Formats.{StandsFor}
-use Rattle.kahn_report.specs.Work.{IsUnanswered}
+use Rattle.kahn_write.specs.declared.bytes.WriteFault.{WriteFault}
+use Rattle.kahn_report.specs.Formats.{IsInputTextFault, StandsFor}
+use Rattle.kahn_report.specs.declared.input.TextFault.{TextFault}
 use Rattle.kahn_report.specs.declared.working.WorkFault.{WorkFault}
 use Rattle.kahn_report.specs.declared.working.WorkFault.TheVariants.{Syntax, Check, Text, Run, Write}
 use Rattle.kahn_why.specs.declared.why.told.Explanation.{Explanation}
-use Rattle.kahn_explain.specs.Explaining.{IsExplainedFor, IsToldOf, HasExplained}
+use Rattle.kahn_explain.specs.Explaining.{AreNotesBefore, IsExplainedFor, IsToldOf, HasExplained}
 use Rattle.kahn_why.proofs.Parts.{are_allowed}
 use Rattle.kahn_why.specs.inner.Told.{HasRefused, HasWritten, IsAdmitted}
 use Rattle.kahn_why.specs.declared.explaining.Admitted.{Admitted}
@@ -23,29 +29,55 @@ refused path program input config strict old new (Ok Refused) h = h
 refused path program input config strict old new (Err (Syntax f)) h = h
 refused path program input config strict old new (Err (Check f)) h = h
 refused path program input config strict old new (Err (Text f)) h = absurd h
-refused path program input config strict old new (Err (Run f)) h = (inl h.0, h.1)
-refused path program input config strict old new (Err (Write f)) h = (h.0, inr h.1, h.2)
+refused path program input config strict old new (Err (Run f)) h = inl h
+refused path program input config strict old new (Err (Write f)) h = (h.0, inr (inr h.1), h.2)
 
--- of an allowed program
-pub unanswered : (path program input : List ℕ) (config : Config) (strict : Bool) (it : Admitted) (old : Option (List ℕ)) (fault : WorkFault)
-    → IsAdmitted path program strict it → IsUnanswered it.network input config fault → HasExplained path program input config strict old old (Err fault)
-unanswered path program input config strict it old (Syntax f) on h = absurd h
-unanswered path program input config strict it old (Check f) on h = absurd h
-unanswered path program input config strict it old (Text f) on h = ((it.network, on.checked, h), (string_bytes it.notes, are_allowed path program strict it on), refl)
-unanswered path program input config strict it old (Run f) on h =
-    (inr ((it.network, h.0, on.checked, h.1, h.2), (string_bytes it.notes, are_allowed path program strict it on)), refl)
-unanswered path program input config strict it old (Write f) on h = absurd h
+-- ---- of an allowed program
 
-told_out : (path program input : List ℕ) (config : Config) (strict : Bool) (e : Explanation) (text : List ℕ) (old new : Option (List ℕ)) (r : Result Came WorkFault)
-    → IsToldOf path program input config strict e text → HasWritten text (Stopped e.told) old new r → HasExplained path program input config strict old new r
-told_out path program input config strict e text old new r told (inl (is, out)) =
-    subst (HasExplained path program input config strict old new) (sym is) (e, text, told, refl, out)
-told_out path program input config strict e text old new r told (inr (f, is, out)) =
-    subst (HasExplained path program input config strict old new) (sym is) (text, inl (e, told), out)
+-- whose input text is refused
+pub unread : (path program input : List ℕ) (config : Config) (strict : Bool) (it : Admitted) (old : Option (List ℕ)) (fault : TextFault)
+    → IsAdmitted path program strict it → IsInputTextFault it.network input fault → HasExplained path program input config strict old old (Err (Text fault))
+unread path program input config strict it old f on h = ((it.network, on.checked, h), (string_bytes it.notes, are_allowed path program strict it on), refl)
 
-pub explained_out : (path program input : List ℕ) (config : Config) (strict : Bool) (it : Admitted) (a : Answer) (e : Explanation) (old new : Option (List ℕ)) (r : Result Came WorkFault)
-    → IsAdmitted path program strict it → (lists : Lists) × StandsFor it.network input lists × IsRightRun it.network lists config a → IsExplainedFor path program it.network input a e
-    → HasWritten (string_bytes it.notes ++ string_bytes e.text) (Stopped e.told) old new r → HasExplained path program input config strict old new r
-explained_out path program input config strict it a e old new r on ran is out =
-    told_out path program input config strict e (string_bytes it.notes ++ string_bytes e.text) old new r
-    (string_bytes it.notes, are_allowed path program strict it on, (it.network, ran.0, a, (on.checked, ran.1, ran.2), is), refl) out
+-- and whose input text stands for lists
+before : (path program input : List ℕ) (strict : Bool) (it : Admitted) (lists : Lists) → IsAdmitted path program strict it → StandsFor it.network input lists
+    → AreNotesBefore path program input strict it.network lists (string_bytes it.notes)
+before path program input strict it lists on stands = (on.checked, stands, are_allowed path program strict it on)
+
+-- before whose run the writer broke off
+pub unwarned : (path program input : List ℕ) (config : Config) (strict : Bool) (it : Admitted) (lists : Lists) (old new : Option (List ℕ)) (f : WriteFault)
+    → IsAdmitted path program strict it → StandsFor it.network input lists → AppendsFront old new (string_bytes it.notes)
+    → HasExplained path program input config strict old new (Err (Write f))
+unwarned path program input config strict it lists old new f on stands out =
+    (string_bytes it.notes, inr (inl (it.network, lists, before path program input strict it lists on stands)), out)
+
+-- whose run is refused behind the notes
+pub unrun : (path program input : List ℕ) (config : Config) (strict : Bool) (it : Admitted) (lists : Lists) (old new : Option (List ℕ)) (f : RunFault)
+    → IsAdmitted path program strict it → StandsFor it.network input lists → Appends old new (string_bytes it.notes) → IsUnrun it.network config f
+    → HasExplained path program input config strict old new (Err (Run f))
+unrun path program input config strict it lists old new f on stands out why =
+    inr (it.network, lists, string_bytes it.notes, before path program input strict it lists on stands, why, out)
+
+-- whose run was not, with no memory to explain it
+pub unexplained : (path program input : List ℕ) (config : Config) (strict : Bool) (it : Admitted) (lists : Lists) (a : Answer) (old new : Option (List ℕ))
+    → IsAdmitted path program strict it → StandsFor it.network input lists → Appends old new (string_bytes it.notes) → IsRightRun it.network lists config a
+    → HasExplained path program input config strict old new (Err (Run NoMemory))
+unexplained path program input config strict it lists a old new on stands out (allowed, (watch, watched, right)) =
+    unrun path program input config strict it lists old new NoMemory on stands out (allowed, (watch, watched))
+
+told_out : (path program input : List ℕ) (config : Config) (strict : Bool) (e : Explanation) (notes text : List ℕ) (old mid new : Option (List ℕ)) (r : Result Came WorkFault)
+    → IsToldOf path program input config strict e (notes ++ text) → Appends old mid notes → HasWritten text (Stopped e.told) mid new r
+    → HasExplained path program input config strict old new r
+told_out path program input config strict e notes text old mid new r told gone (inl (is, out)) =
+    subst (HasExplained path program input config strict old new) (sym is) (e, notes ++ text, told, refl, Appends-trans old mid new notes text gone out)
+told_out path program input config strict e notes text old mid new r told gone (inr (f, is, (front, rest, split, out))) =
+    subst (HasExplained path program input config strict old new) (sym is)
+    (notes ++ text, inl (e, told), (notes ++ front, rest, ap (λ l. notes ++ l) split ∙ sym (append_assoc notes front rest), Appends-trans old mid new notes front gone out))
+
+pub explained_out : (path program input : List ℕ) (config : Config) (strict : Bool) (it : Admitted) (lists : Lists) (a : Answer) (e : Explanation) (old mid new : Option (List ℕ))
+    (r : Result Came WorkFault) → IsAdmitted path program strict it → StandsFor it.network input lists → Appends old mid (string_bytes it.notes)
+    → IsRightRun it.network lists config a → IsExplainedFor path program it.network input a e → HasWritten (string_bytes e.text) (Stopped e.told) mid new r
+    → HasExplained path program input config strict old new r
+explained_out path program input config strict it lists a e old mid new r on stands gone right is out =
+    told_out path program input config strict e (string_bytes it.notes) (string_bytes e.text) old mid new r
+    (string_bytes it.notes, are_allowed path program strict it on, (it.network, lists, a, (on.checked, stands, right), is), refl) gone out

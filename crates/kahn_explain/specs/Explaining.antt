@@ -37,8 +37,13 @@ abbrev pub IsToldOf : List ℕ → List ℕ → List ℕ → Config → Bool →
 IsToldOf path program input config strict e text =
     (notes : List ℕ) × AreAllowed path program strict notes × IsExplanationOf path program input config e × (text ≡ notes ++ string_bytes e.text)
 
--- The explanation went out, or why the program text is refused, or why neither: the first of the faults in this order, after which
--- nothing was written, or the writer's, after which a prefix was. A fault of the program text is answered where it has no place.
+-- the notes on an allowed program whose input text stands for these lists: they go out before its run begins
+abbrev pub AreNotesBefore : List ℕ → List ℕ → List ℕ → Bool → Program → Lists → List ℕ → Type 0
+AreNotesBefore path program input strict t lists notes = IsChecked program t × StandsFor t input lists × AreAllowed path program strict notes
+
+-- The explanation went out behind the notes, or why the program text is refused, or why neither: the first of the faults in this order,
+-- after which nothing was written; one of the run, or want of memory after it, behind the notes; or the writer's, after which a prefix
+-- was. A fault of the program text is answered where it has no place.
 abbrev pub HasExplained : List ℕ → List ℕ → List ℕ → Config → Bool → Option (List ℕ) → Option (List ℕ) → Result Came WorkFault → Type 0
 HasExplained path program input config strict old new (Ok (Stopped x)) =
     (e : Explanation) × (text : List ℕ) × IsToldOf path program input config strict e text × (e.told ≡ x) × Appends old new text
@@ -48,12 +53,11 @@ HasExplained path program input config strict old new (Err (Syntax f)) =
 HasExplained path program input config strict old new (Err (Check f)) = IsUnchecked program (Check f) × IsRefusal path program (Check f) None × (new ≡ old)
 HasExplained path program input config strict old new (Err (Text f)) =
     ((t : Program) × IsChecked program t × IsInputTextFault t input f) × ((notes : List ℕ) × AreAllowed path program strict notes) × (new ≡ old)
-HasExplained path program input config strict old new (Err (Run f)) =
-    ((f ≡ NoMemory)
-    ⊎ (((t : Program) × (lists : Lists) × IsChecked program t × StandsFor t input lists × IsUnrun t config f) × ((notes : List ℕ) × AreAllowed path program strict notes)))
-    × (new ≡ old)
+HasExplained path program input config strict old new (Err (Run f)) = ((f ≡ NoMemory) × (new ≡ old))
+    ⊎ ((t : Program) × (lists : Lists) × (notes : List ℕ) × AreNotesBefore path program input strict t lists notes × IsUnrun t config f × Appends old new notes)
 HasExplained path program input config strict old new (Err (Write f)) =
-    (text : List ℕ) × (((e : Explanation) × IsToldOf path program input config strict e text) ⊎ IsRefusedFor path program strict text) × AppendsFront old new text
+    (text : List ℕ) × (((e : Explanation) × IsToldOf path program input config strict e text)
+    ⊎ (((t : Program) × (lists : Lists) × AreNotesBefore path program input strict t lists text) ⊎ IsRefusedFor path program strict text)) × AppendsFront old new text
 
 -- the status for how a run stopped
 abbrev pub told_status : Told → ℕ

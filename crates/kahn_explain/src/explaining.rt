@@ -9,8 +9,8 @@ ghost use Rattle.kahn_explain.specs.Explaining.{HasExplained, IsExplainedFor, ca
 ghost use Rattle.kahn_explain.specs.Tracing.{HasTraced, beside};
 ghost use Rattle.kahn_explain.specs.inner.Told.{HasTabled, HasToldRun};
 
-use crate::tracing::{answered, histories_of, trace_text};
-use kahn_pool::{Answer, Config, RunFault, Verdict};
+use crate::tracing::{histories_of, trace_text};
+use kahn_pool::{Answer, Config, Open, RunFault, Verdict, run};
 use kahn_report::{WorkFault, read_input, write_line};
 use kahn_streams::{Network, NoMemory};
 use kahn_why::{Admitted, Came, Explanation, Told, admit, explained, write_both};
@@ -37,7 +37,8 @@ fn explain_answer(
     Ok(explained(alloc, path, program, network, Some(&input), answer)?)
 }
 
-/// Runs an allowed program on an input, and writes what is warned of in it and why the run stopped.
+/// Writes what is warned of in an allowed program, if its input text stands for an input; then runs it, and writes why the run
+/// stopped.
 fn explain_run<R: Threads + Wait + Sync, W: Write>(
     rt: &R,
     alloc: Global,
@@ -51,21 +52,29 @@ fn explain_run<R: Threads + Wait + Sync, W: Write>(
     requires { IsChecked program.now it.now.network }
     ensures { HasToldRun path.now program.now it.now input.now config (W.contents writer.old) (W.contents writer.new) result }
 {
-    let answer = match answered(rt, alloc, &it.network, input, config) {
+    let lists = match read_input(alloc, input, &it.network) {
+        Ok(lists) => lists,
+        Err(fault) => return Err(WorkFault::Text(fault)),
+    };
+    if let Err(fault) = write_line(writer, &[it.notes.as_bytes()]) {
+        return Err(WorkFault::Write(fault));
+    }
+    let answer = match run(rt, alloc, &it.network, lists, config, &Open) {
         Ok(answer) => answer,
-        Err(fault) => return Err(fault),
+        Err(fault) => return Err(WorkFault::Run(fault)),
     };
     let Ok(explanation) = explain_answer(alloc, path, program, &it.network, input, &answer) else {
         return Err(WorkFault::Run(RunFault::NoMemory));
     };
     let came = Came::Stopped(explanation.told);
-    write_both(it.notes.as_str(), explanation.text.as_str(), came, writer)
+    write_both("", explanation.text.as_str(), came, writer)
 }
 
-/// Runs a program on an input, and writes what is warned of in it and why the run stopped; or why the program text is refused,
-/// where that has a place, and for a warning too where it is asked to be strict. Nothing is written before all that is to be
-/// written stands. Faults are found in this order: of the program text, of the network, warnings, of the input text, of the run,
-/// want of memory, of the writer.
+/// Writes what is warned of in a program, runs it on an input, and writes why the run stopped; or why the program text is refused,
+/// where that has a place, and for a warning too where it is asked to be strict. What is warned of is written and flushed once the
+/// input text was read, before the run begins: so it stands where the run is refused, or memory for the explanation. Else nothing is
+/// written before all that is to be written stands. Faults are found in this order: of the program text, of the network, warnings,
+/// of the input text, of the writer at the warnings, of the run, want of memory, of the writer at the explanation.
 pub fn explain<R: Threads + Wait + Sync, W: Write>(
     rt: &R,
     alloc: Global,

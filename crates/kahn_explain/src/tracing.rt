@@ -8,4 +8,3 @@ mod watched;
 
 pub(crate) use histories::histories_of;
 pub(crate) use table::trace_text;
-pub(crate) use watched::answered;

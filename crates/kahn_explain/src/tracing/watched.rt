@@ -40,7 +40,7 @@ fn watching(alloc: Global, config: &Config, name: &str) -> Result<Config, AllocE
 }
 
 /// The answer of a network for an input text. It refuses as `read_input` and `run` do.
-pub fn answered<R: Threads + Wait + Sync>(
+pub(crate) fn answered<R: Threads + Wait + Sync>(
     rt: &R,
     alloc: Global,
     network: &Network,

@@ -1,16 +1,32 @@
-use Rattle.kahn_explain.proofs.Parts.{explained_out, unanswered}
+use Rattle.std.proofs.Common.{[], string_bytes}
+use Rattle.kahn_why.proofs.Parts.{broke_off, went_out}
+use Rattle.kahn_explain.proofs.Parts.{explained_out, unexplained, unread, unrun, unwarned}
 use Rattle.kahn_explain.proofs.Right_ends.{answered}
 use Rattle.kahn_explain.proofs.explaining.explain_run.Goals as goal
 
 pub returns-in-Err : goal.returns-in-Err
-returns-in-Err g c strict on = unanswered c.args.path.now c.args.program.now c.args.input.now c.args.config strict c.args.it.now _ c.in-Err.fault on c.in-Err.ensures
+returns-in-Err g c strict on = unread c.args.path.now c.args.program.now c.args.input.now c.args.config strict c.args.it.now _ c.in-Err.fault on c.in-Err.ensures.read
+
+pub returns-in-Err-write_line : goal.returns-in-Err-write_line
+returns-in-Err-write_line g c strict on =
+    unwarned c.args.path.now c.args.program.now c.args.input.now c.args.config strict c.args.it.now c.in-Ok.lists _ _ c.in-Err-write_line.fault on c.in-Ok.ensures.read
+    (broke_off _ _ [] (string_bytes c.args.it.now.notes) (rw c.as_bytes.ensures.value at c.in-Err-write_line.ensures))
+
+pub returns-in-Err-run : goal.returns-in-Err-run
+returns-in-Err-run g c strict on =
+    unrun c.args.path.now c.args.program.now c.args.input.now c.args.config strict c.args.it.now c.in-Ok.lists _ _ c.in-Err-run.fault on c.in-Ok.ensures.read
+    (went_out _ _ [] (string_bytes c.args.it.now.notes) (rw c.as_bytes.ensures.value at c.in_default.ensures)) c.in-Err-run.ensures.told
 
 pub explain_answer-requires : goal.explain_answer-requires
-explain_answer-requires g c =
-    let h = c.in-Ok.ensures in
-    answered c.args.program.now c.args.it.now.network c.args.config h.0 c.in-Ok.answer c.requires h.2
+explain_answer-requires g c = answered c.args.program.now c.args.it.now.network c.args.config c.in-Ok.lists c.in-Ok-run.answer c.requires c.in-Ok-run.ensures.told
+
+pub returns-in_default-explain_answer : goal.returns-in_default-explain_answer
+returns-in_default-explain_answer g c strict on =
+    unexplained c.args.path.now c.args.program.now c.args.input.now c.args.config strict c.args.it.now c.in-Ok.lists c.in-Ok-run.answer _ _ on c.in-Ok.ensures.read
+    (went_out _ _ [] (string_bytes c.args.it.now.notes) (rw c.as_bytes.ensures.value at c.in_default.ensures)) c.in-Ok-run.ensures.told
 
 pub returns : goal.returns
 returns g c strict on =
-    let out = rw c.as_str-2.ensures.value at (rw c.as_str.ensures.value at c.write_both.ensures) in
-    explained_out c.args.path.now c.args.program.now c.args.input.now c.args.config strict c.args.it.now c.in-Ok.answer c.in-Ok-explain_answer.explanation _ _ _ on c.in-Ok.ensures c.in-Ok-explain_answer.ensures out
+    explained_out c.args.path.now c.args.program.now c.args.input.now c.args.config strict c.args.it.now c.in-Ok.lists c.in-Ok-run.answer c.in-Ok-explain_answer.explanation _ _ _ _
+    on c.in-Ok.ensures.read (went_out _ _ [] (string_bytes c.args.it.now.notes) (rw c.as_bytes.ensures.value at c.in_default.ensures)) c.in-Ok-run.ensures.told
+    c.in-Ok-explain_answer.ensures (rw c.as_str.ensures.value at c.write_both.ensures)
