@@ -1,0 +1,65 @@
+use Rattle.std.proofs.Common.{◌≡◌, inl, inr, rules, true}
+use Rattle.std.specs.Prelude.{option_copied}
+use Rattle.std.proofs.lemmas.Result.{err_from_is_err_and}
+use Rattle.std.specs.Io.Buffered.{reader_remaining}
+use Rattle.kahn_live.specs.Course.{lines_given, point_of}
+use Rattle.kahn_live.proofs.Begun.{histories}
+use Rattle.kahn_live.proofs.Feeding.{all_shown, begun_there}
+use Rattle.kahn_live.proofs.taking.take_each.Goals as goal
+
+pub returns-in_err-take_lines-clause-met : goal.returns-in_err-take_lines-clause-met
+returns-in_err-take_lines-clause-met g c =
+    let old = point_of g.W.Write.contents g.E.Write.contents c.args.stage.now in
+    let begun = point_of g.W.Write.contents g.E.Write.contents c.begin.new.stage in
+    let ready = point_of g.W.Write.contents g.E.Write.contents c.tell_alone.new.stage in
+    let there : c.in_ok-begin.field-0 ≡ true = search rules in
+    let has = begun_there (option_copied c.args.fed.input) old begun c.in_ok-begin.field-0 there c.in_ok-begin.ensures.begun in
+    let p = err_from_is_err_and c.from_residual-in_err-take_lines.result c.from_residual-in_err-take_lines.ensures.1 in
+    rw (p.1, p.2) (inr (begun, ready, has, c.tell_alone.ensures, inl c.in_err-take_lines.ensures.met))
+
+pub returns-in_err-take_last-clause-met : goal.returns-in_err-take_last-clause-met
+returns-in_err-take_last-clause-met g c =
+    let old = point_of g.W.Write.contents g.E.Write.contents c.args.stage.now in
+    let begun = point_of g.W.Write.contents g.E.Write.contents c.begin.new.stage in
+    let ready = point_of g.W.Write.contents g.E.Write.contents c.tell_alone.new.stage in
+    let last = point_of g.W.Write.contents g.E.Write.contents c.take_lines.new.stage in
+    let there : c.in_ok-begin.field-0 ≡ true = search rules in
+    let has = begun_there (option_copied c.args.fed.input) old begun c.in_ok-begin.field-0 there c.in_ok-begin.ensures.begun in
+    let p = err_from_is_err_and c.from_residual-in_err-take_last.result c.from_residual-in_err-take_last.ensures.1 in
+    rw (p.1, p.2) (inr (begun, ready, has, c.tell_alone.ensures, inr (last, c.in_ok-take_lines.ensures.met, c.in_err-take_last.ensures.met)))
+
+pub returns-clause-settled : goal.returns-clause-settled
+returns-clause-settled g c =
+    let text = reader_remaining g.I.Read.remaining c.args.reader.now in
+    let old = point_of g.W.Write.contents g.E.Write.contents c.args.stage.now in
+    let begun = point_of g.W.Write.contents g.E.Write.contents c.begin.new.stage in
+    let ready = point_of g.W.Write.contents g.E.Write.contents c.tell_alone.new.stage in
+    let last = point_of g.W.Write.contents g.E.Write.contents c.take_lines.new.stage in
+    let new = point_of g.W.Write.contents g.E.Write.contents c.take_last.new.stage in
+    let there : c.in_ok-begin.field-0 ≡ true = search rules in
+    let has = begun_there (option_copied c.args.fed.input) old begun c.in_ok-begin.field-0 there c.in_ok-begin.ensures.begun in
+    let shown = all_shown (lines_given c.args.fed) text old new (begun, has, (ready, last, c.tell_alone.ensures, c.in_ok-take_lines.ensures.met, c.in_ok-take_last.ensures.met)) in
+    λ _. (c.in_ok-take_last.ensures.broken, (shown.0, shown.1))
+
+pub returns-clause-histories : goal.returns-clause-histories
+returns-clause-histories g c =
+    let text = reader_remaining g.I.Read.remaining c.args.reader.now in
+    let old = point_of g.W.Write.contents g.E.Write.contents c.args.stage.now in
+    let begun = point_of g.W.Write.contents g.E.Write.contents c.begin.new.stage in
+    let ready = point_of g.W.Write.contents g.E.Write.contents c.tell_alone.new.stage in
+    let last = point_of g.W.Write.contents g.E.Write.contents c.take_lines.new.stage in
+    let new = point_of g.W.Write.contents g.E.Write.contents c.take_last.new.stage in
+    let there : c.in_ok-begin.field-0 ≡ true = search rules in
+    let has = begun_there (option_copied c.args.fed.input) old begun c.in_ok-begin.field-0 there c.in_ok-begin.ensures.begun in
+    let shown = all_shown (lines_given c.args.fed) text old new (begun, has, (ready, last, c.tell_alone.ensures, c.in_ok-take_lines.ensures.met, c.in_ok-take_last.ensures.met)) in
+    λ _. histories new.session shown
+
+pub returns-clause-met : goal.returns-clause-met
+returns-clause-met g c =
+    let old = point_of g.W.Write.contents g.E.Write.contents c.args.stage.now in
+    let begun = point_of g.W.Write.contents g.E.Write.contents c.begin.new.stage in
+    let ready = point_of g.W.Write.contents g.E.Write.contents c.tell_alone.new.stage in
+    let last = point_of g.W.Write.contents g.E.Write.contents c.take_lines.new.stage in
+    let there : c.in_ok-begin.field-0 ≡ true = search rules in
+    let has = begun_there (option_copied c.args.fed.input) old begun c.in_ok-begin.field-0 there c.in_ok-begin.ensures.begun in
+    (begun, has, (ready, last, c.tell_alone.ensures, c.in_ok-take_lines.ensures.met, c.in_ok-take_last.ensures.met))
