@@ -6,7 +6,7 @@ use Rattle.kahn_session.specs.Live.{IsMeantLine, IsTakenLine, IsUnfedBy, Live}
 use Rattle.kahn_session.specs.declared.fault.TakeFault.{TakeFault}
 use Rattle.kahn_session.specs.declared.fault.TakeFault.TheVariants.{TooLong, NotUtf8, BadLine, BadValue, Feed, NoMemory, Write}
 use Rattle.kahn_session.specs.Refusals.{at_end_number}
-use Rattle.kahn_live.specs.Course.{AreAllMet, AreEachMet, AreFed, AreMeant, AreRead, AreLastTried, LinesGiven, IsFirstPart, IsFirstUnmeant, IsAnyMet, IsBrokenOff, IsCutOff, IsToldBy, Point, Telling, WasAnswered}
+use Rattle.kahn_live.specs.Course.{AreEachMet, AreFed, AreMeant, AreRead, LinesGiven, IsFirstPart, IsFirstUnmeant, IsAnyMet, IsBrokenOff, IsCutOff, IsToldBy, Point, Telling, WasAnswered}
 use Rattle.kahn_live.specs.Histories.{IsShown}
 
 -- one line more was fed
@@ -80,25 +80,3 @@ unmeant_more s line lines rest split meant l f first = subst (λ (ls : List (Lis
 -- this one isn't
 pub unmeant_here : (s : Live) (line : List ℕ) (lines rest : List (List ℕ)) (f : TakeFault) → rest ≡ line ∷ lines → IsUnfedBy line s.flow f → IsFirstUnmeant s rest line f
 unmeant_here s line lines rest f split why = subst (λ (ls : List (List ℕ)). IsFirstUnmeant s ls line f) (sym split) (inl (refl, why))
-
--- all are, and the lines were met
-none_refused : (s : Live) (lines : List (List ℕ)) (old new : Telling) → AreLastTried s lines old new (Ok true) → AreMeant s lines × (new ≡ old)
-none_refused s lines old new (inl (is, meant, same)) = (meant, same)
-none_refused s lines old new (inr (line, f, first, told)) = absurd told
-
-pub all_met : (f : LinesGiven) (r : Result Bool Fault) (text : Option (List ℕ)) (old new : Point) (t : Telling) → AreLastTried old.session f.at_end old.told t (Ok true)
-    → AreEachMet f r text (record old { told = t }) new → AreAllMet f r text old new
-all_met f r text old new t tried each =
-    let (meant, same) = none_refused old.session f.at_end old.told t tried in
-    inl (meant, subst (λ (u : Telling). AreEachMet f r text (record old { told = u }) new) same each)
-
--- one isn't, or memory was refused for it
-pub one_unmeant : (f : LinesGiven) (text : Option (List ℕ)) (old : Point) (t : Telling) → AreLastTried old.session f.at_end old.told t (Ok false)
-    → AreAllMet f (Ok false) text old (record old { told = t })
-one_unmeant f text old t (inl (is, meant, same)) = absurd cc
-one_unmeant f text old t (inr told) = inr (told, refl, refl)
-
-pub want_unmeant : (f : LinesGiven) (text : Option (List ℕ)) (old : Point) (t : Telling) (fault : Fault) → AreLastTried old.session f.at_end old.told t (Err fault)
-    → AreAllMet f (Err fault) text old (record old { told = t })
-want_unmeant f text old t fault (inl (is, meant, same)) = absurd cc
-want_unmeant f text old t fault (inr told) = inr (told, refl, refl)
