@@ -180,9 +180,22 @@ gives "no end mark" 0 'RUNS: 2 7\nend 1 encode: waits on RAW after 8\nfinished 8
 gives "an end mark" 0 'RUNS: 2 7\nRUNS: 1 9\nend 1 encode: ended after 12\nfinished 12\n' '' runs.kahn --at-end RAW=-1 < lines
 gives "several lines at the end" 0 'B: 2\nB: 4\nB: 6 8\nend 1 double: waits on A after 13\nfinished 13\n' '' \
   "$double" --at-end A=2 --at-end 'A=3 4' <<< 'A: 1'
-gives "lines at the end that are refused" 1 'B: 2\nB: 4\nend 1 double: waits on A after 7\nfinished 7\n' \
-  "$double"': --at-end: no such channel: `Z`; input channels: `A`\n'"$double"': --at-end: not an input channel: `B`; input channels: `A`\n'"$double"': --at-end: kind does not agree: `true`; wanted a number\n'"$double"': --at-end: not a value: `1=2`'"$values"'\n'"$double"': --at-end: not a name and a colon; a colon stands behind the name\n' \
-  "$double" --at-end Z=1 --at-end B=1 --at-end A=true --at-end A=1=2 --at-end A --at-end A=2 <<< 'A: 1'
+# no line is taken where one of them can't be, and the first such line is told
+while IFS='|' read -r line wanted; do
+  gives "a line at the end that is refused" 6 '' "$double: --at-end: $wanted\n" "$double" --keep-going --at-end A=2 --at-end "$line" --at-end Z=2 <<< 'A: 1'
+done << END
+Z=1|no such channel: \`Z\`; input channels: \`A\`
+B=1|not an input channel: \`B\`; input channels: \`A\`
+A=true|kind does not agree: \`true\`; wanted a number
+A=1=2|not a value: \`1=2\`$values
+A|not a name and a colon; a colon stands behind the name
+END
+yes 1 | gives "a value at the end that is refused, before all else" 6 '' "$double"': --at-end: not a value: `x`'"$values"'\n' "$double" --plain A --at-end x
+# only when it is fed shows that too many values would wait
+{ printf 'A:' && yes ' 1' | head -n 1048576 | tr -d '\n'; } > lines
+gives "too many values at the end" 3 'end 1 double: wants more after 2\nstopped by bound 2\n' \
+  "$double"': input line 1: wants more events than --step allows, and goes on with the next line\n'"$double"': --at-end: too many values\n' \
+  "$double" --step 1 --at-end 'A=1 2' < lines
 
 # values alone: of the first stream or of the one that is named, as they come
 start "$double" --plain A
@@ -201,7 +214,11 @@ hint=': bare numbers are taken with --plain A\n'
 gives "values alone, and no such input" 6 '' "$double"': --plain: no such channel: `Z`; input channels: `A`\n'"$double$hint" "$double" --plain Z <<< '1'
 gives "values alone, and an output for the input" 6 '' "$double"': --plain: not an input channel: `B`; input channels: `A`\n'"$double$hint" "$double" --plain B <<< '1'
 gives "values alone, and no name" 6 '' "$double"': --plain: not a name and a colon: `:`; a line begins with the name of a channel\n'"$double$hint" "$double" --plain ,B <<< '1'
-gives "values alone, and no such output" 6 '' "$double"': --plain: no such channel: `Z`\n' "$double" --plain A,Z <<< '1'
+gives "values alone, and no such output" 6 '' "$double"': --plain: no such channel: `Z`; channels: `A` and `B`\n' "$double" --plain A,Z <<< '1'
+gives "values alone, and an output in the other letter case" 6 '' "$double"': --plain: no such channel: `b`; did you mean `B`?\n' "$double" --plain A,b <<< '1'
+for words in A A,B; do
+  gives "values alone, and a watched channel" 0 '2\n' 'kahn_live: --watch does nothing with --plain; write --plain INPUT,NAME\n' "$double" --plain $words --watch A <<< '1'
+done
 gives "values alone, and one behind them" 0 '2\n14\n' '' "$double" --plain A --at-end 7 <<< '1'
 gives "values alone, and negative ones behind them" 0 '2\n-2\n-4\n-6\n' '' "$double" --plain A --at-end -1 --at-end '-2 -3' <<< '1'
 gives "values of one of two inputs" 0 '' "$top/examples/merge.kahn"': --plain feeds LEFT alone; no line feeds RIGHT\n' "$top/examples/merge.kahn" --plain LEFT <<< '1'

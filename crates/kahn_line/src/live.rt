@@ -38,10 +38,10 @@ output channel that has new values, with only these. With a program that doubles
 The events after a line are a part of the run. A blank line feeds nothing and runs a part, and so does the start. At the
 end of the input come the last lines: the state of each process, and how the run ended.
 
-If a line can't be taken, standard error says so, with its number and the word at fault, and the line changes nothing. The
-same holds for a line of `--at-end`. If a line wants more events than --step allows, standard error says so once, and if
-memory is refused after a line was taken, it says so too. In both cases the run goes on with the next line, even a blank
-one. The run uses one thread. It doesn't keep what it wrote, nor the input that was taken.
+If a line can't be taken, standard error says so, with its number and the word at fault, and the line changes nothing. A
+mistake in a line of `--at-end` is said at the start, and no line is taken. If a line wants more events than --step allows,
+standard error says so once, and if memory is refused after a line was taken, it says so too. In both cases the run goes on
+with the next line, even a blank one. The run uses one thread. It doesn't keep what it wrote, nor the input that was taken.
 
 With `--plain INPUT` a line has only values of that channel, separated by blanks, and kahn_live writes only the new values
 of one stream, one a line. If there are several input channels, use lines with names: with `--plain` the others get no
@@ -61,7 +61,7 @@ Exit status:
   3  the end was reached, but the last part used up its step
   4  no memory
   5  a file or standard input can't be read, the program isn't UTF-8, or the lines can't be written
-  6  run refused: a channel named in an option doesn't exist, or isn't an input
+  6  run refused: a channel named in an option doesn't exist, or isn't an input; or a line of --at-end can't be taken
   7  with --strict: the end was reached, and processes wait on one another in a ring
   8  with --strict: the end was reached, and a process has a fault of arithmetic";
 

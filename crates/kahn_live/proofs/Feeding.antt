@@ -1,12 +1,12 @@
 -- Lines that are fed behind those of the input, and that what went out stays right.
-use Rattle.std.proofs.Common.{◌≡◌, inl, inr, ℕ, zero, suc, Bool, true, false, true≢false, List, [], ◌∷◌, Option, Result, Ok, Err, sym, ap, subst}
+use Rattle.std.proofs.Common.{◌≡◌, inl, inr, ℕ, zero, suc, Bool, true, false, true≢false, List, [], ◌∷◌, Option, Result, Ok, Err, refl, sym, ap, subst}
 use Rattle.kahn_streams.specs.declared.answer.Verdict.{Verdict}
 use Rattle.kahn_fault.specs.declared.fault.Fault.{Fault}
-use Rattle.kahn_session.specs.Live.{IsTakenLine, Live}
+use Rattle.kahn_session.specs.Live.{IsMeantLine, IsTakenLine, IsUnfedBy, Live}
 use Rattle.kahn_session.specs.declared.fault.TakeFault.{TakeFault}
 use Rattle.kahn_session.specs.declared.fault.TakeFault.TheVariants.{TooLong, NotUtf8, BadLine, BadValue, Feed, NoMemory, Write}
 use Rattle.kahn_session.specs.Refusals.{at_end_number}
-use Rattle.kahn_live.specs.Course.{AreAllMet, AreFed, AreRead, LinesGiven, IsFirstPart, IsAnyMet, IsBrokenOff, IsCutOff, IsToldBy, Point, Telling, WasAnswered}
+use Rattle.kahn_live.specs.Course.{AreEachMet, AreFed, AreMeant, AreRead, LinesGiven, IsFirstPart, IsFirstUnmeant, IsAnyMet, IsBrokenOff, IsCutOff, IsToldBy, Point, Telling, WasAnswered}
 use Rattle.kahn_live.specs.Histories.{IsShown}
 
 -- one line more was fed
@@ -61,7 +61,22 @@ fed [] old new same was = stays old.session new.session (ap (λ (p : Point). p.s
 fed (line ∷ lines) old new (next, a, rest) was = fed lines next new rest (answered at_end_number line old next a was)
 
 -- where all lines were met
-pub all_shown : (f : LinesGiven) (text : Option (List ℕ)) (old new : Point) → AreAllMet f (Ok true) text old new → IsShown new.session
+pub all_shown : (f : LinesGiven) (text : Option (List ℕ)) (old new : Point) → AreEachMet f (Ok true) text old new → IsShown new.session
 all_shown f text old new (begun, (v, (told, (sent, t, kept))), (ready, last, (unchanged, quiet_out, said), (n, rest, ended, are, (quiet, (same, still)), out), behind)) =
     fed f.at_end last new behind
     (stays ended.session last.session same (read f.input n text rest ready ended are (stays begun.session ready.session unchanged (v, t.answered.verdict, t.answered.ends, t.out))))
+
+-- ---- the lines behind are tried before
+
+-- this one is meant for an input channel
+pub meant_more : (s : Live) (line : List ℕ) (lines rest : List (List ℕ)) → rest ≡ line ∷ lines → IsMeantLine line s.flow.run.network → AreMeant s lines → AreMeant s rest
+meant_more s line lines rest split meant are = subst (λ (ls : List (List ℕ)). AreMeant s ls) (sym split) (meant, are)
+
+-- one behind it isn't
+pub unmeant_more : (s : Live) (line : List ℕ) (lines rest : List (List ℕ)) → rest ≡ line ∷ lines → IsMeantLine line s.flow.run.network → (l : List ℕ) (f : TakeFault)
+    → IsFirstUnmeant s lines l f → IsFirstUnmeant s rest l f
+unmeant_more s line lines rest split meant l f first = subst (λ (ls : List (List ℕ)). IsFirstUnmeant s ls l f) (sym split) (inr (meant, first))
+
+-- this one isn't
+pub unmeant_here : (s : Live) (line : List ℕ) (lines rest : List (List ℕ)) (f : TakeFault) → rest ≡ line ∷ lines → IsUnfedBy line s.flow f → IsFirstUnmeant s rest line f
+unmeant_here s line lines rest f split why = subst (λ (ls : List (List ℕ)). IsFirstUnmeant s ls line f) (sym split) (inl (refl, why))

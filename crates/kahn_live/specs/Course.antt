@@ -21,7 +21,7 @@ use Rattle.kahn_fault.specs.declared.fault.Fault.TheVariants.{Program, Work}
 use Rattle.std.specs.Char.{is_ascii_digit}
 use Rattle.std.specs.Option.{is_none}
 use Rattle.std.specs.Str.{bytes_eq}
-use Rattle.kahn_session.specs.Live.{HasVerdict, IsDeaf, IsFirstInput, IsOtherInput, IsTakenLine, Live, breaks}
+use Rattle.kahn_session.specs.Live.{HasVerdict, IsDeaf, IsFirstInput, IsMeantLine, IsOtherInput, IsTakenLine, IsUnfedBy, Live, breaks}
 use Rattle.kahn_session.specs.Refusals.{alike_text, alone_text, at_end_number, is_want, refusal_text, stepped_text, take_words, waiting_text}
 use Rattle.kahn_session.specs.declared.fault.TakeFault.{TakeFault}
 use Rattle.kahn_session.specs.declared.fault.TakeFault.TheVariants.{TooLong, NotUtf8, BadLine, BadValue, Feed, NoMemory, Write}
@@ -228,6 +228,7 @@ abbrev pub is_step_new : Complaints → List ℕ → Bool
 is_step_new k [] = false
 is_step_new k (b ∷ bs) = not k.stepped
 
+-- that the line wants more events than a part may do was told
 abbrev pub IsStepPut : ℕ → Telling → Telling → Type 0
 IsStepPut number old new = WasToldOf (stepped_text old.path number) false (record old.complaints { stepped = true }) old new
 
@@ -422,6 +423,29 @@ abbrev pub AreLastMet : {X : Type 0} → List (List ℕ) → Point → Point →
 AreLastMet lines old new (Ok x) = AreFed lines old new
 AreLastMet lines old new (Err fault) = IsCutOff lines old new fault
 
+-- each of them is meant for an input channel, or blank
+abbrev pub AreMeant : Live → List (List ℕ) → Type 0
+AreMeant s [] = Unit {0}
+AreMeant s (line ∷ lines) = IsMeantLine line s.flow.run.network × AreMeant s lines
+
+-- this one isn't, for this reason, while those before it are
+abbrev pub IsFirstUnmeant : Live → List (List ℕ) → List ℕ → TakeFault → Type 0
+IsFirstUnmeant s [] line f = ⊥
+IsFirstUnmeant s (l ∷ ls) line f = ((l ≡ line) × IsUnfedBy line s.flow f) ⊎ (IsMeantLine l s.flow.run.network × IsFirstUnmeant s ls line f)
+
+-- that was told, unless memory was refused for it
+abbrev pub IsLastRefused : Live → List ℕ → TakeFault → Telling → Telling → Result Bool Fault → Type 0
+IsLastRefused s line f old new (Ok true) = ⊥
+IsLastRefused s line f old new (Ok false) = IsRefused s at_end_number line f old new
+IsLastRefused s line f old new (Err fault) = (fault ≡ no_memory) × (is_want f ≡ true) × (new ≡ old)
+
+abbrev pub IsUnmeantTold : Live → List (List ℕ) → Telling → Telling → Result Bool Fault → Type 0
+IsUnmeantTold s lines old new r = (line : List ℕ) × (f : TakeFault) × IsFirstUnmeant s lines line f × IsLastRefused s line f old new r
+
+-- before any is fed, all were tried
+abbrev pub AreLastTried : Live → List (List ℕ) → Telling → Telling → Result Bool Fault → Type 0
+AreLastTried s lines old new r = ((r ≡ Ok true) × AreMeant s lines × (new ≡ old)) ⊎ IsUnmeantTold s lines old new r
+
 -- ---- all lines
 
 -- what is fed: the lines of the input, behind the name of a channel where values stand alone, and the lines behind them
@@ -439,9 +463,14 @@ AreStopped f fault text old new =
 
 -- the part before the first line, the lines of the input, and the lines behind these, as far as the run came; where there is no
 -- input channel of the name no line is read
-abbrev pub AreAllMet : LinesGiven → Result Bool Fault → Option (List ℕ) → Point → Point → Type 0
-AreAllMet f (Ok true) text old new = (begun : Point) × IsFirstPart f.input old begun (Ok true)
+abbrev pub AreEachMet : LinesGiven → Result Bool Fault → Option (List ℕ) → Point → Point → Type 0
+AreEachMet f (Ok true) text old new = (begun : Point) × IsFirstPart f.input old begun (Ok true)
     × ((ready : Point) × (last : Point) × IsAloneTold f.input begun ready × AreAllRead f.input text ready last × AreFed f.at_end last new)
-AreAllMet f (Ok false) text old new = IsFirstPart f.input old new (Ok false)
-AreAllMet f (Err fault) text old new = IsFirstPart f.input old new (Err fault)
+AreEachMet f (Ok false) text old new = IsFirstPart f.input old new (Ok false)
+AreEachMet f (Err fault) text old new = IsFirstPart f.input old new (Err fault)
     ⊎ ((begun : Point) × (ready : Point) × IsFirstPart f.input old begun (Ok true) × IsAloneTold f.input begun ready × AreStopped f fault text ready new)
+
+-- all that, where each of the lines behind is meant for an input channel; else the first that isn't is told, and nothing else is done
+abbrev pub AreAllMet : LinesGiven → Result Bool Fault → Option (List ℕ) → Point → Point → Type 0
+AreAllMet f r text old new = (AreMeant old.session f.at_end × AreEachMet f r text old new)
+    ⊎ (IsUnmeantTold old.session f.at_end old.told new.told r × (new.session ≡ old.session) × (new.out ≡ old.out))

@@ -15,11 +15,13 @@ use Rattle.kahn_report.specs.declared.working.WorkFault.{WorkFault}
 use Rattle.kahn_report.specs.declared.working.WorkFault.TheVariants.{Run as RunWork, Write as WriteWork}
 use Rattle.kahn_write.specs.declared.bytes.WriteFault.{WriteFault}
 use Rattle.kahn_fault.specs.Status.{live_status_of}
-use Rattle.kahn_fault.specs.Telling.{pointer_text, told_text}
+use Rattle.kahn_fault.specs.Reasons.{reason_line}
+use Rattle.kahn_fault.specs.Telling.{WasWritten, pointer_text, told_text}
 use Rattle.kahn_fault.specs.declared.fault.Fault.{Fault}
 use Rattle.kahn_fault.specs.declared.fault.Fault.TheVariants.{Work}
 use Rattle.kahn_line.specs.declared.live.LiveOptions.{LiveOptions}
 use Rattle.kahn_line.specs.declared.parts.Plain.{Plain}
+use Rattle.kahn_hints.specs.Inputs.{names_of_channels, unknown_channel}
 use Rattle.kahn_session.specs.Refusals.{unknown_text}
 use Rattle.kahn_session.specs.Live.{HasOpened, IsClosed, IsFaulty, IsFirstInput, IsLastText, IsRinged, IsStreamOf, IsStuck, IsUnopened, HasVerdict, Live}
 use Rattle.kahn_live.specs.Course.{AreAllMet, LinesGiven, HasSent, HasWaited, IsMoreTold, IsWriteFault, Point, Telling, WasTold, no_memory, telling_of}
@@ -27,14 +29,14 @@ use Rattle.kahn_live.specs.declared.running.Asked.{Asked}
 use Rattle.kahn_live.specs.declared.serving.Amiss.{Amiss}
 use Rattle.kahn_live.specs.declared.serving.Amiss.TheVariants.{Faulted, Ringed}
 use Rattle.kahn_live.specs.declared.serving.Ending.{Ending}
-use Rattle.kahn_live.specs.declared.serving.Ending.TheVariants.{Reached, Gone, NoChannel}
+use Rattle.kahn_live.specs.declared.serving.Ending.TheVariants.{Reached, Gone, Refused}
 use Rattle.kahn_live.specs.declared.telling.Teller.{Teller}
 
 -- ---- the start
 
--- the channel whose values alone are shown is watched, where it is named
+-- the channel whose values alone are shown is watched, where it is named, and no other one is
 abbrev pub WatchesOutput : Option (String Global) → Config → Config → Type 0
-WatchesOutput None old new = new ≡ old
+WatchesOutput None old new = new ≡ record old { watch = None }
 WatchesOutput (Some name) old new = (word : String Global) × (string_bytes word ≡ string_bytes name) × (new ≡ record old { watch = Some word })
 
 abbrev pub WatchesPlain : Option Plain → Config → Config → Type 0
@@ -114,7 +116,7 @@ IsUnclosed strict plain old new fault =
 abbrev pub HasServedAll : Bool → LinesGiven → Result Ending Fault → Option (List ℕ) → Point → Point → Type 0
 HasServedAll strict f (Ok (Reached v amiss)) text old new =
     (last : Point) × AreAllMet f (Ok true) text old last × IsClosing strict (is_some f.input) amiss last new (Ok v)
-HasServedAll strict f (Ok NoChannel) text old new = AreAllMet f (Ok false) text old new
+HasServedAll strict f (Ok Refused) text old new = AreAllMet f (Ok false) text old new
 HasServedAll strict f (Ok Gone) text old new = ⊥
 HasServedAll strict f (Err fault) text old new = AreAllMet f (Err fault) text old new
     ⊎ ((last : Point) × AreAllMet f (Ok true) text old last × IsUnclosed strict (is_some f.input) last new fault)
@@ -151,7 +153,7 @@ IsStuckNow s false = HasVerdict s → IsStuck s.flow.run false ⊎ IsFirstInput 
 abbrev pub wants_why : Bool → Result Ending Fault → Bool
 wants_why stuck (Ok (Reached v amiss)) = stuck
 wants_why stuck (Ok Gone) = false
-wants_why stuck (Ok NoChannel) = false
+wants_why stuck (Ok Refused) = false
 wants_why stuck (Err fault) = false
 
 -- which program says why, where it is so at the end
@@ -184,15 +186,20 @@ abbrev pub unknown_output : RunFault → Option Plain → Option (List ℕ)
 unknown_output UnknownWatch (Some p) = option_map string_bytes p.output
 unknown_output f plain = None
 
+-- what is said of it: the nearest channel, or else which there are; or nothing where memory was refused for it
+abbrev pub IsChannelWords : Program → List ℕ → List ℕ → Type 0
+IsChannelWords t name words = (words ≡ unknown_channel name (names_of_channels t)) ⊎ (words ≡ [])
+
 -- that was told; or the run is refused for another reason
-abbrev pub IsUnstartedTold : Option (List ℕ) → RunFault → Telling → Telling → Result Ending Fault → Type 0
-IsUnstartedTold None f old new r = (r ≡ Err (Work (RunWork f))) × (new ≡ old)
-IsUnstartedTold (Some name) f old new r = (r ≡ Ok NoChannel) × WasTold (unknown_text old.path name) old new
+abbrev pub IsUnstartedTold : Option (List ℕ) → Program → RunFault → Telling → Telling → Result Ending Fault → Type 0
+IsUnstartedTold None t f old new r = (r ≡ Err (Work (RunWork f))) × (new ≡ old)
+IsUnstartedTold (Some name) t f old new r =
+    (r ≡ Ok Refused) × ((words : List ℕ) × IsChannelWords t name words × WasTold (unknown_text old.path name words) old new)
 
 -- a session of the network was set up and run, or why not: memory was refused, or the run is
 abbrev pub HasRunNetwork : Request → Program → Config → Option (List ℕ) → Option (List ℕ) → Telling → Telling → Result Ending Fault → Type 0
 HasRunNetwork a t config text out old new r = IsLacking r old new
-    ⊎ (((f : RunFault) × IsSetUp a.plain t config (Err f) × IsUnstartedTold (unknown_output f a.plain) f old new r)
+    ⊎ (((f : RunFault) × IsSetUp a.plain t config (Err f) × IsUnstartedTold (unknown_output f a.plain) t f old new r)
     ⊎ ((s : Live) × IsSetUp a.plain t config (Ok s) × HasRunSession a.strict (record { input = input_of a.plain; at_end = a.at_end }) s text out old new r))
 
 -- the network of the program text was run on this text of input, or why not: memory was refused, or the program text is
@@ -207,7 +214,7 @@ HasRunText program o text out old new r = IsLacking r old new
 abbrev pub ending_status : Bool → Result Ending Fault → ℕ
 ending_status refused (Ok (Reached v amiss)) = reached_status amiss refused v
 ending_status refused (Ok Gone) = live_status_of refused (Ok Finished)
-ending_status refused (Ok NoChannel) = 6
+ending_status refused (Ok Refused) = 6
 ending_status refused (Err fault) = live_status_of refused (Err fault)
 
 -- what is told of how a run ended: a fault, and which program says more of it
@@ -218,7 +225,7 @@ IsLastTold program answer old new = (mid : Telling) × (last : Telling)
 abbrev pub IsEndingTold : List ℕ → Result Ending Fault → Telling → Telling → Type 0
 IsEndingTold program (Ok (Reached v amiss)) old new = IsLastTold program (Ok v) old new
 IsEndingTold program (Ok Gone) old new = IsLastTold program (Ok Finished) old new
-IsEndingTold program (Ok NoChannel) old new = new ≡ old
+IsEndingTold program (Ok Refused) old new = new ≡ old
 IsEndingTold program (Err fault) old new = IsLastTold program (Err fault) old new
 
 -- before the first line
@@ -231,6 +238,11 @@ untold bytes keep_going path = record {
   path = path;
   complaints = record { last = None; first = 0; number = 0; hinted = false; stepped = false; waited = false };
 }
+
+-- that `--watch` does nothing was told, where values stand alone
+abbrev pub IsWatchTold : Bool → Option (List ℕ) → Option (List ℕ) → Type 0
+IsWatchTold true old new = WasWritten (reason_line (codes "kahn_live") (codes "--watch does nothing with --plain; write --plain INPUT,NAME")) old new
+IsWatchTold false old new = new ≡ old
 
 -- a program text, of this file, was run as the options say, on this text of input, behind what was written and what was told before; how that
 -- ended was told, and the status is this

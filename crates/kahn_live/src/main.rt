@@ -1,6 +1,9 @@
 //! Runs a network of processes and channels on the lines of standard input, and shows after each line what is new.
 #![tactic(auto)]
 
+ghost use Rattle.std.specs.Prelude.{◌≡◌, ◌&&◌, is_some};
+ghost use Rattle.kahn_live.specs.Running.{IsWatchTold};
+
 mod lines;
 mod outlet;
 mod running;
@@ -9,7 +12,7 @@ mod stage;
 mod taking;
 mod telling;
 
-use kahn_fault::{read_texts, tell_unread};
+use kahn_fault::{read_texts, tell_reason, tell_unread};
 use kahn_line::{LiveOptions, read_live_line, tell_line, tell_no_memory, tell_words};
 use running::ran;
 use std::alloc::{AllocError, Global};
@@ -26,6 +29,27 @@ fn path_of(alloc: Global, program: &Option<String>) -> Result<String, AllocError
     }
 }
 
+/// Whether another channel is to be watched where values stand alone.
+fn is_unwatched(options: &LiveOptions) -> bool
+    ensures { result ≡ (is_some options.now.plain && is_some options.now.config.watch) }
+{
+    options.plain.is_some() && options.config.watch.is_some()
+}
+
+/// Tells that `--watch` does nothing, where values stand alone.
+fn tell_unwatched<W: Write>(unwatched: bool, writer: &mut W)
+    ensures { IsWatchTold unwatched (W.contents writer.old) (W.contents writer.new) }
+{
+    if unwatched {
+        // What can't be written here changes no status.
+        let _told = tell_reason(
+            "kahn_live",
+            "--watch does nothing with --plain; write --plain INPUT,NAME",
+            writer,
+        );
+    }
+}
+
 /// Does what the command line asks for, and gives the status. Faults are told to the writer.
 fn answered<R: Runtime + AllocGlobal, W: Write>(
     rt: &R,
@@ -33,6 +57,7 @@ fn answered<R: Runtime + AllocGlobal, W: Write>(
     path: String,
     writer: &mut W,
 ) -> u8 {
+    tell_unwatched(is_unwatched(&options), writer);
     let program = options.program.take();
     match read_texts(rt, program, None) {
         Ok(texts) => {

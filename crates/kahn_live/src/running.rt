@@ -2,7 +2,7 @@
 
 ghost use Rattle.std.specs.Prelude.{◌≡◌, IfOk, false, option_copied, option_map, string_bytes};
 ghost use Rattle.kahn_live.specs.Course.{AcrossStage, telling_of};
-ghost use Rattle.kahn_live.specs.Running.{HasRunAs, HasRunNetwork, HasRunText, IsInForm, IsPlainStream, IsSetUp, Tells, WatchesPlain};
+ghost use Rattle.kahn_live.specs.Running.{HasRunAs, HasRunNetwork, HasRunText, IsChannelWords, IsInForm, IsPlainStream, IsSetUp, Tells, WatchesPlain};
 ghost use Rattle.kahn_live.specs.Running.{IsEndingTold, IsStuckNow, IsUnstartedTold, IsWhyTold, ending_status, input_of, request_of, unknown_output, wants_why};
 
 use crate::outlet::Outlet;
@@ -11,6 +11,7 @@ use crate::stage::Stage;
 use crate::taking::{Fed, wants_memory};
 use crate::telling::Teller;
 use kahn_fault::Fault;
+use kahn_hints::add_unknown_channel;
 use kahn_line::{LiveOptions, Plain};
 use kahn_pool::{Config, RunFault, Verdict};
 use kahn_report::{WorkFault, checked};
@@ -19,10 +20,11 @@ use kahn_streams::Network;
 use std::alloc::{AllocError, Global};
 use std::io::{BufWriter, Read, Write};
 
-/// The status where there is no channel of a name of `--plain`.
-const NO_CHANNEL: u8 = 6;
+/// The status where what `--plain` or `--at-end` names is refused.
+const REFUSED: u8 = 6;
 
-/// How the run is set up: the channel whose values alone are shown is watched, so that it has a stream.
+/// How the run is set up: where values stand alone, the channel whose values are shown is watched, so that it has a stream, and no other
+/// one is, whose stream may be the first.
 fn watching(alloc: Global, config: Config, plain: Option<&Plain>) -> Result<Config, AllocError>
     ensures { IfOk result (WatchesPlain (option_copied plain.entry) config) }
 {
@@ -30,7 +32,10 @@ fn watching(alloc: Global, config: Config, plain: Option<&Plain>) -> Result<Conf
         return Ok(config);
     };
     let Some(output) = &plain.output else {
-        return Ok(config);
+        return Ok(Config {
+            watch: None,
+            ..config
+        });
     };
     Ok(Config {
         watch: Some(String::from_str(alloc, output.as_str())?),
@@ -115,7 +120,7 @@ fn wants_why(stuck: bool, ending: &Result<Ending, Fault>) -> bool
     match ending {
         Ok(Ending::Reached(_, _)) => stuck,
         Ok(Ending::Gone) => false,
-        Ok(Ending::NoChannel) => false,
+        Ok(Ending::Refused) => false,
         Err(_) => false,
     }
 }
@@ -139,19 +144,32 @@ fn unknown_output<'p>(fault: RunFault, plain: Option<&'p Plain>) -> Option<&'p s
     }
 }
 
+/// What is said of a name that no channel has: the nearest channel, or else which there are; or nothing where memory is refused for it.
+fn channel_words(alloc: Global, network: &Network, name: &str) -> String
+    ensures { IsChannelWords network.now name.now (string_bytes result) }
+{
+    let mut words = String::new(alloc);
+    match add_unknown_channel(&mut words, alloc, network.program(), name.as_bytes()) {
+        Ok(()) => words,
+        Err(_) => String::new(alloc),
+    }
+}
+
 /// How a run without a session ends. That there is no channel of a name of `--plain` is told.
 fn unstarted<E: Write + Drop>(
+    network: &Network,
     fault: RunFault,
     plain: Option<&Plain>,
     mut teller: Teller<E>,
 ) -> (Result<Ending, Fault>, Teller<E>)
-    ensures { Tells E.contents teller result (IsUnstartedTold (unknown_output fault (option_copied plain.entry)) fault) }
+    ensures { Tells E.contents teller result (IsUnstartedTold (unknown_output fault (option_copied plain.entry)) network.now fault) }
 {
     match unknown_output(fault, plain) {
         None => (Err(Fault::Work(WorkFault::Run(fault))), teller),
         Some(name) => {
-            teller.tell_unknown(name);
-            (Ok(Ending::NoChannel), teller)
+            let words = channel_words(teller.alloc, network, name);
+            teller.tell_unknown(name, words.as_str());
+            (Ok(Ending::Refused), teller)
         }
     }
 }
@@ -170,7 +188,7 @@ fn run_network<I: Read + Drop, W: Write + Drop, E: Write + Drop>(
 {
     let session = match started(alloc, network, config, asked.plain) {
         Ok(session) => session,
-        Err(fault) => return unstarted(fault, asked.plain, teller),
+        Err(fault) => return unstarted(network, fault, asked.plain, teller),
     };
     let Ok(writer) = BufWriter::new(alloc, output) else {
         return (Err(wants_memory()), teller);
@@ -244,7 +262,7 @@ fn told<E: Write>(ending: Result<Ending, Fault>, program: &str, teller: &mut Tel
             status
         }
         Ok(Ending::Gone) => teller.tell_last(&Ok(Verdict::Finished), program),
-        Ok(Ending::NoChannel) => NO_CHANNEL,
+        Ok(Ending::Refused) => REFUSED,
         Err(fault) => teller.tell_last(&Err(fault), program),
     }
 }

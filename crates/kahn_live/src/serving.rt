@@ -33,8 +33,9 @@ pub(crate) enum Ending {
     Reached(Verdict, Option<Amiss>),
     /// Nobody reads what is new any more.
     Gone,
-    /// There is no channel of a name of `--plain`, or it is no input where its values stand in the lines.
-    NoChannel,
+    /// There is no channel of a name of `--plain`, or it is no input where its values stand in the lines; or a line of `--at-end` isn't
+    /// meant for an input channel.
+    Refused,
 }
 
 /// What is amiss with the run of a session, where it is to be judged.
@@ -135,7 +136,7 @@ fn serve<I: Read, W: Write, E: Write>(
     ensures { Across I.remaining W.contents E.contents reader.old reader.new stage.old stage.new (λ s t. HasServedAll strict (lines_given fed.entry) result s) }
 {
     if !take_all(alloc, stage, reader, fed)? {
-        return Ok(Ending::NoChannel);
+        return Ok(Ending::Refused);
     }
     let amiss = judged(&stage.session, strict)?;
     let verdict = close(stage, fed.input.is_some(), amiss)?;

@@ -7,7 +7,7 @@ ghost use Rattle.kahn_inputs.specs.Fitting.{line_name};
 ghost use Rattle.kahn_session.specs.Live.{HasVerdict, breaks};
 ghost use Rattle.kahn_session.specs.Pace.{MayBeSlow};
 ghost use Rattle.kahn_session.specs.declared.fault.TakeFault.TheVariants.{Feed};
-ghost use Rattle.kahn_live.specs.Course.{Across, AreAllMet, AreLastMet, AcrossStage, HasSent, IsAnswerTold, IsDeafNow, IsFedPart, IsFirstPart, IsInputMet, IsLineMet, IsNameWords, channel_tail};
+ghost use Rattle.kahn_live.specs.Course.{Across, AreAllMet, AreEachMet, AreLastMet, AreLastTried, AcrossStage, HasSent, IsAnswerTold, IsDeafNow, IsFedPart, IsFirstPart, IsInputMet, IsLastRefused, IsLineMet, IsNameWords, channel_tail};
 ghost use Rattle.kahn_live.specs.Course.{IsAloneTold, IsHintBy, IsNextMet, IsReadMet, IsRefusalTold, IsRefused, IsRefusedPart, IsStepMet, IsWriteFault, lines_given, is_bad_line, is_bare_line, no_memory, point_of, telling_of, wants_hint};
 ghost use Rattle.kahn_live.specs.Histories.{HasHistories};
 ghost use Rattle.kahn_live.specs.Lines.{IsReadyToRead};
@@ -402,6 +402,61 @@ fn begin<W: Write, E: Write>(
 
 /// Takes all lines, after a part before the first, and tells whether there is an input channel of the name whose values stand
 /// alone; else no line is taken.
+fn take_each<I: Read, W: Write, E: Write>(
+    alloc: Global,
+    stage: &mut Stage<'_, W, E>,
+    reader: &mut BufReader<I>,
+    fed: Fed<'_>,
+) -> Result<bool, Fault>
+    requires { stage.old.session.broken ≡ false }
+    ensures settled { IfOk result (λ there. there ≡ true → HasVerdict stage.new.session) }
+    ensures histories { IfOk result (λ there. there ≡ true → HasHistories stage.new.session) }
+    ensures met { Across I.remaining W.contents E.contents reader.old reader.new stage.old stage.new (λ s t. AreEachMet (lines_given fed.entry) result s) }
+{
+    if !begin(alloc, stage, fed.input)? {
+        return Ok(false);
+    }
+    tell_alone(stage, fed.input);
+    take_lines(alloc, stage, reader, fed.input)?;
+    take_last(stage, fed.at_end)?;
+    Ok(true)
+}
+
+/// Tells that a line isn't meant for an input channel that is to be fed at the end, unless memory was refused for it.
+fn refuse_last<E: Write>(
+    session: &Session<'_>,
+    teller: &mut Teller<E>,
+    line: &[u8],
+    fault: TakeFault,
+) -> Result<bool, Fault>
+    ensures { IsLastRefused session.now line.now fault (telling_of E.contents teller.old) (telling_of E.contents teller.new) result }
+{
+    if is_want(fault) {
+        return Err(wants_memory());
+    }
+    tell_refused(session, teller, AT_END, line, fault);
+    Ok(false)
+}
+
+/// Whether each line that is to be fed at the end is meant for an input channel; else the first that isn't is told.
+fn try_last<E: Write>(
+    session: &Session<'_>,
+    teller: &mut Teller<E>,
+    lines: &[String],
+) -> Result<bool, Fault>
+    ensures { AreLastTried session.now (map string_bytes lines.now) (telling_of E.contents teller.old) (telling_of E.contents teller.new) result }
+{
+    for line in lines {
+        let bytes = line.as_bytes();
+        if let Err(fault) = session.try_line(bytes) {
+            return refuse_last(session, teller, bytes, fault);
+        }
+    }
+    Ok(true)
+}
+
+/// Takes all lines, after a part before the first, and tells whether those that are to be fed at the end are meant for input channels,
+/// and there is an input channel of the name whose values stand alone; else no line is taken.
 pub(crate) fn take_all<I: Read, W: Write, E: Write>(
     alloc: Global,
     stage: &mut Stage<'_, W, E>,
@@ -413,11 +468,9 @@ pub(crate) fn take_all<I: Read, W: Write, E: Write>(
     ensures histories { IfOk result (λ there. there ≡ true → HasHistories stage.new.session) }
     ensures met { Across I.remaining W.contents E.contents reader.old reader.new stage.old stage.new (λ s t. AreAllMet (lines_given fed.entry) result s) }
 {
-    if !begin(alloc, stage, fed.input)? {
-        return Ok(false);
+    match try_last(&stage.session, &mut stage.teller, fed.at_end) {
+        Ok(true) => take_each(alloc, stage, reader, fed),
+        Ok(false) => Ok(false),
+        Err(fault) => Err(fault),
     }
-    tell_alone(stage, fed.input);
-    take_lines(alloc, stage, reader, fed.input)?;
-    take_last(stage, fed.at_end)?;
-    Ok(true)
 }

@@ -210,11 +210,11 @@ impl<E: Write> Teller<E> {
         self.failed |= told.is_err();
     }
 
-    /// Tells that no channel has the name of `--plain` for the values that are shown.
-    pub(crate) fn tell_unknown(&mut self, name: &str)
-        ensures { WasTold (unknown_text (string_bytes self.old.path) name.now) (telling_of E.contents self.old) (telling_of E.contents self.new) }
+    /// Tells that no channel has the name of `--plain` for the values that are shown, and more words.
+    pub(crate) fn tell_unknown(&mut self, name: &str, words: &str)
+        ensures { WasTold (unknown_text (string_bytes self.old.path) name.now words.now) (telling_of E.contents self.old) (telling_of E.contents self.new) }
     {
-        let told = write_unknown(&mut self.errors, self.path.as_str(), name);
+        let told = write_unknown(&mut self.errors, self.path.as_str(), name, words);
         self.failed |= told.is_err();
     }
 

@@ -1,12 +1,17 @@
 -- The sum of all bounds of a part, and the events so far.
-use Rattle.std.proofs.Common.{arith, ◌≡◌, ◌∙◌, ℕ, zero, suc, ◌+◌, ◌≤◌, List, [], ◌∷◌, sum_by, refl, sym, ap, subst}
+use Rattle.std.proofs.Common.{arith, ◌≡◌, ◌∙◌, ℕ, zero, suc, ◌+◌, ◌≤◌, List, [], ◌∷◌, MatchResult, Result, Ok, Err, sum_by, refl, sym, ap, subst}
 use Rattle.std.proofs.lemmas.List.Sums.{sum_by-cons}
 use Rattle.std.proofs.Math.Nat.{min-le_left, min-le_right}
 use Rattle.kahn_pool.specs.HeldRuns.{HasResumed, HeldRun, Seen, seen_at, seen_events}
 use Rattle.kahn_pool.specs.Flows.{Flowing, IsUnpoured}
+use Rattle.kahn_streams.proofs.Fed.{not_many, not_memory}
+use Rattle.kahn_streams.specs.Feeds.{IsNotMeant}
 use Rattle.kahn_streams.specs.Inputs.{Entry}
+use Rattle.kahn_streams.specs.declared.tree.Program.{Program}
 use Rattle.kahn_streams.specs.declared.feeds.FeedFault.{FeedFault}
 use Rattle.kahn_streams.specs.declared.feeds.FeedFault.TheVariants.{NoMemory, NotAnInput, TooMany, UnknownName, WrongKind}
+use Rattle.kahn_session.specs.Live.{IsMeantLine, IsUnfedBy}
+use Rattle.kahn_session.specs.declared.fault.TakeFault.{TakeFault}
 use Rattle.kahn_session.specs.Pace.{Pace, events_of, most_bound, part_bound}
 
 -- where no process has fewer events, neither have all together
@@ -49,3 +54,18 @@ unpoured entry a b NoMemory (same, meant) = (same, (refl, meant))
 unpoured entry a b UnknownName (same, why) = (same, (refl, why))
 unpoured entry a b NotAnInput (same, why) = (same, (refl, why))
 unpoured entry a b WrongKind (same, why) = (same, (refl, why))
+
+-- what isn't meant for an input channel isn't fed
+pub unmeant : (t : Program) (entry : Entry) (h : Flowing) (f : FeedFault) → h.run.network ≡ t → IsNotMeant t entry f → IsUnpoured entry h h f
+unmeant t entry h TooMany same why = absurd (not_many t entry why)
+unmeant t entry h NoMemory same why = absurd (not_memory t entry why)
+unmeant t entry h UnknownName same why = (refl, subst (λ (s : Program). IsNotMeant s entry UnknownName) (sym same) why)
+unmeant t entry h NotAnInput same why = (refl, subst (λ (s : Program). IsNotMeant s entry NotAnInput) (sym same) why)
+unmeant t entry h WrongKind same why = (refl, subst (λ (s : Program). IsNotMeant s entry WrongKind) (sym same) why)
+
+-- a line that was tried over the network of a run
+pub tried : (line : List ℕ) (t : Program) (h : Flowing) (r : Result (Unit {0}) TakeFault) → h.run.network ≡ t
+    → MatchResult r (λ _. IsMeantLine line t) (λ f. (g : Flowing) → g.run.network ≡ t → IsUnfedBy line g f)
+    → MatchResult r (λ _. IsMeantLine line h.run.network) (IsUnfedBy line h)
+tried line t h (Ok x) same meant = subst (λ (s : Program). IsMeantLine line s) (sym same) meant
+tried line t h (Err f) same why = why h same

@@ -11,6 +11,7 @@ use Rattle.kahn_streams.specs.declared.value.Line.{Line}
 use Rattle.kahn_streams.specs.declared.tree.Role.TheVariants as role
 use Rattle.kahn_streams.specs.Network.{Network, channel_names, network_of, role_at}
 use Rattle.kahn_streams.specs.declared.value.Line.TheVariants.{Channel}
+use Rattle.kahn_streams.specs.Feeds.{IsMeant}
 use Rattle.kahn_streams.specs.Inputs.{Entry, inputs_of}
 use Rattle.kahn_streams.specs.Answers.{Settles}
 use Rattle.kahn_chain.specs.Chain.{HasRing, stands}
@@ -83,6 +84,10 @@ IsText line = (length line ≤ most_input_bytes) × IsUtf8 line
 abbrev pub IsFedBy : List ℕ → Flowing → Flowing → Type 0
 IsFedBy line old new =
     IsText line × ((AreBlanks (content line) × (new ≡ old)) ⊎ ((entry : Entry) × IsEntry (content line) entry × HasPouredIn entry old new))
+
+-- the values of the line are meant for an input channel, or it is blank
+abbrev pub IsMeantLine : List ℕ → Program → Type 0
+IsMeantLine line t = IsText line × (AreBlanks (content line) ⊎ ((entry : Entry) × IsEntry (content line) entry × IsMeant t entry))
 
 -- why the line feeds nothing
 abbrev pub IsUnfedBy : List ℕ → Flowing → TakeFault → Type 0

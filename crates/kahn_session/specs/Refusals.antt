@@ -93,9 +93,9 @@ hint_text path (Some input) = concat (path ∷ codes ": bare numbers are taken w
 abbrev pub refusal_text : List ℕ → ℕ → TakeFault → List ℕ → List ℕ → Option (List ℕ) → List ℕ
 refusal_text path number f part more hint = refusal_line path number f part more ++ hint_text path hint
 
--- no channel has the name of `--plain` for the values that are shown
-abbrev pub unknown_text : List ℕ → List ℕ → List ℕ
-unknown_text path name = said_text path (codes ": --plain") [] (feed_words feed.UnknownName) name []
+-- no channel has the name of `--plain` for the values that are shown, and more words
+abbrev pub unknown_text : List ℕ → List ℕ → List ℕ → List ℕ
+unknown_text path name more = said_text path (codes ": --plain") [] (feed_words feed.UnknownName) name more
 
 -- all lines are for one input channel, and none is for another, where there is one
 abbrev pub alone_line : List ℕ → List ℕ → List ℕ → List ℕ

@@ -2,6 +2,7 @@
 #![tactic(auto)]
 
 mod fault;
+mod feeding;
 mod pace;
 mod refusal;
 mod session;

@@ -276,12 +276,18 @@ pub fn write_refusal<W: Write>(
     put_hint(writer, path, input)
 }
 
-/// Writes that no channel has the name of `--plain` for the values that are shown, and flushes; as `write_refusal` does.
-pub fn write_unknown<W: Write>(writer: &mut W, path: &str, name: &str) -> Result<(), WriteFault>
-    ensures { Writes (W.contents writer.old) (W.contents writer.new) result (unknown_text path.now name.now) }
+/// Writes that no channel has the name of `--plain` for the values that are shown, and more words, and flushes; as `write_refusal`
+/// does.
+pub fn write_unknown<W: Write>(
+    writer: &mut W,
+    path: &str,
+    name: &str,
+    more: &str,
+) -> Result<(), WriteFault>
+    ensures { Writes (W.contents writer.old) (W.contents writer.new) result (unknown_text path.now name.now more.now) }
 {
     let words = feed_words(FeedFault::UnknownName);
-    put_said(writer, path, ": --plain", "", words, name.as_bytes(), "")
+    put_said(writer, path, ": --plain", "", words, name.as_bytes(), more)
 }
 
 /// Writes that all lines are for one input channel, and none is for another, and flushes; as `write_refusal` does.

@@ -3,27 +3,24 @@
 ghost use Rattle.std.specs.Prelude.{◌≡◌, ◌↔◌, ◌&&◌, not, ℕ, IfOk, List, Some, false, slice_index_or, true, [], IsTrue, MatchOption, MatchResult, option_copied};
 ghost use Rattle.std.specs.List.{list_any};
 ghost use Rattle.kahn_streams.specs.Network.{network_of};
-ghost use Rattle.kahn_pool.specs.Flows.{Flowing, flow_lines};
-ghost use Rattle.kahn_report.specs.Formats.{IsReadLine, content, channel_name};
+ghost use Rattle.kahn_pool.specs.Flows.{flow_lines};
+ghost use Rattle.kahn_report.specs.Formats.{channel_name};
 ghost use Rattle.kahn_report.specs.News.{news_text, plain_text};
 ghost use Rattle.kahn_streams.specs.Written.{Writes};
-ghost use Rattle.kahn_session.specs.Live.{HasOpened, IsClosed, IsDeaf, IsFaulty, IsFedBy, IsFirstInput, IsOtherInput, HasVerdict, IsNamedAt, IsNamedLine, IsRinged, IsStreamOf, IsStuck, IsTakenLine, IsText, IsUnfedBy, IsUnopened, breaks, form_text, is_faulted, is_finished, is_input, is_other_input, is_stuck, is_waiting, waits_on_input, wants_input};
+ghost use Rattle.kahn_session.specs.Live.{HasOpened, IsClosed, IsDeaf, IsFaulty, IsFirstInput, IsMeantLine, IsOtherInput, HasVerdict, IsNamedAt, IsNamedLine, IsRinged, IsStreamOf, IsStuck, IsTakenLine, IsUnfedBy, IsUnopened, breaks, form_text, is_faulted, is_finished, is_input, is_other_input, is_stuck, is_waiting, waits_on_input, wants_input};
 ghost use Rattle.kahn_session.specs.Pace.{MayBeSlow};
 ghost use Rattle.kahn_session.specs.inner.Shown.{OutBegins, news_of};
 
 use crate::fault::TakeFault;
+use crate::feeding::{feed_line, line_meant};
 use crate::pace::Paced;
 use kahn_chain::{has_ring, standings};
 use kahn_pool::{Config, End, Gate, Outcome, RunFault, Verdict};
-use kahn_report::{
-    LineFault, MOST_BYTES, WriteFault, channel_name, read_line, write_closing, write_news,
-    write_plain,
-};
-use kahn_streams::{Input, Line, Network, Role, Value};
+use kahn_report::{WriteFault, channel_name, write_closing, write_news, write_plain};
+use kahn_streams::{Input, Line, Network, Role};
 use std::alloc::{AllocError, Global};
 use std::io::Write;
 use std::marker::Model;
-use std::str;
 
 /// A run that is fed line by line. What went out of its streams it lets go of.
 #[derive(Drop)]
@@ -53,39 +50,6 @@ impl<'n> Model for Session<'n> {
     ghost view = { λ s. record { flow = s.paced.flow; step = s.paced.step; broken = s.broken; plain = s.plain } };
 
     ghost invariant = { λ s. (s.paced.flow.run.network ≡ s.network.now) × (s.lines.items ≡ flow_lines s.paced.flow.run) };
-}
-
-/// The entry of a line, or nothing where the line is blank.
-fn entry_of_line(alloc: Global, line: &[u8]) -> Result<Option<(String, Vec<Value>)>, TakeFault>
-    ensures { MatchResult result (λ read. IsText line.now × IsReadLine (content line.now) read) (λ f. (h : Flowing) → IsUnfedBy line.now h f) }
-{
-    if line.len() > MOST_BYTES {
-        return Err(TakeFault::TooLong);
-    }
-    let Ok(_text) = str::from_utf8(line) else {
-        return Err(TakeFault::NotUtf8);
-    };
-    match read_line(alloc, line) {
-        Ok(entry) => Ok(entry),
-        Err(LineFault::NoHead) => Err(TakeFault::BadLine),
-        Err(LineFault::NoValues) => Err(TakeFault::BadValue),
-        Err(LineFault::NoMemory) => Err(TakeFault::NoMemory),
-    }
-}
-
-/// Feeds the values of a line.
-fn feed_line(alloc: Global, paced: &mut Paced<'_>, line: &[u8]) -> Result<(), TakeFault>
-    ensures fed { MatchResult result (λ _. IsFedBy line.now paced.old.flow paced.new.flow) (λ f. (paced.new ≡ paced.old) × IsUnfedBy line.now paced.old.flow f) }
-    ensures step { paced.new.step ≡ paced.old.step }
-{
-    match entry_of_line(alloc, line) {
-        Ok(None) => Ok(()),
-        Ok(Some((name, values))) => match paced.feed(name.as_str(), &values) {
-            Ok(()) => Ok(()),
-            Err(fault) => Err(TakeFault::Feed(fault)),
-        },
-        Err(fault) => Err(fault),
-    }
 }
 
 /// Whether the line is that of a channel of that name.
@@ -338,6 +302,14 @@ impl<'n> Session<'n> {
         ensures { self.new ≡ record self.old { plain = Some number } }
     {
         self.plain = Some(number);
+    }
+
+    /// Whether the values of a line of input are meant for an input channel, or why `take` would refuse it now. That too many values
+    /// would wait isn't asked. A blank line has no values.
+    pub fn try_line(&self, line: &[u8]) -> Result<(), TakeFault>
+        ensures { MatchResult result (λ _. IsMeantLine line.now self.now.flow.run.network) (IsUnfedBy line.now self.now.flow) }
+    {
+        line_meant(self.alloc, self.network, line)
     }
 
     /// Feeds the values of a line of input, which stands without its line feed, runs a part, and writes what is new: a line

@@ -1,7 +1,7 @@
 use Rattle.std.proofs.Common.{rules}
 use Rattle.kahn_report.specs.Formats.{HasNoHead, HasNoValues, content}
 use Rattle.kahn_session.specs.Live.{IsText}
-use Rattle.kahn_session.proofs.session.entry_of_line.Goals as goal
+use Rattle.kahn_session.proofs.feeding.entry_of_line.Goals as goal
 
 pub returns-in-Err-NoHead : goal.returns-in-Err-NoHead
 returns-in-Err-NoHead c =

@@ -3,7 +3,7 @@ use Rattle.kahn_streams.specs.Inputs.{Entry}
 use Rattle.kahn_report.specs.Formats.{IsEntry, content}
 use Rattle.kahn_session.specs.Live.{IsText}
 use Rattle.kahn_session.proofs.Steps.{one_pace, unpoured}
-use Rattle.kahn_session.proofs.session.feed_line.Goals as goal
+use Rattle.kahn_session.proofs.feeding.feed_line.Goals as goal
 
 pub returns-in-Ok-Some-clause-fed : goal.returns-in-Ok-Some-clause-fed
 returns-in-Ok-Some-clause-fed c =

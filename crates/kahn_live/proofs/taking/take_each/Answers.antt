@@ -5,7 +5,7 @@ use Rattle.std.specs.Io.Buffered.{reader_remaining}
 use Rattle.kahn_live.specs.Course.{lines_given, point_of}
 use Rattle.kahn_live.proofs.Begun.{histories}
 use Rattle.kahn_live.proofs.Feeding.{all_shown, begun_there}
-use Rattle.kahn_live.proofs.taking.take_all.Goals as goal
+use Rattle.kahn_live.proofs.taking.take_each.Goals as goal
 
 pub returns-in_err-take_lines-clause-met : goal.returns-in_err-take_lines-clause-met
 returns-in_err-take_lines-clause-met g c =
