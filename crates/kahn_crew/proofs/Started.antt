@@ -109,47 +109,46 @@ apart_roles : Inner ≡ Input → ⊥
 apart_roles e = absurd cc
 
 module _ (t : Program) (wired : IsWellWired t) (lists : Lists) (watch : Option ℕ) (tasks : List Tasked) (f : AreReadyTasks t lists watch tasks) (c : ℕ) where
-  pub number_given : role_at (network_of t) c ≡ Input → (n : ℕ) → n ≡ length (inputs_of lists c) → IsNumber t lists tasks c n
-  number_given r n e = record {
+  pub number_given : role_at (network_of t) c ≡ Input → (n : ℕ) → n ≡ length (inputs_of lists c) → n < 2 ^ 48 → IsNumber t lists tasks c n
+  number_given r n e few = record {
     given = λ x. e;
     sent = λ p o x at w inner. absurd ((Sourced.writes t wired p o c w).1 r);
+    few = few;
   }
 
   pub number_sent : role_at (network_of t) c ≡ Inner → (s : Side) → IsOnly (IsWriter (network_of t) c) (Some s) → (y : Tasked) → slice_get tasks s.instance ≡ Some y →
+      AreCounts y.work.cell → events_told told_tale tasks < 2 ^ 48 →
       (n : ℕ) → n ≡ count y.work.cell.sent s.parameter → IsNumber t lists tasks c n
-  number_sent r s only y here n e = record {
+  number_sent r s only y here counts small n e = record {
     given = λ i. absurd (apart_roles (sym r ∙ i));
     sent = λ p o x at w inner.
         let same : side_at p o ≡ s = only.1 (side_at p o) (Sourced.handed_within (network_of t) p o c (subst (λ a. Joins a c) (sym w) refl), w) in
         let one : x ≡ y = some_same (sym at ∙ (ap (λ (u : Side). slice_get tasks u.instance) same ∙ here)) in
         e ∙ (ap (λ (z : Tasked). count z.work.cell.sent s.parameter) (sym one) ∙ ap (λ (u : Side). count x.work.cell.sent u.parameter) (sym same));
+    few =
+        let o = f.each s.instance y here in
+        let at = handed_is t wired y.work s.instance s.parameter o.network o.instance ∙ only.0.1 in
+        let a = counts.sent_few s.parameter c at in
+        let b = at_most_all tasks s.instance y here in
+        omega (arith, a, b, e, small);
   }
-
-  -- it is no more than all events
-  pub number_few : (s : Side) → IsOnly (IsWriter (network_of t) c) (Some s) → (y : Tasked) → slice_get tasks s.instance ≡ Some y → AreCounts y.work.cell →
-      (n : ℕ) → n ≡ count y.work.cell.sent s.parameter → events_told told_tale tasks < 2 ^ 48 → n < 2 ^ 48
-  number_few s only y here counts n e few =
-      let o = f.each s.instance y here in
-      let at = handed_is t wired y.work s.instance s.parameter o.network o.instance ∙ only.0.1 in
-      let a = counts.sent_few s.parameter c at in
-      let b = at_most_all tasks s.instance y here in
-      omega (arith, a, b, e, few)
 
   -- the task of the writer is there
   pub writer_there : (s : Side) → IsOnly (IsWriter (network_of t) c) (Some s) → (y : Tasked) → y ≡ slice_index_or tasks s.instance y → slice_get tasks s.instance ≡ Some y
   writer_there s only y e = slice_get_read tasks (length tasks) s.instance y refl (let l = only.0.0.0 in let n = f.count in omega (arith, l, n)) e
 
-  pub number_none : role_at (network_of t) c ≡ Inner → IsOnly (IsWriter (network_of t) c) None → (n : ℕ) → IsNumber t lists tasks c n
-  number_none r none n = record {
+  pub number_none : role_at (network_of t) c ≡ Inner → IsOnly (IsWriter (network_of t) c) None → IsNumber t lists tasks c 0
+  number_none r none = record {
     given = λ i. absurd (apart_roles (sym r ∙ i));
     sent = λ p o x at w inner. absurd (none (side_at p o) (Sourced.handed_within (network_of t) p o c (subst (λ a. Joins a c) (sym w) refl), w));
+    few = omega arith;
   }
 
 -- ---- the board
 
 module _ (t : Program) (wired : IsWellWired t) (lists : Lists) (watch : Option ℕ) (numbers : List ℕ) (tasks : List Tasked) (f : AreReadyTasks t lists watch tasks)
     (long : length numbers ≡ length (network_of t).channels)
-    (each : (c : ℕ) → c < length numbers → IsNumber t lists tasks c (slice_index numbers c) × (slice_index numbers c < 2 ^ 48)) where
+    (each : (c : ℕ) → c < length numbers → IsNumber t lists tasks c (slice_index numbers c)) where
   abbrev known : View
   known = record spent { flushed = numbers }
 
@@ -163,7 +162,7 @@ module _ (t : Program) (wired : IsWellWired t) (lists : Lists) (watch : Option �
       let at : actual_at (instance_at (network_of t) p) q ≡ Writes c = sym (handed_is t wired y.work p q o.network o.instance) ∙ h in
       let lt = Sourced.writes_listed t wired p q c at in
       let near : c < length numbers = omega (arith, long, lt) in
-      ap (λ (xs : List ℕ). count xs q) o.published ∙ sym ((each c near).0.sent p q y e at (inner_here p y c o inner))
+      ap (λ (xs : List ℕ). count xs q) o.published ∙ sym ((each c near).sent p q y e at (inner_here p y c o inner))
 
   published_too : (p : ℕ) (y : Tasked) → IsReadyTask t lists watch p y → (o : ℕ) → IsPublished y o
   published_too p y r o c h inner = ap (λ (xs : List ℕ). count xs o) r.published ∙ sym (r.delivered o c h inner)
@@ -173,7 +172,7 @@ module _ (t : Program) (wired : IsWellWired t) (lists : Lists) (watch : Option �
   opens bound few = record {
     cells_are = f.count ∙ sym (instances_are t);
     numbers_are = long ∙ sym (channels_are t);
-    small = λ c lt. let near : c < length numbers = omega (arith, lt, channels_are t, long) in (each c near).1;
+    small = λ c lt. let near : c < length numbers = omega (arith, lt, channels_are t, long) in (each c near).few;
     flushes = λ p c k y e told.
         let at = at_both tasks p y e in
         let o = f.each p y at in

@@ -1,11 +1,5 @@
 -- One of several that was told to leave.
-use Rattle.kahn_crew.proofs.Common.{arith, ◌≡◌, ◌==◌, ℕ, ◌<◌, Bool, false, true≢false, List, [], ◌∷◌, ◌++◌, length, slice_index_or, sym, ap, ◌∙◌, subst, dite, ℕ_discrete, get_or_append_left, length-append}
-
--- a list that isn't empty
-pub some_there : {A : Type 0} (b : Bool) (n : ℕ) (xs : List A) → b ≡ (n == 0) → n ≡ length xs → b ≡ false → 0 < length xs
-some_there b n xs e l t = dite (ℕ_discrete (length xs) 0)
-    (λ none. let h : n ≡ 0 = l ∙ none in absurd (true≢false (sym (ap (λ k. k == 0) h) ∙ sym e ∙ t)))
-    (λ ne. omega (arith, ne))
+use Rattle.kahn_crew.proofs.Common.{arith, ◌≡◌, ℕ, ◌<◌, List, [], ◌∷◌, ◌++◌, length, slice_index_or, sym, ap, ◌∙◌, subst, get_or_append_left, length-append}
 
 -- it is there too where one more comes to the end
 pub told_among : {A : Type 0} (Q : A → A → Type 0) (olds rest news left : List A) (a b : A) → olds ≡ rest ++ a ∷ [] → news ≡ left ++ b ∷ [] → length left ≡ length rest →

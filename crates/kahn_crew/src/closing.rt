@@ -1,7 +1,7 @@
 //! How a run ends: the board hands out its tasks.
 
 ghost use Rattle.std.specs.Prelude.{◌≡◌, ◌↔◌, ◌<◌, ◌≤◌};
-ghost use Rattle.kahn_crew.specs.inner.Words.{[], true, length, vec_capacity, network_of, IsLoneSeat};
+ghost use Rattle.kahn_crew.specs.inner.Words.{[], false, true, length, vec_capacity, network_of, IsLoneSeat};
 ghost use Rattle.kahn_crew.specs.inner.Begins.{HasBegun};
 ghost use Rattle.kahn_crew.specs.inner.Left.{IsLeftOf, IsOver, IsUntouched};
 
@@ -56,7 +56,7 @@ pub(crate) fn leave(
 
 /// What is left if nobody worked at all.
 pub(crate) fn untouched(tasks: Vec<Task>, bound: u64) -> Left
-    ensures { (result.tasks.items ≡ tasks.items) × (result.budget ≡ bound) }
+    ensures { (result.tasks.items ≡ tasks.items) × (result.budget ≡ bound) × (result.halted ≡ false) × (result.wanted ≡ false) }
 {
     Left {
         tasks,

@@ -16,13 +16,15 @@ use crate::hints::{Hints, first_hints};
 use crate::opening::open_board;
 use crate::parallel::{Joined, Parallel, run_all};
 use crate::run::{Plan, Run};
-use crate::worker::Worker;
+use crate::worker::{Worker, turns};
 use kahn_board::{Board, Seat, join_all, split_all};
 use kahn_code::Code;
 use kahn_job::Task;
 use kahn_streams::{Input, Network};
 use std::alloc::Global;
+use std::marker::Brand;
 use std::sync::Wait;
+use std::sync::ledger::Blank;
 use std::thread::Threads;
 
 // A worker at each seat, with hints of its own, and the list of the seats, which is empty.
@@ -91,7 +93,7 @@ impl<'b, 'c, R: Wait + Sync, G: Gate + Sync> Parallel<Shared<'b, 'c, R, G>> for 
     }
 
     fn run(mut self, shared: &Shared<'b, 'c, R, G>) -> Worker {
-        self.work(shared.rt, shared.run, shared.gate);
+        turns::<R, G, Brand>(shared.rt, shared.run, shared.gate, &mut self, Blank::new(1));
         self
     }
 }

@@ -3,7 +3,7 @@
 ghost use Rattle.std.specs.Prelude.{◌≡◌, ◌+◌, ◌<◌, ◌≤◌, ◌^◌};
 ghost use Rattle.kahn_crew.specs.inner.Words.{ℕ, [], length, slice_index, IfOk, IfErr, vec_capacity, network_of, events_told, opening_view};
 ghost use Rattle.kahn_board.specs.Wires.{wires};
-ghost use Rattle.kahn_crew.specs.inner.Begins.{AreNumbersOf, AreReadyTasks, HasBegun, IsNumber};
+ghost use Rattle.kahn_crew.specs.inner.Begins.{AreReadyTasks, HasBegun, IsNumber};
 ghost use Rattle.kahn_crew.specs.inner.Tasks.{told_tale};
 
 use crate::boxes::{Boxed, box_all, unbox_all};
@@ -42,8 +42,7 @@ fn number(
     requires here { channel < length (network_of network.now).channels }
     requires ready { AreReadyTasks network.now input.now _watch tasks.now }
     requires few { events_told told_tale tasks.now < 2 ^ 48 }
-    ensures number { IsNumber network.now input.now tasks.now channel result }
-    ensures few { result < 2 ^ 48 }
+    ensures { IsNumber network.now input.now tasks.now channel result }
 {
     let _program = network.program();
     match network.channel(channel).role {
@@ -71,7 +70,7 @@ fn numbers_of(
     requires ready { AreReadyTasks network.now input.now _watch tasks.now }
     requires few { events_told told_tale tasks.now < 2 ^ 48 }
     ensures count { IfOk result (λ v. length v.items ≡ length (network_of network.now).channels) }
-    ensures each { IfOk result (λ v. AreNumbersOf network.now input.now tasks.now v.items) }
+    ensures each { IfOk result (λ v. (c : ℕ) → c < length v.items → IsNumber network.now input.now tasks.now c (slice_index v.items c)) }
 {
     let mut numbers = Vec::with_capacity(alloc, network.channels())?;
     for channel in 0..network.channels() {

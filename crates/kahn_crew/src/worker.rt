@@ -13,7 +13,6 @@ use crate::run::Run;
 use crate::turn::turn;
 use kahn_board::{Seat, go_on};
 use kahn_code::Steps;
-use std::marker::Brand;
 use std::sync::Wait;
 use std::sync::ledger::{Blank, Ledger};
 
@@ -73,8 +72,8 @@ fn pick_next(run: &Run<'_>, worker: &mut Worker, rest: &Rest) -> Option<usize>
     pick_any(run, worker)
 }
 
-// Turn after turn, until there is a reason to leave.
-fn turns<R: Wait, G: Gate, L: Ledger>(
+/// Turn after turn, until the run is halted, or no instance can go on, or the budget is empty.
+pub(crate) fn turns<R: Wait, G: Gate, L: Ledger>(
     rt: &R,
     run: &Run<'_>,
     gate: &G,
@@ -101,16 +100,5 @@ fn turns<R: Wait, G: Gate, L: Ledger>(
             }
             None => rest.sleep(rt),
         }
-    }
-}
-
-impl Worker {
-    /// Works until the run is halted, or no instance can go on, or the budget is empty.
-    pub fn work<R: Wait, G: Gate>(&mut self, rt: &R, run: &Run<'_>, gate: &G)
-        requires { SitsWith run.now 0 self.old.seat }
-        ensures same { Heeds self.old self.new }
-        ensures left { IsBetweenTurns self.new.seat × (self.new.seat.seat.me.0.stage ≡ 1) }
-    {
-        turns::<R, G, Brand>(rt, run, gate, self, Blank::new(1));
     }
 }

@@ -1,6 +1,6 @@
 -- Inner. A run before its next events, and what its workers are lent.
 use Rattle.std.specs.Prelude.{◌≡◌, ◌^◌, ◌<◌}
-use Rattle.kahn_crew.specs.inner.Words.{ℕ, false, List, length, Option, Some, slice_get, slice_index, Program, Writes, network_of, instance_at, actual_at, role_at, Lists, inputs_of, is_output, count, AreJoinedOn, IsDelivered, some, get_elem?, dealt, wired, Terms, Tasked}
+use Rattle.kahn_crew.specs.inner.Words.{ℕ, false, List, length, Option, Some, slice_get, Program, Writes, network_of, instance_at, actual_at, role_at, Lists, inputs_of, is_output, count, AreJoinedOn, IsDelivered, some, get_elem?, dealt, wired, Terms, Tasked}
 use Rattle.kahn_streams.specs.declared.tree.Role.TheVariants as role
 use Rattle.kahn_crew.specs.inner.Tasks.{task_rows, told_tale}
 
@@ -24,11 +24,7 @@ pub record IsNumber (t : Program) (lists : Lists) (tasks : List Tasked) (c n : �
   pub given : role_at (network_of t) c ≡ role.Input → n ≡ length (inputs_of lists c)
   pub sent : (p o : ℕ) (x : Tasked) → slice_get tasks p ≡ Some x → actual_at (instance_at (network_of t) p) o ≡ Writes c →
       is_output (role_at (network_of t) c) ≡ false → n ≡ count x.work.cell.sent o
-
--- so for each channel, and each is a number of 48 bits
-abbrev pub AreNumbersOf : Program → Lists → List Tasked → List ℕ → Type 0
-AreNumbersOf t lists tasks numbers =
-    (c : ℕ) → c < length numbers → IsNumber t lists tasks c (slice_index numbers c) × (slice_index numbers c < 2 ^ 48)
+  pub few : n < 2 ^ 48
 
 -- the board was made of such tasks, and that many tokens are published
 pub record HasBegun (t : Program) (lists : Lists) (watch : Option ℕ) (key : Terms Tasked) : Type 0 where

@@ -2,8 +2,7 @@
 use Rattle.std.specs.Prelude.{◌≡◌, ◌⊎◌, ◌+◌, ◌<◌}
 use Rattle.kahn_crew.specs.inner.Words.{ℕ, Bool, true, List, length, sum_by, Option, Some, slice_get, Program, Input, Reads, Writes, network_of, role_at, Lists, inputs_of, count, events_told, Terms, Tasked, Continues, RunFault}
 use Rattle.kahn_crew.specs.inner.Begins.{AreReadyTasks}
-use Rattle.kahn_crew.specs.declared.closing.Left.{Left}
-use Rattle.kahn_crew.specs.declared.fault.CrewFault.{CrewFault}
+use Rattle.kahn_crew.specs.declared.{closing.Left.Left, fault.CrewFault.CrewFault}
 use Rattle.kahn_crew.specs.declared.fault.CrewFault.TheVariants as fault
 use Rattle.kahn_streams.specs.declared.fault.RunFault.TheVariants as run
 use Rattle.kahn_job.specs.declared.standing.Standing.TheVariants as standing

@@ -1,6 +1,6 @@
 -- Inner. What a task tells the board.
 use Rattle.std.specs.Prelude.{◌≡◌, if◌then◌else◌, ◌==◌}
-use Rattle.kahn_crew.specs.inner.Words.{ℕ, Bool, true, false, List, map, position, Option, Some, None, Network, Actual, Reads, Writes, Hands, network_of, instance_at, actual_at, role_at, is_output, count, end_at, End, rows_of, Continues, Tasked, Work, Summary, Standing}
+use Rattle.kahn_crew.specs.inner.Words.{ℕ, Bool, true, false, List, map, option_map, option_map_or, position, Option, Some, None, Network, Actual, Reads, Writes, network_of, instance_at, actual_at, role_at, is_output, count, end_at, End, rows_of, Continues, Tasked, Work, Summary, Standing}
 use Rattle.kahn_job.specs.declared.standing.Standing.TheVariants as standing
 
 abbrev pub work_of : Tasked → Work
@@ -25,8 +25,7 @@ written_by N (Writes c) = if is_output (role_at N c) then None else Some c
 written_by N a = None
 
 abbrev pub is_channel : Option ℕ → ℕ → Bool
-is_channel None c = false
-is_channel (Some d) c = d == c
+is_channel o c = option_map_or (λ d. d == c) o false
 
 abbrev pub actuals_here : Work → List Actual
 actuals_here w = (instance_at (network_of w.cell.network) w.cell.instance).actuals
@@ -39,13 +38,11 @@ abbrev pub writes_at : Work → ℕ → Option ℕ
 writes_at w c = position (λ a. is_channel (written_by (network_of w.cell.network) a) c) (actuals_here w)
 
 abbrev pub count_on : List ℕ → Option ℕ → ℕ
-count_on xs None = 0
-count_on xs (Some q) = count xs q
+count_on xs o = option_map_or (count xs) o 0
 
 -- how many tokens the parameter sent, and how many of them its lane has
 abbrev pub wrote_by : Work → Option ℕ → Option (ℕ × ℕ)
-wrote_by w None = None
-wrote_by w (Some q) = Some (count w.cell.sent q, (end_at w.ends q).flushed)
+wrote_by w o = option_map (λ q. (count w.cell.sent q, (end_at w.ends q).flushed)) o
 
 abbrev pub is_over : Standing → Bool
 is_over standing.Ended = true

@@ -2,9 +2,7 @@
 use Rattle.std.specs.Prelude.{◌≡◌, ◌≢◌, ◌⊎◌, ◌↔◌, ◌+◌, ◌*◌, ◌/◌, ◌^◌, ◌<◌, ◌≤◌}
 use Rattle.kahn_crew.specs.inner.Words.{ℕ, Bool, true, Option, None, Some, slice_index, false, List, length, slice_index_or, TableId, Was, belongs, wired, SeesMore, channel_at, TellsEnd, TellsWait, Seat, Terms, View, BeginsTurn, EndsTurn, HoldsInTurn, IsBetween, IsDoneAt, IsSeatOf, SetsStill, SitsAt, Continues, Tasked}
 use Rattle.kahn_board.specs.Wires.{Wires}
-use Rattle.kahn_crew.specs.declared.run.Run.{Run}
-use Rattle.kahn_crew.specs.declared.worker.Worker.{Worker}
-use Rattle.kahn_crew.specs.declared.turn.Due.{Due}
+use Rattle.kahn_crew.specs.declared.{run.Run.Run, turn.Due.Due, worker.Worker.Worker}
 use Rattle.kahn_crew.specs.declared.turn.Due.TheVariants as due
 use Rattle.kahn_job.specs.declared.standing.Standing.TheVariants as standing
 use Rattle.kahn_crew.specs.inner.Begins.{IsTaskOf}

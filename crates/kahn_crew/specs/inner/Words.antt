@@ -1,6 +1,7 @@
 -- Inner. The words of the library and of the crates below that this crate's contracts use, passed on from one place.
 pub use Rattle.std.specs.Coded.{codes}
-pub use Rattle.std.specs.Prelude.{All, Bool, Err, IfErr, IfNone, IfOk, IfSome, List, None, OnErr, OnOk, Option, Some, [], false, length, map, position, reverse, slice_get, slice_index, slice_index_or, sum_by, true, ℕ}
+pub use Rattle.std.specs.Prelude.{All, Bool, Err, IfErr, IfNone, IfOk, IfSome, List, None, OnErr, OnOk, Option, Some, [], false, length, map, option_map, position, reverse, slice_get, slice_index, slice_index_or, sum_by, true, ℕ}
+pub use Rattle.std.specs.Option.{option_map_or}
 pub use Rattle.std.specs.Vec.{vec_capacity}
 pub use lib.ListN.{get_elem?}
 pub use mathlib.Core.Option.{some}

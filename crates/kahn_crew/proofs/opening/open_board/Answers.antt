@@ -9,6 +9,5 @@ new-requires c =
     (subst (λ (xs : List ℕ). Opens told_tale IsLater (wires t) c.args.bound xs c.args.tasks.items) (sym c.deref-2.ensures.value)
     (opens t c.program-program.ensures.wired c.args.input.now c.args.watch c.in-Ok.numbers.items c.args.tasks.items c.requires.ready
     c.in-Ok.ensures.count
-    (λ n lt. let h = c.in-Ok.ensures.each n lt in
-    (subst (λ (xs : List Tasked). IsNumber t c.args.input.now xs n (slice_index c.in-Ok.numbers.items n)) c.deref.ensures.value h.0, h.1))
+    (λ n lt. subst (λ (xs : List Tasked). IsNumber t c.args.input.now xs n (slice_index c.in-Ok.numbers.items n)) c.deref.ensures.value (c.in-Ok.ensures.each n lt))
     c.args.bound c.requires.few))
