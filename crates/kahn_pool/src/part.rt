@@ -189,23 +189,6 @@ fn run_settled<R: Threads + Wait + Sync, G: Gate + Sync, L: Ledger>(
     }
 }
 
-// The jobs with their ends made ready for the input so far, and whether all are. If memory was refused, each job looks the same
-// to every call.
-fn settle_ends(
-    network: &Network,
-    input: &Input,
-    mut idles: Vec<Idle>,
-) -> (Vec<Idle>, Result<(), NoMemory>)
-    requires { AreResting network.now input.now (rows_of idles.items) }
-    ensures settled { OnOk result.1 (HaveSettled network.now input.now (rows_of result.0.items)) }
-    ensures resting { AreResting network.now input.now (rows_of result.0.items) }
-    ensures stood { HaveStood (rows_of idles.items) (rows_of result.0.items) }
-    ensures cells { cells_of result.0.items ≡ cells_of idles.items }
-{
-    let settled = settle(network, input, &mut idles);
-    (idles, settled)
-}
-
 /// Runs idle jobs for as many events as are left for the part, until every worker has left.
 ///
 /// If memory was refused before the first event, each job is as it was. If a thread couldn't be started, those that were are
@@ -214,7 +197,7 @@ pub(crate) fn run_part<R: Threads + Wait + Sync, G: Gate + Sync>(
     rt: &R,
     alloc: Global,
     part: &Part<'_>,
-    idles: Vec<Idle>,
+    mut idles: Vec<Idle>,
     room: PartRoom,
     gate: &G,
 ) -> Stopped
@@ -222,7 +205,7 @@ pub(crate) fn run_part<R: Threads + Wait + Sync, G: Gate + Sync>(
     requires room { IsRoomFor (length (network_of part.now.network.now).instances) room }
     ensures { HasStoppedPart part.now idles.items result }
 {
-    let (idles, settled) = settle_ends(part.network, part.input, idles);
+    let settled = settle(part.network, part.input, &mut idles);
     if settled.is_err() {
         return Stopped {
             idles,

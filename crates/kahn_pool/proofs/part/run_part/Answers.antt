@@ -7,8 +7,8 @@ pub run_settled-requires-clause-part : goal.run_settled-requires-clause-part
 run_settled-requires-clause-part g c κs within =
     let t = c.args.part.now in
     let p = c.requires.part in
-    let e = c.settle_ends-idles.ensures in
-    let us = c.settle_ends-idles.result.0.items in
+    let e = c.settle-settled.ensures in
+    let us = c.settle-settled.new.idles.items in
     record {
       code = p.code;
       range = p.range;
@@ -18,13 +18,13 @@ run_settled-requires-clause-part g c κs within =
 pub returns-then-is_err : goal.returns-then-is_err
 returns-then-is_err g c =
     let t = c.args.part.now in
-    let e = c.settle_ends-idles.ensures in
+    let e = c.settle-settled.ensures in
     let ws = c.args.idles.items in
-    let us = c.settle_ends-idles.result.0.items in
+    let us = c.settle-settled.new.idles.items in
     let held = c.requires.part.held in
-    let r : Stopped = record { idles = c.settle_ends-idles.result.0; budget = t.left; ends = c.args.room.ends; outcome = Err NoMemory } in
+    let r : Stopped = record { idles = c.settle-settled.new.idles; budget = t.left; ends = c.args.room.ends; outcome = Err NoMemory } in
     refused_so t ws r (held_alike held us e.cells (idle_still t.network.now t.input.now ws held.idle us e.cells e.stood e.resting))
     (subst (λ cs. HaveRisen cs (cells_of us)) e.cells (risen_here (cells_of us))) NoMemory tt refl (λ f. (refl, ap (map cell_alone) e.cells))
 
 pub returns : goal.returns
-returns g c = stopped_since c.args.part.now c.args.idles.items c.settle_ends-idles.result.0.items c.run_settled.result c.settle_ends-idles.ensures.cells c.run_settled.ensures
+returns g c = stopped_since c.args.part.now c.args.idles.items c.settle-settled.new.idles.items c.run_settled.result c.settle-settled.ensures.cells c.run_settled.ensures
