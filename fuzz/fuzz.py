@@ -318,7 +318,7 @@ def one(program, room, seed):
     try:
         ran = subprocess.run(words, input=text if piped else b"", capture_output=True, timeout=60)
     except (OSError, subprocess.TimeoutExpired) as error:
-        return str(error), words
+        return str(error), ' '.join(words)
     wanted = ref.run(text, source, bound, watch, ("standard input" if piped else at + ".kahn", at + ".input"))
     what = difference(ran, wanted)
     if what is None:
@@ -326,7 +326,7 @@ def one(program, room, seed):
             if os.path.exists(name):
                 os.remove(name)
         return None, kind_of(wanted)
-    return what, words
+    return what, ' '.join(words)
 
 
 def difference(ran, wanted):
@@ -352,6 +352,21 @@ def kind_of(wanted):
     return re.sub(r"\d+", "N", fault) or ("stopped" if wanted.stopped else "finished")
 
 
+def tried(one, seeds):
+    """Tries the case of each seed, and prints what failed, with what leads there, and how many were of each kind: these counts, and how many failed."""
+    kinds, failed = {}, 0
+    with ThreadPoolExecutor(os.cpu_count()) as pool:
+        for seed, (what, more) in zip(seeds, pool.map(one, seeds)):
+            if what is None:
+                kinds[more] = kinds.get(more, 0) + 1
+            else:
+                failed += 1
+                print(f"FAILED {seed}: {what}\n   {more}", flush=True)
+    for kind in sorted(kinds, key=kinds.get, reverse=True):
+        print(f"{kinds[kind]:6} {kind}")
+    return kinds, failed
+
+
 def finished(room, passed, failed):
     """The last line, and the status. Where something failed the texts are kept in their folder."""
     if failed:
@@ -367,16 +382,7 @@ def main():
     first = int(sys.argv[3]) if len(sys.argv) > 3 else random.randrange(10**9)
     print(f"seed {first}", flush=True)
     room = tempfile.mkdtemp(prefix="kahn-fuzz-")
-    kinds, failed = {}, 0
-    with ThreadPoolExecutor(os.cpu_count()) as pool:
-        for seed, (what, more) in zip(range(first, first + count), pool.map(lambda it: one(program, room, it), range(first, first + count))):
-            if what is None:
-                kinds[more] = kinds.get(more, 0) + 1
-            else:
-                failed += 1
-                print(f"FAILED {seed}: {what}\n   {' '.join(more)}", flush=True)
-    for kind in sorted(kinds, key=kinds.get, reverse=True):
-        print(f"{kinds[kind]:6} {kind}")
+    kinds, failed = tried(lambda seed: one(program, room, seed), range(first, first + count))
     return finished(room, count - failed - kinds.get('skipped', 0), failed)
 
 

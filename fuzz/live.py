@@ -10,7 +10,6 @@ import random
 import subprocess
 import sys
 import tempfile
-from concurrent.futures import ThreadPoolExecutor
 
 sys.dont_write_bytecode = True
 sys.path.insert(0, os.path.dirname(os.path.abspath(__file__)))
@@ -97,16 +96,7 @@ def main():
     first = int(sys.argv[4]) if len(sys.argv) > 4 else random.randrange(10**6)
     print(f"seed {first}", flush=True)
     room = tempfile.mkdtemp(prefix="kahn-lines-")
-    kinds, failed, seeds = {}, 0, range(first, first + count)
-    with ThreadPoolExecutor(os.cpu_count()) as pool:
-        for seed, (what, more) in zip(seeds, pool.map(lambda seed: one(live, kahn, room, seed), seeds)):
-            if what is None:
-                kinds[more] = kinds.get(more, 0) + 1
-            else:
-                failed += 1
-                print(f"FAILED {seed}: {what}\n   {more}", flush=True)
-    for kind in sorted(kinds, key=kinds.get, reverse=True):
-        print(f"{kinds[kind]:6} {kind}")
+    _, failed = fuzz.tried(lambda seed: one(live, kahn, room, seed), range(first, first + count))
     return fuzz.finished(room, count - failed, failed)
 
 
