@@ -2,8 +2,7 @@
 
 ghost use Rattle.std.specs.Prelude.{◌≡◌, ℕ, ◌<◌, ◌≤◌, length, Some, slice_get, vec_capacity};
 ghost use Rattle.kahn_pool.specs.inner.Below.{AreAll, Reads, Tasked, actual_at, instance_at, network_of};
-ghost use Rattle.kahn_pool.specs.inner.Rested.{AreEndsOfTasks, AreTold, IsDryOf, IsEndOf, IsToldAs};
-ghost use Rattle.kahn_job.specs.declared.standing.Standing.TheVariants as standing;
+ghost use Rattle.kahn_pool.specs.inner.Rested.{AreEndsOfTasks, AreTold, IsDryOf, IsDryTold, IsEndOf};
 
 use crate::plan::Part;
 use kahn_code::Code;
@@ -43,7 +42,7 @@ fn dry_outcome(part: &Part<'_>, tasks: &[Task], instance: usize, parameter: usiz
     requires here { instance < length tasks.now }
     requires told { AreTold part.now.network.now tasks.now }
     requires reads { IsDryOf part.now.network.now instance parameter }
-    ensures { (x : Tasked) → slice_get tasks.now instance ≡ Some x → x.standing ≡ standing.Dry parameter → IsToldAs part.now.network.now part.now.input.now tasks.now x result }
+    ensures { IsDryTold part.now tasks.now instance parameter result }
 {
     let channel = channel_read(part.code, instance, parameter);
     let task = &tasks[instance];

@@ -55,6 +55,10 @@ IsToldAs t lists tasks x outcome.More =
     (x.standing ≡ standing.Going)
     ⊎ ((q d : ℕ) × (x.standing ≡ standing.Dry q) × (handed_to_task x.work q ≡ Reads d) × (AreAll t lists tasks d (count x.work.cell.taken q) → ⊥))
 
+-- so for that of instance p, where it is dry on parameter q
+abbrev pub IsDryTold : Part → List Tasked → ℕ → ℕ → Outcome → Type 0
+IsDryTold part tasks p q o = (x : Tasked) → slice_get tasks p ≡ Some x → x.standing ≡ standing.Dry q → IsToldAs part.network.now part.input.now tasks x o
+
 -- the end of a task among these
 pub record IsEndOf (t : Program) (lists : Lists) (tasks : List Tasked) (x : Tasked) (e : End) : Type 0 where
   pub events : e.events ≡ x.work.cell.events
