@@ -63,9 +63,8 @@ impl<T: Told> Board<T> {
         requires { IsAtBoard self.now seat × IsAtBoard self.now other × IsFree other.seat.me.0 }
         ensures { IsSameSeat seat result × (result.seat.me ≡ (after_joining seat.seat.me.0 other.seat.me.0, seat.seat.me.1)) }
     {
-        self.table
-            .shared
-            .join_seat::<Both>(&mut seat.seat, other.seat);
+        let shared = &self.table.shared;
+        shared.join_seat::<Both>(&mut seat.seat, other.seat);
         seat
     }
 
@@ -81,20 +80,17 @@ impl<T: Told> Board<T> {
             instances,
             channels: _,
             readers: _,
-            mut room,
+            room: mut cells,
         } = self;
         let mut closed = table.close_with(seat.seat);
         let budget = closed.word(budget_word);
         let halted = closed.word(halted_word);
         for i in 0..instances {
-            let Some(cell) = closed.take(i) else {
-                unreachable!()
-            };
-            room.push_reserved(cell);
+            cells.push_reserved(closed.take(i).unwrap());
         }
         closed.free();
         Closed {
-            cells: room,
+            cells,
             budget,
             halted: halted != 0,
         }

@@ -20,8 +20,7 @@ pub fn reader_of(network: &Network, channel: usize) -> Option<usize>
     requires { channel < (wires network.now).channels }
     ensures { result ≡ (wires network.now).reader channel }
 {
-    let side = network.reader(channel)?;
-    Some(side.instance)
+    Some(network.reader(channel)?.instance)
 }
 
 /// The instance that writes the channel, where one does; none writes an input channel. It takes no memory.
@@ -29,8 +28,7 @@ pub fn writer_of(network: &Network, channel: usize) -> Option<usize>
     requires { channel < (wires network.now).channels }
     ensures { result ≡ (wires network.now).writer channel }
 {
-    let side = network.writer(channel)?;
-    Some(side.instance)
+    Some(network.writer(channel)?.instance)
 }
 
 impl Wiring {
