@@ -4,8 +4,7 @@ ghost use Rattle.std.specs.Prelude.{◌≡◌, ◌≢◌, ℕ, ◌+◌, ◌*◌,
 ghost use Rattle.std.specs.VecDeque.{deque_capacity};
 ghost use Rattle.std.specs.Vec.{vec_capacity};
 ghost use Rattle.kahn_board.specs.Plays.{Facts};
-ghost use Rattle.kahn_board.specs.Dealt.{holds, wired};
-ghost use Rattle.kahn_board.specs.Rule.{channel_at, budget_at, count_at, halted_at};
+ghost use Rattle.kahn_board.specs.Rule.{holds, wired, channel_at, budget_at, count_at, halted_at};
 
 use crate::plays::{CountingUp, GivingBack, Halting, Notes, SeesBudget, SeesCount, SeesHalted};
 use crate::rule::{Rule, Terms, Told};
@@ -129,11 +128,11 @@ pub struct Seat<T> {
 
 impl<T: Told> Seat<T> {
     ghost use Rattle.kahn_board.specs.Calls.{Becomes, Claims, IsAtBoard, LooksAt, IsSameSeat, IsFirstSlot, KeepsAll, Swaps, MayLeave, OwesFew, GivesUp, Parks, Publishes, Draws, CountsDown, Looks, downs_of};
-    ghost use Rattle.kahn_board.specs.Summary.{TellsEnd, TellsWait};
+    ghost use Rattle.kahn_board.specs.Wires.{TellsEnd, TellsWait};
     ghost use Rattle.kahn_board.specs.declared.board.Rest.TheVariants.{Over};
     ghost use Rattle.kahn_board.specs.Plays.{Carries, IsIn, after_halting, after_counting_up, after_giving_back, after_reporting};
     ghost use Rattle.atomic_table.specs.Table.{turned as shifted};
-    ghost use Rattle.kahn_board.specs.Dealt.{belongs, wired};
+    ghost use Rattle.kahn_board.specs.Rule.{belongs, wired};
 
     /// Whether the instance is ready: it was so, or it wasn't, at a moment of the call. An idle worker looks before it claims,
     /// since a claim writes a word.

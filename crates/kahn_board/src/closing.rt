@@ -3,10 +3,9 @@
 ghost use Rattle.std.specs.Prelude.{◌≡◌, ℕ, ◌+◌, ◌*◌, ◌^◌, ◌<◌, ◌≤◌, [], Option, Some, length, slice_index, replicate, All, IfOk, IfErr};
 ghost use mathlib.Core.Option.{some};
 ghost use lib.ListN.{get_elem?};
-ghost use Rattle.kahn_board.specs.Dealt.{belongs, dealt, wired};
+ghost use Rattle.kahn_board.specs.Rule.{belongs, dealt, wired, all_parts};
 ghost use Rattle.kahn_board.specs.Calls.{IsAtBoard, IsSameSeat, AreCut, IsFree, after_joining};
 ghost use Rattle.kahn_board.specs.Opening.{Closes};
-ghost use Rattle.kahn_board.specs.Rule.{all_parts};
 ghost use Rattle.kahn_board.specs.inner.Turn.{AddUp, IsDoneAt, IsLoneSeat, SitsAt, parts_of, done_of, raised_of};
 
 use crate::board::{Board, Seat};

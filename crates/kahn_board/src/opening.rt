@@ -4,10 +4,9 @@ ghost use Rattle.std.specs.Prelude.{◌≡◌, ℕ, ◌+◌, ◌*◌, ◌^◌, �
 ghost use Rattle.std.specs.Vec.{vec_capacity};
 ghost use Rattle.std.specs.VecDeque.{deque_capacity};
 ghost use Rattle.kahn_board.specs.Opening.{Opens};
-ghost use Rattle.kahn_board.specs.inner.First.{AreFirstWords, IsWiringOf};
+ghost use Rattle.kahn_board.specs.inner.Turn.{AreFirstWords, IsWiringOf};
 ghost use Rattle.kahn_board.specs.Wires.{wires};
-ghost use Rattle.kahn_board.specs.Dealt.{dealt};
-ghost use Rattle.kahn_board.specs.Rule.{opening_view};
+ghost use Rattle.kahn_board.specs.Rule.{dealt, opening_view};
 
 use crate::board::{Board, Seat};
 use crate::rule::{Terms, Told};

@@ -2,7 +2,7 @@
 
 ghost use Rattle.std.specs.Prelude.{◌≡◌, ◌≤◌, ◌<◌, ℕ, IfOk, length, slice_index_or, None};
 ghost use Rattle.kahn_board.specs.Wires.{wires};
-ghost use Rattle.kahn_board.specs.inner.First.{IsWiringOf};
+ghost use Rattle.kahn_board.specs.inner.Turn.{IsWiringOf};
 
 use kahn_streams::{Network, NoMemory};
 use std::alloc::Global;

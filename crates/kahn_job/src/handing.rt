@@ -2,9 +2,8 @@
 
 ghost use Rattle.std.specs.Prelude.{◌≡◌, ◌<◌};
 ghost use Rattle.kahn_job.specs.inner.Words.{length, IfOk, IfSome, Some, network_of};
-ghost use Rattle.kahn_job.specs.inner.Idles.{cells_of, rows_of};
-ghost use Rattle.kahn_job.specs.inner.Lanes.{HasPlace, end_of_side};
-ghost use Rattle.kahn_job.specs.inner.Openings.{AreEndsOf, placed};
+ghost use Rattle.kahn_job.specs.inner.Idles.{cells_of, rows_of, AreEndsOf, placed};
+ghost use Rattle.kahn_job.specs.inner.Berths.{HasPlace, end_of_side};
 
 use crate::idle::Idle;
 use crate::port::Port;

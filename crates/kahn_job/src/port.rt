@@ -2,7 +2,7 @@
 
 ghost use Rattle.std.specs.Prelude.{◌≡◌, ◌⊎◌, ◌<◌, ◌+◌, ◌^◌};
 ghost use Rattle.kahn_job.specs.inner.Words.{ℕ, true, length, Some, IfSome, IfNone, IsOk, IsSome, IsTrue, IsFalse, OnOk, OnErr, MatchResult, network_of, role_at, flushed, left, moved_to, token_name, LaneName, Input as InputRole};
-ghost use Rattle.kahn_job.specs.inner.Ends.{Advances, FlushesFull, HasRoom, IsBehind, IsDry, IsFlushed, IsReady, MayMeet, ShareLane};
+ghost use Rattle.kahn_job.specs.inner.Ends.{Advances, HasRoom, IsBehind, IsDry, IsFlushed, IsReady, MayMeet, ShareLane};
 ghost use Rattle.kahn_job.specs.inner.Berths.{HasStayed, IsWithinInput, IsFor};
 ghost use Rattle.kahn_job.specs.inner.Settling.{BothSettle, CanFeed, CanSettle, HasSettled};
 ghost use Rattle.kahn_job.specs.inner.Ways.{taking, feeding, putting, no_end};
@@ -140,7 +140,9 @@ impl Port {
     pub(crate) fn room(&mut self) -> Result<(), NoMemory>
         requires { self.old.writes ≡ true }
         ensures advances { Advances self.old self.new }
-        ensures counts { FlushesFull self.old self.new }
+        ensures next { self.new.next ≡ self.old.next }
+        // Nothing was flushed, or a full segment.
+        ensures flushed { (self.new.flushed ≡ self.old.flushed) ⊎ ((self.old.next ≡ self.old.flushed + 64) × (self.new.flushed ≡ self.old.next)) }
         ensures room { OnOk result (HasRoom self.new) }
         ensures full { OnErr result (HasRoom self.new → ⊥) }
         ensures spare { HasRoom self.old → IsOk result }

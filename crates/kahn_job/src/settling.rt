@@ -4,7 +4,7 @@ ghost use Rattle.std.specs.Prelude.{◌≡◌, ◌<◌};
 ghost use Rattle.kahn_job.specs.inner.Words.{ℕ, length, OnOk, network_of, Lists};
 ghost use Rattle.kahn_job.specs.inner.Ends.{IsBehind, MayMeet};
 ghost use Rattle.kahn_job.specs.inner.Idles.{HaveMet, HaveSettled, cells_of, rows_of};
-ghost use Rattle.kahn_job.specs.inner.Lanes.{AreBehindOn, HasPlace, end_of_side};
+ghost use Rattle.kahn_job.specs.inner.Berths.{AreBehindOn, HasPlace, end_of_side};
 ghost use Rattle.kahn_job.specs.inner.Settling.{GoesOrStays, AreResting, AreSettled, CanFeed, CanSettle, HasExchanged, HaveExchanged, HaveStood};
 
 use crate::handing::{exchange, exchange_two};
