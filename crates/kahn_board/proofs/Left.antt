@@ -1,7 +1,23 @@
 -- A seat that looks, and leaves.
-use Rattle.kahn_board.proofs.Common.{◌≡◌, ◌≢◌, ℕ, suc, cond, List, [], ◌∷◌, Option, length, get_or, ap, sym, refl, ◌∙◌, arith, eq-eqb, subst, Summary, Terms, total, burden, after_looking, Looks, View, Seat, RestsWith, IsBetweenTurns, IsSeatOf}
+use Rattle.kahn_board.proofs.Common.{◌≡◌, ◌≢◌, ℕ, suc, cond, List, [], ◌∷◌, Option, length, get_or, ap, sym, refl, ◌∙◌, arith, eq-eqb, subst, Summary, Terms, total, burden, after_looking, Looks, View, Seat, RestsWith, IsBetweenTurns, IsSeatOf, ◌+◌, Sat, after_step}
 use Rattle.kahn_board.specs.declared.board.Look.{Look}
 use Rattle.kahn_board.specs.declared.board.Look.TheVariants.{Halted, Quiet, NoBudget, Go}
+
+module _ {T : Type 0} where
+  -- nothing changed but how many steps it made, and that it is busy
+  pub record Same (m n : Sat T) : Type 0 where
+    pub stage : ℕ
+    pub steps : ℕ
+    pub is : n ≡ (record m.0 { stage = stage; steps = steps }, m.1)
+
+  pub same_self : (m : Sat T) → Same m m
+  same_self m = record { stage = m.0.stage; steps = m.0.steps; is = refl }
+
+  same_noted : (m n k : Sat T) → Same m n → k ≡ (after_step n.0, n.1) → Same m k
+  same_noted m n k s is = record { stage = 2; steps = s.steps + 1; is = is ∙ ap (λ (z : Sat T). (after_step z.0, z.1)) s.is }
+
+  pub same_noted_twice : (m n k : Sat T) → Same m n → k ≡ (after_step (after_step n.0), n.1) → Same m k
+  same_noted_twice m n k s is = same_noted m (after_step n.0, n.1) k (same_noted m n (after_step n.0, n.1) s refl) is
 
 none_total : (l : List ℕ) → ((p : ℕ) → get_or l p 0 ≡ 0) → total (λ x. x) l ≡ 0
 none_total [] h = refl

@@ -1,6 +1,6 @@
 -- The steps that move no instance, that take one, and that give one up.
-use Rattle.kahn_board.proofs.Common.{◌≡◌, ℕ, zero, suc, ◌+◌, ◌*◌, ◌/◌, ◌%◌, ◌^◌, ◌<◌, ◌≤◌, ◌≢◌, ◌⊎◌, inl, ⊎_elim, List, [], ◌∷◌, length, get_or, set, sym, refl, ap, ◌∙◌, subst, arith, Option, Some, length-set, get_or-set_same, get_or-set_other, some, none, some-injective, some-ne-none, get_elem?, takes, gives, stepped, set_here, set_else, same_Some, Summary, TellsWait, TellsEnd, TellsEvents, events_past, Wires, Owed, Owes, is_up, Leaves, Place, held, parked, over, word_code, held_by, parked_on, mark_of, moved, Sat, IsIn, SeesMore, after_step, after_taking, after_giving_up, St, Deal, published, budget, count, halted, HasSlot, IsHome, HomeIs, Ruled, Whole, View}
-use Rattle.kahn_board.proofs.Moved.{at_moved, moved_here, moved_else, held_yes, held_no, held_apart, parked_yes}
+use Rattle.kahn_board.proofs.Common.{◌≡◌, ℕ, zero, suc, ◌+◌, ◌*◌, ◌/◌, ◌%◌, ◌^◌, ◌<◌, ◌≤◌, ◌≢◌, ◌⊎◌, inl, ⊎_elim, List, [], ◌∷◌, length, get_or, set, sym, refl, ap, ◌∙◌, subst, arith, Option, Some, length-set, get_or-set_same, get_or-set_other, some, none, some-injective, some-ne-none, get_elem?, takes, gives, stepped, set_here, set_else, same_Some, Summary, TellsWait, TellsEnd, TellsEvents, events_past, Wires, Owed, Owes, is_up, Leaves, Place, held, parked, over, word_code, held_by, parked_on, mark_of, Sat, IsIn, SeesMore, after_step, after_taking, after_giving_up, St, Deal, published, budget, count, halted, HasSlot, IsHome, HomeIs, Ruled, Whole, View}
+use Rattle.kahn_board.proofs.Moved.{moved, at_moved, moved_here, moved_else, held_yes, held_no, held_apart, parked_yes}
 use Rattle.kahn_board.proofs.Counting.{inside_of}
 use Rattle.kahn_board.proofs.Sums.{there}
 use Rattle.kahn_board.proofs.Keeps.{Stays, at_one, kept}

@@ -1,6 +1,6 @@
 -- What a call owes at each step on a word.
-use Rattle.kahn_board.proofs.Common.{◌≡◌, ℕ, ◌+◌, ◌*◌, ◌/◌, ◌%◌, ◌^◌, ◌<◌, ◌≢◌, ◌⊎◌, inl, inr, List, [], ◌∷◌, ◌++◌, length, get_or, set, sym, refl, ap, ◌∙◌, subst, arith, Option, Some, None, length-set, get_or-set_same, get_or-set_other, eqb, dite, ℕ_discrete, some, none, get_elem?, set-get_or, either, none-some, same_Some, step, Act, keeps, takes, gives, Valid, carried_after, stepped, Allows, exchanged, Summary, TellsWait, TellsEnd, FlushedAll, Wires, is_up, Leaves, Place, ready, held, parked, over, word_code, held_by, parked_on, mark_of, moved, Sat, SeesMore, IsIn, Got, after_step, after_taking, after_giving_up, with_published, after_waking, claimed, set_down, parked_or_not, publishes, St, Deal, Whole, IsHome, HasSlot, published, halted, View}
-use Rattle.kahn_board.proofs.Moved.{at_moved, moved_here, is_held, parked_yes, parked_no, is_parked, parked_apart, code_ready}
+use Rattle.kahn_board.proofs.Common.{◌≡◌, ℕ, ◌+◌, ◌*◌, ◌/◌, ◌%◌, ◌^◌, ◌<◌, ◌≢◌, ◌⊎◌, inl, inr, List, [], ◌∷◌, ◌++◌, length, get_or, set, sym, refl, ap, ◌∙◌, subst, arith, Option, Some, None, length-set, get_or-set_same, get_or-set_other, eqb, dite, ℕ_discrete, some, none, get_elem?, set-get_or, either, none-some, same_Some, step, Act, keeps, takes, gives, Valid, carried_after, stepped, Allows, exchanged, Summary, TellsWait, TellsEnd, FlushedAll, Wires, is_up, Leaves, Place, ready, held, parked, over, word_code, held_by, parked_on, mark_of, Sat, SeesMore, IsIn, Got, after_step, after_taking, after_giving_up, with_published, after_waking, claimed, set_down, parked_or_not, publishes, St, Deal, Whole, IsHome, HasSlot, published, halted, View}
+use Rattle.kahn_board.proofs.Moved.{moved, at_moved, moved_here, is_held, parked_yes, parked_no, is_parked, parked_apart, code_ready}
 use Rattle.kahn_board.proofs.Sums.{term_le}
 use Rattle.kahn_board.proofs.Counting.{below-term}
 use Rattle.kahn_board.proofs.Changes.{owes_more, owes_woken, one_longer}

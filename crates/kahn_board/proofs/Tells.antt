@@ -1,8 +1,7 @@
 -- What the single steps of a seat tell it, where they speak of cells, of the network or of a draw.
 use Rattle.std.specs.Prelude.{◌≡◌, ◌≢◌, ℕ, ◌+◌, ◌-◌, ◌/◌, ◌%◌, ◌^◌, ◌<◌, List, [], ◌∷◌, slice_index, Option, Some}
 use Rattle.atomic_table.specs.Table.{rest}
-use Rattle.kahn_board.specs.Summary.{Summary, TellsWait}
-use Rattle.kahn_board.specs.Wires.{Wires}
+use Rattle.kahn_board.specs.Wires.{Summary, TellsWait, Wires}
 use Rattle.kahn_board.specs.Plays.{Got, IsIn, Play, Sat, after_step, after_giving_up, with_published, after_waking, after_drawing}
 
 module _ {T : Type 0} (told : T → Option Summary) (w : Wires) where

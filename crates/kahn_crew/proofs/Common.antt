@@ -16,7 +16,7 @@ pub use native.Mathlib.Decide.{ℕ_discrete}
 pub use Rattle.kahn_board.proofs.Sole.{no_writer, nothing, sole_first, sole_reader, sole_writer}
 pub use Rattle.kahn_board.proofs.Sums.{is_there}
 pub use Rattle.kahn_board.specs.Calls.{Becomes, LooksAt, Swaps}
-pub use Rattle.kahn_board.specs.Dealt.{belongs, dealt, events_told, holds, wired}
+pub use Rattle.kahn_board.specs.Rule.{belongs, dealt, events_told, holds, wired}
 pub use Rattle.kahn_board.specs.Opening.{Opens}
 pub use Rattle.kahn_board.specs.Plays.{Sat, SeesMore, after_reporting}
 unfoldable pub use Rattle.kahn_board.specs.Wires.{wires}

@@ -2,7 +2,7 @@
 use Rattle.kahn_crew.proofs.Common.{append-nil, ◌++◌, reverse, arith, ◌≡◌, ◌⊎◌, inl, inr, ⊎_elim, ℕ, zero, suc, ◌+◌, ◌<◌, ◌≤◌, true, false, List, [], ◌∷◌, length, sum_by, refl, sym, ap, ◌∙◌, subst, Option, Some, slice_get, some, get_elem?, sum_by-cons, slice_get_within, Program, Network, Reads, Writes, Given, channel_source, network_of, instance_at, actual_at, role_at, IsWellWired, Lists, is_output, count, end_at, Work, belongs, dealt, wired, events_told, wires, Terms, View, AreReadyTasks, HasBegun, IsTaskOf, Tasked, Continues, IsLater, count_on, handed_to_task, read_by, reads_at, told_tale, waits_on, writes_at, wrote_by, no_writer}
 use Rattle.kahn_streams.specs.declared.tree.Role.{Role}
 use Rattle.kahn_board.specs.Opening.{Closes}
-use Rattle.kahn_board.specs.Place.{below}
+use Rattle.kahn_board.specs.Rule.{below}
 use Rattle.kahn_board.specs.declared.closing.Closed.{Closed}
 use Rattle.kahn_crew.specs.inner.Left.{AreAll, AreUntouched, HaveGone, IsQuietTask, IsOver, task_events}
 use Rattle.kahn_job.specs.declared.standing.Standing.{Standing}

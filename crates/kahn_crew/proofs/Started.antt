@@ -2,8 +2,8 @@
 use Rattle.kahn_crew.proofs.Common.{arith, ◌≡◌, ℕ, zero, suc, ◌+◌, ◌<◌, ◌≤◌, ◌^◌, List, [], ◌∷◌, ◌++◌, length, map, refl, sym, ap, ◌∙◌, subst, true, false, Option, Some, None, slice_get, slice_index, slice_index_or, some, some-injective, some-ne-none, get_elem?, length-map, option_map, slice_get-map, slice_get_read, Program, Side, Writes, network_of, instance_at, actual_at, role_at, IsOnly, IsWriter, IsWellWired, side_at, Lists, inputs_of, is_output, Joins, count, AreCounts, Serves, end_at, IsDelivered, Work, events_told, Opens, wires, Terms, View, woken_task, Tasked, AreReadyTasks, HasBegun, IsNumber, IsReadyTask, FitTogether, AgreesWith, IsLater, IsPublished, task_rows, told_tale}
 use Rattle.kahn_streams.specs.declared.tree.Role.TheVariants.{Inner, Input}
 use Rattle.kahn_job.specs.inner.Idles.{AreIdle, CanGoOn, HaveSettled, rows_of}
-use Rattle.kahn_job.specs.inner.Lanes.{AreJoinedOn}
-use Rattle.kahn_job.specs.inner.Openings.{AreOpening}
+use Rattle.kahn_job.specs.inner.Berths.{AreJoinedOn}
+use Rattle.kahn_job.specs.inner.Idles.{AreOpening}
 use Rattle.kahn_job.proofs.Idles.{idle_goes_on, row_there}
 use Rattle.kahn_job.proofs.Settles.{stood_same}
 use Rattle.kahn_board.specs.Rule.{spent}

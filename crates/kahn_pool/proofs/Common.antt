@@ -1,5 +1,5 @@
 -- The names of the crates below and of this crate's definitions that proofs cite, passed on from one place.
-pub use Rattle.kahn_board.specs.Dealt.{events_told}
+pub use Rattle.kahn_board.specs.Rule.{events_told}
 pub use Rattle.kahn_code.proofs.Lists.{at_last, one_first, own_of, sent_stands, stand_in}
 pub use Rattle.kahn_code.proofs.Poured.{poured_grown, poured_length, poured_rest}
 pub use Rattle.kahn_code.proofs.Queued.{given_zero, set_each, set_here, taken_zero}
@@ -28,8 +28,8 @@ pub use Rattle.kahn_job.specs.inner.Berths.{IsWithinInput, Serves, end_at}
 pub use Rattle.kahn_job.specs.inner.Ends.{IsBehind, IsReady}
 pub use Rattle.kahn_job.specs.inner.Idles.{AreIdle, HaveMet, cells_of, rows_of}
 pub use Rattle.kahn_job.proofs.Idles.{AreJoinedJobs}
-pub use Rattle.kahn_job.specs.inner.Lanes.{AreBehindOn, AreJoinedOn, end_in}
-pub use Rattle.kahn_job.specs.inner.Openings.{IsOpening}
+pub use Rattle.kahn_job.specs.inner.Berths.{AreBehindOn, AreJoinedOn, end_in}
+pub use Rattle.kahn_job.specs.inner.Idles.{IsOpening}
 pub use Rattle.kahn_job.specs.inner.Tasks.{Continues, IsTrueOf, Tasked, standing_after, woken_task}
 pub use Rattle.kahn_job.specs.inner.Ways.{no_end}
 pub use Rattle.kahn_job.specs.inner.Works.{IsJob, Work, width_of}

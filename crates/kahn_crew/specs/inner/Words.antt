@@ -7,10 +7,10 @@ pub use lib.ListN.{get_elem?}
 pub use mathlib.Core.Option.{some}
 pub use Rattle.atomic_table.specs.Seated.{TableId}
 pub use Rattle.kahn_board.specs.Calls.{Was}
-pub use Rattle.kahn_board.specs.Dealt.{belongs, dealt, events_told, wired}
+pub use Rattle.kahn_board.specs.Rule.{belongs, dealt, events_told, wired}
 pub use Rattle.kahn_board.specs.Plays.{SeesMore}
 pub use Rattle.kahn_board.specs.Rule.{channel_at, opening_view}
-pub use Rattle.kahn_board.specs.Summary.{Summary, TellsEnd, TellsWait}
+pub use Rattle.kahn_board.specs.Wires.{Summary, TellsEnd, TellsWait}
 pub use Rattle.kahn_board.specs.declared.board.Seat.{Seat}
 pub use Rattle.kahn_board.specs.declared.rule.Terms.{Terms}
 pub use Rattle.kahn_board.specs.declared.view.View.{View}
@@ -22,7 +22,7 @@ pub use Rattle.kahn_job.specs.declared.standing.Standing.TheVariants.{Going}
 pub use Rattle.kahn_job.specs.inner.Berths.{end_at}
 pub use Rattle.kahn_job.specs.inner.Ends.{End}
 pub use Rattle.kahn_job.specs.inner.Idles.{AreIdle, HaveSettled, rows_of}
-pub use Rattle.kahn_job.specs.inner.Lanes.{AreJoinedOn}
+pub use Rattle.kahn_job.specs.inner.Berths.{AreJoinedOn}
 pub use Rattle.kahn_job.specs.inner.Tasks.{Continues, Tasked, woken_task}
 pub use Rattle.kahn_job.specs.inner.Works.{IsDelivered, IsJob, Work, width_of}
 pub use Rattle.kahn_streams.specs.Answers.{is_output}

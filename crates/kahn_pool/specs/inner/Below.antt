@@ -14,7 +14,7 @@ pub use Rattle.kahn_job.specs.declared.{standing.Standing.Standing}
 pub use Rattle.kahn_job.specs.inner.Berths.{IsWithinInput, end_at}
 pub use Rattle.kahn_job.specs.inner.Ends.{IsReady}
 pub use Rattle.kahn_job.specs.inner.Idles.{AreIdle, HaveSettled, cells_of, rows_of}
-pub use Rattle.kahn_job.specs.inner.Openings.{IsOpening}
+pub use Rattle.kahn_job.specs.inner.Idles.{IsOpening}
 pub use Rattle.kahn_job.specs.inner.Settling.{AreResting, HaveStood}
 pub use Rattle.kahn_job.specs.inner.Tasks.{Continues, Tasked, TellsOutcome}
 pub use Rattle.kahn_job.specs.inner.Works.{IsJob, Work}

@@ -1,5 +1,5 @@
 use Rattle.kahn_board.proofs.Common.{◌∙◌, ap, arith, belongs, wired, downs_of}
-use Rattle.kahn_board.proofs.Wired.{reader_in, writer_in}
+use Rattle.kahn_board.proofs.Sole.{reader_in, writer_in}
 use Rattle.kahn_board.proofs.Woken.{woken_ready}
 use Rattle.kahn_board.proofs.Passed.{passes, woke}
 use Rattle.kahn_board.proofs.turn.publish.Goals as goal

@@ -1,6 +1,6 @@
 use Rattle.kahn_job.proofs.Common.{◌∙◌, rows_of}
 use Rattle.kahn_job.proofs.Exchanged.{stayed}
-use Rattle.kahn_job.proofs.meeting.meet_sides.Goals as goal
+use Rattle.kahn_job.proofs.settling.meet_sides.Goals as goal
 
 pub returns-clause-met : goal.returns-clause-met
 returns-clause-met c =

@@ -1,6 +1,6 @@
-use Rattle.kahn_job.proofs.Common.{◌≡◌, ◌<◌, List, length, sym, ap, ◌∙◌, subst, slice_index_or, slice_set, End, Work, end_at}
+use Rattle.kahn_job.proofs.Common.{◌<◌, List, length, sym, ap, ◌∙◌, subst, slice_set, End, Work, end_at}
 use Rattle.kahn_job.proofs.Idles.{cells_exchanged, row_at, rows_exchanged}
-use Rattle.kahn_job.proofs.exchanging.exchange.Goals as goal
+use Rattle.kahn_job.proofs.handing.exchange.Goals as goal
 
 pub replace-requires : goal.replace-requires
 replace-requires c =

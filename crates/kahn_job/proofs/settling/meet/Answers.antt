@@ -1,7 +1,7 @@
 use Rattle.kahn_job.proofs.Common.{arith, ⊎_elim, sym, subst, network_of, reads_listed, rows_of, AreBehindOn}
 use Rattle.kahn_job.proofs.Idles.{met_self, met_then}
 use Rattle.kahn_job.proofs.Settles.{behind_before, below_or, rests_met}
-use Rattle.kahn_job.proofs.meeting.meet.Goals as goal
+use Rattle.kahn_job.proofs.settling.meet.Goals as goal
 
 pub loop-channel-init : goal.loop-channel-init
 loop-channel-init c = (met_self c.args.idles.items, λ d l. absurd (omega (arith, l)))

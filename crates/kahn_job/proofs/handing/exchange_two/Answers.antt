@@ -1,6 +1,6 @@
 use Rattle.kahn_job.proofs.Common.{sym, ap, ◌∙◌, rows_of, end_of_side}
 use Rattle.kahn_job.proofs.Exchanged.{else_at}
-use Rattle.kahn_job.proofs.exchanging.exchange_two.Goals as goal
+use Rattle.kahn_job.proofs.handing.exchange_two.Goals as goal
 
 pub returns-clause-ends : goal.returns-clause-ends
 returns-clause-ends c =

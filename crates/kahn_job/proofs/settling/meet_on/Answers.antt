@@ -1,6 +1,6 @@
 use Rattle.kahn_job.proofs.Common.{network_of, IsBehind, rows_of}
 use Rattle.kahn_job.proofs.Settles.{can_settle, none_reads, none_writes, on_only}
-use Rattle.kahn_job.proofs.meeting.meet_on.Goals as goal
+use Rattle.kahn_job.proofs.settling.meet_on.Goals as goal
 
 pub meet_sides-requires-clause-lane : goal.meet_sides-requires-clause-lane
 meet_sides-requires-clause-lane c =
