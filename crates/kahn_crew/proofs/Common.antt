@@ -39,6 +39,5 @@ pub use Rattle.kahn_streams.specs.Wiring.{IsWellWired, side_at}
 pub use Rattle.kahn_streams.specs.declared.sides.Side.{Side}
 pub use Rattle.kahn_streams.specs.declared.tree.Program.{Program}
 pub use Rattle.kahn_crew.specs.declared.run.Run.{Run}
-pub use Rattle.kahn_crew.specs.inner.Begins.{AreReadyTasks, HasBegun, IsNumber, IsReadyTask, FitTogether, IsTaskOf}
 pub use Rattle.kahn_crew.specs.inner.Turns.{CanRest, IsDue, IsSetDown, IsSameWorker, HasPicked, HasTask, Heeds, IsAtWork, IsTaskIn, RaisesAsWanted, SitsWith, StandsStill, WasNotReady, terms_of}
-pub use Rattle.kahn_crew.specs.inner.Tasks.{AgreesWith, IsLater, IsPublished, count_on, handed_to_task, is_channel, read_by, reads_at, task_rows, told_tale, waits_on, work_of, writes_at, written_by, wrote_by}
+pub use Rattle.kahn_crew.specs.inner.Tasks.{AreReadyTasks, HasBegun, IsNumber, IsReadyTask, FitTogether, IsTaskOf, AgreesWith, IsLater, IsPublished, count_on, handed_to_task, is_channel, read_by, reads_at, task_rows, told_tale, waits_on, work_of, writes_at, written_by, wrote_by}

@@ -16,10 +16,9 @@ pub use Rattle.kahn_code.specs.inner.Gone.{Gone, kept_behind, nothing_gone}
 pub use Rattle.kahn_code.specs.inner.Tapped.{HasForgotten, Tapped, regrown_tap}
 pub use Rattle.kahn_crew.proofs.Ended.{all_told, untouched_gone}
 pub use Rattle.kahn_crew.proofs.Started.{at_mapped, at_most_all, mapped_at, woken_ready}
-pub use Rattle.kahn_crew.specs.declared.{fault.CrewFault.CrewFault, fault.CrewFault.TheVariants.NoMemory, fault.CrewFault.TheVariants.NoThread, run.Plan.Plan}
-pub use Rattle.kahn_crew.specs.inner.Begins.{AreReadyTasks}
+pub use Rattle.kahn_crew.specs.declared.{closing.CrewFault.CrewFault, closing.CrewFault.TheVariants.NoMemory, closing.CrewFault.TheVariants.NoThread, run.Plan.Plan}
 pub use Rattle.kahn_crew.specs.inner.Left.{AreAll, AreUntouched, HaveGone, IsLack, IsOver, IsQuietTask, task_events}
-pub use Rattle.kahn_crew.specs.inner.Tasks.{handed_to_task, is_over, task_rows, told_tale, work_of}
+pub use Rattle.kahn_crew.specs.inner.Tasks.{AreReadyTasks, handed_to_task, is_over, task_rows, told_tale, work_of}
 pub use Rattle.kahn_job.proofs.Berthed.{past_none}
 pub use Rattle.kahn_job.proofs.Idles.{all_idle, idle_grown, idle_met, idle_still, row_there}
 pub use Rattle.kahn_job.proofs.Settles.{same_lanes}

@@ -7,7 +7,7 @@ pub use Rattle.kahn_code.specs.Told.{IsAt, Told, told_view}
 pub use Rattle.kahn_code.specs.declared.{cell.Kept.Kept, progress.Pause.Pause}
 pub use Rattle.kahn_code.specs.inner.Gone.{Gone, kept_behind, nothing_gone}
 pub use Rattle.kahn_code.specs.inner.Tapped.{HasForgotten, Tapped}
-pub use Rattle.kahn_crew.specs.declared.{closing.Left.Left, fault.CrewFault.TheVariants.NoMemory, run.Plan.Plan}
+pub use Rattle.kahn_crew.specs.declared.{closing.Left.Left, closing.CrewFault.TheVariants.NoMemory, run.Plan.Plan}
 pub use Rattle.kahn_crew.specs.inner.Left.{AreAll, HaveGone, IsLack, IsOver}
 pub use Rattle.kahn_crew.specs.inner.Tasks.{handed_to_task}
 pub use Rattle.kahn_job.specs.declared.{standing.Standing.Standing}

@@ -1,5 +1,5 @@
 use Rattle.kahn_crew.proofs.Common.{rules, ◌≡◌, List, [], ◌∷◌, ◌++◌, All, map, sym, ap, ◌∙◌, subst, map-append, All-push, IsJob, Work, work_of}
-use Rattle.kahn_crew.proofs.waking.rest_all.Goals as goal
+use Rattle.kahn_crew.proofs.closing.rest_all.Goals as goal
 
 pub loop-task-preserved : goal.loop-task-preserved
 loop-task-preserved c =

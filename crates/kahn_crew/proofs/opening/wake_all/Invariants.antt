@@ -1,5 +1,5 @@
 use Rattle.kahn_crew.proofs.Common.{◌≡◌, ◌++◌, map, vec_capacity, woken_task}
-use Rattle.kahn_crew.proofs.waking.wake_all.Given as goal
+use Rattle.kahn_crew.proofs.opening.wake_all.Given as goal
 
 abbrev pub invariant-loop-idle : goal.invariant-loop-idle
 invariant-loop-idle l =

@@ -1,6 +1,6 @@
 use Rattle.kahn_crew.proofs.Common.{◌≡◌, All, map, IsJob, work_of}
 use Rattle.std.proofs.Common.{vec_capacity}
-use Rattle.kahn_crew.proofs.waking.rest_all.Given as goal
+use Rattle.kahn_crew.proofs.closing.rest_all.Given as goal
 
 abbrev pub invariant-loop-task : goal.invariant-loop-task
 invariant-loop-task l =

@@ -1,6 +1,6 @@
 use Rattle.kahn_crew.proofs.Common.{◌≡◌, List, [], ◌∷◌, ◌++◌, length, map, sym, ap, ◌∙◌, subst, Some, slice_get, append_assoc, map-append, Work, Tasked, woken_task}
 use Rattle.kahn_crew.proofs.Started.{goes_on, middle_at}
-use Rattle.kahn_crew.proofs.waking.wake_all.Goals as goal
+use Rattle.kahn_crew.proofs.opening.wake_all.Goals as goal
 
 pub woken-requires : goal.woken-requires
 woken-requires c =
