@@ -22,5 +22,4 @@ pub mod Limits
 pub mod Left
 pub mod Passed
 pub mod Joined
-pub mod Kept
 pub mod Placed

@@ -54,9 +54,6 @@ with_published v c count = record v { flushed = slice_set v.flushed c count }
 abbrev pub after_waking : View → ℕ → ℕ → ℕ → ℕ → View
 after_waking v c count p q = record (with_published v c count) { owed = v.owed ++ (p, q) ∷ [] }
 
-abbrev pub after_drawing : View → ℕ → View
-after_drawing v k = record (after_step v) { drawn = k }
-
 -- n events of the draw were done, the others may still be done
 abbrev pub after_reporting : View → ℕ → View
 after_reporting v n = record (after_step v) { drawn = v.drawn - n; done = v.done + n; untold = v.untold + n }
