@@ -41,16 +41,16 @@ seated run seats workers e sits calm k d lt =
 
 -- one worker more gave back its seat
 pub one_more : (workers : List Worker) (w : Worker) (a : Bool) → (All HasCause workers → 0 < crew_raised workers ↔ a ≡ true) → All HasCause (workers ++ w ∷ []) →
-    0 < crew_raised (workers ++ w ∷ []) ↔ (a || w.wanted) ≡ true
+    0 < crew_raised (workers ++ w ∷ []) ↔ (a || w.hints.wanted) ≡ true
 one_more workers w a before all =
     let t = all_but_last HasCause workers w all in
     let was = before t.0 in
     let sum : crew_raised (workers ++ w ∷ []) ≡ crew_raised workers + w.seat.seat.me.0.raised =
     ap raised_of (map-append seat_of workers (w ∷ [])) ∙ sum_by_push (λ (s : Seat Tasked). s.seat.me.0.raised) (map seat_of workers) w.seat in (
       λ lt. dite (ℕ_discrete (crew_raised workers) 0)
-          (λ none. or_right a w.wanted (t.1.0 (omega (arith, lt, none, sum))))
-          (λ some. or_left a w.wanted (was.0 (omega (arith, some)))),
-      λ yes. ⊎_elim (λ x. omega (arith, was.1 x, sum)) (λ x. omega (arith, t.1.1 x, sum)) (or_either a w.wanted yes),
+          (λ none. or_right a w.hints.wanted (t.1.0 (omega (arith, lt, none, sum))))
+          (λ some. or_left a w.hints.wanted (was.0 (omega (arith, some)))),
+      λ yes. ⊎_elim (λ x. omega (arith, was.1 x, sum)) (λ x. omega (arith, t.1.1 x, sum)) (or_either a w.hints.wanted yes),
     )
 
 -- all have worked
@@ -70,13 +70,13 @@ one_least ws i d lt =
 
 -- those that halted the run wanted memory, and no others, where nobody had halted it and nobody had wanted memory
 pub all_caused : (old new : List Worker) → length new ≡ length old → crew_raised old ≡ 0 →
-    ((i : ℕ) (d : Worker) → i < length old → (slice_index_or old i d).wanted ≡ false) →
+    ((i : ℕ) (d : Worker) → i < length old → (slice_index_or old i d).hints.wanted ≡ false) →
     ((i : ℕ) (d : Worker) → i < length old → Heeds (slice_index_or old i d) (slice_index_or new i d)) →
     All HasCause new
 all_caused old new e none calm h i d lt =
     let at : i < length old = omega (arith, lt, e) in
     let least = one_least old i d at in
-    ⊎_elim (λ (x : ((slice_index_or new i d).seat.seat.me.0.raised ≡ (slice_index_or old i d).seat.seat.me.0.raised) × ((slice_index_or new i d).wanted ≡ (slice_index_or old i d).wanted)).
+    ⊎_elim (λ (x : ((slice_index_or new i d).seat.seat.me.0.raised ≡ (slice_index_or old i d).seat.seat.me.0.raised) × ((slice_index_or new i d).hints.wanted ≡ (slice_index_or old i d).hints.wanted)).
     ((λ raised. absurd (omega (arith, x.0, raised, least, none))), (λ yes. absurd (true≢false (sym yes ∙ (x.1 ∙ calm i d at))))))
     (λ x. ((λ _. x.1), (λ _. omega (arith, x.0)))) (h i d at).3
 
