@@ -177,9 +177,9 @@ sums_rise (z ∷ xs) (u ∷ ys) l h =
     by same others (suc p) x y e f = others p x y e f
 
 -- a run on whose board nobody works, that was made of these tasks for so many events
-module _ (t : Program) (lists : Lists) (watch : Option ℕ) (key : Terms Tasked) (is_wired : IsWellWired t) (begun : HasBegun t lists watch key)
-    (c : Closed Tasked) (tasks : List Tasked) (v : View) (closes : Closes told_tale (belongs IsLater key) (wired key) (dealt told_tale key) c v) (are : c.cells.items ≡ tasks)
-    (bound : ℕ) (first : List Tasked) (of : (key.bound ≡ bound) × (key.cells.value.items ≡ first)) where
+module _ {t : Program} {lists : Lists} {watch : Option ℕ} {key : Terms Tasked} (is_wired : IsWellWired t) (begun : HasBegun t lists watch key)
+    {c : Closed Tasked} {tasks : List Tasked} {v : View} (closes : Closes told_tale (belongs IsLater key) (wired key) (dealt told_tale key) c v) (are : c.cells.items ≡ tasks)
+    {bound : ℕ} {first : List Tasked} (of : (key.bound ≡ bound) × (key.cells.value.items ≡ first)) where
   wired_key : IsWellWired key.network.value
   wired_key = subst IsWellWired (sym begun.network) is_wired
 
@@ -225,8 +225,8 @@ untouched_gone t lists watch bound first tasks budget ready same left =
       events = let a : sum_by task_events first ≡ events_told told_tale first = all_told first in omega (arith, a, left);
     })
 
-pub untouched_here : (bound : ℕ) (first tasks : List Tasked) (budget : ℕ) → tasks ≡ first → budget ≡ bound → AreUntouched bound first tasks budget
-untouched_here bound first tasks budget same left = record {
+pub untouched_here : {bound budget : ℕ} {first tasks : List Tasked} → tasks ≡ first → budget ≡ bound → AreUntouched bound first tasks budget
+untouched_here same left = record {
   unused = left;
   cells = λ p x y e f. ap (λ (z : Tasked). z.work.cell) (sym (some_same (sym e ∙ subst (λ (l : List Tasked). slice_get l p ≡ Some y) same f)));
 }

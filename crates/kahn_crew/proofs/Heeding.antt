@@ -13,7 +13,7 @@ heeds_then a b c f g = (
   g.0 ∙ f.0,
   g.1 ∙ f.1,
   g.2 ∙ f.2,
-  raises_then a.wanted b.wanted c.wanted a.seat.seat.me.0.raised b.seat.seat.me.0.raised c.seat.seat.me.0.raised f.3 g.3,
+  raises_then a.hints.wanted b.hints.wanted c.hints.wanted a.seat.seat.me.0.raised b.seat.seat.me.0.raised c.seat.seat.me.0.raised f.3 g.3,
   g.4 ∙ f.4,
 )
 

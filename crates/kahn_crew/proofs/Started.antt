@@ -105,7 +105,7 @@ module _ (t : Program) (lists : Lists) (watch : Option ℕ) (ws : List Work) (ta
 
 -- ---- how many tokens are published
 
-module _ (t : Program) (wired : IsWellWired t) (lists : Lists) (watch : Option ℕ) (tasks : List Tasked) (f : AreReadyTasks t lists watch tasks) (c : ℕ) where
+module _ {t : Program} (wired : IsWellWired t) {lists : Lists} {watch : Option ℕ} {tasks : List Tasked} (f : AreReadyTasks t lists watch tasks) (c : ℕ) where
   pub number_given : role_at (network_of t) c ≡ Input → (n : ℕ) → n ≡ length (inputs_of lists c) → n < 2 ^ 48 → IsNumber t lists tasks c n
   number_given r n e few = record {
     given = λ x. e;

@@ -38,11 +38,12 @@ fn workers_at(
 {
     seats.reverse();
     while let Some(seat) = seats.pop() {
+        let mut own = hints.pop().unwrap();
+        own.wanted = false;
         workers.push_reserved(Worker {
             seat,
-            hints: hints.pop().unwrap(),
+            hints: own,
             start: hints.len(),
-            wanted: false,
         });
     }
     (workers, seats)
@@ -56,7 +57,7 @@ fn seats_of(workers: Vec<Worker>, mut seats: Vec<Seat<Boxed>>) -> (Vec<Seat<Boxe
 {
     let mut wanted = false;
     for worker in workers {
-        wanted |= worker.wanted;
+        wanted |= worker.hints.wanted;
         seats.push_reserved(worker.seat);
     }
     (seats, wanted)

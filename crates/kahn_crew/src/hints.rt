@@ -1,6 +1,6 @@
 //! Hints: the numbers of instances that may be ready.
 
-ghost use Rattle.std.specs.Prelude.{◌≡◌, ◌<◌, length, IfOk};
+ghost use Rattle.std.specs.Prelude.{◌≡◌, ◌<◌, false, length, true, IfOk};
 
 use crossbeam_deque::{Steal, Stealer, Worker};
 use kahn_streams::NoMemory;
@@ -25,21 +25,30 @@ pub struct Hints {
     taken: usize,
     own: Worker<usize>,
     others: Vec<Stealer<usize>>,
+    // Whether memory was refused to the worker: for a hint, an event or a segment.
+    pub(crate) wanted: bool,
 }
 
 impl Hints {
-    /// One hint more. False if memory was refused.
-    pub(crate) fn push(&mut self, instance: usize, order: Order) -> bool {
+    /// One hint more. False if memory was refused, which stays noted.
+    pub(crate) fn push(&mut self, instance: usize, order: Order) -> bool
+        ensures told { result ≡ true → self.new.wanted ≡ self.old.wanted }
+        ensures noted { result ≡ false → self.new.wanted ≡ true }
+    {
         let last = match order {
             Order::Last => Some(instance),
             Order::Next => self.next.replace(instance),
         };
         let Some(last) = last else { return true };
-        self.own.push(last).is_ok()
+        let told = self.own.push(last).is_ok();
+        self.wanted |= !told;
+        told
     }
 
     /// A hint: one of its own, that comes next or is the oldest, or one that it steals.
-    pub(crate) fn find(&mut self, steals: bool) -> Option<usize> {
+    pub(crate) fn find(&mut self, steals: bool) -> Option<usize>
+        ensures { self.new.wanted ≡ self.old.wanted }
+    {
         if steals {
             return self.steal();
         }
@@ -77,6 +86,7 @@ fn bare_hints(alloc: Global, workers: usize, instances: usize) -> Result<Vec<Hin
             taken: 0,
             own: Worker::new_fifo(alloc, instances)?,
             others: Vec::with_capacity(alloc, workers)?,
+            wanted: false,
         });
     }
     Ok(all)

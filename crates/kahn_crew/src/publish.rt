@@ -69,13 +69,12 @@ pub(crate) fn hint(run: &Run<'_>, worker: &mut Worker, instance: Option<usize>, 
     ensures still { StandsStill worker.old.seat worker.new.seat }
     // Nothing is halted if no hint was to be given, and the run is if memory was refused for one.
     ensures none { IfNone instance (worker.new.seat ≡ worker.old.seat) }
-    ensures refused { (worker.new.wanted ≡ worker.old.wanted) ⊎ (worker.new.seat.seat.me.0.seen ≡ 2) }
+    ensures refused { (worker.new.hints.wanted ≡ worker.old.hints.wanted) ⊎ (worker.new.seat.seat.me.0.seen ≡ 2) }
 {
     let Some(instance) = instance else { return };
     if worker.hints.push(instance, order) {
         return;
     }
-    worker.wanted = true;
     worker.seat.halt(run.board);
 }
 

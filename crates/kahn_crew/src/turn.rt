@@ -49,12 +49,12 @@ fn heed(run: &Run<'_>, worker: &mut Worker, pause: Pause, flushed: Result<(), No
     ensures still { StandsStill worker.old.seat worker.new.seat }
     ensures refused { OnErr flushed (worker.new.seat.seat.me.0.seen ≡ 2) }
     ensures wanted { pause ≡ IsWant → worker.new.seat.seat.me.0.seen ≡ 2 }
-    ensures stays { OnOk flushed ((pause ≡ IsWant → ⊥) → (worker.new.seat ≡ worker.old.seat) × (worker.new.wanted ≡ worker.old.wanted)) }
+    ensures stays { OnOk flushed ((pause ≡ IsWant → ⊥) → (worker.new.seat ≡ worker.old.seat) × (worker.new.hints.wanted ≡ worker.old.hints.wanted)) }
 {
     if flushed.is_ok() && !matches!(pause, Pause::NoMemory) {
         return;
     }
-    worker.wanted = true;
+    worker.hints.wanted = true;
     worker.seat.halt(run.board);
 }
 

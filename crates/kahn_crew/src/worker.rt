@@ -18,14 +18,12 @@ use std::sync::ledger::{Blank, Ledger};
 // For how many looks in a row an instance is to look ready, before a worker that didn't wake it takes it.
 const LONG: usize = 8;
 
-/// A worker: its seat at the board, its hints, the instance at which it begins to look if it has none, and whether memory was
-/// refused to it: for a hint, an event or a segment.
+/// A worker: its seat at the board, its hints, and the instance at which it begins to look if it has none.
 #[derive(Drop)]
 pub struct Worker {
     pub seat: Seat<Boxed>,
     pub hints: Hints,
     pub start: usize,
-    pub wanted: bool,
 }
 
 // An instance that looks ready, from the one with that number on, round all of them.

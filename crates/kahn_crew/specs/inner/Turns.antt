@@ -60,11 +60,11 @@ RaisesAsWanted wanted j wants k = ((k ≡ j) × (wants ≡ wanted)) ⊎ ((j < k)
 abbrev pub Heeds : Worker → Worker → Type 0
 Heeds old new =
     (new.seat.seat.table_id ≡ old.seat.seat.table_id) × (new.seat.seat.id ≡ old.seat.seat.id) × (new.seat.seat.me.0.parts ≡ old.seat.seat.me.0.parts)
-    × RaisesAsWanted old.wanted old.seat.seat.me.0.raised new.wanted new.seat.seat.me.0.raised × (new.start ≡ old.start)
+    × RaisesAsWanted old.hints.wanted old.seat.seat.me.0.raised new.hints.wanted new.seat.seat.me.0.raised × (new.start ≡ old.start)
 
 -- and of those calls that refuse nothing: it didn't halt the run either
 abbrev pub IsSameWorker : Worker → Worker → Type 0
-IsSameWorker old new = IsSeatOf old.seat new.seat × (new.wanted ≡ old.wanted) × (new.start ≡ old.start)
+IsSameWorker old new = IsSeatOf old.seat new.seat × (new.hints.wanted ≡ old.hints.wanted) × (new.start ≡ old.start)
 
 -- the instance p wasn't ready at a moment at which the seat had such a view
 abbrev pub WasNotReady : Run → Seat Tasked → ℕ → Type 0
@@ -111,11 +111,11 @@ seat_of w = w.seat
 
 -- it halted the run just if memory was refused to it
 abbrev pub HasCause : Worker → Type 0
-HasCause w = 0 < w.seat.seat.me.0.raised ↔ w.wanted ≡ true
+HasCause w = 0 < w.seat.seat.me.0.raised ↔ w.hints.wanted ≡ true
 
 -- it was refused no memory yet
 abbrev pub WantsNone : Worker → Type 0
-WantsNone w = w.wanted ≡ false
+WantsNone w = w.hints.wanted ≡ false
 
 -- and has a seat at the board of the run, between two turns
 abbrev pub HasSeat : Run → Worker → Type 0

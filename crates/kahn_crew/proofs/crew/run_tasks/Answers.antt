@@ -8,8 +8,7 @@ returns-in-Err-clause-refused g c =
     untouched_gone c.args.network.now c.args.input.now c.args.plan.watch c.args.plan.bound c.args.tasks.items c.in-Err.tasks.items c.args.plan.bound c.requires.ready c.in-Err.ensures.refused refl
 
 pub returns-in-Err-clause-untouched : goal.returns-in-Err-clause-untouched
-returns-in-Err-clause-untouched g c = λ none.
-    untouched_here c.args.plan.bound c.args.tasks.items c.in-Err.tasks.items c.args.plan.bound c.in-Err.ensures.refused refl
+returns-in-Err-clause-untouched g c none = untouched_here c.in-Err.ensures.refused refl
 
 pub invariant_of-run : goal.invariant_of-run
 invariant_of-run g c = record {
@@ -27,28 +26,21 @@ unbox_all-requires g c =
 pub returns-in-Ok-outcome-clause-gone : goal.returns-in-Ok-outcome-clause-gone
 returns-in-Ok-outcome-clause-gone g c =
     let o = c.in-Ok.ensures in
-    have_gone c.args.network.now c.args.input.now c.args.plan.watch c.in-Ok.opened.0.table.shared.key c.program-program.ensures.wired o.begun
-    c.close-cells.result c.unbox_all.result.items c.run_workers-outcome.result.1.seat.me.0 c.close-cells.ensures (unboxed _ _ c.in-Ok.opened.3.items o.room.0 c.unbox_all.ensures)
-    c.args.plan.bound c.args.tasks.items o.key c.run_workers-outcome.ensures.seat.1.1
+    have_gone c.program-program.ensures.wired o.begun c.close-cells.ensures (unboxed _ _ _ o.room.0 c.unbox_all.ensures) o.key c.run_workers-outcome.ensures.seat.1.1
 
 pub returns-in-Err-outcome-clause-refused : goal.returns-in-Err-outcome-clause-refused
 returns-in-Err-outcome-clause-refused g c =
     let o = c.in-Ok.ensures in
-    have_gone c.args.network.now c.args.input.now c.args.plan.watch c.in-Ok.opened.0.table.shared.key c.program-program.ensures.wired o.begun
-    c.close-cells.result c.unbox_all.result.items c.run_workers-outcome.result.1.seat.me.0 c.close-cells.ensures (unboxed _ _ c.in-Ok.opened.3.items o.room.0 c.unbox_all.ensures)
-    c.args.plan.bound c.args.tasks.items o.key c.run_workers-outcome.ensures.seat.1.1
+    have_gone c.program-program.ensures.wired o.begun c.close-cells.ensures (unboxed _ _ _ o.room.0 c.unbox_all.ensures) o.key c.run_workers-outcome.ensures.seat.1.1
 
 pub returns-in-Ok-outcome-clause-over : goal.returns-in-Ok-outcome-clause-over
 returns-in-Ok-outcome-clause-over g c =
     let o = c.in-Ok.ensures in
-    is_over c.args.network.now c.args.input.now c.args.plan.watch c.in-Ok.opened.0.table.shared.key c.program-program.ensures.wired o.begun
-    c.close-cells.result c.unbox_all.result.items c.run_workers-outcome.result.1.seat.me.0 c.close-cells.ensures (unboxed _ _ c.in-Ok.opened.3.items o.room.0 c.unbox_all.ensures)
-    c.args.plan.bound c.args.tasks.items o.key (subst (λ o. OnOk o (c.run_workers-outcome.result.1.seat.me.0.stage ≡ 1)) c.in-Ok-outcome.is c.run_workers-outcome.ensures.left)
+    is_over c.program-program.ensures.wired o.begun c.close-cells.ensures (unboxed _ _ _ o.room.0 c.unbox_all.ensures) o.key
+    (subst (λ o. OnOk o (c.run_workers-outcome.result.1.seat.me.0.stage ≡ 1)) c.in-Ok-outcome.is c.run_workers-outcome.ensures.left)
 
 pub returns-in-Err-outcome-clause-untouched : goal.returns-in-Err-outcome-clause-untouched
-returns-in-Err-outcome-clause-untouched g c = λ none.
+returns-in-Err-outcome-clause-untouched g c none =
     let o = c.in-Ok.ensures in
-    untouched c.args.network.now c.args.input.now c.args.plan.watch c.in-Ok.opened.0.table.shared.key c.program-program.ensures.wired o.begun
-    c.close-cells.result c.unbox_all.result.items c.run_workers-outcome.result.1.seat.me.0 c.close-cells.ensures (unboxed _ _ c.in-Ok.opened.3.items o.room.0 c.unbox_all.ensures)
-    c.args.plan.bound c.args.tasks.items o.key c.run_workers-outcome.ensures.seat.1.1
+    untouched c.program-program.ensures.wired o.begun c.close-cells.ensures (unboxed _ _ _ o.room.0 c.unbox_all.ensures) o.key c.run_workers-outcome.ensures.seat.1.1
     (c.run_workers-outcome.ensures.idle (c.in-Err-outcome.is ∙ ap Err none) ∙ ap (λ (m : Sat Tasked). m.0.done) o.seat.1)

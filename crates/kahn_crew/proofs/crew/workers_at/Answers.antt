@@ -15,7 +15,7 @@ loop-seat-preserved c =
     let s = c.in-Some.seat in
     let items = c.push_reserved.ensures.items in
     let popped = c.in-Some.ensures.items in
-    let taken = c.pop-in-Some.ensures.items ∙ ap (λ (o : Option _). c.pop-in-Some.new.self.items ++ option_to_list o) c.unwrap.ensures in (
+    let taken = c.pop-in-Some.ensures.items ∙ ap (λ (o : Option _). c.pop-in-Some.new.self.items ++ option_to_list o) c.unwrap-own.ensures in (
       ap (λ (l : List Worker). map seat_of l ++ reverse rest) items ∙ (ap (λ (l : List (Seat Tasked)). l ++ reverse rest) (map-append seat_of before _) ∙
           (append_assoc (map seat_of before) (s ∷ []) (reverse rest) ∙ (ap (λ (l : List (Seat Tasked)). map seat_of before ++ l) (sym (reverse-append rest (s ∷ []))) ∙
           (ap (λ (l : List (Seat Tasked)). map seat_of before ++ reverse l) (sym popped) ∙ i.0)))),

@@ -4,27 +4,20 @@ use Rattle.kahn_crew.proofs.opening.number.Goals as goal
 
 pub returns-in-Input : goal.returns-in-Input
 returns-in-Input c =
-    let r = c.requires.ready in
-    number_given c.args.network.now c.program-program.ensures.wired c.args.input.now r.0 c.args.tasks.now r.1 c.args.channel
-    (sym c.channel.ensures.role ∙ c.in-Input.is) c.count.result c.count.ensures.count (omega (arith, c.count.ensures.few))
+    number_given c.program-program.ensures.wired c.requires.ready.1 c.args.channel (sym c.channel.ensures.role ∙ c.in-Input.is) c.count.result c.count.ensures.count (omega (arith, c.count.ensures.few))
 
 pub returns-in_default-writer : goal.returns-in_default-writer
 returns-in_default-writer c =
-    let r = c.requires.ready in
-    number_none c.args.network.now c.program-program.ensures.wired c.args.input.now r.0 c.args.tasks.now r.1 c.args.channel
-    (λ i. c.in_default.not-Input (c.channel.ensures.role ∙ i)) (subst (IsOnly (IsWriter (network_of c.args.network.now) c.args.channel)) c.in_default-writer.is c.writer.ensures.only)
+    number_none c.program-program.ensures.wired c.requires.ready.1 c.args.channel (λ i. c.in_default.not-Input (c.channel.ensures.role ∙ i))
+    (subst (IsOnly (IsWriter (network_of c.args.network.now) c.args.channel)) c.in_default-writer.is c.writer.ensures.only)
 
 pub sent-requires : goal.sent-requires
 sent-requires c =
-    let r = c.requires.ready in
     let only = subst (IsOnly (IsWriter (network_of c.args.network.now) c.args.channel)) c.in-Some.is c.writer.ensures.only in
-    sent_there c.args.network.now c.program-program.ensures.wired c.args.input.now r.0 c.args.tasks.now r.1 c.args.channel
-    c.in-Some.writer only c.index-tasks-writer.result c.index-tasks-writer.is c.parameters-parameters.ensures.counts
+    sent_there c.program-program.ensures.wired c.requires.ready.1 c.args.channel c.in-Some.writer only c.index-tasks-writer.result c.index-tasks-writer.is c.parameters-parameters.ensures.counts
 
 pub returns : goal.returns
 returns c =
-    let r = c.requires.ready in
     let only = subst (IsOnly (IsWriter (network_of c.args.network.now) c.args.channel)) c.in-Some.is c.writer.ensures.only in
-    number_sent c.args.network.now c.program-program.ensures.wired c.args.input.now r.0 c.args.tasks.now r.1 c.args.channel
-    (λ i. c.in_default.not-Input (c.channel.ensures.role ∙ i)) c.in-Some.writer only c.index-tasks-writer.result c.index-tasks-writer.is
-    c.parameters-parameters.ensures.counts c.requires.few c.sent.result c.sent.ensures
+    number_sent c.program-program.ensures.wired c.requires.ready.1 c.args.channel (λ i. c.in_default.not-Input (c.channel.ensures.role ∙ i)) c.in-Some.writer only
+    c.index-tasks-writer.result c.index-tasks-writer.is c.parameters-parameters.ensures.counts c.requires.few c.sent.result c.sent.ensures

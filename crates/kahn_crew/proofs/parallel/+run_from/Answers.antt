@@ -1,5 +1,5 @@
 use Rattle.kahn_crew.proofs.Common.{arith, ◌<◌, ◌==◌, [], ◌∷◌, ◌∙◌, ap, dite, length, length-append, sym, true≢false, ℕ_discrete}
-use Rattle.kahn_crew.proofs.Told_to_leave.{told_among}
+use Rattle.kahn_crew.proofs.Crewed.{told_among}
 use Rattle.kahn_crew.proofs.parallel.+run_from.Goals as goal
 
 pub returns-in-Err-clause-quits : goal.returns-in-Err-clause-quits

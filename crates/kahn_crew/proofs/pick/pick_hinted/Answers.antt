@@ -9,6 +9,6 @@ returns-then-pick_one-clause-picked c = λ n rests. c.pick_one.ensures.picked c.
 
 pub loop-preserved : goal.loop-preserved
 loop-preserved c = let one = c.pick_one.ensures in let i = c.loop.invariant in record {
-  same = ((one.same.0 ∙ i.same.0.0, one.same.1 ∙ i.same.0.1, one.same.2 ∙ i.same.0.2, one.same.3 ∙ i.same.0.3), i.same.1, i.same.2);
+  same = ((one.same.0 ∙ i.same.0.0, one.same.1 ∙ i.same.0.1, one.same.2 ∙ i.same.0.2, one.same.3 ∙ i.same.0.3), c.find.ensures ∙ i.same.1, i.same.2);
   rests = λ n rests. one.missed c.if-pick_one.false n (i.rests n rests);
 }
