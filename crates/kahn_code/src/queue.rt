@@ -65,13 +65,8 @@ impl<A: Allocator> Queue<A> {
         // It is counted first, so that nothing is written between its way out of the queue and where the caller puts it.
         self.taken += 1;
         let carried = self.tokens.pop_front().unwrap();
-        Some(lifted(
-            &self.network,
-            &self.input,
-            carried.token(line, place),
-            line,
-            place,
-        ))
+        let token = carried.token(line, place);
+        Some(lifted(&self.network, &self.input, token, line, place))
     }
 
     /// Goes on for an input whose lists begin with those of its own. It takes no memory.
