@@ -28,7 +28,7 @@ pub use Rattle.kahn_board.specs.inner.Turn.{Fits, HasPublished, HoldsInTurn, InT
 pub use Rattle.kahn_code.proofs.Readers.{driven, joins_parameter, joins_within, reads_once}
 pub use Rattle.kahn_code.specs.Lines.{Joins, route_of}
 pub use Rattle.kahn_code.specs.Standing.{count}
-pub use Rattle.kahn_code.specs.Told.{AreCounts}
+pub use Rattle.kahn_code.specs.Progress.{AreCounts}
 pub use Rattle.kahn_job.specs.inner.Berths.{Serves, end_at}
 pub use Rattle.kahn_job.specs.inner.Tasks.{Continues, HasStanding, IsTrueOf, Tasked, standing_after, woken_task}
 pub use Rattle.kahn_job.specs.inner.Works.{IsDelivered, IsJob, Work}
