@@ -4,17 +4,16 @@ ghost use Rattle.std.specs.Prelude.{◌≡◌, ℕ, ◌+◌, ◌^◌, ◌<◌, l
 ghost use Rattle.kahn_code.specs.Common.{network_of, instance_at, Lists, inputs_of, Names, AreInputsExtended, action_row, form_row, codes};
 ghost use Rattle.kahn_code.specs.Cells.{StoodBy};
 ghost use Rattle.kahn_code.specs.inner.Gone.{kept_behind, nothing_gone};
-ghost use Rattle.kahn_code.specs.Sites.{Serve};
-ghost use Rattle.kahn_code.specs.Standing.{tokens};
-ghost use Rattle.kahn_code.specs.Told.{AreCounts, AreUnused, site_of, told_view, HasRunFor, IsAt, IsStanding};
+ghost use Rattle.kahn_code.specs.Standing.{Serve, tokens};
+ghost use Rattle.kahn_code.specs.Progress.{AreCounts, AreUnused, site_of, told_view, HasRunFor, IsAt, IsStanding};
 ghost use Rattle.kahn_code.specs.inner.Tapped.{HasForgotten, Tapped, regrown_tap, tapped_of};
 
 use crate::cell::Kept;
-use crate::code::{Code, CodeFault};
+use crate::code::Code;
 use crate::plain::Plain;
 use crate::ports::Ports;
 use crate::progress::{Pause, Progress};
-use kahn_streams::{About, Carried, Input, Network, Steps};
+use kahn_streams::{About, Carried, Input, Network, NoMemory, Steps};
 use std::alloc::{Allocator, Global};
 use std::marker::Model;
 use std::sync::ledger::Ledger;
@@ -46,7 +45,7 @@ impl<A: Allocator + Copy + Drop> Tap<A> {
         code: &Code<A>,
         instance: usize,
         watch: Option<usize>,
-    ) -> Result<Tap<A>, CodeFault>
+    ) -> Result<Tap<A>, NoMemory>
         ghost input: { Lists }
         requires { instance < length (network_of code.now.network.value).instances }
         ensures names { IfOk result (λ c. (c.told.network ≡ code.now.network.value) × (c.told.input ≡ input) × (c.told.instance ≡ instance) × (c.told.watch ≡ watch)) }

@@ -18,7 +18,7 @@ unfoldable pub use Rattle.kahn_board.specs.Wires.{wires}
 pub use Rattle.kahn_board.specs.declared.{board.Seat.Seat, rule.Terms.Terms, view.View.View}
 pub use Rattle.kahn_board.specs.inner.Turn.{Fits, HasPublished, HoldsInTurn, InTurn, IsBetween, Knows, RestsWith}
 pub use Rattle.kahn_code.proofs.Readers.{driven, joins_parameter, joins_within, reads_once}
-pub use Rattle.kahn_code.specs.{Lines.Joins, Lines.route_of, Standing.count, Told.AreCounts}
+pub use Rattle.kahn_code.specs.{Lines.Joins, Lines.route_of, Progress.AreCounts, Standing.count}
 pub use Rattle.kahn_job.specs.inner.Berths.{Serves, end_at}
 pub use Rattle.kahn_job.specs.inner.Tasks.{Continues, HasStanding, IsTrueOf, Tasked, standing_after, woken_task}
 pub use Rattle.kahn_job.specs.inner.Works.{IsDelivered, IsJob, Work}

@@ -6,8 +6,8 @@ pub use Rattle.std.proofs.lemmas.Option.{none-some, same_Some, slice_get_within}
 pub use Rattle.std.specs.Vec.{vec_capacity}
 pub use Rattle.kahn_code.proofs.Lists.{AreFirst, none_first, one_first}
 pub use Rattle.kahn_code.specs.Lines.{Joins}
-pub use Rattle.kahn_code.specs.Sites.{Grows, Site}
-pub use Rattle.kahn_code.specs.Told.{IsAt, IsSameProcess, IsStill, Told, site_of, told_view}
+pub use Rattle.kahn_code.specs.Standing.{Grows, Site}
+pub use Rattle.kahn_code.specs.Progress.{IsAt, IsSameProcess, IsStill, Told, site_of, told_view}
 pub use Rattle.kahn_lane.specs.LaneEnds.{left, receiver_lane}
 pub use Rattle.kahn_lane.specs.Places.{lane_name, moved_to}
 pub use Rattle.kahn_lane.specs.declared.name.LaneName.{LaneName}

@@ -7,10 +7,10 @@ pub use Rattle.kahn_code.proofs.Readers.{driven, joins_parameter, joins_within}
 pub use Rattle.kahn_code.specs.Cells.{AllStand, AreKeptTokens, StoodBy, View, exec_on, is_streamed, sent_on}
 pub use Rattle.kahn_code.specs.Lines.{AreFirst, AreQueued, HasPoured, IsPoured, Joins, actual_here, given_of, next_at, place_at, queue_of, route_of, taken_of, waiting_of}
 pub use Rattle.kahn_code.specs.Progress.{IsPause, Paused}
-pub use Rattle.kahn_code.specs.Queues.{Waiting}
-pub use Rattle.kahn_code.specs.Sites.{LeavesOthers, Site}
+pub use Rattle.kahn_code.specs.Lines.{Waiting}
+pub use Rattle.kahn_code.specs.Standing.{LeavesOthers, Site}
 pub use Rattle.kahn_code.specs.Standing.{count, tokens}
-pub use Rattle.kahn_code.specs.Told.{IsAt, IsStill, Told, site_of, told_view}
+pub use Rattle.kahn_code.specs.Progress.{IsAt, IsStill, Told, site_of, told_view}
 pub use Rattle.kahn_code.specs.declared.{cell.Kept.Kept, progress.Pause.Pause}
 pub use Rattle.kahn_code.specs.inner.Gone.{Gone, kept_behind, nothing_gone}
 pub use Rattle.kahn_code.specs.inner.Tapped.{HasForgotten, Tapped, regrown_tap}

@@ -3,7 +3,7 @@ pub use Rattle.kahn_code.specs.Cells.{AreKeptTokens, StoodBy, View, exec_on, is_
 pub use Rattle.kahn_code.specs.Lines.{AreQueued, IsPoured, Lines as Queues, place_at, waiting_of}
 pub use Rattle.kahn_code.specs.Progress.{Paused}
 pub use Rattle.kahn_code.specs.Standing.{count, tokens}
-pub use Rattle.kahn_code.specs.Told.{IsAt, Told, told_view}
+pub use Rattle.kahn_code.specs.Progress.{IsAt, Told, told_view}
 pub use Rattle.kahn_code.specs.declared.{cell.Kept.Kept, progress.Pause.Pause}
 pub use Rattle.kahn_code.specs.inner.Gone.{Gone, kept_behind, nothing_gone}
 pub use Rattle.kahn_code.specs.inner.Tapped.{HasForgotten, Tapped}
