@@ -1,6 +1,6 @@
 -- Believed. A run that is held between its parts: what contracts see of it, and what its calls make of it (this project's profile).
 use Rattle.std.specs.Prelude.{◌≡◌, ◌⊎◌, ℕ, suc, ◌+◌, ◌<◌, ◌≤◌, ◌^◌, List, [], ◌∷◌, map, sum_by, Option, Some, None, slice_get, slice_index_or, if◌then◌else◌}
-use Rattle.kahn_pool.specs.inner.Below.{Actual, Answer, AreInputsExtended, AreRight, Channel, Config, End, Entry, FeedFault, Finished, Given, HasEndAt, HasStream, Inputs, IsAllowed, IsEntryFed, IsPrefix, IsRight, IsUnrun, IsUnwelcome, IsWatched, IsWhole, Line, Lists, Network, Nobody, Print, Program, RunFault, Settles, Source, Stream, Token, Told, Value, Verdict, Written, inputs_of, instance_at, is_written, network_of, source, stream_lines, token_value, values_of}
+use Rattle.kahn_pool.specs.inner.Below.{Actual, Answer, AreInputsExtended, AreRight, Channel, Config, End, Entry, FeedFault, Finished, Given, HasEndAt, HasStream, Inputs, IsAllowed, IsEntryFed, IsPrefix, IsRight, IsUnrun, IsUnwelcome, IsWatched, IsWhole, Line, Lists, Network, Print, Program, RunFault, Settles, Source, Stream, Token, Told, Value, Verdict, Written, inputs_of, instance_at, is_written, network_of, source, stream_lines, token_value, values_of}
 use Rattle.kahn_streams.specs.declared.fault.RunFault.TheVariants.{NoThread}
 use Rattle.kahn_pool.specs.declared.held_fault.HeldFault.{HeldFault}
 use Rattle.kahn_pool.specs.declared.held_fault.HeldFault.TheVariants as held
@@ -42,14 +42,16 @@ abbrev pub writing : List Actual → ℕ → ℕ
 writing [] c = 0
 writing (a ∷ rest) c = if is_written a c then 0 else suc (writing rest c)
 
--- what was given to the line so far, by its source; nothing where it has none
+-- the values of a line by its source, of these inputs and of what each cell kept and printed; none where it has no source
+abbrev pub values_by : Network → Inputs → (ℕ → List (List Token)) → (ℕ → List Token) → Source → Line → List Value
+values_by N I kept printed Given (Channel c) = I c
+values_by N I kept printed (Written p) (Channel c) = map token_value (slice_index_or (kept p) (writing (instance_at N p).actuals c) [])
+values_by N I kept printed (Written p) (Print r) = map token_value (printed p)
+values_by N I kept printed s c = []
+
+-- what was given to the line so far, by its source
 abbrev pub given_so_far : HeldRun → Source → Line → List Value
-given_so_far h Given (Channel c) = inputs_of h.input c
-given_so_far h Given (Print r) = []
-given_so_far h (Written p) (Channel c) =
-    map token_value (slice_index_or (seen_at h.cells p).kept (writing (instance_at (network_of h.network) p).actuals c) [])
-given_so_far h (Written p) (Print r) = map token_value (seen_at h.cells p).printed
-given_so_far h Nobody c = []
+given_so_far h = values_by (network_of h.network) (inputs_of h.input) (λ p. (seen_at h.cells p).kept) (λ p. (seen_at h.cells p).printed)
 
 -- the values of the stream of a line so far
 abbrev pub so_far : HeldRun → Line → List Value
