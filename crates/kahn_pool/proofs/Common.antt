@@ -35,7 +35,7 @@ pub use Rattle.kahn_job.specs.inner.Ways.{no_end}
 pub use Rattle.kahn_job.specs.inner.Works.{IsJob, Work, width_of}
 pub use Rattle.kahn_pool.specs.Flows.{AreNew, Flowing, HasLetGo, HasPouredIn, IsRunOn}
 pub use Rattle.kahn_pool.specs.HeldRuns.{AreCalls, GoesOn, HasFed, HasResumed, HeldRun, IsAnswerOf, IsCall, IsLineOf, IsResumed, IsRightSoFar, IsUnfed, IsUnresumed, SaysNoLess, Seen, given_so_far, last_of, seen_at, seen_events, seen_of, so_far, unseen, writing}
-pub use Rattle.kahn_pool.specs.declared.{held_fault.HeldFault.HeldFault, part.Part.Part, part.Stopped.Stopped, rounds.Round.Round}
+pub use Rattle.kahn_pool.specs.declared.{held_fault.HeldFault.HeldFault, part.Stopped.Stopped, plan.Part.Part, rounds.Round.Round}
 pub use Rattle.kahn_pool.specs.inner.Bench.{AreEnds, AreStreams, HasEndIn, HasRunCell, IsConcluded, IsLast, IsPaused, IsVerdict, LacksMemory, PausedAt, RunState, all_events, events_at, view_events}
 pub use Rattle.kahn_pool.specs.inner.FlowBench.{AreLent, IsFlowOf, flow_of, let_go_by, let_go_of, run_of_bench}
 pub use Rattle.kahn_pool.specs.inner.Gathered.{IsFrom, IsGiven, IsOutcomeOf, TookAll, TookNoMore, no_view, view_at}

@@ -1,6 +1,6 @@
 -- A run that is over.
 use Rattle.std.proofs.Common.{true≢false, arith, ◌≡◌, ◌⊎◌, inl, inr, ℕ, ◌+◌, ◌^◌, ◌<◌, ◌≤◌, Bool, true, List, [], length, map, sum_by, sym, ap, ◌∙◌, subst, Option, Some, slice_get}
-use Rattle.kahn_pool.proofs.Common.{length-map, Program, network_of, IsWellWired, Lists, count, told_view, end_at, AreBehindOn, AreJoinedOn, end_in, Work, same_lanes, Tasked, handed_to_task, is_over, task_rows, work_of, AreAll, HaveGone, IsQuietTask, IsOver, task_events, IsLentTo, AreEndsOfTasks, IsSettledTask, IsToldAs, SettlesTo, cell_of, Verdict, IsVerdict, HasEndIn, view_events, IsConcluded, get_or_from_slice_get, get_or-le-sum_by, HaveChanged, cases_lt, get_or_past, all_events, Told}
+use Rattle.kahn_pool.proofs.Common.{length-map, Program, network_of, IsWellWired, Lists, count, told_view, end_at, AreBehindOn, AreJoinedOn, end_in, Work, same_lanes, Tasked, handed_to_task, is_over, task_rows, work_of, AreAll, HaveGone, IsQuietTask, IsOver, task_events, AreEndsOfTasks, IsSettledTask, IsToldAs, SettlesTo, cell_of, Verdict, IsVerdict, HasEndIn, view_events, IsConcluded, get_or_from_slice_get, get_or-le-sum_by, HaveChanged, cases_lt, get_or_past, all_events, Told}
 use Rattle.kahn_streams.specs.declared.answer.End.{End}
 use Rattle.kahn_pool.proofs.Benched.{got, within_get}
 use Rattle.kahn_job.specs.inner.Ends.{End as LaneEnd}
@@ -28,12 +28,12 @@ module _ {t : Program} {lists : Lists} {watch : Option ℕ} {bound : ℕ} {first
       record { network = l.network ∙ o.network; input = l.input ∙ o.input; instance = l.instance ∙ o.instance; watched = l.watch ∙ o.watched }
 
   -- it may be asked once more
-  pub left_lent : {compiled : Program} → compiled ≡ t → bound < 2 ^ 48 → (p : ℕ) (x : Tasked) → slice_get old p ≡ Some x → IsLentTo compiled t lists x
-  left_lent same b p x e =
+  pub left_lent : bound < 2 ^ 48 → (p : ℕ) (x : Tasked) → slice_get old p ≡ Some x → (t ≡ x.work.cell.network) × (lists ≡ x.work.cell.input) × (x.work.cell.events < 2 ^ 48)
+  left_lent b p x e =
       let k = left_task p x e in
       let m : x.work.cell.events ≤ sum_by task_events old = subst (λ (z : Tasked). z.work.cell.events ≤ sum_by task_events old) (get_or_from_slice_get old p x x e) (get_or-le-sum_by task_events old p x (within_get old p x e)) in
       let s = gone.events in
-      (same ∙ sym k.network, sym k.network, sym k.input, omega (arith, b, m, s))
+      (sym k.network, sym k.input, omega (arith, b, m, s))
 
   module _ {new : List Tasked} (h : HaveChanged SettlesTo old new) where
     pub of_new : (p : ℕ) (y : Tasked) → slice_get new p ≡ Some y → IsInstanceTask t lists watch p y

@@ -5,7 +5,7 @@ use kahn_code::Plain;
 use kahn_streams::{Network, NoMemory, Outcome};
 use std::alloc::Global;
 
-// A writer is far ahead if this many values more wait on one of its channels.
+// A writer is passed over for a round for each so many values that wait on one of its channels.
 const FAR: usize = 1_024;
 
 /// The instances that may go on. A reader that finds its channel empty sleeps until something was sent there.
@@ -16,8 +16,9 @@ pub(crate) struct Awake {
     // The reader of each channel, if it found it empty.
     sleepers: Vec<Option<usize>>,
     queue: RunQueue,
-    // Whether each instance was far ahead of its readers after its last turn, and how many were.
-    ahead: Vec<bool>,
+    // For how many rounds each instance is passed over, since it was so far ahead of its readers after its last turn, and how many
+    // instances are.
+    ahead: Vec<usize>,
     ahead_count: usize,
 }
 
@@ -49,7 +50,7 @@ impl Awake {
             written: written_by(alloc, network)?,
             sleepers: vec![in alloc; None; network.channels()]?,
             queue: RunQueue::new(alloc, network.instances())?,
-            ahead: vec![in alloc; false; network.instances()]?,
+            ahead: vec![in alloc; 0; network.instances()]?,
             ahead_count: 0,
         })
     }
@@ -82,45 +83,45 @@ impl Awake {
         self.queue.pop()
     }
 
-    // Whether more values wait on a channel of this writer than its reader takes soon.
-    fn is_far_ahead(&self, instance: usize, queues: &Plain<Global>) -> bool {
+    // How far a writer is ahead of the reader that is farthest behind it.
+    fn lead(&self, instance: usize, queues: &Plain<Global>) -> usize {
         let Some(channels) = self.written.get(instance) else {
-            return false;
+            return 0;
         };
+        let mut most = 0;
         for channel in channels {
-            if queues.waiting(*channel) > FAR {
-                return true;
-            }
+            most = queues.waiting(*channel).max(most);
         }
-        false
+        most / FAR
     }
 
-    /// Notes after a long turn whether the instance is far ahead of its readers.
+    /// Notes after a long turn how far the instance is ahead of its readers.
     pub(crate) fn note_ahead(&mut self, instance: usize, queues: &Plain<Global>) {
-        if !self.is_far_ahead(instance, queues) {
-            return;
-        }
+        let lead = self.lead(instance, queues);
         if let Some(ahead) = self.ahead.get_mut(instance) {
-            self.ahead_count = self.ahead_count.wrapping_add(usize::from(!*ahead));
-            *ahead = true;
+            let (was, is) = (usize::from(*ahead > 0), usize::from(lead > 0));
+            self.ahead_count = self.ahead_count.wrapping_add(is).wrapping_sub(was);
+            *ahead = lead;
         }
     }
 
-    /// Whether an instance that is far ahead of its readers is passed over. It isn't the next time.
+    /// Whether an instance that is far ahead of its readers is passed over in this round.
     #[inline(always)]
     pub(crate) fn passes_over(&mut self, instance: usize) -> bool {
-        self.ahead_count > 0 && self.takes_back(instance)
+        self.ahead_count > 0 && self.falls_back(instance)
     }
 
-    // Whether the instance was noted as far ahead, which it is no longer.
-    fn takes_back(&mut self, instance: usize) -> bool {
+    // Whether the instance is ahead, by a round less from now on.
+    fn falls_back(&mut self, instance: usize) -> bool {
         let Some(ahead) = self.ahead.get_mut(instance) else {
             return false;
         };
-        let was_ahead = *ahead;
-        *ahead = false;
-        self.ahead_count = self.ahead_count.wrapping_sub(usize::from(was_ahead));
-        was_ahead
+        if *ahead == 0 {
+            return false;
+        }
+        *ahead -= 1;
+        self.ahead_count = self.ahead_count.wrapping_sub(usize::from(*ahead == 0));
+        true
     }
 
     /// Wakes the readers that sleep at channels of this writer on which something waits now.

@@ -197,7 +197,7 @@ impl<'n> Bench<'n> {
         self.awake.note_ahead(instance, &self.queues);
     }
 
-    /// Whether an instance is passed over, since it was far ahead of its readers. It isn't the next time.
+    /// Whether an instance is passed over in this round, since it was far ahead of its readers.
     #[inline(always)]
     pub(crate) fn passes_over(&mut self, instance: usize) -> bool
         ensures { self.new ≡ self.old }

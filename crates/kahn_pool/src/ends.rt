@@ -2,12 +2,12 @@
 
 ghost use Rattle.std.specs.Prelude.{◌≡◌, ℕ, ◌<◌, ◌≤◌, length, Some, slice_get, vec_capacity};
 ghost use Rattle.kahn_pool.specs.inner.Below.{AreAll, Reads, Tasked, actual_at, instance_at, network_of};
-ghost use Rattle.kahn_pool.specs.inner.Rested.{AreEndsOfTasks, AreTold, IsDryOf, IsEndOf, IsToldAs};
-ghost use Rattle.kahn_job.specs.declared.standing.Standing.TheVariants as standing;
+ghost use Rattle.kahn_pool.specs.inner.Rested.{AreEndsOfTasks, AreTold, IsDryOf, IsDryTold, IsEndOf};
 
+use crate::plan::Part;
 use kahn_code::Code;
 use kahn_job::{Standing, Task};
-use kahn_streams::{End, Input, Network, Outcome};
+use kahn_streams::{End, Outcome};
 
 /// The channel that a parameter reads.
 pub(crate) fn channel_read(code: &Code, instance: usize, parameter: usize) -> usize
@@ -21,43 +21,35 @@ pub(crate) fn channel_read(code: &Code, instance: usize, parameter: usize) -> us
 }
 
 // How many tokens were given to a channel: its writer sent them, or the input has them.
-fn given(network: &Network, input: &Input, tasks: &[Task], channel: usize) -> u64
-    requires here { channel < length (network_of network.now).channels }
-    requires told { AreTold network.now tasks.now }
-    ensures { AreAll network.now input.now tasks.now channel result }
+fn given(part: &Part<'_>, tasks: &[Task], channel: usize) -> u64
+    requires here { channel < length (network_of part.now.network.now).channels }
+    requires told { AreTold part.now.network.now tasks.now }
+    ensures { AreAll part.now.network.now part.now.input.now tasks.now channel result }
 {
-    let _program = network.program();
-    match network.writer(channel) {
+    let _program = part.network.program();
+    match part.network.writer(channel) {
         Some(side) => {
             let task = &tasks[side.instance];
             let _parameters = task.parameters();
             task.sent(side.parameter)
         }
-        None => input.count(channel) as u64,
+        None => part.input.count(channel) as u64,
     }
 }
 
 // What stands in the answer for an instance that is dry on a parameter.
-fn dry_outcome(
-    network: &Network,
-    input: &Input,
-    code: &Code,
-    tasks: &[Task],
-    instance: usize,
-    parameter: usize,
-) -> Outcome
-    requires code { code.now.network.value ≡ network.now }
+fn dry_outcome(part: &Part<'_>, tasks: &[Task], instance: usize, parameter: usize) -> Outcome
     requires here { instance < length tasks.now }
-    requires told { AreTold network.now tasks.now }
-    requires reads { IsDryOf network.now instance parameter }
-    ensures { (x : Tasked) → slice_get tasks.now instance ≡ Some x → x.standing ≡ standing.Dry parameter → IsToldAs network.now input.now tasks.now x result }
+    requires told { AreTold part.now.network.now tasks.now }
+    requires reads { IsDryOf part.now.network.now instance parameter }
+    ensures { IsDryTold part.now tasks.now instance parameter result }
 {
-    let channel = channel_read(code, instance, parameter);
+    let channel = channel_read(part.code, instance, parameter);
     let task = &tasks[instance];
-    let _program = network.program();
+    let _program = part.network.program();
     let _parameters = task.parameters();
     let taken = task.taken(parameter);
-    if taken == given(network, input, tasks, channel) {
+    if taken == given(part, tasks, channel) {
         Outcome::Waits(channel)
     } else {
         Outcome::More
@@ -65,20 +57,17 @@ fn dry_outcome(
 }
 
 // The end of an instance.
-fn end_of(network: &Network, input: &Input, code: &Code, tasks: &[Task], instance: usize) -> End
-    requires code { code.now.network.value ≡ network.now }
+fn end_of(part: &Part<'_>, tasks: &[Task], instance: usize) -> End
     requires here { instance < length tasks.now }
-    requires told { AreTold network.now tasks.now }
-    ensures { (x : Tasked) → slice_get tasks.now instance ≡ Some x → IsEndOf network.now input.now tasks.now x result }
+    requires told { AreTold part.now.network.now tasks.now }
+    ensures { (x : Tasked) → slice_get tasks.now instance ≡ Some x → IsEndOf part.now.network.now part.now.input.now tasks.now x result }
 {
     let task = &tasks[instance];
     let outcome = match task.standing() {
         Standing::Going => Outcome::More,
         Standing::Ended => Outcome::Ended,
         Standing::Faulted(failure) => Outcome::Faulted(failure),
-        Standing::Dry(parameter) => {
-            dry_outcome(network, input, code, tasks, instance, parameter)
-        },
+        Standing::Dry(parameter) => dry_outcome(part, tasks, instance, parameter),
     };
     End {
         outcome,
@@ -87,21 +76,14 @@ fn end_of(network: &Network, input: &Input, code: &Code, tasks: &[Task], instanc
 }
 
 /// The ends of all instances. The list that is given has room for all.
-pub(crate) fn ends_of(
-    network: &Network,
-    input: &Input,
-    code: &Code,
-    tasks: &[Task],
-    mut ends: Vec<End>,
-) -> Vec<End>
-    requires code { code.now.network.value ≡ network.now }
-    requires told { AreTold network.now tasks.now }
+pub(crate) fn ends_of(part: &Part<'_>, tasks: &[Task], mut ends: Vec<End>) -> Vec<End>
+    requires told { AreTold part.now.network.now tasks.now }
     requires room { length tasks.now ≤ vec_capacity ends }
-    ensures { AreEndsOfTasks network.now input.now tasks.now result.items (length tasks.now) }
+    ensures { AreEndsOfTasks part.now.network.now part.now.input.now tasks.now result.items (length tasks.now) }
 {
     ends.clear();
     for instance in 0..tasks.len() {
-        ends.push_reserved(end_of(network, input, code, tasks, instance));
+        ends.push_reserved(end_of(part, tasks, instance));
     }
     ends
 }

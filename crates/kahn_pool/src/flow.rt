@@ -13,8 +13,8 @@ use crate::rounds::run_part_alone;
 use crate::streams::{give_watched, lines_of};
 use kahn_crew::{Gate, Plan};
 use kahn_streams::{
-    Carried, Config, End, FeedFault, Input, Line, MOST_BOUND, Network, NoMemory, RunFault, Side,
-    Value, Verdict, channel_meant,
+    Carried, Config, End, FeedFault, Input, Line, MOST_BOUND, Network, NoMemory, RunFault, Value,
+    Verdict, channel_meant,
 };
 use std::alloc::Global;
 use std::marker::{Brand, Model};
@@ -167,12 +167,7 @@ impl<'n> Flow<'n> {
         self.bench.stood();
         match line {
             Line::Channel(channel) => match self.network.writer(channel) {
-                Some(
-                    Side {
-                        instance,
-                        parameter,
-                    },
-                ) => self.bench.fresh(instance, parameter),
+                Some(side) => self.bench.fresh(side.instance, side.parameter),
                 None => &self.given,
             },
             Line::Print(instance) => self.bench.fresh_prints(instance),

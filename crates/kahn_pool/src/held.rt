@@ -6,15 +6,15 @@ ghost use Rattle.kahn_pool.specs.HeldRuns.{HasFed, HasStarted, IsAnswerOf, IsLin
 ghost use Rattle.kahn_pool.specs.inner.Workbench.{AreKeptOf};
 
 use crate::held_fault::HeldFault;
-use crate::part::{Part, PartRoom, first_idles, run_part};
-use crate::plan::plan_of;
+use crate::part::{PartRoom, first_idles, run_part};
+use crate::plan::{Part, plan_of};
 use crate::streams::{fill, give_watched, lines_of, opening_streams};
 use kahn_code::{Code, Kept, compile};
 use kahn_crew::{CrewFault, Gate, Plan};
 use kahn_job::Idle;
 use kahn_streams::{
     Answer, Carried, Config, End, FeedFault, Input, Line, MOST_BOUND, Network, NoMemory, RunFault,
-    Side, Value, Verdict,
+    Value, Verdict,
 };
 use std::alloc::Global;
 use std::marker::Model;
@@ -85,7 +85,14 @@ impl<'n> Held<'n> {
     {
         let plan = plan_of(network, &config)?;
         let code = compile(alloc, network)?;
-        let idles = first_idles(alloc, network, &input, &code, plan.watch)?;
+        let part = Part {
+            network,
+            input: &input,
+            code: &code,
+            plan,
+            left: plan.bound,
+        };
+        let idles = first_idles(alloc, &part)?;
         Ok(Held {
             alloc,
             network,
@@ -213,12 +220,7 @@ impl<'n> Held<'n> {
         let _program = self.network.program();
         match line {
             Line::Channel(channel) => match self.network.writer(channel) {
-                Some(
-                    Side {
-                        instance,
-                        parameter,
-                    },
-                ) => self.idles[instance].kept(parameter),
+                Some(side) => self.idles[side.instance].kept(side.parameter),
                 None => &self.given,
             },
             Line::Print(instance) => self.idles[instance].printed(),

@@ -15,7 +15,7 @@ use kahn_crew::{Gate, Open, Plan};
 use kahn_streams::{Answer, Input, MOST_BOUND, Network, RunFault, Stream};
 use std::alloc::Global;
 use std::marker::Brand;
-use std::sync::ledger::{Blank, Ledger};
+use std::sync::ledger::Blank;
 
 // How many events a process may do before the next one is run.
 const QUANTUM: u64 = 1000;
@@ -41,31 +41,6 @@ fn answered(
     }
 }
 
-// Counts steps on a ledger of its own, and runs.
-fn run_opened<G: Gate, L: Ledger>(
-    alloc: Global,
-    blank: Blank,
-    gate: &G,
-    network: &Network,
-    input: &Input,
-    plan: Plan,
-    may_leave: bool,
-) -> Result<Option<Answer>, CodeFault>
-    requires quantum { 0 < plan.quantum }
-    requires blank { (blank.name ≡ L.name) × (blank.parts ≡ L.parts) × (0 < blank.parts) }
-    requires bound { plan.bound < 2 ^ 48 }
-    ensures { IfOk result (λ a. MatchOption a (may_leave ≡ true) (IsRightAlone network.now input.now plan.watch plan.bound)) }
-{
-    let (quantum, bound) = (plan.quantum, plan.bound);
-    let ends = Vec::with_capacity(alloc, network.instances())?;
-    let mut bench = Bench::new(alloc, network, input, plan.watch)?;
-    let (streams, kept) = room_for_answer(alloc, network, input, plan.watch)?;
-    match run_part_alone::<G, L>(blank, &mut bench, gate, may_leave, ends, quantum, bound) {
-        Some(part) => Ok(Some(answered(bench, part, streams, kept, bound))),
-        None => Ok(None),
-    }
-}
-
 /// Runs a network on the caller's thread over plain queues, with a watched channel or none, each process for at most the quantum of
 /// events before the next one. Before each quantum the gate is entered. It answers nothing if the run may be left and there is work
 /// for several workers. It refuses only if memory was refused before the first event.
@@ -81,7 +56,22 @@ pub(crate) fn run_alone<G: Gate>(
     requires bound { plan.bound < 2 ^ 48 }
     ensures { IfOk result (λ a. MatchOption a (may_leave ≡ true) (IsRightAlone network.now input.now plan.watch plan.bound)) }
 {
-    run_opened::<G, Brand>(alloc, Blank::new(1), gate, network, input, plan, may_leave)
+    let ends = Vec::with_capacity(alloc, network.instances())?;
+    let mut bench = Bench::new(alloc, network, input, plan.watch)?;
+    let (streams, kept) = room_for_answer(alloc, network, input, plan.watch)?;
+    let part = run_part_alone::<G, Brand>(
+        Blank::new(1),
+        &mut bench,
+        gate,
+        may_leave,
+        ends,
+        plan.quantum,
+        plan.bound,
+    );
+    match part {
+        Some(part) => Ok(Some(answered(bench, part, streams, kept, plan.bound))),
+        None => Ok(None),
+    }
 }
 
 /// The same to the end.

@@ -7,16 +7,14 @@ ghost use Rattle.kahn_pool.specs.inner.Rested.{cell_of};
 ghost use Rattle.kahn_streams.specs.declared.answer.Verdict.TheVariants as verdict;
 
 use crate::ends::ends_of;
+use crate::plan::Part;
 use crate::rounds::verdict_of;
 use crate::settle::settle_all;
-use kahn_code::{Code, Steps};
 use kahn_crew::{CrewFault, Gate, Left, Plan, first_tasks, rest_all, run_tasks, wake_all};
 use kahn_job::{Idle, Task, meet, settle};
-use kahn_streams::{End, Input, Network, NoMemory, Verdict};
+use kahn_streams::{End, NoMemory, Verdict};
 use std::alloc::Global;
-use std::marker::Brand;
 use std::sync::Wait;
-use std::sync::ledger::{Blank, Ledger};
 use std::thread::Threads;
 
 /// Room for the tasks of a part of a run, for the jobs that they leave, and for their ends.
@@ -39,17 +37,6 @@ impl PartRoom {
     }
 }
 
-/// A part of a run: the network, its input so far, its code, the plan of the whole run, whose bound is the sum of all bounds with this
-/// part's, and how many events are left of that bound.
-#[derive(Drop)]
-pub(crate) struct Part<'n> {
-    pub(crate) network: &'n Network,
-    pub(crate) input: &'n Input,
-    pub(crate) code: &'n Code,
-    pub(crate) plan: Plan,
-    pub(crate) left: u64,
-}
-
 /// How a part of a run stopped: its jobs at rest, what is left of the bound, the end of each instance, and the verdict.
 /// Without a verdict the ends mean nothing.
 #[derive(Drop)]
@@ -60,50 +47,21 @@ pub(crate) struct Stopped {
     pub(crate) outcome: Result<Verdict, CrewFault>,
 }
 
-// The jobs of all instances before their first events, with a ledger of steps.
-fn first_counted<L: Ledger>(
-    alloc: Global,
-    blank: Blank,
-    network: &Network,
-    input: &Input,
-    code: &Code,
-    watch: Option<usize>,
-) -> Result<Vec<Idle>, NoMemory>
-    requires blank { (blank.name ≡ L.name) × (blank.parts ≡ L.parts) × (0 < blank.parts) }
-    requires code { code.now.network.value ≡ network.now }
-    ensures { IfOk result (λ idles. (bound : ℕ) → AreHeld network.now input.now watch bound idles.items bound) }
-{
-    let mut steps = Steps::<L>::open(blank);
-    let room = Vec::with_capacity(alloc, network.instances())?;
-    let mut tasks = first_tasks(alloc, network, input, code, watch)?;
-    let _program = network.program();
-    settle_all(&mut tasks, code, network, input, &mut steps);
-    Ok(rest_all(tasks, room))
-}
-
 /// The jobs of all instances before their first events. It refuses only if memory was refused.
-pub(crate) fn first_idles(
-    alloc: Global,
-    network: &Network,
-    input: &Input,
-    code: &Code,
-    watch: Option<usize>,
-) -> Result<Vec<Idle>, NoMemory>
-    requires code { code.now.network.value ≡ network.now }
-    ensures { IfOk result (λ idles. (bound : ℕ) → AreHeld network.now input.now watch bound idles.items bound) }
+pub(crate) fn first_idles(alloc: Global, part: &Part<'_>) -> Result<Vec<Idle>, NoMemory>
+    ensures { IfOk result (λ idles. AreHeldBy part.now idles.items part.now.plan.bound) }
 {
-    first_counted::<Brand>(alloc, Blank::new(1), network, input, code, watch)
+    let (network, input) = (part.network, part.input);
+    let room = Vec::with_capacity(alloc, network.instances())?;
+    let mut tasks = first_tasks(alloc, network, input, part.code, part.plan.watch)?;
+    let _program = network.program();
+    settle_all(&mut tasks, part);
+    Ok(rest_all(tasks, room))
 }
 
 // The jobs, the ends and the verdict of a run that is over: `Memory` exactly if it was halted, and it was halted only if memory
 // was refused to a worker. The lists that are given have room for the jobs and for the ends. It never allocates.
-fn conclude<L: Ledger>(
-    part: &Part<'_>,
-    mut left: Left,
-    idles: Vec<Idle>,
-    ends: Vec<End>,
-    steps: &mut Steps<L>,
-) -> Stopped
+fn conclude(part: &Part<'_>, mut left: Left, idles: Vec<Idle>, ends: Vec<End>) -> Stopped
     requires left { HaveAllLeft part.now left }
     requires over { IsOver part.now.network.now part.now.input.now left.tasks.items left.budget left.halted }
     requires cause { left.halted ≡ true → left.wanted ≡ true }
@@ -117,8 +75,8 @@ fn conclude<L: Ledger>(
     ensures is_one { IsOk result.outcome }
 {
     let _program = part.network.program();
-    settle_all(&mut left.tasks, part.code, part.network, part.input, steps);
-    let ends = ends_of(part.network, part.input, part.code, &left.tasks, ends);
+    settle_all(&mut left.tasks, part);
+    let ends = ends_of(part, &left.tasks, ends);
     let verdict = verdict_of(left.halted, &ends);
     let idles = rest_all(left.tasks, idles);
     Stopped {
@@ -130,13 +88,12 @@ fn conclude<L: Ledger>(
 }
 
 // The jobs of a run that was given up.
-fn give_up<L: Ledger>(
+fn give_up(
     fault: CrewFault,
     part: &Part<'_>,
     mut left: Left,
     idles: Vec<Idle>,
     ends: Vec<End>,
-    steps: &mut Steps<L>,
 ) -> Stopped
     requires left { HaveAllLeft part.now left }
     requires idles { (idles.items ≡ []) × (length (network_of part.now.network.now).instances ≤ vec_capacity idles) }
@@ -145,7 +102,7 @@ fn give_up<L: Ledger>(
     ensures outcome { (result.outcome ≡ Err fault) × (result.budget ≡ left.budget) }
 {
     let _program = part.network.program();
-    settle_all(&mut left.tasks, part.code, part.network, part.input, steps);
+    settle_all(&mut left.tasks, part);
     Stopped {
         idles: rest_all(left.tasks, idles),
         budget: left.budget,
@@ -155,37 +112,29 @@ fn give_up<L: Ledger>(
 }
 
 // Runs idle jobs whose ends are ready for the input so far.
-fn run_settled<R: Threads + Wait + Sync, G: Gate + Sync, L: Ledger>(
+fn run_settled<R: Threads + Wait + Sync, G: Gate + Sync>(
     rt: &R,
     alloc: Global,
-    blank: Blank,
     part: &Part<'_>,
     idles: Vec<Idle>,
     room: PartRoom,
     gate: &G,
 ) -> Stopped
-    requires blank { (blank.name ≡ L.name) × (blank.parts ≡ L.parts) × (0 < blank.parts) }
     requires part { IsHeldPart part.now idles.items }
     requires settled { HaveSettled part.now.network.now part.now.input.now (rows_of idles.items) }
     requires room { IsRoomFor (length (network_of part.now.network.now).instances) room }
     ensures { HasStoppedPart part.now idles.items result }
 {
-    let mut steps = Steps::<L>::open(blank);
-    let PartRoom {
-        tasks,
-        idles: rest,
-        ends,
-    } = room;
     let (network, input) = (part.network, part.input);
     let _program = network.program();
-    let tasks = wake_all(network, input, idles, tasks);
+    let tasks = wake_all(network, input, idles, room.tasks);
     let plan = Plan {
         bound: part.left,
         ..part.plan
     };
     match run_tasks(rt, alloc, network, input, part.code, plan, tasks, gate) {
-        Ok(left) => conclude(part, left, rest, ends, &mut steps),
-        Err((fault, left)) => give_up(fault, part, left, rest, ends, &mut steps),
+        Ok(left) => conclude(part, left, room.idles, room.ends),
+        Err((fault, left)) => give_up(fault, part, left, room.idles, room.ends),
     }
 }
 
@@ -214,5 +163,5 @@ pub(crate) fn run_part<R: Threads + Wait + Sync, G: Gate + Sync>(
             outcome: Err(CrewFault::NoMemory),
         };
     }
-    run_settled::<R, G, Brand>(rt, alloc, Blank::new(1), part, idles, room, gate)
+    run_settled(rt, alloc, part, idles, room, gate)
 }

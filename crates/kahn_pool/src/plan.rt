@@ -1,11 +1,24 @@
-//! The plan of a run, by its configuration.
+//! The plan of a run, by its configuration, and what its parts are lent.
 
 ghost use Rattle.kahn_pool.specs.inner.Below.{IsAllowed, IsUndeclared, IsUnrun, IsWatched, UnknownWatch};
 ghost use Rattle.kahn_pool.specs.HeldRuns.{IsUnstarted};
 ghost use Rattle.std.specs.Prelude.{◌≡◌, max, min, IfErr, IfOk, MatchResult};
 
+use kahn_code::Code;
 use kahn_crew::Plan;
-use kahn_streams::{Config, Network, RunFault, channel_named};
+use kahn_streams::{Config, Input, Network, RunFault, channel_named};
+
+/// A part of a run: the network, its input so far, its code, the plan of the whole run, whose bound is the sum of all bounds with this
+/// part's, and how many events are left of that bound.
+#[derive(Drop)]
+pub(crate) struct Part<'n> {
+    pub(crate) network: &'n Network,
+    pub(crate) input: &'n Input,
+    pub(crate) code: &'n Code,
+    pub(crate) plan: Plan,
+    pub(crate) left: u64,
+    ghost fits: { code.now.network.value ≡ network.now },
+}
 
 // The channel that is to be watched.
 fn watched(network: &Network, name: &Option<String>) -> Result<Option<usize>, RunFault>

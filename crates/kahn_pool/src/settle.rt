@@ -1,15 +1,16 @@
 //! Each task that may go on is asked once more what comes next.
 
-ghost use Rattle.std.specs.Prelude.{◌≡◌, ℕ, Some, slice_get};
+ghost use Rattle.std.specs.Prelude.{◌≡◌, ◌<◌, ℕ, Some, slice_get};
 ghost use Rattle.kahn_pool.specs.inner.Below.{IsWithinInput, Tasked, end_at};
 ghost use Rattle.kahn_pool.specs.inner.Streams.{HaveChanged};
 ghost use Rattle.kahn_pool.specs.inner.Rested.{IsLentTo, IsSettledTask, SettlesTo};
 ghost use Rattle.kahn_job.specs.declared.standing.Standing.TheVariants as standing;
 
-use kahn_code::{Code, Steps};
+use crate::plan::Part;
+use kahn_code::Steps;
 use kahn_job::{Standing, Task};
-use kahn_streams::{Input, Network};
-use std::sync::ledger::Ledger;
+use std::marker::Brand;
+use std::sync::ledger::{Blank, Ledger};
 
 // Says that of an input channel no more is ready than its list has: its contract is what it does.
 fn fed(task: &Task)
@@ -31,52 +32,36 @@ fn keep(task: &Task)
 }
 
 // Asks a task that may go on what comes next. No event is done, and it never allocates.
-fn ask<L: Ledger>(
-    task: &mut Task,
-    code: &Code,
-    network: &Network,
-    input: &Input,
-    steps: &mut Steps<L>,
-)
+fn ask<L: Ledger>(blank: Blank, task: &mut Task, part: &Part<'_>)
+    requires blank { (blank.name ≡ L.name) × (blank.parts ≡ L.parts) × (0 < blank.parts) }
     requires going { task.old.standing ≡ standing.Going }
-    requires lent { IsLentTo code.now.network.value network.now input.now task.old }
+    requires lent { IsLentTo part.now task.old }
     ensures { SettlesTo task.old task.new }
 {
-    let _pause = task.run(code, 0, steps, network, input);
+    let mut steps = Steps::<L>::open(blank);
+    let _pause = task.run(part.code, 0, &mut steps, part.network, part.input);
     let _parameters = task.parameters();
     fed(task);
 }
 
 // Asks a task what comes next, if it may go on.
-fn settle<L: Ledger>(
-    task: &mut Task,
-    code: &Code,
-    network: &Network,
-    input: &Input,
-    steps: &mut Steps<L>,
-)
-    requires { IsLentTo code.now.network.value network.now input.now task.old }
+fn settle(task: &mut Task, part: &Part<'_>)
+    requires { IsLentTo part.now task.old }
     ensures { SettlesTo task.old task.new }
 {
     if task.standing() == Standing::Going {
-        ask(task, code, network, input, steps);
+        ask::<Brand>(Blank::new(1), task, part);
     } else {
         keep(task);
     }
 }
 
 /// Asks each task that may go on what comes next.
-pub fn settle_all<L: Ledger>(
-    tasks: &mut Vec<Task>,
-    code: &Code,
-    network: &Network,
-    input: &Input,
-    steps: &mut Steps<L>,
-)
-    requires { (p : ℕ) (x : Tasked) → slice_get tasks.old.items p ≡ Some x → IsLentTo code.now.network.value network.now input.now x }
+pub(crate) fn settle_all(tasks: &mut Vec<Task>, part: &Part<'_>)
+    requires { (p : ℕ) (x : Tasked) → slice_get tasks.old.items p ≡ Some x → IsLentTo part.now x }
     ensures { HaveChanged SettlesTo tasks.old.items tasks.new.items }
 {
     for instance in 0..tasks.len() {
-        settle(&mut tasks[instance], code, network, input, steps);
+        settle(&mut tasks[instance], part);
     }
 }

@@ -6,9 +6,7 @@ ghost use Rattle.kahn_pool.specs.inner.Workbench.{AreOpen, AreStreamsReady};
 ghost use Rattle.kahn_pool.specs.inner.Streams.{AreAllGiven, AreGiven, AreNamed, IsBegun, IsDeclared, kept_lists, AreAllOf, AreLists, HasBecome, HaveBecome, IsFilled, KeepsOtherLines, HasInput};
 
 use kahn_code::Kept;
-use kahn_streams::{
-    Carried, Input, Line, Network, NoMemory, Role, Side, Stream, declaration_prints,
-};
+use kahn_streams::{Carried, Input, Line, Network, NoMemory, Role, Stream, declaration_prints};
 use std::alloc::Global;
 use std::mem;
 
@@ -117,14 +115,12 @@ fn fill_one(network: &Network, stream: &mut Stream, lists: &mut Vec<Kept>)
 {
     match stream.line {
         Line::Channel(channel) => {
-            if let Some(
-                Side {
-                    instance,
-                    parameter,
-                },
-            ) = network.writer(channel)
-            {
-                exchange_kept(&mut lists[instance], parameter, &mut stream.tokens);
+            if let Some(side) = network.writer(channel) {
+                exchange_kept(
+                    &mut lists[side.instance],
+                    side.parameter,
+                    &mut stream.tokens,
+                );
             }
         }
         Line::Print(instance) => mem::swap(&mut lists[instance].printed, &mut stream.tokens),

@@ -6,7 +6,8 @@ ghost use Rattle.kahn_pool.specs.Limits.{IsWant};
 ghost use Rattle.kahn_pool.specs.inner.Holding.{AreHeldBy, HasEnded};
 ghost use Rattle.kahn_pool.specs.inner.Workbench.{AreKeptOf, AreStreamsReady};
 
-use crate::part::{Part, PartRoom, Stopped, first_idles, run_part};
+use crate::part::{PartRoom, Stopped, first_idles, run_part};
+use crate::plan::Part;
 use crate::streams::{fill, room_for_answer};
 use kahn_code::{Kept, compile};
 use kahn_crew::{CrewFault, Gate, Plan};
@@ -72,7 +73,6 @@ pub(crate) fn run_workers<R: Threads + Wait + Sync, G: Gate + Sync>(
     let code = compile(alloc, network)?;
     let (streams, kept) = room_for_answer(alloc, network, input, plan.watch)?;
     let room = PartRoom::new(alloc, network.instances())?;
-    let idles = first_idles(alloc, network, input, &code, plan.watch)?;
     let part = Part {
         network,
         input,
@@ -80,6 +80,7 @@ pub(crate) fn run_workers<R: Threads + Wait + Sync, G: Gate + Sync>(
         plan,
         left: plan.bound,
     };
+    let idles = first_idles(alloc, &part)?;
     let stopped = run_part(rt, alloc, &part, idles, room, gate);
     Ok(answered(&part, stopped, streams, kept)?)
 }

@@ -5,7 +5,7 @@ use Rattle.kahn_pool.specs.HeldRuns.{HeldRun, seen_events, seen_of}
 use Rattle.kahn_pool.specs.inner.Bench.{IsConcluded, RunState}
 use Rattle.kahn_pool.specs.inner.Streams.{AreAllGiven, AreGiven}
 use Rattle.kahn_pool.specs.inner.Workbench.{AllStandBy}
-use Rattle.kahn_pool.specs.declared.{part.Part.Part, part.PartRoom.PartRoom, part.Stopped.Stopped}
+use Rattle.kahn_pool.specs.declared.{part.PartRoom.PartRoom, part.Stopped.Stopped, plan.Part.Part}
 
 -- the cell without its input
 abbrev pub cell_alone : Told → Told
@@ -58,15 +58,13 @@ HaveRisen old new = (p : ℕ) (c d : Told) → slice_get old p ≡ Some c → sl
 abbrev pub AreHeldBy : Part → List Work → ℕ → Type 0
 AreHeldBy part ws budget = AreHeld part.network.now part.input.now part.plan.watch part.plan.bound ws budget
 
--- such a part may run: the code is the network's, the numbers are within their limits, and the jobs are those of a held run
+-- such a part may run: the numbers are within their limits, and the jobs are those of a held run
 pub record IsHeldPart (part : Part) (ws : List Work) : Type 0 where
-  pub code : part.code.now.network.value ≡ part.network.now
   pub range : IsInRange part.plan.workers part.plan.quantum part.plan.bound
   pub held : AreHeldBy part ws part.left
 
 -- all workers have left the part
 pub record HaveAllLeft (part : Part) (left : Left) : Type 0 where
-  pub code : part.code.now.network.value ≡ part.network.now
   pub bounded : part.plan.bound < 2 ^ 48
   pub first : List Tasked
   pub gone : HaveGone part.network.now part.input.now part.plan.watch part.plan.bound first left.tasks.items left.budget

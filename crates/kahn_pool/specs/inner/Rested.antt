@@ -1,6 +1,7 @@
 -- Inner. How tasks stand when no more is run, and what stands in the answer for each.
 use Rattle.std.specs.Prelude.{◌≡◌, ◌⊎◌, ℕ, ◌<◌, ◌^◌, List, length, Some, slice_get}
 use Rattle.kahn_pool.specs.inner.Below.{AreAll, Continues, Cut, Dry, End, IsJob, IsReady, IsWithinInput, Lists, Outcome, Paused, Program, Reads, Standing, Store, Tasked, TellsOutcome, Told, Work, actual_at, count, end_at, handed_to_task, inputs_of, instance_at, network_of, told_view}
+use Rattle.kahn_pool.specs.declared.plan.Part.{Part}
 use Rattle.kahn_streams.specs.Script as script
 use Rattle.kahn_job.specs.declared.standing.Standing.TheVariants as standing
 use Rattle.kahn_streams.specs.declared.answer.Outcome.TheVariants as outcome
@@ -14,9 +15,9 @@ abbrev pub IsSaid : Work → Standing → script.Outcome Store → Type 0
 IsSaid w standing.Going o = (o ≡ Cut) ⊎ ((q d : ℕ) × (handed_to_task w q ≡ Reads d) × (o ≡ Dry q) × IsReady (end_at w.ends q))
 IsSaid w s o = TellsOutcome s o
 
--- the code, the network and the input are those of the task, and it did few events
-abbrev pub IsLentTo : Program → Program → Lists → Tasked → Type 0
-IsLentTo compiled t lists x = (compiled ≡ x.work.cell.network) × (t ≡ x.work.cell.network) × (lists ≡ x.work.cell.input) × (x.work.cell.events < 2 ^ 48)
+-- the network and the input of the part are those of the task, and it did few events
+abbrev pub IsLentTo : Part → Tasked → Type 0
+IsLentTo part x = (part.network.now ≡ x.work.cell.network) × (part.input.now ≡ x.work.cell.input) × (x.work.cell.events < 2 ^ 48)
 
 pub record IsSettledTask (x : Tasked) : Type 0 where
   pub says :
@@ -53,6 +54,10 @@ IsToldAs t lists tasks x (outcome.Waits c) =
 IsToldAs t lists tasks x outcome.More =
     (x.standing ≡ standing.Going)
     ⊎ ((q d : ℕ) × (x.standing ≡ standing.Dry q) × (handed_to_task x.work q ≡ Reads d) × (AreAll t lists tasks d (count x.work.cell.taken q) → ⊥))
+
+-- so for that of instance p, where it is dry on parameter q
+abbrev pub IsDryTold : Part → List Tasked → ℕ → ℕ → Outcome → Type 0
+IsDryTold part tasks p q o = (x : Tasked) → slice_get tasks p ≡ Some x → x.standing ≡ standing.Dry q → IsToldAs part.network.now part.input.now tasks x o
 
 -- the end of a task among these
 pub record IsEndOf (t : Program) (lists : Lists) (tasks : List Tasked) (x : Tasked) (e : End) : Type 0 where

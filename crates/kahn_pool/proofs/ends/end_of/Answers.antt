@@ -13,7 +13,7 @@ dry_outcome-outcome-requires-clause-reads c =
 
 pub returns : goal.returns
 returns c x e =
-    let t = c.args.network.now in
+    let t = c.args.part.now.network.now in
     let tasks = c.args.tasks.now in
     let p = c.args.instance in
     let y = c.index-tasks-instance.result in
@@ -23,9 +23,9 @@ returns c x e =
     record {
       events = c.events.ensures ∙ ap (λ (z : Tasked). z.work.cell.events) same;
       told = elim c.match-standing.branch [
-        | in-Going w ↦ subst (IsToldAs t c.args.input.now tasks x) (sym w.outcome-is) (inl (stands ∙ w.in-Going.is))
-        | in-Ended w ↦ subst (IsToldAs t c.args.input.now tasks x) (sym w.outcome-is) (stands ∙ w.in-Ended.is)
-        | in-Faulted w ↦ subst (IsToldAs t c.args.input.now tasks x) (sym w.outcome-is) (stands ∙ w.in-Faulted.is)
-        | in-Dry w ↦ subst (IsToldAs t c.args.input.now tasks x) (sym w.outcome-is) (w.dry_outcome-outcome.ensures x e (stands ∙ w.in-Dry.is))
+        | in-Going w ↦ subst (IsToldAs t c.args.part.now.input.now tasks x) (sym w.outcome-is) (inl (stands ∙ w.in-Going.is))
+        | in-Ended w ↦ subst (IsToldAs t c.args.part.now.input.now tasks x) (sym w.outcome-is) (stands ∙ w.in-Ended.is)
+        | in-Faulted w ↦ subst (IsToldAs t c.args.part.now.input.now tasks x) (sym w.outcome-is) (stands ∙ w.in-Faulted.is)
+        | in-Dry w ↦ subst (IsToldAs t c.args.part.now.input.now tasks x) (sym w.outcome-is) (w.dry_outcome-outcome.ensures x e (stands ∙ w.in-Dry.is))
       ];
     }

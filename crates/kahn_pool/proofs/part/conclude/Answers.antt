@@ -6,10 +6,10 @@ use Rattle.kahn_pool.proofs.Rests as rests
 use Rattle.kahn_pool.proofs.part.conclude.Goals as goal
 
 pub settle_all-requires : goal.settle_all-requires
-settle_all-requires g c = let l = c.requires.left in left_lent l.gone l.code l.bounded
+settle_all-requires c = let l = c.requires.left in left_lent l.gone l.bounded
 
 pub ends_of-ends-requires-clause-told : goal.ends_of-ends-requires-clause-told
-ends_of-ends-requires-clause-told g c =
+ends_of-ends-requires-clause-told c =
     let t = c.args.part.now in
     let l = c.requires.left in
     let asked = c.settle_all.ensures in
@@ -17,27 +17,27 @@ ends_of-ends-requires-clause-told g c =
     (rests.are_told t.network.now c.program-program.ensures.wired t.input.now t.plan.watch c.settle_all.new.tasks.items (tasks_new l.gone asked) (settled_new l.gone asked))
 
 pub ends_of-ends-requires-clause-room : goal.ends_of-ends-requires-clause-room
-ends_of-ends-requires-clause-room g c =
+ends_of-ends-requires-clause-room c =
     let room = c.requires.ends in
     let all = ap length c.deref.ensures.value ∙ c.settle_all.ensures.count ∙ c.requires.left.gone.count in
     omega (arith, room, all)
 
 pub rest_all-idles-requires : goal.rest_all-idles-requires
-rest_all-idles-requires g c =
+rest_all-idles-requires c =
     let room = c.requires.idles.1 in
     let all = c.settle_all.ensures.count ∙ c.requires.left.gone.count in
     record { room = (c.requires.idles.0, omega (arith, room, all)) }
 
 pub meet-requires : goal.meet-requires
-meet-requires g c =
+meet-requires c =
     let held = held_after c.program-program.ensures.wired c.requires.left.gone c.settle_all.ensures c.rest_all-idles.ensures.same in
     (c.args.part.now.input.now, held.idle.resting)
 
 pub returns-clause-held : goal.returns-clause-held
-returns-clause-held g c = held_met (held_after c.program-program.ensures.wired c.requires.left.gone c.settle_all.ensures c.rest_all-idles.ensures.same) c.meet.ensures.met
+returns-clause-held c = held_met (held_after c.program-program.ensures.wired c.requires.left.gone c.settle_all.ensures c.rest_all-idles.ensures.same) c.meet.ensures.met
 
 pub returns-clause-ended : goal.returns-clause-ended
-returns-clause-ended g c =
+returns-clause-ended c =
     let t = c.args.part.now in
     let wired = c.program-program.ensures.wired in
     let gone = c.requires.left.gone in
@@ -55,4 +55,4 @@ returns-clause-ended g c =
     )
 
 pub returns-clause-cells : goal.returns-clause-cells
-returns-clause-cells g c = c.meet.ensures.met.cells ∙ cells_after c.program-program.ensures.wired c.requires.left.gone c.settle_all.ensures c.rest_all-idles.ensures.same
+returns-clause-cells c = c.meet.ensures.met.cells ∙ cells_after c.program-program.ensures.wired c.requires.left.gone c.settle_all.ensures c.rest_all-idles.ensures.same

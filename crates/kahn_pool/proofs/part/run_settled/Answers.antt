@@ -29,7 +29,6 @@ conclude-requires-clause-left g c =
     let left = c.in-Ok.left in
     let all = woken_events c.requires.part.held c.wake_all-tasks.ensures in
     record {
-      code = c.requires.part.code;
       bounded = c.requires.part.range.4;
       first = c.wake_all-tasks.result.items;
       gone = subst (λ b. HaveGone t.network.now t.input.now t.plan.watch b c.wake_all-tasks.result.items left.tasks.items left.budget) all c.in-Ok.ensures.gone;
@@ -41,7 +40,6 @@ give_up-requires-clause-left g c =
     let left = c.in-Err.left in
     let all = woken_events c.requires.part.held c.wake_all-tasks.ensures in
     record {
-      code = c.requires.part.code;
       bounded = c.requires.part.range.4;
       first = c.wake_all-tasks.result.items;
       gone = subst (λ b. HaveGone t.network.now t.input.now t.plan.watch b c.wake_all-tasks.result.items left.tasks.items left.budget) all c.in-Err.ensures.refused;
@@ -51,8 +49,8 @@ pub returns-in-Ok : goal.returns-in-Ok
 returns-in-Ok g c = ended_so c.args.part.now c.args.idles.items c.conclude.result c.conclude.ensures.held c.conclude.ensures.ended c.conclude.ensures.is_one
     (have_risen c.requires.part.held c.wake_all-tasks.ensures c.in-Ok.ensures.gone c.conclude.result.idles.items c.conclude.ensures.cells)
 
-pub returns : goal.returns
-returns g c =
+pub returns-in-Err : goal.returns-in-Err
+returns-in-Err g c =
     let e = c.in-Err.ensures in
     let up = c.give_up.ensures in
     let us = c.give_up.result.idles.items in

@@ -3,12 +3,12 @@ use Rattle.kahn_pool.proofs.Lists.{next_old, one_changed, all_changed}
 use Rattle.kahn_pool.proofs.settle.settle_all.Goals as goal
 
 pub settle-requires : goal.settle-requires
-settle-requires g c =
+settle-requires c =
     let value = c.index_mut.ensures.value in
     c.requires c.loop-instance.instance c.index_mut.result.now (next_old c.loop-instance.invariant (search rules) value)
 
 pub loop-instance-preserved : goal.loop-instance-preserved
-loop-instance-preserved g c = one_changed c.loop-instance.invariant (search rules) c.index_mut.ensures.value c.settle.ensures
+loop-instance-preserved c = one_changed c.loop-instance.invariant (search rules) c.index_mut.ensures.value c.settle.ensures
 
 pub returns : goal.returns
-returns g c = all_changed c.loop-instance.invariant (search rules)
+returns c = all_changed c.loop-instance.invariant (search rules)

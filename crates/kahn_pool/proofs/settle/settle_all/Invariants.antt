@@ -3,4 +3,4 @@ use Rattle.kahn_pool.proofs.Lists.{ChangedTo}
 use Rattle.kahn_pool.proofs.settle.settle_all.Given as goal
 
 abbrev pub invariant-loop-instance : goal.invariant-loop-instance
-invariant-loop-instance g l = ChangedTo SettlesTo l.fn.tasks.items l.tasks.items l.instance
+invariant-loop-instance l = ChangedTo SettlesTo l.fn.tasks.items l.tasks.items l.instance

@@ -7,7 +7,7 @@ pub returns-in-Some-clause-others : goal.returns-in-Some-clause-others
 returns-in-Some-clause-others c d n =
     let w = c.in-Some.ensures.only.0 in
     let e = c.exchange_kept.ensures in
-    (kept_taken c.requires.lists w.0.0 c.index_mut.ensures.value c.exchange_kept.new.lists c.in-Some.field-0.parameter c.args.stream.now.tokens.items w.1 e.kept e.printed e.tokens).2 d (λ k. n (k ∙ sym c.in-Channel.is))
+    (kept_taken c.requires.lists w.0.0 c.index_mut.ensures.value c.exchange_kept.new.lists c.in-Some.side.parameter c.args.stream.now.tokens.items w.1 e.kept e.printed e.tokens).2 d (λ k. n (k ∙ sym c.in-Channel.is))
 
 pub returns-in-Print-clause-lists : goal.returns-in-Print-clause-lists
 returns-in-Print-clause-lists c =

@@ -2,7 +2,6 @@ use Rattle.kahn_pool.proofs.workers.run_workers.Goals as goal
 
 pub run_part-stopped-requires-clause-part : goal.run_part-stopped-requires-clause-part
 run_part-stopped-requires-clause-part g c κs within = record {
-  code = c.in_ok-code.ensures;
   range = c.requires.range;
-  held = c.in_ok-idles.ensures c.args.plan.bound;
+  held = c.in_ok-idles.ensures;
 }

@@ -12,12 +12,12 @@ writer-requires c =
 
 pub fresh-requires-clause-here : goal.fresh-requires-clause-here
 fresh-requires-clause-here c =
-    subst (λ t. c.in-Some.field-0.instance < length (network_of t).instances) (sym c.self.invariant.network) c.in-Some.ensures.only.0.0.0
+    subst (λ t. c.in-Some.side.instance < length (network_of t).instances) (sym c.self.invariant.network) c.in-Some.ensures.only.0.0.0
 
 pub fresh-requires-clause-parameter : goal.fresh-requires-clause-parameter
 fresh-requires-clause-parameter c =
-    let p = c.in-Some.field-0.instance in
-    subst (λ t. c.in-Some.field-0.parameter < length (instance_at (network_of t) p).actuals) (sym c.self.invariant.network) c.in-Some.ensures.only.0.0.1
+    let p = c.in-Some.side.instance in
+    subst (λ t. c.in-Some.side.parameter < length (instance_at (network_of t) p).actuals) (sym c.self.invariant.network) c.in-Some.ensures.only.0.0.1
 
 pub fresh_prints-requires : goal.fresh_prints-requires
 fresh_prints-requires c =
@@ -30,8 +30,8 @@ returns-in-Some c =
     let i = c.self.inside in
     let b = i.bench in
     let t = sym c.self.invariant.network in
-    let p = c.in-Some.field-0.instance in
-    let q = c.in-Some.field-0.parameter in
+    let p = c.in-Some.side.instance in
+    let q = c.in-Some.side.parameter in
     let d = c.in-Channel.channel in
     let ts = c.fresh.result.now in
     subst (λ (f : Flowing). AreNew f c.args.line ts) c.self.view_is

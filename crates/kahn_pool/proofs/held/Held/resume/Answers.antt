@@ -11,7 +11,6 @@ run_part-stopped-requires-clause-part g c κs within =
     let f = c.if-self-more.false in
     let e : c.replace-idles.result.items ≡ c.self.inside.idles.items = search rules in
     record {
-      code = h.code;
       range = (r.0, r.1, r.2, r.3, omega (arith, r.4, f));
       held = rw e (held_more h.held c.args.more refl);
     }

@@ -11,7 +11,7 @@ invariant_of-result c =
       code = c.in_ok-code.ensures;
       fits = c.requires.fits;
       range = rw (p.workers, p.rest.0, p.rest.1) p.allowed;
-      held = c.in_ok-idles.ensures c.in_ok-plan.plan.bound;
+      held = c.in_ok-idles.ensures;
       ended = tt;
       begun = λ channel e. begun_none (network_of c.args.network.now) I channel (I channel) c.new-2.result.items (search rules);
       all = λ v e. absurd cc;
@@ -20,7 +20,7 @@ invariant_of-result c =
 pub returns : goal.returns
 returns c =
     let p = c.in_ok-plan.ensures in
-    let none = (c.in_ok-idles.ensures 0).events in
+    let none = c.in_ok-idles.ensures.events in
     record {
       allowed = p.allowed;
       watched = p.watched;

@@ -14,11 +14,11 @@ pub kept-requires : goal.kept-requires
 kept-requires c =
     let i = c.self.inside in
     let idle = c.self.invariant.held.idle in
-    let p = c.in-Some.field-0.instance in
+    let p = c.in-Some.side.instance in
     let w = c.index.result.now in
     let within = c.in-Some.ensures.only.0.0 in
     let at = job_there i.network.now i.input i.plan i.idles.items i.verdict c.self.view_is idle p w within.0 c.index.ensures in
-    width_there i.network.now i.input i.plan i.idles.items i.verdict c.self.view_is idle p c.in-Some.field-0.parameter w at within.1
+    width_there i.network.now i.input i.plan i.idles.items i.verdict c.self.view_is idle p c.in-Some.side.parameter w at within.1
 
 pub index-requires-in-Print : goal.index-requires-in-Print
 index-requires-in-Print c =
@@ -33,11 +33,11 @@ pub returns-in-Some : goal.returns-in-Some
 returns-in-Some c =
     let i = c.self.inside in
     let idle = c.self.invariant.held.idle in
-    let p = c.in-Some.field-0.instance in
+    let p = c.in-Some.side.instance in
     let w = c.index.result.now in
     let only = c.in-Some.ensures.only.0 in
     let at = job_there i.network.now i.input i.plan i.idles.items i.verdict c.self.view_is idle p w only.0.0 c.index.ensures in
-    kept_so_far i.network.now i.input i.plan i.idles.items i.verdict c.self.view_is idle c.program-program.ensures.wired c.args.line c.in-Channel.channel p c.in-Some.field-0.parameter w
+    kept_so_far i.network.now i.input i.plan i.idles.items i.verdict c.self.view_is idle c.program-program.ensures.wired c.args.line c.in-Channel.channel p c.in-Some.side.parameter w
     c.kept.result.now c.in-Channel.is c.in-Some.ensures.source only.1 at c.kept.ensures
 
 pub returns-in-None : goal.returns-in-None
