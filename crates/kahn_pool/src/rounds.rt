@@ -366,9 +366,7 @@ pub(crate) fn run_part_alone<G: Gate, L: Ledger>(
         may_leave,
     };
     let first = Round::new(bench, quantum, bound, ends);
-    let Some(last) = driver.last_round(bench, first) else {
-        return None;
-    };
+    let last = driver.last_round(bench, first)?;
     bench.stood();
     let verdict = verdict_of(last.memory, &last.ends);
     Some(PartEnd {

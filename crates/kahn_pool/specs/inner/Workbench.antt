@@ -5,7 +5,7 @@ use Rattle.kahn_pool.specs.inner.Bench.{AreEnds, HasEndIn, HasRunCell, IsLast, L
 use Rattle.kahn_code.specs.declared.progress.Pause.TheVariants as pause
 use Rattle.kahn_pool.specs.declared.rounds.Round.{Round}
 use Rattle.kahn_pool.specs.HeldRuns.{seen_at, seen_of}
-use Rattle.kahn_pool.specs.inner.Streams.{HasInputs, kept_lists, printed_list}
+use Rattle.kahn_pool.specs.inner.Streams.{IsOpenStream, kept_lists, printed_list}
 
 -- the program and the input, the watched channel, the program of the code, the cells, what they let go of, and the queues
 pub record Table : Type 0 where
@@ -184,7 +184,7 @@ pub record AreOpeningCells (t : Program) (lists : Lists) (watch : Option ℕ) (c
 -- the streams of an answer before any cell's token was moved there: an input channel has its whole list
 pub record AreOpen (t : Program) (lists : Lists) (watch : Option ℕ) (streams : List Stream) : Type 0 where
   pub lines : map stream_line streams ≡ stream_lines (network_of t) watch
-  pub given : HasInputs (network_of t) (inputs_of lists) streams
+  pub given : (j : ℕ) (x : Stream) → slice_get streams j ≡ Some x → IsOpenStream (network_of t) (inputs_of lists) x
 
 -- there are streams, and room for what each cell kept
 pub record AreStreamsReady {A : Type 0} (t : Program) (lists : Lists) (watch : Option ℕ) (streams : List Stream) (kept : List A) (room : ℕ) : Type 0 where
