@@ -42,7 +42,7 @@ pub use Rattle.kahn_pool.specs.inner.Gathered.{IsFrom, IsGiven, IsOutcomeOf, Too
 pub use Rattle.kahn_pool.specs.inner.Holding.{AreEnded, AreHeld, AreHeldBy, HasEnded, HasRisen, HasStopped, HasStoppedPart, HaveRisen, IsHolding, cell_alone, held_state, run_of, run_with}
 pub use Rattle.kahn_pool.specs.inner.Rested.{AreEndsOfTasks, AreTold, IsDryOf, IsEndOf, IsLentTo, IsSaid, IsSettledTask, IsToldAs, SettlesTo, cell_of}
 pub use Rattle.kahn_pool.specs.inner.Streams.{AreAllGiven, AreGiven, AreLists, AreNamed, HaveChanged, IsBegun, IsDeclared, IsFilled, IsFilledStream, IsOpenStream, KeepsOtherLines, OpensWith, kept_in, kept_lists, printed_in, printed_list}
-pub use Rattle.kahn_pool.specs.inner.Workbench.{AllStandBy, AreKeptOf, AreLeft, AreOpen, AreOpeningCells, AreStreamsReady, AreWhole, HasAdvanced, HasEmptied, HasComeToRest, HasTakenIn, HasTakenTurn, HasWorked, IsInRound, IsLaid, IsLeft, IsRightAlone, IsSeated, Marked, MayRun, StandsAsTold, Table, actual_count, all_of, gone_in, parameter_count, sight_of, table_of, told_in, turn_of, weight}
+pub use Rattle.kahn_pool.specs.inner.Workbench.{AllStandBy, AreKeptOf, AreOpen, AreOpeningCells, AreStreamsReady, AreWhole, HasAdvanced, HasEmptied, HasComeToRest, HasTakenIn, HasTakenTurn, HasWorked, IsInRound, IsLaid, IsLeft, IsRightAlone, IsSeated, Marked, MayRun, StandsAsTold, Table, actual_count, all_of, gone_in, parameter_count, sight_of, table_of, told_in, turn_of, weight}
 pub use Rattle.kahn_streams.proofs.By_number.{there}
 pub use Rattle.kahn_streams.proofs.Dry.{dry_reads}
 pub use Rattle.kahn_streams.proofs.Entered.{none_of}

@@ -1,9 +1,24 @@
--- Believed. A run that is held between its parts: what contracts see of it, and what its calls make of it (this project's profile).
+-- Believed. Why a run is refused; a run that is held between its parts: what contracts see of it, and what its calls make of it
+-- (this project's profile).
 use Rattle.std.specs.Prelude.{◌≡◌, ◌⊎◌, ℕ, suc, ◌+◌, ◌<◌, ◌≤◌, ◌^◌, List, [], ◌∷◌, map, sum_by, Option, Some, None, slice_get, slice_index_or, if◌then◌else◌}
 use Rattle.kahn_pool.specs.inner.Below.{Actual, Answer, AreInputsExtended, AreRight, Channel, Config, End, Entry, FeedFault, Finished, Given, HasEndAt, HasStream, Inputs, IsAllowed, IsEntryFed, IsPrefix, IsRight, IsUnrun, IsUnwelcome, IsWatched, IsWhole, Line, Lists, Network, Print, Program, RunFault, Settles, Source, Stream, Token, Told, Value, Verdict, Written, inputs_of, instance_at, is_written, network_of, source, stream_lines, token_value, values_of}
-use Rattle.kahn_streams.specs.declared.fault.RunFault.TheVariants.{NoThread}
+use Rattle.kahn_streams.specs.declared.fault.RunFault.TheVariants as fault
 use Rattle.kahn_pool.specs.declared.held_fault.HeldFault.{HeldFault}
 use Rattle.kahn_pool.specs.declared.held_fault.HeldFault.TheVariants as held
+
+-- why a run on one thread is refused
+abbrev pub IsRefusedRun : ℕ → RunFault → Type 0
+IsRefusedRun bound fault.BadConfig = 2 ^ 48 ≤ bound
+IsRefusedRun bound fault.NoMemory = bound < 2 ^ 48
+IsRefusedRun bound f = ⊥
+
+-- memory was wanting, or a thread for one of several workers
+abbrev pub IsWant : ℕ → RunFault → Type 0
+IsWant workers fault.NoMemory = Unit {0}
+IsWant workers fault.NoThread = 1 < workers
+IsWant workers f = ⊥
+
+-- ---- a held run
 
 -- the events of a process, the tokens that its cell kept of what it sent by each parameter, and those that it printed
 pub record Seen : Type 0 where
@@ -87,7 +102,7 @@ pub record HasStarted (t : Program) (lists : Lists) (config : Config) (h : HeldR
 
 -- why there is none: what refuses a run, but that no thread is started
 abbrev pub IsUnstarted : Program → Config → RunFault → Type 0
-IsUnstarted t config NoThread = ⊥
+IsUnstarted t config fault.NoThread = ⊥
 IsUnstarted t config f = IsUnrun t config f
 
 -- ---- a part of the run

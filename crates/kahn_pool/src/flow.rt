@@ -105,19 +105,12 @@ impl<'n> Flow<'n> {
             return Err(HeldFault::BadMore);
         }
         let ends = mem::replace(&mut self.ends, Vec::new(self.alloc));
-        let (quantum, bound) = (self.plan.quantum, self.budget + more);
+        let bound = self.budget + more;
+        let plan = Plan { bound, ..self.plan };
         self.bench.stood();
-        let Some(part) = run_part_alone::<G, Brand>(
-            Blank::new(1),
-            &mut self.bench,
-            gate,
-            false,
-            ends,
-            quantum,
-            bound,
-        ) else {
-            unreachable!()
-        };
+        let blank = Blank::new(1);
+        let run = run_part_alone::<G, Brand>(blank, &mut self.bench, gate, false, ends, plan);
+        let Some(part) = run else { unreachable!() };
         self.bench.stood();
         self.plan.bound += more;
         self.budget = part.left;

@@ -3,9 +3,9 @@ use Rattle.std.specs.Prelude.{◌≡◌, ℕ, ◌<◌, List, [], length, map, Op
 use Rattle.kahn_pool.specs.inner.Below.{AreKeptTokens, Channel, Given, Input, Inputs, IsOwn, IsPrefix, Kept, Line, Network, Nobody, Print, Source, Stream, Token, Value, Writes, Written, actual_at, instance_at, role_at, source, stream_line, stream_lines, token_value}
 
 -- each item of the first list became so that of the second at its place
-pub record HaveChanged {X : Type 0} (R : X → X → Type 0) (old new : List X) : Type 0 where
+pub record HaveChanged {X Y : Type 0} (R : X → Y → Type 0) (old : List X) (new : List Y) : Type 0 where
   pub count : length new ≡ length old
-  pub each : (p : ℕ) (x y : X) → slice_get old p ≡ Some x → slice_get new p ≡ Some y → R x y
+  pub each : (p : ℕ) (x : X) (y : Y) → slice_get old p ≡ Some x → slice_get new p ≡ Some y → R x y
 
 -- the lines of the streams, for some watched channel
 abbrev pub AreNamed : Network → List Stream → Type 0

@@ -203,12 +203,6 @@ abbrev pub IsLeft : {A : Type 0} → Tapped → Kept A → Type 0
 IsLeft x k =
     (kept_behind x.gone.kept (kept_lists k) ≡ x.told.kept) × (x.gone.printed ++ printed_list k ≡ x.told.printed) × (parameter_count k ≡ actual_count x.told)
 
-abbrev pub AreLeft : {A : Type 0} → List Tapped → List (Kept A) → Type 0
-AreLeft [] [] = Unit {0}
-AreLeft [] (k ∷ kept) = ⊥
-AreLeft (x ∷ taps) [] = ⊥
-AreLeft (x ∷ taps) (k ∷ kept) = IsLeft x k × AreLeft taps kept
-
 -- these are the lists that the cells kept
 pub record AreKeptOf {A : Type 0} (cells : List Told) (kept : List (Kept A)) : Type 0 where
   pub sent : map kept_lists kept ≡ map (λ (c : Told). c.kept) cells
