@@ -2,11 +2,7 @@
 use Rattle.std.specs.Prelude.{◌≡◌, ℕ, ◌+◌, ◌-◌, ◌<◌, ◌≤◌, ◌^◌, Bool, List, ◌++◌, length, map, sum_by, take, Option, Some, slice_index_or}
 use Rattle.kahn_pool.specs.inner.Below.{End, Input, Line, Plan, Program, Source, Token, Value, Verdict, inputs_of, network_of, nothing_gone, role_at, source, stream_lines, token_value}
 use Rattle.kahn_pool.specs.HeldRuns.{HeldRun, seen_events, seen_of, values_by}
-use Rattle.kahn_pool.specs.inner.Bench.{IsConcluded, LacksMemory}
-use Rattle.kahn_pool.specs.declared.rounds.PartEnd.{PartEnd}
-use Rattle.kahn_pool.specs.inner.Holding.{AreEnded, run_with}
-use Rattle.kahn_pool.specs.inner.Workbench.{Table, sight_of}
-use Rattle.kahn_pool.specs.Flows.{Flowing}
+use Rattle.kahn_pool.specs.{Flows.Flowing, declared.rounds.PartEnd.PartEnd, inner.Bench.IsConcluded, inner.Bench.LacksMemory, inner.Holding.AreEnded, inner.Holding.run_with, inner.Workbench.Table, inner.Workbench.sight_of}
 
 -- what contracts see of the run of a bench: all that its taps ever kept
 abbrev pub run_of_bench : Table → Plan → Option Verdict → HeldRun

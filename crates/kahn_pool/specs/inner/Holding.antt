@@ -2,10 +2,7 @@
 use Rattle.std.specs.Prelude.{◌≡◌, ℕ, ◌+◌, ◌<◌, ◌≤◌, ◌^◌, Bool, List, [], length, map, sum_by, Option, Some, None, Err, MatchResult, slice_get, vec_capacity}
 use Rattle.kahn_pool.specs.inner.Below.{AreIdle, AreInputsExtended, End, HaveGone, IsInRange, IsLack, Left, Lists, NoMemory, Plan, Program, Tasked, Token, Told, Verdict, Work, cells_of, inputs_of, network_of, told_view}
 use Rattle.kahn_pool.specs.HeldRuns.{HeldRun, seen_events, seen_of}
-use Rattle.kahn_pool.specs.inner.Bench.{IsConcluded, RunState}
-use Rattle.kahn_pool.specs.inner.Streams.{AreAllGiven, AreGiven}
-use Rattle.kahn_pool.specs.inner.Workbench.{AllStandBy}
-use Rattle.kahn_pool.specs.declared.{part.PartRoom.PartRoom, part.Stopped.Stopped, plan.Part.Part}
+use Rattle.kahn_pool.specs.{declared.part.PartRoom.PartRoom, declared.part.Stopped.Stopped, declared.plan.Part.Part, inner.Bench.IsConcluded, inner.Bench.RunState, inner.Streams.AreAllGiven, inner.Streams.AreGiven, inner.Workbench.AllStandBy}
 
 -- the cell without its input
 abbrev pub cell_alone : Told → Told

@@ -3,9 +3,7 @@ use Rattle.std.specs.Prelude.{◌≡◌, ◌⊎◌, ℕ, ◌+◌, ◌<◌, ◌�
 use Rattle.kahn_pool.specs.inner.Below.{Answer, End, Gone, IsAt, IsCutShort, IsOpening, IsRight, IsWellWired, Kept, Lists, More, Pause, Program, Queues, StoodBy, Stream, Tapped, Token, Told, inputs_of, instance_at, kept_behind, most_values, network_of, nothing_gone, place_at, stream_line, stream_lines, tokens, told_view, waiting_of}
 use Rattle.kahn_pool.specs.inner.Bench.{AreEnds, HasEndIn, HasRunCell, IsLast, LacksMemory, RunState, all_events, events_at}
 use Rattle.kahn_code.specs.declared.progress.Pause.TheVariants as pause
-use Rattle.kahn_pool.specs.declared.rounds.Round.{Round}
-use Rattle.kahn_pool.specs.HeldRuns.{seen_at, seen_of}
-use Rattle.kahn_pool.specs.inner.Streams.{IsOpenStream, kept_lists, printed_list}
+use Rattle.kahn_pool.specs.{HeldRuns.seen_at, HeldRuns.seen_of, declared.rounds.Round.Round, inner.Streams.IsOpenStream, inner.Streams.kept_lists, inner.Streams.printed_list}
 
 -- the program and the input, the watched channel, the program of the code, the cells, what they let go of, and the queues
 pub record Table : Type 0 where
@@ -117,10 +115,7 @@ IsRightAlone t lists watch bound a = IsRight (network_of t) (inputs_of lists) bo
 
 -- it goes on for this input: so many values more wait on channel c, and nothing else changes
 pub record HasTakenIn (c n : ℕ) (input : Lists) (old new : Table) : Type 0 where
-  pub network : new.network ≡ old.network
-  pub lists : new.input ≡ input
-  pub watch : new.watch ≡ old.watch
-  pub gone : new.gone ≡ old.gone
+  pub rest : new ≡ record old { input = input; cells = new.cells; queues = new.queues }
   pub views : map told_view new.cells ≡ map told_view old.cells
   pub seen : map seen_of new.cells ≡ map seen_of old.cells
   pub waiting : (d : ℕ) → waiting_of (slice_get new.queues.queues d) ≡ waiting_of (slice_get old.queues.queues d) + (if c == d then n else 0)
