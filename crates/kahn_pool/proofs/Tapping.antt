@@ -1,5 +1,5 @@
 -- Taps over plain queues, one of which runs.
-use Rattle.std.proofs.Common.{arith, ◌≡◌, ◌⊎◌, inl, inr, ℕ, ◌<◌, ◌≤◌, List, [], ◌∷◌, ◌++◌, length, map, replicate, refl, sym, ap, ◌∙◌, subst, zero, suc, Option, Some, slice_get, slice_set, slice_index_or}
+use Rattle.std.proofs.Common.{arith, ◌≡◌, ◌⊎◌, inl, inr, ℕ, ◌<◌, ◌≤◌, List, ◌++◌, length, map, replicate, refl, sym, ap, ◌∙◌, subst, Option, Some, slice_get, slice_set, slice_index_or}
 use Rattle.kahn_pool.proofs.Common.{map-set_same, get_or-set_other, length-map, map-set, cases_eq, slice_get_read, Program, network_of, Lists, Gone, kept_behind, nothing_gone, Tapped, View, Pause, Kept, HasRunCell, RunState, events_at, no_view, view_at, kept_lists, printed_list, AreKeptOf, HaveChanged, none_of, IsLaid, IsLeft, HasWorked, Table, actual_count, gone_in, parameter_count, sight_of, table_of, told_in}
 use Rattle.kahn_code.specs.Lines.{Lines as Queues}
 use Rattle.kahn_pool.proofs.Benched.{get_map, mapped, ran, viewed}

@@ -34,14 +34,6 @@ fn instance_prints(network: &Network, printing: &[bool], instance: usize) -> boo
     }
 }
 
-// Whether a channel has a stream.
-fn has_stream(network: &Network, watch: Option<usize>, channel: usize) -> bool
-    requires { channel < length (network_of network.now).channels }
-    ensures { result ≡ is_streamed (network_of network.now) watch channel }
-{
-    network.channel(channel).role == Role::Output || watch == Some(channel)
-}
-
 // One line more, if it has a stream.
 fn add_line(lines: &mut Vec<Line>, has_one: bool, line: Line) -> Result<(), NoMemory>
     ensures { OnOk result (lines.new.items ≡ lines.old.items ++ cond has_one (line ∷ []) []) }
@@ -61,7 +53,7 @@ fn add_channels(
     ensures { OnOk result (lines.new.items ≡ lines.old.items ++ channel_lines watch (network_of network.now).channels 0) }
 {
     for channel in 0..network.channels() {
-        let has_one = has_stream(network, watch, channel);
+        let has_one = network.channel(channel).role == Role::Output || watch == Some(channel);
         add_line(lines, has_one, Line::Channel(channel))?;
     }
     Ok(())

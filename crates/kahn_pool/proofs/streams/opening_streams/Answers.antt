@@ -1,4 +1,4 @@
-use Rattle.std.proofs.Common.{◌<◌, ◌++◌, [], ◌∷◌, add-one, ap, ◌∙◌, length, take, sym, rules, subst}
+use Rattle.std.proofs.Common.{◌<◌, ◌++◌, [], ◌∷◌, add-one, ap, ◌∙◌, length, take, sym, rules}
 use Rattle.std.proofs.Math.Seq.{take-suc}
 use Rattle.kahn_pool.proofs.Common.{map-append, network_of, inputs_of, stream_line}
 use Rattle.kahn_pool.proofs.Giving.{opens_more}
