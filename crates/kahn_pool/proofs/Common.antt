@@ -38,10 +38,10 @@ pub use Rattle.kahn_pool.specs.declared.{held_fault.HeldFault.HeldFault, part.St
 pub use Rattle.kahn_pool.specs.inner.Bench.{AreEnds, AreStreams, HasEndIn, HasRunCell, IsConcluded, IsLast, IsPaused, IsVerdict, LacksMemory, PausedAt, RunState, all_events, events_at, view_events}
 pub use Rattle.kahn_pool.specs.inner.FlowBench.{AreLent, IsFlowOf, flow_of, let_go_by, let_go_of, run_of_bench}
 pub use Rattle.kahn_pool.specs.inner.Gathered.{IsFrom, IsGiven, IsOutcomeOf, TookAll, TookNoMore, no_view, view_at}
-pub use Rattle.kahn_pool.specs.inner.Holding.{AreEnded, AreHeld, AreHeldBy, HasEnded, HasRisen, HasStopped, HasStoppedPart, HaveRisen, IsGiving, IsHolding, cell_alone, held_state, run_of, run_with}
+pub use Rattle.kahn_pool.specs.inner.Holding.{AreEnded, AreHeld, AreHeldBy, HasEnded, HasRisen, HasStopped, HasStoppedPart, HaveRisen, IsHolding, cell_alone, held_state, run_of, run_with}
 pub use Rattle.kahn_pool.specs.inner.Rested.{AreEndsOfTasks, AreTold, IsDryOf, IsEndOf, IsLentTo, IsSaid, IsSettledTask, IsToldAs, SettlesTo, cell_of}
-pub use Rattle.kahn_pool.specs.inner.Streams.{AreAllGiven, AreAllOf, AreGiven, AreLists, AreNamed, HasBecome, HasInput, HasInputs, HaveBecome, HaveChanged, IsBegun, IsDeclared, IsFilled, KeepsOtherLines, kept_in, kept_lists, printed_in, printed_list}
-pub use Rattle.kahn_pool.specs.inner.Workbench.{AllStandBy, AreKeptOf, AreLeft, AreOpen, AreOpeningCells, AreStreamsReady, AreWhole, HasAdvanced, HasEmptied, HasComeToRest, HasTakenIn, HasTakenTurn, HasWorked, IsInRound, IsLaid, IsLeft, IsRightAlone, IsSeated, Marked, MayRun, StandsAsTold, Table, actual_count, all_of, gone_in, parameter_count, sight_of, table_of, told_in, turn_of, weight}
+pub use Rattle.kahn_pool.specs.inner.Streams.{AreAllGiven, AreGiven, AreLists, AreNamed, HaveChanged, IsBegun, IsDeclared, IsFilled, IsFilledStream, IsOpenStream, KeepsOtherLines, OpensWith, kept_in, kept_lists, printed_in, printed_list}
+pub use Rattle.kahn_pool.specs.inner.Workbench.{AllStandBy, AreKeptOf, AreOpen, AreOpeningCells, AreStreamsReady, AreWhole, HasAdvanced, HasEmptied, HasComeToRest, HasTakenIn, HasTakenTurn, HasWorked, IsInRound, IsLaid, IsLeft, IsRightAlone, IsSeated, Marked, MayRun, StandsAsTold, Table, actual_count, all_of, gone_in, parameter_count, sight_of, table_of, told_in, turn_of, weight}
 pub use Rattle.kahn_streams.proofs.By_number.{there}
 pub use Rattle.kahn_streams.proofs.Dry.{dry_reads}
 pub use Rattle.kahn_streams.proofs.Entered.{none_of}

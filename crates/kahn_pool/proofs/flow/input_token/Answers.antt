@@ -1,4 +1,4 @@
-use Rattle.kahn_pool.proofs.lent.input_token.Goals as goal
+use Rattle.kahn_pool.proofs.flow.input_token.Goals as goal
 use Rattle.kahn_streams.proofs.Given_values.{stands_given}
 
 pub token_for-requires : goal.token_for-requires

@@ -1,6 +1,6 @@
 use Rattle.std.proofs.Common.{◌≡◌, ◌++◌, map, take, vec_capacity}
 use Rattle.kahn_pool.proofs.Common.{token_value}
-use Rattle.kahn_pool.proofs.lent.lend.Given as goal
+use Rattle.kahn_pool.proofs.flow.lend.Given as goal
 
 abbrev pub invariant-loop-number : goal.invariant-loop-number
 invariant-loop-number l = record {
