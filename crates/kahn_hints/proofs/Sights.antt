@@ -42,6 +42,7 @@ counted (suc (suc n)) a b = refl
 -- the first names, and how many more there are
 pub told_joined : {A : Type 0} (f : A → Name) (xs told more : List A) (old one new : List ℕ) → told ≡ take 5 xs → more ≡ drop 5 xs
     → one ≡ old ++ listed_names (map f told) → new ≡ one ++ more_channels (length more) → new ≡ old ++ told_channels (map f xs)
+unfolding told_channels
 told_joined f xs told more old one new first others p q =
     q ∙ ap (λ t. t ++ more_channels (length more)) p ∙ append_assoc old (listed_names (map f told)) (more_channels (length more))
     ∙ ap (λ l. old ++ (listed_names l ++ more_channels (length more))) (ap (map f) first ∙ take_of_map f 5 xs)

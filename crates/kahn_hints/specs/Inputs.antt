@@ -25,7 +25,7 @@ more_channels (suc zero) = codes ", and 1 channel more"
 more_channels (suc (suc n)) = counted_channels (suc (suc n))
 
 -- the first five, and how many more there are
-abbrev pub told_channels : List Name → List ℕ
+unfoldable pub told_channels : List Name → List ℕ
 told_channels names = listed_names (take 5 names) ++ more_channels (length (drop 5 names))
 
 -- which there are
