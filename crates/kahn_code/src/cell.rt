@@ -6,11 +6,11 @@ ghost use Rattle.kahn_code.specs.inner.Gone.{nothing_gone};
 ghost use Rattle.kahn_code.specs.Standing.{Serve};
 ghost use Rattle.kahn_code.specs.Progress.{AreCounts, AreUnused, site_of, HasRunFor, IsAt, Told};
 
-use crate::code::Code;
+use crate::code::{Code, CodeFault};
 use crate::ports::Ports;
 use crate::progress::Pause;
 use crate::tap::Tap;
-use kahn_streams::{Carried, Input, NoMemory, Steps};
+use kahn_streams::{Carried, Input, Steps};
 use std::alloc::{Allocator, Global};
 use std::marker::Model;
 use std::sync::ledger::Ledger;
@@ -48,7 +48,7 @@ impl<A: Allocator + Copy + Drop> Cell<A> {
         code: &Code<A>,
         instance: usize,
         watch: Option<usize>,
-    ) -> Result<Cell<A>, NoMemory>
+    ) -> Result<Cell<A>, CodeFault>
         ghost input: { Lists }
         requires { instance < length (network_of code.now.network.value).instances }
         ensures names { IfOk result (λ c. (c.network ≡ code.now.network.value) × (c.input ≡ input) × (c.instance ≡ instance) × (c.watch ≡ watch)) }

@@ -21,7 +21,7 @@ mod tap;
 mod word;
 
 pub use cell::{Cell, Kept};
-pub use code::{Code, compile};
+pub use code::{Code, CodeFault, compile};
 pub use kahn_streams::Steps;
 pub use laws::compiles;
 pub use plain::Plain;

@@ -4,6 +4,7 @@ ghost use Rattle.std.specs.Prelude.{◌≡◌, ◌<◌, ◌^◌, IfOk, MatchResu
 ghost use Rattle.kahn_code.specs.Common.{Input as InputRole, network_of, role_at, IsWellWired, Lists, inputs_of, Names, action_row, form_row, codes};
 ghost use Rattle.kahn_code.specs.Lines.{AreFirst, AreQueued, HasPoured, IsPoured, Lines, actual_here, next_at, place_at, queue_of, spare_of, taken_of, waiting_of};
 
+use crate::code::CodeFault;
 use crate::ports::Ports;
 use crate::queue::{Queue, first_queues, give_all, regrow_all};
 use kahn_streams::{About, Input, Network, NoMemory, Token, Value};
@@ -32,7 +33,7 @@ impl<A: Allocator> Model for Plain<A> {
 impl<A: Allocator + Copy + Drop> Plain<A> {
     /// The queues of a network before anything was taken or put: each input channel has its whole list. It refuses only
     /// where memory was refused.
-    pub fn new(alloc: A, network: &Network, input: &Input) -> Result<Plain<A>, NoMemory>
+    pub fn new(alloc: A, network: &Network, input: &Input) -> Result<Plain<A>, CodeFault>
         ensures names { IfOk result (λ p. (p.network ≡ network.now) × (p.input ≡ input.now)) }
         ensures first { IfOk result (λ p. AreFirst network.now input.now p.queues) }
     {

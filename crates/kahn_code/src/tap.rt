@@ -9,11 +9,11 @@ ghost use Rattle.kahn_code.specs.Progress.{AreCounts, AreUnused, site_of, told_v
 ghost use Rattle.kahn_code.specs.inner.Tapped.{HasForgotten, Tapped, regrown_tap, tapped_of};
 
 use crate::cell::Kept;
-use crate::code::Code;
+use crate::code::{Code, CodeFault};
 use crate::plain::Plain;
 use crate::ports::Ports;
 use crate::progress::{Pause, Progress};
-use kahn_streams::{About, Carried, Input, Network, NoMemory, Steps};
+use kahn_streams::{About, Carried, Input, Network, Steps};
 use std::alloc::{Allocator, Global};
 use std::marker::Model;
 use std::sync::ledger::Ledger;
@@ -45,7 +45,7 @@ impl<A: Allocator + Copy + Drop> Tap<A> {
         code: &Code<A>,
         instance: usize,
         watch: Option<usize>,
-    ) -> Result<Tap<A>, NoMemory>
+    ) -> Result<Tap<A>, CodeFault>
         ghost input: { Lists }
         requires { instance < length (network_of code.now.network.value).instances }
         ensures names { IfOk result (λ c. (c.told.network ≡ code.now.network.value) × (c.told.input ≡ input) × (c.told.instance ≡ instance) × (c.told.watch ≡ watch)) }

@@ -10,7 +10,7 @@ use crate::awake::Awake;
 use crate::ends::channel_read;
 use crate::looks::{LONG_TURN, Looks};
 use crate::streams::fill;
-use kahn_code::{Code, Kept, Pause, Plain, Steps, Tap, compile, regrow_taps};
+use kahn_code::{Code, CodeFault, Kept, Pause, Plain, Steps, Tap, compile, regrow_taps};
 use kahn_streams::{About, Carried, Input, MOST_BOUND, Network, NoMemory, Outcome, Stream, Value};
 use std::alloc::Global;
 use std::marker::Model;
@@ -54,7 +54,7 @@ fn named_taps(
     code: &Code,
     _input: &Input,
     watch: Option<usize>,
-) -> Result<Vec<Tap>, NoMemory>
+) -> Result<Vec<Tap>, CodeFault>
     ghost input: { Lists }
     requires code { code.now.network.value ≡ network.now }
     ensures opening { IfOk result (λ taps. AreOpeningCells network.now input watch (map told_in taps.items) (length (network_of network.now).instances)) }
@@ -105,7 +105,7 @@ impl<'n> Bench<'n> {
         network: &'n Network,
         input: &Input,
         watch: Option<usize>,
-    ) -> Result<Bench<'n>, NoMemory>
+    ) -> Result<Bench<'n>, CodeFault>
         ensures names { IfOk result (λ b. (b.network ≡ network.now) × (b.input ≡ input.now) × (b.watch ≡ watch)) }
         ensures fresh { IfOk result (λ b. all_events (sight_of b) ≡ 0) }
         ensures whole { IfOk result (λ b. AreWhole (length (network_of network.now).instances) b.gone) }

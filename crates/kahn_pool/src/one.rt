@@ -10,9 +10,9 @@ use crate::bench::Bench;
 use crate::laws;
 use crate::rounds::{PartEnd, run_part_alone};
 use crate::streams::room_for_answer;
-use kahn_code::Kept;
+use kahn_code::{CodeFault, Kept};
 use kahn_crew::{Gate, Open, Plan};
-use kahn_streams::{Answer, Input, MOST_BOUND, Network, NoMemory, RunFault, Stream};
+use kahn_streams::{Answer, Input, MOST_BOUND, Network, RunFault, Stream};
 use std::alloc::Global;
 use std::marker::Brand;
 use std::sync::ledger::Blank;
@@ -51,7 +51,7 @@ pub(crate) fn run_alone<G: Gate>(
     input: &Input,
     plan: Plan,
     may_leave: bool,
-) -> Result<Option<Answer>, NoMemory>
+) -> Result<Option<Answer>, CodeFault>
     requires quantum { 0 < plan.quantum }
     requires bound { plan.bound < 2 ^ 48 }
     ensures { IfOk result (λ a. MatchOption a (may_leave ≡ true) (IsRightAlone network.now input.now plan.watch plan.bound)) }
@@ -74,7 +74,7 @@ pub(crate) fn run_watched<G: Gate>(
     network: &Network,
     input: &Input,
     plan: Plan,
-) -> Result<Answer, NoMemory>
+) -> Result<Answer, CodeFault>
     requires quantum { 0 < plan.quantum }
     requires bound { plan.bound < 2 ^ 48 }
     ensures { IfOk result (IsRightAlone network.now input.now plan.watch plan.bound) }

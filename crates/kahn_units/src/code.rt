@@ -7,8 +7,8 @@ ghost use Rattle.kahn_units.specs.inner.Standing.{IsOfSite};
 
 use crate::rationed::Rationed;
 use kahn_check::{Network, check};
-use kahn_code::{Cell, Code, Pause, Plain, Steps, compile};
-use kahn_streams::{Input, NoMemory, Value};
+use kahn_code::{Cell, Code, CodeFault, Pause, Plain, Steps, compile};
+use kahn_streams::{Input, Value};
 use kahn_syntax::parse;
 use std::alloc::{Allocator, Global};
 use std::marker::Brand;
@@ -50,7 +50,7 @@ fn named<A: Allocator + Copy + Drop>(
     network: &Network,
     code: &Code<A>,
     _input: &Input,
-) -> Result<Cell<A>, NoMemory>
+) -> Result<Cell<A>, CodeFault>
     ghost input: { Lists }
     requires code { code.now.network.value ≡ network.now }
     requires here { 0 < length (network_of network.now).instances }
@@ -65,7 +65,7 @@ fn opening<A: Allocator + Copy + Drop>(
     alloc: A,
     network: &Network,
     input: &Input,
-) -> Result<(Code<A>, Cell<A>, Plain<A>), NoMemory>
+) -> Result<(Code<A>, Cell<A>, Plain<A>), CodeFault>
     requires { 0 < length (network_of network.now).instances }
     ensures code { IfOk result (λ o. o.0.network.value ≡ o.1.network) }
     ensures stands { IfOk result (λ o. IsOfSite o.1 o.2) }
