@@ -34,6 +34,12 @@ def parts(names):
     return [name.strip() for name in names.strip("{}; ").split(",") if name.strip()]
 
 
+def module_at(path):
+    """The file of specs/ that a path names, as `crate/File`, or none."""
+    found = re.match(r"Rattle\.(kahn\w*)\.specs\.(?!declared\.|contracts\.|formers\.)([\w.'-]+)$", path)
+    return f"{found.group(1)}/{found.group(2).replace('.', '/')}" if found else None
+
+
 class Names:
     """What the `use` lines of a text mean: a name for (module, definition), and a module's name for (module, None)."""
 
@@ -42,13 +48,12 @@ class Names:
         for line in re.findall(rf"(?m)^{start}use (Rattle\.kahn[^;\n]*(?:{{[^}}]*}})?[^;\n]*)", text):
             path, brace, names = line.strip().partition("{")
             path, _, other = path.strip().rstrip(".").partition(" as ")
-            found = re.match(r"Rattle\.(kahn\w*)\.specs\.(?!declared\.|contracts\.|formers\.)([\w.'-]+)$", path)
-            module = f"{found.group(1)}/{found.group(2).replace('.', '/')}" if found else None
             for each in parts(names):
                 old, _, new = each.partition(" as ")
-                self.of[(new or old).strip()] = (module, old.strip())
+                place, _, name = f"{path}.{old.strip()}".rpartition(".")
+                self.of[new.strip() or name] = (module_at(place), name)
             if not brace:
-                self.of[other.strip() or path.rsplit(".", 1)[-1]] = (module, None)
+                self.of[other.strip() or path.rsplit(".", 1)[-1]] = (module_at(path), None)
 
     def meant(self, text):
         """The (module, definition) that the words of a text may mean."""

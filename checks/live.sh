@@ -200,6 +200,23 @@ A=1=2|not a value: \`1=2\`$values
 A|not a name and a colon; a colon stands behind the name
 END
 yes 1 | gives "a value at the end that is refused, before all else" 6 '' "$double"': --at-end: not a value: `x`'"$values"'\n' "$double" --plain A --at-end x
+# of more channels than five the first five are told, and how many more there are
+for inputs in A,B,C,D,E A,B,C,D,E,F A,B,C,D,E,F,G; do
+  cat > several.kahn << P
+begin integer input channel $inputs; integer output channel O;
+  process first(integer in U; integer out W); begin repeat send wait(U) on W end;
+  process drain(integer in U); begin integer X; repeat X := wait(U) end;
+  first(A, O)$(tr , '\n' <<< "${inputs#A,}" | sed 's/.*/ par drain(&)/' | tr -d '\n')
+end
+P
+  told='`A`, `B`, `C`, `D` and `E`'
+  case $inputs in
+    *G) told+=', and 2 channels more' ;;
+    *F) told+=', and 1 channel more' ;;
+  esac
+  gives "a line of no channel among ${inputs}" 6 '' "several.kahn: --at-end: no such channel: \`ZZZ\`; input channels: $told\n" several.kahn --at-end ZZZ=1 < /dev/null
+  gives "a line of no input among ${inputs}" 6 '' "several.kahn: --at-end: not an input channel: \`O\`; input channels: $told\n" several.kahn --at-end O=1 < /dev/null
+done
 # only when it is fed shows that too many values would wait
 { printf 'A:' && yes ' 1' | head -n 1048576 | tr -d '\n'; } > lines
 gives "too many values at the end" 3 'end 1 double: wants more after 2\nstopped by bound 2\n' \

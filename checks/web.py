@@ -49,6 +49,13 @@ end
 """
 
 
+LONG = """begin integer output channel X;
+  process a(integer out W); begin integer I; repeat begin I := I + 1; send I on W end end;
+  a(X)
+end
+"""
+
+
 def cases():
     """Those rows whose words are a bound at most: (name, program, input, bound). A page has no limits of processor time."""
     for name, files in [*rows.kept_rows(), *rows.table_rows(), *rows.families.rows()]:
@@ -135,6 +142,20 @@ def try_fields(page, path, tried):
     page.value("at('stop').click()")
     page.wait(settled)
     tried.same("a run that is stopped by hand", page.value("at('report').textContent"), "kahn: stopped by hand\n")
+    fill(page, ENDLESS, "", MOST_BOUND)
+    page.value("at('run').click()")
+    page.wait("!at('stop').disabled && !!worker")
+    page.value("void (at('example').value = 'squares', at('example').onchange())")
+    page.wait(settled)
+    tried.same("an example during a run", page.value("at('report').textContent"), open(f"{TOP}/examples/squares.report", encoding="utf-8").read())
+    fill(page, ENDLESS, "", "5000000")
+    page.value("void (at('run').click(), at('program').value += ' ')")
+    page.wait(settled)
+    tried.same("a text that is changed during a run", page.value("at('state').textContent.split(', ').at(-1)"), "of the texts before they were changed")
+    fill(page, LONG, "", "200000")
+    page.value("at('run').click()")
+    page.wait(settled)
+    tried.same("a long line", page.value("/ \\.\\. and [0-9]+ more$/m.test(at('report').textContent)"), True)
     fill(page, ENDLESS, "", "7")
     fragment = page.value("at('link').getAttribute('href')")
     page.open(path, fragment)

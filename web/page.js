@@ -3,6 +3,9 @@
 const at = (id) => document.getElementById(id);
 const MOST_EVENTS = 1000000;
 
+// So many characters of a line of a report are shown: a browser takes seconds to lay out a million.
+const MOST_SHOWN = 20000;
+
 // The bound as digits, however it was written (1e3); an empty field stands for the one that the program has of itself.
 function boundText() {
   const bound = at("bound").valueAsNumber;
@@ -73,12 +76,24 @@ function linesOf(text) {
   });
 }
 
-function show({ status, report, picture, reasons, time }, program) {
+// The lines of a report, the long ones up to a value.
+function shownOf(text) {
+  return text.split("\n").map((line) => {
+    if (line.length <= MOST_SHOWN) return line;
+    const end = line.lastIndexOf(" ", MOST_SHOWN);
+    return `${line.slice(0, end)} .. and ${line.slice(end + 1).split(" ").length} more`;
+  }).join("\n");
+}
+
+// Shows what a run told of texts, which may have been changed meanwhile.
+function show({ status, report, picture, reasons, time }, asked) {
   const text = new TextDecoder().decode(report), why = whyOf(reasons);
-  const place = placeOf(text, program);
-  at("report").textContent = text;
+  const isOld = Object.entries(texts()).some(([name, it]) => it !== asked[name]);
+  const place = isOld ? undefined : placeOf(text, asked.program);
+  at("report").textContent = shownOf(text);
   at("report").classList.toggle("fault", text.startsWith("kahn: "));
-  at("state").textContent = status === 7 ? "no answer" : `status ${status}: ${STATES[status]}${why.includes("in a deadlock") ? ", in a deadlock" : ""}, ${time.toFixed(1)} ms`;
+  const state = status === 7 ? "no answer" : `status ${status}: ${STATES[status]}${why.includes("in a deadlock") ? ", in a deadlock" : ""}, ${time.toFixed(1)} ms`;
+  at("state").textContent = isOld ? `${state}, of the texts before they were changed` : state;
   at("place").hidden = !place;
   if (place) {
     at("place").textContent = `Go to line ${place.line}, column ${place.column}`;
@@ -92,15 +107,28 @@ function show({ status, report, picture, reasons, time }, program) {
   at("picture").hidden = at("network").hidden = picture.length === 0;
 }
 
-async function runTexts() {
-  if (at("run").disabled) return;
+let runs = 0, last = Promise.resolve();
+
+// Runs the texts, unless others are to be run by then.
+async function runOnce(number) {
+  if (number !== runs) return;
   at("run").disabled = true;
   at("stop").disabled = false;
   at("state").textContent = "runs";
-  const { program, input, bound } = texts();
-  show(await run(program, input, bound), program);
+  const asked = texts();
+  const answer = await run(asked.program, asked.input, asked.bound);
+  if (number !== runs) return;
+  show(answer, asked);
   at("run").disabled = false;
   at("stop").disabled = true;
+}
+
+// Runs the texts. A run that goes on is given up.
+function runTexts() {
+  const number = (runs += 1);
+  if (at("run").disabled) stop("given up");
+  last = last.then(() => runOnce(number));
+  return last;
 }
 
 // The link carries the texts behind its #, which no browser sends to anybody.

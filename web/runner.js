@@ -66,7 +66,7 @@ function work() {
   };
 }
 
-let worker, settle;
+let worker, settle, stops = 0;
 
 function asked(message) {
   return new Promise((done) => {
@@ -86,6 +86,7 @@ async function start() {
 
 // Ends the worker, and the run that it is at, which answers with this fault.
 function stop(fault) {
+  stops += 1;
   worker?.terminate();
   worker = undefined;
   settle?.({ fault });
@@ -94,8 +95,10 @@ function stop(fault) {
 // One run: its status, the bytes of its report or fault line, those of the network's picture and of why it stopped or what is
 // refused, and the milliseconds that the run took.
 async function run(program, input, bound) {
+  const before = stops;
   const made = worker ? {} : await start();
-  const answer = made.fault ? made : await asked({ program, input, bound });
+  const ready = stops === before ? made : { fault: "stopped by hand" };
+  const answer = ready.fault === undefined ? await asked({ program, input, bound }) : ready;
   if (answer.fault === undefined) return answer;
   stop("");
   return { status: 7, report: new TextEncoder().encode(`kahn: ${answer.fault}\n`), picture: new Uint8Array(0), reasons: new Uint8Array(0), time: 0 };

@@ -1,5 +1,5 @@
 -- The steps on the words budget, count and halted.
-use Rattle.kahn_board.proofs.Common.{◌≡◌, ℕ, ◌+◌, ◌-◌, ◌*◌, ◌%◌, ◌^◌, ◌<◌, ◌≤◌, ◌≢◌, ◌⊎◌, inl, inr, eqb, List, drop, length, get_or, set, sym, refl, ap, ◌∙◌, subst, arith, Option, length-set, get_or-set_same, get_or-set_other, dite, ℕ_discrete, some, none, get_elem?, set-get_or, either, step, keeps, stepped, Allows, exchanged, Summary, Wires, Owed, Owes, is_up, Place, ready, held, parked, over, St, Deal, Whole, budget, count, halted, Sat, after_step, after_looking, after_drawing, after_reporting, after_giving_back, after_counting_up, after_counting_down, after_halting, drew, sees_halted, sees_count, sees_budget, View, becomes}
+use Rattle.kahn_board.proofs.Common.{◌≡◌, ℕ, ◌+◌, ◌-◌, ◌*◌, ◌%◌, ◌^◌, ◌<◌, ◌≤◌, ◌≢◌, ◌⊎◌, inl, inr, eqb, List, drop, length, get_or, set, sym, refl, ap, ◌∙◌, subst, arith, Option, length-set, get_or-set_same, get_or-set_other, dite, ℕ_discrete, some, none, get_elem?, set-get_or, either, step, keeps, stepped, Allows, exchanged, Summary, Wires, Owed, Owes, is_up, Place, ready, held, parked, over, St, Deal, Whole, budget, count, halted, Sat, after_step, after_looking, after_reporting, after_giving_back, after_counting_up, after_counting_down, after_halting, drew, sees_halted, sees_count, sees_budget, View, becomes}
 use Rattle.kahn_board.proofs.Sums.{term_le}
 use Rattle.kahn_board.proofs.Counting.{below-le, below-term}
 use Rattle.kahn_board.proofs.Quiet.{owed_less, downs_few}
@@ -84,7 +84,7 @@ module _ {T : Type 0} (told : T → Option Summary) (belongs : ℕ → T → Typ
   draws n id m i old new fit at less none_left s a wide me _ = let r : ℕ = get_or s.words i 0 in
       exchanged r old new (Goes told belongs w d s i id m (drew (step n i old new none) m))
       (λ hit. (
-        after_drawing m.0 (old - new),
+        record (after_step m.0) { drawn = old - new },
         keeps,
         tt,
         budgets s a i new id m (old - new) m.0.done m.0.untold me fit at (omega (arith, hit)) refl,

@@ -17,13 +17,9 @@ pub mod Returns
 pub mod Hot
 pub mod Ends
 pub mod Woken
-pub mod Wired
-pub mod Emptied
 pub mod Sole
 pub mod Limits
-pub mod Drawn
 pub mod Left
 pub mod Passed
 pub mod Joined
-pub mod Kept
 pub mod Placed

@@ -2,7 +2,7 @@
 use Rattle.kahn_board.proofs.Common.{◌≡◌, ℕ, ◌+◌, ◌*◌, ◌^◌, ◌<◌, eqb, ◌∷◌, arith, sym, refl, ap, ◌∙◌, subst, Option, Some, none, either, rest, step, Allows, Summary, TellsWait, TellsEnd, Wires, Deal, Whole, ready, over, word_code, Sat, IsIn, set_down, parked_or_not, first_of, publishes, IsFirstSlot, IsSameSeat, KeepsAll, Leaves, MayLeave, OwesFew, wired, Board, Seat}
 use Rattle.kahn_board.proofs.Steps.{sets_down, parks, publishing}
 use Rattle.kahn_board.proofs.Seconds.{Fit}
-use Rattle.kahn_board.specs.Dealt.{belongs as belong}
+use Rattle.kahn_board.specs.Rule.{belongs as belong}
 use Rattle.kahn_board.proofs.Counting.{inside_of}
 use Rattle.kahn_board.proofs.Placed.{placed}
 use Rattle.kahn_board.proofs.Seats.{at_front}

@@ -1,5 +1,6 @@
 -- A seat that told a number and set down the reader that it woke.
-use Rattle.kahn_board.proofs.Common.{◌≡◌, ◌≢◌, ℕ, ◌+◌, ◌-◌, ◌*◌, ◌<◌, List, [], ◌∷◌, ◌++◌, drop, length, get_or, set, inl, inr, sym, refl, ap, ◌∙◌, subst, arith, Option, Some, None, get_or-set_same, get_or-set_other, TableId, Summary, TellsEvents, events_past, Wires, Owed, Facts, Carries, Sat, IsIn, Got, after_taking, after_giving_up, after_waking, after_counting_up, View, InTurn, HasPublished}
+use Rattle.kahn_board.proofs.Common.{◌≡◌, ◌≢◌, ℕ, ◌-◌, ◌<◌, [], ◌∷◌, ◌++◌, drop, get_or, set, inl, inr, sym, refl, ap, ◌∙◌, subst, arith, Option, Some, None, get_or-set_same, get_or-set_other, Summary, TellsEvents, events_past, Wires, Owed, Carries, Sat, IsIn, Got, after_taking, after_giving_up, after_waking, after_counting_up, View, InTurn, HasPublished}
+use Rattle.kahn_board.proofs.Seconds.{Fit}
 use Rattle.kahn_board.proofs.Woken.{hand_again}
 
 no_more : (t : Option Summary) (e k : ℕ) → TellsEvents t e → k ≡ e → events_past t k - k ≡ 0
@@ -7,25 +8,11 @@ no_more None e k tells is = omega arith
 no_more (Some t) e k tells is = omega (arith, tells, is)
 
 module _ {T : Type 0} (told : T → Option Summary) (belongs : ℕ → T → Type 0) (w : Wires) where
-  -- of what stays where the reader of the channel c was woken
-  pub record Woke (m : Sat T) (c count r q : ℕ) (y : T) (n : Sat T) : Type 0 where
-    pub taken : Got told belongs w (after_waking m.0 c count r q, m.1) r n y
-    pub reader : r < length m.0.events_when_got
-    pub channel : c < length m.0.flushed
-
-  pub woke : (m : Sat T) (c count r q : ℕ) (y : T) (n : Sat T) (instances channels : ℕ) (z z' : TableId) (items : List ℕ) (room : ℕ) → Facts m z items room → z ≡ z' → (z'.words ≡ 8 * (instances + channels) + 24) × (z'.slots ≡ instances) → (w.instances ≡ instances) × (w.channels ≡ channels)
-      → Got told belongs w (after_waking m.0 c count r q, m.1) r n y → r < w.instances → c < channels → Woke m c count r q y n
-  woke m c count r q y n instances channels z z' items room f same sized wired got inside near = let words = ap (λ (k : TableId). k.words) same in let slots = ap (λ (k : TableId). k.slots) same in record {
-    taken = got;
-    reader = omega (arith, f.7, slots, sized.1, wired.0);
-    channel = omega (arith, f.2, words, slots, sized.0, sized.1);
-  }
-
-  pub passes : (m n k j : Sat T) (p c count r q : ℕ) (y : T) → Woke m c count r q y n → k ≡ (after_counting_up n.0, n.1)
+  pub passes : (m n k j : Sat T) (p c count r q : ℕ) (y : T) → Fit w m → Got told belongs w (after_waking m.0 c count r q, m.1) r n y → r < w.instances → k ≡ (after_counting_up n.0, n.1)
       → ((z : T) → Carries k.1 r (Some z) → j.0 ≡ after_giving_up k.0 r (told z) 0) → ((s : ℕ) (x : Option T) → s ≢ r → Carries k.1 s x → Carries j.1 s x)
       → IsIn m.0 p → p < w.instances → c < w.channels → w.writer c ≡ Some p
       → ((i l : ℕ) (x : Option T) → InTurn p i l x m → InTurn p i l x j) × HasPublished w p c count m.0 j.0 × (j.0.parts ≡ m.0.parts) × (j.0.raised ≡ m.0.raised)
-  passes m n k j p c count r q y woke is given kept mine inside near writes = let got = woke.taken in let L = got.0 in let e = got.1 in let seen = got.2 in
+  passes m n k j p c count r q y fit got reads is given kept mine inside near writes = let L = got.0 in let e = got.1 in let seen = got.2 in
       let N : Sat T = (after_taking (after_waking m.0 c count r q) r L e seen, (r, Some y) ∷ m.1) in
       let K : Sat T = (after_counting_up N.0, N.1) in
       let k_is : k ≡ K = is ∙ ap (λ (z : Sat T). (after_counting_up z.0, z.1)) got.3 in
@@ -33,9 +20,9 @@ module _ {T : Type 0} (told : T → Option Summary) (belongs : ℕ → T → Typ
       let J : View = after_giving_up K.0 r (told y) 0 in
       let j_is : j.0 ≡ J = out ∙ ap (λ (z : Sat T). after_giving_up z.0 r (told y) 0) k_is in
       let apart : p ≢ r = (λ same. absurd (omega (arith, mine, got.4, ap (λ (z : ℕ). get_or m.0.hands z 0) same))) in
-      let no_loose : events_past (told y) (get_or (set m.0.events_when_got r e) r 0) - get_or (set m.0.events_when_got r e) r 0 ≡ 0 = no_more (told y) e (get_or (set m.0.events_when_got r e) r 0) got.8 (get_or-set_same m.0.events_when_got r e 0 woke.reader) in
+      let no_loose : events_past (told y) (get_or (set m.0.events_when_got r e) r 0) - get_or (set m.0.events_when_got r e) r 0 ≡ 0 = no_more (told y) e (get_or (set m.0.events_when_got r e) r 0) got.8 (get_or-set_same m.0.events_when_got r e 0 (omega (arith, fit.got_long, reads))) in
       let tells : HasPublished w p c count m.0 J = record {
-        here = got.6 p c inside near mine writes ∙ get_or-set_same m.0.flushed c count 0 woke.channel;
+        here = got.6 p c inside near mine writes ∙ get_or-set_same m.0.flushed c count 0 (omega (arith, fit.flushed_long, near));
         others = λ d ne below wrote. got.6 p d inside below mine wrote ∙ get_or-set_other m.0.flushed c d count 0 (λ f. ne f);
         events_when_got = get_or-set_other m.0.events_when_got r p e 0 (λ f. apart f);
         seen = got.9;

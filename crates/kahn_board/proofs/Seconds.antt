@@ -1,10 +1,10 @@
 -- The steps that move no instance, that take one, and that give one up.
-use Rattle.kahn_board.proofs.Common.{◌≡◌, ℕ, zero, suc, ◌+◌, ◌*◌, ◌/◌, ◌%◌, ◌^◌, ◌<◌, ◌≤◌, ◌≢◌, ◌⊎◌, inl, ⊎_elim, List, [], ◌∷◌, length, get_or, set, sym, refl, ap, ◌∙◌, subst, arith, Option, Some, length-set, get_or-set_same, get_or-set_other, some, none, some-injective, some-ne-none, get_elem?, takes, gives, stepped, set_here, set_else, same_Some, Summary, TellsWait, TellsEnd, TellsEvents, events_past, Wires, Owed, Owes, is_up, Leaves, Place, held, parked, over, word_code, held_by, parked_on, mark_of, moved, Sat, IsIn, SeesMore, after_step, after_taking, after_giving_up, St, Deal, published, budget, count, halted, HasSlot, IsHome, HomeIs, Ruled, Whole, View}
-use Rattle.kahn_board.proofs.Moved.{at_moved, moved_here, moved_else, held_yes, held_no, held_apart, parked_yes}
+use Rattle.kahn_board.proofs.Common.{◌≡◌, ℕ, zero, suc, ◌+◌, ◌*◌, ◌/◌, ◌%◌, ◌^◌, ◌<◌, ◌≤◌, ◌≢◌, ◌⊎◌, inl, ⊎_elim, List, [], ◌∷◌, length, get_or, set, sym, refl, ap, ◌∙◌, subst, arith, Option, Some, length-set, get_or-set_same, get_or-set_other, some, none, some-injective, some-ne-none, get_elem?, takes, gives, stepped, set_here, set_else, same_Some, Summary, TellsWait, TellsEnd, TellsEvents, events_past, Wires, Owed, Owes, is_up, Leaves, Place, held, parked, over, word_code, held_by, parked_on, mark_of, Sat, IsIn, SeesMore, after_step, after_taking, after_giving_up, St, Deal, published, budget, count, halted, HasSlot, IsHome, HomeIs, Ruled, Whole, View}
+use Rattle.kahn_board.proofs.Moved.{moved, at_moved, moved_here, moved_else, only_yes, only_no, held_apart}
 use Rattle.kahn_board.proofs.Counting.{inside_of}
 use Rattle.kahn_board.proofs.Sums.{there}
 use Rattle.kahn_board.proofs.Keeps.{Stays, at_one, kept}
-use Rattle.kahn_board.proofs.Changes.{ups_moved, putting, put_here, put_else, sum_put, owes_less, tells_past, accounted}
+use Rattle.kahn_board.proofs.Changes.{ups_moved, sum_put, owes_less, tells_past, accounted}
 use mathlib.Core.Option as maybe
 
 abbrev pub half : ℕ → ℕ
@@ -156,12 +156,12 @@ module _ {T : Type 0} (told : T → Option Summary) (belongs : ℕ → T → Typ
           word_is = word_is ∙ ap word_code (sym is);
           cell_is = subst (λ (x : Place). HasSlot x (get_elem? hs p)) (sym is) at_p;
           seated = λ j e. omega (arith, length-set s.views id v', held_apart j id (sym e ∙ is), there s.views id v me);
-          reads = λ c e. absurd (omega (arith, ap (parked_on c) (sym is ∙ e), parked_yes c));
+          reads = λ c e. absurd (omega (arith, ap (parked_on c) (sym is ∙ e), only_yes c));
         };
-        theirs = λ h j ne. (free j, ap (held_by j) is ∙ held_no j id (λ e. ne (sym e)));
+        theirs = λ h j ne. (free j, ap (held_by j) is ∙ only_no j id (λ e. ne (sym e)));
         cell = λ z h e. absurd (some-ne-none (Some z) (some-injective (some (Some z)) none (sym e ∙ at_p)));
         own = record {
-          hands = λ q. at_moved (λ l x. l < w.instances → get_or (set v.hands p 1) l 0 ≡ held_by id x) place p (held id) q (λ _. get_or-set_same v.hands p 1 0 (omega (arith, fit.hands_long)) ∙ sym (held_yes id)) (λ ne h. get_or-set_other v.hands p q 1 0 ne ∙ o.hands q h);
+          hands = λ q. at_moved (λ l x. l < w.instances → get_or (set v.hands p 1) l 0 ≡ held_by id x) place p (held id) q (λ _. get_or-set_same v.hands p 1 0 (omega (arith, fit.hands_long)) ∙ sym (only_yes id)) (λ ne h. get_or-set_other v.hands p q 1 0 ne ∙ o.hands q h);
           inside = λ q h. let t = inside_of (set v.hands p 1) q h in omega (arith, length-set v.hands p 1, fit.hands_long);
           known = λ q c h one near_c writes. half_at w ws c near_c;
           events_when_got = λ q. at_one (λ l. l < w.instances → get_or (set v.hands p 1) l 0 ≡ 1 → get_or (set v.events_when_got p (tally p)) l 0 ≡ tally l) q p (λ h one. get_or-set_same v.events_when_got p (tally p) 0 (omega (arith, fit.got_long)))
@@ -196,7 +196,7 @@ module _ {T : Type 0} (told : T → Option Summary) (belongs : ℕ → T → Typ
       → is_up x + more ≡ 1 → Leaves told belongs w v p y → v.down < 2 ^ 32
       → Whole told belongs w d (stepped s i k id ((p, Some y) ∷ rest) (after_giving_up v p (told y) more) gives)
   give_step i k id v rest p y x more me fit inside is_in near was free word_is words_are marks same stands waits ends ups leaves few = let ws = set s.words i k in let hs : List (maybe.Option (Option T)) = set s.homes p (some (Some y)) in let o = r.seats id v me in
-      let hots = hot w s.words i k near in let v' : View = after_giving_up v p (told y) more in let place' = moved place p x in let g = get_or v.events_when_got p 0 in let e' = events_past (told y) g in let tally' : ℕ → ℕ = putting tally p e' in
+      let hots = hot w s.words i k near in let v' : View = after_giving_up v p (told y) more in let place' = moved place p x in let g = get_or v.events_when_got p 0 in let e' = events_past (told y) g in let tally' : ℕ → ℕ = moved tally p e' in
       let acc = accounted (told y) g v.untold leaves.1 in let acc₀ = acc.0 in let acc₁ = acc.1 in
       let at_p : get_elem? hs p ≡ some (some (Some y)) = set_here s.homes p (some (Some y)) (omega (arith, r.deep)) in
       let is : place' p ≡ x = moved_here place p x in
@@ -204,27 +204,27 @@ module _ {T : Type 0} (told : T → Option Summary) (belongs : ℕ → T → Typ
         mine = me;
         wide = length-set s.words i k;
         deep = length-set s.homes p (some (Some y));
-        elsewhere = λ q h ne. (words_are q h ne, moved_else place p x q ne, put_else tally p e' q ne, set_else s.homes p q (some (Some y)) ne);
+        elsewhere = λ q h ne. (words_are q h ne, moved_else place p x q ne, moved_else tally p e' q ne, set_else s.homes p q (some (Some y)) ne);
         its = λ h. record {
           word_is = word_is ∙ ap word_code (sym is);
           cell_is = subst (HasSlot (place' p)) (sym at_p) (subst (λ (z : Place). HasSlot z (some (some (Some y)))) (sym is) stands);
-          seated = λ j e. absurd (omega (arith, ap (held_by j) (sym is ∙ e), free j, held_yes j));
+          seated = λ j e. absurd (omega (arith, ap (held_by j) (sym is ∙ e), free j, only_yes j));
           reads = λ c e. let t = waits c (sym is ∙ e) in (t.0, t.1);
         };
-        theirs = λ h j ne. (ap (held_by j) was ∙ held_no j id (λ e. ne (sym e)), ap (held_by j) is ∙ free j);
+        theirs = λ h j ne. (ap (held_by j) was ∙ only_no j id (λ e. ne (sym e)), ap (held_by j) is ∙ free j);
         cell = λ z h home. let same_cell : y ≡ z = same_Some y z (some-injective (Some y) (Some z) (some-injective (some (Some y)) (some (Some z)) (sym at_p ∙ home))) in subst (λ (u : T). HomeIs told belongs w place' tally' ws p u) same_cell record {
           waits = λ c e. (waits c (sym is ∙ e)).2;
           ends = λ e. ends (sym is ∙ e);
           flushes = λ c l tells. let t = leaves.0 c l tells in (t.0, t.1, t.2 ∙ (o.known p c inside is_in t.0 t.1 ∙ sym (same c t.0)));
           flushed_all = λ z. ⊎_elim (λ two. absurd (o.saw_halted two (sym hots.halted_same ∙ z))) (λ f. f) leaves.2;
-          tells = subst (TellsEvents (told y)) (sym (put_here tally p e')) (tells_past (told y) g);
+          tells = subst (TellsEvents (told y)) (sym (moved_here tally p e')) (tells_past (told y) g);
           belonging = leaves.4;
         };
         own = record {
           hands = λ q. at_moved (λ l z. l < w.instances → get_or (set v.hands p 0) l 0 ≡ held_by id z) place p x q (λ _. get_or-set_same v.hands p 0 0 (omega (arith, fit.hands_long)) ∙ sym (free id)) (λ ne h. get_or-set_other v.hands p q 0 0 ne ∙ o.hands q h);
           inside = λ q h. let t = inside_of (set v.hands p 0) q h in omega (arith, length-set v.hands p 0, fit.hands_long);
           known = λ q c h one near_c writes. o.known q c h (still_in q one).1 near_c writes ∙ sym (same c near_c);
-          events_when_got = λ q h one. let t = still_in q one in o.events_when_got q h t.1 ∙ sym (put_else tally p e' q t.0);
+          events_when_got = λ q h one. let t = still_in q one in o.events_when_got q h t.1 ∙ sym (moved_else tally p e' q t.0);
           pairs = owes_less v.hands p v.owed leaves.3 o.pairs;
           few = omega (arith, fit.alive, few, ups);
           saw_quiet = λ e. hots.count_same ∙ o.saw_quiet e;

@@ -7,6 +7,15 @@ use Rattle.std.proofs.lemmas.List.{get_or_default}
 use Rattle.std.proofs.lemmas.List.Folds.{Any-from_list_any, list_any_at}
 use Rattle.std.proofs.lemmas.List.Sums.{position_or_len_is}
 use Rattle.kahn_streams.specs.Syntax as S
+use Rattle.std.proofs.lemmas.List.Quantifiers.{position-Some}
+
+pub reader_in : (program : Program) (c p : ℕ) → (wires program).reader c ≡ Some p → p < (wires program).instances
+unfolding wires
+reader_in program c p e = (position-Some (λ i. list_any (λ a. is_read a c) i.actuals) (network_of program).instances p idle e).0
+
+pub writer_in : (program : Program) (c p : ℕ) → (wires program).writer c ≡ Some p → p < (wires program).instances
+unfolding wires
+writer_in program c p e = (position-Some (λ i. list_any (λ a. is_written a c) i.actuals) (network_of program).instances p idle e).0
 
 abbrev pub nothing : Actual
 nothing = Hands (S.Number (pos 0))

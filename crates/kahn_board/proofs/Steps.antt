@@ -1,6 +1,6 @@
 -- What a call owes at each step on a word.
-use Rattle.kahn_board.proofs.Common.{◌≡◌, ℕ, ◌+◌, ◌*◌, ◌/◌, ◌%◌, ◌^◌, ◌<◌, ◌≢◌, ◌⊎◌, inl, inr, List, [], ◌∷◌, ◌++◌, length, get_or, set, sym, refl, ap, ◌∙◌, subst, arith, Option, Some, None, length-set, get_or-set_same, get_or-set_other, eqb, dite, ℕ_discrete, some, none, get_elem?, set-get_or, either, none-some, same_Some, step, Act, keeps, takes, gives, Valid, carried_after, stepped, Allows, exchanged, Summary, TellsWait, TellsEnd, FlushedAll, Wires, is_up, Leaves, Place, ready, held, parked, over, word_code, held_by, parked_on, mark_of, moved, Sat, SeesMore, IsIn, Got, after_step, after_taking, after_giving_up, with_published, after_waking, claimed, set_down, parked_or_not, publishes, St, Deal, Whole, IsHome, HasSlot, published, halted, View}
-use Rattle.kahn_board.proofs.Moved.{at_moved, moved_here, is_held, parked_yes, parked_no, is_parked, parked_apart, code_ready}
+use Rattle.kahn_board.proofs.Common.{◌≡◌, ℕ, ◌+◌, ◌*◌, ◌/◌, ◌%◌, ◌^◌, ◌<◌, ◌≢◌, ◌⊎◌, inl, inr, List, [], ◌∷◌, ◌++◌, length, get_or, set, sym, refl, ap, ◌∙◌, subst, arith, Option, Some, None, length-set, get_or-set_same, get_or-set_other, eqb, dite, ℕ_discrete, some, none, get_elem?, set-get_or, either, none-some, same_Some, step, Act, keeps, takes, gives, Valid, carried_after, stepped, Allows, exchanged, Summary, TellsWait, TellsEnd, FlushedAll, Wires, is_up, Leaves, Place, ready, held, parked, over, word_code, held_by, parked_on, mark_of, Sat, SeesMore, IsIn, Got, after_step, after_taking, after_giving_up, with_published, after_waking, claimed, set_down, parked_or_not, publishes, St, Deal, Whole, IsHome, HasSlot, published, halted, View}
+use Rattle.kahn_board.proofs.Moved.{moved, at_moved, moved_here, is_held, only_yes, only_no, is_parked, parked_apart, code_ready}
 use Rattle.kahn_board.proofs.Sums.{term_le}
 use Rattle.kahn_board.proofs.Counting.{below-term}
 use Rattle.kahn_board.proofs.Changes.{owes_more, owes_woken, one_longer}
@@ -96,7 +96,7 @@ module _ {T : Type 0} (told : T → Option Summary) (belongs : ℕ → T → Typ
     tt,
     give_step told belongs w d s a.place a.tally a.ruled (8 * p) new id v more p y x (new / 2) me fit inside is_in (omega arith) is free (get_or-set_same s.words (8 * p) new 0 (omega arith) ∙ codes) (word_else s p new)
         (λ c near. ap (λ (k : ℕ). k % 2) (channel_else s p new c inside) ∙ ((a.ruled.channels c near).mark ∙ sym (mark_same a.place p x (w.reader c) c (unparked c ∙ sym (ap (parked_on c) is)))))
-        (λ c near. ap half (channel_else s p new c inside)) stands (λ c e. absurd (omega (arith, unparked c, ap (parked_on c) e, parked_yes c))) ends ups leaves few,
+        (λ c near. ap half (channel_else s p new c inside)) stands (λ c e. absurd (omega (arith, unparked c, ap (parked_on c) e, only_yes c))) ends ups leaves few,
     (y, refl, refl),
   )
 
@@ -117,8 +117,8 @@ module _ {T : Type 0} (told : T → Option Summary) (belongs : ℕ → T → Typ
         tt,
         give_step told belongs w d s place a.tally r i new id v more p y (parked c) 1 me fit inside is_in (omega arith) is (λ j. refl) (else_where (8 * p) (λ e. omega arith) ∙ ((r.places p inside).word_is ∙ ap word_code is)) (λ q h ne. else_where (8 * q) (λ e. omega arith))
             (λ e near_e. at_one (λ k. get_or ws (8 * (w.instances + k)) 0 % 2 ≡ mark_of (moved place p (parked c)) (w.reader k) k) e c
-            (let odd : get_or ws (8 * (w.instances + c)) 0 % 2 ≡ 1 = omega (arith, now) in odd ∙ sym (ap (λ (o : Option ℕ). mark_of (moved place p (parked c)) o c) reads ∙ (ap (parked_on c) (moved_here place p (parked c)) ∙ parked_yes c)))
-            (λ ne. ap (λ (k : ℕ). k % 2) (else_where (8 * (w.instances + e)) (λ e. ne (omega arith))) ∙ ((r.channels e near_e).mark ∙ sym (mark_same place p (parked c) (w.reader e) e (parked_no e c (λ f. ne (sym f)) ∙ sym (ap (parked_on e) is))))))
+            (let odd : get_or ws (8 * (w.instances + c)) 0 % 2 ≡ 1 = omega (arith, now) in odd ∙ sym (ap (λ (o : Option ℕ). mark_of (moved place p (parked c)) o c) reads ∙ (ap (parked_on c) (moved_here place p (parked c)) ∙ only_yes c)))
+            (λ ne. ap (λ (k : ℕ). k % 2) (else_where (8 * (w.instances + e)) (λ e. ne (omega arith))) ∙ ((r.channels e near_e).mark ∙ sym (mark_same place p (parked c) (w.reader e) e (only_no e c (λ f. ne (sym f)) ∙ sym (ap (parked_on e) is))))))
             same (y, refl) (λ e f. subst (λ (k : ℕ). (k < w.channels) × (w.reader k ≡ Some p) × TellsWait (told y) k (published w ws k)) (parked_apart c e f) (near, reads, subst (TellsWait (told y) c) (sym num) waits))
             (λ e. absurd (omega (arith, ap word_code e))) refl leaves few,
         ((λ _. (y, refl, refl)), λ miss. absurd (miss hit)),
@@ -172,7 +172,7 @@ module _ {T : Type 0} (told : T → Option Summary) (belongs : ℕ → T → Typ
             spends = λ none_left. absurd (omega (arith, none_left, fit.alive));
           };
           marks = marks place (let zero_now : new % 2 ≡ get_or s.words (8 * (w.instances + c)) 0 % 2 = omega (arith, x_is) in zero_now ∙ (r.channels c near).mark) (λ e ne. refl);
-          same = stays w.instances (λ q h ne on_c. absurd (omega (arith, x_is, (r.channels c near).mark, ap (λ (o : Option ℕ). mark_of place o c) ((r.places q h).reads c on_c).1, ap (parked_on c) on_c, parked_yes c)));
+          same = stays w.instances (λ q h ne on_c. absurd (omega (arith, x_is, (r.channels c near).mark, ap (λ (o : Option ℕ). mark_of place o c) ((r.places q h).reads c on_c).1, ap (parked_on c) on_c, only_yes c)));
           parts = refl;
           drawing = omega (arith, hots.budget_same);
           tallying = refl;
@@ -195,7 +195,7 @@ module _ {T : Type 0} (told : T → Option Summary) (belongs : ℕ → T → Typ
         cell.1,
         take_step told belongs w d s place a.tally r i new id m p y (m.0.owed ++ (p, q₀) ∷ []) saw_it.0 me fit inside cell.1 (omega arith) (λ j. ap (held_by j) on_c) (words_are p inside ∙ ((r.places p inside).word_is ∙ ap word_code on_c)) (λ q h _. words_are q h)
             (marks (moved place p (held id)) (let zero_now : new % 2 ≡ 0 = omega arith in zero_now ∙ sym (ap (λ (o : Option ℕ). mark_of (moved place p (held id)) o c) t.1 ∙ ap (parked_on c) (moved_here place p (held id))))
-            (λ e ne. mark_same place p (held id) (w.reader e) e (sym (ap (parked_on e) on_c ∙ parked_no e c (λ f. ne (sym f))))))
+            (λ e ne. mark_same place p (held id) (w.reader e) e (sym (ap (parked_on e) on_c ∙ only_no e c (λ f. ne (sym f))))))
             (stays p (λ q h ne there. ne (same_Some q p (sym ((r.places q h).reads c there).1 ∙ t.1))))
             (omega (arith, ap is_up on_c, one_longer m.0.owed (p, q₀))) (owes_woken m.0.hands p q₀ m.0.owed free (get_or-set_same m.0.hands p 1 0 (omega (arith, fit.hands_long))) is_in o.pairs) saw_it.1 saw_it.2,
         (
@@ -208,7 +208,7 @@ module _ {T : Type 0} (told : T → Option Summary) (belongs : ℕ → T → Typ
             writes,
             subst (TellsWait (told y) c) (ap half x_is) ((r.cells p y inside cell.1).waits c on_c),
             got_home s a i new id m.0 (after_waking m.0 c (new / 2) p q₀, m.1) p y saw_it me inside cell.1 free refl refl refl (length-set m.0.flushed c (new / 2) ∙ fit.flushed_long) fit.got_long (λ q e h near_e one wr. sym (now_known q e h near_e one wr))
-                (λ e wr. elsewhere_same e (λ f. omega (arith, ap (parked_on c) (sym on_c ∙ the_writer p (ap w.writer (sym f) ∙ wr)), parked_yes c))),
+                (λ e wr. elsewhere_same e (λ f. omega (arith, ap (parked_on c) (sym on_c ∙ the_writer p (ap w.writer (sym f) ∙ wr)), only_yes c))),
           )),
         ),
       ))

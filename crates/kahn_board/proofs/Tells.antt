@@ -1,9 +1,8 @@
 -- What the single steps of a seat tell it, where they speak of cells, of the network or of a draw.
 use Rattle.std.specs.Prelude.{◌≡◌, ◌≢◌, ℕ, ◌+◌, ◌-◌, ◌/◌, ◌%◌, ◌^◌, ◌<◌, List, [], ◌∷◌, slice_index, Option, Some}
 use Rattle.atomic_table.specs.Table.{rest}
-use Rattle.kahn_board.specs.Summary.{Summary, TellsWait}
-use Rattle.kahn_board.specs.Wires.{Wires}
-use Rattle.kahn_board.specs.Plays.{Got, IsIn, Play, Sat, after_step, after_giving_up, with_published, after_waking, after_drawing}
+use Rattle.kahn_board.specs.Wires.{Summary, TellsWait, Wires}
+use Rattle.kahn_board.specs.Plays.{Got, IsIn, Play, Sat, after_step, after_giving_up, with_published, after_waking}
 
 module _ {T : Type 0} (told : T → Option Summary) (w : Wires) where
   -- the seat gave up the instance p with the cell y, whose slot it took last
@@ -33,7 +32,7 @@ module _ {T : Type 0} (told : T → Option Summary) (belongs : ℕ → T → Typ
 module _ {T : Type 0} where
   -- it drew the difference where the budget was still what it had found
   abbrev pub drew : Play T
-  drew st m r n = (r ≡ st.first → (n ≡ (after_drawing m.0 (st.first - st.second), m.1)) × ((p : ℕ) → IsIn m.0 p → slice_index m.0.events_when_got p + (st.first - st.second) < 2 ^ 48))
+  drew st m r n = (r ≡ st.first → (n ≡ (record (after_step m.0) { drawn = st.first - st.second }, m.1)) × ((p : ℕ) → IsIn m.0 p → slice_index m.0.events_when_got p + (st.first - st.second) < 2 ^ 48))
       × (r ≢ st.first → n ≡ (after_step m.0, m.1))
 
 -- the slot that a seat took last

@@ -2,13 +2,9 @@
 use Rattle.std.specs.Prelude.{◌≡◌, ◌⊎◌, ℕ, ◌+◌, ◌^◌, ◌<◌, List, length, slice_index, true, Option, Some, None}
 use mathlib.Core.Option.{some}
 use lib.ListN.{get_elem?}
-use Rattle.kahn_board.specs.Summary.{Summary, TellsWait, TellsEnd, TellsEvents, FlushedAll, flushed_of, wrote_of}
-use Rattle.kahn_board.specs.Dealt.{events_told}
-use Rattle.kahn_board.specs.Wires.{Wires}
-use Rattle.kahn_board.specs.Place.{below}
-use Rattle.kahn_board.specs.Rule.{Deal, IsDone, KnowsHalted}
-use Rattle.kahn_board.specs.declared.closing.Closed.{Closed}
-use Rattle.kahn_board.specs.declared.view.View.{View}
+use Rattle.kahn_board.specs.Wires.{Summary, TellsWait, TellsEnd, TellsEvents, FlushedAll, flushed_of, wrote_of, Wires}
+use Rattle.kahn_board.specs.Rule.{events_told, Deal, IsDone, KnowsHalted, below}
+use Rattle.kahn_board.specs.declared.{closing.Closed.Closed, view.View.View}
 
 module _ {T : Type 0} where
   pub record Opens (told : T → Option Summary) (after : T → T → Type 0) (w : Wires) (bound : ℕ) (published : List ℕ) (cells : List T) : Type 0 where

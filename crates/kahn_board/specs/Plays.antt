@@ -4,10 +4,8 @@ use mathlib.Core.Option.{none}
 use Rattle.atomic_table.specs.Seated.{TableId}
 use Rattle.atomic_table.specs.Table.{Allows, Me, Step, step}
 use Rattle.atomic_table.specs.declared.shared.Seat as shared
-use Rattle.kahn_board.specs.Summary.{Summary, TellsEvents, FlushedAll, flushed_of, events_past}
-use Rattle.kahn_board.specs.Wires.{Wires}
-use Rattle.kahn_board.specs.Rule.{KnowsHalted, KnowsQuiet, St, WordWas}
-use Rattle.kahn_board.specs.Place.{total, only}
+use Rattle.kahn_board.specs.Wires.{Summary, TellsEvents, FlushedAll, flushed_of, events_past, Wires}
+use Rattle.kahn_board.specs.Rule.{KnowsHalted, KnowsQuiet, St, WordWas, total, only}
 use Rattle.kahn_board.specs.declared.view.View.{View}
 
 -- each instance that the seat has is in the list, once
@@ -56,9 +54,6 @@ with_published v c count = record v { flushed = slice_set v.flushed c count }
 abbrev pub after_waking : View → ℕ → ℕ → ℕ → ℕ → View
 after_waking v c count p q = record (with_published v c count) { owed = v.owed ++ (p, q) ∷ [] }
 
-abbrev pub after_drawing : View → ℕ → View
-after_drawing v k = record (after_step v) { drawn = k }
-
 -- n events of the draw were done, the others may still be done
 abbrev pub after_reporting : View → ℕ → View
 after_reporting v n = record (after_step v) { drawn = v.drawn - n; done = v.done + n; untold = v.untold + n }
@@ -85,20 +80,17 @@ burden v = total (λ x. x) v.hands + v.drawn + length v.owed + v.down
 abbrev pub after_looking : View → ℕ → View
 after_looking v seen = record (after_step v) { seen = seen; stage = cond (burden v == 0) 1 2 }
 
--- the numbers L are those of v where v has the writer
-abbrev pub AgreesOnFlushed : Wires → View → List ℕ → Type 0
-AgreesOnFlushed w v L = (q c : ℕ) → q < w.instances → c < w.channels → IsIn v q → w.writer c ≡ Some q → slice_index L c ≡ slice_index v.flushed c
-
 -- a seat that has seen nothing less than before, or knows that the run is halted
 abbrev pub SeesMore : ℕ → ℕ → Type 0
 SeesMore old new = (new ≡ old) ⊎ (new ≡ 2)
 
 module _ {T : Type 0} (told : T → Option Summary) (belongs : ℕ → T → Type 0) (w : Wires) where
-  -- the seat took the cell y of the instance p: what y tells as flushed is published; it has flushed all that it sent, or the run is halted; it belongs to p;
+  -- the seat took the cell y of the instance p: where it had a channel's writer it knows as much as before; what y tells as flushed is published; it has flushed all that it sent, or the run is halted; it belongs to p;
   -- its events and those drawn are a number of 48 bits
   abbrev pub Got : Sat T → ℕ → Sat T → T → Type 0
   Got m p n y = (L : List ℕ) × (e : ℕ) × (seen : ℕ) × (n ≡ (after_taking m.0 p L e seen, (p, Some y) ∷ m.1)) × (slice_index m.0.hands p ≡ 0) × (length L ≡ length m.0.flushed)
-      × AgreesOnFlushed w m.0 L × ((c k : ℕ) → flushed_of (told y) c ≡ Some k → (w.writer c ≡ Some p) × (c < w.channels) × (k ≡ slice_index L c))
+      × ((q c : ℕ) → q < w.instances → c < w.channels → IsIn m.0 q → w.writer c ≡ Some q → slice_index L c ≡ slice_index m.0.flushed c)
+      × ((c k : ℕ) → flushed_of (told y) c ≡ Some k → (w.writer c ≡ Some p) × (c < w.channels) × (k ≡ slice_index L c))
       × TellsEvents (told y) e × SeesMore m.0.seen seen × ((seen ≡ 2) ⊎ FlushedAll (told y)) × belongs p y
       × (slice_index (slice_set m.0.events_when_got p e) p + m.0.drawn < 2 ^ 48)
 

@@ -1,18 +1,78 @@
--- Believed. The rule of a board's table: what is true between any two steps of any seats.
+-- Believed. Where an instance stands, what seats owe to the count, what a board was made with, and the rule of its table: what is true between any two steps of any seats.
 -- Words stand eight apart, each in a cache line of its own. Among n instances and m channels:
 -- word 8 p of the instance p is 0 where it is ready, 1 where it is held or parked, 2 where it is over;
 -- word 8 (n + c) of the channel c is 2 k, or 2 k + 1 where the reader is parked on it, k being the number published;
 -- the budget, the count and halted stand at 8 (n + m), 8 (n + m + 1) and 8 (n + m + 2).
 -- Slot p has the cell of the instance p.
-use Rattle.std.specs.Prelude.{◌≡◌, ◌≢◌, ◌⊎◌, ℕ, ◌+◌, ◌*◌, ◌/◌, ◌%◌, ◌^◌, ◌<◌, ◌≤◌, List, [], length, slice_index, replicate, Some}
+use Rattle.std.specs.Prelude.{◌≡◌, ◌≢◌, ◌⊎◌, ℕ, ◌+◌, ◌*◌, ◌/◌, ◌%◌, ◌^◌, ◌<◌, ◌≤◌, List, [], length, slice_index, replicate, Some, zero, suc, ◌∷◌, cond, ◌==◌}
 use Rattle.std.specs.Prelude as std
 use mathlib.Core.Option.{Option, none, some}
 use lib.ListN.{get_elem?}
 use Rattle.atomic_table.specs.Table.{State, Seen}
-use Rattle.kahn_board.specs.Summary.{Summary, TellsWait, TellsEnd, TellsEvents, FlushedAll, flushed_of}
-use Rattle.kahn_board.specs.Wires.{Wires}
-use Rattle.kahn_board.specs.Place.{Place, held, parked, over, Owes, word_code, held_by, mark_of, is_up, total, below}
-use Rattle.kahn_board.specs.declared.view.View.{View}
+use Rattle.kahn_board.specs.Wires.{Summary, TellsWait, TellsEnd, TellsEvents, FlushedAll, flushed_of, events_past, Wires, wires}
+use Rattle.kahn_board.specs.declared.{rule.Terms.Terms, view.View.View}
+
+-- where an instance stands
+pub data Place : Type 0 where
+  ready : Place
+  -- by the seat of this number
+  held : ℕ → Place
+  -- on the channel of this number
+  parked : ℕ → Place
+  over : Place
+
+-- the word of an instance that stands there
+abbrev pub word_code : Place → ℕ
+word_code ready = 0
+word_code (held j) = 1
+word_code (parked c) = 1
+word_code over = 2
+
+-- 1 where the seat j has it, else 0
+abbrev pub held_by : ℕ → Place → ℕ
+held_by j (held k) = cond (k == j) 1 0
+held_by j place = 0
+
+abbrev pub parked_on : ℕ → Place → ℕ
+parked_on c (parked d) = cond (d == c) 1 0
+parked_on c place = 0
+
+-- 1 where the reader of the channel c is parked on it, else 0
+abbrev pub mark_of : (ℕ → Place) → std.Option ℕ → ℕ → ℕ
+mark_of place std.None c = 0
+mark_of place (Some p) c = parked_on c (place p)
+
+abbrev pub total : {A : Type 0} → (A → ℕ) → List A → ℕ
+total f [] = 0
+total f (x ∷ xs) = f x + total f xs
+
+-- 1 at k, else 0
+abbrev pub only : ℕ → ℕ → ℕ
+only k x = cond (x == k) 1 0
+
+-- the woken reader and its waker, of each count up that is owed, the longest owed first
+abbrev pub Owed : Type 0
+Owed = List (ℕ × ℕ)
+
+-- p isn't among the readers
+abbrev pub Apart : ℕ → Owed → Type 0
+Apart p [] = Unit {0}
+Apart p (x ∷ xs) = (x.0 ≢ p) × Apart p xs
+
+-- both are in the hands, the reader isn't woken twice, and the waker wasn't woken since
+abbrev pub Owes : List ℕ → Owed → Type 0
+Owes hands [] = Unit {0}
+Owes hands (x ∷ xs) = (slice_index hands x.0 ≡ 1) × (slice_index hands x.1 ≡ 1) × (x.0 ≢ x.1) × Apart x.0 xs × Apart x.1 xs × Owes hands xs
+
+-- 1 where the instance is neither parked nor over
+abbrev pub is_up : Place → ℕ
+is_up (parked c) = 0
+is_up over = 0
+is_up place = 1
+
+abbrev pub below : (ℕ → ℕ) → ℕ → ℕ
+below f zero = 0
+below f (suc n) = below f n + f n
 
 -- the parts of a board's first seat
 abbrev pub all_parts : ℕ
@@ -180,3 +240,24 @@ module _ {T : Type 0} where
   -- there was a moment at which the rule held, the seat id had the view v, and the word i the number r
   abbrev pub WordWas : (St T → Type 0) → ℕ → View → ℕ → ℕ → Type 0
   WordWas holds id v i r = (s : St T) × Seen holds id v s × (slice_index s.words i ≡ r)
+
+  -- the wires of the network that it was made for
+  abbrev pub wired : Terms T → Wires
+  wired key = wires key.network.value
+
+  -- the cell y belongs to the instance p: it is a later state of the one that was given for p
+  abbrev pub belongs : (T → T → Type 0) → Terms T → ℕ → T → Type 0
+  belongs after key p y = (x : T) → get_elem? key.cells.value.items p ≡ some x → after x y
+
+module _ {T : Type 0} (told : T → std.Option Summary) where
+  -- the events that the cells tell when the board is made
+  abbrev pub events_told : List T → ℕ
+  events_told cells = total (λ y. events_past (told y) 0) cells
+
+  -- the numbers published at the start are those of the first words
+  abbrev pub dealt : Terms T → Deal
+  dealt key = record { bound = key.bound; events = events_told key.cells.value.items; published = published (wired key) key.words.value.items }
+
+  -- the rule of its table
+  abbrev pub holds : (T → T → Type 0) → Terms T → St T → Type 0
+  holds after key = Whole told (belongs after key) (wired key) (dealt key)

@@ -1,8 +1,8 @@
--- Believed. What the rule reads of a network.
+-- Believed. What the rule reads of a network, and what a cell tells of itself, for contracts alone.
 use Rattle.std.specs.List.{list_any}
-use Rattle.std.specs.Prelude.{ℕ, length, position, Bool, false, ◌==◌, Option}
+use Rattle.std.specs.Prelude.{ℕ, length, position, Bool, false, ◌==◌, Option, ◌≡◌, ◌+◌, ◌≤◌, true, Some, None, IfSome}
 use Rattle.kahn_streams.specs.declared.tree.Program.{Program}
-use Rattle.kahn_streams.specs.Network.{Network, Actual, Reads, Writes, Hands, is_written, network_of}
+use Rattle.kahn_streams.specs.Network.{Actual, Reads, Writes, Hands, is_written, network_of}
 
 -- how many instances and channels there are, and who reads and who writes each channel
 pub record Wires : Type 0 where
@@ -16,15 +16,56 @@ is_read (Reads d) c = d == c
 is_read (Writes d) c = false
 is_read (Hands v) c = false
 
--- the reader is the first instance to which the channel is handed to be read, and the writer the first to which it is handed to be written
-abbrev pub wires_of : Network → Wires
-wires_of N = record {
-  instances = length N.instances;
-  channels = length N.channels;
-  reader = λ c. position (λ i. list_any (λ a. is_read a c) i.actuals) N.instances;
-  writer = λ c. position (λ i. list_any (λ a. is_written a c) i.actuals) N.instances;
+-- those of a program's network: the reader is the first instance to which the channel is handed to be read, and the writer the first to which it is handed to be written
+unfoldable pub wires : Program → Wires
+wires program = record {
+  instances = length (network_of program).instances;
+  channels = length (network_of program).channels;
+  reader = λ c. position (λ i. list_any (λ a. is_read a c) i.actuals) (network_of program).instances;
+  writer = λ c. position (λ i. list_any (λ a. is_written a c) i.actuals) (network_of program).instances;
 }
 
--- those of the network of a program
-unfoldable pub wires : Program → Wires
-wires program = wires_of (network_of program)
+-- what a cell tells
+pub record Summary : Type 0 where
+  pub events : ℕ
+  pub has_ended : Bool
+  -- the channel on which it waits
+  pub waits : Option ℕ
+  -- how many tokens it took from the channel
+  pub taken : ℕ → ℕ
+  -- how many tokens it sent into the channel, and how many of them it flushed, where it writes it
+  pub wrote : ℕ → Option (ℕ × ℕ)
+
+-- a cell that tells nothing meets all of these
+abbrev pub TellsWait : Option Summary → ℕ → ℕ → Type 0
+TellsWait told c k = IfSome told (λ t. (t.waits ≡ Some c) × (t.taken c ≡ k))
+
+abbrev pub TellsEnd : Option Summary → Type 0
+TellsEnd told = IfSome told (λ t. t.has_ended ≡ true)
+
+abbrev pub wrote_of : Option Summary → ℕ → Option (ℕ × ℕ)
+wrote_of None c = None
+wrote_of (Some t) c = t.wrote c
+
+abbrev pub second_of : Option (ℕ × ℕ) → Option ℕ
+second_of None = None
+second_of (Some x) = Some x.1
+
+abbrev pub flushed_of : Option Summary → ℕ → Option ℕ
+flushed_of t c = second_of (wrote_of t c)
+
+-- all that it sent is flushed
+abbrev pub FlushedAll : Option Summary → Type 0
+FlushedAll t = (c k l : ℕ) → wrote_of t c ≡ Some (k, l) → k ≡ l
+
+abbrev pub TellsEvents : Option Summary → ℕ → Type 0
+TellsEvents told k = IfSome told (λ t. t.events ≡ k)
+
+-- its events, where it told k before; one that tells nothing has done nothing
+abbrev pub events_past : Option Summary → ℕ → ℕ
+events_past None k = k
+events_past (Some t) k = t.events
+
+-- its events past k are among those told as done
+abbrev pub Accounts : Option Summary → ℕ → ℕ → Type 0
+Accounts told k untold = IfSome told (λ t. (k ≤ t.events) × (t.events ≤ k + untold))

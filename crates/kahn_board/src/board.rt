@@ -4,8 +4,7 @@ ghost use Rattle.std.specs.Prelude.{◌≡◌, ◌≢◌, ℕ, ◌+◌, ◌*◌,
 ghost use Rattle.std.specs.VecDeque.{deque_capacity};
 ghost use Rattle.std.specs.Vec.{vec_capacity};
 ghost use Rattle.kahn_board.specs.Plays.{Facts};
-ghost use Rattle.kahn_board.specs.Dealt.{holds, wired};
-ghost use Rattle.kahn_board.specs.Rule.{channel_at, budget_at, count_at, halted_at};
+ghost use Rattle.kahn_board.specs.Rule.{holds, wired, channel_at, budget_at, count_at, halted_at};
 
 use crate::plays::{CountingUp, GivingBack, Halting, Notes, SeesBudget, SeesCount, SeesHalted};
 use crate::rule::{Rule, Terms, Told};
@@ -14,6 +13,8 @@ use atomic_table::{Play, Table};
 use std::alloc::Global;
 use std::collections::VecDeque;
 use std::marker::Brand;
+
+type TableSeat<T> = atomic_table::Seat<Option<T>, View>;
 
 /// Where the cells of a network stand.
 pub struct Board<T: Told> {
@@ -35,11 +36,7 @@ impl<T: Told> Board<T> {
     ghost use Rattle.kahn_board.specs.Plays.{HasPlayed, MayStep};
 
     // A load: the word was so at a moment of the call.
-    fn load<P: Play<Option<T>, View>>(
-        &self,
-        seat: &mut atomic_table::Seat<Option<T>, View>,
-        word: usize,
-    ) -> u64
+    fn load<P: Play<Option<T>, View>>(&self, seat: &mut TableSeat<T>, word: usize) -> u64
         requires { MayStep (holds T.told T.after self.now.table.shared.key) self.now.table.shared.table_id seat.old word 0 0 (λ n. n) P.then }
         ensures { HasPlayed (holds T.told T.after self.now.table.shared.key) self.now.table.shared.table_id seat.old seat.new word 0 0 P.then result }
     {
@@ -47,12 +44,9 @@ impl<T: Told> Board<T> {
     }
 
     // A load whose play speaks of a number of the caller's.
-    fn load_with<P: Play<Option<T>, View>>(
-        &self,
-        seat: &mut atomic_table::Seat<Option<T>, View>,
-        word: usize,
-        number: u64,
-    ) -> u64
+    fn load_with<P>(&self, seat: &mut TableSeat<T>, word: usize, number: u64) -> u64
+    where
+        P: Play<Option<T>, View>,
         requires { MayStep (holds T.told T.after self.now.table.shared.key) self.now.table.shared.table_id seat.old word 0 0 (λ n. n) P.then }
         ensures { HasPlayed (holds T.told T.after self.now.table.shared.key) self.now.table.shared.table_id seat.old seat.new word 0 0 P.then result }
     {
@@ -61,19 +55,14 @@ impl<T: Told> Board<T> {
     }
 
     // A compare and exchange: the word was as found at a moment of the call.
-    fn compare_exchange<P: Play<Option<T>, View>>(
-        &self,
-        seat: &mut atomic_table::Seat<Option<T>, View>,
-        word: usize,
-        old: u64,
-        new: u64,
-    ) -> u64
+    fn compare_exchange<P>(&self, seat: &mut TableSeat<T>, word: usize, old: u64, new: u64) -> u64
+    where
+        P: Play<Option<T>, View>,
         requires { MayStep (holds T.told T.after self.now.table.shared.key) self.now.table.shared.table_id seat.old word old new (λ n. either (n == old) new n) P.then }
         ensures { HasPlayed (holds T.told T.after self.now.table.shared.key) self.now.table.shared.table_id seat.old seat.new word old new P.then result }
     {
-        self.table
-            .shared
-            .compare_exchange::<Brand>(seat, word, old, new)
+        let shared = &self.table.shared;
+        shared.compare_exchange::<Brand>(seat, word, old, new)
     }
 
     // The word of the channel.
@@ -131,7 +120,7 @@ impl<T: Told> Board<T> {
 /// The token of one worker.
 #[derive(Drop)]
 pub struct Seat<T> {
-    pub(crate) seat: atomic_table::Seat<Option<T>, View>,
+    pub(crate) seat: TableSeat<T>,
     // The instances in its hands, the one whose slot it took last first.
     pub held: VecDeque<usize, Global>,
     ghost facts: { Facts seat.me seat.table_id held.items (deque_capacity held) },
@@ -139,11 +128,11 @@ pub struct Seat<T> {
 
 impl<T: Told> Seat<T> {
     ghost use Rattle.kahn_board.specs.Calls.{Becomes, Claims, IsAtBoard, LooksAt, IsSameSeat, IsFirstSlot, KeepsAll, Swaps, MayLeave, OwesFew, GivesUp, Parks, Publishes, Draws, CountsDown, Looks, downs_of};
-    ghost use Rattle.kahn_board.specs.Summary.{TellsEnd, TellsWait};
+    ghost use Rattle.kahn_board.specs.Wires.{TellsEnd, TellsWait};
     ghost use Rattle.kahn_board.specs.declared.board.Rest.TheVariants.{Over};
     ghost use Rattle.kahn_board.specs.Plays.{Carries, IsIn, after_halting, after_counting_up, after_giving_back, after_reporting};
     ghost use Rattle.atomic_table.specs.Table.{turned as shifted};
-    ghost use Rattle.kahn_board.specs.Dealt.{belongs, wired};
+    ghost use Rattle.kahn_board.specs.Rule.{belongs, wired};
 
     /// Whether the instance is ready: it was so, or it wasn't, at a moment of the call. An idle worker looks before it claims,
     /// since a claim writes a word.
@@ -169,13 +158,6 @@ impl<T: Told> Seat<T> {
         Some(())
     }
 
-    fn first(&self) -> usize
-        requires { 0 < length self.now.held.items }
-        ensures { result ≡ slice_index self.now.held.items 0 }
-    {
-        *self.held.front().unwrap()
-    }
-
     // The first slot goes behind the others.
     fn rotate(&mut self)
         requires { 0 < length self.old.held.items }
@@ -193,7 +175,7 @@ impl<T: Told> Seat<T> {
         ensures first { IsFirstSlot self.new p }
         ensures kept { KeepsAll self.old self.new }
     {
-        while self.first() != p {
+        while *self.held.front().unwrap() != p {
             self.rotate();
         }
     }
@@ -206,11 +188,8 @@ impl<T: Told> Seat<T> {
         ensures only { (y : T) → Carries self.old.seat.me.1 p (Some y) → y ≡ result }
     {
         self.bring_to_front(p);
-        board
-            .table
-            .shared
-            .exchange(&mut self.seat, p, None)
-            .unwrap()
+        let shared = &board.table.shared;
+        shared.exchange(&mut self.seat, p, None).unwrap()
     }
 
     /// Puts the cell in.
@@ -236,10 +215,8 @@ impl<T: Told> Seat<T> {
             Rest::Ready => 0,
             Rest::Over => 2,
         };
-        board
-            .table
-            .shared
-            .store::<Brand>(&mut self.seat, 8 * p, new);
+        let shared = &board.table.shared;
+        shared.store::<Brand>(&mut self.seat, 8 * p, new);
         let _ = self.held.pop_front();
     }
 
@@ -269,10 +246,8 @@ impl<T: Told> Seat<T> {
         ensures { Publishes T.told (belongs T.after board.now.table.shared.key) (wired board.now.table.shared.key) self.old self.new channel count result }
     {
         let word = board.channel_word(channel);
-        let found = board
-            .table
-            .shared
-            .swap::<Brand>(&mut self.seat, word, 2 * count);
+        let shared = &board.table.shared;
+        let found = shared.swap::<Brand>(&mut self.seat, word, 2 * count);
         if found % 2 == 0 {
             return None;
         }
@@ -287,11 +262,8 @@ impl<T: Told> Seat<T> {
         requires owes { 0 < length self.old.seat.me.0.owed }
         ensures { Becomes (after_counting_up self.old.seat.me.0) self.old self.new }
     {
-        let word = board.count_word();
-        board
-            .table
-            .shared
-            .fetch_add::<CountingUp>(&mut self.seat, word, 1);
+        let shared = &board.table.shared;
+        shared.fetch_add::<CountingUp>(&mut self.seat, board.count_word(), 1);
     }
 
     /// Pays a count down.
@@ -300,11 +272,8 @@ impl<T: Told> Seat<T> {
         requires owes { 0 < self.old.seat.me.0.down }
         ensures { CountsDown T.told T.after board.now.table.shared.key self.old self.new }
     {
-        let word = board.count_word();
-        board
-            .table
-            .shared
-            .fetch_sub::<Brand>(&mut self.seat, word, 1);
+        let shared = &board.table.shared;
+        shared.fetch_sub::<Brand>(&mut self.seat, board.count_word(), 1);
     }
 
     /// Draws up to `quantum` events from the budget.
@@ -332,8 +301,7 @@ impl<T: Told> Seat<T> {
         requires drawn { n ≤ self.old.seat.me.0.drawn }
         ensures { Becomes (after_reporting self.old.seat.me.0 n) self.old self.new }
     {
-        let word = board.budget_word();
-        board.load_with::<Brand>(&mut self.seat, word, n);
+        board.load_with::<Brand>(&mut self.seat, board.budget_word(), n);
     }
 
     /// So many events of the draw weren't done, the others were.
@@ -342,11 +310,8 @@ impl<T: Told> Seat<T> {
         requires drawn { n ≤ self.old.seat.me.0.drawn }
         ensures { Becomes (after_giving_back self.old.seat.me.0 n) self.old self.new }
     {
-        let word = board.budget_word();
-        board
-            .table
-            .shared
-            .fetch_add::<GivingBack>(&mut self.seat, word, n);
+        let shared = &board.table.shared;
+        shared.fetch_add::<GivingBack>(&mut self.seat, board.budget_word(), n);
     }
 
     /// The run is to stop.
@@ -354,8 +319,8 @@ impl<T: Told> Seat<T> {
         requires board { IsAtBoard board.now self.old }
         ensures { Becomes (after_halting self.old.seat.me.0) self.old self.new }
     {
-        let word = board.halted_word();
-        board.table.shared.store::<Halting>(&mut self.seat, word, 1);
+        let shared = &board.table.shared;
+        shared.store::<Halting>(&mut self.seat, board.halted_word(), 1);
     }
 
     /// Whether there is a reason to leave.

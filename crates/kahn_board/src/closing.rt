@@ -3,10 +3,9 @@
 ghost use Rattle.std.specs.Prelude.{◌≡◌, ℕ, ◌+◌, ◌*◌, ◌^◌, ◌<◌, ◌≤◌, [], Option, Some, length, slice_index, replicate, All, IfOk, IfErr};
 ghost use mathlib.Core.Option.{some};
 ghost use lib.ListN.{get_elem?};
-ghost use Rattle.kahn_board.specs.Dealt.{belongs, dealt, wired};
+ghost use Rattle.kahn_board.specs.Rule.{belongs, dealt, wired, all_parts};
 ghost use Rattle.kahn_board.specs.Calls.{IsAtBoard, IsSameSeat, AreCut, IsFree, after_joining};
 ghost use Rattle.kahn_board.specs.Opening.{Closes};
-ghost use Rattle.kahn_board.specs.Rule.{all_parts};
 ghost use Rattle.kahn_board.specs.inner.Turn.{AddUp, IsDoneAt, IsLoneSeat, SitsAt, parts_of, done_of, raised_of};
 
 use crate::board::{Board, Seat};
@@ -63,9 +62,8 @@ impl<T: Told> Board<T> {
         requires { IsAtBoard self.now seat × IsAtBoard self.now other × IsFree other.seat.me.0 }
         ensures { IsSameSeat seat result × (result.seat.me ≡ (after_joining seat.seat.me.0 other.seat.me.0, seat.seat.me.1)) }
     {
-        self.table
-            .shared
-            .join_seat::<Both>(&mut seat.seat, other.seat);
+        let shared = &self.table.shared;
+        shared.join_seat::<Both>(&mut seat.seat, other.seat);
         seat
     }
 
@@ -81,20 +79,17 @@ impl<T: Told> Board<T> {
             instances,
             channels: _,
             readers: _,
-            mut room,
+            room: mut cells,
         } = self;
         let mut closed = table.close_with(seat.seat);
         let budget = closed.word(budget_word);
         let halted = closed.word(halted_word);
         for i in 0..instances {
-            let Some(cell) = closed.take(i) else {
-                unreachable!()
-            };
-            room.push_reserved(cell);
+            cells.push_reserved(closed.take(i).unwrap());
         }
         closed.free();
         Closed {
-            cells: room,
+            cells,
             budget,
             halted: halted != 0,
         }

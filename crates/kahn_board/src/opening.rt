@@ -4,10 +4,9 @@ ghost use Rattle.std.specs.Prelude.{◌≡◌, ℕ, ◌+◌, ◌*◌, ◌^◌, �
 ghost use Rattle.std.specs.Vec.{vec_capacity};
 ghost use Rattle.std.specs.VecDeque.{deque_capacity};
 ghost use Rattle.kahn_board.specs.Opening.{Opens};
-ghost use Rattle.kahn_board.specs.inner.First.{AreFirstWords, IsWiringOf};
+ghost use Rattle.kahn_board.specs.inner.Turn.{AreFirstWords, IsWiringOf};
 ghost use Rattle.kahn_board.specs.Wires.{wires};
-ghost use Rattle.kahn_board.specs.Dealt.{dealt};
-ghost use Rattle.kahn_board.specs.Rule.{opening_view};
+ghost use Rattle.kahn_board.specs.Rule.{dealt, opening_view};
 
 use crate::board::{Board, Seat};
 use crate::rule::{Terms, Told};
@@ -69,38 +68,31 @@ fn out_of_slots<T>(mut slots: Vec<Option<T>, Global>, mut cells: Vec<T, Global>)
     cells
 }
 
-// All that a board takes memory for, but its table.
-struct Reserved<T> {
-    wiring: Wiring,
-    words: Vec<u64, Global>,
-    held: VecDeque<usize, Global>,
-    slots: Vec<Option<T>, Global>,
-}
+// All that a board takes memory for, but its table: the first words, the list of a seat, and the slots.
+type Reserved<T> = (
+    Wiring,
+    Vec<u64, Global>,
+    VecDeque<usize, Global>,
+    Vec<Option<T>, Global>,
+);
 
-impl<T> Reserved<T> {
-    fn new(
-        alloc: Global,
-        network: &Network,
-        published: &[u64],
-        bound: u64,
-    ) -> Result<Reserved<T>, NoMemory>
-        requires { (length published.now ≡ (wires network.now).channels) × ((c : ℕ) → c < length published.now → slice_index published.now c < 2 ^ 48) }
-        ensures wiring { IfOk result (λ w. IsWiringOf network.now w.wiring) }
-        ensures words { IfOk result (λ w. AreFirstWords w.wiring.instances bound published.now w.words.items) }
-        ensures held { IfOk result (λ w. (w.held.items ≡ []) × (w.wiring.instances ≤ deque_capacity w.held)) }
-        ensures slots { IfOk result (λ w. (w.slots.items ≡ []) × (w.wiring.instances ≤ vec_capacity w.slots)) }
-    {
-        let wiring = Wiring::of(alloc, network)?;
-        let words = lay_words(alloc, wiring.instances, published, bound)?;
-        let held = VecDeque::with_capacity(alloc, wiring.instances)?;
-        let slots = Vec::with_capacity(alloc, wiring.instances)?;
-        Ok(Reserved {
-            wiring,
-            words,
-            held,
-            slots,
-        })
-    }
+fn reserved<T>(
+    alloc: Global,
+    network: &Network,
+    published: &[u64],
+    bound: u64,
+) -> Result<Reserved<T>, NoMemory>
+    requires { (length published.now ≡ (wires network.now).channels) × ((c : ℕ) → c < length published.now → slice_index published.now c < 2 ^ 48) }
+    ensures wiring { IfOk result (λ w. IsWiringOf network.now w.0) }
+    ensures words { IfOk result (λ w. AreFirstWords w.0.instances bound published.now w.1.items) }
+    ensures held { IfOk result (λ w. (w.2.items ≡ []) × (w.0.instances ≤ deque_capacity w.2)) }
+    ensures slots { IfOk result (λ w. (w.3.items ≡ []) × (w.0.instances ≤ vec_capacity w.3)) }
+{
+    let wiring = Wiring::of(alloc, network)?;
+    let words = lay_words(alloc, wiring.instances, published, bound)?;
+    let held = VecDeque::with_capacity(alloc, wiring.instances)?;
+    let slots = Vec::with_capacity(alloc, wiring.instances)?;
+    Ok((wiring, words, held, slots))
 }
 
 impl<T: Told> Board<T> {
@@ -119,15 +111,9 @@ impl<T: Told> Board<T> {
         ensures published { IfOk result (λ t. (c : ℕ) → c < length published.now → (dealt T.told t.0.table.shared.key).published c ≡ slice_index published.now c) }
         ensures refused { IfErr result (λ e. e.1.items ≡ cells.items) }
     {
-        let Ok(reserved) = Reserved::new(alloc, network, published, bound) else {
+        let Ok((wiring, words, held, slots)) = reserved(alloc, network, published, bound) else {
             return Err((NoMemory, cells));
         };
-        let Reserved {
-            wiring,
-            words,
-            held,
-            slots,
-        } = reserved;
         let terms = Terms {
             network: Snapshot::of(network),
             words: Snapshot::of(&words),

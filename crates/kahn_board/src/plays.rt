@@ -11,50 +11,43 @@ impl<T> Play<Option<T>, View> for Brand {
     ghost then = { λ _ _ _ _. Unit {0} };
 }
 
-/// What a load tells whose number is only noted.
-pub struct Notes;
+pub(crate) struct Notes;
+
+pub(crate) struct GivingBack;
+
+pub(crate) struct CountingUp;
+
+pub(crate) struct Halting;
+
+pub(crate) struct SeesHalted;
+
+pub(crate) struct SeesCount;
+
+pub(crate) struct SeesBudget;
 
 impl<T> Play<Option<T>, View> for Notes {
     ghost then = { becomes (λ _. after_step) };
 }
 
-/// What giving back tells.
-pub struct GivingBack;
-
 impl<T> Play<Option<T>, View> for GivingBack {
     ghost then = { becomes (λ n v. after_giving_back v n) };
 }
-
-/// What a count up tells.
-pub struct CountingUp;
 
 impl<T> Play<Option<T>, View> for CountingUp {
     ghost then = { becomes (λ _. after_counting_up) };
 }
 
-/// What halting tells.
-pub struct Halting;
-
 impl<T> Play<Option<T>, View> for Halting {
     ghost then = { becomes (λ _. after_halting) };
 }
-
-/// What a look at the word halted tells.
-pub struct SeesHalted;
 
 impl<T> Play<Option<T>, View> for SeesHalted {
     ghost then = { sees_halted };
 }
 
-/// What a look at the count tells.
-pub struct SeesCount;
-
 impl<T> Play<Option<T>, View> for SeesCount {
     ghost then = { sees_count };
 }
-
-/// What a look at the budget tells.
-pub struct SeesBudget;
 
 impl<T> Play<Option<T>, View> for SeesBudget {
     ghost then = { sees_budget };

@@ -1,7 +1,7 @@
 //! What a cell tells, and the rule of the table.
 
 ghost use Rattle.std.specs.Prelude.{Option};
-ghost use Rattle.kahn_board.specs.Summary.{Summary};
+ghost use Rattle.kahn_board.specs.Wires.{Summary};
 
 use crate::view::View;
 use atomic_table::TableRule;
@@ -35,8 +35,7 @@ pub struct Rule<T> {
 }
 
 impl<T: Told> TableRule<Option<T>, View, Terms<T>> for Rule<T> {
-    ghost use Rattle.kahn_board.specs.Rule.{opening_view};
-    ghost use Rattle.kahn_board.specs.Dealt.{holds, wired};
+    ghost use Rattle.kahn_board.specs.Rule.{opening_view, holds, wired};
 
     ghost holds = { holds T.told T.after };
 

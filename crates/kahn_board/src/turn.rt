@@ -1,8 +1,8 @@
 //! A worker's turn: its calls on the board in their order, from the claim of an instance until it is set down.
 
 ghost use Rattle.std.specs.Prelude.{◌≡◌, ◌≢◌, ℕ, ◌+◌, ◌-◌, ◌*◌, ◌^◌, ◌<◌, ◌≤◌, slice_index, true, false, Option, Some, None, IfSome, IfNone};
-ghost use Rattle.kahn_board.specs.Dealt.{wired};
-ghost use Rattle.kahn_board.specs.Summary.{TellsEnd, TellsWait};
+ghost use Rattle.kahn_board.specs.Rule.{wired};
+ghost use Rattle.kahn_board.specs.Wires.{TellsEnd, TellsWait};
 ghost use Rattle.kahn_board.specs.Calls.{IsAtBoard, Was, Looks};
 ghost use Rattle.kahn_board.specs.declared.board.Look.{Look};
 ghost use Rattle.kahn_board.specs.declared.board.Look.TheVariants.{Go};

@@ -2,7 +2,7 @@
 
 ghost use Rattle.std.specs.Prelude.{◌≡◌, ◌≤◌, ◌<◌, ℕ, IfOk, length, slice_index_or, None};
 ghost use Rattle.kahn_board.specs.Wires.{wires};
-ghost use Rattle.kahn_board.specs.inner.First.{IsWiringOf};
+ghost use Rattle.kahn_board.specs.inner.Turn.{IsWiringOf};
 
 use kahn_streams::{Network, NoMemory};
 use std::alloc::Global;
@@ -20,8 +20,7 @@ pub fn reader_of(network: &Network, channel: usize) -> Option<usize>
     requires { channel < (wires network.now).channels }
     ensures { result ≡ (wires network.now).reader channel }
 {
-    let side = network.reader(channel)?;
-    Some(side.instance)
+    Some(network.reader(channel)?.instance)
 }
 
 /// The instance that writes the channel, where one does; none writes an input channel. It takes no memory.
@@ -29,8 +28,7 @@ pub fn writer_of(network: &Network, channel: usize) -> Option<usize>
     requires { channel < (wires network.now).channels }
     ensures { result ≡ (wires network.now).writer channel }
 {
-    let side = network.writer(channel)?;
-    Some(side.instance)
+    Some(network.writer(channel)?.instance)
 }
 
 impl Wiring {

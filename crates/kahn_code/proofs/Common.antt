@@ -3,12 +3,9 @@ pub use Rattle.kahn_code.specs.Cells.{AllStand, AreDriven, AreKeptTokens, StoodB
 pub use Rattle.kahn_code.specs.Code.{AreProcessCodes, IsCodeOf, IsCompiled, AreUses, HasProcessCode, HasArguments, IsProcessCode, to_have, to_read, to_write, use_of}
 pub use Rattle.kahn_code.specs.Common.{Actual, Argument, Failure, Line, Operator, Program, Value, AreInputsExtended, Channel, Cut, Dry, Expr, Follows, Hands, Holds, In, Inner, Input, Inputs, Instance, Integer, IsOf, IsOwn, IsWellWired, Lists, Logical, Network, Out, Outcome, Output, Parameter, Port, Print, Printer, Reached, Reads, Scope, Script, Stands, Step, Stmt, Store, Tapes, Token, Writes, Written, actual_at, actual_of, actuals_of, apply, body_of, channel_names, constant, default_of, empty, ending, exec, expression_of, goes_to, inputs_of, instance_at, is_output, is_watched, names_of, network_of, number, number_of, opening, opening_of, play, ranged, role_at, sends_of, source, statement_of, the_process, token_value, truth, values_at, values_taken}
 pub use Rattle.kahn_code.specs.Flat.{Act, Breaks, Ends, Goes, Puts, State, Takes, act_of, asked_by, at_place, between, but_last, choice, code_script, depth, expr_code, held_at, is_operator, jump_of, later, literal, look, loop_code, named, need, negative, opened, operand_code, operate, part_code, part_of_body, perform, register, registers_of, skip_unless, stmt_code, target, test_code, test_of, tested, unless, wrote, wrote_or_breaks}
-pub use Rattle.kahn_code.specs.Lines.{AreFirst, AreQueued, HasPoured, IsFirst, IsPoured, IsQueue, Joins, Lines, actual_here, at_first, given_of, next_at, place_at, queue_of, route_of, spare_of, taken_of, waiting_of}
-pub use Rattle.kahn_code.specs.Progress.{AreStill, HasKept, HasStepped, IsFull, IsPause, IsSameOne, Sits, Wants, core_of, first_core, gone_of, opening_core, printed_core, sent_core, spare_in, taken_core, turned_core}
-pub use Rattle.kahn_code.specs.Queues.{HasMore, Waiting}
-pub use Rattle.kahn_code.specs.Sites.{DoesRead, IsNext, IsPlaceWithin, LeavesOthers, Moved, Site, Serve, StaySo, Stays, site_code}
-pub use Rattle.kahn_code.specs.Standing.{Core, Led, StandsBy, core_view, count, tokens}
-pub use Rattle.kahn_code.specs.Told.{AreCounts, HasRunFor, IsAt, IsStanding, Told, site_of, told_of, told_view}
+pub use Rattle.kahn_code.specs.Lines.{AreFirst, AreQueued, HasPoured, IsFirst, IsPoured, IsQueue, Joins, Lines, actual_here, at_first, given_of, next_at, place_at, queue_of, route_of, spare_of, taken_of, waiting_of, HasMore, Waiting}
+pub use Rattle.kahn_code.specs.Progress.{AreStill, HasKept, HasStepped, IsFull, IsPause, IsSameOne, Sits, Wants, core_of, first_core, gone_of, opening_core, printed_core, sent_core, spare_in, taken_core, turned_core, AreCounts, HasRunFor, IsAt, IsStanding, Told, site_of, told_of, told_view}
+pub use Rattle.kahn_code.specs.Standing.{DoesRead, IsNext, IsPlaceWithin, LeavesOthers, Moved, Site, Serve, StaySo, Stays, site_code, Core, Led, StandsBy, core_view, count, tokens}
 pub use Rattle.kahn_code.specs.declared.compiled.ProcessCode.{ProcessCode}
 pub use Rattle.kahn_code.specs.declared.compiled.ParameterUse.{ParameterUse}
 pub use Rattle.kahn_code.specs.declared.instruction.Instruction.{Instruction}
@@ -17,12 +14,9 @@ pub use Rattle.kahn_code.specs.declared.instruction.Test.{Test}
 pub use Rattle.kahn_code.specs.declared.listing.Listed.{Listed}
 pub use Rattle.kahn_code.specs.declared.progress.Pause.{Pause}
 pub use Rattle.kahn_code.specs.declared.progress.Progress.{Progress}
-pub use Rattle.kahn_code.specs.inner.Queued.{AllBegin, regrown}
-pub use Rattle.kahn_code.specs.inner.Formed.{AreFormed, HasFormedCode, IsFormed, reach_in, reads_one, test_reach, writes_one}
-pub use Rattle.kahn_code.specs.inner.Forms.{Aims, AreForms, AreInPlace, IsInPlace, before_none, instruction_of, instructions_of, meanings}
-pub use Rattle.kahn_code.specs.inner.Gone.{kept_behind, nothing_gone}
-pub use Rattle.kahn_code.specs.inner.Rooms.{OnNoMemory, WantsSpare, spares_of}
-pub use Rattle.kahn_code.specs.inner.Tapped.{Tapped, regrown_tap}
+pub use Rattle.kahn_code.specs.inner.Gone.{AllBegin, regrown, kept_behind, nothing_gone}
+pub use Rattle.kahn_code.specs.inner.Forms.{AreFormed, HasFormedCode, IsFormed, reach_in, hands_channel, test_reach, Aims, AreForms, AreInPlace, IsInPlace, before_none, instruction_of, instructions_of, meanings}
+pub use Rattle.kahn_code.specs.inner.Tapped.{OnNoMemory, WantsSpare, spares_of, Tapped, regrown_tap}
 pub use Rattle.kahn_streams.proofs.By_number.{all_at, within}
 pub use Rattle.kahn_streams.proofs.Proved.{feeds, iterates_rise, prefix_get, prefix_refl, prefix_trans, script_at, solves, some_same, values_append}
 pub use Rattle.kahn_streams.proofs.Sourced.{handed_within, reads_listed, writes, writes_listed}

@@ -3,9 +3,6 @@ pub mod Flat
 pub mod Cells
 pub mod Code
 pub mod Standing
-pub mod Sites
-pub mod Queues
 pub mod Lines
 pub mod Progress
-pub mod Told
 pub mod inner

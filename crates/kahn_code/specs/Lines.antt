@@ -1,7 +1,24 @@
--- Believed. What contracts see of the plain queues of all channels.
+-- Believed. What contracts see of the plain queue of a channel, and of those of all channels.
 use Rattle.std.specs.Prelude.{◌≡◌, ℕ, ◌+◌, ◌==◌, List, [], ◌++◌, length, Option, Some, None, slice_get, if◌then◌else◌}
-use Rattle.kahn_code.specs.Common.{Program, Role, Value, Actual, Reads, Writes, Hands, network_of, instance_at, actual_at, role_at, IsWellWired, Inner, Input, Output, Lists, inputs_of}
-use Rattle.kahn_code.specs.Queues.{Waiting}
+use Rattle.kahn_code.specs.Common.{Program, Lists, Role, Value, Actual, Reads, Writes, Hands, network_of, instance_at, actual_at, role_at, IsWellWired, Inner, Input, Output, inputs_of}
+
+-- of which network, input and channel its tokens are; how many were taken; how many wait; for how many more there is room
+pub record Waiting : Type 0 where
+  pub network : Program
+  pub input : Lists
+  pub channel : ℕ
+  pub taken : ℕ
+  pub waiting : ℕ
+  pub spare : ℕ
+
+-- so many of its tokens were taken, so many wait, and for so many more there is room
+abbrev pub waiting_in : Program → Lists → ℕ → ℕ → ℕ → ℕ → Waiting
+waiting_in network input channel taken waiting spare = record { network = network; input = input; channel = channel; taken = taken; waiting = waiting; spare = spare }
+
+-- the same queue, in which so many tokens more wait
+abbrev pub HasMore : ℕ → Waiting → Waiting → Type 0
+HasMore n old new =
+    (new.network ≡ old.network) × (new.input ≡ old.input) × (new.channel ≡ old.channel) × (new.taken ≡ old.taken) × (new.waiting ≡ old.waiting + n)
 
 -- the network and the input, the instance whose ports they are now, and the queue of each channel
 pub record Lines : Type 0 where

@@ -1,6 +1,3 @@
 pub mod Gone
 pub mod Tapped
-pub mod Queued
 pub mod Forms
-pub mod Formed
-pub mod Rooms

@@ -3,8 +3,8 @@
 ghost use Rattle.std.specs.Prelude.{◌≡◌, ◌+◌, ◌^◌, ◌<◌, length, [], map, slice_index_or, IfOk};
 ghost use Rattle.kahn_code.specs.Common.{network_of, instance_at, Lists, inputs_of, AreInputsExtended, action_row, form_row, codes};
 ghost use Rattle.kahn_code.specs.inner.Gone.{nothing_gone};
-ghost use Rattle.kahn_code.specs.Sites.{Serve};
-ghost use Rattle.kahn_code.specs.Told.{AreCounts, AreUnused, site_of, HasRunFor, IsAt, Told};
+ghost use Rattle.kahn_code.specs.Standing.{Serve};
+ghost use Rattle.kahn_code.specs.Progress.{AreCounts, AreUnused, site_of, HasRunFor, IsAt, Told};
 
 use crate::code::{Code, CodeFault};
 use crate::ports::Ports;

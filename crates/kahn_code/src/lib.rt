@@ -12,7 +12,6 @@ mod instruction;
 mod laws;
 mod listing;
 mod machine;
-mod past;
 mod place;
 mod plain;
 mod ports;

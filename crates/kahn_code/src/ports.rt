@@ -1,7 +1,7 @@
 //! Where an instance takes and puts tokens.
 
 ghost use Rattle.std.specs.Prelude.{◌≡◌, ◌≢◌, ℕ, ◌<◌, ◌^◌, IfSome, IfNone, IsSome, IsTrue, IsFalse, OnOk, OnErr, IsOk};
-ghost use Rattle.kahn_code.specs.Sites.{Site, DoesRead, DoesWrite, IsNext, Stays, StaySo, Moved, LeavesOthers, Grows};
+ghost use Rattle.kahn_code.specs.Standing.{Site, DoesRead, DoesWrite, IsNext, Stays, StaySo, Moved, LeavesOthers, Grows};
 
 use kahn_streams::{NoMemory, Token};
 

@@ -2,10 +2,9 @@
 
 ghost use Rattle.std.specs.Prelude.{◌≡◌, ◌<◌, ◌≤◌, ◌+◌, ◌-◌, ◌^◌, length, slice_get, IfSome, IfNone, OnOk, OnErr, IsOk, Some, map, IfOk, ℕ, drop};
 ghost use Rattle.kahn_code.specs.Common.{network_of, role_at, Input as InputRole, Channel, AreInputsExtended, IsOf, Holds, Names, Lists, inputs_of, Follow, action_row, form_row, codes};
-ghost use Rattle.kahn_code.specs.Lines.{AreFirst, IsFirst};
+ghost use Rattle.kahn_code.specs.Lines.{AreFirst, IsFirst, HasMore, Waiting, waiting_in};
 ghost use Rattle.std.specs.VecDeque.{deque_len, deque_capacity};
-ghost use Rattle.kahn_code.specs.Queues.{HasMore, Waiting, waiting_in};
-ghost use Rattle.kahn_code.specs.inner.Queued.{AllBegin, regrown};
+ghost use Rattle.kahn_code.specs.inner.Gone.{AllBegin, regrown};
 
 use kahn_streams::{About, Carried, Input, Line, Network, NoMemory, Token, Value, Word};
 use std::alloc::Allocator;
@@ -65,13 +64,8 @@ impl<A: Allocator> Queue<A> {
         // It is counted first, so that nothing is written between its way out of the queue and where the caller puts it.
         self.taken += 1;
         let carried = self.tokens.pop_front().unwrap();
-        Some(lifted(
-            &self.network,
-            &self.input,
-            carried.token(line, place),
-            line,
-            place,
-        ))
+        let token = carried.token(line, place);
+        Some(lifted(&self.network, &self.input, token, line, place))
     }
 
     /// Goes on for an input whose lists begin with those of its own. It takes no memory.

@@ -4,9 +4,8 @@ ghost use Rattle.std.specs.Prelude.{◌≡◌, ℕ, ◌+◌, ◌^◌, ◌<◌, l
 ghost use Rattle.kahn_code.specs.Common.{network_of, instance_at, Lists, inputs_of, Names, AreInputsExtended, action_row, form_row, codes};
 ghost use Rattle.kahn_code.specs.Cells.{StoodBy};
 ghost use Rattle.kahn_code.specs.inner.Gone.{kept_behind, nothing_gone};
-ghost use Rattle.kahn_code.specs.Sites.{Serve};
-ghost use Rattle.kahn_code.specs.Standing.{tokens};
-ghost use Rattle.kahn_code.specs.Told.{AreCounts, AreUnused, site_of, told_view, HasRunFor, IsAt, IsStanding};
+ghost use Rattle.kahn_code.specs.Standing.{Serve, tokens};
+ghost use Rattle.kahn_code.specs.Progress.{AreCounts, AreUnused, site_of, told_view, HasRunFor, IsAt, IsStanding};
 ghost use Rattle.kahn_code.specs.inner.Tapped.{HasForgotten, Tapped, regrown_tap, tapped_of};
 
 use crate::cell::Kept;

@@ -5,40 +5,25 @@ pub use Rattle.std.proofs.lemmas.List.{append_assoc, get_or-map, get_or-set_othe
 pub use Rattle.std.proofs.lemmas.List.Elements.{All-map, All-push}
 pub use Rattle.std.proofs.lemmas.List.Sums.{sum_by-cons, sum_by_push}
 pub use Rattle.std.proofs.lemmas.Option.{slice_get-map, slice_get_read, slice_get_within}
-pub use Rattle.std.specs.List.{position}
-pub use Rattle.std.specs.Option.{option_map}
-pub use Rattle.std.specs.Vec.{vec_capacity}
+pub use Rattle.std.specs.{List.position, Option.option_map, Vec.vec_capacity}
 pub use denote.Param.Send.{FieldsAt, IsSend, IsSync, SyncAt, array_sync_at, recorded_sync, sendable, shr_sync, struct_sync, struct_sync_at}
 pub use lib.ListN.{get_elem?}
 pub use mathlib.Core.Logic.{dite}
 pub use mathlib.Core.Option.{some, some-injective, some-ne-none}
 pub use native.Mathlib.Decide.{ℕ_discrete}
-pub use Rattle.kahn_board.proofs.Sole.{no_writer, nothing, sole_first, sole_reader, sole_writer}
-pub use Rattle.kahn_board.proofs.Sums.{is_there}
-pub use Rattle.kahn_board.specs.Calls.{Becomes, LooksAt, Swaps}
-pub use Rattle.kahn_board.specs.Dealt.{belongs, dealt, events_told, holds, wired}
-pub use Rattle.kahn_board.specs.Opening.{Opens}
-pub use Rattle.kahn_board.specs.Plays.{Sat, SeesMore, after_reporting}
+pub use Rattle.kahn_board.proofs.{Sole.no_writer, Sole.nothing, Sole.sole_first, Sole.sole_reader, Sole.sole_writer, Sums.is_there}
+pub use Rattle.kahn_board.specs.{Calls.Becomes, Calls.LooksAt, Calls.Swaps, Opening.Opens, Plays.Sat, Plays.SeesMore, Plays.after_reporting, Wires.Wires}
+pub use Rattle.kahn_board.specs.Rule.{belongs, dealt, events_told, holds, wired}
 unfoldable pub use Rattle.kahn_board.specs.Wires.{wires}
-pub use Rattle.kahn_board.specs.Wires.{Wires}
-pub use Rattle.kahn_board.specs.declared.board.Seat.{Seat}
-pub use Rattle.kahn_board.specs.declared.rule.Terms.{Terms}
-pub use Rattle.kahn_board.specs.declared.view.View.{View}
+pub use Rattle.kahn_board.specs.declared.{board.Seat.Seat, rule.Terms.Terms, view.View.View}
 pub use Rattle.kahn_board.specs.inner.Turn.{Fits, HasPublished, HoldsInTurn, InTurn, IsBetween, Knows, RestsWith}
 pub use Rattle.kahn_code.proofs.Readers.{driven, joins_parameter, joins_within, reads_once}
-pub use Rattle.kahn_code.specs.Lines.{Joins, route_of}
-pub use Rattle.kahn_code.specs.Standing.{count}
-pub use Rattle.kahn_code.specs.Told.{AreCounts}
+pub use Rattle.kahn_code.specs.{Lines.Joins, Lines.route_of, Progress.AreCounts, Standing.count}
 pub use Rattle.kahn_job.specs.inner.Berths.{Serves, end_at}
 pub use Rattle.kahn_job.specs.inner.Tasks.{Continues, HasStanding, IsTrueOf, Tasked, standing_after, woken_task}
 pub use Rattle.kahn_job.specs.inner.Works.{IsDelivered, IsJob, Work}
-pub use Rattle.kahn_streams.specs.Answers.{is_output}
-pub use Rattle.kahn_streams.specs.Inputs.{Lists, inputs_of}
+pub use Rattle.kahn_streams.specs.{Answers.is_output, Inputs.Lists, Inputs.inputs_of, Wiring.IsWellWired, Wiring.side_at, declared.sides.Side.Side, declared.tree.Program.Program}
 pub use Rattle.kahn_streams.specs.Network.{Actual, Given, Hands, IsOnly, IsWriter, Network, Reads, Writes, Written, actual_at, channel_source, instance_at, network_of, role_at}
-pub use Rattle.kahn_streams.specs.Wiring.{IsWellWired, side_at}
-pub use Rattle.kahn_streams.specs.declared.sides.Side.{Side}
-pub use Rattle.kahn_streams.specs.declared.tree.Program.{Program}
 pub use Rattle.kahn_crew.specs.declared.run.Run.{Run}
-pub use Rattle.kahn_crew.specs.inner.Begins.{AreReadyTasks, HasBegun, IsNumber, IsReadyTask, FitTogether, IsTaskOf}
 pub use Rattle.kahn_crew.specs.inner.Turns.{CanRest, IsDue, IsSetDown, IsSameWorker, HasPicked, HasTask, Heeds, IsAtWork, IsTaskIn, RaisesAsWanted, SitsWith, StandsStill, WasNotReady, terms_of}
-pub use Rattle.kahn_crew.specs.inner.Tasks.{AgreesWith, IsLater, IsPublished, count_on, handed_to_task, is_channel, read_by, reads_at, task_rows, told_tale, waits_on, work_of, writes_at, written_by, wrote_by}
+pub use Rattle.kahn_crew.specs.inner.Tasks.{AreReadyTasks, HasBegun, IsNumber, IsReadyTask, FitTogether, IsTaskOf, AgreesWith, IsLater, IsPublished, count_on, handed_to_task, is_channel, read_by, reads_at, task_rows, told_tale, waits_on, work_of, writes_at, written_by, wrote_by}

@@ -1,5 +1,5 @@
 -- Workers with their seats.
-use Rattle.kahn_crew.proofs.Common.{arith, ◌≡◌, ◌↔◌, ◌⊎◌, inl, inr, ⊎_elim, ℕ, suc, ◌+◌, ◌<◌, ◌≤◌, Bool, true, false, true≢false, ◌||◌, List, [], ◌∷◌, ◌++◌, length, All, sum_by, slice_index_or, refl, sym, ap, ◌∙◌, subst, map, length-map, map-append, get_or-map, dite, ℕ_discrete, sum_by_push, sum_by-cons, Seat, Heeds, Run, Tasked}
+use Rattle.kahn_crew.proofs.Common.{arith, ◌≡◌, ◌↔◌, ◌⊎◌, inl, inr, ⊎_elim, ℕ, suc, ◌+◌, ◌<◌, ◌≤◌, Bool, true, false, true≢false, ◌||◌, List, [], ◌∷◌, ◌++◌, length, All, sum_by, slice_index_or, refl, sym, ap, ◌∙◌, subst, map, length-map, map-append, get_or-map, dite, ℕ_discrete, sum_by_push, sum_by-cons, Seat, Heeds, Run, Tasked, get_or_append_left, length-append}
 use Rattle.kahn_board.specs.inner.Turn.{SitsAt, parts_of, raised_of}
 use Rattle.kahn_crew.specs.inner.Turns.{HasCause, HasGone, HasSeat, WantsNone, seat_of, table_id_of}
 use Rattle.kahn_crew.specs.declared.worker.Worker.{Worker}
@@ -84,3 +84,16 @@ all_caused old new e none calm h i d lt =
 pub one_raised : (new : List Worker) (i : ℕ) → i < length new → ((d : Worker) → 0 < (slice_index_or new i d).seat.seat.me.0.raised) → 0 < crew_raised new
 one_raised [] i lt raised = absurd (omega (arith, lt))
 one_raised (w ∷ ws) i lt raised = omega (arith, raised w, one_least (w ∷ ws) i w lt)
+
+-- one of several that was told to leave is there too where one more comes to the end
+pub told_among : {A : Type 0} (Q : A → A → Type 0) (olds rest news left : List A) (a b : A) → olds ≡ rest ++ a ∷ [] → news ≡ left ++ b ∷ [] → length left ≡ length rest →
+    (i : ℕ) × (i < length rest) × ((d : A) → Q (slice_index_or rest i d) (slice_index_or left i d)) →
+    (i : ℕ) × (i < length olds) × ((d : A) → Q (slice_index_or olds i d) (slice_index_or news i d))
+told_among Q olds rest news left a b e f same q = (
+  q.0,
+  omega (arith, q.1, ap length e, length-append rest (a ∷ [])),
+  (λ d.
+      let old : slice_index_or rest q.0 d ≡ slice_index_or olds q.0 d = sym (ap (λ l. slice_index_or l q.0 d) e ∙ get_or_append_left rest (a ∷ []) d q.0 q.1) in
+      let new : slice_index_or left q.0 d ≡ slice_index_or news q.0 d = sym (ap (λ l. slice_index_or l q.0 d) f ∙ get_or_append_left left (b ∷ []) d q.0 (omega (arith, q.1, same))) in
+      subst (λ x. Q x (slice_index_or news q.0 d)) old (subst (λ x. Q (slice_index_or rest q.0 d) x) new (q.2 d))),
+)

@@ -2,7 +2,7 @@
 use Rattle.kahn_crew.proofs.Common.{append-nil, ◌++◌, reverse, arith, ◌≡◌, ◌⊎◌, inl, inr, ⊎_elim, ℕ, zero, suc, ◌+◌, ◌<◌, ◌≤◌, true, false, List, [], ◌∷◌, length, sum_by, refl, sym, ap, ◌∙◌, subst, Option, Some, slice_get, some, get_elem?, sum_by-cons, slice_get_within, Program, Network, Reads, Writes, Given, channel_source, network_of, instance_at, actual_at, role_at, IsWellWired, Lists, is_output, count, end_at, Work, belongs, dealt, wired, events_told, wires, Terms, View, AreReadyTasks, HasBegun, IsTaskOf, Tasked, Continues, IsLater, count_on, handed_to_task, read_by, reads_at, told_tale, waits_on, writes_at, wrote_by, no_writer}
 use Rattle.kahn_streams.specs.declared.tree.Role.{Role}
 use Rattle.kahn_board.specs.Opening.{Closes}
-use Rattle.kahn_board.specs.Place.{below}
+use Rattle.kahn_board.specs.Rule.{below}
 use Rattle.kahn_board.specs.declared.closing.Closed.{Closed}
 use Rattle.kahn_crew.specs.inner.Left.{AreAll, AreUntouched, HaveGone, IsQuietTask, IsOver, task_events}
 use Rattle.kahn_job.specs.declared.standing.Standing.{Standing}
@@ -176,33 +176,36 @@ sums_rise (z ∷ xs) (u ∷ ys) l h =
     by same others zero x y e f = ap task_events (sym (some_same f)) ∙ same ∙ ap task_events (some_same e)
     by same others (suc p) x y e f = others p x y e f
 
--- a run on whose board nobody works
-module _ (t : Program) (lists : Lists) (watch : Option ℕ) (key : Terms Tasked) (is_wired : IsWellWired t) (begun : HasBegun t lists watch key)
-    (c : Closed Tasked) (tasks : List Tasked) (v : View) (closes : Closes told_tale (belongs IsLater key) (wired key) (dealt told_tale key) c v) (are : c.cells.items ≡ tasks) where
+-- a run on whose board nobody works, that was made of these tasks for so many events
+module _ {t : Program} {lists : Lists} {watch : Option ℕ} {key : Terms Tasked} (is_wired : IsWellWired t) (begun : HasBegun t lists watch key)
+    {c : Closed Tasked} {tasks : List Tasked} {v : View} (closes : Closes told_tale (belongs IsLater key) (wired key) (dealt told_tale key) c v) (are : c.cells.items ≡ tasks)
+    {bound : ℕ} {first : List Tasked} (of : (key.bound ≡ bound) × (key.cells.value.items ≡ first)) where
   wired_key : IsWellWired key.network.value
   wired_key = subst IsWellWired (sym begun.network) is_wired
 
   begun_key : HasBegun key.network.value lists watch key
   begun_key = subst (λ (k : Program). HasBegun k lists watch key) (sym begun.network) begun
 
-  pub have_gone : v.untold ≡ 0 → HaveGone t lists watch (most_events key) key.cells.value.items tasks c.budget
+  pub have_gone : v.untold ≡ 0 → HaveGone t lists watch (bound + events_told told_tale first) first tasks c.budget
   have_gone none =
-      subst (λ (k : Program). HaveGone k lists watch (most_events key) key.cells.value.items tasks c.budget) begun.network
-      (gone_here lists watch key wired_key begun_key c tasks v closes are none)
+      subst (λ (k : Program). HaveGone k lists watch (bound + events_told told_tale first) first tasks c.budget) begun.network
+      (subst (λ b. HaveGone key.network.value lists watch (b + events_told told_tale first) first tasks c.budget) of.0
+      (subst (λ (l : List Tasked). HaveGone key.network.value lists watch (key.bound + events_told told_tale l) l tasks c.budget) of.1
+      (gone_here lists watch key wired_key begun_key c tasks v closes are none)))
 
-  pub untouched : v.untold ≡ 0 → v.done ≡ 0 → AreUntouched key.bound key.cells.value.items tasks c.budget
+  pub untouched : v.untold ≡ 0 → v.done ≡ 0 → AreUntouched bound first tasks c.budget
   untouched none unused =
       let gone = have_gone none in
       let spent : c.budget + v.done ≡ key.bound = closes.budget_is in
-      let all : c.budget ≡ key.bound = omega (arith, spent, unused) in
-      let sum : c.budget + sum_by task_events tasks ≡ key.bound + events_told told_tale key.cells.value.items = gone.events in
-      let first : sum_by task_events key.cells.value.items ≡ events_told told_tale key.cells.value.items = all_told key.cells.value.items in
-      let same : sum_by task_events tasks ≡ sum_by task_events key.cells.value.items = omega (arith, all, sum, first) in
+      let all : c.budget ≡ bound = omega (arith, spent, unused, of.0) in
+      let sum : c.budget + sum_by task_events tasks ≡ bound + events_told told_tale first = gone.events in
+      let told : sum_by task_events first ≡ events_told told_tale first = all_told first in
+      let same : sum_by task_events tasks ≡ sum_by task_events first = omega (arith, all, sum, told) in
       record {
         unused = all;
         cells = λ p x y e f.
             (gone.later p x y e f).still
-            ((sums_rise key.cells.value.items tasks (gone.count ∙ sym gone.ready.count) (λ q u w g h. (gone.later q u w g h).events)).1 same p x y e f);
+            ((sums_rise first tasks (gone.count ∙ sym gone.ready.count) (λ q u w g h. (gone.later q u w g h).events)).1 same p x y e f);
       }
 
   pub is_over : v.stage ≡ 1 → IsOver t lists tasks c.budget c.halted
@@ -222,8 +225,8 @@ untouched_gone t lists watch bound first tasks budget ready same left =
       events = let a : sum_by task_events first ≡ events_told told_tale first = all_told first in omega (arith, a, left);
     })
 
-pub untouched_here : (bound : ℕ) (first tasks : List Tasked) (budget : ℕ) → tasks ≡ first → budget ≡ bound → AreUntouched bound first tasks budget
-untouched_here bound first tasks budget same left = record {
+pub untouched_here : {bound budget : ℕ} {first tasks : List Tasked} → tasks ≡ first → budget ≡ bound → AreUntouched bound first tasks budget
+untouched_here same left = record {
   unused = left;
   cells = λ p x y e f. ap (λ (z : Tasked). z.work.cell) (sym (some_same (sym e ∙ subst (λ (l : List Tasked). slice_get l p ≡ Some y) same f)));
 }

@@ -4,7 +4,6 @@ pub mod Wirings
 pub mod Publishing
 pub mod Heeding
 pub mod Round
-pub mod Told_to_leave
 pub mod Resting
 pub mod Working
 pub mod Started

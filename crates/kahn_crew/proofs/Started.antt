@@ -1,9 +1,9 @@
 -- The first tasks, and the board that is made of them.
 use Rattle.kahn_crew.proofs.Common.{arith, ◌≡◌, ℕ, zero, suc, ◌+◌, ◌<◌, ◌≤◌, ◌^◌, List, [], ◌∷◌, ◌++◌, length, map, refl, sym, ap, ◌∙◌, subst, true, false, Option, Some, None, slice_get, slice_index, slice_index_or, some, some-injective, some-ne-none, get_elem?, length-map, option_map, slice_get-map, slice_get_read, Program, Side, Writes, network_of, instance_at, actual_at, role_at, IsOnly, IsWriter, IsWellWired, side_at, Lists, inputs_of, is_output, Joins, count, AreCounts, Serves, end_at, IsDelivered, Work, events_told, Opens, wires, Terms, View, woken_task, Tasked, AreReadyTasks, HasBegun, IsNumber, IsReadyTask, FitTogether, AgreesWith, IsLater, IsPublished, task_rows, told_tale}
-use Rattle.kahn_streams.specs.declared.tree.Role.TheVariants.{Inner, Input}
+use Rattle.kahn_streams.specs.declared.tree.Role.TheVariants.{Input}
 use Rattle.kahn_job.specs.inner.Idles.{AreIdle, CanGoOn, HaveSettled, rows_of}
-use Rattle.kahn_job.specs.inner.Lanes.{AreJoinedOn}
-use Rattle.kahn_job.specs.inner.Openings.{AreOpening}
+use Rattle.kahn_job.specs.inner.Berths.{AreJoinedOn}
+use Rattle.kahn_job.specs.inner.Idles.{AreOpening}
 use Rattle.kahn_job.proofs.Idles.{idle_goes_on, row_there}
 use Rattle.kahn_job.proofs.Settles.{stood_same}
 use Rattle.kahn_board.specs.Rule.{spent}
@@ -105,10 +105,7 @@ module _ (t : Program) (lists : Lists) (watch : Option ℕ) (ws : List Work) (ta
 
 -- ---- how many tokens are published
 
-apart_roles : Inner ≡ Input → ⊥
-apart_roles e = absurd cc
-
-module _ (t : Program) (wired : IsWellWired t) (lists : Lists) (watch : Option ℕ) (tasks : List Tasked) (f : AreReadyTasks t lists watch tasks) (c : ℕ) where
+module _ {t : Program} (wired : IsWellWired t) {lists : Lists} {watch : Option ℕ} {tasks : List Tasked} (f : AreReadyTasks t lists watch tasks) (c : ℕ) where
   pub number_given : role_at (network_of t) c ≡ Input → (n : ℕ) → n ≡ length (inputs_of lists c) → n < 2 ^ 48 → IsNumber t lists tasks c n
   number_given r n e few = record {
     given = λ x. e;
@@ -116,16 +113,28 @@ module _ (t : Program) (wired : IsWellWired t) (lists : Lists) (watch : Option �
     few = few;
   }
 
-  pub number_sent : role_at (network_of t) c ≡ Inner → (s : Side) → IsOnly (IsWriter (network_of t) c) (Some s) → (y : Tasked) → slice_get tasks s.instance ≡ Some y →
+  -- the task of the writer is there
+  writer_there : (s : Side) → IsOnly (IsWriter (network_of t) c) (Some s) → (y : Tasked) → y ≡ slice_index_or tasks s.instance y → slice_get tasks s.instance ≡ Some y
+  writer_there s only y e = slice_get_read tasks (length tasks) s.instance y refl (let l = only.0.0.0 in let n = f.count in omega (arith, l, n)) e
+
+  pub sent_there : (s : Side) → IsOnly (IsWriter (network_of t) c) (Some s) → (y : Tasked) → y ≡ slice_index_or tasks s.instance y → AreCounts y.work.cell →
+      s.parameter < length y.work.cell.sent
+  sent_there s only y is counts =
+      let o = f.each s.instance y (writer_there s only y is) in
+      let inside = only.0.0.1 in
+      omega (arith, inside, counts.sent_size, ap (λ k. length (instance_at (network_of k) y.work.cell.instance).actuals) o.network, ap (λ n. length (instance_at (network_of t) n).actuals) o.instance)
+
+  pub number_sent : (role_at (network_of t) c ≡ Input → ⊥) → (s : Side) → IsOnly (IsWriter (network_of t) c) (Some s) → (y : Tasked) → y ≡ slice_index_or tasks s.instance y →
       AreCounts y.work.cell → events_told told_tale tasks < 2 ^ 48 →
       (n : ℕ) → n ≡ count y.work.cell.sent s.parameter → IsNumber t lists tasks c n
-  number_sent r s only y here counts small n e = record {
-    given = λ i. absurd (apart_roles (sym r ∙ i));
+  number_sent r s only y is counts small n e = record {
+    given = λ i. absurd (r i);
     sent = λ p o x at w inner.
         let same : side_at p o ≡ s = only.1 (side_at p o) (Sourced.handed_within (network_of t) p o c (subst (λ a. Joins a c) (sym w) refl), w) in
-        let one : x ≡ y = some_same (sym at ∙ (ap (λ (u : Side). slice_get tasks u.instance) same ∙ here)) in
+        let one : x ≡ y = some_same (sym at ∙ (ap (λ (u : Side). slice_get tasks u.instance) same ∙ writer_there s only y is)) in
         e ∙ (ap (λ (z : Tasked). count z.work.cell.sent s.parameter) (sym one) ∙ ap (λ (u : Side). count x.work.cell.sent u.parameter) (sym same));
     few =
+        let here = writer_there s only y is in
         let o = f.each s.instance y here in
         let at = handed_is t wired y.work s.instance s.parameter o.network o.instance ∙ only.0.1 in
         let a = counts.sent_few s.parameter c at in
@@ -133,13 +142,9 @@ module _ (t : Program) (wired : IsWellWired t) (lists : Lists) (watch : Option �
         omega (arith, a, b, e, small);
   }
 
-  -- the task of the writer is there
-  pub writer_there : (s : Side) → IsOnly (IsWriter (network_of t) c) (Some s) → (y : Tasked) → y ≡ slice_index_or tasks s.instance y → slice_get tasks s.instance ≡ Some y
-  writer_there s only y e = slice_get_read tasks (length tasks) s.instance y refl (let l = only.0.0.0 in let n = f.count in omega (arith, l, n)) e
-
-  pub number_none : role_at (network_of t) c ≡ Inner → IsOnly (IsWriter (network_of t) c) None → IsNumber t lists tasks c 0
+  pub number_none : (role_at (network_of t) c ≡ Input → ⊥) → IsOnly (IsWriter (network_of t) c) None → IsNumber t lists tasks c 0
   number_none r none = record {
-    given = λ i. absurd (apart_roles (sym r ∙ i));
+    given = λ i. absurd (r i);
     sent = λ p o x at w inner. absurd (none (side_at p o) (Sourced.handed_within (network_of t) p o c (subst (λ a. Joins a c) (sym w) refl), w));
     few = omega arith;
   }

@@ -1,4 +1,3 @@
-pub mod Begins
 pub mod Left
 pub mod Tasks
 pub mod Turns

@@ -1,11 +1,9 @@
 //! Tasks in boxes, as they stand on the board.
 
-ghost use Rattle.std.specs.Prelude.{◌≡◌, ◌+◌, ◌≤◌, ◌++◌};
-ghost use Rattle.kahn_crew.specs.inner.Words.{[], length, reverse, IfOk, IfErr, vec_capacity};
+ghost use Rattle.std.specs.Prelude.{◌≡◌, ◌+◌, ◌≤◌, ◌++◌, [], length, reverse, IfOk, IfErr, vec_capacity};
 
 use kahn_board::Told;
 use kahn_job::Task;
-use kahn_streams::NoMemory;
 use std::alloc::Global;
 use std::marker::Model;
 
@@ -35,45 +33,25 @@ impl Told for Boxed {
     ghost after = { IsLater };
 }
 
-impl Boxed {
-    // A refusal gives the task back.
-    fn new(alloc: Global, task: Task) -> Result<Boxed, Task>
-        ensures boxed { IfOk result (λ b. b ≡ task) }
-        ensures refused { IfErr result (λ t. t ≡ task) }
-    {
-        match Box::new(alloc, task) {
-            Ok(task) => Ok(Boxed { task }),
-            Err(refused) => Err(refused.value),
-        }
-    }
-
-    /// The task without its box. It never allocates.
-    pub(crate) fn open(self) -> Task
-        ensures { result ≡ self }
-    {
-        Box::into_inner(self.task)
-    }
-}
-
-/// Each task in a box, and the room of their list. A refusal leaves them as they were.
+/// Each task in a box, and the room of their list. If memory is refused it gives them back as they were.
 pub(crate) fn box_all(
     alloc: Global,
     mut tasks: Vec<Task>,
-) -> Result<(Vec<Boxed>, Vec<Task>), (NoMemory, Vec<Task>)>
+) -> Result<(Vec<Boxed>, Vec<Task>), Vec<Task>>
     ensures boxed { IfOk result (λ r. r.0.items ≡ tasks.items) }
     ensures room { IfOk result (λ r. (r.1.items ≡ []) × (length tasks.items ≤ vec_capacity r.1)) }
-    ensures refused { IfErr result (λ e. e.1.items ≡ tasks.items) }
+    ensures refused { IfErr result (λ given. given.items ≡ tasks.items) }
 {
     let Ok(mut boxes) = Vec::with_capacity(alloc, tasks.len()) else {
-        return Err((NoMemory, tasks));
+        return Err(tasks);
     };
     tasks.reverse();
     while let Some(task) = tasks.pop() {
-        match Boxed::new(alloc, task) {
-            Ok(boxed) => boxes.push_reserved(boxed),
-            Err(task) => {
-                tasks.push_reserved(task);
-                return Err((NoMemory, unbox_all(boxes, tasks)));
+        match Box::new(alloc, task) {
+            Ok(task) => boxes.push_reserved(Boxed { task }),
+            Err(refused) => {
+                tasks.push_reserved(refused.value);
+                return Err(unbox_all(boxes, tasks));
             }
         }
     }
@@ -86,7 +64,7 @@ pub(crate) fn unbox_all(mut boxes: Vec<Boxed>, mut tasks: Vec<Task>) -> Vec<Task
     ensures { result.items ≡ boxes.items ++ reverse tasks.items }
 {
     while let Some(boxed) = boxes.pop() {
-        tasks.push_reserved(boxed.open());
+        tasks.push_reserved(Box::into_inner(boxed.task));
     }
     tasks.reverse();
     tasks

@@ -3,21 +3,18 @@
 ghost use Rattle.std.specs.Prelude.{◌≡◌, ◌↔◌, ◌+◌, ◌<◌, ◌≤◌, ◌^◌};
 ghost use Rattle.kahn_crew.specs.inner.Words.{[], true, false, Err, length, map, All, IfOk, IfErr, OnOk, vec_capacity, events_told, IsLoneSeat, parts_of, raised_of};
 ghost use Rattle.kahn_crew.specs.inner.Turns.{HasCause, HasGone, HasSeat, WantsNone, seat_of, table_id_of};
-ghost use Rattle.kahn_crew.specs.inner.Begins.{AreReadyTasks};
 ghost use Rattle.kahn_crew.specs.inner.Left.{AreUntouched, IsLack, IsLeftOf, IsOver};
-ghost use Rattle.kahn_crew.specs.inner.Tasks.{told_tale};
-ghost use Rattle.kahn_crew.specs.declared.fault.CrewFault.TheVariants.{NoMemory as NoMemoryFault, NoThread as NoThreadFault};
+ghost use Rattle.kahn_crew.specs.inner.Tasks.{AreReadyTasks, told_tale};
+ghost use Rattle.kahn_crew.specs.declared.closing.CrewFault.TheVariants.{NoMemory as NoMemoryFault, NoThread as NoThreadFault};
 
-use crate::boxes::Boxed;
-use crate::closing::{Left, leave, untouched};
-use crate::fault::CrewFault;
-use crate::gate::Gate;
-use crate::hints::{Hints, first_hints};
+use crate::boxes::{Boxed, unbox_all};
+use crate::closing::{CrewFault, Left};
+use crate::hints::Hints;
 use crate::opening::open_board;
-use crate::parallel::{Joined, Parallel, run_all};
-use crate::run::{Plan, Run};
+use crate::parallel::{Parallel, run_all};
+use crate::run::{Gate, Plan, Run};
 use crate::worker::{Worker, turns};
-use kahn_board::{Board, Seat, join_all, split_all};
+use kahn_board::{Closed, Seat, join_all, split_all};
 use kahn_code::Code;
 use kahn_job::Task;
 use kahn_streams::{Input, Network};
@@ -41,10 +38,11 @@ fn workers_at(
 {
     seats.reverse();
     while let Some(seat) = seats.pop() {
-        let own = hints.pop().unwrap();
+        let mut own = hints.pop().unwrap();
+        own.wanted = false;
         workers.push_reserved(Worker {
             seat,
-            hints: own.fresh(),
+            hints: own,
             start: hints.len(),
         });
     }
@@ -59,13 +57,8 @@ fn seats_of(workers: Vec<Worker>, mut seats: Vec<Seat<Boxed>>) -> (Vec<Seat<Boxe
 {
     let mut wanted = false;
     for worker in workers {
-        let Worker {
-            seat,
-            hints,
-            start: _,
-        } = worker;
-        wanted |= hints.wanted;
-        seats.push_reserved(seat);
+        wanted |= worker.hints.wanted;
+        seats.push_reserved(worker.seat);
     }
     (seats, wanted)
 }
@@ -104,14 +97,14 @@ fn work_all<R: Threads + Wait + Sync, G: Gate + Sync>(
     run: &Run<'_>,
     gate: &G,
     workers: Vec<Worker>,
-) -> Joined<Worker>
+) -> (Vec<Worker>, bool)
     requires each { All (HasSeat run.now) workers.items }
-    ensures count { length result.workers.items ≡ length workers.items }
-    ensures each { All (HasGone run.now) result.workers.items }
-    ensures sums { parts_of (map seat_of result.workers.items) ≡ parts_of (map seat_of workers.items) }
-    ensures several { result.refused ≡ true → 1 < length workers.items }
-    ensures halted { result.refused ≡ true → 0 < raised_of (map seat_of result.workers.items) }
-    ensures cause { result.refused ≡ false → raised_of (map seat_of workers.items) ≡ 0 → All HasCause result.workers.items }
+    ensures count { length result.0.items ≡ length workers.items }
+    ensures each { All (HasGone run.now) result.0.items }
+    ensures sums { parts_of (map seat_of result.0.items) ≡ parts_of (map seat_of workers.items) }
+    ensures several { result.1 ≡ true → 1 < length workers.items }
+    ensures halted { result.1 ≡ true → 0 < raised_of (map seat_of result.0.items) }
+    ensures cause { result.1 ≡ false → raised_of (map seat_of workers.items) ≡ 0 → All HasCause result.0.items }
 {
     run_all(rt, &Shared { rt, run, gate }, workers)
 }
@@ -146,7 +139,7 @@ fn run_workers<R: Threads + Wait + Sync, G: Gate + Sync>(
     match split_all(alloc, run.board, seat, hints.len()) {
         Ok(seats) => {
             let (workers, room) = workers_at(seats, hints, room);
-            let Joined { workers, refused } = work_all(rt, run, gate, workers);
+            let (workers, refused) = work_all(rt, run, gate, workers);
             let (seats, wanted) = seats_of(workers, room);
             let seat = join_all(run.board, seats);
             if refused {
@@ -191,15 +184,17 @@ pub fn run_tasks<R: Threads + Wait + Sync, G: Gate + Sync>(
     ensures refused { IfErr result (λ e. IsLeftOf network.now input.now plan.watch plan.bound tasks.items e.1) }
     ensures untouched { IfErr result (λ e. e.0 ≡ NoMemoryFault → AreUntouched plan.bound tasks.items e.1.tasks.items e.1.budget) }
 {
-    let Ok(hints) = first_hints(alloc, plan.workers, network.instances()) else {
-        return Err((CrewFault::NoMemory, untouched(tasks, plan.bound)));
-    };
-    let (board, seat, room) = match open_board(
-        alloc, network, input, plan.watch, plan.bound, tasks,
-    ) {
+    let _program = network.program();
+    let (board, seat, hints, room) = match open_board(alloc, network, input, plan, tasks) {
         Ok(opened) => opened,
-        Err((_fault, tasks)) => {
-            return Err((CrewFault::NoMemory, untouched(tasks, plan.bound)));
+        Err(tasks) => {
+            let left = Left {
+                tasks,
+                budget: plan.bound,
+                halted: false,
+                wanted: false,
+            };
+            return Err((CrewFault::NoMemory, left));
         }
     };
     let run = Run {
@@ -210,7 +205,17 @@ pub fn run_tasks<R: Threads + Wait + Sync, G: Gate + Sync>(
         quantum: plan.quantum,
     };
     let (outcome, seat, wanted) = run_workers(rt, alloc, plan, &run, gate, seat, hints);
-    let left = leave(board, seat, wanted, room, network, input, plan.watch);
+    let Closed {
+        cells,
+        budget,
+        halted,
+    } = board.close(seat);
+    let left = Left {
+        tasks: unbox_all(cells, room),
+        budget,
+        halted,
+        wanted,
+    };
     match outcome {
         Ok(()) => Ok(left),
         Err(fault) => Err((fault, left)),

@@ -4,8 +4,6 @@
 mod boxes;
 mod closing;
 mod crew;
-mod fault;
-mod gate;
 mod hints;
 mod opening;
 mod parallel;
@@ -14,14 +12,10 @@ mod publish;
 mod rest;
 mod run;
 mod turn;
-mod waking;
 mod worker;
 
 // For the crates above.
-pub use closing::Left;
+pub use closing::{CrewFault, Left, rest_all};
 pub use crew::run_tasks;
-pub use fault::CrewFault;
-pub use gate::{Gate, Open};
-pub use opening::first_tasks;
-pub use run::Plan;
-pub use waking::{rest_all, wake_all};
+pub use opening::{first_tasks, wake_all};
+pub use run::{Gate, Open, Plan};

@@ -1,18 +1,36 @@
 //! How a run begins: its tasks, and the board on which they are.
 
 ghost use Rattle.std.specs.Prelude.{◌≡◌, ◌+◌, ◌<◌, ◌≤◌, ◌^◌};
-ghost use Rattle.kahn_crew.specs.inner.Words.{ℕ, [], length, slice_index, IfOk, IfErr, vec_capacity, network_of, events_told, opening_view};
+ghost use Rattle.kahn_crew.specs.inner.Words.{ℕ, Option, [], length, map, IfOk, IfErr, vec_capacity, network_of, events_told, opening_view, AreIdle, HaveSettled, rows_of, woken_task};
 ghost use Rattle.kahn_board.specs.Wires.{wires};
-ghost use Rattle.kahn_crew.specs.inner.Begins.{AreReadyTasks, HasBegun, IsNumber};
-ghost use Rattle.kahn_crew.specs.inner.Tasks.{told_tale};
+ghost use Rattle.kahn_crew.specs.inner.Tasks.{AreReadyTasks, HasBegun, IsNumber, told_tale};
 
 use crate::boxes::{Boxed, box_all, unbox_all};
-use crate::waking::wake_all;
+use crate::hints::{Hints, first_hints};
+use crate::run::Plan;
 use kahn_board::{Board, Seat};
 use kahn_code::Code;
-use kahn_job::{Task, jobs};
+use kahn_job::{Idle, Task, jobs};
 use kahn_streams::{Input, Network, NoMemory, Role};
 use std::alloc::Global;
+
+/// The tasks of idle jobs that go on with an input for which their ends have settled. The list that is given has room for all. It never allocates.
+pub fn wake_all(
+    network: &Network,
+    input: &Input,
+    idles: Vec<Idle>,
+    mut tasks: Vec<Task>,
+) -> Vec<Task>
+    requires room { (tasks.items ≡ []) × (length idles.items ≤ vec_capacity tasks) }
+    requires idle { AreIdle network.now input.now idles.items }
+    requires settled { HaveSettled network.now input.now (rows_of idles.items) }
+    ensures { result.items ≡ map (woken_task input.now) idles.items }
+{
+    for idle in idles {
+        tasks.push_reserved(Task::woken(idle, input));
+    }
+    tasks
+}
 
 /// The tasks of all instances before their first events. It refuses only if memory was refused.
 pub fn first_tasks(
@@ -31,82 +49,57 @@ pub fn first_tasks(
     Ok(wake_all(network, input, idles, room))
 }
 
-// How many tokens of a channel are published at the start.
-fn number(
-    network: &Network,
-    input: &Input,
-    _watch: Option<usize>,
-    tasks: &[Task],
-    channel: usize,
-) -> u64
+// How many tokens of a channel are published at the start: the whole list of an input, and of another one what its writer sent.
+fn number(network: &Network, input: &Input, tasks: &[Task], channel: usize) -> u64
     requires here { channel < length (network_of network.now).channels }
-    requires ready { AreReadyTasks network.now input.now _watch tasks.now }
+    requires ready { (watch : Option ℕ) × AreReadyTasks network.now input.now watch tasks.now }
     requires few { events_told told_tale tasks.now < 2 ^ 48 }
     ensures { IsNumber network.now input.now tasks.now channel result }
 {
     let _program = network.program();
-    match network.channel(channel).role {
-        Role::Input => input.count(channel) as u64,
-        Role::Inner => match network.writer(channel) {
-            Some(writer) => {
-                let task = &tasks[writer.instance];
-                let _parameters = task.parameters();
-                task.sent(writer.parameter)
-            }
-            None => 0,
-        },
-        Role::Output => 0,
+    if let Role::Input = network.channel(channel).role {
+        return input.count(channel) as u64;
     }
+    let Some(writer) = network.writer(channel) else {
+        return 0;
+    };
+    let task = &tasks[writer.instance];
+    let _parameters = task.parameters();
+    task.sent(writer.parameter)
 }
 
-// How many tokens of each channel are published at the start.
-fn numbers_of(
-    alloc: Global,
-    network: &Network,
-    input: &Input,
-    _watch: Option<usize>,
-    tasks: &[Task],
-) -> Result<Vec<u64>, NoMemory>
-    requires ready { AreReadyTasks network.now input.now _watch tasks.now }
-    requires few { events_told told_tale tasks.now < 2 ^ 48 }
-    ensures count { IfOk result (λ v. length v.items ≡ length (network_of network.now).channels) }
-    ensures each { IfOk result (λ v. (c : ℕ) → c < length v.items → IsNumber network.now input.now tasks.now c (slice_index v.items c)) }
-{
-    let mut numbers = Vec::with_capacity(alloc, network.channels())?;
-    for channel in 0..network.channels() {
-        numbers.push_reserved(number(network, input, _watch, tasks, channel));
-    }
-    Ok(numbers)
-}
-
-/// The board of a run, its first seat, and a list with room for the tasks that are left. All that was sent on a channel is
-/// published, and all instances are ready. It refuses only if memory was refused, and gives the tasks back.
+/// The board of a run, its first seat, the hints of all workers, and a list with room for the tasks that are left. All that was
+/// sent on a channel is published, and all instances are ready. If memory is refused it gives the tasks back.
 pub(crate) fn open_board(
     alloc: Global,
     network: &Network,
     input: &Input,
-    watch: Option<usize>,
-    bound: u64,
+    plan: Plan,
     tasks: Vec<Task>,
-) -> Result<(Board<Boxed>, Seat<Boxed>, Vec<Task>), (NoMemory, Vec<Task>)>
-    requires ready { AreReadyTasks network.now input.now watch tasks.items }
-    requires few { bound + events_told told_tale tasks.items < 2 ^ 48 }
+) -> Result<(Board<Boxed>, Seat<Boxed>, Vec<Hints>, Vec<Task>), Vec<Task>>
+    requires some { 0 < plan.workers }
+    requires ready { AreReadyTasks network.now input.now plan.watch tasks.items }
+    requires few { plan.bound + events_told told_tale tasks.items < 2 ^ 48 }
     ensures seat { IfOk result (λ r. (r.1.seat.table_id ≡ r.0.table.shared.table_id) × (r.1.seat.me ≡ (opening_view (wires network.now), []))) }
-    ensures begun { IfOk result (λ r. HasBegun network.now input.now watch r.0.table.shared.key) }
-    ensures key { IfOk result (λ r. (r.0.table.shared.key.bound ≡ bound) × (r.0.table.shared.key.cells.value.items ≡ tasks.items)) }
-    ensures room { IfOk result (λ r. (r.2.items ≡ []) × (length (network_of network.now).instances ≤ vec_capacity r.2)) }
-    ensures refused { IfErr result (λ e. e.1.items ≡ tasks.items) }
+    ensures begun { IfOk result (λ r. HasBegun network.now input.now plan.watch r.0.table.shared.key) }
+    ensures key { IfOk result (λ r. (r.0.table.shared.key.bound ≡ plan.bound) × (r.0.table.shared.key.cells.value.items ≡ tasks.items)) }
+    ensures hints { IfOk result (λ r. length r.2.items ≡ plan.workers) }
+    ensures room { IfOk result (λ r. (r.3.items ≡ []) × (length (network_of network.now).instances ≤ vec_capacity r.3)) }
+    ensures refused { IfErr result (λ given. given.items ≡ tasks.items) }
 {
     let _program = network.program();
-    let Ok(numbers) = numbers_of(alloc, network, input, watch, &tasks) else {
-        return Err((NoMemory, tasks));
+    let Ok(mut numbers) = Vec::with_capacity(alloc, network.channels()) else {
+        return Err(tasks);
     };
-    let (boxes, room) = match box_all(alloc, tasks) {
-        Ok(boxed) => boxed,
-        Err(refused) => return Err(refused),
+    for channel in 0..network.channels() {
+        numbers.push_reserved(number(network, input, &tasks, channel));
+    }
+    let Ok(hints) = first_hints(alloc, plan.workers, network.instances()) else {
+        return Err(tasks);
     };
-    match Board::new(alloc, network, &numbers, boxes, bound) {
-        Ok((board, seat)) => Ok((board, seat, room)),
-        Err((fault, boxes)) => Err((fault, unbox_all(boxes, room))),
+    let (boxes, room) = box_all(alloc, tasks)?;
+    match Board::new(alloc, network, &numbers, boxes, plan.bound) {
+        Ok((board, seat)) => Ok((board, seat, hints, room)),
+        Err((_fault, boxes)) => Err(unbox_all(boxes, room)),
     }
 }

@@ -1,7 +1,6 @@
 //! Workers at the same time: the first in the caller's thread, and each other in one of its own.
 
-ghost use Rattle.std.specs.Prelude.{◌≡◌, ◌<◌, ◌≤◌};
-ghost use Rattle.kahn_crew.specs.inner.Words.{true, false, length, All, vec_capacity};
+ghost use Rattle.std.specs.Prelude.{◌≡◌, true, All, length, vec_capacity};
 ghost use Rattle.kahn_crew.specs.inner.Turns.{AllWent, HaveWorked, OneWent};
 
 use std::snapshot::Snapshot;
@@ -43,13 +42,6 @@ impl<'c, C, T: Parallel<C>> Promise<T> for Promised<'c, C, T> {
     ghost kept_by = { λ p r. T.did p.shared.now p.worker.value r };
 }
 
-/// All after their work, and whether a thread couldn't be started, which only several take.
-#[derive(Drop)]
-pub(crate) struct Joined<T> {
-    pub(crate) workers: Vec<T>,
-    pub(crate) refused: bool,
-}
-
 // All leave: each tells so before its work, which is done in this thread.
 fn halt_all<C, T: Parallel<C>>(shared: &C, mut workers: Vec<T>) -> Vec<T>
     requires { All (T.may shared.now) workers.items }
@@ -65,23 +57,6 @@ fn halt_all<C, T: Parallel<C>>(shared: &C, mut workers: Vec<T>) -> Vec<T>
     left
 }
 
-// The one worker, if there is one, works in this thread.
-fn run_here<C, T: Parallel<C>>(shared: &C, mut workers: Vec<T>) -> Joined<T>
-    requires may { All (T.may shared.now) workers.items }
-    requires few { length workers.items ≤ 1 }
-    ensures room { vec_capacity result.workers ≡ vec_capacity workers }
-    ensures worked { HaveWorked (T.did shared.now) (T.quit shared.now) workers.items result.workers.items result.refused }
-    ensures calm { result.refused ≡ false }
-{
-    if let Some(worker) = workers.pop() {
-        workers.push_reserved(worker.run(shared));
-    }
-    Joined {
-        workers,
-        refused: false,
-    }
-}
-
 // All work, the first in this thread and each other in one of its own. If a thread can't be started, this one tells all to
 // leave.
 fn run_from<'s, E, R: Threads, C: Sync + 's, T: Parallel<C> + Send + Drop + 's>(
@@ -89,18 +64,19 @@ fn run_from<'s, E, R: Threads, C: Sync + 's, T: Parallel<C> + Send + Drop + 's>(
     scope: &'s Scope<'s, E>,
     shared: &'s C,
     mut workers: Vec<T>,
-) -> Joined<T>
+) -> (Vec<T>, bool)
     requires { All (T.may shared.now) workers.items }
-    ensures room { vec_capacity result.workers ≡ vec_capacity workers }
-    ensures worked { HaveWorked (T.did shared.now) (T.quit shared.now) workers.items result.workers.items result.refused }
-    ensures quits { result.refused ≡ true → OneWent (T.quit shared.now) workers.items result.workers.items }
+    ensures room { vec_capacity result.0 ≡ vec_capacity workers }
+    ensures worked { HaveWorked (T.did shared.now) (T.quit shared.now) workers.items result.0.items result.1 }
+    ensures quits { result.1 ≡ true → OneWent (T.quit shared.now) workers.items result.0.items }
 {
-    if workers.len() <= 1 {
-        return run_here(shared, workers);
-    }
     let Some(worker) = workers.pop() else {
-        unreachable!()
+        return (workers, false);
     };
+    if workers.is_empty() {
+        workers.push_reserved(worker.run(shared));
+        return (workers, false);
+    }
     let promise = Promised {
         shared,
         worker: Snapshot::of(&worker),
@@ -111,45 +87,39 @@ fn run_from<'s, E, R: Threads, C: Sync + 's, T: Parallel<C> + Send + Drop + 's>(
     { worker.run(shared) };
     match scope.spawn_with(promise, work) {
         Ok(thread) => {
-            let mut joined = run_from(rt, scope, shared, workers);
-            joined.workers.push_reserved(thread.join(rt));
-            joined
+            let (mut workers, refused) = run_from(rt, scope, shared, workers);
+            workers.push_reserved(thread.join(rt));
+            (workers, refused)
         }
         Err(refused) => {
             let mut workers = halt_all(shared, workers);
             workers.push_reserved((refused.value)());
-            Joined {
-                workers,
-                refused: true,
-            }
+            (workers, true)
         }
     }
 }
 
 /// All work at the same time, one of them in this thread and each other in a thread of its own. If a thread can't be
 /// started, all are told to leave, and what is left of the work is done in this thread. It takes no memory of an
-/// allocator.
+/// allocator. It answers all after their work, and whether a thread couldn't be started, which only several take.
 pub(crate) fn run_all<R: Threads + Wait + Sync, C: Sync, T: Parallel<C> + Send + Drop>(
     rt: &R,
     shared: &C,
     workers: Vec<T>,
-) -> Joined<T>
+) -> (Vec<T>, bool)
     requires { All (T.may shared.now) workers.items }
-    ensures room { vec_capacity result.workers ≡ vec_capacity workers }
-    ensures worked { HaveWorked (T.did shared.now) (T.quit shared.now) workers.items result.workers.items result.refused }
-    ensures quits { result.refused ≡ true → OneWent (T.quit shared.now) workers.items result.workers.items }
+    ensures room { vec_capacity result.0 ≡ vec_capacity workers }
+    ensures worked { HaveWorked (T.did shared.now) (T.quit shared.now) workers.items result.0.items result.1 }
+    ensures quits { result.1 ≡ true → OneWent (T.quit shared.now) workers.items result.0.items }
 {
-    if workers.len() <= 1 {
-        return run_here(shared, workers);
-    }
     thread::scope(
         thread::scope_env(),
         rt,
-        move |scope| -> Joined<T>
+        move |scope| -> (Vec<T>, bool)
             requires { All (T.may shared.now) workers.items }
-            ensures room { vec_capacity result.workers ≡ vec_capacity workers }
-            ensures worked { HaveWorked (T.did shared.entry.now) (T.quit shared.entry.now) workers.items result.workers.items result.refused }
-            ensures quits { result.refused ≡ true → OneWent (T.quit shared.entry.now) workers.items result.workers.items }
+            ensures room { vec_capacity result.0 ≡ vec_capacity workers }
+            ensures worked { HaveWorked (T.did shared.entry.now) (T.quit shared.entry.now) workers.items result.0.items result.1 }
+            ensures quits { result.1 ≡ true → OneWent (T.quit shared.entry.now) workers.items result.0.items }
         { run_from(rt, scope, shared, workers) },
     )
 }

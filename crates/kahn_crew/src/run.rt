@@ -1,7 +1,7 @@
-//! A run: its numbers, and what its workers are lent.
+//! A run: its numbers, what its workers are lent, and what one passes before it runs a process.
 
 ghost use Rattle.std.specs.Prelude.{◌<◌};
-ghost use Rattle.kahn_crew.specs.inner.Begins.{FitTogether};
+ghost use Rattle.kahn_crew.specs.inner.Tasks.{FitTogether};
 
 use crate::boxes::Boxed;
 use kahn_board::Board;
@@ -32,4 +32,29 @@ pub struct Run<'b> {
     pub quantum: u64,
     ghost fits: { FitTogether board.now.table.shared.key network.now code.now.network.value input.now },
     ghost some: { 0 < quantum },
+}
+
+/// Is entered just before each quantum of an instance. What is answered is right for every gate; a gate that waits
+/// makes the run wait.
+pub trait Gate {
+    /// The instance is about to run.
+    fn enter(&self, instance: usize);
+
+    /// Whether `enter` does nothing. Only then a run by several workers may begin on the caller's thread alone, and start no
+    /// other where there is no work for two.
+    fn is_open(&self) -> bool {
+        false
+    }
+}
+
+/// The gate that does nothing.
+#[derive(Clone, Copy, Default)]
+pub struct Open;
+
+impl Gate for Open {
+    fn enter(&self, _instance: usize) {}
+
+    fn is_open(&self) -> bool {
+        true
+    }
 }

@@ -5,11 +5,10 @@ ghost use Rattle.kahn_crew.specs.inner.Words.{ℕ, OnErr, OnOk, wired, NoMemory 
 ghost use Rattle.kahn_crew.specs.inner.Turns.{CanRest, IsDue, IsSetDown, HasTask, Heeds, IsAtWork, IsTaskIn, SitsIn, SitsWith, StandsStill};
 ghost use Rattle.kahn_crew.specs.inner.Tasks.{IsPublished};
 
-use crate::gate::Gate;
 use crate::hints::Order;
 use crate::pick::pick_hinted;
 use crate::publish::{hint, publish_all};
-use crate::run::Run;
+use crate::run::{Gate, Run};
 use crate::worker::Worker;
 use kahn_board::{Draw, draw_some, rest_dry, rest_over, rest_ready};
 use kahn_code::{Pause, Steps};
@@ -35,8 +34,7 @@ fn due_of(run: &Run<'_>, task: &Task, p: usize) -> Due
     let _program = run.network.program();
     match task.standing() {
         Standing::Going => Due::Ready,
-        Standing::Ended => Due::Over,
-        Standing::Faulted(_) => Due::Over,
+        Standing::Ended | Standing::Faulted(_) => Due::Over,
         Standing::Dry(parameter) => match run.code.channel(p, parameter) {
             Some(channel) => Due::Waits(channel, task.taken(parameter)),
             None => unreachable!(),
@@ -56,7 +54,7 @@ fn heed(run: &Run<'_>, worker: &mut Worker, pause: Pause, flushed: Result<(), No
     if flushed.is_ok() && !matches!(pause, Pause::NoMemory) {
         return;
     }
-    worker.hints.want();
+    worker.hints.wanted = true;
     worker.seat.halt(run.board);
 }
 

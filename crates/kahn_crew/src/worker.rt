@@ -5,11 +5,10 @@ ghost use Rattle.kahn_crew.specs.inner.Words.{IsBetweenTurns};
 ghost use Rattle.kahn_crew.specs.inner.Turns.{HasPicked, Heeds, IsSameWorker, SitsWith};
 
 use crate::boxes::Boxed;
-use crate::gate::Gate;
 use crate::hints::Hints;
 use crate::pick::{pick_any, pick_hinted};
 use crate::rest::Rest;
-use crate::run::Run;
+use crate::run::{Gate, Run};
 use crate::turn::turn;
 use kahn_board::{Seat, go_on};
 use kahn_code::Steps;
@@ -81,9 +80,7 @@ pub(crate) fn turns<R: Wait, G: Gate, L: Ledger>(
     blank: Blank,
 )
     requires idle { SitsWith run.now 0 worker.old.seat }
-    requires name { blank.name ≡ L.name }
-    requires parts { blank.parts ≡ L.parts }
-    requires some { 0 < blank.parts }
+    requires blank { (blank.name ≡ L.name) × (blank.parts ≡ L.parts) × (0 < blank.parts) }
     ensures same { Heeds worker.old worker.new }
     ensures left { IsBetweenTurns worker.new.seat × (worker.new.seat.seat.me.0.stage ≡ 1) }
 {

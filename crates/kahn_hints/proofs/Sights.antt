@@ -1,7 +1,8 @@
 -- The names in sight that are told.
-use Rattle.std.proofs.Common.{◌≡◌, ◌∙◌, ◌<◌, ◌++◌, ℕ, zero, suc, List, [], ◌∷◌, length, map, take, refl, sym, ap, append_assoc, arith}
+use Rattle.std.proofs.Common.{◌≡◌, ◌∙◌, ◌<◌, ◌++◌, ℕ, zero, suc, List, [], ◌∷◌, drop, length, map, take, refl, sym, ap, append_assoc, arith}
 use Rattle.std.proofs.lemmas.List.{take_all}
 use Rattle.kahn_streams.specs.declared.tree.Name.{Name}
+use Rattle.kahn_hints.specs.Inputs.{counted_channels, more_channels, told_channels}
 use Rattle.kahn_hints.specs.Sight.{listed_names, sight_lead, sight_words}
 
 -- fewer than five are all told
@@ -17,6 +18,12 @@ length_of_map : {A B : Type 0} (f : A → B) (xs : List A) → length xs ≡ len
 length_of_map f [] = refl
 length_of_map f (x ∷ xs) = ap suc (length_of_map f xs)
 
+drop_of_map : {A B : Type 0} (f : A → B) (n : ℕ) (xs : List A) → length (drop n xs) ≡ length (drop n (map f xs))
+drop_of_map f zero [] = refl
+drop_of_map f (suc n) [] = refl
+drop_of_map f zero (x ∷ xs) = length_of_map f (x ∷ xs)
+drop_of_map f (suc n) (x ∷ xs) = drop_of_map f n xs
+
 -- what leads to the names, and the names
 pub sight_joined : {A : Type 0} (f : A → Name) (xs ys : List A) (old lead one new : List ℕ) → lead ≡ sight_lead (length xs) → ys ≡ take 5 xs → one ≡ old ++ lead
     → new ≡ one ++ listed_names (map f ys) → new ≡ old ++ sight_words (map f xs)
@@ -25,3 +32,18 @@ sight_joined f xs ys old lead one new is told p q =
     ∙ append_assoc old (sight_lead (length xs)) (listed_names (map f ys))
     ∙ ap (λ l. old ++ (sight_lead (length xs) ++ listed_names l)) (ap (map f) told ∙ take_of_map f 5 xs)
     ∙ ap (λ n. old ++ (sight_lead n ++ listed_names (take 5 (map f xs)))) (length_of_map f xs)
+
+-- of one channel and more
+pub counted : (n : ℕ) → (n ≡ 0 → ⊥) → (n ≡ 1 → ⊥) → counted_channels n ≡ more_channels n
+counted zero a b = absurd (a refl)
+counted (suc zero) a b = absurd (b refl)
+counted (suc (suc n)) a b = refl
+
+-- the first names, and how many more there are
+pub told_joined : {A : Type 0} (f : A → Name) (xs told more : List A) (old one new : List ℕ) → told ≡ take 5 xs → more ≡ drop 5 xs
+    → one ≡ old ++ listed_names (map f told) → new ≡ one ++ more_channels (length more) → new ≡ old ++ told_channels (map f xs)
+unfolding told_channels
+told_joined f xs told more old one new first others p q =
+    q ∙ ap (λ t. t ++ more_channels (length more)) p ∙ append_assoc old (listed_names (map f told)) (more_channels (length more))
+    ∙ ap (λ l. old ++ (listed_names l ++ more_channels (length more))) (ap (map f) first ∙ take_of_map f 5 xs)
+    ∙ ap (λ m. old ++ (listed_names (take 5 (map f xs)) ++ more_channels m)) (ap length others ∙ drop_of_map f 5 xs)

@@ -1,5 +1,6 @@
 -- Believed. What is said of a name that no input channel has, or none at all.
-use Rattle.std.specs.Prelude.{◌==◌, ℕ, List, ◌++◌, Option, Some, None, codes, if◌then◌else◌, length}
+use Rattle.std.specs.Prelude.{◌==◌, ℕ, zero, suc, List, [], ◌∷◌, ◌++◌, Option, Some, None, codes, decimal, drop, if◌then◌else◌, length, take}
+use Rattle.std.specs.List.{concat}
 use Rattle.kahn_streams.specs.declared.tree.Name.{Name}
 use Rattle.kahn_streams.specs.declared.tree.Program.{Program}
 use Rattle.kahn_hints.specs.declared.names.Sort.TheVariants as sort
@@ -14,6 +15,19 @@ input_names t = program_names (Some sort.Input) t
 abbrev pub names_of_channels : Program → List Name
 names_of_channels t = program_names (Some sort.Channel) t
 
+-- how many there are more than were told
+abbrev pub counted_channels : ℕ → List ℕ
+counted_channels n = concat (codes ", and " ∷ decimal n ∷ codes " channels more" ∷ [])
+
+abbrev pub more_channels : ℕ → List ℕ
+more_channels zero = []
+more_channels (suc zero) = codes ", and 1 channel more"
+more_channels (suc (suc n)) = counted_channels (suc (suc n))
+
+-- the first five, and how many more there are
+unfoldable pub told_channels : List Name → List ℕ
+told_channels names = listed_names (take 5 names) ++ more_channels (length (drop 5 names))
+
 -- which there are
 abbrev pub inputs_lead : ℕ → List ℕ
 inputs_lead n = if n == 0 then codes "; there is no input channel" else codes "; input channels: "
@@ -22,12 +36,12 @@ abbrev pub channels_lead : ℕ → List ℕ
 channels_lead n = if n == 0 then codes "; there is no channel" else codes "; channels: "
 
 abbrev pub inputs_words : List Name → List ℕ
-inputs_words names = inputs_lead (length names) ++ listed_names names
+inputs_words names = inputs_lead (length names) ++ told_channels names
 
 -- the one that is nearest to a word, or else which there are
 abbrev pub meant_or_listed : List ℕ → List Name → Option Name → List ℕ
 meant_or_listed lead names (Some n) = meant_words n
-meant_or_listed lead names None = lead ++ listed_names names
+meant_or_listed lead names None = lead ++ told_channels names
 
 abbrev pub near_or_listed : List ℕ → List ℕ → List Name → List ℕ
 near_or_listed word lead names = meant_or_listed lead names (nearest word names)

@@ -1,12 +1,13 @@
 //! What is said of a name that no input channel has, or none at all.
 
 ghost use Rattle.std.specs.Prelude.{◌≡◌, ◌++◌, IfOk, map, string_bytes};
-ghost use Rattle.kahn_hints.specs.Sight.{listed_names};
-ghost use Rattle.kahn_hints.specs.Inputs.{names_of_channels, channels_lead, input_names, inputs_lead, inputs_words, near_or_listed, unknown_channel, unknown_input};
+ghost use Rattle.kahn_hints.specs.Inputs.{names_of_channels, channels_lead, counted_channels, input_names, inputs_lead, inputs_words, more_channels, near_or_listed, told_channels, unknown_channel, unknown_input};
 
 use crate::names::{Sort, program_names};
 use crate::near::nearest;
-use crate::sight::{add_meant, add_names};
+use crate::sight::{TOLD, add_meant, add_names};
+use itoa::Buffer;
+use kahn_marks::{add, first_ones};
 use kahn_streams::{Name, Program};
 use std::alloc::{AllocError, Global};
 
@@ -30,15 +31,47 @@ fn channels_lead(count: usize) -> &'static str
     }
 }
 
-/// Adds names, behind what stands before them.
-fn add_listed(words: &mut String, lead: &str, names: &[&Name]) -> Result<(), AllocError>
-    ensures { IfOk result (λ _. string_bytes words.new ≡ string_bytes words.old ++ (lead.now ++ listed_names (map (λ n. n.now) names.now))) }
+/// Adds that there are so many channels more.
+fn add_count(words: &mut String, more: usize) -> Result<(), AllocError>
+    ensures { IfOk result (λ _. string_bytes words.new ≡ string_bytes words.old ++ counted_channels more) }
 {
-    words.push_str(lead)?;
-    add_names(words, names)
+    let mut digits = Buffer::new();
+    let more = digits.format(more);
+    add(words, &[", and ", more, " channels more"])
 }
 
-/// Adds the name that is nearest to a word, or else all of them, behind what stands before them.
+/// Adds how many channels more there are than were told, where there are any.
+#[tactic(auto, using(crate::proofs::Sights::counted))]
+fn add_more(words: &mut String, more: usize) -> Result<(), AllocError>
+    ensures { IfOk result (λ _. string_bytes words.new ≡ string_bytes words.old ++ more_channels more) }
+{
+    if more == 0 {
+        return Ok(());
+    }
+    if more == 1 {
+        return add(words, &[", and 1 channel more"]);
+    }
+    add_count(words, more)
+}
+
+/// Adds the first five names, and how many more there are.
+fn add_told(words: &mut String, names: &[&Name]) -> Result<(), AllocError>
+    ensures { IfOk result (λ _. string_bytes words.new ≡ string_bytes words.old ++ told_channels (map (λ n. n.now) names.now)) }
+{
+    let (told, more) = first_ones(names, TOLD);
+    add_names(words, told)?;
+    add_more(words, more.len())
+}
+
+/// Adds names, behind what stands before them.
+fn add_listed(words: &mut String, lead: &str, names: &[&Name]) -> Result<(), AllocError>
+    ensures { IfOk result (λ _. string_bytes words.new ≡ string_bytes words.old ++ (lead.now ++ told_channels (map (λ n. n.now) names.now))) }
+{
+    words.push_str(lead)?;
+    add_told(words, names)
+}
+
+/// Adds the name that is nearest to a word, or else the first five of them, behind what stands before them.
 fn add_near(words: &mut String, word: &[u8], lead: &str, names: &[&Name]) -> Result<(), AllocError>
     ensures { IfOk result (λ _. string_bytes words.new ≡ string_bytes words.old ++ near_or_listed word.now lead.now (map (λ n. n.now) names.now)) }
 {

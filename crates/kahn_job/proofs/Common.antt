@@ -6,8 +6,8 @@ pub use Rattle.std.proofs.lemmas.Option.{none-some, same_Some, slice_get_within}
 pub use Rattle.std.specs.Vec.{vec_capacity}
 pub use Rattle.kahn_code.proofs.Lists.{AreFirst, none_first, one_first}
 pub use Rattle.kahn_code.specs.Lines.{Joins}
-pub use Rattle.kahn_code.specs.Sites.{Grows, Site}
-pub use Rattle.kahn_code.specs.Told.{IsAt, IsSameProcess, IsStill, Told, site_of, told_view}
+pub use Rattle.kahn_code.specs.Standing.{Grows, Site}
+pub use Rattle.kahn_code.specs.Progress.{IsAt, IsSameProcess, IsStill, Told, site_of, told_view}
 pub use Rattle.kahn_lane.specs.LaneEnds.{left, receiver_lane}
 pub use Rattle.kahn_lane.specs.Places.{lane_name, moved_to}
 pub use Rattle.kahn_lane.specs.declared.name.LaneName.{LaneName}
@@ -23,11 +23,9 @@ pub use Rattle.kahn_streams.specs.declared.tree.Program.{Program}
 pub use Rattle.kahn_streams.specs.declared.tree.Role.{Role}
 pub use Rattle.kahn_streams.specs.declared.tree.Role.TheVariants.{Inner, Input, Output}
 pub use Rattle.kahn_streams.specs.inner.Sources.{IsFed}
-pub use Rattle.kahn_job.specs.inner.Berths.{AreServed, HasStayed, HaveAdvanced, HaveFlushed, IsWithinInput, Serves, end_at, identities}
+pub use Rattle.kahn_job.specs.inner.Berths.{AreServed, HasStayed, HaveAdvanced, HaveFlushed, IsWithinInput, Serves, end_at, identities, AreBehindOn, AreJoinedOn, AreSoOn, HasPlace, HaveStayed, end_in, end_of_side}
 pub use Rattle.kahn_job.specs.inner.Ends.{End, HasRoom, Identity, IsBehind, IsFlushed, IsSame, Lane, ShareLane, identity_of}
-pub use Rattle.kahn_job.specs.inner.Idles.{AreIdle, CanGoOn, HaveMet, HaveSettled, IsIdle, cells_of, rows_of}
-pub use Rattle.kahn_job.specs.inner.Lanes.{AreBehindOn, AreJoinedOn, AreSoOn, HasPlace, HaveStayed, end_in, end_of_side}
-pub use Rattle.kahn_job.specs.inner.Openings.{AreEndsOf, AreOpening, IsFresh, IsOpening, placed}
+pub use Rattle.kahn_job.specs.inner.Idles.{AreIdle, CanGoOn, HaveMet, HaveSettled, IsIdle, cells_of, rows_of, AreEndsOf, AreOpening, IsFresh, IsOpening, placed}
 pub use Rattle.kahn_job.specs.inner.Settling.{AreElsewhere, AreResting, AreSettled, BothSettle, CanFeed, CanSettle, GoesOrStays, HasExchanged, HasSettled, HasStood, HaveExchanged, HaveStood, IsCarried, IsOfBefore, ServedBefore}
 pub use Rattle.kahn_job.specs.inner.Tasks.{Continues, IsTrueOf, Tasked, standing_after}
 pub use Rattle.kahn_job.specs.inner.Ways.{end_of, feeding, no_end, putting}

@@ -1,8 +1,6 @@
 pub mod Berths
 pub mod Ends
 pub mod Idles
-pub mod Lanes
-pub mod Openings
 pub mod Settling
 pub mod Tasks
 pub mod Ways

@@ -2,7 +2,7 @@
 
 ghost use Rattle.std.specs.Prelude.{◌≡◌, ◌<◌};
 ghost use Rattle.kahn_job.specs.inner.Words.{length, replicate, IfOk, instance_at, network_of, Lists};
-ghost use Rattle.kahn_job.specs.inner.Openings.{AreOpening, IsOpening};
+ghost use Rattle.kahn_job.specs.inner.Idles.{AreOpening, IsOpening};
 ghost use Rattle.kahn_job.specs.inner.Ways.{no_end};
 
 use crate::handing::{ends_of, place};

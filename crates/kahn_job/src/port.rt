@@ -2,7 +2,7 @@
 
 ghost use Rattle.std.specs.Prelude.{◌≡◌, ◌⊎◌, ◌<◌, ◌+◌, ◌^◌};
 ghost use Rattle.kahn_job.specs.inner.Words.{ℕ, true, length, Some, IfSome, IfNone, IsOk, IsSome, IsTrue, IsFalse, OnOk, OnErr, MatchResult, network_of, role_at, flushed, left, moved_to, token_name, LaneName, Input as InputRole};
-ghost use Rattle.kahn_job.specs.inner.Ends.{Advances, FlushesFull, HasRoom, IsBehind, IsDry, IsFlushed, IsReady, MayMeet, ShareLane};
+ghost use Rattle.kahn_job.specs.inner.Ends.{Advances, HasRoom, IsBehind, IsDry, IsFlushed, IsReady, MayMeet, ShareLane};
 ghost use Rattle.kahn_job.specs.inner.Berths.{HasStayed, IsWithinInput, IsFor};
 ghost use Rattle.kahn_job.specs.inner.Settling.{BothSettle, CanFeed, CanSettle, HasSettled};
 ghost use Rattle.kahn_job.specs.inner.Ways.{taking, feeding, putting, no_end};
@@ -25,9 +25,7 @@ pub(crate) enum Way {
 /// The end of a channel that a parameter has: it takes from an inner channel or from an input channel, or puts into an
 /// inner channel. A parameter that has a value or an output channel has no end.
 #[derive(Drop)]
-pub(crate) struct Port {
-    way: Way,
-}
+pub(crate) struct Port(Way);
 
 impl Model for Port {
     ghost use Rattle.kahn_streams.specs.contracts.tree.Action as action;
@@ -41,7 +39,7 @@ impl Model for Port {
 
     ghost use Rattle.kahn_job.specs.inner.Ways.{end_of};
 
-    ghost view = { λ p. end_of p.way };
+    ghost view = { λ p. end_of p.0 };
 }
 
 // A number that the caller names.
@@ -65,8 +63,7 @@ impl Port {
         ensures { result ≡ taking receiver (left receiver) }
     {
         let asked = left_of(&receiver);
-        let way = Way::Takes(receiver, asked);
-        Port { way }
+        Port(Way::Takes(receiver, asked))
     }
 
     /// The list of an input channel, from its first value on.
@@ -75,23 +72,21 @@ impl Port {
         requires given { role_at (network_of network.now) channel ≡ InputRole }
         ensures { result ≡ feeding network.now input.now channel 0 }
     {
-        let way = Way::Feeds(Feed::of(network, input, channel));
-        Port { way }
+        Port(Way::Feeds(Feed::of(network, input, channel)))
     }
 
     /// The writer's end of a lane.
     pub(crate) fn puts(sender: Sender) -> Port
         ensures { result ≡ putting sender }
     {
-        let way = Way::Puts(sender);
-        Port { way }
+        Port(Way::Puts(sender))
     }
 
     /// No end.
     pub(crate) fn nothing() -> Port
         ensures { result ≡ no_end }
     {
-        Port { way: Way::Nothing }
+        Port(Way::Nothing)
     }
 
     /// Whether the next `take` gives a token. It never allocates.
@@ -106,7 +101,7 @@ impl Port {
         ensures yes { IsTrue result → IsReady self.new }
         ensures dry { IsFalse result → IsDry self.new }
     {
-        match &mut self.way {
+        match &mut self.0 {
             Way::Takes(receiver, asked) => {
                 *asked = left_of(receiver);
                 receiver.ready()
@@ -130,7 +125,7 @@ impl Port {
         ensures some { IsReady self.old → IsSome result }
         ensures rooms { HasRoom self.old → HasRoom self.new }
     {
-        match &mut self.way {
+        match &mut self.0 {
             Way::Takes(receiver, asked) => {
                 *asked = left_of(receiver);
                 receiver.take()
@@ -145,14 +140,16 @@ impl Port {
     pub(crate) fn room(&mut self) -> Result<(), NoMemory>
         requires { self.old.writes ≡ true }
         ensures advances { Advances self.old self.new }
-        ensures counts { FlushesFull self.old self.new }
+        ensures next { self.new.next ≡ self.old.next }
+        // Nothing was flushed, or a full segment.
+        ensures flushed { (self.new.flushed ≡ self.old.flushed) ⊎ ((self.old.next ≡ self.old.flushed + 64) × (self.new.flushed ≡ self.old.next)) }
         ensures room { OnOk result (HasRoom self.new) }
         ensures full { OnErr result (HasRoom self.new → ⊥) }
         ensures spare { HasRoom self.old → IsOk result }
         ensures keeps { IsReady self.old → IsReady self.new }
         ensures rooms { HasRoom self.old → HasRoom self.new }
     {
-        let Way::Puts(sender) = &mut self.way else {
+        let Way::Puts(sender) = &mut self.0 else {
             unreachable!()
         };
         sender.room()
@@ -168,7 +165,7 @@ impl Port {
         ensures moved { (self.new.next ≡ self.old.next + 1) × (self.new.flushed ≡ self.old.flushed) }
         ensures keeps { IsReady self.old → IsReady self.new }
     {
-        let Way::Puts(sender) = &mut self.way else {
+        let Way::Puts(sender) = &mut self.0 else {
             unreachable!()
         };
         sender.put(token);
@@ -182,7 +179,7 @@ impl Port {
         ensures all { (self.new.flushed ≡ self.old.flushed) ⊎ (self.new.flushed ≡ self.new.next) }
         ensures room { HasRoom self.old → HasRoom self.new }
     {
-        if let Way::Puts(sender) = &mut self.way {
+        if let Way::Puts(sender) = &mut self.0 {
             sender.flush()?;
         }
         Ok(())
@@ -194,7 +191,7 @@ impl Port {
         requires { CanFeed input.now self.old }
         ensures { (n : LaneName) → self.old.name ≡ Some n → HasSettled (moved_to input.now n) self.old self.new }
     {
-        let Way::Feeds(feed) = &mut self.way else {
+        let Way::Feeds(feed) = &mut self.0 else {
             unreachable!()
         };
         feed.regrow(input);
@@ -208,14 +205,14 @@ impl Port {
         ensures settled { OnOk result.2 ((n : LaneName) → self.name ≡ Some n → BothSettle (moved_to input.now n) self reader result.0 result.1) }
         ensures refused { OnErr result.2 ((result.0 ≡ self) × (result.1 ≡ reader)) }
     {
-        let (Way::Puts(sender), Way::Takes(receiver, asked)) = (self.way, reader.way) else {
+        let (Way::Puts(sender), Way::Takes(receiver, asked)) = (self.0, reader.0) else {
             unreachable!()
         };
         match settle(sender, receiver, input) {
             Ok((sender, receiver)) => (Port::puts(sender), Port::takes(receiver), Ok(())),
             Err((fault, sender, receiver)) => {
-                let way = Way::Takes(receiver, asked);
-                (Port::puts(sender), Port { way }, Err(fault))
+                let reader = Port(Way::Takes(receiver, asked));
+                (Port::puts(sender), reader, Err(fault))
             }
         }
     }
@@ -227,12 +224,11 @@ impl Port {
         ensures stayed { HasStayed self result.0 × HasStayed reader result.1 }
         ensures behind { IsBehind self reader }
     {
-        let (Way::Puts(mut sender), Way::Takes(mut receiver, asked)) = (self.way, reader.way) else {
+        let (Way::Puts(mut sender), Way::Takes(mut receiver, asked)) = (self.0, reader.0) else {
             unreachable!()
         };
         let _waiting = meet(&mut sender, &mut receiver);
-        let way = Way::Takes(receiver, asked);
-        (Port::puts(sender), Port { way })
+        (Port::puts(sender), Port(Way::Takes(receiver, asked)))
     }
 
     /// Says that of an input channel no more is ready than its list has: its contract is what it does.
@@ -240,26 +236,14 @@ impl Port {
     pub(crate) fn fed(&self)
         ensures { IsWithinInput self.now }
     {
-        let _way = &self.way;
-    }
-
-    /// The place of the next token. It never allocates.
-    pub(crate) fn next(&self) -> u64
-        ensures { result ≡ self.now.next }
-    {
-        match &self.way {
-            Way::Takes(receiver, _) => receiver.taken(),
-            Way::Feeds(feed) => feed.next,
-            Way::Puts(sender) => sender.sent(),
-            Way::Nothing => 0,
-        }
+        let _way = &self.0;
     }
 
     /// How many tokens were flushed. It never allocates.
     pub(crate) fn flushed(&self) -> u64
         ensures { result ≡ self.now.flushed }
     {
-        match &self.way {
+        match &self.0 {
             Way::Puts(sender) => sender.flushed(),
             _ => 0,
         }

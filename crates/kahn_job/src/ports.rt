@@ -44,15 +44,13 @@ impl<'a> Ports for Ends<'a> {
     ghost has_room = { λ s q. HasRoom (end_at s.ports.now.items q) };
 
     fn ready(&mut self, parameter: usize, _channel: usize) -> bool {
-        let (network, input) = (self.network, self.input);
         let ports = &mut *self.ports;
-        ports[parameter].ready(network, input)
+        ports[parameter].ready(self.network, self.input)
     }
 
     fn take(&mut self, parameter: usize, _channel: usize) -> Option<Token> {
-        let (network, input) = (self.network, self.input);
         let ports = &mut *self.ports;
-        ports[parameter].take(network, input)
+        ports[parameter].take(self.network, self.input)
     }
 
     fn room(&mut self, parameter: usize, _channel: usize) -> Result<(), NoMemory> {

@@ -62,18 +62,12 @@ impl Task {
         requires { CanGoOn input.now idle }
         ensures { result ≡ woken_task input.now idle }
     {
-        let Idle {
-            cell,
-            instance,
-            ports,
-            numbers,
-        } = idle;
-        let cell = cell.grown(input);
-        let published = sent_into(&cell, numbers);
+        let cell = idle.cell.grown(input);
+        let published = sent_into(&cell, idle.numbers);
         Task {
             cell,
-            instance,
-            ports,
+            instance: idle.instance,
+            ports: idle.ports,
             standing: Standing::Going,
             published,
         }

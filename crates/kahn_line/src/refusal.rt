@@ -6,6 +6,7 @@ ghost use Rattle.kahn_line.specs.Refusal.{line_status};
 
 use crate::line::LineFault;
 use clap::error::ErrorKind as LineKind;
+use std::fmt::Write;
 use std::io::{Error, ErrorKind};
 
 /// The status of a command line that is refused.
@@ -22,15 +23,57 @@ pub fn tell_no_memory(rt: &impl Eprint) -> u8
     NO_MEMORY
 }
 
+/// The programs that have an option, by the text of a refusal that begins with the option.
+fn owners_of(text: &str) -> Option<&'static str> {
+    let (_, behind) = text.split_once("unexpected argument '")?;
+    let (option, _) = behind.split_once("'")?;
+    match option {
+        "--trace" => Some("kahn_explain"),
+        "--strict" => Some("kahn_explain and kahn_live"),
+        "--report" => Some("kahn_explain and kahn_draw"),
+        "--input" | "--workers" | "--quantum" | "--bound" => Some("kahn and kahn_explain"),
+        "--watch" => Some("kahn and kahn_live"),
+        "--plain" | "--at-end" | "--keep-going" | "--step" => Some("kahn_live"),
+        _ => None,
+    }
+}
+
+/// Tells that a word isn't expected, as the option parser says it, but for its advice to pass the word as a value: no program takes
+/// such a one. Of an option of other programs it says which have it.
+fn tell_unexpected(rt: &impl Eprint, text: &str) {
+    let owners = owners_of(text);
+    let mut is_apart = false;
+    for line in text.lines() {
+        let is_advice = line.starts_with("  tip: to pass '");
+        if !is_advice && !(is_apart && line.is_empty()) {
+            let _ = eprintln!(rt; "{line}");
+            is_apart = line.is_empty();
+        }
+        if let (true, Some(programs)) = (is_advice, owners) {
+            let _ = eprintln!(rt; "  tip: it is an option of {programs}");
+            is_apart = false;
+        }
+    }
+}
+
+/// Tells why the words are refused, or the help or the version where they ask for it.
+fn tell_refused(rt: &(impl Print + Eprint + AllocGlobal), error: &clap::Error) {
+    let mut text = String::new(rt.alloc());
+    if error.kind() == LineKind::UnknownArgument && write!(text, "{error}").is_ok() {
+        return tell_unexpected(rt, text.as_str());
+    }
+    let _ = error.print(rt);
+}
+
 /// Tells why a command line asks for no run, and gives the status: 0 where it asks for the help or the version, which
 /// goes to standard output, 2 where it is refused, and 4 where memory was.
-pub fn tell_line(rt: &(impl Print + Eprint), fault: &LineFault) -> u8
+pub fn tell_line(rt: &(impl Print + Eprint + AllocGlobal), fault: &LineFault) -> u8
     ensures { result ≡ line_status fault.now }
 {
     match fault {
         LineFault::NoMemory => tell_no_memory(rt),
         LineFault::Refused(error) => {
-            let _ = error.print(rt);
+            tell_refused(rt, error);
             match error.kind() {
                 LineKind::DisplayHelp | LineKind::DisplayVersion => 0,
                 _ => REFUSED,

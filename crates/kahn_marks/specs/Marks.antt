@@ -1,5 +1,5 @@
 -- Believed. A note on a part of a text: where it stands and what is said, the source line, and carets under the part.
-use Rattle.std.specs.Prelude.{ℕ, zero, suc, ◌+◌, ◌-◌, ◌==◌, ◌&&◌, List, [], ◌∷◌, ◌++◌, Bool, false, if◌then◌else◌, nat_le, nat_lt, unwrap_or, codes, chars, decimal, encode_utf8, flat_map, length, slice_index_or}
+use Rattle.std.specs.Prelude.{ℕ, zero, suc, ◌+◌, ◌-◌, ◌==◌, ◌&&◌, List, [], ◌∷◌, ◌++◌, Bool, false, if◌then◌else◌, nat_le, nat_lt, ◌||◌, unwrap_or, codes, chars, decimal, encode_utf8, flat_map, length, slice_index_or}
 use Rattle.std.specs.List.{concat}
 use Rattle.std.specs.Char.{is_control}
 use Rattle.std.specs.Str.Lines.{lines}
@@ -18,13 +18,26 @@ abbrev pub times_over : ℕ → List ℕ → List ℕ
 times_over zero piece = []
 times_over (suc n) piece = piece ++ times_over n piece
 
--- a character as it is shown: a tab as four blanks, a control character as U+FFFD
+-- between these two
+abbrev pub is_between : ℕ → ℕ → ℕ → Bool
+is_between low high c = nat_le low c && nat_le c high
+
+-- a format character that changes how or in which order those beside it are shown, or takes no place: the marks, embeddings, overrides
+-- and isolates of a direction, what ends a line or a paragraph, what joins or parts words, and the mark of the order of bytes
+abbrev pub is_format : ℕ → Bool
+is_format c = c == 0x061C || is_between 0x200B 0x200F c || is_between 0x2028 0x202E c || is_between 0x2060 0x206F c || c == 0xFEFF
+
+-- no terminal gets it as it is
+abbrev pub is_kept_back : ℕ → Bool
+is_kept_back c = is_control c || is_format c
+
+-- a character as it is shown: a tab as four blanks, a control or format character as U+FFFD
 abbrev pub shown_character : ℕ → List ℕ
-shown_character c = if c == 9 then codes "    " else if is_control c then encode_utf8 0xFFFD else encode_utf8 c
+shown_character c = if c == 9 then codes "    " else if is_kept_back c then encode_utf8 0xFFFD else encode_utf8 c
 
 -- the columns that it takes then in a terminal
 abbrev pub columns : ℕ → ℕ
-columns c = if c == 9 then 4 else if is_control c then 1 else unwrap_or (char_width false c) 0
+columns c = if c == 9 then 4 else if is_kept_back c then 1 else unwrap_or (char_width false c) 0
 
 -- Of a part's line 80 bytes are shown before the part, and 80 from its first byte on.
 abbrev pub is_near : ℕ → ℕ → Bool

@@ -2,7 +2,7 @@
 
 ghost use Rattle.std.specs.Prelude.{◌≡◌, ◌++◌, ◌<◌, ℕ, IfOk, string_bytes};
 ghost use Rattle.kahn_marks.specs.declared.columns.Row.{Row};
-ghost use Rattle.kahn_marks.specs.Marks.{columns, is_near, piece_of, row_of, shown_character};
+ghost use Rattle.kahn_marks.specs.Marks.{columns, is_format, is_kept_back, is_near, piece_of, row_of, shown_character};
 
 use crate::pieces::add_repeated;
 use std::alloc::AllocError;
@@ -44,26 +44,43 @@ pub(crate) fn near_part(line: &str, from: usize) -> (&str, usize)
     (near, from)
 }
 
+/// Whether a format character changes how or in which order those beside it are shown, or takes no place.
+fn is_format(character: char) -> bool
+    ensures { result ≡ is_format character }
+{
+    matches!(
+        character,
+        '\u{061C}' | '\u{200B}'..='\u{200F}' | '\u{2028}'..='\u{202E}' | '\u{2060}'..='\u{206F}' | '\u{FEFF}'
+    )
+}
+
+/// Whether a terminal doesn't get a character as it is.
+fn is_kept_back(character: char) -> bool
+    ensures { result ≡ is_kept_back character }
+{
+    character.is_control() || is_format(character)
+}
+
 /// The columns that a character takes as it is shown.
 fn columns(character: char) -> usize
     ensures { result ≡ columns character }
 {
     if character == '\t' {
         4
-    } else if character.is_control() {
+    } else if is_kept_back(character) {
         1
     } else {
         character.width().unwrap_or(0)
     }
 }
 
-/// Adds a character as it is shown: a tab as four blanks, and a control character as U+FFFD.
+/// Adds a character as it is shown: a tab as four blanks, and a control or format character as U+FFFD.
 fn add_shown(text: &mut String, character: char) -> Result<(), AllocError>
     ensures { IfOk result (λ _. string_bytes text.new ≡ string_bytes text.old ++ shown_character character) }
 {
     if character == '\t' {
         text.push_str("    ")
-    } else if character.is_control() {
+    } else if is_kept_back(character) {
         text.push('\u{FFFD}')
     } else {
         text.push(character)

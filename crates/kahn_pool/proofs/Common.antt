@@ -1,5 +1,5 @@
 -- The names of the crates below and of this crate's definitions that proofs cite, passed on from one place.
-pub use Rattle.kahn_board.specs.Dealt.{events_told}
+pub use Rattle.kahn_board.specs.Rule.{events_told}
 pub use Rattle.kahn_code.proofs.Lists.{at_last, one_first, own_of, sent_stands, stand_in}
 pub use Rattle.kahn_code.proofs.Poured.{poured_grown, poured_length, poured_rest}
 pub use Rattle.kahn_code.proofs.Queued.{given_zero, set_each, set_here, taken_zero}
@@ -7,19 +7,18 @@ pub use Rattle.kahn_code.proofs.Readers.{driven, joins_parameter, joins_within}
 pub use Rattle.kahn_code.specs.Cells.{AllStand, AreKeptTokens, StoodBy, View, exec_on, is_streamed, sent_on}
 pub use Rattle.kahn_code.specs.Lines.{AreFirst, AreQueued, HasPoured, IsPoured, Joins, actual_here, given_of, next_at, place_at, queue_of, route_of, taken_of, waiting_of}
 pub use Rattle.kahn_code.specs.Progress.{IsPause, Paused}
-pub use Rattle.kahn_code.specs.Queues.{Waiting}
-pub use Rattle.kahn_code.specs.Sites.{LeavesOthers, Site}
+pub use Rattle.kahn_code.specs.Lines.{Waiting}
+pub use Rattle.kahn_code.specs.Standing.{LeavesOthers, Site}
 pub use Rattle.kahn_code.specs.Standing.{count, tokens}
-pub use Rattle.kahn_code.specs.Told.{IsAt, IsStill, Told, site_of, told_view}
+pub use Rattle.kahn_code.specs.Progress.{IsAt, IsStill, Told, site_of, told_view}
 pub use Rattle.kahn_code.specs.declared.{cell.Kept.Kept, progress.Pause.Pause}
 pub use Rattle.kahn_code.specs.inner.Gone.{Gone, kept_behind, nothing_gone}
 pub use Rattle.kahn_code.specs.inner.Tapped.{HasForgotten, Tapped, regrown_tap}
 pub use Rattle.kahn_crew.proofs.Ended.{all_told, untouched_gone}
 pub use Rattle.kahn_crew.proofs.Started.{at_mapped, at_most_all, mapped_at, woken_ready}
-pub use Rattle.kahn_crew.specs.declared.{fault.CrewFault.CrewFault, fault.CrewFault.TheVariants.NoMemory, fault.CrewFault.TheVariants.NoThread, run.Plan.Plan}
-pub use Rattle.kahn_crew.specs.inner.Begins.{AreReadyTasks}
+pub use Rattle.kahn_crew.specs.declared.{closing.CrewFault.CrewFault, closing.CrewFault.TheVariants.NoMemory, closing.CrewFault.TheVariants.NoThread, run.Plan.Plan}
 pub use Rattle.kahn_crew.specs.inner.Left.{AreAll, AreUntouched, HaveGone, IsLack, IsOver, IsQuietTask, task_events}
-pub use Rattle.kahn_crew.specs.inner.Tasks.{handed_to_task, is_over, task_rows, told_tale, work_of}
+pub use Rattle.kahn_crew.specs.inner.Tasks.{AreReadyTasks, handed_to_task, is_over, task_rows, told_tale, work_of}
 pub use Rattle.kahn_job.proofs.Berthed.{past_none}
 pub use Rattle.kahn_job.proofs.Idles.{all_idle, idle_grown, idle_met, idle_still, row_there}
 pub use Rattle.kahn_job.proofs.Settles.{same_lanes}
@@ -28,8 +27,8 @@ pub use Rattle.kahn_job.specs.inner.Berths.{IsWithinInput, Serves, end_at}
 pub use Rattle.kahn_job.specs.inner.Ends.{IsBehind, IsReady}
 pub use Rattle.kahn_job.specs.inner.Idles.{AreIdle, HaveMet, cells_of, rows_of}
 pub use Rattle.kahn_job.proofs.Idles.{AreJoinedJobs}
-pub use Rattle.kahn_job.specs.inner.Lanes.{AreBehindOn, AreJoinedOn, end_in}
-pub use Rattle.kahn_job.specs.inner.Openings.{IsOpening}
+pub use Rattle.kahn_job.specs.inner.Berths.{AreBehindOn, AreJoinedOn, end_in}
+pub use Rattle.kahn_job.specs.inner.Idles.{IsOpening}
 pub use Rattle.kahn_job.specs.inner.Tasks.{Continues, IsTrueOf, Tasked, standing_after, woken_task}
 pub use Rattle.kahn_job.specs.inner.Ways.{no_end}
 pub use Rattle.kahn_job.specs.inner.Works.{IsJob, Work, width_of}
@@ -39,10 +38,10 @@ pub use Rattle.kahn_pool.specs.declared.{held_fault.HeldFault.HeldFault, part.St
 pub use Rattle.kahn_pool.specs.inner.Bench.{AreEnds, AreStreams, HasEndIn, HasRunCell, IsConcluded, IsLast, IsPaused, IsVerdict, LacksMemory, PausedAt, RunState, all_events, events_at, view_events}
 pub use Rattle.kahn_pool.specs.inner.FlowBench.{AreLent, IsFlowOf, flow_of, let_go_by, let_go_of, run_of_bench}
 pub use Rattle.kahn_pool.specs.inner.Gathered.{IsFrom, IsGiven, IsOutcomeOf, TookAll, TookNoMore, no_view, view_at}
-pub use Rattle.kahn_pool.specs.inner.Holding.{AreEnded, AreHeld, AreHeldBy, HasEnded, HasRisen, HasStopped, HasStoppedPart, HaveRisen, IsGiving, IsHolding, cell_alone, held_state, run_of, run_with}
+pub use Rattle.kahn_pool.specs.inner.Holding.{AreEnded, AreHeld, AreHeldBy, HasEnded, HasRisen, HasStopped, HasStoppedPart, HaveRisen, IsHolding, cell_alone, held_state, run_of, run_with}
 pub use Rattle.kahn_pool.specs.inner.Rested.{AreEndsOfTasks, AreTold, IsDryOf, IsEndOf, IsLentTo, IsSaid, IsSettledTask, IsToldAs, SettlesTo, cell_of}
-pub use Rattle.kahn_pool.specs.inner.Streams.{AreAllGiven, AreAllOf, AreGiven, AreLists, AreNamed, HasBecome, HasInput, HasInputs, HaveBecome, HaveChanged, IsBegun, IsDeclared, IsFilled, KeepsOtherLines, kept_in, kept_lists, printed_in, printed_list}
-pub use Rattle.kahn_pool.specs.inner.Workbench.{AllStandBy, AreKeptOf, AreLeft, AreOpen, AreOpeningCells, AreStreamsReady, AreWhole, HasAdvanced, HasEmptied, HasComeToRest, HasTakenIn, HasTakenTurn, HasWorked, IsInRound, IsLaid, IsLeft, IsRightAlone, IsSeated, Marked, MayRun, StandsAsTold, Table, actual_count, all_of, gone_in, parameter_count, sight_of, table_of, told_in, turn_of, weight}
+pub use Rattle.kahn_pool.specs.inner.Streams.{AreAllGiven, AreGiven, AreLists, AreNamed, HaveChanged, IsBegun, IsDeclared, IsFilled, IsFilledStream, IsOpenStream, KeepsOtherLines, OpensWith, kept_in, kept_lists, printed_in, printed_list}
+pub use Rattle.kahn_pool.specs.inner.Workbench.{AllStandBy, AreKeptOf, AreOpen, AreOpeningCells, AreStreamsReady, AreWhole, HasAdvanced, HasEmptied, HasComeToRest, HasTakenIn, HasTakenTurn, HasWorked, IsInRound, IsLaid, IsLeft, IsRightAlone, IsSeated, Marked, MayRun, StandsAsTold, Table, actual_count, all_of, gone_in, parameter_count, sight_of, table_of, told_in, turn_of, weight}
 pub use Rattle.kahn_streams.proofs.By_number.{there}
 pub use Rattle.kahn_streams.proofs.Dry.{dry_reads}
 pub use Rattle.kahn_streams.proofs.Entered.{none_of}

@@ -1,6 +1,6 @@
 -- Streams filled from the lists of the cells, one by one.
 use Rattle.std.proofs.Common.{Option, arith, ◌≡◌, ℕ, ◌<◌, ◌≤◌, List, [], length, map, Some, refl, sym, ap, ◌∙◌, subst, slice_get, slice_set, slice_index_or, ◌+◌, zero, suc, ◌∷◌}
-use Rattle.kahn_pool.proofs.Common.{Program, Lists, Told, AreKeptOf, AreOpen, network_of, inputs_of, told_view, map-set, length-map, get_or-set_other, get_or-map, slice_get-get_or, Line, Channel, Print, Token, source, Network, Writes, Source, Given, Written, Nobody, instance_at, actual_at, Kept, AreKeptTokens, Stream, RunState, AreStreams, view_at, IsFrom, stream_line, stream_lines, AreNamed, IsDeclared, IsFilled, HasBecome, HaveBecome, AreLists, KeepsOtherLines, kept_lists, kept_in, printed_list, printed_in, map-set_same, set_each}
+use Rattle.kahn_pool.proofs.Common.{Program, Lists, Told, AreKeptOf, AreOpen, network_of, inputs_of, told_view, map-set, length-map, get_or-set_other, get_or-map, slice_get-get_or, Line, Channel, Print, Token, source, Network, Writes, Source, Given, Written, Nobody, instance_at, actual_at, Kept, HaveChanged, Stream, RunState, AreStreams, view_at, IsFrom, stream_line, stream_lines, AreNamed, IsDeclared, IsFilled, IsFilledStream, OpensWith, AreLists, KeepsOtherLines, kept_lists, kept_in, printed_list, printed_in, map-set_same, set_each}
 use Rattle.std.proofs.lemmas.List.{length-set}
 use Rattle.kahn_pool.proofs.Lists.{map_changed, ChangedTo, next_old, one_changed, old_item}
 use Rattle.kahn_pool.proofs.Named.{HasLine, has_line, line_at, declared, once}
@@ -76,7 +76,7 @@ module _ {A : Type 0} {N : Network} {ls : List (Kept A)} (are : AreLists N ls) {
 pub record Filling {A : Type 0} (N : Network) (ls : List (Kept A)) (old : List Stream) (ks : List (Kept A)) (now : List Stream) (n : ℕ) : Type 0 where
   pub named : AreNamed N old
   pub lists : AreLists N ks
-  pub changed : ChangedTo (λ x y. (y.line ≡ x.line) × HasBecome N (IsFilled N ls) x y) old now n
+  pub changed : ChangedTo (IsFilledStream N ls) old now n
   -- the lists of the further lines are as at first
   pub held : (j : ℕ) (x : Stream) → n ≤ j → slice_get old j ≡ Some x → (ts us : List Token) →
       IsFilled N ks (source N x.line) x.line ts us → IsFilled N ls (source N x.line) x.line ts us
@@ -86,15 +86,14 @@ module _ {A : Type 0} {N : Network} {ls : List (Kept A)} {old : List Stream} {ks
   pub next_declared : IsDeclared N x.line
   next_declared = declared N old n x f.named (next_old f.changed here value)
 
-  pub filling_goes : (ks' : List (Kept A)) (y : Stream) → y.line ≡ x.line → AreLists N ks' → HasBecome N (IsFilled N ks) x y → KeepsOtherLines N x.line ks ks' →
-      Filling N ls old ks' (slice_set now n y) (n + 1)
-  filling_goes ks' y same lists filled others = record {
+  pub filling_goes : (ks' : List (Kept A)) (y : Stream) → AreLists N ks' → IsFilledStream N ks x y → KeepsOtherLines N x.line ks ks' → Filling N ls old ks' (slice_set now n y) (n + 1)
+  filling_goes ks' y lists filled others = record {
     named = f.named;
     lists = lists;
     changed = one_changed f.changed here value (
-      same,
-      subst (λ d. (ts us : List Token) → IsFilled N ks (source N d) d ts us → IsFilled N ls (source N d) d ts us) (sym same)
-          (f.held n x (omega arith) (next_old f.changed here value)) x.tokens.items y.tokens.items filled,
+      filled.0,
+      subst (λ d. (ts us : List Token) → IsFilled N ks (source N d) d ts us → IsFilled N ls (source N d) d ts us) (sym filled.0)
+          (f.held n x (omega arith) (next_old f.changed here value)) x.tokens.items y.tokens.items filled.1,
     );
     held = λ j u l a ts us h. f.held j u (omega (arith, l)) a ts us (others u.line (λ k. apart j u l a k) ts us h);
   }
@@ -113,7 +112,7 @@ seen (c ∷ cells) (suc p) = seen cells p
 
 -- streams that are filled from the lists of these cells are those of the answer
 module _ {A : Type 0} (t : Program) (lists : Lists) (watch : Option ℕ) (cells : List Told) {ls : List (Kept A)} {old new : List Stream} (kept : AreKeptOf cells ls)
-    (begun : AreOpen t lists watch old) (filled : HaveBecome (network_of t) (IsFilled (network_of t) ls) old new) where
+    (begun : AreOpen t lists watch old) (filled : HaveChanged (IsFilledStream (network_of t) ls) old new) where
   abbrev s : RunState
   s = record { network = network_of t; input = inputs_of lists; watch = watch; cells = map told_view cells }
 
@@ -125,7 +124,8 @@ module _ {A : Type 0} (t : Program) (lists : Lists) (watch : Option ℕ) (cells 
 
       turn : (j : ℕ) (x y : Stream) (d : Line) (o : Source) → slice_get old j ≡ Some x → x.line ≡ d → source s.network d ≡ o → HasLine s.network s.watch d →
           IsFilled s.network ls o d x.tokens.items y.tokens.items → IsFrom s.network s.input s.watch s.cells o d y.tokens.items
-      turn j x y (Channel c) Given a b e l h = subst (AreKeptTokens s.network s.input (Channel c) (s.input c)) (sym h) (begun.given j c x a b e)
+      turn j x y (Channel c) Given a b e l h = subst (OpensWith s.network s.input Given (Channel c)) (sym h)
+          (subst (λ o. OpensWith s.network s.input o (Channel c) x.tokens.items) e (subst (λ d. OpensWith s.network s.input (source s.network d) d x.tokens.items) b (begun.given j x a)))
       turn j x y (Channel c) (Written p) a b e l (q, w, h) =
           (q, w, l.1, h ∙ ap (λ xs. slice_index_or (slice_index_or xs p []) q []) kept.sent ∙ (seen cells p).0 q)
       turn j x y (Channel c) Nobody a b e l h = absurd h

@@ -33,8 +33,8 @@ worked_goes_on b d laid later old new h plan total said next =
 pub poured_goes_on : (b d : Table) (c n : ℕ) (values : List Value) (input : Lists) → IsPoured b.input c values input → HasTakenIn c n input b d →
     (plan : Plan) (said next : Option Verdict) → GoesOn (run_of_bench b plan said) (run_of_bench d plan next)
 poured_goes_on b d c n values input poured h plan said next =
-    goes_on (run_of_bench b plan said) (run_of_bench d plan next) h.network h.watch refl refl
-    (subst (λ l. AreInputsExtended (inputs_of b.input) (inputs_of l)) (sym h.lists) (poured_grown b.input c values input poured))
+    goes_on (run_of_bench b plan said) (run_of_bench d plan next) (ap (λ (x : Table). x.network) h.rest) (ap (λ (x : Table). x.watch) h.rest) refl refl
+    (subst (λ l. AreInputsExtended (inputs_of b.input) (inputs_of l)) (sym (ap (λ (x : Table). x.input) h.rest)) (poured_grown b.input c values input poured))
     (λ p. subst (λ cells. Grows (seen_at (map seen_of b.cells) p) (seen_at cells p)) (sym h.seen) (grows_not (seen_at (map seen_of b.cells) p)))
 
 -- ---- what was let go of

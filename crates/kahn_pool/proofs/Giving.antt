@@ -1,6 +1,6 @@
 -- Streams of input channels, which get the whole list of the input.
 use Rattle.std.proofs.Common.{arith, ◌≡◌, ◌⊎◌, inl, inr, ℕ, suc, ◌-◌, ◌<◌, Bool, true, false, if◌then◌else◌, List, [], ◌∷◌, ◌++◌, length, map, Some, None, refl, sym, ap, ◌∙◌, subst, slice_get, append_assoc}
-use Rattle.kahn_pool.proofs.Common.{same_Some, length-map, map-append, Role, Value, Inner, Input, Output, Channel, Token, Inputs, source, IsPrefix, Network, Instance, Source, Given, Written, Nobody, any_written, first_writer, source_by, channel_source, role_at, IsOwn, token_value, Stream, AreAllOf, AreKeptTokens, IsBegun, HasInput, HasInputs, at_last}
+use Rattle.kahn_pool.proofs.Common.{same_Some, length-map, map-append, Role, Value, Inner, Input, Output, Channel, Token, Inputs, source, IsPrefix, Network, Instance, Source, Given, Written, Nobody, any_written, first_writer, source_by, channel_source, role_at, IsOwn, token_value, Stream, IsBegun, IsOpenStream, OpensWith, at_last}
 
 -- ---- the list of a channel, token by token
 
@@ -61,22 +61,20 @@ input_role N c e = role_given (role_at N c) (first_writer N.instances 0 c) (no_g
 given_role : (r : Role) (s : Source) → r ≡ Input → source_by r s ≡ Given
 given_role r s e = ap (λ x. source_by x s) e
 
-pub channel_given : (N : Network) (I : Inputs) (c : ℕ) (before after : List Token) → AreAllOf N I c after →
-    ((role_at N c ≡ Input → ⊥) → after ≡ before) → HasInput N I (source N (Channel c)) (Channel c) before after
-channel_given N I c before after f g = by (source N (Channel c)) refl
+pub channel_opens : (N : Network) (I : Inputs) (c : ℕ) (ts us : List Token) → ts ≡ [] → IsBegun N I c (I c) us → (role_at N c ≡ Input → map token_value us ≡ I c) →
+    ((role_at N c ≡ Input → ⊥) → us ≡ ts) → OpensWith N I (source N (Channel c)) (Channel c) us
+channel_opens N I c ts us none b f g = by (source N (Channel c)) refl
   where
-    by : (o : Source) → channel_source N c ≡ o → HasInput N I o (Channel c) before after
-    by Given e = f (input_role N c e)
-    by (Written p) e = g (λ r. absurd (let h : Given ≡ Written p = sym (given_role (role_at N c) (first_writer N.instances 0 c) r) ∙ e in cc))
-    by Nobody e = g (λ r. absurd (let h : Given ≡ Nobody = sym (given_role (role_at N c) (first_writer N.instances 0 c) r) ∙ e in cc))
+    by : (o : Source) → channel_source N c ≡ o → OpensWith N I o (Channel c) us
+    by Given e = record { values = f (input_role N c e); places = b.places; own = b.own }
+    by (Written p) e = g (λ r. absurd (let h : Given ≡ Written p = sym (given_role (role_at N c) (first_writer N.instances 0 c) r) ∙ e in cc)) ∙ none
+    by Nobody e = g (λ r. absurd (let h : Given ≡ Nobody = sym (given_role (role_at N c) (first_writer N.instances 0 c) r) ∙ e in cc)) ∙ none
 
 -- one stream more
-pub inputs_more : (N : Network) (I : Inputs) (streams : List Stream) (x : Stream) (before : List Token) → HasInputs N I streams →
-    HasInput N I (source N x.line) x.line before x.tokens.items → HasInputs N I (streams ++ x ∷ [])
-inputs_more N I streams x before h mine j c y e at given = by (at_last streams x j y e)
+pub opens_more : (N : Network) (I : Inputs) (streams : List Stream) (x : Stream) → ((j : ℕ) (y : Stream) → slice_get streams j ≡ Some y → IsOpenStream N I y) →
+    IsOpenStream N I x → (j : ℕ) (y : Stream) → slice_get (streams ++ x ∷ []) j ≡ Some y → IsOpenStream N I y
+opens_more N I streams x h mine j y e = by (at_last streams x j y e)
   where
-    by : (slice_get streams j ≡ Some y) ⊎ ((j ≡ length streams) × (x ≡ y)) → AreKeptTokens N I (Channel c) (I c) y.tokens.items
-    by (inl f) = h j c y f at given
-    by (inr (f, same)) =
-        subst (λ s. HasInput N I s (Channel c) before y.tokens.items) given
-        (subst (λ d. HasInput N I (source N d) d before y.tokens.items) at (subst (λ (z : Stream). HasInput N I (source N z.line) z.line before z.tokens.items) same mine))
+    by : (slice_get streams j ≡ Some y) ⊎ ((j ≡ length streams) × (x ≡ y)) → IsOpenStream N I y
+    by (inl f) = h j y f
+    by (inr (f, same)) = subst (IsOpenStream N I) same mine

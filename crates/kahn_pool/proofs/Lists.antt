@@ -1,6 +1,6 @@
 -- Lists whose values stand.
 use Rattle.std.proofs.Common.{arith, ◌≡◌, ◌⊎◌, inl, inr, subst, slice_set, slice_index_or, sum_by, ℕ, zero, suc, ◌+◌, ◌<◌, ◌≤◌, List, [], ◌∷◌, ◌++◌, length, map, refl, sym, ap, ◌∙◌, Some, slice_get, append-nil, le_of_suc-le-suc, not-suc-le-zero, length-append, le_refl}
-use Rattle.kahn_pool.proofs.Common.{set_each, cases_lt, get_or_past, fold-map, get_or-le-sum_by, same_Some, slice_get_read, slice_get_within, there, HaveChanged, Value, Line, Network, Inputs, iterate, IsPrefix, prefix_get, one_value, AllStand, Actual, Reads, Writes, Hands, Written}
+use Rattle.kahn_pool.proofs.Common.{at_last, set_each, cases_lt, get_or_past, fold-map, get_or-le-sum_by, same_Some, slice_get_read, slice_get_within, there, HaveChanged, Value, Line, Network, Inputs, iterate, IsPrefix, prefix_get, one_value, AllStand, Actual, Reads, Writes, Hands, Written}
 use Rattle.std.proofs.lemmas.List.{length-set}
 
 -- a list that agrees with a longer one begins it
@@ -72,7 +72,8 @@ module _ {X : Type 0} {R : X → X → Type 0} {old new : List X} {n : ℕ} (h :
   }
 
 -- what is read of each item, where it is what was read of it before
-pub map_changed : {X Z : Type 0} {R : X → X → Type 0} (f g : X → Z) → ((x y : X) → R x y → f y ≡ g x) → (old new : List X) → HaveChanged R old new → map f new ≡ map g old
+pub map_changed : {X Y Z : Type 0} {R : X → Y → Type 0} (f : Y → Z) (g : X → Z) → ((x : X) (y : Y) → R x y → f y ≡ g x) → (old : List X) (new : List Y) → HaveChanged R old new →
+    map f new ≡ map g old
 map_changed f g e [] [] h = refl
 map_changed f g e [] (y ∷ new) h = absurd (let n = h.count in omega (arith, n))
 map_changed f g e (x ∷ old) [] h = absurd (let n = h.count in omega (arith, n))
@@ -81,8 +82,21 @@ map_changed f g e (x ∷ old) (y ∷ new) h =
     let r = map_changed f g e old new (record { count = let n = h.count in omega (arith, n); each = λ p. h.each (suc p) }) in
     λ i. a i ∷ r i
 
+-- one item more
+pub changed_more : {X Y : Type 0} {R : X → Y → Type 0} (old : List X) (new : List Y) (x : X) (y : Y) → HaveChanged R old new → R x y → HaveChanged R (old ++ x ∷ []) (new ++ y ∷ [])
+changed_more {X} {Y} {R} old new x y h e = record {
+  count = let n = h.count in let a = length-append old (x ∷ []) in let b = length-append new (y ∷ []) in omega (arith, n, a, b);
+  each = λ p u v f g. by p u v (at_last old x p u f) (at_last new y p v g);
+}
+  where
+    by : (p : ℕ) (u : X) (v : Y) → (slice_get old p ≡ Some u) ⊎ ((p ≡ length old) × (x ≡ u)) → (slice_get new p ≡ Some v) ⊎ ((p ≡ length new) × (y ≡ v)) → R u v
+    by p u v (inl f) (inl g) = h.each p u v f g
+    by p u v (inl f) (inr g) = absurd (let l = slice_get_within old p u f in let n = h.count in let a = g.0 in omega (arith, l, n, a))
+    by p u v (inr f) (inl g) = absurd (let l = slice_get_within new p v g in let n = h.count in let a = f.0 in omega (arith, l, n, a))
+    by p u v (inr f) (inr g) = subst (λ z. R z v) f.1 (subst (R x) g.1 e)
+
 -- the item that was read there
-pub old_item : {X : Type 0} {R : X → X → Type 0} {old new : List X} → HaveChanged R old new → (p : ℕ) (y : X) → slice_get new p ≡ Some y →
+pub old_item : {X Y : Type 0} {R : X → Y → Type 0} {old : List X} {new : List Y} → HaveChanged R old new → (p : ℕ) (y : Y) → slice_get new p ≡ Some y →
     (x : X) × (slice_get old p ≡ Some x) × R x y
 old_item {old = old} {new = new} h p y e =
     let l = slice_get_within new p y e in

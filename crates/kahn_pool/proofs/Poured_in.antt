@@ -1,7 +1,7 @@
 -- A flow that is given more input.
 use Rattle.std.proofs.Common.{drop, arith, ◌≡◌, ℕ, zero, suc, ◌+◌, ◌≤◌, ◌==◌, Bool, true, false, if◌then◌else◌, eqb-true, eq-eqb, true≢false, List, [], ◌∷◌, ◌++◌, length, map, refl, sym, ap, ◌∙◌, subst, append-nil, append_assoc, Option, Some, None, slice_get, slice_index_or}
 use Rattle.kahn_pool.proofs.Common.{Source, Given, Written, Nobody, network_of, role_at, Token, Value, Line, Channel, Print, Entry, channel_of, most_values, Lists, inputs_of, IsMeant, source, is_watched, stream_lines, token_value, AreQueued, IsPoured, waiting_of, Waiting, Verdict, HasPouredIn, AreLent, Plan, flow_of, let_go_by, let_go_of, HasTakenIn, IsLaid, Table}
-use Rattle.kahn_pool.proofs.Flowed.{front_of, let_go_same, map_on, poured_goes_on}
+use Rattle.kahn_pool.proofs.Flowed.{front_of, map_on, poured_goes_on}
 use Rattle.kahn_pool.proofs.Giving.{input_role}
 use Rattle.kahn_pool.proofs.Named.{HasLine, has_line}
 use Rattle.kahn_pool.proofs.Once_written.{input_watched}
@@ -74,14 +74,14 @@ module _ (b d : Table) (c : ℕ) (h : HasTakenIn c 0 b.input b d) where
       flow_of d plan said (length us) ≡ flow_of b plan said (length ts)
   refused_same laid later old new plan said ts us e =
       let size : length d.queues.queues ≡ length b.queues.queues =
-      new.count ∙ ap (λ t. length (network_of t).channels) (later.network ∙ h.network ∙ sym laid.network) ∙ sym old.count in
+      new.count ∙ ap (λ t. length (network_of t).channels) (later.network ∙ ap (λ (x : Table). x.network) h.rest ∙ sym laid.network) ∙ sym old.count in
       let waits = same_waits d.queues.queues b.queues.queues size nothing_more in
-      let out = ap (λ (l : List Token). let_go_of d (length l)) e ∙ let_go_same b d h.network h.lists h.watch b.gone h.gone (length ts) in
+      let out = ap (λ (l : List Token). let_go_of d (length l)) e ∙ ap (λ (x : Table). let_go_of x (length ts)) h.rest in
       λ i. record {
         run = record {
-          network = h.network i;
-          input = h.lists i;
-          watch = h.watch i;
+          network = (h.rest i).network;
+          input = (h.rest i).input;
+          watch = (h.rest i).watch;
           workers = plan.workers;
           quantum = plan.quantum;
           bound = plan.bound;
@@ -126,9 +126,9 @@ module _ (b d : Table) (c : ℕ) (values : List Value) (input : Lists) (poured :
 
   pub poured_lent : AreLent d us
   poured_lent k w role =
-      let seen = sym h.watch ∙ w in
-      let f = lent k seen (ap (λ t. role_at (network_of t) k) (sym h.network) ∙ role) in
-      (f.0, ap (λ (l : Lists). inputs_of l k) h.lists ∙ longer k seen f.0 f.1)
+      let seen = sym (ap (λ (x : Table). x.watch) h.rest) ∙ w in
+      let f = lent k seen (ap (λ (x : Table). role_at (network_of x.network) k) (sym h.rest) ∙ role) in
+      (f.0, ap (λ (x : Table). inputs_of x.input k) h.rest ∙ longer k seen f.0 f.1)
 
   abbrev fed : Table
   fed = record b { input = input }
@@ -146,7 +146,7 @@ module _ (b d : Table) (c : ℕ) (values : List Value) (input : Lists) (poured :
 
   out_same : let_go_of d (length us) ≡ let_go_of b (length ts)
   out_same =
-      (λ i. let_go_of (let x : Table = record { network = h.network i; input = h.lists i; watch = h.watch i; code = b.code; cells = b.cells; gone = h.gone i; queues = b.queues } in x) (length us))
+      ap (λ (x : Table). let_go_of x (length us)) h.rest
       ∙ map_on (λ x. let_go_by fed (length us) (source (network_of b.network) x) x) (λ x. let_go_by b (length ts) (source (network_of b.network) x) x)
       (stream_lines (network_of b.network) b.watch) (λ j x e. go_same (source (network_of b.network) x) x refl (has_line (network_of b.network) b.watch j x e))
 
@@ -155,16 +155,16 @@ module _ (b d : Table) (c : ℕ) (values : List Value) (input : Lists) (poured :
       HasPouredIn entry (flow_of b plan said (length ts)) (flow_of d plan None (length us))
   poured_flow plan said entry is behind meant few = record {
     meant = meant;
-    lists = subst (λ k. IsPoured b.input k entry.1 d.input) is (subst (λ vs. IsPoured b.input c vs d.input) behind (subst (IsPoured b.input c values) (sym h.lists) poured));
+    lists = subst (λ k. IsPoured b.input k entry.1 d.input) is (subst (λ vs. IsPoured b.input c vs d.input) behind (subst (IsPoured b.input c values) (sym (ap (λ (x : Table). x.input) h.rest)) poured));
     few =
         let a = waits_at b.queues.queues c in
         let e = ap (λ k. slice_index_or (map (λ w. w.waiting) b.queues.queues) k 0) (sym is) in
         let l = ap length behind in
         omega (arith, a, e, l, few);
     rest = λ i. record {
-      network = h.network i;
+      network = (h.rest i).network;
       input = d.input;
-      watch = h.watch i;
+      watch = (h.rest i).watch;
       workers = plan.workers;
       quantum = plan.quantum;
       bound = plan.bound;

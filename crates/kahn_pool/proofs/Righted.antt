@@ -57,19 +57,19 @@ module _ (t : Program) (lists : Lists) (watch : Option ℕ) (plan : Plan) (cells
     abbrev right : AreRight N I plan.bound v ends done
     right = are_right done c sum
 
-    values_by : (s : Source) (d : Line) → source N d ≡ s → HasLine N watch d → given_so_far run s d ≡ right.tapes d
-    values_by Given (Channel d) f here = sym (right.inputs (Channel d) f)
-    values_by Given (Print r) f here = absurd cc
-    values_by (Written p) (Channel d) f here =
+    by_source : (s : Source) (d : Line) → source N d ≡ s → HasLine N watch d → given_so_far run s d ≡ right.tapes d
+    by_source Given (Channel d) f here = sym (right.inputs (Channel d) f)
+    by_source Given (Print r) f here = absurd cc
+    by_source (Written p) (Channel d) f here =
         let q = writing (instance_at N p).actuals d in
         ap (map token_value) (sym ((seen_there cells p).1 q)) ∙ kept_values done c sum p q d f (wrote N p d f) here.1
-    values_by (Written p) (Print r) f here =
+    by_source (Written p) (Print r) f here =
         subst (λ x. map token_value (seen_at run.cells p).printed ≡ right.tapes (Print x)) (sym (same_writer f))
         (ap (map token_value) (sym ((seen_there cells p).2)) ∙ printed_values done c sum p)
-    values_by Nobody d f here = sym (nobodys_values done c sum d f)
+    by_source Nobody d f here = sym (nobodys_values done c sum d f)
 
     values : (d : Line) → IsLineOf run d → so_far run d ≡ right.tapes d
-    values d (j, at) = values_by (source N d) d refl (has_line N watch j d at)
+    values d (j, at) = by_source (source N d) d refl (has_line N watch j d at)
 
     pub right_with : IsRightSoFar run v ends
     right_with = record {

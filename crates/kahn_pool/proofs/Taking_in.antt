@@ -66,7 +66,7 @@ module _ {t : Program} {lists : Lists} {watch : Option ℕ} {code : Program} (ta
     pub roomier_then : {s : Table} → old ≡ s → HasTakenIn c n s.input s (table_of t lists watch code taps q')
     roomier_then is =
         subst (λ (x : Table). HasTakenIn c n x.input x (table_of t lists watch code taps q')) is
-        (record { network = refl; lists = refl; watch = refl; gone = refl; views = refl; seen = refl; waiting = poured.waiting })
+        (record { rest = refl; views = refl; seen = refl; waiting = poured.waiting })
 
   -- and the taps
   module _ (name : Lists) (named : name ≡ input) where
@@ -95,10 +95,7 @@ module _ {t : Program} {lists : Lists} {watch : Option ℕ} {code : Program} (ta
 
     poured_in : HasTakenIn c n input old new
     poured_in = record {
-      network = refl;
-      lists = named;
-      watch = refl;
-      gone = map_map gone_in (regrown_tap input) taps;
+      rest = λ i. record { network = t; input = named i; watch = watch; code = code; cells = new.cells; gone = map_map gone_in (regrown_tap input) taps i; queues = q' };
       views = map_map told_view told_in (map (regrown_tap input) taps) ∙ map_map (λ x. told_view x.told) (regrown_tap input) taps ∙ sym (map_map told_view told_in taps);
       seen = map_map seen_of told_in (map (regrown_tap input) taps) ∙ map_map (λ x. seen_of x.told) (regrown_tap input) taps ∙ sym (map_map seen_of told_in taps);
       waiting = poured.waiting;

@@ -1,8 +1,9 @@
 -- Taps over plain queues, one of which runs.
-use Rattle.std.proofs.Common.{arith, ◌≡◌, ◌⊎◌, inl, inr, ℕ, ◌<◌, ◌≤◌, List, [], ◌∷◌, ◌++◌, length, map, replicate, refl, sym, ap, ◌∙◌, subst, zero, suc, Option, Some, slice_get, slice_set, slice_index_or}
-use Rattle.kahn_pool.proofs.Common.{map-set_same, get_or-set_other, length-map, map-set, cases_eq, slice_get_read, Program, network_of, Lists, Gone, kept_behind, nothing_gone, Tapped, View, Pause, Kept, HasRunCell, RunState, events_at, no_view, view_at, kept_lists, printed_list, AreKeptOf, AreLeft, IsLaid, IsLeft, HasWorked, Table, actual_count, gone_in, parameter_count, sight_of, table_of, told_in}
+use Rattle.std.proofs.Common.{arith, ◌≡◌, ◌⊎◌, inl, inr, ℕ, ◌<◌, ◌≤◌, List, ◌++◌, length, map, replicate, refl, sym, ap, ◌∙◌, subst, Option, Some, slice_get, slice_set, slice_index_or}
+use Rattle.kahn_pool.proofs.Common.{map-set_same, get_or-set_other, length-map, map-set, cases_eq, slice_get_read, Program, network_of, Lists, Gone, kept_behind, nothing_gone, Tapped, View, Pause, Kept, HasRunCell, RunState, events_at, no_view, view_at, kept_lists, printed_list, AreKeptOf, HaveChanged, none_of, IsLaid, IsLeft, HasWorked, Table, actual_count, gone_in, parameter_count, sight_of, table_of, told_in}
 use Rattle.kahn_code.specs.Lines.{Lines as Queues}
-use Rattle.kahn_pool.proofs.Benched.{get_map, ran, viewed}
+use Rattle.kahn_pool.proofs.Benched.{get_map, mapped, ran, viewed}
+use Rattle.kahn_pool.proofs.Lists.{map_changed, map_map}
 
 -- ---- later states of a bench
 
@@ -65,25 +66,20 @@ module _ {t : Program} {lists : Lists} {watch : Option ℕ} {code : Program} (ta
 
 -- ---- what is there of what was kept
 
-pub left_more : {A : Type 0} (taps : List Tapped) (kept : List (Kept A)) (x : Tapped) (k : Kept A) → AreLeft taps kept → IsLeft x k → AreLeft (taps ++ x ∷ []) (kept ++ k ∷ [])
-left_more [] [] x k h e = (e, tt)
-left_more [] (l ∷ kept) x k h e = absurd h
-left_more (y ∷ taps) [] x k h e = absurd h
-left_more (y ∷ taps) (l ∷ kept) x k h e = (h.0, left_more taps kept x k h.1 e)
-
 -- where nothing was let go of it is all
-pub left_whole : {A : Type 0} (taps : List Tapped) (kept : List (Kept A)) (n : ℕ) → AreLeft taps kept → map gone_in taps ≡ replicate n nothing_gone → AreKeptOf (map told_in taps) kept
-left_whole [] [] n h e = record { sent = refl; printed = refl; parameters = refl }
-left_whole [] (k ∷ kept) n h e = absurd h
-left_whole (x ∷ taps) [] n h e = absurd h
-left_whole (x ∷ taps) (k ∷ kept) zero h e = absurd cc
-left_whole (x ∷ taps) (k ∷ kept) (suc n) h e =
-    let none : x.gone ≡ nothing_gone = cc in
-    let rest : map gone_in taps ≡ replicate n nothing_gone = cc in
-    let r = left_whole taps kept n h.1 rest in
-    let all = subst (λ (g : Gone). (kept_behind g.kept (kept_lists k) ≡ x.told.kept) × (g.printed ++ printed_list k ≡ x.told.printed)) none (h.0.0, h.0.1) in
-    record {
-      sent = ap (λ l. l ∷ map kept_lists kept) all.0 ∙ ap (λ l. x.told.kept ∷ l) r.sent;
-      printed = ap (λ l. l ∷ map printed_list kept) all.1 ∙ ap (λ l. x.told.printed ∷ l) r.printed;
-      parameters = ap (λ l. l ∷ map parameter_count kept) h.0.2 ∙ ap (λ l. actual_count x.told ∷ l) r.parameters;
+pub left_whole : {A : Type 0} (taps : List Tapped) (kept : List (Kept A)) (n : ℕ) → HaveChanged IsLeft taps kept → map gone_in taps ≡ replicate n nothing_gone → AreKeptOf (map told_in taps) kept
+left_whole {A} taps kept n h e = record {
+  sent = map_changed kept_lists (λ x. x.told.kept) (λ x k z. z.0) taps kept whole ∙ sym (map_map (λ c. c.kept) told_in taps);
+  printed = map_changed printed_list (λ x. x.told.printed) (λ x k z. z.1) taps kept whole ∙ sym (map_map (λ c. c.printed) told_in taps);
+  parameters = map_changed parameter_count (λ x. actual_count x.told) (λ x k z. z.2) taps kept whole ∙ sym (map_map actual_count told_in taps);
+}
+  where
+    whole : HaveChanged (λ (x : Tapped) (k : Kept A). (kept_lists k ≡ x.told.kept) × (printed_list k ≡ x.told.printed) × (parameter_count k ≡ actual_count x.told)) taps kept
+    whole = record {
+      count = h.count;
+      each = λ p x k f g.
+          let l = h.each p x k f g in
+          let none : x.gone ≡ nothing_gone = sym (mapped gone_in taps p x nothing_gone f) ∙ ap (λ (gs : List Gone). slice_index_or gs p nothing_gone) e ∙ none_of n p nothing_gone in
+          let all = subst (λ (g : Gone). (kept_behind g.kept (kept_lists k) ≡ x.told.kept) × (g.printed ++ printed_list k ≡ x.told.printed)) none (l.0, l.1) in
+          (all.0, all.1, l.2);
     }

@@ -1,9 +1,24 @@
--- Believed. A run that is held between its parts: what contracts see of it, and what its calls make of it (this project's profile).
+-- Believed. Why a run is refused; a run that is held between its parts: what contracts see of it, and what its calls make of it
+-- (this project's profile).
 use Rattle.std.specs.Prelude.{◌≡◌, ◌⊎◌, ℕ, suc, ◌+◌, ◌<◌, ◌≤◌, ◌^◌, List, [], ◌∷◌, map, sum_by, Option, Some, None, slice_get, slice_index_or, if◌then◌else◌}
-use Rattle.kahn_pool.specs.inner.Below.{Actual, Answer, AreInputsExtended, AreRight, Channel, Config, End, Entry, FeedFault, Finished, Given, HasEndAt, HasStream, Inputs, IsAllowed, IsEntryFed, IsPrefix, IsRight, IsUnrun, IsUnwelcome, IsWatched, IsWhole, Line, Lists, Network, Nobody, Print, Program, RunFault, Settles, Source, Stream, Token, Told, Value, Verdict, Written, inputs_of, instance_at, is_written, network_of, source, stream_lines, token_value, values_of}
-use Rattle.kahn_streams.specs.declared.fault.RunFault.TheVariants.{NoThread}
+use Rattle.kahn_pool.specs.inner.Below.{Actual, Answer, AreInputsExtended, AreRight, Channel, Config, End, Entry, FeedFault, Finished, Given, HasEndAt, HasStream, Inputs, IsAllowed, IsEntryFed, IsPrefix, IsRight, IsUnrun, IsUnwelcome, IsWatched, IsWhole, Line, Lists, Network, Print, Program, RunFault, Settles, Source, Stream, Token, Told, Value, Verdict, Written, inputs_of, instance_at, is_written, network_of, source, stream_lines, token_value, values_of}
+use Rattle.kahn_streams.specs.declared.fault.RunFault.TheVariants as fault
 use Rattle.kahn_pool.specs.declared.held_fault.HeldFault.{HeldFault}
 use Rattle.kahn_pool.specs.declared.held_fault.HeldFault.TheVariants as held
+
+-- why a run on one thread is refused
+abbrev pub IsRefusedRun : ℕ → RunFault → Type 0
+IsRefusedRun bound fault.BadConfig = 2 ^ 48 ≤ bound
+IsRefusedRun bound fault.NoMemory = bound < 2 ^ 48
+IsRefusedRun bound f = ⊥
+
+-- memory was wanting, or a thread for one of several workers
+abbrev pub IsWant : ℕ → RunFault → Type 0
+IsWant workers fault.NoMemory = Unit {0}
+IsWant workers fault.NoThread = 1 < workers
+IsWant workers f = ⊥
+
+-- ---- a held run
 
 -- the events of a process, the tokens that its cell kept of what it sent by each parameter, and those that it printed
 pub record Seen : Type 0 where
@@ -42,14 +57,16 @@ abbrev pub writing : List Actual → ℕ → ℕ
 writing [] c = 0
 writing (a ∷ rest) c = if is_written a c then 0 else suc (writing rest c)
 
--- what was given to the line so far, by its source; nothing where it has none
+-- the values of a line by its source, of these inputs and of what each cell kept and printed; none where it has no source
+abbrev pub values_by : Network → Inputs → (ℕ → List (List Token)) → (ℕ → List Token) → Source → Line → List Value
+values_by N I kept printed Given (Channel c) = I c
+values_by N I kept printed (Written p) (Channel c) = map token_value (slice_index_or (kept p) (writing (instance_at N p).actuals c) [])
+values_by N I kept printed (Written p) (Print r) = map token_value (printed p)
+values_by N I kept printed s c = []
+
+-- what was given to the line so far, by its source
 abbrev pub given_so_far : HeldRun → Source → Line → List Value
-given_so_far h Given (Channel c) = inputs_of h.input c
-given_so_far h Given (Print r) = []
-given_so_far h (Written p) (Channel c) =
-    map token_value (slice_index_or (seen_at h.cells p).kept (writing (instance_at (network_of h.network) p).actuals c) [])
-given_so_far h (Written p) (Print r) = map token_value (seen_at h.cells p).printed
-given_so_far h Nobody c = []
+given_so_far h = values_by (network_of h.network) (inputs_of h.input) (λ p. (seen_at h.cells p).kept) (λ p. (seen_at h.cells p).printed)
 
 -- the values of the stream of a line so far
 abbrev pub so_far : HeldRun → Line → List Value
@@ -85,7 +102,7 @@ pub record HasStarted (t : Program) (lists : Lists) (config : Config) (h : HeldR
 
 -- why there is none: what refuses a run, but that no thread is started
 abbrev pub IsUnstarted : Program → Config → RunFault → Type 0
-IsUnstarted t config NoThread = ⊥
+IsUnstarted t config fault.NoThread = ⊥
 IsUnstarted t config f = IsUnrun t config f
 
 -- ---- a part of the run

@@ -1,4 +1,3 @@
-pub mod Limits
 pub mod HeldRuns
 pub mod Flows
 pub mod inner

@@ -3,7 +3,7 @@
 ghost use Rattle.kahn_pool.specs.inner.Below.{AreQueued, HasForgotten, Input as InputRole, IsPoured, Lists, Reads, Tapped, actual_at, inputs_of, instance_at, network_of, role_at, stream_lines};
 ghost use Rattle.kahn_pool.specs.inner.Bench.{AreStreams, HasRunCell, all_events, events_at};
 ghost use Rattle.kahn_pool.specs.inner.Streams.{HaveChanged};
-ghost use Rattle.kahn_pool.specs.inner.Workbench.{AllStandBy, AreLeft, AreOpeningCells, AreStreamsReady, AreWhole, HasEmptied, HasFresh, HasFreshPrints, HasTakenIn, HasWorked, IsCrowded, IsLaid, IsNextPlace, StandsAsTold, gone_in, sight_of, table_of, told_in};
+ghost use Rattle.kahn_pool.specs.inner.Workbench.{AllStandBy, AreOpeningCells, AreStreamsReady, AreWhole, HasEmptied, HasFresh, HasFreshPrints, HasTakenIn, HasWorked, IsCrowded, IsLaid, IsLeft, IsNextPlace, StandsAsTold, gone_in, sight_of, table_of, told_in};
 ghost use Rattle.std.specs.Prelude.{◌≡◌, ◌<◌, ◌≤◌, ◌+◌, ◌^◌, ℕ, [], Some, length, map, slice_get, vec_capacity, IfOk, IfErr, IfSome, MatchOption, SomeIff};
 
 use crate::awake::Awake;
@@ -90,7 +90,7 @@ fn all_stood(network: &Network, taps: &[Tap])
 fn all_kept(taps: Vec<Tap>, mut kept: Vec<Kept>) -> Vec<Kept>
     requires empty { kept.items ≡ [] }
     requires room { length taps.items ≤ vec_capacity kept }
-    ensures { AreLeft taps.items result.items }
+    ensures { HaveChanged IsLeft taps.items result.items }
 {
     for tap in taps {
         kept.push_reserved(tap.into_lists());

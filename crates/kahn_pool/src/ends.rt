@@ -69,10 +69,8 @@ fn end_of(part: &Part<'_>, tasks: &[Task], instance: usize) -> End
         Standing::Faulted(failure) => Outcome::Faulted(failure),
         Standing::Dry(parameter) => dry_outcome(part, tasks, instance, parameter),
     };
-    End {
-        outcome,
-        events: task.events(),
-    }
+    let events = task.events();
+    End { outcome, events }
 }
 
 /// The ends of all instances. The list that is given has room for all.

@@ -1,20 +1,19 @@
 //! Runs on one thread that are fed as they go, and let go of what they kept.
 
-ghost use Rattle.std.specs.Prelude.{◌≡◌, ◌↔◌, ◌≤◌, ◌+◌, Some, length, sum_by, vec_capacity, IfOk, IsTrue, MatchResult};
-ghost use Rattle.kahn_pool.specs.inner.Below.{Verdict as VerdictOf, network_of, stream_lines};
+ghost use Rattle.std.specs.Prelude.{◌≡◌, ◌↔◌, ℕ, ◌+◌, ◌++◌, ◌<◌, ◌≤◌, ◌^◌, [], Some, length, map, slice_get, sum_by, false, true, vec_capacity, IfOk, IsTrue, MatchResult, OnOk};
+ghost use Rattle.kahn_pool.specs.inner.Below.{Holds, Input as InputRole, Names, Value as ValueOf, Verdict as VerdictOf, inputs_of, is_watched, network_of, role_at, stream_lines, token_value};
 ghost use Rattle.kahn_pool.specs.HeldRuns.{IsLineOf, IsRightSoFar, IsUnstarted, seen_events};
 ghost use Rattle.kahn_pool.specs.Flows.{AreNew, HasFlowed, HasLetGo, HasPouredIn, IsNotRun, IsRunOn, IsUnpoured};
 
 use crate::bench::Bench;
 use crate::held_fault::HeldFault;
-use crate::lent::{lend, lent_of, make_room};
 use crate::plan::plan_of;
 use crate::rounds::run_part_alone;
 use crate::streams::{give_watched, lines_of};
 use kahn_crew::{Gate, Plan};
 use kahn_streams::{
-    Carried, Config, End, FeedFault, Input, Line, MOST_BOUND, Network, NoMemory, RunFault, Value,
-    Verdict, channel_meant,
+    Carried, Config, End, FeedFault, Input, Line, MOST_BOUND, Network, NoMemory, RunFault, Token,
+    Value, Verdict, Word, channel_meant,
 };
 use std::alloc::Global;
 use std::marker::{Brand, Model};
@@ -62,6 +61,56 @@ fn room_for_ends(alloc: Global, network: &Network) -> Result<Vec<End>, NoMemory>
     Ok(Vec::with_capacity(alloc, network.instances())?)
 }
 
+// The values of which tokens are lent: all of a watched channel, and none of another one.
+fn lent_of(watch: Option<usize>, channel: usize, values: &[Value]) -> &[Value]
+    ensures all { is_watched watch channel ≡ true → result.now ≡ values.now }
+    ensures none { is_watched watch channel ≡ false → result.now ≡ [] }
+    ensures few { length result.now ≤ length values.now }
+{
+    if watch == Some(channel) { values } else { &[] }
+}
+
+// Makes room for so many tokens more. It refuses only if memory was refused, and then nothing changed.
+fn make_room(tokens: &mut Vec<Carried>, count: usize) -> Result<(), NoMemory>
+    ensures items { tokens.new.items ≡ tokens.old.items }
+    ensures room { OnOk result (length tokens.new.items + count ≤ vec_capacity tokens.new) }
+{
+    tokens.reserve(count)?;
+    Ok(())
+}
+
+// The token of a value that stands there, for the names of what is at hand.
+fn token_for(_bench: &Bench<'_>, channel: usize, place: u64, value: Word) -> Token
+    ghost names: { Names }
+    requires { Holds names.network names.input (Line.Channel channel) place value }
+    ensures { result.value ≡ value }
+{
+    Token::of_word(Line::Channel(channel), place, value)
+}
+
+// The token of a value of an input channel.
+fn input_token(bench: &Bench<'_>, channel: usize, place: u64, value: Value) -> Token
+    requires role { role_at (network_of bench.now.network) channel ≡ InputRole }
+    requires here { slice_get (inputs_of bench.now.input channel) place ≡ Some value }
+    ensures { result.value ≡ value }
+{
+    token_for(bench, channel, place, Word::of(value))
+}
+
+// Adds the tokens of values that stand in the list of an input channel, from this place on. There is room for them.
+fn lend(bench: &Bench<'_>, tokens: &mut Vec<Carried>, channel: usize, place: u64, values: &[Value])
+    requires role { role_at (network_of bench.now.network) channel ≡ InputRole }
+    requires here { (k : ℕ) (v : ValueOf) → slice_get values.now k ≡ Some v → slice_get (inputs_of bench.now.input channel) (place + k) ≡ Some v }
+    requires few { place + length values.now < 2 ^ 64 }
+    requires room { length tokens.old.items + length values.now ≤ vec_capacity tokens.old }
+    ensures { map token_value tokens.new.items ≡ map token_value tokens.old.items ++ values.now }
+{
+    for number in 0..values.len() {
+        let token = input_token(bench, channel, place + number as u64, values[number]);
+        tokens.push_reserved(Carried::of(token));
+    }
+}
+
 impl<'n> Flow<'n> {
     /// A run of a network with an input, before its first event. It keeps the allocator for its later calls. The bound of the
     /// configuration is the first one: `resume(0)` runs for that many events. It runs on the caller's thread alone, whatever
@@ -105,19 +154,12 @@ impl<'n> Flow<'n> {
             return Err(HeldFault::BadMore);
         }
         let ends = mem::replace(&mut self.ends, Vec::new(self.alloc));
-        let (quantum, bound) = (self.plan.quantum, self.budget + more);
+        let bound = self.budget + more;
+        let plan = Plan { bound, ..self.plan };
         self.bench.stood();
-        let Some(part) = run_part_alone::<G, Brand>(
-            Blank::new(1),
-            &mut self.bench,
-            gate,
-            false,
-            ends,
-            quantum,
-            bound,
-        ) else {
-            unreachable!()
-        };
+        let blank = Blank::new(1);
+        let run = run_part_alone::<G, Brand>(blank, &mut self.bench, gate, false, ends, plan);
+        let Some(part) = run else { unreachable!() };
         self.bench.stood();
         self.plan.bound += more;
         self.budget = part.left;

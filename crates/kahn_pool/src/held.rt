@@ -129,10 +129,8 @@ impl<'n> Held<'n> {
         give_watched(self.network, &self.input, self.plan.watch, &mut self.given)?;
         let idles = mem::replace(&mut self.idles, Vec::new(self.alloc));
         let _program = self.network.program();
-        let plan = Plan {
-            bound: self.plan.bound + more,
-            ..self.plan
-        };
+        let bound = self.plan.bound + more;
+        let plan = Plan { bound, ..self.plan };
         let part = Part {
             network: self.network,
             input: &self.input,

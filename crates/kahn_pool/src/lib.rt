@@ -8,7 +8,6 @@ mod flow;
 mod held;
 mod held_fault;
 mod laws;
-mod lent;
 mod looks;
 mod one;
 mod part;

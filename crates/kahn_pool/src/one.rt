@@ -1,7 +1,7 @@
 //! A run on the caller's thread.
 
 ghost use Rattle.kahn_pool.specs.inner.Below.{IsCutShort, IsRight, Settles, inputs_of, network_of};
-ghost use Rattle.kahn_pool.specs.Limits.{IsRefusedRun};
+ghost use Rattle.kahn_pool.specs.HeldRuns.{IsRefusedRun};
 ghost use Rattle.kahn_pool.specs.inner.FlowBench.{IsPartEnd};
 ghost use Rattle.kahn_pool.specs.inner.Workbench.{AreStreamsReady, AreWhole, IsRightAlone};
 ghost use Rattle.std.specs.Prelude.{◌≡◌, ◌<◌, ◌^◌, length, true, IfOk, IfErr, MatchOption, None, vec_capacity};
@@ -59,15 +59,8 @@ pub(crate) fn run_alone<G: Gate>(
     let ends = Vec::with_capacity(alloc, network.instances())?;
     let mut bench = Bench::new(alloc, network, input, plan.watch)?;
     let (streams, kept) = room_for_answer(alloc, network, input, plan.watch)?;
-    let part = run_part_alone::<G, Brand>(
-        Blank::new(1),
-        &mut bench,
-        gate,
-        may_leave,
-        ends,
-        plan.quantum,
-        plan.bound,
-    );
+    let blank = Blank::new(1);
+    let part = run_part_alone::<G, Brand>(blank, &mut bench, gate, may_leave, ends, plan);
     match part {
         Some(part) => Ok(Some(answered(bench, part, streams, kept, plan.bound))),
         None => Ok(None),

@@ -128,10 +128,8 @@ fn run_settled<R: Threads + Wait + Sync, G: Gate + Sync>(
     let (network, input) = (part.network, part.input);
     let _program = network.program();
     let tasks = wake_all(network, input, idles, room.tasks);
-    let plan = Plan {
-        bound: part.left,
-        ..part.plan
-    };
+    let bound = part.left;
+    let plan = Plan { bound, ..part.plan };
     match run_tasks(rt, alloc, network, input, part.code, plan, tasks, gate) {
         Ok(left) => conclude(part, left, room.idles, room.ends),
         Err((fault, left)) => give_up(fault, part, left, room.idles, room.ends),

@@ -13,7 +13,7 @@ ghost use Rattle.std.specs.Prelude.{◌≡◌, ◌⊎◌, ◌<◌, ◌≤◌, �
 
 use crate::bench::Bench;
 use kahn_code::{Pause, Steps};
-use kahn_crew::Gate;
+use kahn_crew::{Gate, Plan};
 use kahn_streams::{End, Outcome, Verdict};
 use std::sync::ledger::{Blank, Ledger};
 
@@ -73,10 +73,8 @@ fn end_of(bench: &Bench<'_>, instance: usize, stopped: Pause) -> End
         Pause::Fault(failure) => Outcome::Faulted(failure),
         Pause::Dry(parameter) => Outcome::Waits(bench.channel(instance, parameter)),
     };
-    End {
-        outcome,
-        events: bench.events(instance),
-    }
+    let events = bench.events(instance);
+    End { outcome, events }
 }
 
 impl Round {
@@ -340,8 +338,8 @@ pub(crate) fn verdict_of(memory: bool, ends: &[End]) -> Verdict
     Verdict::Finished
 }
 
-/// Runs the processes of a bench on one thread for so many events, each for at most `quantum` at a time, before which the gate is
-/// entered. It answers nothing if the run may be left and there is work for several workers. Steps are counted on a ledger of its
+/// Runs the processes of a bench on one thread for as many events as the plan's bound, each for at most its quantum at a time, before
+/// which the gate is entered. It answers nothing if the run may be left and there is work for several workers. Steps are counted on a ledger of its
 /// own. The list of ends has room for each instance. It never allocates.
 pub(crate) fn run_part_alone<G: Gate, L: Ledger>(
     blank: Blank,
@@ -349,14 +347,13 @@ pub(crate) fn run_part_alone<G: Gate, L: Ledger>(
     gate: &G,
     may_leave: bool,
     ends: Vec<End>,
-    quantum: u64,
-    bound: u64,
+    plan: Plan,
 ) -> Option<PartEnd>
     requires blank { (blank.name ≡ L.name) × (blank.parts ≡ L.parts) × (0 < blank.parts) }
-    requires quantum { 0 < quantum }
-    requires bound { all_events (sight_of bench.old) + bound < 2 ^ 48 }
+    requires quantum { 0 < plan.quantum }
+    requires bound { all_events (sight_of bench.old) + plan.bound < 2 ^ 48 }
     requires room { length (sight_of bench.old).network.instances ≤ vec_capacity ends }
-    ensures concluded { MatchOption result (may_leave ≡ true) (IsPartEnd bench.new (all_events (sight_of bench.old) + bound)) }
+    ensures concluded { MatchOption result (may_leave ≡ true) (IsPartEnd bench.new (all_events (sight_of bench.old) + plan.bound)) }
     ensures room { IfSome result (λ r. length (sight_of bench.new).network.instances ≤ vec_capacity r.ends) }
     ensures worked { HasWorked bench.old bench.new }
 {
@@ -365,10 +362,8 @@ pub(crate) fn run_part_alone<G: Gate, L: Ledger>(
         gate,
         may_leave,
     };
-    let first = Round::new(bench, quantum, bound, ends);
-    let Some(last) = driver.last_round(bench, first) else {
-        return None;
-    };
+    let first = Round::new(bench, plan.quantum, plan.bound, ends);
+    let last = driver.last_round(bench, first)?;
     bench.stood();
     let verdict = verdict_of(last.memory, &last.ends);
     Some(PartEnd {

@@ -1,7 +1,7 @@
 //! Runs of a network.
 
 ghost use Rattle.kahn_pool.specs.inner.Below.{IsCutShort, IsInRange, IsRight, IsRightRun, IsUnrun, Settles, inputs_of, network_of};
-ghost use Rattle.kahn_pool.specs.Limits.{IsWant};
+ghost use Rattle.kahn_pool.specs.HeldRuns.{IsWant};
 ghost use Rattle.std.specs.Prelude.{◌≡◌, ◌<◌, length, IfOk, MatchResult};
 
 use crate::laws;

@@ -1,9 +1,9 @@
 //! The streams of an answer: their lines, and the tokens that fill them.
 
 ghost use Rattle.std.specs.Prelude.{◌≡◌, ◌<◌, ◌++◌, ◌∷◌, [], cond, length, map, slice_set, slice_index_or, vec_capacity, IfOk, OnOk};
-ghost use Rattle.kahn_pool.specs.inner.Below.{Input as InputRole, channel_lines, declaration_prints, inputs_of, instance_at, is_streamed, network_of, print_lines, prints_in, role_at, source, stream_lines};
+ghost use Rattle.kahn_pool.specs.inner.Below.{Input as InputRole, channel_lines, declaration_prints, inputs_of, instance_at, is_streamed, network_of, print_lines, prints_in, role_at, stream_lines, token_value};
 ghost use Rattle.kahn_pool.specs.inner.Workbench.{AreOpen, AreStreamsReady};
-ghost use Rattle.kahn_pool.specs.inner.Streams.{AreAllGiven, AreGiven, AreNamed, IsBegun, IsDeclared, kept_lists, AreAllOf, AreLists, HasBecome, HaveBecome, IsFilled, KeepsOtherLines, HasInput};
+ghost use Rattle.kahn_pool.specs.inner.Streams.{AreAllGiven, AreGiven, AreLists, AreNamed, HaveChanged, IsBegun, IsDeclared, IsFilledStream, IsOpenStream, KeepsOtherLines, kept_lists};
 
 use kahn_code::Kept;
 use kahn_streams::{Carried, Input, Line, Network, NoMemory, Role, Stream, declaration_prints};
@@ -34,14 +34,6 @@ fn instance_prints(network: &Network, printing: &[bool], instance: usize) -> boo
     }
 }
 
-// Whether a channel has a stream.
-fn has_stream(network: &Network, watch: Option<usize>, channel: usize) -> bool
-    requires { channel < length (network_of network.now).channels }
-    ensures { result ≡ is_streamed (network_of network.now) watch channel }
-{
-    network.channel(channel).role == Role::Output || watch == Some(channel)
-}
-
 // One line more, if it has a stream.
 fn add_line(lines: &mut Vec<Line>, has_one: bool, line: Line) -> Result<(), NoMemory>
     ensures { OnOk result (lines.new.items ≡ lines.old.items ++ cond has_one (line ∷ []) []) }
@@ -61,7 +53,7 @@ fn add_channels(
     ensures { OnOk result (lines.new.items ≡ lines.old.items ++ channel_lines watch (network_of network.now).channels 0) }
 {
     for channel in 0..network.channels() {
-        let has_one = has_stream(network, watch, channel);
+        let has_one = network.channel(channel).role == Role::Output || watch == Some(channel);
         add_line(lines, has_one, Line::Channel(channel))?;
     }
     Ok(())
@@ -108,9 +100,8 @@ fn exchange_kept(lists: &mut Kept, parameter: usize, tokens: &mut Vec<Carried>)
 fn fill_one(network: &Network, stream: &mut Stream, lists: &mut Vec<Kept>)
     requires declared { IsDeclared (network_of network.now) stream.old.line }
     requires lists { AreLists (network_of network.now) lists.old.items }
-    ensures line { stream.new.line ≡ stream.old.line }
     ensures lists { AreLists (network_of network.now) lists.new.items }
-    ensures filled { HasBecome (network_of network.now) (IsFilled (network_of network.now) lists.old.items) stream.old stream.new }
+    ensures filled { IsFilledStream (network_of network.now) lists.old.items stream.old stream.new }
     ensures others { KeepsOtherLines (network_of network.now) stream.old.line lists.old.items lists.new.items }
 {
     match stream.line {
@@ -132,7 +123,7 @@ fn fill_one(network: &Network, stream: &mut Stream, lists: &mut Vec<Kept>)
 pub fn fill(network: &Network, streams: &mut Vec<Stream>, lists: &mut Vec<Kept>)
     requires named { AreNamed (network_of network.now) streams.old.items }
     requires lists { AreLists (network_of network.now) lists.old.items }
-    ensures { HaveBecome (network_of network.now) (IsFilled (network_of network.now) lists.old.items) streams.old.items streams.new.items }
+    ensures { HaveChanged (IsFilledStream (network_of network.now) lists.old.items) streams.old.items streams.new.items }
 {
     for number in 0..streams.len() {
         fill_one(network, &mut streams[number], lists);
@@ -148,7 +139,7 @@ fn give_list(
 ) -> Result<(), NoMemory>
     requires begun { IsBegun (network_of network.now) (inputs_of input.now) channel (inputs_of input.now channel) tokens.old.items }
     ensures begun { IsBegun (network_of network.now) (inputs_of input.now) channel (inputs_of input.now channel) tokens.new.items }
-    ensures given { OnOk result (AreAllOf (network_of network.now) (inputs_of input.now) channel tokens.new.items) }
+    ensures given { OnOk result (role_at (network_of network.now) channel ≡ InputRole → map token_value tokens.new.items ≡ inputs_of input.now channel) }
     ensures others { OnOk result ((role_at (network_of network.now) channel ≡ InputRole → ⊥) → tokens.new.items ≡ tokens.old.items) }
 {
     'tokens: while let Some(token) = input.token(network, channel, tokens.len() as u64) {
@@ -186,7 +177,7 @@ fn opening_stream(
     line: Line,
 ) -> Result<Stream, NoMemory>
     ensures line { IfOk result (λ x. x.line ≡ line) }
-    ensures given { IfOk result (λ x. HasInput (network_of network.now) (inputs_of input.now) (source (network_of network.now) line) line [] x.tokens.items) }
+    ensures given { IfOk result (IsOpenStream (network_of network.now) (inputs_of input.now)) }
 {
     let mut tokens = Vec::new(alloc);
     let Line::Channel(channel) = line else {

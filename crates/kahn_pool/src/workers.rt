@@ -2,7 +2,7 @@
 
 ghost use Rattle.std.specs.Prelude.{◌≡◌, ◌<◌, ◌≤◌, [], length, vec_capacity, IfErr, IfOk, MatchResult};
 ghost use Rattle.kahn_pool.specs.inner.Below.{IsInRange, IsLack, IsRight, cells_of, inputs_of, network_of};
-ghost use Rattle.kahn_pool.specs.Limits.{IsWant};
+ghost use Rattle.kahn_pool.specs.HeldRuns.{IsWant};
 ghost use Rattle.kahn_pool.specs.inner.Holding.{AreHeldBy, HasEnded};
 ghost use Rattle.kahn_pool.specs.inner.Workbench.{AreKeptOf, AreStreamsReady};
 

@@ -6,6 +6,7 @@ pub mod Words
 pub mod Scanned
 pub mod Lines
 pub mod Right_lines
+pub mod Kept
 pub mod Told
 pub mod Worked
 pub mod Same_programs

@@ -151,6 +151,10 @@ IsLineFault line line_fault.NoMemory = Unit {0}
 abbrev pub IsInputText : List ℕ → List Entry → Type 0
 IsInputText text entries = (length text ≤ most_input_bytes) × AreEntries (text_lines text) entries
 
+-- the first of the entries that the text spells, up to so many
+abbrev pub AreFirstEntries : List ℕ → ℕ → List Entry → Type 0
+AreFirstEntries text most first = (entries : List Entry) × IsInputText text entries × (first ≡ take most entries)
+
 -- why an input text has no entries: it is too long, or else its first line that is neither blank nor an entry
 abbrev pub IsEntriesFault : List ℕ → TextFault → Type 0
 IsEntriesFault text (BadLine n) = (length text ≤ most_input_bytes) × IsFirstLine HasNoHead text n

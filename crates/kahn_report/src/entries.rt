@@ -1,14 +1,14 @@
 //! The entries of an input text, line by line.
 
-ghost use Rattle.std.specs.Prelude.{◌≡◌, ◌↔◌, IsTrue, List, MatchResult, MatchOption, map};
-ghost use Rattle.kahn_report.specs.Formats.{AreBlanks, IsEntry, IsLineFault, IsEntriesFault, IsInputText, IsReadLine, content as content_of};
+ghost use Rattle.std.specs.Prelude.{◌≡◌, ◌↔◌, ◌+◌, ◌<◌, ◌≤◌, ◌∷◌, ◌++◌, [], IsTrue, List, MatchResult, MatchOption, OnOk, length, map};
+ghost use Rattle.kahn_report.specs.Formats.{AreBlanks, AreFirstEntries, IsEntry, IsLineFault, IsEntriesFault, IsReadLine, content as content_of};
 ghost use Rattle.kahn_streams.specs.Inputs.{entry_of};
 
 use crate::heads::{head_of, is_blank};
 use crate::input::TextFault;
 use crate::values::{ValuesFault, read_values};
 use kahn_streams::Value;
-use std::alloc::Global;
+use std::alloc::{AllocError, Global};
 use thiserror::Error;
 
 /// The most bytes of an input text.
@@ -79,9 +79,31 @@ pub fn read_line(alloc: Global, line: &[u8]) -> Result<Option<(String, Vec<Value
     }
 }
 
-/// Reads the entries of an input text: the names of channels, and their values. It never refuses an entry as `Input`.
-pub fn read_entries(alloc: Global, text: &str) -> Result<Vec<(String, Vec<Value>)>, TextFault>
-    ensures { MatchResult result (λ entries. IsInputText text.now (map entry_of entries.items)) (IsEntriesFault text.now) }
+/// Keeps an entry, unless there are more than so many.
+fn keep(
+    entries: &mut Vec<(String, Vec<Value>)>,
+    channels: usize,
+    entry: (String, Vec<Value>),
+) -> Result<(), AllocError>
+    ensures room { OnOk result (length entries.old.items ≤ channels → entries.new.items ≡ entries.old.items ++ entry ∷ []) }
+    ensures full { OnOk result (channels < length entries.old.items → entries.new.items ≡ entries.old.items) }
+{
+    if entries.len() > channels {
+        return Ok(());
+    }
+    entries.push(entry)?;
+    Ok(())
+}
+
+/// Reads the entries of an input text for so many channels: the names of channels, and their values. Of more entries than
+/// channels one can't be taken, so the first that are one more than the channels are kept. It never refuses an entry as `Input`.
+#[tactic(auto, using(crate::proofs::Kept::none_read))]
+pub fn read_entries(
+    alloc: Global,
+    text: &str,
+    channels: usize,
+) -> Result<Vec<(String, Vec<Value>)>, TextFault>
+    ensures { MatchResult result (λ entries. AreFirstEntries text.now (channels + 1) (map entry_of entries.items)) (IsEntriesFault text.now) }
 {
     if text.len() > MOST_BYTES {
         return Err(TextFault::TooLong);
@@ -93,7 +115,7 @@ pub fn read_entries(alloc: Global, text: &str) -> Result<Vec<(String, Vec<Value>
         match read_line(alloc, line) {
             Ok(None) => {}
             Ok(Some(entry)) => {
-                if entries.push(entry).is_err() {
+                if keep(&mut entries, channels, entry).is_err() {
                     return Err(TextFault::NoMemory);
                 }
             }

@@ -47,13 +47,13 @@ impl From<InputFault> for TextFault {
 
 /// Reads the input of a network from an input text. A text that is too long is refused first, then the first line that is
 /// neither blank nor an entry, and then the first entry that doesn't fit the network. It refuses with `NoMemory` where
-/// memory was refused.
-#[tactic(auto, using(crate::proofs::Told::entries_told, crate::proofs::Told::input_told))]
+/// memory was refused. Of entries that can't all fit it keeps one more than the network has channels.
+#[tactic(auto, using(crate::proofs::Told::entries_told))]
 pub fn read_input(alloc: Global, text: &str, network: &Network) -> Result<Input, TextFault>
     ensures read { MatchResult result (StandsFor network.now text.now) (IsInputTextFault network.now text.now) }
     ensures fits { IfOk result (IsInputFor (network_of network.now)) }
 {
-    let entries = match read_entries(alloc, text) {
+    let entries = match read_entries(alloc, text, network.channels()) {
         Ok(entries) => entries,
         Err(fault) => return Err(fault),
     };

@@ -312,9 +312,13 @@ fn feed_pieces(
     Ok(())
 }
 
-// The entries of an input text, each list turned round.
-fn turned(alloc: Global, input: &str) -> Result<Vec<(String, Vec<Value>)>, Fail> {
-    let mut entries = read_entries(alloc, input)?;
+// The entries of an input text for a network, each list turned round.
+fn turned(
+    alloc: Global,
+    network: &Network,
+    input: &str,
+) -> Result<Vec<(String, Vec<Value>)>, Fail> {
+    let mut entries = read_entries(alloc, input, network.channels())?;
     for (_, values) in entries.iter_mut() {
         values.reverse();
     }
@@ -364,7 +368,7 @@ fn agrees_in_parts<R: Threads + Wait + Sync>(
     whole: &str,
 ) -> Result<bool, Fail> {
     let network = network_of(alloc, program)?;
-    let mut entries = turned(alloc, input)?;
+    let mut entries = turned(alloc, &network, input)?;
     let workers = below(16, number).saturating_add(1);
     let mut number = shuffled(number);
     let quantum = below(9, number).saturating_add(1);

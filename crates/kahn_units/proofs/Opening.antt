@@ -7,7 +7,7 @@ use Rattle.kahn_streams.proofs.Sourced.{writes}
 use Rattle.kahn_streams.specs.Inputs.{Lists}
 use Rattle.kahn_streams.specs.Answers.{is_output}
 use Rattle.kahn_code.specs.Lines.{Lines as Queues, AreFirst, next_at}
-use Rattle.kahn_code.specs.Told.{Told}
+use Rattle.kahn_code.specs.Progress.{Told}
 use Rattle.kahn_streams.proofs.Entered.{none_of}
 use Rattle.kahn_code.proofs.Queued.{given_zero, taken_zero}
 use Rattle.kahn_units.specs.inner.Standing.{IsOfSite}

@@ -2,7 +2,7 @@
 
 ghost use Rattle.std.specs.Prelude.{◌≡◌, ◌+◌, ◌^◌, ◌<◌, ◌≤◌, ℕ, None, Some, true, false, IfOk, MatchOption, IfSome, length, replicate};
 ghost use Rattle.kahn_board.specs.Calls.{HoldsNothing};
-ghost use Rattle.kahn_board.specs.Dealt.{wired};
+ghost use Rattle.kahn_board.specs.Rule.{wired};
 ghost use Rattle.kahn_board.specs.Rule.{all_parts};
 ghost use Rattle.kahn_board.specs.Wires.{wires};
 ghost use Rattle.kahn_units.specs.inner.Working.{IsSquare, KeepsShare, HasCell, KeepsCells, KeepsOtherCells};

@@ -1,4 +1,5 @@
 mod Lists
+mod Getting
 mod Folding
 mod Holding
 mod Unchanged

@@ -41,17 +41,22 @@ process_warnings is p = if list_any (is_of p) is then [] else warned NoInstance 
 abbrev pub unread_kind : Bool → WarningKind
 unread_kind is_assigned = if is_assigned then Unread else Unused
 
+abbrev pub unused_warnings : Bool → Bool → Span → List Warning
+unused_warnings is_used is_assigned at = if is_used then [] else warned (unread_kind is_assigned) at ∷ []
+
 abbrev pub name_warnings : Process → Name → List Warning
-name_warnings p n = if uses_name p (bytes_of n) then [] else warned (unread_kind (assigns p (bytes_of n))) n.span ∷ []
+name_warnings p n = unused_warnings (uses_name p (bytes_of n)) (assigns p (bytes_of n)) n.span
 
 abbrev pub unassigned_kind : Kind → WarningKind
 unassigned_kind Integer = StaysZero
 unassigned_kind Logical = StaysFalse
 
 -- a variable has the value that it begins with
+abbrev pub initial_warnings : Bool → Bool → Kind → Span → List Warning
+initial_warnings is_used is_assigned kind at = if is_used && not is_assigned then warned (unassigned_kind kind) at ∷ [] else []
+
 abbrev pub unassigned_warnings : Process → Variable → List Warning
-unassigned_warnings p v =
-    if uses_name p (bytes_of v.name) && not (assigns p (bytes_of v.name)) then warned (unassigned_kind v.kind) v.name.span ∷ [] else []
+unassigned_warnings p v = initial_warnings (uses_name p (bytes_of v.name)) (assigns p (bytes_of v.name)) v.kind v.name.span
 
 abbrev pub variable_warnings : Process → Variable → List Warning
 variable_warnings p v = name_warnings p v.name ++ unassigned_warnings p v

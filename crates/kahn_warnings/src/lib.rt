@@ -2,6 +2,7 @@
 #![tactic(auto)]
 
 mod arithmetic;
+mod collected;
 mod comments;
 mod constants;
 mod faults;

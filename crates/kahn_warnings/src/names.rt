@@ -2,12 +2,12 @@
 
 ghost use Rattle.std.specs.Prelude.{◌≡◌, ◌++◌, IfOk};
 ghost use Rattle.std.specs.List.{list_any};
-ghost use Rattle.kahn_warnings.specs.Warnings.{is_of, name_warnings, names_warnings, process_warnings, unassigned_kind, unassigned_warnings, unread_kind};
+ghost use Rattle.kahn_warnings.specs.Warnings.{initial_warnings, is_of, names_warnings, process_warnings, unassigned_kind, unread_kind, unused_warnings};
 
-use crate::uses::{assigns, uses};
+use crate::collected::{assigned, has, used};
 use crate::warning::{Warning, WarningKind};
-use kahn_streams::{Instance, Kind, Name, Process, Variable};
-use std::alloc::AllocError;
+use kahn_streams::{Instance, Kind, Process, Span};
+use std::alloc::{AllocError, Global};
 
 /// Whether one of the instances is of a process.
 fn has_instance(instances: &[Instance], process: &Process) -> bool
@@ -49,15 +49,19 @@ fn unread_kind(is_assigned: bool) -> WarningKind
     }
 }
 
-/// Adds the warning of a name that its process doesn't use.
-fn add_name(warnings: &mut Vec<Warning>, process: &Process, name: &Name) -> Result<(), AllocError>
-    ensures { IfOk result (λ _. warnings.new.items ≡ warnings.old.items ++ name_warnings process.now name.now) }
+/// Adds the warning of a name, where it isn't used.
+fn add_unused(
+    warnings: &mut Vec<Warning>,
+    is_used: bool,
+    is_assigned: bool,
+    span: Span,
+) -> Result<(), AllocError>
+    ensures { IfOk result (λ _. warnings.new.items ≡ warnings.old.items ++ unused_warnings is_used is_assigned span) }
 {
-    let letters = name.text.as_bytes();
-    if !uses(process, letters) {
+    if !is_used {
         warnings.push(Warning {
-            kind: unread_kind(assigns(process, letters)),
-            span: name.span,
+            kind: unread_kind(is_assigned),
+            span,
         })?;
     }
     Ok(())
@@ -73,34 +77,44 @@ fn unassigned_kind(kind: Kind) -> WarningKind
     }
 }
 
-/// Adds the warning of a variable that its process uses, and never assigns.
+/// Adds the warning of a variable that is used, and never assigned.
 fn add_unassigned(
     warnings: &mut Vec<Warning>,
-    process: &Process,
-    variable: &Variable,
+    is_used: bool,
+    is_assigned: bool,
+    kind: Kind,
+    span: Span,
 ) -> Result<(), AllocError>
-    ensures { IfOk result (λ _. warnings.new.items ≡ warnings.old.items ++ unassigned_warnings process.now variable.now) }
+    ensures { IfOk result (λ _. warnings.new.items ≡ warnings.old.items ++ initial_warnings is_used is_assigned kind span) }
 {
-    let letters = variable.name.text.as_bytes();
-    if uses(process, letters) && !assigns(process, letters) {
+    if is_used && !is_assigned {
         warnings.push(Warning {
-            kind: unassigned_kind(variable.kind),
-            span: variable.name.span,
+            kind: unassigned_kind(kind),
+            span,
         })?;
     }
     Ok(())
 }
 
 /// Adds those of the parameters of a process, and then those of its variables.
-pub(crate) fn add_names(warnings: &mut Vec<Warning>, process: &Process) -> Result<(), AllocError>
+pub(crate) fn add_names(
+    warnings: &mut Vec<Warning>,
+    alloc: Global,
+    process: &Process,
+) -> Result<(), AllocError>
     ensures { IfOk result (λ _. warnings.new.items ≡ warnings.old.items ++ names_warnings process.now) }
 {
+    let used = used(alloc, process)?;
+    let assigned = assigned(alloc, process)?;
     for parameter in &process.parameters {
-        add_name(warnings, process, &parameter.name)?;
+        let name = &parameter.name;
+        add_unused(warnings, has(&used, name), has(&assigned, name), name.span)?;
     }
     for variable in &process.variables {
-        add_name(warnings, process, &variable.name)?;
-        add_unassigned(warnings, process, variable)?;
+        let name = &variable.name;
+        let (is_used, is_assigned) = (has(&used, name), has(&assigned, name));
+        add_unused(warnings, is_used, is_assigned, name.span)?;
+        add_unassigned(warnings, is_used, is_assigned, variable.kind, name.span)?;
     }
     Ok(())
 }

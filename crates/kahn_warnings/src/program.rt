@@ -265,6 +265,7 @@ fn add_body_constants(
 /// Adds those of a declaration.
 fn add_declaration(
     warnings: &mut Vec<Warning>,
+    alloc: Global,
     text: &str,
     instances: &[Instance],
     declaration: &Declaration,
@@ -275,7 +276,7 @@ fn add_declaration(
         Declaration::Channels(_, _, _) => Ok(()),
         Declaration::Process(process) => {
             add_process(warnings, instances, process)?;
-            add_names(warnings, process)?;
+            add_names(warnings, alloc, process)?;
             add_body(warnings, text, &process.statements)?;
             add_body_constants(warnings, &process.statements)
         }
@@ -283,13 +284,14 @@ fn add_declaration(
 }
 
 /// All that is warned of in a program of this text: the comments first, then one process after another. It refuses only where
-/// memory was refused. The time is that of the names of each process times the size of its body.
+/// memory was refused. The time is that of the size of the program times how deep its statements are nested, and that of the names
+/// in each test of a loop times the size of its body.
 pub fn warnings(alloc: Global, program: &Program, text: &str) -> Result<Vec<Warning>, NoMemory>
     ensures { IfOk result (λ ws. AreWarnings text.now program.now ws.items) }
 {
     let mut warnings = comment_warnings(alloc, text)?;
     for declaration in &program.declarations {
-        add_declaration(&mut warnings, text, &program.instances, declaration)?;
+        add_declaration(&mut warnings, alloc, text, &program.instances, declaration)?;
     }
     Ok(warnings)
 }

@@ -1,17 +1,28 @@
--- Inner. What a worker's seat has and knows between two turns and in a turn, what it drew, and what the seats of a crew have together.
-use Rattle.std.specs.Prelude.{◌≡◌, ◌≢◌, ◌⊎◌, ℕ, suc, zero, ◌+◌, ◌/◌, ◌^◌, ◌<◌, ◌≤◌, List, [], slice_index, sum_by, Option, Some}
+-- Inner. What a board begins with, what a worker's seat has and knows between two turns and in a turn, what it drew, and what the seats of a crew have together.
+use Rattle.std.specs.Prelude.{◌≡◌, ◌≢◌, ◌⊎◌, ℕ, suc, zero, ◌+◌, ◌*◌, ◌/◌, ◌^◌, ◌<◌, ◌≤◌, List, [], length, slice_index, slice_index_or, sum_by, Option, Some, None}
 use Rattle.atomic_table.specs.Seated.{TableId}
 use Rattle.kahn_board.specs.Calls.{Draws, Was, HoldsNothing}
-use Rattle.kahn_board.specs.Dealt.{belongs, wired}
-use Rattle.kahn_board.specs.Rule.{IsDone, KnowsHalted, all_parts, channel_at, count_at}
-use Rattle.kahn_board.specs.declared.rule.Terms.{Terms}
-use Rattle.kahn_board.specs.Summary.{Summary, FlushedAll, flushed_of, events_past}
-use Rattle.kahn_board.specs.Wires.{Wires}
+use Rattle.kahn_board.specs.Rule.{belongs, wired, IsDone, KnowsHalted, all_parts, channel_at, count_at}
+use Rattle.kahn_board.specs.Wires.{Summary, FlushedAll, flushed_of, events_past, Wires, wires}
 use Rattle.kahn_board.specs.Plays.{Carries, Sat, IsIn, SeesMore, after_giving_up, after_step, after_counting_down}
-use Rattle.kahn_board.specs.declared.view.View.{View}
-use Rattle.kahn_board.specs.declared.board.Draw.{Draw}
+use Rattle.kahn_streams.specs.declared.tree.Program.{Program}
+use Rattle.kahn_board.specs.declared.{board.Draw.Draw, board.Seat.Seat, rule.Terms.Terms, view.View.View, wiring.Wiring.Wiring}
 use Rattle.kahn_board.specs.declared.board.Draw.TheVariants.{Got, Lost, Empty}
-use Rattle.kahn_board.specs.declared.board.Seat.{Seat}
+
+-- what is kept of the network of a program
+pub record IsWiringOf (program : Program) (w : Wiring) : Type 0 where
+  pub counts : (w.instances ≡ (wires program).instances) × (w.channels ≡ (wires program).channels)
+  pub limits : (w.instances ≤ 256) × (w.channels ≤ 1024)
+  pub readers : (length w.readers.items ≡ w.channels) × ((c : ℕ) → c < w.channels → slice_index_or w.readers.items c None ≡ (wires program).reader c)
+
+-- the first words: each of n instances is ready, so many tokens of each channel are published, the bound, the number of instances, and not halted
+pub record AreFirstWords (n bound : ℕ) (published words : List ℕ) : Type 0 where
+  pub long : length words ≡ 8 * (n + length published) + 24
+  pub ready : (p : ℕ) → p < n → slice_index words (8 * p) ≡ 0
+  pub twice : (c : ℕ) → c < length published → slice_index words (8 * (n + c)) ≡ 2 * slice_index published c
+  pub budget : slice_index words (8 * (n + length published)) ≡ bound
+  pub count : slice_index words (8 * (n + length published) + 8) ≡ n
+  pub halted : slice_index words (8 * (n + length published) + 16) ≡ 0
 
 -- it has no instance, drew n events and owes nothing, and each event that it told as done was told by a cell
 abbrev pub RestsWith : ℕ → View → Type 0

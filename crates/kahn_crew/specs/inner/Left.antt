@@ -1,12 +1,11 @@
 -- Inner. How the tasks of a run stand once all workers have left, and why they leave nothing (this project's profile).
 use Rattle.std.specs.Prelude.{◌≡◌, ◌⊎◌, ◌+◌, ◌<◌}
 use Rattle.kahn_crew.specs.inner.Words.{ℕ, Bool, true, List, length, sum_by, Option, Some, slice_get, Program, Input, Reads, Writes, network_of, role_at, Lists, inputs_of, count, events_told, Terms, Tasked, Continues, RunFault}
-use Rattle.kahn_crew.specs.inner.Begins.{AreReadyTasks}
-use Rattle.kahn_crew.specs.declared.{closing.Left.Left, fault.CrewFault.CrewFault}
-use Rattle.kahn_crew.specs.declared.fault.CrewFault.TheVariants as fault
+use Rattle.kahn_crew.specs.declared.closing.{CrewFault.CrewFault, Left.Left}
+use Rattle.kahn_crew.specs.declared.closing.CrewFault.TheVariants as fault
 use Rattle.kahn_streams.specs.declared.fault.RunFault.TheVariants as run
 use Rattle.kahn_job.specs.declared.standing.Standing.TheVariants as standing
-use Rattle.kahn_crew.specs.inner.Tasks.{handed_to_task, is_over, told_tale}
+use Rattle.kahn_crew.specs.inner.Tasks.{AreReadyTasks, handed_to_task, is_over, told_tale}
 
 abbrev pub task_events : Tasked → ℕ
 task_events x = x.work.cell.events
@@ -43,10 +42,6 @@ pub record AreUntouched (bound : ℕ) (first tasks : List Tasked) (budget : ℕ)
 -- what is left of a run of tasks that were ready, of so many events more
 abbrev pub IsLeftOf : Program → Lists → Option ℕ → ℕ → List Tasked → Left → Type 0
 IsLeftOf t lists watch bound first left = HaveGone t lists watch (bound + events_told told_tale first) first left.tasks.items left.budget
-
--- and nothing was done on it
-abbrev pub IsUntouched : Terms Tasked → Left → Type 0
-IsUntouched key left = AreUntouched key.bound key.cells.value.items left.tasks.items left.budget
 
 -- memory was wanting, or a thread for one of several workers: one works in the caller's
 abbrev pub IsLack : ℕ → CrewFault → Type 0

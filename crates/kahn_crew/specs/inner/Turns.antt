@@ -5,8 +5,7 @@ use Rattle.kahn_board.specs.Wires.{Wires}
 use Rattle.kahn_crew.specs.declared.{run.Run.Run, turn.Due.Due, worker.Worker.Worker}
 use Rattle.kahn_crew.specs.declared.turn.Due.TheVariants as due
 use Rattle.kahn_job.specs.declared.standing.Standing.TheVariants as standing
-use Rattle.kahn_crew.specs.inner.Begins.{IsTaskOf}
-use Rattle.kahn_crew.specs.inner.Tasks.{AgreesWith, IsLater, told_tale}
+use Rattle.kahn_crew.specs.inner.Tasks.{IsTaskOf, AgreesWith, IsLater, told_tale}
 
 abbrev pub terms_of : Run → Terms Tasked
 terms_of run = run.board.now.table.shared.key

@@ -6,28 +6,14 @@ pub use Rattle.std.specs.Vec.{vec_capacity}
 pub use lib.ListN.{get_elem?}
 pub use mathlib.Core.Option.{some}
 pub use Rattle.atomic_table.specs.Seated.{TableId}
-pub use Rattle.kahn_board.specs.Calls.{Was}
-pub use Rattle.kahn_board.specs.Dealt.{belongs, dealt, events_told, wired}
-pub use Rattle.kahn_board.specs.Plays.{SeesMore}
-pub use Rattle.kahn_board.specs.Rule.{channel_at, opening_view}
-pub use Rattle.kahn_board.specs.Summary.{Summary, TellsEnd, TellsWait}
-pub use Rattle.kahn_board.specs.declared.board.Seat.{Seat}
-pub use Rattle.kahn_board.specs.declared.rule.Terms.{Terms}
-pub use Rattle.kahn_board.specs.declared.view.View.{View}
+pub use Rattle.kahn_board.specs.{Calls.Was, Plays.SeesMore, Rule.channel_at, Rule.opening_view, Wires.Summary, Wires.TellsEnd, Wires.TellsWait}
+pub use Rattle.kahn_board.specs.Rule.{belongs, dealt, events_told, wired}
+pub use Rattle.kahn_board.specs.declared.{board.Seat.Seat, rule.Terms.Terms, view.View.View}
 pub use Rattle.kahn_board.specs.inner.Turn.{BeginsTurn, EndsTurn, HoldsInTurn, IsBetween, IsBetweenTurns, IsDoneAt, IsLoneSeat, IsSeatOf, SetsStill, SitsAt, parts_of, raised_of}
-pub use Rattle.kahn_code.specs.Standing.{count}
-pub use Rattle.kahn_code.specs.declared.progress.Pause.TheVariants.{NoMemory}
-pub use Rattle.kahn_job.specs.declared.standing.Standing.{Standing}
-pub use Rattle.kahn_job.specs.declared.standing.Standing.TheVariants.{Going}
-pub use Rattle.kahn_job.specs.inner.Berths.{end_at}
-pub use Rattle.kahn_job.specs.inner.Ends.{End}
-pub use Rattle.kahn_job.specs.inner.Idles.{AreIdle, HaveSettled, rows_of}
-pub use Rattle.kahn_job.specs.inner.Lanes.{AreJoinedOn}
-pub use Rattle.kahn_job.specs.inner.Tasks.{Continues, Tasked, woken_task}
+pub use Rattle.kahn_code.specs.{Standing.count, declared.progress.Pause.TheVariants.NoMemory}
+pub use Rattle.kahn_job.specs.declared.standing.Standing.{Standing, TheVariants.Going}
+pub use Rattle.kahn_job.specs.inner.{Berths.AreJoinedOn, Berths.end_at, Ends.End, Idles.AreIdle, Idles.HaveSettled, Idles.rows_of, Tasks.Continues, Tasks.Tasked, Tasks.woken_task}
 pub use Rattle.kahn_job.specs.inner.Works.{IsDelivered, IsJob, Work, width_of}
-pub use Rattle.kahn_streams.specs.Answers.{is_output}
-pub use Rattle.kahn_streams.specs.Inputs.{Lists, inputs_of}
+pub use Rattle.kahn_streams.specs.{Answers.is_output, Inputs.Lists, Inputs.inputs_of, declared.fault.RunFault.RunFault}
 pub use Rattle.kahn_streams.specs.Network.{Actual, Hands, Network, Reads, Writes, actual_at, instance_at, network_of, role_at}
-pub use Rattle.kahn_streams.specs.declared.fault.RunFault.{RunFault}
-pub use Rattle.kahn_streams.specs.declared.tree.Program.{Program}
-pub use Rattle.kahn_streams.specs.declared.tree.Role.TheVariants.{Input}
+pub use Rattle.kahn_streams.specs.declared.tree.{Program.Program, Role.TheVariants.Input}

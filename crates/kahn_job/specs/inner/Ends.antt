@@ -59,10 +59,6 @@ pub record IsBehind (writer reader : End) : Type 0 where
 abbrev pub Advances : End → End → Type 0
 Advances old new = IsSame old new × (old.flushed ≤ new.flushed) × (new.flushed ≤ new.next)
 
--- nothing was flushed, or a full segment
-abbrev pub FlushesFull : End → End → Type 0
-FlushesFull old new = (new.next ≡ old.next) × ((new.flushed ≡ old.flushed) ⊎ ((old.next ≡ old.flushed + 64) × (new.flushed ≡ old.next)))
-
 -- the next take gives a token
 abbrev pub IsReady : End → Type 0
 IsReady e = 0 < e.waiting

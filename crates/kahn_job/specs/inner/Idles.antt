@@ -1,9 +1,8 @@
--- Inner. Jobs on which nobody works.
+-- Inner. Jobs on which nobody works, and jobs before their first event.
 use Rattle.std.specs.Prelude.{◌≡◌}
-use Rattle.kahn_job.specs.inner.Words.{ℕ, false, List, [], length, map, Some, slice_get, slice_index_or, Program, Writes, network_of, instance_at, actual_at, role_at, AreInputsExtended, Lists, inputs_of, is_output, Told, IsAt}
-use Rattle.kahn_job.specs.inner.Ends.{End, IsFlushed}
-use Rattle.kahn_job.specs.inner.Berths.{AreServed, end_at}
-use Rattle.kahn_job.specs.inner.Lanes.{AreJoinedOn, HaveStayed, end_in}
+use Rattle.kahn_job.specs.inner.Words.{ℕ, true, false, List, [], length, map, replicate, Option, None, Some, slice_get, slice_set, slice_index_or, Program, Side, Inner, Output, Reads, Writes, network_of, instance_at, actual_at, role_at, AreInputsExtended, Lists, inputs_of, is_output, lane_name, Told, IsAt}
+use Rattle.kahn_job.specs.inner.Ends.{End, IsFlushed, ShareLane}
+use Rattle.kahn_job.specs.inner.Berths.{AreServed, AreJoinedOn, HaveStayed, Serves, end_at, end_in}
 use Rattle.kahn_job.specs.inner.Settling.{AreResting}
 use Rattle.kahn_job.specs.inner.Works.{Work, IsJob, grown_work}
 
@@ -42,3 +41,36 @@ pub record HaveSettled (t : Program) (lists : Lists) (rows : List (List End)) : 
   pub flushed : (p q d : ℕ) → actual_at (instance_at (network_of t) p) q ≡ Writes d → is_output (role_at (network_of t) d) ≡ false →
       IsFlushed (end_in rows p q)
   pub joined : (d : ℕ) → AreJoinedOn (network_of t) rows d
+
+-- nothing was taken, put or flushed
+abbrev pub IsFresh : End → Type 0
+IsFresh e = (e.next ≡ 0) × (e.flushed ≡ 0)
+
+-- the two ends of a channel, the writer's and the reader's; of an inner channel they are those of one lane
+pub record AreEndsOf (t : Program) (lists : Lists) (c : ℕ) (writer reader : End) : Type 0 where
+  pub puts : role_at (network_of t) c ≡ Inner → (writer.writes ≡ true) × (writer.name ≡ Some (lane_name t lists c)) × ShareLane writer reader
+  pub takes : (role_at (network_of t) c ≡ Output → ⊥) → Serves t lists (Reads c) reader
+  pub fresh : IsFresh writer × IsFresh reader
+
+-- the end comes to that parameter of that instance
+abbrev pub placed : List (List End) → Option Side → End → List (List End)
+placed rows None e = rows
+placed rows (Some s) e = slice_set rows s.instance (slice_set (slice_index_or rows s.instance []) s.parameter e)
+
+-- the cell of instance p before its first event
+pub record IsOpening (t : Program) (lists : Lists) (watch : Option ℕ) (p : ℕ) (c : Told) : Type 0 where
+  pub network : c.network ≡ t
+  pub input : c.input ≡ lists
+  pub instance : c.instance ≡ p
+  pub watched : c.watch ≡ watch
+  pub events : c.events ≡ 0
+  pub taken : c.taken ≡ replicate (length (instance_at (network_of t) p).actuals) 0
+  pub sent : c.sent ≡ replicate (length (instance_at (network_of t) p).actuals) 0
+  pub kept : c.kept ≡ replicate (length (instance_at (network_of t) p).actuals) []
+  pub printed : c.printed ≡ []
+
+-- the jobs of all instances before their first events
+pub record AreOpening (t : Program) (lists : Lists) (watch : Option ℕ) (ws : List Work) : Type 0 where
+  pub idle : AreIdle t lists ws
+  pub settled : HaveSettled t lists (rows_of ws)
+  pub each : (p : ℕ) (w : Work) → slice_get ws p ≡ Some w → IsOpening t lists watch p w.cell

@@ -1,9 +1,8 @@
 -- Inner. The ends of channels go on with an input that has grown.
 use Rattle.std.specs.Prelude.{◌≡◌, ◌⊎◌, ◌≤◌}
-use Rattle.kahn_job.specs.inner.Words.{ℕ, true, false, List, [], length, None, Some, slice_index_or, Result, MatchResult, Program, Side, Input, side_at, Actual, Reads, Writes, Hands, network_of, instance_at, actual_at, role_at, AreInputsExtended, Lists, inputs_of, is_output, Joins, LaneName, lane_name, moved_to, IsGrown}
+use Rattle.kahn_job.specs.inner.Words.{ℕ, true, false, List, [], length, None, Some, slice_index_or, Result, MatchResult, Program, Side, side_at, Actual, network_of, instance_at, actual_at, role_at, AreInputsExtended, Lists, inputs_of, is_output, Joins, LaneName, lane_name, moved_to, IsGrown}
 use Rattle.kahn_job.specs.inner.Ends.{End, IsFlushed, MayMeet, ShareLane}
-use Rattle.kahn_job.specs.inner.Berths.{ServesSo}
-use Rattle.kahn_job.specs.inner.Lanes.{AreJoinedOn, end_in, end_of_side}
+use Rattle.kahn_job.specs.inner.Berths.{ServesSo, AreJoinedOn, end_in, end_of_side}
 
 -- it has become an end of what the name says: it stands where it stood, and what was put is flushed
 pub record HasSettled (name : LaneName) (old new : End) : Type 0 where

@@ -1,32 +1,18 @@
 -- Inner. The words of the crates below that clauses and definitions of this crate use, passed on from one place.
 pub use Rattle.kahn_code.specs.Cells.{AreKeptTokens, StoodBy, View, exec_on, is_streamed}
 pub use Rattle.kahn_code.specs.Lines.{AreQueued, IsPoured, Lines as Queues, place_at, waiting_of}
-pub use Rattle.kahn_code.specs.Progress.{Paused}
-pub use Rattle.kahn_code.specs.Standing.{count, tokens}
-pub use Rattle.kahn_code.specs.Told.{IsAt, Told, told_view}
-pub use Rattle.kahn_code.specs.declared.{cell.Kept.Kept, progress.Pause.Pause}
+pub use Rattle.kahn_code.specs.{Progress.Paused, Standing.count, Standing.tokens, declared.cell.Kept.Kept, declared.progress.Pause.Pause, inner.Tapped.HasForgotten, inner.Tapped.Tapped}
+pub use Rattle.kahn_code.specs.Progress.{IsAt, Told, told_view}
 pub use Rattle.kahn_code.specs.inner.Gone.{Gone, kept_behind, nothing_gone}
-pub use Rattle.kahn_code.specs.inner.Tapped.{HasForgotten, Tapped}
-pub use Rattle.kahn_crew.specs.declared.{closing.Left.Left, fault.CrewFault.TheVariants.NoMemory, run.Plan.Plan}
+pub use Rattle.kahn_crew.specs.{declared.closing.Left.Left, declared.closing.CrewFault.TheVariants.NoMemory, declared.run.Plan.Plan, inner.Tasks.handed_to_task}
 pub use Rattle.kahn_crew.specs.inner.Left.{AreAll, HaveGone, IsLack, IsOver}
-pub use Rattle.kahn_crew.specs.inner.Tasks.{handed_to_task}
-pub use Rattle.kahn_job.specs.declared.{standing.Standing.Standing}
-pub use Rattle.kahn_job.specs.inner.Berths.{IsWithinInput, end_at}
-pub use Rattle.kahn_job.specs.inner.Ends.{IsReady}
+pub use Rattle.kahn_job.specs.{declared.standing.Standing.Standing, inner.Berths.IsWithinInput, inner.Berths.end_at, inner.Ends.IsReady, inner.Idles.IsOpening, inner.Settling.AreResting, inner.Settling.HaveStood, inner.Works.IsJob, inner.Works.Work}
 pub use Rattle.kahn_job.specs.inner.Idles.{AreIdle, HaveSettled, cells_of, rows_of}
-pub use Rattle.kahn_job.specs.inner.Openings.{IsOpening}
-pub use Rattle.kahn_job.specs.inner.Settling.{AreResting, HaveStood}
 pub use Rattle.kahn_job.specs.inner.Tasks.{Continues, Tasked, TellsOutcome}
-pub use Rattle.kahn_job.specs.inner.Works.{IsJob, Work}
 pub use Rattle.kahn_streams.specs.Answers.{AreBegun, AreOne, AreRight, HasEndAt, HasStream, IsAllowed, IsCutShort, IsInRange, IsRight, IsRightRun, IsUndeclared, IsUnrun, IsWatched, Settles, channel_lines, is_watched, print_lines, stream_line, stream_lines, values_of}
 pub use Rattle.kahn_streams.specs.Feeds.{IsEntryFed, IsMeant, IsNotMeant, IsUnwelcome, total_after}
 pub use Rattle.kahn_streams.specs.Inputs.{Entry, Holds, Lists, Names, channel_of, inputs_of, most_values}
-pub use Rattle.kahn_streams.specs.Meaning.{Store}
+pub use Rattle.kahn_streams.specs.{Meaning.Store, Prints.declaration_prints, Script.Cut, Script.Dry, Syntax.prints_in, Tokens.IsOwn, Tokens.token_value, Wiring.IsWellWired}
 pub use Rattle.kahn_streams.specs.Network.{Actual, Given, Network, Nobody, Reads, Source, Writes, Written, actual_at, instance_at, is_written, network_of, role_at}
-pub use Rattle.kahn_streams.specs.Prints.{declaration_prints}
-pub use Rattle.kahn_streams.specs.Script.{Cut, Dry}
 pub use Rattle.kahn_streams.specs.Solution.{AreInputsExtended, HasSize, Inputs, IsPrefix, IsWhole, ending, source}
-pub use Rattle.kahn_streams.specs.Syntax.{prints_in}
-pub use Rattle.kahn_streams.specs.Tokens.{IsOwn, token_value}
-pub use Rattle.kahn_streams.specs.Wiring.{IsWellWired}
 pub use Rattle.kahn_streams.specs.declared.{answer.Answer.Answer, answer.End.End, answer.Outcome.Outcome, answer.Outcome.TheVariants.Ended, answer.Outcome.TheVariants.Faulted, answer.Outcome.TheVariants.More, answer.Outcome.TheVariants.Waits, answer.Stream.Stream, answer.Verdict.TheVariants.Bound, answer.Verdict.TheVariants.Finished, answer.Verdict.TheVariants.Memory, answer.Verdict.Verdict, config.Config.Config, fault.RunFault.RunFault, fault.RunFault.TheVariants.UnknownWatch, feeds.FeedFault.FeedFault, feeds.FeedFault.TheVariants.TooMany, token.Token.Token, tree.Program.Program, tree.Role.TheVariants.Input, value.Line.Line, value.Line.TheVariants.Channel, value.Line.TheVariants.Print, value.Value.Value}

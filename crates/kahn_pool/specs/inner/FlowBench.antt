@@ -1,12 +1,8 @@
 -- Inner. A flow over a bench: what contracts see of it, and what its type keeps.
-use Rattle.std.specs.Prelude.{◌≡◌, ℕ, ◌+◌, ◌-◌, ◌<◌, ◌≤◌, ◌^◌, Bool, List, [], ◌++◌, length, map, sum_by, take, Option, Some, slice_index_or}
-use Rattle.kahn_pool.specs.inner.Below.{Channel, End, Given, Input, Line, Nobody, Plan, Print, Program, Source, Token, Value, Verdict, Written, inputs_of, instance_at, network_of, nothing_gone, role_at, source, stream_lines, token_value, tokens}
-use Rattle.kahn_pool.specs.HeldRuns.{HeldRun, seen_events, seen_of, writing}
-use Rattle.kahn_pool.specs.inner.Bench.{IsConcluded, LacksMemory}
-use Rattle.kahn_pool.specs.declared.rounds.PartEnd.{PartEnd}
-use Rattle.kahn_pool.specs.inner.Holding.{AreEnded, run_with}
-use Rattle.kahn_pool.specs.inner.Workbench.{Table, sight_of}
-use Rattle.kahn_pool.specs.Flows.{Flowing}
+use Rattle.std.specs.Prelude.{◌≡◌, ℕ, ◌+◌, ◌-◌, ◌<◌, ◌≤◌, ◌^◌, Bool, List, ◌++◌, length, map, sum_by, take, Option, Some, slice_index_or}
+use Rattle.kahn_pool.specs.inner.Below.{End, Input, Line, Plan, Program, Source, Token, Value, Verdict, inputs_of, network_of, nothing_gone, role_at, source, stream_lines, token_value}
+use Rattle.kahn_pool.specs.HeldRuns.{HeldRun, seen_events, seen_of, values_by}
+use Rattle.kahn_pool.specs.{Flows.Flowing, declared.rounds.PartEnd.PartEnd, inner.Bench.IsConcluded, inner.Bench.LacksMemory, inner.Holding.AreEnded, inner.Holding.run_with, inner.Workbench.Table, inner.Workbench.sight_of}
 
 -- what contracts see of the run of a bench: all that its taps ever kept
 abbrev pub run_of_bench : Table → Plan → Option Verdict → HeldRun
@@ -14,12 +10,9 @@ run_of_bench b plan verdict = run_with b.network b.input b.watch plan b.cells ve
 
 -- what was let go of the stream of a line, by its source; of a watched input channel all but the last n values were
 abbrev pub let_go_by : Table → ℕ → Source → Line → List Value
-let_go_by b n Given (Channel c) = take (length (inputs_of b.input c) - n) (inputs_of b.input c)
-let_go_by b n Given (Print r) = []
-let_go_by b n (Written p) (Channel c) =
-    map token_value (tokens (slice_index_or b.gone p nothing_gone).kept (writing (instance_at (network_of b.network) p).actuals c))
-let_go_by b n (Written p) (Print r) = map token_value (slice_index_or b.gone p nothing_gone).printed
-let_go_by b n Nobody c = []
+let_go_by b n =
+    values_by (network_of b.network) (λ c. take (length (inputs_of b.input c) - n) (inputs_of b.input c))
+    (λ p. (slice_index_or b.gone p nothing_gone).kept) (λ p. (slice_index_or b.gone p nothing_gone).printed)
 
 -- of each stream, in their order
 abbrev pub let_go_of : Table → ℕ → List (List Value)

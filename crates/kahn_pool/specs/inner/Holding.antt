@@ -2,10 +2,7 @@
 use Rattle.std.specs.Prelude.{◌≡◌, ℕ, ◌+◌, ◌<◌, ◌≤◌, ◌^◌, Bool, List, [], length, map, sum_by, Option, Some, None, Err, MatchResult, slice_get, vec_capacity}
 use Rattle.kahn_pool.specs.inner.Below.{AreIdle, AreInputsExtended, End, HaveGone, IsInRange, IsLack, Left, Lists, NoMemory, Plan, Program, Tasked, Token, Told, Verdict, Work, cells_of, inputs_of, network_of, told_view}
 use Rattle.kahn_pool.specs.HeldRuns.{HeldRun, seen_events, seen_of}
-use Rattle.kahn_pool.specs.inner.Bench.{IsConcluded, RunState}
-use Rattle.kahn_pool.specs.inner.Streams.{AreAllGiven, AreGiven}
-use Rattle.kahn_pool.specs.inner.Workbench.{AllStandBy}
-use Rattle.kahn_pool.specs.declared.{part.PartRoom.PartRoom, part.Stopped.Stopped, plan.Part.Part}
+use Rattle.kahn_pool.specs.{declared.part.PartRoom.PartRoom, declared.part.Stopped.Stopped, declared.plan.Part.Part, inner.Bench.IsConcluded, inner.Bench.RunState, inner.Streams.AreAllGiven, inner.Streams.AreGiven, inner.Workbench.AllStandBy}
 
 -- the cell without its input
 abbrev pub cell_alone : Told → Told
@@ -27,11 +24,6 @@ abbrev pub AreEnded : RunState → ℕ → ℕ → List End → Option Verdict �
 AreEnded s bound budget ends None = Unit {0}
 AreEnded s bound budget ends (Some v) = (halted : Bool) × IsConcluded s bound budget halted v ends
 
--- the tokens that are lent of a watched input channel: where there is a verdict they are its whole list
-abbrev pub IsGiving : Program → Lists → Option ℕ → List Token → Option Verdict → Type 0
-IsGiving t lists watch given verdict =
-    AreGiven (network_of t) (inputs_of lists) watch given × ((v : Verdict) → verdict ≡ Some v → AreAllGiven (network_of t) (inputs_of lists) watch given)
-
 -- what contracts see of a run with these cells
 abbrev pub run_with : Program → Lists → Option ℕ → Plan → List Told → Option Verdict → HeldRun
 run_with t lists watch plan cells verdict =
@@ -41,14 +33,15 @@ run_with t lists watch plan cells verdict =
 abbrev pub run_of : Program → Lists → Plan → List Work → Option Verdict → HeldRun
 run_of t lists plan ws verdict = run_with t lists plan.watch plan (cells_of ws) verdict
 
--- all that it keeps
+-- all that it keeps; the tokens that are lent of a watched input channel are its whole list where there is a verdict
 pub record IsHolding (t compiled : Program) (lists : Lists) (plan : Plan) (ws : List Work) (budget : ℕ) (ends : List End) (given : List Token) (verdict : Option Verdict) : Type 0 where
   pub code : compiled ≡ t
   pub fits : length lists ≡ length (network_of t).channels
   pub range : IsInRange plan.workers plan.quantum plan.bound
   pub held : AreHeld t lists plan.watch plan.bound ws budget
   pub ended : AreEnded (held_state t lists plan.watch ws) plan.bound budget ends verdict
-  pub giving : IsGiving t lists plan.watch given verdict
+  pub begun : AreGiven (network_of t) (inputs_of lists) plan.watch given
+  pub all : (v : Verdict) → verdict ≡ Some v → AreAllGiven (network_of t) (inputs_of lists) plan.watch given
 
 -- the cell has done no fewer events, and its input has grown
 pub record HasRisen (c d : Told) : Type 0 where

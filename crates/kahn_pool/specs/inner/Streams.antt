@@ -3,9 +3,9 @@ use Rattle.std.specs.Prelude.{◌≡◌, ℕ, ◌<◌, List, [], length, map, Op
 use Rattle.kahn_pool.specs.inner.Below.{AreKeptTokens, Channel, Given, Input, Inputs, IsOwn, IsPrefix, Kept, Line, Network, Nobody, Print, Source, Stream, Token, Value, Writes, Written, actual_at, instance_at, role_at, source, stream_line, stream_lines, token_value}
 
 -- each item of the first list became so that of the second at its place
-pub record HaveChanged {X : Type 0} (R : X → X → Type 0) (old new : List X) : Type 0 where
+pub record HaveChanged {X Y : Type 0} (R : X → Y → Type 0) (old : List X) (new : List Y) : Type 0 where
   pub count : length new ≡ length old
-  pub each : (p : ℕ) (x y : X) → slice_get old p ≡ Some x → slice_get new p ≡ Some y → R x y
+  pub each : (p : ℕ) (x : X) (y : Y) → slice_get old p ≡ Some x → slice_get new p ≡ Some y → R x y
 
 -- the lines of the streams, for some watched channel
 abbrev pub AreNamed : Network → List Stream → Type 0
@@ -15,14 +15,6 @@ AreNamed N streams = (watch : Option ℕ) × (map stream_line streams ≡ stream
 abbrev pub IsDeclared : Network → Line → Type 0
 IsDeclared N (Channel c) = c < length N.channels
 IsDeclared N (Print p) = p < length N.instances
-
--- the tokens of a stream became others, which is right for the source of its line
-abbrev pub HasBecome : Network → (Source → Line → List Token → List Token → Type 0) → Stream → Stream → Type 0
-HasBecome N right x y = right (source N y.line) y.line x.tokens.items y.tokens.items
-
--- so did those of each stream, and the lines stay
-abbrev pub HaveBecome : Network → (Source → Line → List Token → List Token → Type 0) → List Stream → List Stream → Type 0
-HaveBecome N right = HaveChanged (λ x y. (y.line ≡ x.line) × HasBecome N right x y)
 
 -- ---- what the cells kept
 
@@ -55,6 +47,10 @@ IsFilled N ls (Written p) (Channel c) before after = (q : ℕ) × (actual_at (in
 IsFilled N ls (Written p) (Print r) before after = after ≡ printed_in ls p
 IsFilled N ls Nobody c before after = ⊥
 
+-- the line of a stream stays, and its tokens become those
+abbrev pub IsFilledStream : {A : Type 0} → Network → List (Kept A) → Stream → Stream → Type 0
+IsFilledStream N ls x y = (y.line ≡ x.line) × IsFilled N ls (source N y.line) y.line x.tokens.items y.tokens.items
+
 -- the lists of every other line are as before
 abbrev pub KeepsOtherLines : {A : Type 0} → Network → Line → List (Kept A) → List (Kept A) → Type 0
 KeepsOtherLines N c old new =
@@ -76,16 +72,10 @@ AreGiven N I watch ts = (c : ℕ) → watch ≡ Some c → IsBegun N I c (I c) t
 abbrev pub AreAllGiven : Network → Inputs → Option ℕ → List Token → Type 0
 AreAllGiven N I watch ts = (c : ℕ) → watch ≡ Some c → role_at N c ≡ Input → map token_value ts ≡ I c
 
--- where channel c is an input channel these tokens are its whole list
-abbrev pub AreAllOf : Network → Inputs → ℕ → List Token → Type 0
-AreAllOf N I c ts = role_at N c ≡ Input → AreKeptTokens N I (Channel c) (I c) ts
+-- a line of this source opens with these tokens: an input channel with its whole list, every other with none
+abbrev pub OpensWith : Network → Inputs → Source → Line → List Token → Type 0
+OpensWith N I Given (Channel c) ts = AreKeptTokens N I (Channel c) (I c) ts
+OpensWith N I s c ts = ts ≡ []
 
--- each stream of an input channel has the whole list of that channel
-abbrev pub HasInputs : Network → Inputs → List Stream → Type 0
-HasInputs N I streams =
-    (j c : ℕ) (x : Stream) → slice_get streams j ≡ Some x → x.line ≡ Channel c → source N (Channel c) ≡ Given → AreKeptTokens N I (Channel c) (I c) x.tokens.items
-
--- a line of this source with these tokens before has those after: the whole list of an input channel; all others stay
-abbrev pub HasInput : Network → Inputs → Source → Line → List Token → List Token → Type 0
-HasInput N I Given (Channel c) before after = AreKeptTokens N I (Channel c) (I c) after
-HasInput N I s c before after = after ≡ before
+abbrev pub IsOpenStream : Network → Inputs → Stream → Type 0
+IsOpenStream N I x = OpensWith N I (source N x.line) x.line x.tokens.items

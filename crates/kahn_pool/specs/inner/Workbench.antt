@@ -1,11 +1,9 @@
 -- Inner. The cells of a network over its plain queues, as a run on one thread has them.
-use Rattle.std.specs.Prelude.{◌≡◌, ◌⊎◌, ℕ, ◌+◌, ◌<◌, ◌≤◌, ◌^◌, ◌==◌, true, false, cond, min, vec_capacity, List, [], ◌∷◌, ◌++◌, length, map, replicate, Option, Some, slice_get, slice_index_or, if◌then◌else◌}
+use Rattle.std.specs.Prelude.{◌≡◌, ◌⊎◌, ℕ, ◌+◌, ◌<◌, ◌≤◌, ◌^◌, ◌==◌, true, false, cond, min, vec_capacity, List, [], ◌++◌, length, map, replicate, Option, Some, slice_get, slice_index_or, if◌then◌else◌}
 use Rattle.kahn_pool.specs.inner.Below.{Answer, End, Gone, IsAt, IsCutShort, IsOpening, IsRight, IsWellWired, Kept, Lists, More, Pause, Program, Queues, StoodBy, Stream, Tapped, Token, Told, inputs_of, instance_at, kept_behind, most_values, network_of, nothing_gone, place_at, stream_line, stream_lines, tokens, told_view, waiting_of}
 use Rattle.kahn_pool.specs.inner.Bench.{AreEnds, HasEndIn, HasRunCell, IsLast, LacksMemory, RunState, all_events, events_at}
 use Rattle.kahn_code.specs.declared.progress.Pause.TheVariants as pause
-use Rattle.kahn_pool.specs.declared.rounds.Round.{Round}
-use Rattle.kahn_pool.specs.HeldRuns.{seen_at, seen_of}
-use Rattle.kahn_pool.specs.inner.Streams.{HasInputs, kept_lists, printed_list}
+use Rattle.kahn_pool.specs.{HeldRuns.seen_at, HeldRuns.seen_of, declared.rounds.Round.Round, inner.Streams.IsOpenStream, inner.Streams.kept_lists, inner.Streams.printed_list}
 
 -- the program and the input, the watched channel, the program of the code, the cells, what they let go of, and the queues
 pub record Table : Type 0 where
@@ -117,10 +115,7 @@ IsRightAlone t lists watch bound a = IsRight (network_of t) (inputs_of lists) bo
 
 -- it goes on for this input: so many values more wait on channel c, and nothing else changes
 pub record HasTakenIn (c n : ℕ) (input : Lists) (old new : Table) : Type 0 where
-  pub network : new.network ≡ old.network
-  pub lists : new.input ≡ input
-  pub watch : new.watch ≡ old.watch
-  pub gone : new.gone ≡ old.gone
+  pub rest : new ≡ record old { input = input; cells = new.cells; queues = new.queues }
   pub views : map told_view new.cells ≡ map told_view old.cells
   pub seen : map seen_of new.cells ≡ map seen_of old.cells
   pub waiting : (d : ℕ) → waiting_of (slice_get new.queues.queues d) ≡ waiting_of (slice_get old.queues.queues d) + (if c == d then n else 0)
@@ -184,7 +179,7 @@ pub record AreOpeningCells (t : Program) (lists : Lists) (watch : Option ℕ) (c
 -- the streams of an answer before any cell's token was moved there: an input channel has its whole list
 pub record AreOpen (t : Program) (lists : Lists) (watch : Option ℕ) (streams : List Stream) : Type 0 where
   pub lines : map stream_line streams ≡ stream_lines (network_of t) watch
-  pub given : HasInputs (network_of t) (inputs_of lists) streams
+  pub given : (j : ℕ) (x : Stream) → slice_get streams j ≡ Some x → IsOpenStream (network_of t) (inputs_of lists) x
 
 -- there are streams, and room for what each cell kept
 pub record AreStreamsReady {A : Type 0} (t : Program) (lists : Lists) (watch : Option ℕ) (streams : List Stream) (kept : List A) (room : ℕ) : Type 0 where
@@ -202,12 +197,6 @@ actual_count c = length (instance_at (network_of c.network) c.instance).actuals
 abbrev pub IsLeft : {A : Type 0} → Tapped → Kept A → Type 0
 IsLeft x k =
     (kept_behind x.gone.kept (kept_lists k) ≡ x.told.kept) × (x.gone.printed ++ printed_list k ≡ x.told.printed) × (parameter_count k ≡ actual_count x.told)
-
-abbrev pub AreLeft : {A : Type 0} → List Tapped → List (Kept A) → Type 0
-AreLeft [] [] = Unit {0}
-AreLeft [] (k ∷ kept) = ⊥
-AreLeft (x ∷ taps) [] = ⊥
-AreLeft (x ∷ taps) (k ∷ kept) = IsLeft x k × AreLeft taps kept
 
 -- these are the lists that the cells kept
 pub record AreKeptOf {A : Type 0} (cells : List Told) (kept : List (Kept A)) : Type 0 where

@@ -2,8 +2,8 @@
 use Rattle.std.specs.Prelude.{◌≡◌, ◌<◌, length}
 use Rattle.kahn_streams.specs.Network.{network_of}
 use Rattle.kahn_code.specs.Lines.{Lines, actual_here, next_at}
-use Rattle.kahn_code.specs.Sites.{Site}
-use Rattle.kahn_code.specs.Told.{Told, site_of, IsAt}
+use Rattle.kahn_code.specs.Standing.{Site}
+use Rattle.kahn_code.specs.Progress.{Told, site_of, IsAt}
 
 pub record IsOfSite (c : Told) (q : Lines) : Type 0 where
   pub here : c.instance < length (network_of c.network).instances

@@ -2,7 +2,7 @@
 
 ghost use Rattle.std.specs.Prelude.{◌≡◌, ℕ, ◌^◌, ◌<◌, [], slice_index, Option, Some};
 ghost use Rattle.kahn_board.specs.Calls.{IsSameSeat, OwesFew};
-ghost use Rattle.kahn_board.specs.Dealt.{wired};
+ghost use Rattle.kahn_board.specs.Rule.{wired};
 ghost use Rattle.kahn_board.specs.Plays.{Carries};
 ghost use Rattle.kahn_board.specs.Plays.{IsIn};
 

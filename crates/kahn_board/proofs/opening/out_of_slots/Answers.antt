@@ -1,5 +1,5 @@
 use Rattle.kahn_board.proofs.Common.{rules, ◌++◌, ◌∷◌, [], List, Some, map, reverse, sym, ap, ◌∙◌}
-use Rattle.kahn_board.proofs.Emptied.{is_full, last_full, one_back}
+use Rattle.kahn_board.proofs.Closes.{is_full, last_full, one_back}
 use Rattle.kahn_board.proofs.opening.out_of_slots.Goals as goal
 
 pub unreachable-requires : goal.unreachable-requires

@@ -1,5 +1,5 @@
 use Rattle.kahn_board.proofs.Common.{sym, ◌∙◌}
-use Rattle.kahn_board.proofs.Kept.{missed}
+use Rattle.kahn_board.proofs.Left.{missed}
 use Rattle.kahn_board.proofs.turn.claim.Goals as goal
 
 pub returns-clause-missed : goal.returns-clause-missed

@@ -1,5 +1,5 @@
 use Rattle.kahn_board.proofs.Common.{arith, refl, ◌∙◌, ◌≡◌, ℕ, suc, ◌+◌, ◌-◌, subst, AreLost}
-use Rattle.kahn_board.proofs.Drawn.{same_noted_twice, same_self}
+use Rattle.kahn_board.proofs.Left.{same_noted_twice, same_self}
 use Rattle.kahn_board.proofs.turn.draw_some.Goals as goal
 
 pub loop-init : goal.loop-init

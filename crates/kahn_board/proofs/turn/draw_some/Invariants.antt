@@ -1,5 +1,5 @@
 use Rattle.kahn_board.proofs.Common.{◌≡◌, ◌-◌, AreLost}
-use Rattle.kahn_board.proofs.Drawn.{Same}
+use Rattle.kahn_board.proofs.Left.{Same}
 use Rattle.kahn_board.proofs.turn.draw_some.Given as goal
 
 abbrev pub invariant-loop : goal.invariant-loop

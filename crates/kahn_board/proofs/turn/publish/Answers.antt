@@ -1,7 +1,8 @@
 use Rattle.kahn_board.proofs.Common.{◌∙◌, ap, arith, belongs, wired, downs_of}
-use Rattle.kahn_board.proofs.Wired.{reader_in, writer_in}
+use Rattle.kahn_board.proofs.Sole.{reader_in, writer_in}
 use Rattle.kahn_board.proofs.Woken.{woken_ready}
-use Rattle.kahn_board.proofs.Passed.{passes, woke}
+use Rattle.kahn_board.proofs.Passed.{passes}
+use Rattle.kahn_board.proofs.Placed.{placed}
 use Rattle.kahn_board.proofs.turn.publish.Goals as goal
 
 pub set_down-requires-clause-held : goal.set_down-requires-clause-held
@@ -14,8 +15,7 @@ pub returns : goal.returns
 returns g c = let b = c.args.board.now in let key = b.table.shared.key in let me = c.args.seat.now in let n = c.publish.new.self in let e = c.in_ok-reader.ensures in let t = e.1.1.2 in let r = c.in_ok-reader.reader in
     let owned = c.requires.holds.3 in
     let within = reader_in key.network.value c.args.channel r e.1.1.1 in
-    let told = woke g.T.Told.told (belongs g.T.Told.after key) (wired key) me.seat.me c.args.channel c.args.count r t.0 t.1 n.seat.me b.instances b.channels me.seat.table_id b.table.shared.table_id me.held.items _ me.facts c.requires.board b.sized b.counts t.4 within c.requires.writes.0 in
-    let all = passes g.T.Told.told (belongs g.T.Told.after key) (wired key) me.seat.me n.seat.me c.count_up.new.self.seat.me c.set_down.new.self.seat.me c.args.p c.args.channel c.args.count r t.0 t.1 told c.count_up.ensures.1 c.set_down.ensures.1 c.set_down.ensures.2
+    let all = passes g.T.Told.told (belongs g.T.Told.after key) (wired key) me.seat.me n.seat.me c.count_up.new.self.seat.me c.set_down.new.self.seat.me c.args.p c.args.channel c.args.count r t.0 t.1 (placed b me c.requires.board) t.4 within c.count_up.ensures.1 c.set_down.ensures.1 c.set_down.ensures.2
     owned.mine (writer_in key.network.value c.args.channel c.args.p c.requires.writes.1) (omega (arith, c.requires.writes.0, b.counts.1)) c.requires.writes.1 in
     record {
       same = (c.set_down.ensures.0.0 ∙ (c.count_up.ensures.0.0 ∙ e.0.0), c.set_down.ensures.0.1 ∙ (c.count_up.ensures.0.1 ∙ e.0.1), all.2, all.3);

@@ -1,33 +1,46 @@
-use Rattle.kahn_crew.proofs.Common.{◌≡◌, ◌∙◌, subst, OnOk}
-use Rattle.kahn_crew.proofs.Ended.{untouched_gone, untouched_here}
+use Rattle.kahn_crew.proofs.Common.{arith, length, refl, ap, ◌∙◌, ◌≡◌, subst, Err, OnOk, Sat, Tasked}
+use Rattle.kahn_crew.proofs.Ended.{have_gone, instances_of, is_over, unboxed, untouched, untouched_gone, untouched_here}
 use Rattle.kahn_crew.proofs.Started.{fits_of}
 use Rattle.kahn_crew.proofs.crew.run_tasks.Goals as goal
 
-pub returns-in_default-clause-refused : goal.returns-in_default-clause-refused
-returns-in_default-clause-refused g c =
-    untouched_gone c.args.network.now c.args.input.now c.args.plan.watch c.args.plan.bound c.args.tasks.items c.untouched.result.tasks.items c.untouched.result.budget
-    c.requires.ready c.untouched.ensures.0 c.untouched.ensures.1
-
 pub returns-in-Err-clause-refused : goal.returns-in-Err-clause-refused
 returns-in-Err-clause-refused g c =
-    untouched_gone c.args.network.now c.args.input.now c.args.plan.watch c.args.plan.bound c.args.tasks.items c.untouched-in-Err.result.tasks.items
-    c.untouched-in-Err.result.budget c.requires.ready (c.untouched-in-Err.ensures.0 ∙ c.in-Err.ensures.refused) c.untouched-in-Err.ensures.1
+    untouched_gone c.args.network.now c.args.input.now c.args.plan.watch c.args.plan.bound c.args.tasks.items c.in-Err.tasks.items c.args.plan.bound c.requires.ready c.in-Err.ensures.refused refl
+
+pub returns-in-Err-clause-untouched : goal.returns-in-Err-clause-untouched
+returns-in-Err-clause-untouched g c none = untouched_here c.in-Err.ensures.refused refl
 
 pub invariant_of-run : goal.invariant_of-run
 invariant_of-run g c = record {
-  fits = fits_of c.args.network.now c.args.input.now c.args.plan.watch c.in-Ok-open_board.opened.0.table.shared.key c.in-Ok-open_board.ensures.begun _ c.requires.code;
+  fits = fits_of c.args.network.now c.args.input.now c.args.plan.watch c.in-Ok.opened.0.table.shared.key c.in-Ok.ensures.begun _ c.requires.code;
   some = c.requires.quantum;
 }
 
+pub unbox_all-requires : goal.unbox_all-requires
+unbox_all-requires g c =
+    let e = c.close-cells.ensures.each.0 in
+    let i = instances_of c.in-Ok.opened.0.table.shared.key.network.value c.args.network.now c.in-Ok.ensures.begun.network c.program-program.ensures.wired in
+    let r = c.in-Ok.ensures.room in
+    omega (arith, e, i, r.1, ap length r.0)
+
+pub returns-in-Ok-outcome-clause-gone : goal.returns-in-Ok-outcome-clause-gone
+returns-in-Ok-outcome-clause-gone g c =
+    let o = c.in-Ok.ensures in
+    have_gone c.program-program.ensures.wired o.begun c.close-cells.ensures (unboxed _ _ _ o.room.0 c.unbox_all.ensures) o.key c.run_workers-outcome.ensures.seat.1.1
+
+pub returns-in-Err-outcome-clause-refused : goal.returns-in-Err-outcome-clause-refused
+returns-in-Err-outcome-clause-refused g c =
+    let o = c.in-Ok.ensures in
+    have_gone c.program-program.ensures.wired o.begun c.close-cells.ensures (unboxed _ _ _ o.room.0 c.unbox_all.ensures) o.key c.run_workers-outcome.ensures.seat.1.1
+
 pub returns-in-Ok-outcome-clause-over : goal.returns-in-Ok-outcome-clause-over
 returns-in-Ok-outcome-clause-over g c =
-    c.leave-left.ensures.over (subst (λ o. OnOk o (c.run_workers-outcome.result.1.seat.me.0.stage ≡ 1)) c.in-Ok-outcome.is c.run_workers-outcome.ensures.left)
+    let o = c.in-Ok.ensures in
+    is_over c.program-program.ensures.wired o.begun c.close-cells.ensures (unboxed _ _ _ o.room.0 c.unbox_all.ensures) o.key
+    (subst (λ o. OnOk o (c.run_workers-outcome.result.1.seat.me.0.stage ≡ 1)) c.in-Ok-outcome.is c.run_workers-outcome.ensures.left)
 
-pub returns-in_default-clause-untouched : goal.returns-in_default-clause-untouched
-returns-in_default-clause-untouched g c = λ none.
-    untouched_here c.args.plan.bound c.args.tasks.items c.untouched.result.tasks.items c.untouched.result.budget c.untouched.ensures.0 c.untouched.ensures.1
-
-pub returns-in-Err-clause-untouched : goal.returns-in-Err-clause-untouched
-returns-in-Err-clause-untouched g c = λ none.
-    untouched_here c.args.plan.bound c.args.tasks.items c.untouched-in-Err.result.tasks.items c.untouched-in-Err.result.budget
-    (c.untouched-in-Err.ensures.0 ∙ c.in-Err.ensures.refused) c.untouched-in-Err.ensures.1
+pub returns-in-Err-outcome-clause-untouched : goal.returns-in-Err-outcome-clause-untouched
+returns-in-Err-outcome-clause-untouched g c none =
+    let o = c.in-Ok.ensures in
+    untouched c.program-program.ensures.wired o.begun c.close-cells.ensures (unboxed _ _ _ o.room.0 c.unbox_all.ensures) o.key c.run_workers-outcome.ensures.seat.1.1
+    (c.run_workers-outcome.ensures.idle (c.in-Err-outcome.is ∙ ap Err none) ∙ ap (λ (m : Sat Tasked). m.0.done) o.seat.1)

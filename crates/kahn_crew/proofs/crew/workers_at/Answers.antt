@@ -1,4 +1,4 @@
-use Rattle.kahn_crew.proofs.Common.{arith, ◌≡◌, ◌+◌, List, [], ◌∷◌, ◌++◌, length, All, map, reverse, sym, ap, ◌∙◌, subst, Option, option_to_list, append_assoc, length-append, map-append, All-push, Seat, Tasked}
+use Rattle.kahn_crew.proofs.Common.{arith, ◌≡◌, ◌+◌, List, [], ◌∷◌, ◌++◌, length, All, map, reverse, refl, sym, ap, ◌∙◌, subst, Option, option_to_list, append_assoc, length-append, map-append, All-push, Seat, Tasked}
 use Rattle.std.proofs.lemmas.List.{reverse-append}
 use Rattle.kahn_crew.specs.declared.worker.Worker.{Worker}
 use Rattle.kahn_crew.specs.inner.Turns.{WantsNone, seat_of}
@@ -19,7 +19,7 @@ loop-seat-preserved c =
       ap (λ (l : List Worker). map seat_of l ++ reverse rest) items ∙ (ap (λ (l : List (Seat Tasked)). l ++ reverse rest) (map-append seat_of before _) ∙
           (append_assoc (map seat_of before) (s ∷ []) (reverse rest) ∙ (ap (λ (l : List (Seat Tasked)). map seat_of before ++ l) (sym (reverse-append rest (s ∷ []))) ∙
           (ap (λ (l : List (Seat Tasked)). map seat_of before ++ reverse l) (sym popped) ∙ i.0)))),
-      subst (All WantsNone) (sym items) (All-push WantsNone before _ i.1 c.fresh.ensures),
+      subst (All WantsNone) (sym items) (All-push WantsNone before _ i.1 refl),
       omega (arith, i.2, longer c.pop-in-Some.new.self.items _ taken, longer rest _ popped),
       omega (arith, i.3, longer before _ items, longer rest _ popped, c.push_reserved.ensures.capacity),
       omega (arith, i.4, longer before _ items, longer rest _ popped),

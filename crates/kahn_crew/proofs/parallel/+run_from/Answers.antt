@@ -1,11 +1,12 @@
-use Rattle.kahn_crew.proofs.Common.{arith, ◌<◌, [], ◌∷◌, ap, length, length-append}
-use Rattle.kahn_crew.proofs.Told_to_leave.{told_among}
+use Rattle.kahn_crew.proofs.Common.{arith, ◌<◌, ◌==◌, [], ◌∷◌, ◌∙◌, ap, dite, length, length-append, sym, true≢false, ℕ_discrete}
+use Rattle.kahn_crew.proofs.Crewed.{told_among}
 use Rattle.kahn_crew.proofs.parallel.+run_from.Goals as goal
 
 pub returns-in-Err-clause-quits : goal.returns-in-Err-clause-quits
 returns-in-Err-clause-quits g t c = λ _.
     let rest = c.pop.new.self in
-    let some : 0 < length rest.items = omega (arith, ap length c.in-Some.ensures.items, length-append rest.items (c.in-Some.worker ∷ [])) in
+    let some : 0 < length rest.items = dite (ℕ_discrete rest.len 0)
+    (λ none. absurd (true≢false (sym (c.is_empty.ensures ∙ ap (λ n. n == 0) none) ∙ c.if-is_empty.false))) (λ ne. omega (arith, ne, rest.ok.0)) in
     let e = c.halt_all-workers.ensures in
     told_among (g.T.Parallel.quit c.args.shared.now) c.args.workers.items rest.items c.push_reserved-in-Err.new.self.items c.halt_all-workers.result.items c.in-Some.worker c.work.result
     c.in-Some.ensures.items c.push_reserved-in-Err.ensures.items e.count (0, some, λ d. e.each 0 d some)

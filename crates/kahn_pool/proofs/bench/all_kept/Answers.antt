@@ -1,7 +1,7 @@
 use Rattle.std.proofs.Common.{arith, ap, sym, ◌∙◌, subst, length, ◌∷◌, []}
-use Rattle.kahn_pool.proofs.Common.{AreLeft}
+use Rattle.kahn_pool.proofs.Common.{HaveChanged, IsLeft}
 use Rattle.std.proofs.lemmas.List.{length-append}
-use Rattle.kahn_pool.proofs.Tapping.{left_more}
+use Rattle.kahn_pool.proofs.Lists.{changed_more}
 use Rattle.kahn_pool.proofs.bench.all_kept.Goals as goal
 
 pub loop-tap-preserved : goal.loop-tap-preserved
@@ -13,7 +13,7 @@ loop-tap-preserved c =
     let kept = c.loop-tap.kept.items in (
       tt,
       tt,
-      subst (AreLeft _) (sym c.push_reserved.ensures.items) (left_more c.loop-tap.yielded kept x k i.2 (e.kept, e.printed, e.parameters)),
+      subst (HaveChanged IsLeft _) (sym c.push_reserved.ensures.items) (changed_more c.loop-tap.yielded kept x k i.2 (e.kept, e.printed, e.parameters)),
       c.push_reserved.ensures.capacity ∙ i.3,
       ap length c.push_reserved.ensures.items ∙ (let a = length-append kept (k ∷ []) in let b = length-append c.loop-tap.yielded (x ∷ []) in let l = i.4 in omega (arith, a, b, l)),
     )

@@ -21,7 +21,7 @@ returns c x e =
     let same : y ≡ x = same_Some _ _ (sym at ∙ e) in
     let stands : x.standing ≡ c.standing.result = ap (λ (z : Tasked). z.standing) (sym same) ∙ sym c.standing.ensures.result in
     record {
-      events = c.events.ensures ∙ ap (λ (z : Tasked). z.work.cell.events) same;
+      events = c.events-events.ensures ∙ ap (λ (z : Tasked). z.work.cell.events) same;
       told = elim c.match-standing.branch [
         | in-Going w ↦ subst (IsToldAs t c.args.part.now.input.now tasks x) (sym w.outcome-is) (inl (stands ∙ w.in-Going.is))
         | in-Ended w ↦ subst (IsToldAs t c.args.part.now.input.now tasks x) (sym w.outcome-is) (stands ∙ w.in-Ended.is)

@@ -12,7 +12,7 @@ returns-clause-rests c =
     let o = (exec_on s.network (events_at s p) p h.stood.tapes).outcome in
     record {
       stood = h.stood;
-      count = c.events.ensures;
+      count = c.events-events.ensures;
       told = elim c.match-stopped.branch [
         | in-Spent w ↦ told_as s p o _ _ _ _ w.in-Spent.is w.outcome-is h.is (λ y. y)
         | in-NoMemory w ↦ told_as s p o _ _ _ _ w.in-NoMemory.is w.outcome-is h.is (λ y. inl y)

@@ -11,7 +11,7 @@ pub loop-number-preserved : goal.loop-number-preserved
 loop-number-preserved c =
     let e = c.fill_one.ensures in
     record {
-      filling = filling_goes c.loop-number.invariant.filling (search rules) c.index_mut.ensures.value c.fill_one.new.lists.items c.fill_one.new.stream e.line e.lists e.filled e.others;
+      filling = filling_goes c.loop-number.invariant.filling (search rules) c.index_mut.ensures.value c.fill_one.new.lists.items c.fill_one.new.stream e.lists e.filled e.others;
       size = length-set c.loop-number.streams.items c.loop-number.number c.fill_one.new.stream ∙ c.loop-number.invariant.size;
     }
 

@@ -1,7 +1,7 @@
-use Rattle.std.proofs.Common.{◌<◌, ◌++◌, [], ◌∷◌, add-one, ap, ◌∙◌, length, take, sym, rules, subst}
+use Rattle.std.proofs.Common.{◌<◌, ◌++◌, [], ◌∷◌, add-one, ap, ◌∙◌, length, take, sym, rules}
 use Rattle.std.proofs.Math.Seq.{take-suc}
-use Rattle.kahn_pool.proofs.Common.{map-append, network_of, source, inputs_of, HasInput, stream_line}
-use Rattle.kahn_pool.proofs.Giving.{inputs_more}
+use Rattle.kahn_pool.proofs.Common.{map-append, network_of, inputs_of, stream_line}
+use Rattle.kahn_pool.proofs.Giving.{opens_more}
 use Rattle.kahn_pool.proofs.streams.opening_streams.Goals as goal
 
 pub loop-number-preserved : goal.loop-number-preserved
@@ -21,7 +21,7 @@ loop-number-preserved c =
           rw (pushed, add-one n)
           (map-append stream_line old (x ∷ []) ∙ ap (λ ls. ls ++ x.line ∷ []) i.lines ∙ ap (λ d. take n lines ++ d ∷ []) (e.line ∙ c.index.ensures)
           ∙ sym (take-suc lines n c.index.result.now here));
-      given = rw pushed (inputs_more N I old x [] i.given (subst (λ d. HasInput N I (source N d) d [] x.tokens.items) (sym e.line) e.given));
+      given = rw pushed (opens_more N I old x i.given e.given);
       size = search rules;
       room = search rules;
     }

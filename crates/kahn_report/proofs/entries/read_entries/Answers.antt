@@ -1,11 +1,12 @@
-use Rattle.std.proofs.Common.{rules, tests, ◌≡◌, ◌∙◌, ◌==◌, ap, inl, inr, ◌+◌, ◌≤◌, length, map, [], ◌∷◌, ◌++◌, arith, refl}
-use Rattle.std.proofs.lemmas.List.{length_push, map-append}
+use Rattle.std.proofs.Common.{rules, tests, ◌≡◌, ◌==◌, ap, inl, inr, ◌+◌, ◌<◌, ◌≤◌, length, [], ◌∷◌, ◌++◌, arith, refl}
+use Rattle.std.proofs.lemmas.List.{length_push}
 use Rattle.std.proofs.lemmas.Iterator.Splits.{YieldsList-from_slice_split}
 use Rattle.std.proofs.lemmas.Iterator.Consumers.{YieldsList-turn, YieldsList-end}
 use Rattle.kahn_streams.specs.Inputs.{entry_of}
 use Rattle.kahn_report.specs.Formats.{text_lines, content, IsEntry, AreBlanks, HasNoHead, HasNoValues, most_input_bytes}
 use Rattle.kahn_report.proofs.Parts.{from_part}
 use Rattle.kahn_report.proofs.Lines.{all_blank, all_entry, good_more, first_such, all_read}
+use Rattle.kahn_report.proofs.Kept.{kept_entry}
 use Rattle.kahn_report.proofs.entries.read_entries.Goals as goal
 
 pub loop-line-preserved-in-Ok-None : goal.loop-line-preserved-in-Ok-None
@@ -18,12 +19,13 @@ loop-line-preserved-in-Ok-None c =
     let here = from_part lines k line t in
     let m = length (c.loop-line.yielded ++ c.in-Some.line ∷ []) in
     let e = length_push c.loop-line.yielded c.in-Some.line in
+    let read = c.loop-line.invariant.read in
     let blank : AreBlanks (content line) = rw c.in-Ok-None.field-0-is at c.in-Ok-None.ensures in
     record {
       next = search rules;
       ends = search rules;
       number = omega (arith, c.loop-line.invariant.number, e);
-      all = all_blank lines k m line e here (map entry_of c.loop-line.entries.items) blank c.loop-line.invariant.all;
+      read = record { done = read.done; first = read.first; all = all_blank lines k m line e here read.done blank read.all };
       good = good_more lines k m line e here c.loop-line.invariant.good (inl blank);
     }
 
@@ -37,15 +39,20 @@ loop-line-preserved c =
     let here = from_part lines k line t in
     let m = length (c.loop-line.yielded ++ c.in-Some.line ∷ []) in
     let e = length_push c.loop-line.yielded c.in-Some.line in
+    let read = c.loop-line.invariant.read in
     let entry = c.in-Ok-Some.entry in
     let is : IsEntry (content line) (entry_of entry) = rw c.in-Ok-Some.field-0-is at c.in-Ok-Some.ensures in
-    let pushed : c.push.new.self.items ≡ c.loop-line.entries.items ++ (entry ∷ []) = search rules in
+    let room : length c.loop-line.entries.items ≤ c.args.channels → c.keep.new.entries.items ≡ c.loop-line.entries.items ++ (entry ∷ []) = search rules in
+    let full : c.args.channels < length c.loop-line.entries.items → c.keep.new.entries.items ≡ c.loop-line.entries.items = search rules in
     record {
       next = search rules;
       ends = search rules;
       number = omega (arith, c.loop-line.invariant.number, e);
-      all = all_entry lines k m line e here (map entry_of c.loop-line.entries.items) (map entry_of c.push.new.self.items) (entry_of entry) is
-          (ap (map entry_of) pushed ∙ map-append entry_of c.loop-line.entries.items (entry ∷ [])) c.loop-line.invariant.all;
+      read = record {
+        done = read.done ++ entry_of entry ∷ [];
+        first = kept_entry c.args.channels c.loop-line.entries.items c.keep.new.entries.items read.done entry read.first room full;
+        all = all_entry lines k m line e here read.done _ (entry_of entry) is refl read.all;
+      };
       good = good_more lines k m line e here c.loop-line.invariant.good (inr (entry_of entry, is));
     }
 
@@ -78,4 +85,5 @@ returns c =
     let t = YieldsList-end (YieldsList-from_slice_split {s = c.into_iter-line-iterator.result} _ (λ b. b == 10) {f = c.split-line-items.result.pred} c.args.text.now (search rules) (search rules) (search rules) (λ x b q k. search (rules, tests)))
     c.loop-line.yielded _ c.loop-line.yielded_by _ _ c.in-None.is c.next.ensures.steps in
     let within : length c.args.text.now ≤ most_input_bytes = search rules in
-    (within, all_read (text_lines c.args.text.now) (length c.loop-line.yielded) (map entry_of c.loop-line.entries.items) (omega (arith, t.1)) c.loop-line.invariant.all)
+    let read = c.loop-line.invariant.read in
+    (read.done, (within, all_read (text_lines c.args.text.now) (length c.loop-line.yielded) read.done (omega (arith, t.1)) read.all), read.first)

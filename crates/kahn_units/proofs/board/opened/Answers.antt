@@ -1,7 +1,7 @@
 use Rattle.std.proofs.Common.{arith, ap, ◌∙◌, List, [], ◌∷◌, ℕ, ◌≡◌, refl, get_or, length, Option, Some, None}
 use Rattle.std.proofs.lemmas.List.{length-replicate}
 use Rattle.kahn_units.specs.declared.board.Counter.{Counter}
-use Rattle.kahn_board.specs.Place.{total}
+use Rattle.kahn_board.specs.Rule.{total}
 use Rattle.kahn_board.proofs.Limits.{counts_are}
 use Rattle.kahn_board.proofs.Seats.{zeros}
 use Rattle.kahn_units.proofs.board.opened.Goals as goal

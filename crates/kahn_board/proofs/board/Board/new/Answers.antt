@@ -2,8 +2,8 @@ use Rattle.kahn_board.proofs.Common.{◌≡◌, ℕ, ◌+◌, ◌*◌, get_or, O
 use Rattle.kahn_board.proofs.Opens.{given, opens, map_some_once}
 use Rattle.kahn_board.proofs.board.Board.new.Goals as goal
 
-pub new-requires-2 : goal.new-requires-2
-new-requires-2 g c = let told = g.T.Told.told in let after = g.T.Told.after in let a = c.args in let w = wires a.network.now in let b = c.in-Ok.ensures in let words = c.in-Ok.reserved.words.items in
+pub new-requires : goal.new-requires
+new-requires g c = let told = g.T.Told.told in let after = g.T.Told.after in let a = c.args in let w = wires a.network.now in let b = c.in-Ok.ensures in let words = c.in-Ok.words.items in
     let begin = opens told after w a.bound words a.published.now a.cells.items c.requires (subst (λ (k : ℕ). AreFirstWords k a.bound a.published.now words) b.wiring.counts.0 b.words) in
     subst (λ (k : Program × List ℕ × List ℕ × List _ × List (Option _)). Whole told (given after k.3) (wires k.0) record { bound = a.bound; events = events_told told k.3; published = published (wires k.0) k.1 } (opening k.2 k.4 (opening_view (wires k.0))))
     (λ i. (sym c.of.ensures i, ap (λ v. v.items) (sym c.of-2.ensures) i, sym c.as_slice.ensures.value i, ap (λ v. v.items) (sym c.of-3.ensures) i, sym c.into_slots-cells.ensures.2 i)) begin
@@ -23,5 +23,5 @@ returns-in-Err-clause-refused g c = map_some_once _ _ (sym c.out_of_slots.ensure
 
 pub returns-in-Ok-new-clause-published : goal.returns-in-Ok-new-clause-published
 returns-in-Ok-new-clause-published g c = let t = c.in-Ok-new.ensures.ok in let b = c.in-Ok.ensures in λ q near.
-    let now : published (wired c.in-Ok-new.table.shared.key) c.in-Ok-new.table.shared.key.words.value.items q ≡ published (wires c.args.network.now) c.in-Ok.reserved.words.items q = ap (λ k. published (wires k.network.value) k.words.value.items q) t.5 ∙ (λ i. published (wires (c.of.ensures i)) (c.of-2.ensures i).items q) in
-    now ∙ (let two = b.words.twice q near in omega (arith, two, ap (λ (n : ℕ). get_or c.in-Ok.reserved.words.items (8 * (n + q)) 0) b.wiring.counts.0))
+    let now : published (wired c.in-Ok-new.table.shared.key) c.in-Ok-new.table.shared.key.words.value.items q ≡ published (wires c.args.network.now) c.in-Ok.words.items q = ap (λ k. published (wires k.network.value) k.words.value.items q) t.5 ∙ (λ i. published (wires (c.of.ensures i)) (c.of-2.ensures i).items q) in
+    now ∙ (let two = b.words.twice q near in omega (arith, two, ap (λ (n : ℕ). get_or c.in-Ok.words.items (8 * (n + q)) 0) b.wiring.counts.0))

@@ -6,6 +6,6 @@ use Rattle.kahn_board.proofs.board.Seat.give_back.Goals as goal
 pub fetch_add-requires : goal.fetch_add-requires
 fetch_add-requires g c = let b = c.args.board.now in (
   search rules,
-  omega (arith, c.budget_word-word.ensures, b.sized.0, b.counts.0, b.counts.1),
-  gives_back _ _ _ _ _ _ _ _ _ (placed b c.args.self.now c.requires.board) c.budget_word-word.ensures c.requires.drawn,
+  omega (arith, c.budget_word.ensures, b.sized.0, b.counts.0, b.counts.1),
+  gives_back _ _ _ _ _ _ _ _ _ (placed b c.args.self.now c.requires.board) c.budget_word.ensures c.requires.drawn,
 )

@@ -6,6 +6,6 @@ use Rattle.kahn_board.proofs.board.Seat.halt.Goals as goal
 pub store-requires : goal.store-requires
 store-requires g c = let b = c.args.board.now in (
   search rules,
-  omega (arith, c.halted_word-word.ensures, b.sized.0, b.counts.0, b.counts.1),
-  stops _ _ _ _ _ _ _ _ _ (placed b c.args.self.now c.requires.board) c.halted_word-word.ensures refl,
+  omega (arith, c.halted_word.ensures, b.sized.0, b.counts.0, b.counts.1),
+  stops _ _ _ _ _ _ _ _ _ (placed b c.args.self.now c.requires.board) c.halted_word.ensures refl,
 )

@@ -1,7 +1,7 @@
 use Rattle.kahn_board.proofs.Common.{rules, Some, ◌≡◌, ap, refl, arith, ◌%◌, ◌∙◌, belongs, wired, after_waking, TableId}
 use Rattle.kahn_board.proofs.Owed.{publishes_at}
 use Rattle.kahn_board.proofs.Returns.{woke}
-use Rattle.kahn_board.proofs.Wired.{reader_in, writer_in}
+use Rattle.kahn_board.proofs.Sole.{reader_in, writer_in}
 use Rattle.kahn_board.proofs.Placed.{placed}
 use Rattle.kahn_board.proofs.Seats.{room_for, facts_took, facts_waking}
 use Rattle.kahn_board.proofs.board.Seat.publish.Goals as goal

@@ -6,5 +6,5 @@ pub lifted-requires-clause-names : goal.lifted-requires-clause-names
 lifted-requires-clause-names g c =
     let q = c.self.inside in
     let rest = c.pop_front.new.self.items in
-    first_begins q.network.value q.input.value q.tokens.items rest c.unwrap-carried.result c.token.result
-    (c.pop_front.ensures.items ∙ ap (λ o. option_to_list o ++ rest) c.unwrap-carried.ensures) c.token.ensures c.self.invariant.1
+    first_begins q.network.value q.input.value q.tokens.items rest c.unwrap-carried.result c.token-token.result
+    (c.pop_front.ensures.items ∙ ap (λ o. option_to_list o ++ rest) c.unwrap-carried.ensures) c.token-token.ensures c.self.invariant.1

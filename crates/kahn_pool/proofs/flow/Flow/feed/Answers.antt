@@ -1,5 +1,5 @@
 use Rattle.std.proofs.Common.{arith, ◌≡◌, ◌+◌, ◌++◌, Bool, true, false, List, [], drop, length, map, slice_get, None, Some, refl, sym, ap, ◌∙◌, subst}
-use Rattle.kahn_pool.proofs.Common.{err_from_is_err_and, Input, network_of, role_at, Entry, Token, token_value, channel_of, Lists, inputs_of, IsMeant, is_watched, meant_input, poured_length, poured_rest, Flowing, HasPouredIn, flow_of}
+use Rattle.kahn_pool.proofs.Common.{err_from_is_err_and, Input, network_of, role_at, Entry, Token, token_value, channel_of, Table, inputs_of, IsMeant, is_watched, meant_input, poured_length, poured_rest, Flowing, HasPouredIn, flow_of}
 use Rattle.kahn_pool.proofs.Flowed.{flow_stays}
 use Rattle.kahn_pool.proofs.Poured_in.{from_there, is_poured, poured_flow, poured_lent, poured_lists, refused_same}
 use Rattle.kahn_pool.proofs.flow.Flow.feed.Goals as goal
@@ -37,7 +37,7 @@ lend-requires-clause-here c k v f = by (is_watched c.self.inside.plan.watch c.in
         let number = c.in_ok-number.number in
         let vs = c.args.values.now in
         let behind =
-        ap (λ (l : Lists). drop c.in-Some.place (inputs_of l number)) c.in_ok-poured.ensures.poured.lists
+        ap (λ (x : Table). drop c.in-Some.place (inputs_of x.input number)) c.in_ok-poured.ensures.poured.rest
         ∙ poured_rest b.input number vs (poured_lists number vs b.input) (is_poured number vs b.input) c.in-Some.place c.in-Some.ensures.2 in
         from_there (inputs_of c.pour-poured.new.self.input number) c.in-Some.place vs behind k v (subst (λ l. slice_get l k ≡ Some v) (c.lent_of-lent.ensures.all e) f)
     by false e = let g : slice_get [] k ≡ Some v = subst (λ l. slice_get l k ≡ Some v) (c.lent_of-lent.ensures.none e) f in absurd cc
@@ -52,7 +52,7 @@ invariant_of-self-2 c =
     let h = c.in_ok-poured.ensures.poured in
     let lent = c.lent_of-lent.ensures in
     let is = ap (λ w. is_watched w number) (sym c.self.invariant.watch) in
-    flow_stays c.self.invariant d h.network h.watch h.seen None tt c.lend.new.tokens.items
+    flow_stays c.self.invariant d (ap (λ (x : Table). x.network) h.rest) (ap (λ (x : Table). x.watch) h.rest) h.seen None tt c.lend.new.tokens.items
     (poured_lent b d number vs (poured_lists number vs b.input) (is_poured number vs b.input) h i.given.items c.lend.new.tokens.items c.self.invariant.lent c.lent_of-lent.result.now
     (λ e. lent.all (is ∙ e)) (λ e. lent.none (is ∙ e)) (c.lend.ensures ∙ ap (λ (l : List Token). map token_value l ++ c.lent_of-lent.result.now) c.make_room.ensures.items))
 

@@ -8,7 +8,7 @@ pub invariant_of-self-2 : goal.invariant_of-self-2
 invariant_of-self-2 c =
     let i = c.self.inside in
     holding_fed i.network.now i.input i.plan i.idles.items i.verdict c.self.invariant c.extend.new.self c.extend.ensures.grown c.extend.ensures.size
-    (given_on (network_of i.network.now) (inputs_of i.input) (inputs_of c.extend.new.self) i.plan.watch i.given.items c.extend.ensures.grown c.self.invariant.giving.0, λ v e. absurd cc)
+    (given_on (network_of i.network.now) (inputs_of i.input) (inputs_of c.extend.new.self) i.plan.watch i.given.items c.extend.ensures.grown c.self.invariant.begun)
 
 pub returns-in_err-extend : goal.returns-in_err-extend
 returns-in_err-extend c =

@@ -19,7 +19,7 @@ pub invariant_of-self-in-Err-NoMemory : goal.invariant_of-self-in-Err-NoMemory
 invariant_of-self-in-Err-NoMemory g c =
     let i = c.self.inside in
     still_holding i.network.now i.input i.plan i.idles.items i.verdict c.self.invariant c.args.more c.run_part-stopped.ensures (search rules)
-    c.if-self-more.false (search rules) (c.in_ok-give_watched.ensures.begun, λ v said. c.in_ok-give_watched.ensures.all)
+    c.if-self-more.false (search rules) c.in_ok-give_watched.ensures.begun c.in_ok-give_watched.ensures.all
 
 pub returns-in-Err-NoMemory : goal.returns-in-Err-NoMemory
 returns-in-Err-NoMemory g c =

@@ -13,7 +13,8 @@ invariant_of-result c =
       range = rw (p.workers, p.rest.0, p.rest.1) p.allowed;
       held = c.in_ok-idles.ensures;
       ended = tt;
-      giving = (λ channel e. begun_none (network_of c.args.network.now) I channel (I channel) c.new-2.result.items (search rules), λ v e. absurd cc);
+      begun = λ channel e. begun_none (network_of c.args.network.now) I channel (I channel) c.new-2.result.items (search rules);
+      all = λ v e. absurd cc;
     }
 
 pub returns : goal.returns

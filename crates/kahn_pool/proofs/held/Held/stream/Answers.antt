@@ -45,7 +45,7 @@ returns-in-None c =
     let i = c.self.inside in
     let (v, is) = subst (λ (h : HeldRun). (v : VerdictOf) × (h.verdict ≡ Some v)) (sym c.self.view_is) c.requires.settled in
     given_so_far_here i.network.now i.input i.plan i.idles.items i.verdict c.self.view_is c.self.invariant.held.idle c.args.line c.in-Channel.channel
-    c.deref.result.now c.in-Channel.is c.requires.line c.in-None.ensures.source (rw c.deref.ensures.value (c.self.invariant.giving.1 v is))
+    c.deref.result.now c.in-Channel.is c.requires.line c.in-None.ensures.source (rw c.deref.ensures.value (c.self.invariant.all v is))
 
 pub returns-in-Print : goal.returns-in-Print
 returns-in-Print c =

@@ -1,6 +1,6 @@
 use Rattle.std.proofs.Common.{◌≡◌, ℕ, ◌∙◌, sym, ap, arith, length, List, ◌∷◌, get_or, set, subst, inr, Option, Some}
 use Rattle.kahn_board.specs.Plays.{Carries}
-use Rattle.kahn_board.specs.Dealt.{belongs, wired}
+use Rattle.kahn_board.specs.Rule.{belongs, wired}
 use Rattle.kahn_board.proofs.Changes.{one_longer}
 use Rattle.kahn_board.specs.Calls.{downs_of}
 use Rattle.kahn_board.proofs.Woken.{woken_ready, hand_again}
