@@ -35,7 +35,7 @@ line_met number line answer old mid new (Err fault) quiet taken (why, (still, wa
 -- a part of a line that was taken has a verdict
 pub settled_by : (line : List ℕ) (old new : Live) (before after : Option (List ℕ)) (answer : Result Verdict TakeFault) → IsTakenLine line old new before after answer
     → MatchResult answer (λ _. new.broken ≡ false) (λ f. new.broken ≡ breaks f) → IfOk answer (λ _. HasVerdict new)
-settled_by line old new before after (Ok v) taken whole = (whole, v, taken.answered.verdict)
+settled_by line old new before after (Ok v) taken whole = (whole, (v, taken.answered.verdict))
 settled_by line old new before after (Err f) taken whole = tt
 
 -- a session is whole after a line that was told of

@@ -24,7 +24,7 @@ use Rattle.std.specs.Char.{is_ascii_digit}
 use Rattle.std.specs.Option.{is_none}
 use Rattle.std.specs.Str.{bytes_eq}
 use Rattle.kahn_session.specs.Live.{HasVerdict, IsDeaf, IsFirstFault, IsFirstInput, IsMeantLine, IsOtherInput, IsTakenLine, IsUnfedBy, Live, breaks}
-use Rattle.kahn_session.specs.Refusals.{alike_text, alone_text, at_end_number, fault_text, is_want, refusal_text, stepped_text, take_words, waiting_text}
+use Rattle.kahn_session.specs.Refusals.{alike_text, alone_text, at_end_number, failed_text, is_want, refusal_text, stepped_text, take_words, waiting_text}
 use Rattle.kahn_session.specs.declared.fault.TakeFault.{TakeFault}
 use Rattle.kahn_session.specs.declared.fault.TakeFault.TheVariants.{TooLong, NotUtf8, BadLine, BadValue, Feed, NoMemory, Write}
 use Rattle.kahn_live.specs.Lines.{CutsLine, fed_text, most_kept, unmarked}
@@ -37,8 +37,7 @@ use Rattle.std.specs.declared.io.ErrorKind.TheVariants.{BrokenPipe}
 use Rattle.std.specs.Io.Buffered.{reader_remaining}
 use Rattle.std.specs.declared.io.buffered.BufReader.{BufReader}
 
--- the lines that were refused so far. Those that are refused one behind the other for one reason are told of by the first of them
--- and by how many they are more.
+-- the lines that were refused so far; those refused in a row for one reason are told of by the first, and by how many they are more
 pub record Complaints : Type 0 where
   -- why the last one was
   pub last : Option TakeFault
@@ -268,7 +267,7 @@ IsNewFault false h first = IsFirstFault h first
 abbrev pub IsFaultPut : ℕ → Tree → Option (ℕ × Failure) → Telling → Telling → Type 0
 IsFaultPut number t None old new = new ≡ old
 IsFaultPut number t (Some (instance, kind)) old new =
-    WasToldOf (fault_text old.path number t instance kind) false (record old.complaints { faulted = true }) old new
+    WasToldOf (failed_text old.path number t instance kind) false (record old.complaints { faulted = true }) old new
 
 -- what is told of the part of a line: its verdict, and then a fault
 abbrev pub IsPartTold : Live → ℕ → List ℕ → Verdict → Telling → Telling → Type 0

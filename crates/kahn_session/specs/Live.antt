@@ -175,14 +175,14 @@ fault_at number (Faulted kind) behind = Some (number, kind)
 fault_at number _ behind = behind
 
 -- the same where the first of these ends is that of the instance of this number
-abbrev pub first_fault : ℕ → List End → Option (ℕ × Failure)
-first_fault number [] = None
-first_fault number (x ∷ xs) = fault_at number x.outcome (first_fault (suc number) xs)
+abbrev pub first_faulted : ℕ → List End → Option (ℕ × Failure)
+first_faulted number [] = None
+first_faulted number (x ∷ xs) = fault_at number x.outcome (first_faulted (suc number) xs)
 
 -- the number from 1 of the first instance that has a fault, of the ends that are right for the input so far and the bound so far
 abbrev pub IsFirstFault : HeldRun → Option (ℕ × Failure) → Type 0
 IsFirstFault h first =
-    (v : Verdict) × (h.verdict ≡ Some v) × ((ends : List End) × IsRightSoFar h v ends × (first ≡ first_fault 1 ends))
+    (v : Verdict) × (h.verdict ≡ Some v) × ((ends : List End) × IsRightSoFar h v ends × (first ≡ first_faulted 1 ends))
 
 -- whether one has a fault
 abbrev pub IsFaulty : HeldRun → Bool → Type 0

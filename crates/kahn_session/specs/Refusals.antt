@@ -134,6 +134,6 @@ failure_words Overflow = codes " has a fault: overflow"
 failure_words Division = codes " has a fault: division"
 
 -- the process of this number, from 1, has a fault since the part of this line
-abbrev pub fault_text : List ℕ → ℕ → Program → ℕ → Failure → List ℕ
-fault_text path number t instance kind =
+abbrev pub failed_text : List ℕ → ℕ → Program → ℕ → Failure → List ℕ
+failed_text path number t instance kind =
     pieces path (origin false number) (digits false number) (decimal instance) (codes " ") (process_name t (instance - 1)) (failure_words kind) []

@@ -3,7 +3,7 @@
 ghost use Rattle.std.specs.Prelude.{◌≡◌, ◌≤◌, [], ◌∷◌, length, option_copied, take};
 ghost use Rattle.std.specs.List.{concat};
 ghost use Rattle.kahn_streams.specs.Written.{Writes};
-ghost use Rattle.kahn_session.specs.Refusals.{alike_text, alone_line, alone_text, behind_part, digits, ends_before, failure_words, fault_text, feed_words, hint_text, is_hidden, is_of_plain, is_want, more_words, before_part, line_note, origin, pieces, refusal_line, refusal_text, said_text, shown_bytes, stepped_text, take_words, unknown_text, waiting_text};
+ghost use Rattle.kahn_session.specs.Refusals.{alike_text, alone_line, alone_text, behind_part, digits, ends_before, failure_words, failed_text, feed_words, hint_text, is_hidden, is_of_plain, is_want, more_words, before_part, line_note, origin, pieces, refusal_line, refusal_text, said_text, shown_bytes, stepped_text, take_words, unknown_text, waiting_text};
 
 use crate::fault::TakeFault;
 use itoa::Buffer;
@@ -406,7 +406,7 @@ pub fn write_fault<W: Write>(
     instance: usize,
     kind: Failure,
 ) -> Result<(), WriteFault>
-    ensures { Writes (W.contents writer.old) (W.contents writer.new) result (fault_text path.now line network.now instance kind) }
+    ensures { Writes (W.contents writer.old) (W.contents writer.new) result (failed_text path.now line network.now instance kind) }
 {
     let mut digits_room = Buffer::new();
     let mut number_room = Buffer::new();

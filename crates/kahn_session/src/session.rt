@@ -7,7 +7,7 @@ ghost use Rattle.kahn_pool.specs.Flows.{flow_lines};
 ghost use Rattle.kahn_report.specs.Formats.{channel_name};
 ghost use Rattle.kahn_report.specs.News.{news_text, plain_text};
 ghost use Rattle.kahn_streams.specs.Written.{Writes};
-ghost use Rattle.kahn_session.specs.Live.{HasOpened, IsClosed, IsDeaf, IsFaulty, IsFirstFault, IsFirstInput, IsMeantLine, IsOtherInput, HasVerdict, IsNamedAt, IsNamedLine, IsRinged, IsStreamOf, IsStuck, IsTakenLine, IsUnfedBy, IsUnopened, breaks, first_fault, form_text, is_finished, is_input, is_other_input, is_stuck, is_waiting, waits_on_input, wants_input};
+ghost use Rattle.kahn_session.specs.Live.{HasOpened, IsClosed, IsDeaf, IsFaulty, IsFirstFault, IsFirstInput, IsMeantLine, IsOtherInput, HasVerdict, IsNamedAt, IsNamedLine, IsRinged, IsStreamOf, IsStuck, IsTakenLine, IsUnfedBy, IsUnopened, breaks, first_faulted, form_text, is_finished, is_input, is_other_input, is_stuck, is_waiting, waits_on_input, wants_input};
 ghost use Rattle.kahn_session.specs.Pace.{MayBeSlow};
 ghost use Rattle.kahn_session.specs.inner.Shown.{OutBegins, news_of};
 
@@ -157,7 +157,7 @@ fn begun(run: &Paced<'_>, lines: &[Line])
 
 /// The number from 1 of the first instance whose end is a fault, and which one.
 fn first_fault(ends: &[End]) -> Option<(usize, Failure)>
-    ensures { result ≡ first_fault 1 ends.now }
+    ensures { result ≡ first_faulted 1 ends.now }
 {
     let mut number = 0;
     let mut rest = ends;
