@@ -58,6 +58,15 @@ ends() {
   same "$name: errors" "$(cat error)" "$(printf '%b' "$error")"
 }
 
+# awaits LINE: a line of the errors, or the program's end, within ten seconds.
+awaits() {
+  local left=200
+  until grep -q "^$1" error || ! kill -0 "$process" 2> /dev/null || [ $left = 0 ]; do
+    left=$((left - 1))
+    sleep 0.05
+  done
+}
+
 # gives NAME STATUS OUTPUT ERROR WORD..: runs the program on standard input, and compares.
 gives() {
   local name=$1 status=$2 output=$3 error=$4 given
@@ -279,7 +288,25 @@ ends='end 1 copy: waits on X after 1\nend 2 copy: waits on Y after 1\nend 3 sum:
 gives "a ring beside what waits on an input" 0 '1\n3\n' '' beside.kahn --plain A < lines
 gives "a ring beside what waits on an input, strictly" 7 '1\n3\n' "$ends" beside.kahn --plain A --strict < lines
 printf '9223372036854775807\n1\n' > lines
-gives "a fault before a ring, strictly" 8 '9223372036854775807\n' 'end 1 copy: waits on X after 1\nend 2 copy: waits on Y after 1\nend 3 sum: fault overflow after 5\nend 4 copy: waits on Z after 4\nfinished 11\nkahn_explain beside.kahn --input FILE says why\n' beside.kahn --plain A --strict < lines
+gives "a fault before a ring, strictly" 8 '9223372036854775807\n' 'beside.kahn: input line 2: 3 sum has a fault: overflow\nend 1 copy: waits on X after 1\nend 2 copy: waits on Y after 1\nend 3 sum: fault overflow after 5\nend 4 copy: waits on Z after 4\nfinished 11\nkahn_explain beside.kahn --input FILE says why\n' beside.kahn --plain A --strict < lines
+
+# a fault is told as soon as there is one, once, where the others go on
+cat > shared.kahn <<'P'
+begin integer input channel A; integer channel C; integer output channel B, D;
+  process share(integer in U; integer out V, W); begin integer X; repeat begin X := wait(U); send X on V; send X on W end end;
+  process part(integer in U; integer out V); begin repeat send 100 div wait(U) on V end;
+  share(A, C, D) par part(C, B)
+end
+P
+start shared.kahn --plain A
+send 5 0 7
+wants "before a fault" 20
+awaits 'shared.kahn: input line 2: 2 part has a fault: division'
+same "a fault while others go on" "$(cat error)" 'shared.kahn: input line 2: 2 part has a fault: division'
+kill "$process"
+exec 6>&- 5<&-
+wait "$process" 2> /dev/null
+
 gives "nothing amiss, strictly" 0 '2\n' '' "$double" --plain A --strict <<< '1'
 sed 's/integer output/integer channel X; &/; s/encode(RAW, RUNS, -1)/encode(RAW, X, -1) par copy(X, RUNS)/; s/^  encode/  process copy(integer in U; integer out W); begin repeat send wait(U) on W end;\n&/' runs.kahn > piped.kahn
 gives "what waits on one that has ended, strictly" 0 '2\n7\n1\n9\n' 'end 1 encode: ended after 12\nend 2 copy: waits on X after 13\nfinished 25\nkahn_explain piped.kahn --input FILE says why\n' piped.kahn --plain RAW --at-end -1 --strict <<< '7 7 9'
@@ -374,15 +401,6 @@ few=$(most_memory 100000)
 many=$(most_memory 1200000)
 if [ "$many" != failed ] && [ "$((many - few))" -le 1024 ]; then pass; else fail "memory: $few kB for 100,000 lines, $many kB for 1,200,000"; fi
 same "1,200,000 lines: the last sum" "$(grep -c . output.all) $(tail -n 3 output.all | head -n 1)" "1200002 SUMS: 1200000"
-
-# awaits LINE: a line of the errors, or the program's end, within ten seconds.
-awaits() {
-  local left=200
-  until grep -q "^$1" error || ! kill -0 "$process" 2> /dev/null || [ $left = 0 ]; do
-    left=$((left - 1))
-    sleep 0.05
-  done
-}
 
 # refuse NUMBER WORD..: refuses one growth. Where the first line is refused it is sent again; a blank line follows, and the end.
 refuse() {

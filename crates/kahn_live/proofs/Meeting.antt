@@ -6,7 +6,7 @@ use Rattle.std.specs.Io.KnownBytes.{Appends, IsAtEnd}
 use Rattle.kahn_streams.specs.declared.answer.Verdict.{Verdict}
 use Rattle.kahn_streams.specs.Written.{AppendsFront, Writes}
 use Rattle.kahn_fault.specs.declared.fault.Fault.{Fault}
-use Rattle.kahn_session.specs.Live.{IsTakenLine, Live, breaks}
+use Rattle.kahn_session.specs.Live.{HasVerdict, IsTakenLine, Live, breaks}
 use Rattle.kahn_session.specs.declared.fault.TakeFault.{TakeFault}
 use Rattle.kahn_live.specs.Course.{AreRead, WasAnswered, WasFed, HasSent, HasWaited, IsAnswerTold, IsHearing, IsLineMet, IsAnyMet, IsNextMet, IsStep, IsToldBy, Point, Telling}
 
@@ -31,6 +31,12 @@ line_met number line answer old mid new (Ok (Some f)) quiet taken (is, told, wai
 )
 line_met number line answer old mid new (Err fault) quiet taken (why, (still, waited)) =
     (why, still ∙ quiet, inr (answer, fed_since line answer old mid new taken waited))
+
+-- a part of a line that was taken has a verdict
+pub settled_by : (line : List ℕ) (old new : Live) (before after : Option (List ℕ)) (answer : Result Verdict TakeFault) → IsTakenLine line old new before after answer
+    → MatchResult answer (λ _. new.broken ≡ false) (λ f. new.broken ≡ breaks f) → IfOk answer (λ _. HasVerdict new)
+settled_by line old new before after (Ok v) taken whole = (whole, (v, taken.answered.verdict))
+settled_by line old new before after (Err f) taken whole = tt
 
 -- a session is whole after a line that was told of
 pub still_whole : (number : ℕ) (line : List ℕ) (answer : Result Verdict TakeFault) (mid new : Point) (r : Result (Option TakeFault) Fault)

@@ -9,6 +9,8 @@ use Rattle.kahn_write.specs.declared.bytes.WriteFault.{WriteFault}
 use Rattle.kahn_streams.specs.declared.feeds.FeedFault.{FeedFault}
 use Rattle.kahn_streams.specs.declared.feeds.FeedFault.TheVariants as feed
 use Rattle.kahn_streams.specs.declared.tree.Program.{Program as Tree}
+use Rattle.kahn_streams.specs.declared.value.Failure.{Failure}
+use Rattle.kahn_pool.specs.HeldRuns.{HeldRun}
 use Rattle.kahn_report.specs.Formats.{content}
 use Rattle.kahn_inputs.specs.declared.refused.Part.{Part}
 use Rattle.kahn_hints.specs.Inputs.{input_names, inputs_words, unknown_input}
@@ -21,8 +23,8 @@ use Rattle.kahn_fault.specs.declared.fault.Fault.TheVariants.{Program, Work}
 use Rattle.std.specs.Char.{is_ascii_digit}
 use Rattle.std.specs.Option.{is_none}
 use Rattle.std.specs.Str.{bytes_eq}
-use Rattle.kahn_session.specs.Live.{HasVerdict, IsDeaf, IsFirstInput, IsMeantLine, IsOtherInput, IsTakenLine, IsUnfedBy, Live, breaks}
-use Rattle.kahn_session.specs.Refusals.{alike_text, alone_text, at_end_number, is_want, refusal_text, stepped_text, take_words, waiting_text}
+use Rattle.kahn_session.specs.Live.{HasVerdict, IsDeaf, IsFirstFault, IsFirstInput, IsMeantLine, IsOtherInput, IsTakenLine, IsUnfedBy, Live, breaks}
+use Rattle.kahn_session.specs.Refusals.{alike_text, alone_text, at_end_number, failed_text, is_want, refusal_text, stepped_text, take_words, waiting_text}
 use Rattle.kahn_session.specs.declared.fault.TakeFault.{TakeFault}
 use Rattle.kahn_session.specs.declared.fault.TakeFault.TheVariants.{TooLong, NotUtf8, BadLine, BadValue, Feed, NoMemory, Write}
 use Rattle.kahn_live.specs.Lines.{CutsLine, fed_text, most_kept, unmarked}
@@ -35,8 +37,7 @@ use Rattle.std.specs.declared.io.ErrorKind.TheVariants.{BrokenPipe}
 use Rattle.std.specs.Io.Buffered.{reader_remaining}
 use Rattle.std.specs.declared.io.buffered.BufReader.{BufReader}
 
--- the lines that were refused so far. Those that are refused one behind the other for one reason are told of by the first of them
--- and by how many they are more.
+-- the lines that were refused so far; those refused in a row for one reason are told of by the first, and by how many they are more
 pub record Complaints : Type 0 where
   -- why the last one was
   pub last : Option TakeFault
@@ -49,6 +50,8 @@ pub record Complaints : Type 0 where
   pub stepped : Bool
   -- whether it was told that the part of a line waits for memory
   pub waited : Bool
+  -- whether it was told that a process has a fault
+  pub faulted : Bool
 
 -- what is told on standard error
 pub record Telling : Type 0 where
@@ -63,7 +66,7 @@ pub record Telling : Type 0 where
   pub complaints : Complaints
 
 abbrev pub complaints_of : {E : Type 0} → Teller E → Complaints
-complaints_of t = record { last = t.last; first = t.first; number = t.number; hinted = t.hinted; stepped = t.stepped; waited = t.waited }
+complaints_of t = record { last = t.last; first = t.first; number = t.number; hinted = t.hinted; stepped = t.stepped; waited = t.waited; faulted = t.faulted }
 
 abbrev pub telling_of : {E : Type 0} → (E → Option (List ℕ)) → Teller E → Telling
 telling_of contents t = record {
@@ -241,18 +244,39 @@ abbrev pub IsPutWhere : Bool → (Telling → Telling → Type 0) → Telling �
 IsPutWhere true put old new = put old new
 IsPutWhere false put old new = new ≡ old
 
-abbrev pub IsStepTold : ℕ → List ℕ → Telling → Telling → Type 0
-IsStepTold number line old new = IsPutWhere (is_step_new old.complaints line) (IsStepPut number) old new
+-- whether something of its verdict is told now of the part of a line: each once in a run
+abbrev pub is_verdict_new : Complaints → List ℕ → Verdict → Bool
+is_verdict_new k line Finished = false
+is_verdict_new k line Bound = is_step_new k line
+is_verdict_new k line Memory = not k.waited
 
--- once in a run
-abbrev pub IsWaitTold : ℕ → Telling → Telling → Type 0
-IsWaitTold number old new = IsPutWhere (not old.complaints.waited) (IsWaitPut number) old new
+abbrev pub IsVerdictPut : ℕ → Verdict → Telling → Telling → Type 0
+IsVerdictPut number Finished old new = new ≡ old
+IsVerdictPut number Bound old new = IsStepPut number old new
+IsVerdictPut number Memory old new = IsWaitPut number old new
+
+abbrev pub IsVerdictTold : ℕ → Bool → Verdict → Telling → Telling → Type 0
+IsVerdictTold number wanted v old new = IsPutWhere wanted (IsVerdictPut number v) old new
+
+-- the first process that has a fault after the part, unless it was told before that one has: once in a run
+abbrev pub IsNewFault : Bool → HeldRun → Option (ℕ × Failure) → Type 0
+IsNewFault true h first = first ≡ None
+IsNewFault false h first = IsFirstFault h first
+
+-- that it has one was told
+abbrev pub IsFaultPut : ℕ → Tree → Option (ℕ × Failure) → Telling → Telling → Type 0
+IsFaultPut number t None old new = new ≡ old
+IsFaultPut number t (Some (instance, kind)) old new =
+    WasToldOf (failed_text old.path number t instance kind) false (record old.complaints { faulted = true }) old new
+
+-- what is told of the part of a line: its verdict, and then a fault
+abbrev pub IsPartTold : Live → ℕ → List ℕ → Verdict → Telling → Telling → Type 0
+IsPartTold s number line v old new = (first : Option (ℕ × Failure)) × (mid : Telling) × IsNewFault old.complaints.faulted s.flow.run first
+    × IsVerdictTold number (is_verdict_new old.complaints line v) v old mid × IsFaultPut number s.flow.run.network first mid new
 
 -- what is told of a line with this answer
 abbrev pub IsToldBy : Live → ℕ → List ℕ → Result Verdict TakeFault → Telling → Telling → Type 0
-IsToldBy s number line (Ok Finished) old new = new ≡ old
-IsToldBy s number line (Ok Bound) old new = IsStepTold number line old new
-IsToldBy s number line (Ok Memory) old new = IsWaitTold number old new
+IsToldBy s number line (Ok v) old new = IsPartTold s number line v old new
 IsToldBy s number line (Err f) old new = IsRefused s number line f old new × (breaks f ≡ false)
 
 -- what the session made of the line; what is new may have been sent
@@ -304,10 +328,10 @@ abbrev pub IsRefusalTold : {X : Type 0} → ℕ → List ℕ → TakeFault → P
 IsRefusalTold number line f old new (Ok x) = IsRefused new.session number line f old.told new.told × HasWaited old new
 IsRefusalTold number line f old new (Err fault) = IsWriteFault fault × HasSent old new
 
--- that is told behind what is new
-abbrev pub IsStepMet : {X : Type 0} → ℕ → List ℕ → Point → Point → Result X Fault → Type 0
-IsStepMet number line old new (Ok x) = IsStepTold number line old.told new.told × HasWaited old new
-IsStepMet number line old new (Err fault) = IsWriteFault fault × HasSent old new
+-- what is told of its part stands behind what is new
+abbrev pub IsPartMet : {X : Type 0} → ℕ → List ℕ → Verdict → Point → Point → Result X Fault → Type 0
+IsPartMet number line v old new (Ok x) = IsPartTold new.session number line v old.told new.told × HasWaited old new
+IsPartMet number line v old new (Err fault) = IsWriteFault fault × HasSent old new
 
 -- what is told of a line by its answer
 abbrev pub IsAnswerTold : ℕ → List ℕ → Result Verdict TakeFault → Point → Point → Result (Option TakeFault) Fault → Type 0

@@ -236,7 +236,7 @@ untold bytes keep_going path = record {
   keep_going = keep_going;
   refused = false;
   path = path;
-  complaints = record { last = None; first = 0; number = 0; hinted = false; stepped = false; waited = false };
+  complaints = record { last = None; first = 0; number = 0; hinted = false; stepped = false; waited = false; faulted = false };
 }
 
 -- that `--watch` does nothing was told, where values stand alone

@@ -1,6 +1,6 @@
 //! The lines of a run: those of the input, and those that are fed at its end.
 
-ghost use Rattle.std.specs.Prelude.{◌≡◌, ◌&&◌, not, IfErr, IfOk, false, map, option_copied, string_bytes, true};
+ghost use Rattle.std.specs.Prelude.{◌≡◌, ◌&&◌, not, IfErr, IfOk, IsTrue, None, false, map, option_copied, string_bytes, true};
 ghost use Rattle.std.specs.Io.Buffered.{reader_buffer};
 ghost use Rattle.kahn_report.specs.Formats.{content};
 ghost use Rattle.kahn_inputs.specs.Fitting.{line_name};
@@ -8,7 +8,7 @@ ghost use Rattle.kahn_session.specs.Live.{HasVerdict, breaks};
 ghost use Rattle.kahn_session.specs.Pace.{MayBeSlow};
 ghost use Rattle.kahn_session.specs.declared.fault.TakeFault.TheVariants.{Feed};
 ghost use Rattle.kahn_live.specs.Course.{Across, AreAllMet, AreEachMet, AreLastMet, AreLastTried, AcrossStage, HasSent, IsAnswerTold, IsDeafNow, IsFedPart, IsFirstPart, IsInputMet, IsLastRefused, IsLineMet, IsNameWords, channel_tail};
-ghost use Rattle.kahn_live.specs.Course.{IsAloneTold, IsHintBy, IsNextMet, IsReadMet, IsRefusalTold, IsRefused, IsRefusedPart, IsStepMet, IsWriteFault, lines_given, is_bad_line, is_bare_line, no_memory, point_of, telling_of, wants_hint};
+ghost use Rattle.kahn_live.specs.Course.{IsAloneTold, IsHintBy, IsNextMet, IsReadMet, IsRefusalTold, IsRefused, IsRefusedPart, IsPartMet, IsWriteFault, lines_given, is_bad_line, is_bare_line, no_memory, point_of, telling_of, wants_hint};
 ghost use Rattle.kahn_live.specs.Histories.{HasHistories};
 ghost use Rattle.kahn_live.specs.Lines.{IsReadyToRead};
 
@@ -20,7 +20,7 @@ use kahn_inputs::{Part, head_part, inputs_words, kind_part, name_part, unknown_w
 use kahn_pool::{Open, RunFault, Verdict};
 use kahn_report::{ReadFault, WorkFault};
 use kahn_session::{AT_END, Session, TakeFault, is_want};
-use kahn_streams::{FeedFault, Network};
+use kahn_streams::{Failure, FeedFault, Network};
 use std::alloc::{AllocError, Global};
 use std::io::{BufReader, Read, Write};
 
@@ -205,21 +205,40 @@ fn tell_behind<W: Write, E: Write>(
     Ok(())
 }
 
-/// Tells that the line of that number wants more events than its part could do, unless that was told or the line is empty. It fails
-/// where what is new can't be written.
-fn tell_step<W: Write, E: Write>(
+/// Whether nothing is told of a part: neither of its verdict nor of a fault.
+fn is_quiet(wanted: bool, first: Option<(usize, Failure)>) -> bool
+    ensures { IsTrue result → (wanted ≡ false) × (first ≡ None) }
+{
+    if wanted {
+        return false;
+    }
+    match first {
+        None => true,
+        Some(_) => false,
+    }
+}
+
+/// Tells what there is to tell of the part of the line of that number, which had this verdict. It fails where what is new can't be
+/// written.
+fn tell_part<W: Write, E: Write>(
     stage: &mut Stage<'_, W, E>,
+    verdict: Verdict,
     number: u64,
     line: &[u8],
 ) -> Result<(), Fault>
+    requires { HasVerdict stage.old.session }
     ensures session { stage.new.session ≡ stage.old.session }
-    ensures told { IsStepMet number line.now (point_of W.contents E.contents stage.old) (point_of W.contents E.contents stage.new) result }
+    ensures told { IsPartMet number line.now verdict (point_of W.contents E.contents stage.old) (point_of W.contents E.contents stage.new) result }
 {
-    if !stage.teller.is_step_new(line) {
+    let wanted = stage.teller.is_verdict_new(verdict, line);
+    let first = stage.teller.new_fault(&stage.session);
+    if is_quiet(wanted, first) {
         return Ok(());
     }
     stage.outlet.send()?;
-    stage.teller.tell_step(number);
+    stage.teller.tell_verdict(number, wanted, verdict);
+    let network = stage.session.network();
+    stage.teller.tell_faulty(number, network, first);
     Ok(())
 }
 
@@ -231,17 +250,12 @@ fn tell_answer<W: Write, E: Write>(
     number: u64,
     line: &[u8],
 ) -> Result<Option<TakeFault>, Fault>
+    requires { IfOk answer (λ _. HasVerdict stage.old.session) }
     ensures { IsAnswerTold number line.now answer (point_of W.contents E.contents stage.old) (point_of W.contents E.contents stage.new) result }
 {
     match answer {
-        Ok(Verdict::Memory) => {
-            stage.outlet.send()?;
-            stage.teller.tell_waiting(number);
-            Ok(None)
-        }
-        Ok(Verdict::Finished) => Ok(None),
-        Ok(Verdict::Bound) => {
-            tell_step(stage, number, line)?;
+        Ok(verdict) => {
+            tell_part(stage, verdict, number, line)?;
             Ok(None)
         }
         Err(fault) => {

@@ -7,7 +7,7 @@ ghost use Rattle.kahn_session.specs.Refusals.{unknown_text};
 ghost use Rattle.kahn_session.specs.Live.{HasVerdict};
 ghost use Rattle.kahn_fault.specs.Status.{live_status_of};
 ghost use Rattle.kahn_fault.specs.Telling.{pointer_text, told_text};
-ghost use Rattle.kahn_live.specs.Course.{IsAlonePut, IsComplaint, IsTallied, IsMoreTold, IsNewPut, IsNewTold, IsStepPut, IsWaitTold, WasTold, complaints_of, is_again, is_alike, is_hinted, is_next, is_step_new, telling_of};
+ghost use Rattle.kahn_live.specs.Course.{IsAlonePut, IsComplaint, IsTallied, IsMoreTold, IsNewPut, IsNewTold, IsFaultPut, IsNewFault, IsStepPut, IsVerdictPut, IsVerdictTold, IsWaitPut, WasTold, complaints_of, is_again, is_alike, is_hinted, is_next, is_step_new, is_verdict_new, telling_of};
 ghost use Rattle.kahn_live.specs.Running.{IsEndPut, IsEndTold, IsLastTold, untold, why_text};
 
 use kahn_fault::{Fault, live_status, tell, tell_explain};
@@ -15,9 +15,10 @@ use kahn_inputs::Part;
 use kahn_pool::Verdict;
 use kahn_report::{WriteFault, write_line};
 use kahn_session::{
-    Session, TakeFault, take_words, write_alone, write_more, write_refusal, write_stopped,
-    write_unknown, write_waiting,
+    Session, TakeFault, take_words, write_alone, write_fault, write_more, write_refusal,
+    write_stopped, write_unknown, write_waiting,
 };
+use kahn_streams::{Failure, Network};
 use std::alloc::Global;
 use std::io::Write;
 
@@ -106,6 +107,8 @@ pub(crate) struct Teller<E: Write> {
     pub(crate) stepped: bool,
     // Whether it was told that the part of a line waits for memory.
     pub(crate) waited: bool,
+    // Whether it was told that a process has a fault.
+    pub(crate) faulted: bool,
 }
 
 impl<E: Write> Teller<E> {
@@ -126,6 +129,7 @@ impl<E: Write> Teller<E> {
             hinted: false,
             stepped: false,
             waited: false,
+            faulted: false,
         }
     }
 
@@ -218,32 +222,89 @@ impl<E: Write> Teller<E> {
         self.failed |= told.is_err();
     }
 
-    /// Tells that the part of the line of that number waits for memory, unless that was told. The line isn't refused.
-    pub(crate) fn tell_waiting(&mut self, number: u64)
-        ensures { IsWaitTold number (telling_of E.contents self.old) (telling_of E.contents self.new) }
+    /// Tells that the part of the line of that number waits for memory. The line isn't refused.
+    fn tell_waiting(&mut self, number: u64)
+        ensures { IsWaitPut number (telling_of E.contents self.old) (telling_of E.contents self.new) }
     {
-        if self.waited {
-            return;
-        }
         let told = write_waiting(&mut self.errors, self.path.as_str(), number);
         self.failed |= told.is_err();
         self.waited = true;
     }
 
     /// Whether it is told now that this line wants more events than a part may do.
-    pub(crate) fn is_step_new(&self, line: &[u8]) -> bool
+    fn is_step_new(&self, line: &[u8]) -> bool
         ensures { result ≡ is_step_new (complaints_of self.now) line.now }
     {
         !line.is_empty() && !self.stepped
     }
 
     /// Tells it of the line of that number. The line isn't refused.
-    pub(crate) fn tell_step(&mut self, number: u64)
+    fn tell_step(&mut self, number: u64)
         ensures { IsStepPut number (telling_of E.contents self.old) (telling_of E.contents self.new) }
     {
         let told = write_stopped(&mut self.errors, self.path.as_str(), number);
         self.failed |= told.is_err();
         self.stepped = true;
+    }
+
+    /// Whether something of this verdict is told now of the part of this line.
+    pub(crate) fn is_verdict_new(&self, verdict: Verdict, line: &[u8]) -> bool
+        ensures { result ≡ is_verdict_new (complaints_of self.now) line.now verdict }
+    {
+        match verdict {
+            Verdict::Finished => false,
+            Verdict::Bound => self.is_step_new(line),
+            Verdict::Memory => !self.waited,
+        }
+    }
+
+    /// Tells it of the part of the line of that number.
+    fn put_verdict(&mut self, number: u64, verdict: Verdict)
+        ensures { IsVerdictPut number verdict (telling_of E.contents self.old) (telling_of E.contents self.new) }
+    {
+        match verdict {
+            Verdict::Finished => {}
+            Verdict::Bound => self.tell_step(number),
+            Verdict::Memory => self.tell_waiting(number),
+        }
+    }
+
+    /// Tells it where that is wanted.
+    pub(crate) fn tell_verdict(&mut self, number: u64, wanted: bool, verdict: Verdict)
+        ensures { IsVerdictTold number wanted verdict (telling_of E.contents self.old) (telling_of E.contents self.new) }
+    {
+        if wanted {
+            self.put_verdict(number, verdict);
+        }
+    }
+
+    /// The first process that has a fault after a part, unless it was told before that one has.
+    pub(crate) fn new_fault(&self, session: &Session<'_>) -> Option<(usize, Failure)>
+        requires { HasVerdict session.now }
+        ensures { IsNewFault self.now.faulted session.now.flow.run result }
+    {
+        if self.faulted {
+            return None;
+        }
+        session.first_fault()
+    }
+
+    /// Tells that it has one since the part of the line of that number.
+    pub(crate) fn tell_faulty(
+        &mut self,
+        number: u64,
+        network: &Network,
+        first: Option<(usize, Failure)>,
+    )
+        ensures { IsFaultPut number network.now first (telling_of E.contents self.old) (telling_of E.contents self.new) }
+    {
+        let Some((instance, kind)) = first else {
+            return;
+        };
+        let path = self.path.as_str();
+        let told = write_fault(&mut self.errors, path, number, network, instance, kind);
+        self.failed |= told.is_err();
+        self.faulted = true;
     }
 
     /// Tells which program says why the run can't go on, where that is wanted.

@@ -1,11 +1,12 @@
 -- Believed. A session: a run that is fed line by line, and what it has shown of its streams (this project's profile).
-use Rattle.std.specs.Prelude.{◌≡◌, ◌⊎◌, ℕ, ◌<◌, ◌≤◌, Bool, true, false, List, [], map, length, replicate, slice_get, slice_index_or, Option, None, Some, Result, Ok, Err, ◌&&◌, not, nat_lt}
+use Rattle.std.specs.Prelude.{◌≡◌, ◌⊎◌, ℕ, suc, ◌<◌, ◌≤◌, Bool, true, false, List, [], ◌∷◌, map, length, replicate, slice_get, slice_index_or, Option, None, Some, is_some, Result, Ok, Err, ◌&&◌, not, nat_lt}
 use Rattle.std.specs.Io.KnownBytes.{Appends}
 use Rattle.std.specs.List.{list_any}
 use Rattle.std.specs.Str.{IsUtf8, bytes_eq}
 use Rattle.kahn_streams.specs.declared.config.Config.{Config}
 use Rattle.kahn_streams.specs.declared.tree.Program.{Program}
 use Rattle.kahn_streams.specs.declared.tree.Role.{Role}
+use Rattle.kahn_streams.specs.declared.value.Failure.{Failure}
 use Rattle.kahn_streams.specs.declared.value.Value.{Value}
 use Rattle.kahn_streams.specs.declared.value.Line.{Line}
 use Rattle.kahn_streams.specs.declared.tree.Role.TheVariants as role
@@ -168,17 +169,24 @@ IsTakenLine line old new before after (Err (Write f)) = HasBroken line old new b
 
 -- ---- the end
 
-abbrev pub is_fault_outcome : Outcome → Bool
-is_fault_outcome (Faulted k) = true
-is_fault_outcome _ = false
+-- the number of the first instance that has a fault, and which one, where this is the end of the one of this number, and behind it that
+abbrev pub fault_at : ℕ → Outcome → Option (ℕ × Failure) → Option (ℕ × Failure)
+fault_at number (Faulted kind) behind = Some (number, kind)
+fault_at number _ behind = behind
 
-abbrev pub is_faulted : End → Bool
-is_faulted x = is_fault_outcome x.outcome
+-- the same where the first of these ends is that of the instance of this number
+abbrev pub first_faulted : ℕ → List End → Option (ℕ × Failure)
+first_faulted number [] = None
+first_faulted number (x ∷ xs) = fault_at number x.outcome (first_faulted (suc number) xs)
 
--- whether a process has a fault, of the ends that are right for the input so far and the bound so far
+-- the number from 1 of the first instance that has a fault, of the ends that are right for the input so far and the bound so far
+abbrev pub IsFirstFault : HeldRun → Option (ℕ × Failure) → Type 0
+IsFirstFault h first =
+    (v : Verdict) × (h.verdict ≡ Some v) × ((ends : List End) × IsRightSoFar h v ends × (first ≡ first_faulted 1 ends))
+
+-- whether one has a fault
 abbrev pub IsFaulty : HeldRun → Bool → Type 0
-IsFaulty h faulty =
-    (v : Verdict) × (h.verdict ≡ Some v) × ((ends : List End) × IsRightSoFar h v ends × (faulty ≡ list_any is_faulted ends))
+IsFaulty h faulty = (first : Option (ℕ × Failure)) × IsFirstFault h first × (faulty ≡ is_some first)
 
 -- it waits on an input channel
 abbrev pub is_input : Role → Bool

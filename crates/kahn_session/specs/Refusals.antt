@@ -1,8 +1,12 @@
--- Believed. What is said of lines of input that aren't taken, or whose parts lack memory (this project's profile).
+-- Believed. What is said of lines of input that aren't taken, and of their parts (this project's profile).
 use Rattle.std.specs.Prelude.{ℕ, suc, ◌-◌, ◌^◌, ◌==◌, ◌&&◌, ◌||◌, Bool, true, false, not, List, [], ◌∷◌, ◌++◌, Option, None, Some, codes, decimal, if◌then◌else◌, length, nat_le, nat_lt, take}
 use Rattle.std.specs.List.{concat}
 use Rattle.kahn_streams.specs.declared.feeds.FeedFault.{FeedFault}
 use Rattle.kahn_streams.specs.declared.feeds.FeedFault.TheVariants as feed
+use Rattle.kahn_streams.specs.declared.tree.Program.{Program}
+use Rattle.kahn_streams.specs.declared.value.Failure.{Failure}
+use Rattle.kahn_streams.specs.declared.value.Failure.TheVariants.{Overflow, Division}
+use Rattle.kahn_report.specs.Formats.{process_name}
 use Rattle.kahn_session.specs.declared.fault.TakeFault.{TakeFault}
 use Rattle.kahn_session.specs.declared.fault.TakeFault.TheVariants as take
 
@@ -123,3 +127,13 @@ waiting_text path number = line_note path number (codes "waits for memory")
 -- a part did all the events that it may, and could do more
 abbrev pub stepped_text : List ℕ → ℕ → List ℕ
 stepped_text path number = line_note path number (codes "wants more events than --step allows, and goes on with the next line")
+
+-- which fault a process has
+abbrev pub failure_words : Failure → List ℕ
+failure_words Overflow = codes " has a fault: overflow"
+failure_words Division = codes " has a fault: division"
+
+-- the process of this number, from 1, has a fault since the part of this line
+abbrev pub failed_text : List ℕ → ℕ → Program → ℕ → Failure → List ℕ
+failed_text path number t instance kind =
+    pieces path (origin false number) (digits false number) (decimal instance) (codes " ") (process_name t (instance - 1)) (failure_words kind) []

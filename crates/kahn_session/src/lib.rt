@@ -9,7 +9,7 @@ mod session;
 
 pub use fault::TakeFault;
 pub use refusal::{
-    AT_END, is_want, take_words, write_alone, write_more, write_refusal, write_stopped,
-    write_unknown, write_waiting,
+    AT_END, is_want, take_words, write_alone, write_fault, write_more, write_refusal,
+    write_stopped, write_unknown, write_waiting,
 };
 pub use session::Session;

@@ -1,14 +1,14 @@
-//! What is said of lines of input that aren't taken.
+//! What is said of lines of input that aren't taken, and of their parts.
 
 ghost use Rattle.std.specs.Prelude.{◌≡◌, ◌≤◌, [], ◌∷◌, length, option_copied, take};
 ghost use Rattle.std.specs.List.{concat};
 ghost use Rattle.kahn_streams.specs.Written.{Writes};
-ghost use Rattle.kahn_session.specs.Refusals.{alike_text, alone_line, alone_text, behind_part, digits, ends_before, feed_words, hint_text, is_hidden, is_of_plain, is_want, more_words, before_part, line_note, origin, pieces, refusal_line, refusal_text, said_text, shown_bytes, stepped_text, take_words, unknown_text, waiting_text};
+ghost use Rattle.kahn_session.specs.Refusals.{alike_text, alone_line, alone_text, behind_part, digits, ends_before, failure_words, failed_text, feed_words, hint_text, is_hidden, is_of_plain, is_want, more_words, before_part, line_note, origin, pieces, refusal_line, refusal_text, said_text, shown_bytes, stepped_text, take_words, unknown_text, waiting_text};
 
 use crate::fault::TakeFault;
 use itoa::Buffer;
-use kahn_report::{WriteFault, write_line};
-use kahn_streams::FeedFault;
+use kahn_report::{WriteFault, process_name, write_line};
+use kahn_streams::{Failure, FeedFault, Network};
 use std::io::Write;
 
 /// The number of each line of `--at-end`. No line of the input has it.
@@ -384,4 +384,45 @@ pub fn write_stopped<W: Write>(writer: &mut W, path: &str, number: u64) -> Resul
 {
     let words = "wants more events than --step allows, and goes on with the next line";
     put_note(writer, path, number, words)
+}
+
+/// Which fault a process has.
+fn failure_words(kind: Failure) -> &'static str
+    ensures { result.now ≡ failure_words kind }
+{
+    match kind {
+        Failure::Overflow => " has a fault: overflow",
+        Failure::Division => " has a fault: division",
+    }
+}
+
+/// Writes that the process of that number, from 1, has a fault since the part of that line of input, and flushes; as `write_refusal`
+/// does.
+pub fn write_fault<W: Write>(
+    writer: &mut W,
+    path: &str,
+    line: u64,
+    network: &Network,
+    instance: usize,
+    kind: Failure,
+) -> Result<(), WriteFault>
+    ensures { Writes (W.contents writer.old) (W.contents writer.new) result (failed_text path.now line network.now instance kind) }
+{
+    let mut digits_room = Buffer::new();
+    let mut number_room = Buffer::new();
+    let digits = digits(&mut digits_room, false, line);
+    let number = number_room.format(instance);
+    let name = process_name(network, instance.saturating_sub(1)).as_bytes();
+    let words = failure_words(kind);
+    put_pieces(
+        writer,
+        path,
+        origin(false, line),
+        digits,
+        number,
+        " ",
+        name,
+        words,
+        "",
+    )
 }

@@ -7,7 +7,7 @@ ghost use Rattle.kahn_pool.specs.Flows.{flow_lines};
 ghost use Rattle.kahn_report.specs.Formats.{channel_name};
 ghost use Rattle.kahn_report.specs.News.{news_text, plain_text};
 ghost use Rattle.kahn_streams.specs.Written.{Writes};
-ghost use Rattle.kahn_session.specs.Live.{HasOpened, IsClosed, IsDeaf, IsFaulty, IsFirstInput, IsMeantLine, IsOtherInput, HasVerdict, IsNamedAt, IsNamedLine, IsRinged, IsStreamOf, IsStuck, IsTakenLine, IsUnfedBy, IsUnopened, breaks, form_text, is_faulted, is_finished, is_input, is_other_input, is_stuck, is_waiting, waits_on_input, wants_input};
+ghost use Rattle.kahn_session.specs.Live.{HasOpened, IsClosed, IsDeaf, IsFaulty, IsFirstFault, IsFirstInput, IsMeantLine, IsOtherInput, HasVerdict, IsNamedAt, IsNamedLine, IsRinged, IsStreamOf, IsStuck, IsTakenLine, IsUnfedBy, IsUnopened, breaks, first_faulted, form_text, is_finished, is_input, is_other_input, is_stuck, is_waiting, waits_on_input, wants_input};
 ghost use Rattle.kahn_session.specs.Pace.{MayBeSlow};
 ghost use Rattle.kahn_session.specs.inner.Shown.{OutBegins, news_of};
 
@@ -17,7 +17,7 @@ use crate::pace::Paced;
 use kahn_chain::{has_ring, standings};
 use kahn_pool::{Config, End, Gate, Outcome, RunFault, Verdict};
 use kahn_report::{WriteFault, channel_name, write_closing, write_news, write_plain};
-use kahn_streams::{Input, Line, Network, Role};
+use kahn_streams::{Failure, Input, Line, Network, Role};
 use std::alloc::{AllocError, Global};
 use std::io::Write;
 use std::marker::Model;
@@ -155,16 +155,20 @@ fn begun(run: &Paced<'_>, lines: &[Line])
     }
 }
 
-/// Whether one of the ends is a fault.
-fn has_faulted(ends: &[End]) -> bool
-    ensures { result ≡ list_any is_faulted ends.now }
+/// The number from 1 of the first instance whose end is a fault, and which one.
+fn first_fault(ends: &[End]) -> Option<(usize, Failure)>
+    ensures { result ≡ first_faulted 1 ends.now }
 {
-    for end in ends {
-        if let Outcome::Faulted(_) = end.outcome {
-            return true;
+    let mut number = 0;
+    let mut rest = ends;
+    'ends: while let Some((end, behind)) = rest.split_first() {
+        number += 1;
+        if let Outcome::Faulted(kind) = end.outcome {
+            return Some((number, kind));
         }
+        rest = behind;
     }
-    false
+    None
 }
 
 /// Whether one of the ends is a wait.
@@ -359,12 +363,21 @@ impl<'n> Session<'n> {
         self.paced.verdict()
     }
 
+    /// The number from 1 of the first process that has a fault of arithmetic, and which one. It is asked only where the session is
+    /// settled.
+    pub fn first_fault(&self) -> Option<(usize, Failure)>
+        requires { HasVerdict self.now }
+        ensures { IsFirstFault self.now.flow.run result }
+    {
+        first_fault(self.paced.ends())
+    }
+
     /// Whether a process has a fault of arithmetic. It is asked only where the session is settled.
     pub fn has_fault(&self) -> bool
         requires { HasVerdict self.now }
         ensures { IsFaulty self.now.flow.run result }
     {
-        has_faulted(self.paced.ends())
+        self.first_fault().is_some()
     }
 
     /// Whether no line can change the run any more: it has finished, and no process waits on an input channel. It is asked only

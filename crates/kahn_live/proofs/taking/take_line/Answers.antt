@@ -1,6 +1,9 @@
 use Rattle.std.proofs.Common.{refl}
-use Rattle.kahn_live.proofs.Meeting.{line_met, still_whole}
+use Rattle.kahn_live.proofs.Meeting.{line_met, settled_by, still_whole}
 use Rattle.kahn_live.proofs.taking.take_line.Goals as goal
+
+pub tell_answer-requires : goal.tell_answer-requires
+tell_answer-requires g c = settled_by c.args.line.now _ _ _ _ c.take-answer.result c.take-answer.ensures.taken c.take-answer.ensures.broken
 
 pub returns : goal.returns
 returns g c = record {

@@ -1,9 +1,9 @@
 use Rattle.std.proofs.Common.{◌≡◌, Some, sym, subst}
 use Rattle.kahn_streams.specs.declared.answer.Verdict.{Verdict}
-use Rattle.kahn_session.specs.Live.{IsFaulty, Live}
-use Rattle.kahn_session.proofs.session.Session.has_fault.Goals as goal
+use Rattle.kahn_session.specs.Live.{IsFirstFault, Live}
+use Rattle.kahn_session.proofs.session.Session.first_fault.Goals as goal
 
 pub returns : goal.returns
 returns c =
     let (v, is) = subst (λ (s : Live). (v : Verdict) × (s.flow.run.verdict ≡ Some v)) (sym c.self.view_is) c.requires.1 in
-    subst (λ (s : Live). IsFaulty s.flow.run c.has_faulted.result) c.self.view_is (v, is, (c.ends.result.now, c.ends.ensures v is, c.has_faulted.ensures))
+    subst (λ (s : Live). IsFirstFault s.flow.run c.first_fault.result) c.self.view_is (v, is, (c.ends.result.now, c.ends.ensures v is, c.first_fault.ensures))
