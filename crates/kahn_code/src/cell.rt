@@ -20,7 +20,7 @@ use std::sync::ledger::Ledger;
 /// tokens it took and sent and the tokens that it keeps.
 #[derive(Drop)]
 pub struct Cell<A: Allocator + Copy + Drop = Global> {
-    tap: Tap<A>,
+    pub(crate) tap: Tap<A>,
 }
 
 /// What a cell kept: of each parameter what it sent there, where it is kept, and what it printed, in place order.

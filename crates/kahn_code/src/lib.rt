@@ -8,6 +8,7 @@ mod depth;
 mod effects;
 mod emit;
 mod form;
+mod forward;
 mod instruction;
 mod laws;
 mod listing;

@@ -1,7 +1,7 @@
 //! Every channel of a network in a plain queue, for a run on one thread.
 
-ghost use Rattle.std.specs.Prelude.{◌≡◌, ◌<◌, ◌^◌, IfOk, MatchResult, length, slice_get};
-ghost use Rattle.kahn_code.specs.Common.{Input as InputRole, network_of, role_at, IsWellWired, Lists, inputs_of, Names, action_row, form_row, codes};
+ghost use Rattle.std.specs.Prelude.{◌≡◌, ◌<◌, ◌+◌, ◌^◌, IfOk, MatchResult, length, slice_get};
+ghost use Rattle.kahn_code.specs.Common.{Channel, Input as InputRole, IsOf, network_of, role_at, IsWellWired, Lists, inputs_of, Names, action_row, form_row, codes};
 ghost use Rattle.kahn_code.specs.Lines.{AreFirst, AreQueued, HasPoured, IsPoured, Lines, actual_here, next_at, place_at, queue_of, spare_of, taken_of, waiting_of};
 
 use crate::code::CodeFault;
@@ -79,6 +79,15 @@ impl<A: Allocator> Plain<A> {
         ensures { result ≡ taken_of (slice_get self.now.queues channel) }
     {
         self.queues.get(channel).map_or(0, |queue| queue.taken())
+    }
+
+    /// The token that waits in the queue of a channel behind so many others, which stays. It takes no memory.
+    pub fn token(&self, channel: usize, number: usize) -> Token
+        requires { number < waiting_of (slice_get self.now.queues channel) }
+        ensures names { IsOf self.now.network self.now.input result }
+        ensures here { (result.line ≡ Channel channel) × (result.place ≡ taken_of (slice_get self.now.queues channel) + number) }
+    {
+        self.queues[channel].waits(number)
     }
 
     /// Goes on for a longer input, in which these values stand behind those of an input channel: there they wait behind

@@ -122,6 +122,20 @@ impl<A: Allocator> Queue<A> {
         self.taken
     }
 
+    /// The waiting token before which so many wait, which stays. It takes no memory.
+    pub fn waits(&self, number: usize) -> Token
+        requires { number < self.now.waiting }
+        ensures names { IsOf self.now.network self.now.input result }
+        ensures here { (result.line ≡ Channel self.now.channel) × (result.place ≡ self.now.taken + number) }
+    {
+        let carried = &self.tokens[number];
+        carried.counted();
+        let line = Line::Channel(self.channel);
+        let place = self.taken + number as u64;
+        let token = carried.token(line, place);
+        lifted(&self.network, &self.input, token, line, place)
+    }
+
     /// Makes room for so many tokens more. Where there is room already it takes no memory.
     pub fn room_for(&mut self, count: usize) -> Result<(), NoMemory>
         ensures more { HasMore 0 self.old self.new }

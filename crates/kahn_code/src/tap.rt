@@ -8,7 +8,7 @@ ghost use Rattle.kahn_code.specs.Standing.{Serve, tokens};
 ghost use Rattle.kahn_code.specs.Progress.{AreCounts, AreUnused, site_of, told_view, HasRunFor, IsAt, IsStanding};
 ghost use Rattle.kahn_code.specs.inner.Tapped.{HasForgotten, Tapped, regrown_tap, tapped_of};
 
-use crate::cell::Kept;
+use crate::cell::{Cell, Kept};
 use crate::code::{Code, CodeFault};
 use crate::plain::Plain;
 use crate::ports::Ports;
@@ -56,6 +56,21 @@ impl<A: Allocator + Copy + Drop> Tap<A> {
         let arguments = code.arguments(instance);
         let progress = Progress::new(alloc, process_code, arguments, instance, watch)?;
         Ok(assembled(progress, code))
+    }
+
+    /// The cell of a tap that has let go of nothing. It takes no memory.
+    pub fn into_cell(self) -> Cell<A>
+        requires { self.gone ≡ nothing_gone }
+        ensures { result ≡ self.told }
+    {
+        Cell { tap: self }
+    }
+
+    /// The tap of a cell, which has let go of nothing. It takes no memory.
+    pub fn of(cell: Cell<A>) -> Tap<A>
+        ensures { (result.told ≡ cell) × (result.gone ≡ nothing_gone) }
+    {
+        cell.tap
     }
 
     /// Runs for at most so many events. With a quantum of 0 it only says what comes next, and takes no memory. A tap

@@ -80,6 +80,11 @@ impl<'b, 'c, R: Wait + Sync, G: Gate + Sync> Parallel<Shared<'b, 'c, R, G>> for 
 
     ghost quit = { λ s old new. HasQuit s.run.now old new };
 
+    // Where nobody can tell who works, the run is left to those that came.
+    fn may_wait(shared: &Shared<'b, 'c, R, G>) -> bool {
+        shared.gate.is_open()
+    }
+
     fn halt(mut self, shared: &Shared<'b, 'c, R, G>) -> Worker {
         self.seat.halt(shared.run.board);
         self
@@ -91,7 +96,8 @@ impl<'b, 'c, R: Wait + Sync, G: Gate + Sync> Parallel<Shared<'b, 'c, R, G>> for 
     }
 }
 
-// All work at the same time, each until it has left. If a thread can't be started for a worker, the run is halted.
+// All work at the same time, each until it has left. If a thread can't be started for a worker, and the gate isn't open, the run is
+// halted.
 fn work_all<R: Threads + Wait + Sync, G: Gate + Sync>(
     rt: &R,
     run: &Run<'_>,
@@ -157,9 +163,9 @@ fn run_workers<R: Threads + Wait + Sync, G: Gate + Sync>(
 /// has the caller's thread, each other one a thread of its own.
 ///
 /// It refuses with `NoMemory` only if memory was refused before the first event: each process is then as it was, and
-/// nothing of the bound is used. It refuses with `NoThread` if a thread couldn't be started, which one worker never
-/// needs. Those that were started are halted then, and it returns once they have left. The tasks come back with either, as
-/// they were left.
+/// nothing of the bound is used. If a thread can't be started, which one worker never needs, the run is left to the threads
+/// that came where the gate is open. Else it refuses with `NoThread`: those that were started are halted, and it returns
+/// once they have left. The tasks come back with either, as they were left.
 pub fn run_tasks<R: Threads + Wait + Sync, G: Gate + Sync>(
     rt: &R,
     alloc: Global,

@@ -19,6 +19,9 @@ pub(crate) trait Parallel<C> {
     /// What is true of one before and after, if it told all to leave before its work.
     ghost quit: { C → Self → Self → Type 0 };
 
+    /// Whether the work of one may be done in another's thread, behind the other's, if no thread can be started for it.
+    fn may_wait(shared: &C) -> bool;
+
     /// Tells all to leave their work.
     fn halt(self, shared: &C) -> Self
         requires { Self.may shared.now self }
@@ -99,9 +102,69 @@ fn run_from<'s, E, R: Threads, C: Sync + 's, T: Parallel<C> + Send + Drop + 's>(
     }
 }
 
+// All work, the first in this thread and each other in one of its own, or if that can't be started in this thread, behind the others.
+fn run_waiting<'s, E, R: Threads, C: Sync + 's, T: Parallel<C> + Send + Drop + 's>(
+    rt: &R,
+    scope: &'s Scope<'s, E>,
+    shared: &'s C,
+    mut workers: Vec<T>,
+) -> Vec<T>
+    requires { All (T.may shared.now) workers.items }
+    ensures room { vec_capacity result ≡ vec_capacity workers }
+    ensures count { length result.items ≡ length workers.items }
+    ensures each { AllWent (T.did shared.now) workers.items result.items }
+{
+    let Some(worker) = workers.pop() else {
+        return workers;
+    };
+    if workers.is_empty() {
+        workers.push_reserved(worker.run(shared));
+        return workers;
+    }
+    let promise = Promised {
+        shared,
+        worker: Snapshot::of(&worker),
+    };
+    let work = move || -> T
+        requires { T.may shared.now worker }
+        ensures { T.did shared.entry.now worker result }
+    { worker.run(shared) };
+    match scope.spawn_with(promise, work) {
+        Ok(thread) => {
+            let mut workers = run_waiting(rt, scope, shared, workers);
+            workers.push_reserved(thread.join(rt));
+            workers
+        }
+        Err(alone) => {
+            let mut workers = run_waiting(rt, scope, shared, workers);
+            workers.push_reserved((alone.value)());
+            workers
+        }
+    }
+}
+
+// All work, and where a thread can't be started, as they may.
+fn run_in<'s, E, R: Threads, C: Sync + 's, T: Parallel<C> + Send + Drop + 's>(
+    rt: &R,
+    scope: &'s Scope<'s, E>,
+    shared: &'s C,
+    workers: Vec<T>,
+) -> (Vec<T>, bool)
+    requires { All (T.may shared.now) workers.items }
+    ensures room { vec_capacity result.0 ≡ vec_capacity workers }
+    ensures worked { HaveWorked (T.did shared.now) (T.quit shared.now) workers.items result.0.items result.1 }
+    ensures quits { result.1 ≡ true → OneWent (T.quit shared.now) workers.items result.0.items }
+{
+    if T::may_wait(shared) {
+        return (run_waiting(rt, scope, shared, workers), false);
+    }
+    run_from(rt, scope, shared, workers)
+}
+
 /// All work at the same time, one of them in this thread and each other in a thread of its own. If a thread can't be
-/// started, all are told to leave, and what is left of the work is done in this thread. It takes no memory of an
-/// allocator. It answers all after their work, and whether a thread couldn't be started, which only several take.
+/// started for one that may wait, it works in this thread behind the others. For one that may not, all are told to leave,
+/// and what is left of the work is done in this thread. It takes no memory of an allocator. It answers all after their
+/// work, and whether a thread was missed, which only several take.
 pub(crate) fn run_all<R: Threads + Wait + Sync, C: Sync, T: Parallel<C> + Send + Drop>(
     rt: &R,
     shared: &C,
@@ -120,6 +183,6 @@ pub(crate) fn run_all<R: Threads + Wait + Sync, C: Sync, T: Parallel<C> + Send +
             ensures room { vec_capacity result.0 ≡ vec_capacity workers }
             ensures worked { HaveWorked (T.did shared.entry.now) (T.quit shared.entry.now) workers.items result.0.items result.1 }
             ensures quits { result.1 ≡ true → OneWent (T.quit shared.entry.now) workers.items result.0.items }
-        { run_from(rt, scope, shared, workers) },
+        { run_in(rt, scope, shared, workers) },
     )
 }

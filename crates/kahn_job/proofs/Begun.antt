@@ -1,51 +1,73 @@
 -- Jobs before their first events.
-use Rattle.kahn_job.proofs.Common.{arith, replicate, ◌≡◌, ℕ, ◌<◌, List, length, refl, sym, ap, ◌∙◌, subst, Option, Some, slice_get, slice_index_or, Program, Actual, Reads, Writes, Hands, network_of, instance_at, actual_at, IsWellWired, reads_listed, writes_listed, AreInputsExtended, Lists, inputs_of, prefix_refl, Joins, End, Serves, end_at, Work, HaveSettled, IsIdle, cells_of, rows_of, end_in, AreFirst, AreOpening, IsFresh, IsOpening, no_end}
+use Rattle.kahn_job.proofs.Common.{arith, ◌≡◌, ℕ, ◌<◌, List, length, refl, sym, ap, ◌∙◌, subst, Option, None, Some, none-some, same_Some, slice_get, slice_index_or, Program, Actual, Reads, Writes, Hands, network_of, instance_at, actual_at, IsWellWired, reads_listed, writes_listed, AreInputsExtended, Lists, inputs_of, prefix_refl, Joins, End, Serves, end_at, Work, HaveSettled, IsIdle, cells_of, rows_of, end_in, AreOpening, HaveNoEnds, IsFresh, IsOpening, no_end, Waiting, IsAhead, ServesAt, AreJobsAt, Told}
+use Rattle.kahn_streams.specs.Syntax.{Constant}
 use Rattle.kahn_streams.proofs.Entered.{none_of}
+use Rattle.std.proofs.lemmas.Option.{slice_get-map}
+use Rattle.std.specs.Prelude.{option_map}
 use Rattle.std.proofs.lemmas.List.{length-map, length-replicate}
 use Rattle.kahn_job.proofs.Handed.{AreHanded}
 use Rattle.kahn_job.proofs.Idles.{cell_there, cells_count, each_row, past, row_there, settled_rest}
 
--- the job of instance p before its first event, whose parameters have no ends yet
-abbrev pub HasNoEnds : Program → Lists → Option ℕ → ℕ → Work → Type 0
-HasNoEnds t lists watch p w = IsOpening t lists watch p w.cell × (w.ends ≡ replicate (length (instance_at (network_of t) p).actuals) no_end)
-
--- so for all instances
-abbrev pub HaveNoEnds : Program → Lists → Option ℕ → List Work → Type 0
-HaveNoEnds t lists watch ws = AreFirst (HasNoEnds t lists watch) ws (length (network_of t).instances)
-
-pub all_bare : (t : Program) (lists : Lists) (watch : Option ℕ) (ws : List Work) → HaveNoEnds t lists watch ws → AreHanded t lists 0 (rows_of ws)
-all_bare t lists watch ws h = record {
+pub all_bare : (t : Program) (lists : Lists) (watch : Option ℕ) (so : Actual → End → Type 0) (whole : End → Type 0) → whole no_end → (ws : List Work) →
+    HaveNoEnds t lists watch ws → AreHanded t so whole 0 (rows_of ws)
+all_bare t lists watch so whole none ws h = record {
   count = length-map ws (λ (w : Work). w.ends) ∙ h.count;
   sizes = each_row ws (λ p es. length es ≡ length (instance_at (network_of t) p).actuals) (λ p w e. ap (λ (r : List End). length r) (h.each p w e).1 ∙ length-replicate _ no_end)
       (λ p l. sym (ap (λ i. length i.actuals) (past t ws h.count p l)));
   each = λ p q d j l. absurd (omega (arith, l));
   joined = λ d l. absurd (omega (arith, l));
-  fresh = λ p q. each_row ws (λ p es. IsFresh (end_at es q)) (λ p w e. subst IsFresh (sym (ap (λ r. end_at r q) (h.each p w e).1 ∙ none_of _ q no_end)) (refl, refl))
-      (λ p l. (refl, refl)) p;
+  every = λ p q. each_row ws (λ p es. whole (end_at es q)) (λ p w e. subst whole (sym (ap (λ r. end_at r q) (h.each p w e).1 ∙ none_of _ q no_end)) none) (λ p l. none) p;
 }
 
-all_served : (t : Program) (wired : IsWellWired t) (lists : Lists) (p q : ℕ) (e : End) (a : Actual) → actual_at (instance_at (network_of t) p) q ≡ a →
-    ((d : ℕ) → Joins a d → d < length (network_of t).channels → Serves t lists a e) → Serves t lists a e
-all_served t wired lists p q e (Reads d) i h = h d refl (reads_listed t wired p q d i)
-all_served t wired lists p q e (Writes d) i h = h d refl (writes_listed t wired p q d i)
-all_served t wired lists p q e (Hands v) i h = tt
+all_so : (t : Program) (wired : IsWellWired t) (so : Actual → End → Type 0) → ((v : Constant) (e : End) → so (Hands v) e) → (p q : ℕ) (e : End) (a : Actual) →
+    actual_at (instance_at (network_of t) p) q ≡ a → ((d : ℕ) → Joins a d → d < length (network_of t).channels → so a e) → so a e
+all_so t wired so none p q e (Reads d) i h = h d refl (reads_listed t wired p q d i)
+all_so t wired so none p q e (Writes d) i h = h d refl (writes_listed t wired p q d i)
+all_so t wired so none p q e (Hands v) i h = none v e
 
 -- they are ends for this input, on which nothing was put
-pub handed_settled : (t : Program) (wired : IsWellWired t) (lists : Lists) (rows : List (List End)) → AreHanded t lists (length (network_of t).channels) rows →
+pub handed_settled : (t : Program) (wired : IsWellWired t) (lists : Lists) (rows : List (List End)) → AreHanded t (Serves t lists) IsFresh (length (network_of t).channels) rows →
     HaveSettled t lists rows
 handed_settled t wired lists rows h = record {
   served = λ p. record {
     count = h.sizes p;
-    each = λ q. all_served t wired lists p q (end_in rows p q) (actual_at (instance_at (network_of t) p) q) refl (h.each p q);
-    behind = λ q. let flushed = (h.fresh p q).1 in omega (arith, flushed);
+    each = λ q. all_so t wired (Serves t lists) (λ v e. tt) p q (end_in rows p q) (actual_at (instance_at (network_of t) p) q) refl (h.each p q);
+    behind = λ q. let flushed = (h.every p q).1 in omega (arith, flushed);
   };
-  flushed = λ p q d i o w. (h.fresh p q).1 ∙ sym (h.fresh p q).0;
+  flushed = λ p q d i o w. (h.every p q).1 ∙ sym (h.every p q).0;
   joined = λ d p r o q i j. h.joined d (writes_listed t wired p o d i) p r o q i j;
 }
 
+-- a cell is that of a job
+job_there : (ws : List Work) (p : ℕ) (c : Told) → slice_get (cells_of ws) p ≡ Some c → (w : Work) × (slice_get ws p ≡ Some w) × (c ≡ w.cell)
+job_there ws p c e = by (slice_get ws p) refl (sym e ∙ slice_get-map (λ (w : Work). w.cell) ws p)
+  where
+    by : (o : Option Work) → slice_get ws p ≡ o → Some c ≡ option_map (λ (w : Work). w.cell) o → (w : Work) × (slice_get ws p ≡ Some w) × (c ≡ w.cell)
+    by None i h = absurd (none-some _ (sym h))
+    by (Some w) i h = (w, i, same_Some _ _ h)
+
+-- bare jobs that were handed ends which stand where these queues stand
+pub all_at : (t : Program) (wired : IsWellWired t) (lists : Lists) (watch : Option ℕ) (queues : List Waiting) (bare ws : List Work) → HaveNoEnds t lists watch bare →
+    cells_of ws ≡ cells_of bare → AreHanded t (ServesAt t lists queues) IsAhead (length (network_of t).channels) (rows_of ws) → AreJobsAt t lists queues ws
+all_at t wired lists watch queues bare ws b cells h = record {
+  count = cells_count ws bare cells ∙ b.count;
+  each = λ p c e.
+      let w = job_there bare p c (subst (λ cs. slice_get cs p ≡ Some c) cells e) in
+      let o = (b.each p w.0 w.1).0 in (ap (λ (c : Told). c.network) w.2 ∙ o.network, ap (λ (c : Told). c.instance) w.2 ∙ o.instance);
+  settled = record {
+    served = λ p. record { count = h.sizes p; each = λ q. (each p q).0; behind = λ q. (h.every p q).0 };
+    flushed = λ p q d i o. (h.every p q).1;
+    joined = λ d p r o q i j. h.joined d (writes_listed t wired p o d i) p r o q i j;
+  };
+  at = λ p q. (each p q).1;
+}
+  where
+    each : (p q : ℕ) → ServesAt t lists queues (actual_at (instance_at (network_of t) p) q) (end_in (rows_of ws) p q)
+    each p q = all_so t wired (ServesAt t lists queues) (λ v e. (tt, tt)) p q (end_in (rows_of ws) p q) (actual_at (instance_at (network_of t) p) q) refl (h.each p q)
+
 -- bare jobs that were handed their ends
 pub all_opening : (t : Program) (wired : IsWellWired t) (lists : Lists) (watch : Option ℕ) (bare ws : List Work) → HaveNoEnds t lists watch bare → cells_of ws ≡ cells_of bare →
-    AreHanded t lists (length (network_of t).channels) (rows_of ws) → AreOpening t lists watch ws
+    AreHanded t (Serves t lists) IsFresh (length (network_of t).channels) (rows_of ws) → AreOpening t lists watch ws
 all_opening t wired lists watch bare ws b cells h = record {
   idle = record { count = cells_count ws bare cells ∙ b.count; each = idle; resting = settled_rest t lists (rows_of ws) h.count settled };
   settled = settled;
@@ -61,7 +83,7 @@ all_opening t wired lists watch bare ws b cells h = record {
     idle : (p : ℕ) (w : Work) → slice_get ws p ≡ Some w → IsIdle t lists p w
     idle p w e =
         let o = opening p w e in
-        let new : (q : ℕ) → (end_at w.ends q).next ≡ 0 = λ q. ap (λ es. (end_at es q).next) (sym (row_there ws p w e)) ∙ (h.fresh p q).0 in
+        let new : (q : ℕ) → (end_at w.ends q).next ≡ 0 = λ q. ap (λ es. (end_at es q).next) (sym (row_there ws p w e)) ∙ (h.every p q).0 in
         record {
           network = o.network;
           grown = subst (λ l. AreInputsExtended (inputs_of l) (inputs_of lists)) (sym o.input) (λ c. prefix_refl (inputs_of lists c));

@@ -1,12 +1,13 @@
 -- The names of specs and of the crates below that several proofs cite, passed on from one place.
-pub use Rattle.std.proofs.Common.{Bool, Err, IfSome, List, None, Ok, OnErr, OnOk, Option, Result, Some, [], ap, arith, false, inl, inr, length, map, refl, replicate, rules, slice_get, slice_index_or, slice_set, subst, suc, sym, take, true, zero, ℕ, ⊎_elim, ◌+◌, ◌<◌, ◌∙◌, ◌∷◌, ◌≡◌, ◌≤◌, ◌⊎◌}
+pub use Rattle.std.proofs.Common.{Bool, Err, IfSome, List, None, Ok, OnErr, OnOk, Option, Result, Some, [], ap, arith, drop, false, inl, inr, length, map, refl, replicate, rules, slice_get, slice_index_or, slice_set, subst, suc, sym, take, true, zero, ℕ, ⊎_elim, ◌+◌, ◌++◌, ◌<◌, ◌∙◌, ◌∷◌, ◌≡◌, ◌≤◌, ◌⊎◌}
 pub use Rattle.std.proofs.lemmas.Bool.{cases_eq, cases_lt}
 pub use Rattle.std.proofs.lemmas.List.{get_or-set_other, get_or-set_same, get_or_past, length-set}
 pub use Rattle.std.proofs.lemmas.Option.{none-some, same_Some, slice_get_within}
 pub use Rattle.std.specs.Vec.{vec_capacity}
 pub use Rattle.kahn_code.proofs.Lists.{AreFirst, none_first, one_first}
-pub use Rattle.kahn_code.specs.Lines.{Joins}
+pub use Rattle.kahn_code.specs.Lines.{Joins, Waiting}
 pub use Rattle.kahn_code.specs.Standing.{Grows, Site}
+pub use Rattle.kahn_code.specs.inner.{Gone.nothing_gone, Tapped.Tapped}
 pub use Rattle.kahn_code.specs.Progress.{IsAt, IsSameProcess, IsStill, Told, site_of, told_view}
 pub use Rattle.kahn_lane.specs.LaneEnds.{left, receiver_lane}
 pub use Rattle.kahn_lane.specs.Places.{lane_name, moved_to}
@@ -25,8 +26,8 @@ pub use Rattle.kahn_streams.specs.declared.tree.Role.TheVariants.{Inner, Input, 
 pub use Rattle.kahn_streams.specs.inner.Sources.{IsFed}
 pub use Rattle.kahn_job.specs.inner.Berths.{AreServed, HasStayed, HaveAdvanced, HaveFlushed, IsWithinInput, Serves, end_at, identities, AreBehindOn, AreJoinedOn, AreSoOn, HasPlace, HaveStayed, end_in, end_of_side}
 pub use Rattle.kahn_job.specs.inner.Ends.{End, HasRoom, Identity, IsBehind, IsFlushed, IsSame, Lane, ShareLane, identity_of}
-pub use Rattle.kahn_job.specs.inner.Idles.{AreIdle, CanGoOn, HaveMet, HaveSettled, IsIdle, cells_of, rows_of, AreEndsOf, AreOpening, IsFresh, IsOpening, placed}
+pub use Rattle.kahn_job.specs.inner.Idles.{AreIdle, CanGoOn, HaveMet, HaveSettled, IsIdle, cells_of, rows_of, AreEndsOf, AreEndsSo, AreEndsAt, AreSamePlaces, tolds_of, AreJobsAt, HasNoEnds, HaveNoEnds, IsAhead, ServesAt, StandsByQueue, AreOpening, IsFresh, IsOpening, placed}
 pub use Rattle.kahn_job.specs.inner.Settling.{AreElsewhere, AreResting, AreSettled, BothSettle, CanFeed, CanSettle, GoesOrStays, HasExchanged, HasSettled, HasStood, HaveExchanged, HaveStood, IsCarried, IsOfBefore, ServedBefore}
 pub use Rattle.kahn_job.specs.inner.Tasks.{Continues, IsTrueOf, Tasked, standing_after}
 pub use Rattle.kahn_job.specs.inner.Ways.{end_of, feeding, no_end, putting}
-pub use Rattle.kahn_job.specs.inner.Works.{HasPaused, IsJob, Work, width_of}
+pub use Rattle.kahn_job.specs.inner.Works.{HasPaused, IsJob, IsSamePlace, Work, width_of}

@@ -1,15 +1,15 @@
 -- The ends of a channel come to the parameters that it is handed to.
-use Rattle.kahn_job.proofs.Common.{arith, ◌≡◌, ◌⊎◌, inl, inr, ℕ, ◌+◌, ◌<◌, List, [], length, refl, sym, ap, ◌∙◌, subst, true, false, Option, Some, None, IfSome, slice_set, slice_index_or, cases_eq, length-set, get_or-set_same, get_or-set_other, none-some, same_Some, Program, Role, Side, Inner, Input, Output, Network, Actual, Reads, Writes, Hands, network_of, instance_at, actual_at, role_at, IsWriter, IsReader, IsOnly, IsWithin, IsWellWired, side_at, IsFed, handed_within, reads, writes, Lists, is_output, Joins, End, ShareLane, Serves, end_at, AreJoinedOn, HasPlace, end_in, AreEndsOf, IsFresh, no_end, placed}
+use Rattle.kahn_job.proofs.Common.{arith, ◌≡◌, ◌⊎◌, inl, inr, ℕ, ◌+◌, ◌<◌, List, [], length, refl, sym, ap, ◌∙◌, subst, true, false, Option, Some, None, IfSome, slice_set, slice_index_or, cases_eq, length-set, get_or-set_same, get_or-set_other, none-some, same_Some, Program, Role, Side, Inner, Input, Output, Network, Actual, Reads, Writes, Hands, network_of, instance_at, actual_at, role_at, IsWriter, IsReader, IsOnly, IsWithin, IsWellWired, side_at, IsFed, handed_within, reads, writes, Lists, is_output, Joins, End, ShareLane, Serves, end_at, AreJoinedOn, HasPlace, end_in, AreEndsOf, AreEndsSo, IsFresh, no_end, placed}
 use Rattle.kahn_job.proofs.Settles.{is_inner}
 
--- a row for each instance, in which the parameters have the ends of the first k channels
-pub record AreHanded (t : Program) (lists : Lists) (k : ℕ) (rows : List (List End)) : Type 0 where
+-- a row for each instance, in which the parameters have the ends of the first k channels, and what is so of those and of all
+pub record AreHanded (t : Program) (so : Actual → End → Type 0) (whole : End → Type 0) (k : ℕ) (rows : List (List End)) : Type 0 where
   pub count : length rows ≡ length (network_of t).instances
   pub sizes : (p : ℕ) → length (slice_index_or rows p []) ≡ length (instance_at (network_of t) p).actuals
   pub each : (p q d : ℕ) → Joins (actual_at (instance_at (network_of t) p) q) d → d < k →
-      Serves t lists (actual_at (instance_at (network_of t) p) q) (end_in rows p q)
+      so (actual_at (instance_at (network_of t) p) q) (end_in rows p q)
   pub joined : (d : ℕ) → d < k → AreJoinedOn (network_of t) rows d
-  pub fresh : (p q : ℕ) → IsFresh (end_in rows p q)
+  pub every : (p q : ℕ) → whole (end_in rows p q)
 
 -- a parameter has the new end or the old one
 abbrev pub Found : List (List End) → Option Side → End → ℕ → ℕ → Type 0
@@ -55,10 +55,11 @@ placed_sizes rows (Some s) e h p = by (cases_eq p s.instance)
         ap (λ k. length (slice_index_or (slice_set rows s.instance row) k [])) x ∙ ap (λ (r : List End). length r) (get_or-set_same rows s.instance row [] h.0) ∙
         length-set (slice_index_or rows s.instance []) s.parameter e ∙ ap (λ k. length (slice_index_or rows k [])) (sym x)
 
-pub has_place : (t : Program) (lists : Lists) (k : ℕ) (rows : List (List End)) (side : Option Side) (P : Side → Type 0) → AreHanded t lists k rows →
+pub has_place : (t : Program) (so : Actual → End → Type 0) (whole : End → Type 0) (k : ℕ) (rows : List (List End)) (side : Option Side) (P : Side → Type 0) →
+    AreHanded t so whole k rows →
     ((s : Side) → P s → IsWithin (network_of t) s) → IsOnly P side → IfSome side (HasPlace rows)
-has_place t lists k rows None P h w only = tt
-has_place t lists k rows (Some s) P h w only =
+has_place t so whole k rows None P h w only = tt
+has_place t so whole k rows (Some s) P h w only =
     let i = w s only.0 in (subst (λ n. s.instance < n) (sym h.count) i.0, subst (λ n. s.parameter < n) (sym (h.sizes s.instance)) i.1)
 
 -- a place is there after another end came
@@ -83,33 +84,42 @@ not_output Output n e = let h : true ≡ false = e in absurd cc
 pub inner_is_not_input : {r : Role} → r ≡ Inner → r ≡ Input → ⊥
 inner_is_not_input a b = let e : Inner ≡ Input = sym a ∙ b in absurd cc
 
-module _ (t : Program) (wired : IsWellWired t) (lists : Lists) (c : ℕ) (x y : End) (e : AreEndsOf t lists c x y) where
+-- the ends of a new lane
+pub ends_so : (t : Program) (lists : Lists) (c : ℕ) (x y : End) → AreEndsOf t lists c x y → AreEndsSo t (Serves t lists) IsFresh c x y
+ends_so t lists c x y e = record {
+  puts = λ n o. let z = e.puts (not_output (role_at (network_of t) c) n o) in (z.0, z.1);
+  takes = e.takes;
+  lane = λ i. (e.puts i).2;
+  every = e.fresh;
+}
+
+module _ (t : Program) (wired : IsWellWired t) (so : Actual → End → Type 0) (whole : End → Type 0) (c : ℕ) (x y : End) (e : AreEndsSo t so whole c x y) where
   abbrev N : Network
   N = network_of t
 
-  serves_reader : (p q : ℕ) → actual_at (instance_at N p) q ≡ Reads c → Serves t lists (actual_at (instance_at N p) q) y
-  serves_reader p q r = subst (λ a. Serves t lists a y) (sym r) (e.takes (never (reads t wired p q c r)))
+  serves_reader : (p q : ℕ) → actual_at (instance_at N p) q ≡ Reads c → so (actual_at (instance_at N p) q) y
+  serves_reader p q r = subst (λ a. so a y) (sym r) (e.takes (never (reads t wired p q c r)))
     where
       never : IsFed N c → role_at N c ≡ Output → ⊥
       never (inl f) o = let e : Input ≡ Output = sym f.1 ∙ o in absurd cc
       never (inr f) o = let e : Inner ≡ Output = sym f.4 ∙ o in absurd cc
 
-  serves_writer : (p q : ℕ) → actual_at (instance_at N p) q ≡ Writes c → Serves t lists (actual_at (instance_at N p) q) x
-  serves_writer p q w = subst (λ a. Serves t lists a x) (sym w) (λ o. let z = e.puts (not_output (role_at N c) (writes t wired p q c w).1 o) in (z.0, z.1))
+  serves_writer : (p q : ℕ) → actual_at (instance_at N p) q ≡ Writes c → so (actual_at (instance_at N p) q) x
+  serves_writer p q w = subst (λ a. so a x) (sym w) (e.puts (writes t wired p q c w).1)
 
-  module _ (rows : List (List End)) (h : AreHanded t lists c rows) (w r : Option Side) (ow : IsOnly (IsWriter N c) w) (oo : IsOnly (IsReader N c) r) where
+  module _ (rows : List (List End)) (h : AreHanded t so whole c rows) (w r : Option Side) (ow : IsOnly (IsWriter N c) w) (oo : IsOnly (IsReader N c) r) where
     abbrev first : List (List End)
     first = placed rows w x
 
     pub place_w : IfSome w (HasPlace rows)
-    place_w = has_place t lists c rows w (IsWriter N c) h (λ s p. p.0) ow
+    place_w = has_place t so whole c rows w (IsWriter N c) h (λ s p. p.0) ow
 
     pub place_r : IfSome r (HasPlace first)
-    place_r = still_place rows w r x place_w (has_place t lists c rows r (IsReader N c) h (λ s p. p.0) oo)
+    place_r = still_place rows w r x place_w (has_place t so whole c rows r (IsReader N c) h (λ s p. p.0) oo)
 
     -- what was handed over before is none of this channel
     before : (p q d : ℕ) (a : Actual) → actual_at (instance_at N p) q ≡ a → (w ≡ Some (side_at p q) → ⊥) → (r ≡ Some (side_at p q) → ⊥) →
-        Joins a d → d < c + 1 → Serves t lists (actual_at (instance_at N p) q) (end_in rows p q)
+        Joins a d → d < c + 1 → so (actual_at (instance_at N p) q) (end_in rows p q)
     before p q d a is nw nr j l = by (cases_eq d c)
       where
         here : (a : Actual) → actual_at (instance_at N p) q ≡ a → Joins a c → ⊥
@@ -121,7 +131,7 @@ module _ (t : Program) (wired : IsWellWired t) (lists : Lists) (c : ℕ) (x y : 
             nw (only_one (IsWriter N c) w (side_at p q) ow (handed_within N p q c (subst (λ a. Joins a c) (sym i) j), at))
         here (Hands v) i j = j
 
-        by : (d ≡ c) ⊎ (d ≡ c → ⊥) → Serves t lists (actual_at (instance_at N p) q) (end_in rows p q)
+        by : (d ≡ c) ⊎ (d ≡ c → ⊥) → so (actual_at (instance_at N p) q) (end_in rows p q)
         by (inl s) = absurd (here a is (subst (Joins a) s j))
         by (inr n) = h.each p q d (subst (λ a. Joins a d) (sym is) j) (omega arith)
 
@@ -150,7 +160,7 @@ module _ (t : Program) (wired : IsWellWired t) (lists : Lists) (c : ℕ) (x y : 
         let i' : actual_at (instance_at N p) o ≡ Writes c = i ∙ ap Writes same in
         let j' : actual_at (instance_at N s) q ≡ Reads c = j ∙ ap Reads same in
         subst (λ z. ShareLane z (end_in (placed first r y) s q)) (sym (writer_end p o i' (found first r y place_r p o) (found rows w x place_w p o)))
-        (subst (λ z. ShareLane x z) (sym (reader_end s q j' (found first r y place_r s q))) (e.puts (is_inner t wired c p o s q i' j')).2)
+        (subst (λ z. ShareLane x z) (sym (reader_end s q j' (found first r y place_r s q))) (e.lane (is_inner t wired c p o s q i' j')))
     both_ends d l (inr n) p s o q i j =
         subst (λ z. ShareLane z (end_in (placed first r y) s q))
         (sym (else_end p o d (subst (λ a. Joins a d) (sym i) refl) n (found first r y place_r p o) (found rows w x place_w p o)))
@@ -158,27 +168,27 @@ module _ (t : Program) (wired : IsWellWired t) (lists : Lists) (c : ℕ) (x y : 
         (sym (else_end s q d (subst (λ a. Joins a d) (sym j) refl) n (found first r y place_r s q) (found rows w x place_w s q)))
         (h.joined d (omega arith) p s o q i j))
 
-    pub handed_more : AreHanded t lists (c + 1) (placed first r y)
+    pub handed_more : AreHanded t so whole (c + 1) (placed first r y)
     handed_more = record {
       count = placed_count first r y ∙ placed_count rows w x ∙ h.count;
       sizes = λ p. placed_sizes first r y place_r p ∙ placed_sizes rows w x place_w p ∙ h.sizes p;
       each = λ p q d j l. at p q d j l (found first r y place_r p q) (found rows w x place_w p q);
       joined = λ d l. both_ends d l (cases_eq d c);
-      fresh = λ p q. new p q (found first r y place_r p q) (found rows w x place_w p q);
+      every = λ p q. new p q (found first r y place_r p q) (found rows w x place_w p q);
     }
       where
         at : (p q d : ℕ) → Joins (actual_at (instance_at N p) q) d → d < c + 1 → Found first r y p q → Found rows w x p q →
-            Serves t lists (actual_at (instance_at N p) q) (end_in (placed first r y) p q)
+            so (actual_at (instance_at N p) q) (end_in (placed first r y) p q)
         at p q d j l (inl a) b =
-            subst (λ z. Serves t lists (actual_at (instance_at N p) q) z) (sym a.1)
+            subst (λ z. so (actual_at (instance_at N p) q) z) (sym a.1)
             (serves_reader p q (only_passes (IsReader N c) r (side_at p q) oo a.0).1)
         at p q d j l (inr a) (inl b) =
-            subst (λ z. Serves t lists (actual_at (instance_at N p) q) z) (sym (a.1 ∙ b.1))
+            subst (λ z. so (actual_at (instance_at N p) q) z) (sym (a.1 ∙ b.1))
             (serves_writer p q (only_passes (IsWriter N c) w (side_at p q) ow b.0).1)
         at p q d j l (inr a) (inr b) =
-            subst (λ z. Serves t lists (actual_at (instance_at N p) q) z) (sym (a.1 ∙ b.1)) (before p q d _ refl b.0 a.0 j l)
+            subst (λ z. so (actual_at (instance_at N p) q) z) (sym (a.1 ∙ b.1)) (before p q d _ refl b.0 a.0 j l)
 
-        new : (p q : ℕ) → Found first r y p q → Found rows w x p q → IsFresh (end_in (placed first r y) p q)
-        new p q (inl a) b = subst IsFresh (sym a.1) e.fresh.1
-        new p q (inr a) (inl b) = subst IsFresh (sym (a.1 ∙ b.1)) e.fresh.0
-        new p q (inr a) (inr b) = subst IsFresh (sym (a.1 ∙ b.1)) (h.fresh p q)
+        new : (p q : ℕ) → Found first r y p q → Found rows w x p q → whole (end_in (placed first r y) p q)
+        new p q (inl a) b = subst whole (sym a.1) e.every.1
+        new p q (inr a) (inl b) = subst whole (sym (a.1 ∙ b.1)) e.every.0
+        new p q (inr a) (inr b) = subst whole (sym (a.1 ∙ b.1)) (h.every p q)

@@ -8,3 +8,4 @@ pub mod Begun
 pub mod Fed
 pub mod Trues
 pub mod Crossing
+pub mod Seated

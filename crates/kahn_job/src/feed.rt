@@ -17,18 +17,18 @@ pub(crate) struct Feed {
 }
 
 impl Feed {
-    /// The list of an input channel from its first value on, of the network and the input that are named.
-    pub(crate) fn of(_network: &Network, _input: &Input, channel: usize) -> Feed
+    /// The list of an input channel from a place on, of the network and the input that are named.
+    pub(crate) fn of(_network: &Network, _input: &Input, channel: usize, next: u64) -> Feed
         ghost names: { Names }
         requires inside { channel < length (network_of names.network).channels }
         requires given { role_at (network_of names.network) channel ≡ InputRole }
-        ensures { (result.network.value ≡ names.network) × (result.input.value ≡ names.input) × (result.channel ≡ channel) × (result.next ≡ 0) }
+        ensures { (result.network.value ≡ names.network) × (result.input.value ≡ names.input) × (result.channel ≡ channel) × (result.next ≡ next) }
     {
         Feed {
             network: About::named(),
             input: About::named(),
             channel,
-            next: 0,
+            next,
         }
     }
 

@@ -1,13 +1,14 @@
 //! The ends of parameters come and go, and those of a channel come to the parameters that it is handed to.
 
-ghost use Rattle.std.specs.Prelude.{◌≡◌, ◌<◌};
-ghost use Rattle.kahn_job.specs.inner.Words.{length, IfOk, IfSome, Some, network_of};
-ghost use Rattle.kahn_job.specs.inner.Idles.{cells_of, rows_of, AreEndsOf, placed};
+ghost use Rattle.std.specs.Prelude.{◌≡◌, ◌<◌, ◌≤◌, ◌+◌, ◌^◌, vec_capacity};
+ghost use Rattle.kahn_job.specs.inner.Words.{ℕ, Tapped, nothing_gone, [], length, map, replicate, slice_get, IfOk, IfSome, Some, network_of, lane_name, sender_lane, receiver_lane, sender_name, receiver_name, flushed, sent, received, taken_of, waiting_of, given_of};
+ghost use Rattle.kahn_job.specs.inner.Idles.{cells_of, rows_of, AreEndsAt, AreEndsOf, HaveFewTokens, AreSamePlaces, placed, tolds_of};
 ghost use Rattle.kahn_job.specs.inner.Berths.{HasPlace, end_of_side};
 
 use crate::idle::Idle;
 use crate::port::Port;
-use kahn_lane::lane;
+use kahn_code::{Plain, Tap};
+use kahn_lane::{Receiver, Sender, lane, lane_at};
 use kahn_streams::{Input, Network, NoMemory, Role, Side};
 use std::alloc::Global;
 
@@ -66,7 +67,89 @@ pub(crate) fn ends_of(
             Ok((sender, receiver)) => Ok((Port::puts(sender), Port::takes(receiver))),
             Err(_) => Err(NoMemory),
         },
-        Role::Input => Ok((Port::nothing(), Port::feeds(network, input, channel))),
+        Role::Input => Ok((Port::nothing(), Port::feeds(network, input, channel, 0))),
         Role::Output => Ok((Port::nothing(), Port::nothing())),
     }
+}
+
+// A lane that begins where a queue stands, with copies of the tokens that wait there.
+fn lane_of(
+    alloc: Global,
+    network: &Network,
+    input: &Input,
+    channel: usize,
+    queues: &Plain<Global>,
+) -> Result<(Sender, Receiver), NoMemory>
+    requires queues { (queues.now.network ≡ network.now) × (queues.now.input ≡ input.now) }
+    requires few { given_of (slice_get queues.now.queues channel) ≤ 2 ^ 48 }
+    ensures lane { IfOk result (λ r. sender_lane r.0 ≡ receiver_lane r.1) }
+    ensures sender { IfOk result (λ r. sender_name r.0 ≡ Some (lane_name network.now input.now channel)) }
+    ensures receiver { IfOk result (λ r. receiver_name r.1 ≡ Some (lane_name network.now input.now channel)) }
+    ensures taken { IfOk result (λ r. received r.1 ≡ taken_of (slice_get queues.now.queues channel)) }
+    ensures given { IfOk result (λ r. (sent r.0 ≡ given_of (slice_get queues.now.queues channel)) × (flushed r.0 ≡ sent r.0)) }
+{
+    let taken = queues.taken(channel);
+    let waiting = queues.waiting(channel);
+    let Ok((mut sender, receiver)) = lane_at(alloc, network, input, channel, taken) else {
+        return Err(NoMemory);
+    };
+    for number in 0..waiting {
+        sender.room()?;
+        sender.put(queues.token(channel, number));
+    }
+    let _flushed = sender.flush()?;
+    Ok((sender, receiver))
+}
+
+/// The ends of a channel, the writer's and the reader's, which stand where its queue stands.
+pub(crate) fn ends_at(
+    alloc: Global,
+    network: &Network,
+    input: &Input,
+    channel: usize,
+    queues: &Plain<Global>,
+) -> Result<(Port, Port), NoMemory>
+    requires here { channel < length (network_of network.now).channels }
+    requires queues { (queues.now.network ≡ network.now) × (queues.now.input ≡ input.now) }
+    requires few { HaveFewTokens network.now queues.now.queues }
+    ensures { IfOk result (λ r. AreEndsAt network.now input.now queues.now.queues channel r.0 r.1) }
+{
+    match network.channel(channel).role {
+        Role::Inner => {
+            let (sender, receiver) = lane_of(alloc, network, input, channel, queues)?;
+            Ok((Port::puts(sender), Port::takes(receiver)))
+        }
+        Role::Input => {
+            let taken = queues.taken(channel);
+            Ok((Port::nothing(), Port::feeds(network, input, channel, taken)))
+        }
+        Role::Output => Ok((Port::nothing(), Port::nothing())),
+    }
+}
+
+/// The jobs have the cells of these taps from now on, of the same instances, which have let go of nothing. It takes no memory.
+pub fn seat(idles: &mut Vec<Idle>, taps: Vec<Tap>)
+    requires count { length taps.items ≡ length idles.old.items }
+    requires places { AreSamePlaces (cells_of idles.old.items) (tolds_of taps.items) }
+    requires whole { (p : ℕ) (x : Tapped) → slice_get taps.items p ≡ Some x → x.gone ≡ nothing_gone }
+    ensures rows { rows_of idles.new.items ≡ rows_of idles.old.items }
+    ensures cells { cells_of idles.new.items ≡ tolds_of taps.items }
+{
+    let mut instance = 0;
+    for tap in taps {
+        idles[instance].seat(tap.into_cell());
+        instance += 1;
+    }
+}
+
+/// The taps of the jobs' cells, which have let go of nothing. The list that is given has room for all. It takes no memory.
+pub fn unseat(idles: Vec<Idle>, mut taps: Vec<Tap>) -> Vec<Tap>
+    requires room { (taps.items ≡ []) × (length idles.items ≤ vec_capacity taps) }
+    ensures tolds { tolds_of result.items ≡ cells_of idles.items }
+    ensures whole { map (λ x. x.gone) result.items ≡ replicate (length idles.items) nothing_gone }
+{
+    for idle in idles {
+        taps.push_reserved(idle.into_tap());
+    }
+    taps
 }

@@ -2,10 +2,11 @@
 
 ghost use Rattle.std.specs.Prelude.{◌≡◌, ◌<◌, length, map, slice_index_or, slice_set, [], IfOk};
 ghost use Rattle.kahn_job.specs.inner.Berths.{end_at};
-ghost use Rattle.kahn_job.specs.inner.Works.{width_of};
+ghost use Rattle.kahn_job.specs.inner.Words.{nothing_gone};
+ghost use Rattle.kahn_job.specs.inner.Works.{IsSamePlace, width_of};
 
 use crate::port::Port;
-use kahn_code::{Cell, Kept};
+use kahn_code::{Cell, Kept, Tap};
 use kahn_streams::{Carried, NoMemory};
 use std::alloc::Global;
 use std::marker::Model;
@@ -26,6 +27,7 @@ impl Model for Idle {
     ghost use Rattle.kahn_streams.specs.contracts.tree.Form as form;
     ghost use Rattle.std.specs.Prelude.{◌≡◌};
     ghost use Rattle.kahn_job.specs.inner.Words.{codes, length};
+    ghost use Rattle.kahn_job.specs.inner.Words.{nothing_gone};
     ghost use Rattle.kahn_job.specs.inner.Works.{Work, width_of};
 
     ghost Value = { Work };
@@ -70,6 +72,21 @@ impl Idle {
         ensures rest { self.new ≡ record self.old { ends = slice_set self.old.ends parameter port } }
     {
         mem::replace(&mut self.ports[parameter], port)
+    }
+
+    /// It has another cell of its instance from now on. It takes no memory.
+    pub(crate) fn seat(&mut self, cell: Cell)
+        requires { IsSamePlace self.old.cell cell }
+        ensures { self.new ≡ record self.old { cell = cell } }
+    {
+        self.cell = cell;
+    }
+
+    /// The tap of its cell, without the job. It takes no memory.
+    pub(crate) fn into_tap(self) -> Tap
+        ensures { (result.told ≡ self.cell) × (result.gone ≡ nothing_gone) }
+    {
+        Tap::of(self.cell)
     }
 
     /// What its cell kept of what it sent by a parameter.

@@ -12,8 +12,9 @@ mod standing;
 mod task;
 
 // For the crates above.
+pub use handing::{seat, unseat};
 pub use idle::Idle;
-pub use opening::jobs;
+pub use opening::{jobs, jobs_at};
 pub use settling::{meet, settle};
 pub use standing::Standing;
 pub use task::Task;

@@ -2,13 +2,13 @@
 
 ghost use Rattle.std.specs.Prelude.{◌≡◌, ◌<◌};
 ghost use Rattle.kahn_job.specs.inner.Words.{length, replicate, IfOk, instance_at, network_of, Lists};
-ghost use Rattle.kahn_job.specs.inner.Idles.{AreOpening, IsOpening};
+ghost use Rattle.kahn_job.specs.inner.Idles.{HaveFewTokens, AreJobsAt, AreOpening, HaveNoEnds, IsOpening};
 ghost use Rattle.kahn_job.specs.inner.Ways.{no_end};
 
-use crate::handing::{ends_of, place};
+use crate::handing::{ends_at, ends_of, place};
 use crate::idle::Idle;
 use crate::port::Port;
-use kahn_code::{Cell, Code};
+use kahn_code::{Cell, Code, Plain};
 use kahn_streams::{Input, Network, NoMemory};
 use std::alloc::Global;
 
@@ -40,6 +40,24 @@ fn bare_job(
     Ok(Idle::new(cell, instance, ports, numbers))
 }
 
+// The jobs of all instances before their first events, in order, whose parameters have no ends yet.
+fn bare_jobs(
+    alloc: Global,
+    network: &Network,
+    input: &Input,
+    code: &Code,
+    watch: Option<usize>,
+) -> Result<Vec<Idle>, NoMemory>
+    requires { code.now.network.value ≡ network.now }
+    ensures { IfOk result (λ idles. HaveNoEnds network.now input.now watch idles.items) }
+{
+    let mut idles = Vec::new(alloc);
+    for instance in 0..network.instances() {
+        idles.push(bare_job(alloc, network, input, code, instance, watch)?)?;
+    }
+    Ok(idles)
+}
+
 /// The jobs of all instances before their first events, in order. Each inner channel has a new lane, whose ends are with
 /// the channel's writer and reader. It refuses only if memory was refused.
 pub fn jobs(
@@ -53,12 +71,35 @@ pub fn jobs(
     ensures { IfOk result (λ idles. AreOpening network.now input.now watch idles.items) }
 {
     let _program = network.program();
-    let mut idles = Vec::new(alloc);
-    for instance in 0..network.instances() {
-        idles.push(bare_job(alloc, network, input, code, instance, watch)?)?;
-    }
+    let mut idles = bare_jobs(alloc, network, input, code, watch)?;
     for channel in 0..network.channels() {
         let (writer, reader) = ends_of(alloc, network, input, channel)?;
+        place(&mut idles, network.writer(channel), writer);
+        place(&mut idles, network.reader(channel), reader);
+    }
+    Ok(idles)
+}
+
+/// Jobs of all instances, in order, whose ends stand where these queues stand, and whose cells are to come: those that they
+/// have are at their openings. Each inner channel has a new lane with copies of the tokens that wait in its queue. It refuses
+/// only if memory was refused.
+pub fn jobs_at(
+    alloc: Global,
+    network: &Network,
+    input: &Input,
+    code: &Code,
+    watch: Option<usize>,
+    queues: &Plain<Global>,
+) -> Result<Vec<Idle>, NoMemory>
+    requires code { code.now.network.value ≡ network.now }
+    requires queues { (queues.now.network ≡ network.now) × (queues.now.input ≡ input.now) }
+    requires few { HaveFewTokens network.now queues.now.queues }
+    ensures { IfOk result (λ idles. AreJobsAt network.now input.now queues.now.queues idles.items) }
+{
+    let _program = network.program();
+    let mut idles = bare_jobs(alloc, network, input, code, watch)?;
+    for channel in 0..network.channels() {
+        let (writer, reader) = ends_at(alloc, network, input, channel, queues)?;
         place(&mut idles, network.writer(channel), writer);
         place(&mut idles, network.reader(channel), reader);
     }

@@ -66,13 +66,13 @@ impl Port {
         Port(Way::Takes(receiver, asked))
     }
 
-    /// The list of an input channel, from its first value on.
-    pub(crate) fn feeds(network: &Network, input: &Input, channel: usize) -> Port
+    /// The list of an input channel, from a place on.
+    pub(crate) fn feeds(network: &Network, input: &Input, channel: usize, next: u64) -> Port
         requires inside { channel < length (network_of network.now).channels }
         requires given { role_at (network_of network.now) channel ≡ InputRole }
-        ensures { result ≡ feeding network.now input.now channel 0 }
+        ensures { result ≡ feeding network.now input.now channel next }
     {
-        Port(Way::Feeds(Feed::of(network, input, channel)))
+        Port(Way::Feeds(Feed::of(network, input, channel, next)))
     }
 
     /// The writer's end of a lane.

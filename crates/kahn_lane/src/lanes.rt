@@ -96,9 +96,25 @@ pub fn lane<A: Allocator + Clone + Drop>(
     ensures name { IfOk result (λ r. AreEndsNamed (Some (lane_name network.now input.now channel)) r.0 r.1) }
     ensures start { IfOk result (λ r. HavePassed 0 r.0 r.1) }
 {
+    lane_at(alloc, network, input, channel, 0)
+}
+
+/// The two ends of a new lane for the tokens of a channel from a place on: those before it were put and taken elsewhere.
+pub fn lane_at<A: Allocator + Clone + Drop>(
+    alloc: A,
+    network: &Network,
+    input: &Input,
+    channel: usize,
+    place: u64,
+) -> Result<(Sender<A>, Receiver<A>), LaneFault>
+    requires { place ≤ 2 ^ 48 }
+    ensures lane { IfOk result (λ r. sender_lane r.0 ≡ receiver_lane r.1) }
+    ensures name { IfOk result (λ r. AreEndsNamed (Some (lane_name network.now input.now channel)) r.0 r.1) }
+    ensures start { IfOk result (λ r. HavePassed place r.0 r.1) }
+{
     let line = Line::Channel(channel);
-    let head = make_tag(network, input, line);
-    let tag = make_tag(network, input, line);
+    let head = make_tag(network, input, line, place);
+    let tag = make_tag(network, input, line, place);
     lane_from(alloc, head, tag)
 }
 

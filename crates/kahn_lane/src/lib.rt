@@ -18,7 +18,7 @@ mod settling;
 pub use ends::{Giver, Taker};
 pub use fault::LaneFault;
 pub use handover::relay;
-pub use lanes::{lane, meet};
+pub use lanes::{lane, lane_at, meet};
 pub use segments::{Receiver, Sender};
 
 // For the crates above.

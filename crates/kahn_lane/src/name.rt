@@ -40,12 +40,13 @@ fn tag_by<X, Y>(_x: &X, _y: &Y, line: Line, from: u64) -> Tag
     }
 }
 
-/// The tag of a line of this network, for this input, from its first place on.
-pub(crate) fn make_tag(network: &Network, input: &Input, line: Line) -> Tag
-    ensures here { (result.line ≡ line) × (result.from ≡ 0) }
+/// The tag of a line of this network, for this input, from this place on.
+pub(crate) fn make_tag(network: &Network, input: &Input, line: Line, from: u64) -> Tag
+    requires { from ≤ 2 ^ 48 }
+    ensures here { (result.line ≡ line) × (result.from ≡ from) }
     ensures names { (result.network.value ≡ network.now) × (result.input.value ≡ input.now) }
 {
-    tag_by(network, input, line, 0)
+    tag_by(network, input, line, from)
 }
 
 /// The tag of the same line and network for another input, from this place on.

@@ -32,7 +32,7 @@ module _ (b : Table) (laid : IsLaid b) where
   pub viewed : (p : ℕ) (c : Told) → slice_get b.cells p ≡ Some c → view_at views p ≡ told_view c
   viewed p c e = mapped told_view b.cells p c no_view e
 
-  actual_same : (p q : ℕ) (c : Told) → IsSeated b p c → actual_at (instance_at (network_of c.network) c.instance) q ≡ actual_at (instance_at N p) q
+  pub actual_same : (p q : ℕ) (c : Told) → IsSeated b p c → actual_at (instance_at (network_of c.network) c.instance) q ≡ actual_at (instance_at N p) q
   actual_same p q c s =
       ap (λ t. actual_at (instance_at (network_of t) c.instance) q) s.network ∙ ap (λ i. actual_at (instance_at N i) q) s.instance
 

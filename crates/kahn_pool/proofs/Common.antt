@@ -10,7 +10,7 @@ pub use Rattle.kahn_code.specs.Progress.{IsPause, Paused}
 pub use Rattle.kahn_code.specs.Lines.{Waiting}
 pub use Rattle.kahn_code.specs.Standing.{LeavesOthers, Site}
 pub use Rattle.kahn_code.specs.Standing.{count, tokens}
-pub use Rattle.kahn_code.specs.Progress.{IsAt, IsStill, Told, site_of, told_view}
+pub use Rattle.kahn_code.specs.Progress.{AreCounts, IsAt, IsStill, Told, site_of, told_view}
 pub use Rattle.kahn_code.specs.declared.{cell.Kept.Kept, progress.Pause.Pause}
 pub use Rattle.kahn_code.specs.inner.Gone.{Gone, kept_behind, nothing_gone}
 pub use Rattle.kahn_code.specs.inner.Tapped.{HasForgotten, Tapped, regrown_tap}
@@ -20,12 +20,12 @@ pub use Rattle.kahn_crew.specs.declared.{closing.CrewFault.CrewFault, closing.Cr
 pub use Rattle.kahn_crew.specs.inner.Left.{AreAll, AreUntouched, HaveGone, IsLack, IsOver, IsQuietTask, task_events}
 pub use Rattle.kahn_crew.specs.inner.Tasks.{AreReadyTasks, handed_to_task, is_over, task_rows, told_tale, work_of}
 pub use Rattle.kahn_job.proofs.Berthed.{past_none}
-pub use Rattle.kahn_job.proofs.Idles.{all_idle, idle_grown, idle_met, idle_still, row_there}
+pub use Rattle.kahn_job.proofs.Idles.{all_idle, idle_grown, idle_met, idle_still, row_there, settled_rest}
 pub use Rattle.kahn_job.proofs.Settles.{same_lanes}
 pub use Rattle.kahn_job.specs.declared.{standing.Standing.Standing}
 pub use Rattle.kahn_job.specs.inner.Berths.{IsWithinInput, Serves, end_at}
 pub use Rattle.kahn_job.specs.inner.Ends.{IsBehind, IsReady}
-pub use Rattle.kahn_job.specs.inner.Idles.{AreIdle, HaveMet, cells_of, rows_of}
+pub use Rattle.kahn_job.specs.inner.Idles.{HaveFewTokens, AreIdle, AreJobsAt, HaveSettled, IsIdle, AreSamePlaces, HaveMet, StandsByQueue, cells_of, rows_of, tolds_of}
 pub use Rattle.kahn_job.proofs.Idles.{AreJoinedJobs}
 pub use Rattle.kahn_job.specs.inner.Berths.{AreBehindOn, AreJoinedOn, end_in}
 pub use Rattle.kahn_job.specs.inner.Idles.{IsOpening}
@@ -38,10 +38,10 @@ pub use Rattle.kahn_pool.specs.declared.{held_fault.HeldFault.HeldFault, part.St
 pub use Rattle.kahn_pool.specs.inner.Bench.{AreEnds, AreStreams, HasEndIn, HasRunCell, IsConcluded, IsLast, IsPaused, IsVerdict, LacksMemory, PausedAt, RunState, all_events, events_at, view_events}
 pub use Rattle.kahn_pool.specs.inner.FlowBench.{AreLent, IsFlowOf, flow_of, let_go_by, let_go_of, run_of_bench}
 pub use Rattle.kahn_pool.specs.inner.Gathered.{IsFrom, IsGiven, IsOutcomeOf, TookAll, TookNoMore, no_view, view_at}
-pub use Rattle.kahn_pool.specs.inner.Holding.{AreEnded, AreHeld, AreHeldBy, HasEnded, HasRisen, HasStopped, HasStoppedPart, HaveRisen, IsHolding, cell_alone, held_state, run_of, run_with}
+pub use Rattle.kahn_pool.specs.inner.Holding.{AreEnded, AreHeld, AreHeldBy, HasEnded, HasRisen, HasStopped, HasStoppedPart, HaveRisen, IsHandRoomFor, IsHolding, cell_alone, cell_for, held_state, run_of, run_with}
 pub use Rattle.kahn_pool.specs.inner.Rested.{AreEndsOfTasks, AreTold, IsDryOf, IsEndOf, IsLentTo, IsSaid, IsSettledTask, IsToldAs, SettlesTo, cell_of}
 pub use Rattle.kahn_pool.specs.inner.Streams.{AreAllGiven, AreGiven, AreLists, AreNamed, HaveChanged, IsBegun, IsDeclared, IsFilled, IsFilledStream, IsOpenStream, KeepsOtherLines, OpensWith, kept_in, kept_lists, printed_in, printed_list}
-pub use Rattle.kahn_pool.specs.inner.Workbench.{AllStandBy, AreKeptOf, AreOpen, AreOpeningCells, AreStreamsReady, AreWhole, HasAdvanced, HasEmptied, HasComeToRest, HasTakenIn, HasTakenTurn, HasWorked, IsInRound, IsLaid, IsLeft, IsRightAlone, IsSeated, Marked, MayRun, StandsAsTold, Table, actual_count, all_of, gone_in, parameter_count, sight_of, table_of, told_in, turn_of, weight}
+pub use Rattle.kahn_pool.specs.inner.Workbench.{AllStandBy, AreKeptOf, AreOpen, AreOpeningCells, AreStreamsReady, AreWhole, HasAdvanced, HasEmptied, HasComeToRest, HasTakenIn, HasTakenTurn, HasWorked, IsInRound, IsLaid, IsLeft, IsRightAlone, IsSeated, IsBenchOf, IsWide, Marked, MayGoOn, MayRun, StandsAsTold, Table, actual_count, all_of, gone_in, parameter_count, seated_with, sight_of, table_of, told_in, turn_of, vacant_of, weight}
 pub use Rattle.kahn_streams.proofs.By_number.{there}
 pub use Rattle.kahn_streams.proofs.Dry.{dry_reads}
 pub use Rattle.kahn_streams.proofs.Entered.{none_of}

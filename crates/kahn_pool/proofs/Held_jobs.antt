@@ -1,6 +1,6 @@
 -- The jobs of a held run: how they become tasks, and how tasks come to rest.
 use Rattle.std.proofs.Common.{false, true, IsOk, arith, ◌≡◌, ℕ, ◌+◌, List, length, map, sum_by, sym, ap, ◌∙◌, subst, Some, slice_get, Bool, Option, Result, Err}
-use Rattle.kahn_pool.proofs.Common.{length-map, Program, network_of, AreInputsExtended, Lists, inputs_of, StoodBy, Told, told_view, AreIdle, AreJoinedJobs, HaveMet, cells_of, rows_of, AreJoinedOn, IsJob, Work, all_idle, idle_grown, idle_met, events_told, woken_task, Tasked, AreUntouched, HaveGone, task_events, told_tale, work_of, all_told, at_mapped, mapped_at, IsConcluded, seen_of, AreEnded, AreHeld, AreHeldBy, HasEnded, HasRisen, HasStoppedPart, HaveRisen, cell_alone, held_state, cell_of, RunState, Verdict, Part, Stopped, IsLack, CrewFault, NoMemory, IsWellWired, HaveChanged, SettlesTo, view_events, seen_events, same_Some, prefix_refl, AllStandBy}
+use Rattle.kahn_pool.proofs.Common.{length-map, Program, network_of, AreInputsExtended, Lists, inputs_of, StoodBy, Told, told_view, AreIdle, AreJoinedJobs, HaveMet, cells_of, rows_of, AreJoinedOn, IsJob, Work, all_idle, idle_grown, idle_met, events_told, woken_task, Tasked, AreUntouched, HaveGone, task_events, told_tale, work_of, all_told, at_mapped, mapped_at, IsConcluded, seen_of, AreEnded, AreHeld, AreHeldBy, HasEnded, HasRisen, HasStoppedPart, HaveRisen, cell_alone, cell_for, held_state, cell_of, RunState, Verdict, Part, Stopped, IsLack, CrewFault, NoMemory, IsWellWired, HaveChanged, SettlesTo, view_events, seen_events, same_Some, prefix_refl, AllStandBy}
 use Rattle.kahn_streams.specs.declared.answer.End.{End as RunEnd}
 use Rattle.kahn_pool.proofs.Righted.{events_seen}
 use Rattle.kahn_pool.proofs.Lists.{map_map, sum_over, map_changed}
@@ -81,11 +81,13 @@ module _ {t : Program} {lists : Lists} {watch : Option ℕ} {bound : ℕ} {ws : 
       } in
       subst (λ (z : Told). HasRisen z d) (sym w.2) (subst (HasRisen w.0.cell) (sym y.2) risen)
 
-  pub alone_still : {more : ℕ} → AreUntouched more tasks old left → map cell_alone (cells_of us) ≡ map cell_alone (cells_of ws)
-  alone_still u =
+  pub cells_still : {more : ℕ} → AreUntouched more tasks old left → cells_of us ≡ map (cell_for lists) (cells_of ws)
+  cells_still u =
       let still = map_changed cell_of cell_of (λ x y e. e) tasks old (record { count = gone.count ∙ sym gone.ready.count; each = u.cells }) in
-      ap (map cell_alone) (cells ∙ still ∙ ap (map cell_of) woken)
-      ∙ map_map cell_alone cell_of (map (woken_task lists) ws) ∙ map_map (λ x. cell_alone (cell_of x)) (woken_task lists) ws ∙ sym (map_map cell_alone (λ (w : Work). w.cell) ws)
+      cells ∙ still ∙ ap (map cell_of) woken ∙ map_map cell_of (woken_task lists) ws ∙ sym (map_map (cell_for lists) (λ (w : Work). w.cell) ws)
+
+  pub alone_still : {more : ℕ} → AreUntouched more tasks old left → map cell_alone (cells_of us) ≡ map cell_alone (cells_of ws)
+  alone_still u = ap (map cell_alone) (cells_still u) ∙ map_map cell_alone (cell_for lists) (cells_of ws)
 
 -- ---- jobs whose cells are as they were
 

@@ -31,3 +31,4 @@ pub mod Held_streams
 pub mod Flowed
 pub mod Poured_in
 pub mod Watching
+pub mod Handing

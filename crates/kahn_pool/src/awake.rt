@@ -4,15 +4,37 @@ use crate::run_queue::RunQueue;
 use kahn_code::Plain;
 use kahn_streams::{Network, NoMemory, Outcome};
 use std::alloc::Global;
+use std::collections::VecDeque;
 
 // A writer is passed over for a round for each so many values that wait on one of its channels.
 const FAR: usize = 1_024;
 
+// So many of the channels of a writer are looked at after each of its turns, and of the others some after a turn of few events, and all
+// after one of many.
+const FEW: usize = 8;
+
+const SOME: usize = 16;
+
+const MANY_EVENTS: u64 = 64;
+
+// The channels that an instance writes: first a few at which a reader was woken last.
+#[derive(Drop)]
+struct Written {
+    channels: Vec<usize>,
+    // Where the next look among the others begins, and which of the few makes way for the next channel.
+    from: usize,
+    first: usize,
+    // Whether it stands among the writers of whose channels some weren't looked at.
+    is_noted: bool,
+}
+
 /// The instances that may go on. A reader that finds its channel empty sleeps until something was sent there.
 #[derive(Drop)]
 pub(crate) struct Awake {
-    // The channels that each instance writes.
-    written: Vec<Vec<usize>>,
+    written: Vec<Written>,
+    // The writers of whose channels some weren't looked at, and how many events the last turn had.
+    noted: VecDeque<usize>,
+    done: u64,
     // The reader of each channel, if it found it empty.
     sleepers: Vec<Option<usize>>,
     queue: RunQueue,
@@ -23,15 +45,20 @@ pub(crate) struct Awake {
 }
 
 // The channels that each instance writes.
-fn written_by(alloc: Global, network: &Network) -> Result<Vec<Vec<usize>>, NoMemory> {
+fn written_by(alloc: Global, network: &Network) -> Result<Vec<Written>, NoMemory> {
     let mut written = Vec::with_capacity(alloc, network.instances())?;
     for _ in 0..network.instances() {
-        written.push(Vec::new(alloc))?;
+        written.push(Written {
+            channels: Vec::new(alloc),
+            from: 0,
+            first: 0,
+            is_noted: false,
+        })?;
     }
     for channel in 0..network.channels() {
         if let Some(side) = network.writer(channel) {
-            if let Some(channels) = written.get_mut(side.instance) {
-                channels.push(channel)?;
+            if let Some(of_writer) = written.get_mut(side.instance) {
+                of_writer.channels.push(channel)?;
             }
         }
     }
@@ -48,6 +75,8 @@ impl Awake {
     pub(crate) fn new(alloc: Global, network: &Network) -> Result<Awake, NoMemory> {
         Ok(Awake {
             written: written_by(alloc, network)?,
+            noted: VecDeque::with_capacity(alloc, network.instances())?,
+            done: 0,
             sleepers: vec![in alloc; None; network.channels()]?,
             queue: RunQueue::new(alloc, network.instances())?,
             ahead: vec![in alloc; 0; network.instances()]?,
@@ -78,18 +107,47 @@ impl Awake {
         }
     }
 
+    /// Notes that a turn had so many events.
+    #[inline(always)]
+    pub(crate) fn note_done(&mut self, done: u64) {
+        self.done = done;
+    }
+
     /// Whose turn it is; nobody's if all sleep.
-    pub(crate) fn next(&mut self) -> Option<usize> {
-        self.queue.pop()
+    pub(crate) fn next(&mut self, queues: &Plain<Global>) -> Option<usize> {
+        match self.queue.pop() {
+            Some(instance) => Some(instance),
+            None => self.next_of_noted(queues),
+        }
+    }
+
+    // A reader that slept at a channel that wasn't looked at.
+    fn next_of_noted(&mut self, queues: &Plain<Global>) -> Option<usize> {
+        for _ in 0..self.noted.len() {
+            let writer = self.noted.pop_front()?;
+            self.forget_note(writer);
+            self.wake_between(writer, FEW, usize::MAX, queues);
+            if let Some(reader) = self.queue.take_handed() {
+                return Some(reader);
+            }
+        }
+        None
+    }
+
+    // All channels of this writer are looked at.
+    fn forget_note(&mut self, writer: usize) {
+        if let Some(written) = self.written.get_mut(writer) {
+            written.is_noted = false;
+        }
     }
 
     // How far a writer is ahead of the reader that is farthest behind it.
     fn lead(&self, instance: usize, queues: &Plain<Global>) -> usize {
-        let Some(channels) = self.written.get(instance) else {
+        let Some(written) = self.written.get(instance) else {
             return 0;
         };
         let mut most = 0;
-        for channel in channels {
+        for channel in &written.channels {
             most = queues.waiting(*channel).max(most);
         }
         most / FAR
@@ -124,17 +182,92 @@ impl Awake {
         true
     }
 
-    /// Wakes the readers that sleep at channels of this writer on which something waits now.
+    /// Wakes the readers that sleep at channels of this writer on which something waits now. Of many channels some are looked at now, and
+    /// the others after later turns, or when all sleep.
     pub(crate) fn wake_readers(&mut self, instance: usize, queues: &Plain<Global>) {
-        let Some(channels) = self.written.get(instance) else {
+        let Some(written) = self.written.get(instance) else {
             return;
         };
-        for channel in channels {
+        if written.channels.len() > FEW {
+            self.wake_some(instance, queues);
+            return;
+        }
+        for channel in &written.channels {
             if queues.waiting(*channel) > 0 {
                 if let Some(reader) = woken(&mut self.sleepers, *channel) {
                     self.queue.hand(reader);
                 }
             }
+        }
+    }
+
+    // Wakes readers at the few channels of this writer, and at some of the others.
+    fn wake_some(&mut self, writer: usize, queues: &Plain<Global>) {
+        let (from, to) = self.next_part(writer);
+        self.wake_between(writer, 0, FEW, queues);
+        self.wake_between(writer, from, to, queues);
+    }
+
+    // The places of the others that are looked at now, after which the writer is noted.
+    fn next_part(&mut self, writer: usize) -> (usize, usize) {
+        let Some(written) = self.written.get_mut(writer) else {
+            return (0, 0);
+        };
+        if !written.is_noted {
+            written.is_noted = self.noted.push_back(writer).is_ok();
+        }
+        if self.done >= MANY_EVENTS {
+            return (FEW, usize::MAX);
+        }
+        let from = written.from.max(FEW);
+        let to = from.saturating_add(SOME);
+        written.from = if to < written.channels.len() { to } else { 0 };
+        (from, to)
+    }
+
+    // Wakes readers at the channels of this writer between these places.
+    fn wake_between(&mut self, writer: usize, from: usize, to: usize, queues: &Plain<Global>) {
+        for place in from..to {
+            let Some(channel) = self.channel_at(writer, place) else {
+                return;
+            };
+            if self.wakes_at(channel, queues) {
+                self.bring_forward(writer, place);
+            }
+        }
+    }
+
+    // The channel at that place among those of a writer.
+    fn channel_at(&self, writer: usize, place: usize) -> Option<usize> {
+        let written = self.written.get(writer)?;
+        match written.channels.get(place) {
+            Some(channel) => Some(*channel),
+            None => None,
+        }
+    }
+
+    // Wakes the reader that sleeps at a channel on which something waits. Whether one did.
+    fn wakes_at(&mut self, channel: usize, queues: &Plain<Global>) -> bool {
+        if queues.waiting(channel) == 0 {
+            return false;
+        }
+        let Some(reader) = woken(&mut self.sleepers, channel) else {
+            return false;
+        };
+        self.queue.hand(reader);
+        true
+    }
+
+    // Puts the channel at that place among the few.
+    fn bring_forward(&mut self, writer: usize, place: usize) {
+        let Some(written) = self.written.get_mut(writer) else {
+            return;
+        };
+        let first = written.first;
+        let count = written.channels.len();
+        if place >= FEW && place < count && first < count {
+            written.channels.swap(place, first);
+            written.first = first.wrapping_add(1) % FEW;
         }
     }
 }

@@ -1,9 +1,10 @@
 //! The processes of a network over its plain queues.
 
-ghost use Rattle.kahn_pool.specs.inner.Below.{AreQueued, HasForgotten, Input as InputRole, IsPoured, Lists, Reads, Tapped, actual_at, inputs_of, instance_at, network_of, role_at, stream_lines};
+ghost use Rattle.kahn_pool.specs.inner.Below.{AreCounts, AreJobsAt, AreQueued, HasForgotten, HaveSettled, cells_of, rows_of, Input as InputRole, IsPoured, Lists, Reads, Tapped, actual_at, inputs_of, instance_at, network_of, role_at, stream_lines};
 ghost use Rattle.kahn_pool.specs.inner.Bench.{AreStreams, HasRunCell, all_events, events_at};
+ghost use Rattle.kahn_pool.specs.inner.Holding.{AreHeld};
 ghost use Rattle.kahn_pool.specs.inner.Streams.{HaveChanged};
-ghost use Rattle.kahn_pool.specs.inner.Workbench.{AllStandBy, AreOpeningCells, AreStreamsReady, AreWhole, HasEmptied, HasFresh, HasFreshPrints, HasTakenIn, HasWorked, IsCrowded, IsLaid, IsLeft, IsNextPlace, StandsAsTold, gone_in, sight_of, table_of, told_in};
+ghost use Rattle.kahn_pool.specs.inner.Workbench.{AllStandBy, AreOpeningCells, AreStreamsReady, AreWhole, HasEmptied, HasFresh, HasFreshPrints, HasTakenIn, HasWorked, IsCrowded, IsLaid, IsLeft, IsNextPlace, StandsAsTold, gone_in, seated_with, sight_of, table_of, told_in, vacant_of};
 ghost use Rattle.std.specs.Prelude.{◌≡◌, ◌<◌, ◌≤◌, ◌+◌, ◌^◌, ℕ, [], Some, length, map, slice_get, vec_capacity, IfOk, IfErr, IfSome, MatchOption, SomeIff};
 
 use crate::awake::Awake;
@@ -11,6 +12,7 @@ use crate::ends::channel_read;
 use crate::looks::{LONG_TURN, Looks};
 use crate::streams::fill;
 use kahn_code::{Code, CodeFault, Kept, Pause, Plain, Steps, Tap, compile, regrow_taps};
+use kahn_job::{Idle, jobs_at, seat, unseat};
 use kahn_streams::{About, Carried, Input, MOST_BOUND, Network, NoMemory, Outcome, Stream, Value};
 use std::alloc::Global;
 use std::marker::Model;
@@ -86,6 +88,15 @@ fn all_stood(network: &Network, taps: &[Tap])
     }
 }
 
+// Says that no tap counted more tokens than events: its contract is what it does.
+fn all_sized(taps: &[Tap])
+    ensures { (p : ℕ) (x : Tapped) → slice_get taps.now p ≡ Some x → AreCounts x.told }
+{
+    for instance in 0..taps.len() {
+        taps[instance].sized();
+    }
+}
+
 // What is there of what each tap kept. The list that is given has room for all.
 fn all_kept(taps: Vec<Tap>, mut kept: Vec<Kept>) -> Vec<Kept>
     requires empty { kept.items ≡ [] }
@@ -114,8 +125,9 @@ impl<'n> Bench<'n> {
         let taps = named_taps(alloc, network, &code, input, watch)?;
         let queues = Plain::new(alloc, network, input)?;
         let awake = Awake::new(alloc, network)?;
+        let looks = Looks::new(alloc, network, &code)?;
         let _program = network.program();
-        Ok(Bench::named(network, input, watch, code, taps, queues, awake))
+        Ok(Bench::named(network, input, watch, code, taps, queues, awake, looks))
     }
 
     // The bench for the input that is named.
@@ -127,6 +139,7 @@ impl<'n> Bench<'n> {
         taps: Vec<Tap>,
         queues: Plain<Global>,
         awake: Awake,
+        looks: Looks,
     ) -> Bench<'n>
         ghost input: { Lists }
         requires { IsLaid (table_of network.now input watch code.network.value taps.items queues) }
@@ -140,7 +153,7 @@ impl<'n> Bench<'n> {
             taps,
             queues,
             awake,
-            looks: Looks::new(),
+            looks,
         }
     }
 
@@ -186,11 +199,26 @@ impl<'n> Bench<'n> {
         channel_read(&self.code, instance, parameter)
     }
 
-    /// Notes a turn of `done` events, for `is_wide` and `passes_over`.
+    /// Notes a turn of `done` events, for `wide`, `passes_over` and `note_left`.
+    #[inline(always)]
     pub(crate) fn note_visit(&mut self, instance: usize, done: u64)
         ensures { self.new ≡ self.old }
     {
-        self.looks.note_visit(instance, done);
+        self.awake.note_done(done);
+        if self.looks.note_brief(done) {
+            return;
+        }
+        self.note_turn(instance, done);
+    }
+
+    // Notes a turn that isn't brief, and begins the next look for work for several workers, if one is over.
+    fn note_turn(&mut self, instance: usize, done: u64)
+        ensures { self.new ≡ self.old }
+    {
+        if self.looks.note_turn(instance, done) && self.looks.is_over() {
+            let sent = self.sent();
+            self.looks.turn(sent);
+        }
         if done < LONG_TURN {
             return;
         }
@@ -225,22 +253,25 @@ impl<'n> Bench<'n> {
         ensures same { self.new ≡ self.old }
         ensures here { IfSome result (λ p. p < length (sight_of self.new).network.instances) }
     {
-        match self.awake.next() {
+        match self.awake.next(&self.queues) {
             Some(instance) if instance < self.network.instances() => Some(instance),
             _ => None,
         }
     }
 
-    /// Whether there is work for several workers, as far as is known.
-    pub(crate) fn is_wide(&self) -> bool {
-        self.looks.is_wide() && self.looks.is_apart(self.taken())
+    /// How many instances have work, if there is work for several workers, as far as is known; else 0.
+    pub(crate) fn wide(&self) -> usize {
+        self.looks.wide()
     }
 
-    // How many tokens were taken from all channels.
-    fn taken(&self) -> u64 {
+    // How many tokens were sent on all channels between processes, and those of the input.
+    fn sent(&self) -> u64 {
         let mut sum = 0_u64;
         for channel in 0..self.network.channels() {
-            sum = sum.saturating_add(self.queues.taken(channel));
+            let waiting = self.queues.waiting(channel) as u64;
+            sum = sum
+                .saturating_add(self.queues.taken(channel))
+                .saturating_add(waiting);
         }
         sum
     }
@@ -327,6 +358,50 @@ impl<'n> Bench<'n> {
         Some(place)
     }
 
+    /// Jobs that stand where its queues stand, with copies of the tokens that wait there, for `hand_over`. The bench stays as it is. It
+    /// refuses only if memory was refused.
+    pub(crate) fn lanes(&self, alloc: Global, input: &Input) -> Result<Vec<Idle>, NoMemory>
+        requires input { self.now.input ≡ input.now }
+        requires few { (p : ℕ) → events_at (sight_of self.now) p < 2 ^ 48 }
+        ensures { IfOk result (λ idles. AreJobsAt self.now.network self.now.input self.now.queues.queues idles.items) }
+    {
+        self.stood();
+        all_sized(&self.taps);
+        jobs_at(
+            alloc,
+            self.network,
+            input,
+            &self.code,
+            self.watch,
+            &self.queues,
+        )
+    }
+
+    /// The bench without its processes, and jobs that go on from where these stand, which have let go of nothing: the jobs that are
+    /// given get their cells. It never allocates.
+    pub(crate) fn hand_over(self, mut idles: Vec<Idle>) -> (Vacant<'n>, Vec<Idle>)
+        requires whole { AreWhole (length (network_of self.network).instances) self.gone }
+        requires jobs { AreJobsAt self.network self.input self.queues.queues idles.items }
+        ensures laid { IsLaid self.entry }
+        ensures vacant { result.0 ≡ vacant_of self.entry }
+        ensures cells { cells_of result.1.items ≡ self.entry.cells }
+        ensures held { (left : ℕ) → AreHeld self.entry.network self.entry.input self.entry.watch (left + all_events (sight_of self.entry)) result.1.items left }
+        ensures settled { HaveSettled self.entry.network self.entry.input (rows_of result.1.items) }
+    {
+        self.stood();
+        seat(&mut idles, self.taps);
+        let vacant = Vacant {
+            network: self.network,
+            input: self.input,
+            watch: self.watch,
+            code: self.code,
+            queues: self.queues,
+            awake: self.awake,
+            looks: self.looks,
+        };
+        (vacant, idles)
+    }
+
     /// The streams of an answer: what the writers kept, if nothing was let go of. There is room for what each kept. It never
     /// allocates.
     pub(crate) fn into_streams(self, mut streams: Vec<Stream>, kept: Vec<Kept>) -> Vec<Stream>
@@ -337,5 +412,59 @@ impl<'n> Bench<'n> {
         let mut kept = all_kept(self.taps, kept);
         fill(self.network, &mut streams, &mut kept);
         streams
+    }
+}
+
+/// A bench whose processes went to jobs. Its queues stay as they stood.
+#[derive(Drop)]
+pub(crate) struct Vacant<'n> {
+    network: &'n Network,
+    input: About<Input>,
+    watch: Option<usize>,
+    code: Code,
+    queues: Plain<Global>,
+    awake: Awake,
+    looks: Looks,
+}
+
+impl<'n> Model for Vacant<'n> {
+    ghost use Rattle.kahn_streams.specs.contracts.tree.Action as action;
+    ghost use Rattle.kahn_streams.specs.contracts.tree.Form as form;
+    ghost use Rattle.std.specs.Coded.{codes};
+    ghost use Rattle.std.specs.Prelude.{[]};
+    ghost use Rattle.kahn_pool.specs.inner.Workbench.{Table, table_of};
+
+    ghost Value = { Table };
+
+    ghost coded = { Prim.hlevel (codes, action.the_row.coded, form.the_row.coded) };
+
+    ghost view = { λ b. table_of b.network.now b.input.value b.watch b.code.network.value [] b.queues };
+}
+
+impl<'n> Vacant<'n> {
+    /// Its code.
+    pub(crate) fn code(&self) -> &Code
+        ensures { result.now.network.value ≡ self.now.code }
+    {
+        &self.code
+    }
+
+    /// The bench with the cells of jobs that stand where its queues stand. The list that is given has room for all. It never allocates.
+    pub(crate) fn taken_back(self, idles: Vec<Idle>, taps: Vec<Tap>) -> Bench<'n>
+        requires laid { IsLaid (seated_with self (cells_of idles.items)) }
+        requires room { (taps.items ≡ []) × (length idles.items ≤ vec_capacity taps) }
+        ensures { result ≡ seated_with self.entry (cells_of idles.items) }
+    {
+        let taps = unseat(idles, taps);
+        Bench {
+            network: self.network,
+            input: self.input,
+            watch: self.watch,
+            code: self.code,
+            taps,
+            queues: self.queues,
+            awake: self.awake,
+            looks: self.looks,
+        }
     }
 }

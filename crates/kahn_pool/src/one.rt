@@ -3,12 +3,12 @@
 ghost use Rattle.kahn_pool.specs.inner.Below.{IsCutShort, IsRight, Settles, inputs_of, network_of};
 ghost use Rattle.kahn_pool.specs.HeldRuns.{IsRefusedRun};
 ghost use Rattle.kahn_pool.specs.inner.FlowBench.{IsPartEnd};
-ghost use Rattle.kahn_pool.specs.inner.Workbench.{AreStreamsReady, AreWhole, IsRightAlone};
-ghost use Rattle.std.specs.Prelude.{◌≡◌, ◌<◌, ◌^◌, length, true, IfOk, IfErr, MatchOption, None, vec_capacity};
+ghost use Rattle.kahn_pool.specs.inner.Workbench.{AreStreamsReady, AreWhole, IsRightAlone, IsWide};
+ghost use Rattle.std.specs.Prelude.{◌≡◌, ◌<◌, ◌^◌, length, true, IfOk, IfErr, None, vec_capacity};
 
 use crate::bench::Bench;
 use crate::laws;
-use crate::rounds::{PartEnd, run_part_alone};
+use crate::rounds::{PartEnd, Round, run_part_alone};
 use crate::streams::room_for_answer;
 use kahn_code::{CodeFault, Kept};
 use kahn_crew::{Gate, Open, Plan};
@@ -18,10 +18,10 @@ use std::marker::Brand;
 use std::sync::ledger::Blank;
 
 // How many events a process may do before the next one is run.
-const QUANTUM: u64 = 1000;
+pub(crate) const QUANTUM: u64 = 1000;
 
-// The answer of a run on a bench that ended so. There is room for all that it wants.
-fn answered(
+/// The answer of a run on a bench that ended so. There is room for all that it wants.
+pub(crate) fn answered(
     bench: Bench<'_>,
     part: PartEnd,
     streams: Vec<Stream>,
@@ -42,32 +42,7 @@ fn answered(
 }
 
 /// Runs a network on the caller's thread over plain queues, with a watched channel or none, each process for at most the quantum of
-/// events before the next one. Before each quantum the gate is entered. It answers nothing if the run may be left and there is work
-/// for several workers. It refuses only if memory was refused before the first event.
-pub(crate) fn run_alone<G: Gate>(
-    alloc: Global,
-    gate: &G,
-    network: &Network,
-    input: &Input,
-    plan: Plan,
-    may_leave: bool,
-) -> Result<Option<Answer>, CodeFault>
-    requires quantum { 0 < plan.quantum }
-    requires bound { plan.bound < 2 ^ 48 }
-    ensures { IfOk result (λ a. MatchOption a (may_leave ≡ true) (IsRightAlone network.now input.now plan.watch plan.bound)) }
-{
-    let ends = Vec::with_capacity(alloc, network.instances())?;
-    let mut bench = Bench::new(alloc, network, input, plan.watch)?;
-    let (streams, kept) = room_for_answer(alloc, network, input, plan.watch)?;
-    let blank = Blank::new(1);
-    let part = run_part_alone::<G, Brand>(blank, &mut bench, gate, may_leave, ends, plan);
-    match part {
-        Some(part) => Ok(Some(answered(bench, part, streams, kept, plan.bound))),
-        None => Ok(None),
-    }
-}
-
-/// The same to the end.
+/// events before the next one. Before each quantum the gate is entered. It refuses only if memory was refused before the first event.
 pub(crate) fn run_watched<G: Gate>(
     alloc: Global,
     gate: &G,
@@ -79,8 +54,40 @@ pub(crate) fn run_watched<G: Gate>(
     requires bound { plan.bound < 2 ^ 48 }
     ensures { IfOk result (IsRightAlone network.now input.now plan.watch plan.bound) }
 {
-    match run_alone(alloc, gate, network, input, plan, false)? {
-        Some(answer) => Ok(answer),
+    let ends = Vec::with_capacity(alloc, network.instances())?;
+    let mut bench = Bench::new(alloc, network, input, plan.watch)?;
+    let (streams, kept) = room_for_answer(alloc, network, input, plan.watch)?;
+    let blank = Blank::new(1);
+    let part = run_part_alone::<G, Brand>(blank, &mut bench, gate, false, ends, plan);
+    match part {
+        Some(part) => Ok(answered(bench, part, streams, kept, plan.bound)),
+        None => unreachable!(),
+    }
+}
+
+/// The answer of a run that was left there, once it went on to its end on the caller's thread. The plan has the bound of the whole run.
+pub(crate) fn run_on_alone<G: Gate>(
+    gate: &G,
+    mut bench: Bench<'_>,
+    round: Round,
+    streams: Vec<Stream>,
+    kept: Vec<Kept>,
+    plan: Plan,
+) -> Answer
+    requires quantum { 0 < plan.quantum }
+    requires bound { plan.bound < 2 ^ 48 }
+    requires wide { IsWide bench plan.bound round }
+    requires ready { AreStreamsReady bench.network bench.input bench.watch streams.items kept.items (vec_capacity kept) }
+    ensures { IsRightAlone bench.entry.network bench.entry.input bench.entry.watch plan.bound result }
+{
+    let rest = Plan {
+        bound: round.left,
+        ..plan
+    };
+    let blank = Blank::new(1);
+    let part = run_part_alone::<G, Brand>(blank, &mut bench, gate, false, round.ends, rest);
+    match part {
+        Some(part) => answered(bench, part, streams, kept, plan.bound),
         None => unreachable!(),
     }
 }

@@ -1,8 +1,8 @@
 //! A part of a held run: idle jobs go on, and come to rest again.
 
 ghost use Rattle.std.specs.Prelude.{◌≡◌, ◌↔◌, ℕ, ◌≤◌, ◌<◌, [], Err, Ok, length, map, true, vec_capacity, IfOk, IsOk, OnOk};
-ghost use Rattle.kahn_pool.specs.inner.Below.{AreResting, HaveSettled, HaveStood, IsOver, cells_of, network_of, rows_of};
-ghost use Rattle.kahn_pool.specs.inner.Holding.{AreHeld, AreHeldBy, HasEnded, HasStoppedPart, HaveAllLeft, IsHeldPart, IsRoomFor};
+ghost use Rattle.kahn_pool.specs.inner.Below.{NoMemory as Refused, AreResting, HaveSettled, HaveStood, IsOver, cells_of, network_of, rows_of};
+ghost use Rattle.kahn_pool.specs.inner.Holding.{AreHeld, AreHeldBy, HasEnded, HasStoppedPart, HaveAllLeft, IsHeldPart, IsRoomFor, cell_for};
 ghost use Rattle.kahn_pool.specs.inner.Rested.{cell_of};
 ghost use Rattle.kahn_streams.specs.declared.answer.Verdict.TheVariants as verdict;
 
@@ -111,8 +111,9 @@ fn give_up(
     }
 }
 
-// Runs idle jobs whose ends are ready for the input so far.
-fn run_settled<R: Threads + Wait + Sync, G: Gate + Sync>(
+/// Runs idle jobs whose ends are ready for the input so far. If memory was refused before the first event, each job stands where it stood,
+/// for this input.
+pub(crate) fn run_settled<R: Threads + Wait + Sync, G: Gate + Sync>(
     rt: &R,
     alloc: Global,
     part: &Part<'_>,
@@ -123,7 +124,8 @@ fn run_settled<R: Threads + Wait + Sync, G: Gate + Sync>(
     requires part { IsHeldPart part.now idles.items }
     requires settled { HaveSettled part.now.network.now part.now.input.now (rows_of idles.items) }
     requires room { IsRoomFor (length (network_of part.now.network.now).instances) room }
-    ensures { HasStoppedPart part.now idles.items result }
+    ensures stopped { HasStoppedPart part.now idles.items result }
+    ensures untouched { result.outcome ≡ Err Refused → cells_of result.idles.items ≡ map (cell_for part.now.input.now) (cells_of idles.items) }
 {
     let (network, input) = (part.network, part.input);
     let _program = network.program();

@@ -6,10 +6,10 @@
 
 ghost use Rattle.kahn_pool.specs.inner.Bench.{HasRunCell, PausedAt, HasEndIn, IsVerdict, all_events, events_at};
 ghost use Rattle.kahn_pool.specs.inner.FlowBench.{IsPartEnd};
-ghost use Rattle.kahn_pool.specs.inner.Workbench.{HasAdvanced, HasComeToRest, HasTakenTurn, HasVisited, HasWorked, IsInRound, IsMarked, MayRun, sight_of, turn_of};
+ghost use Rattle.kahn_pool.specs.inner.Workbench.{HasAdvanced, HasComeToRest, HasTakenTurn, HasVisited, HasWorked, IsInRound, IsMarked, MayGoOn, MayRun, sight_of, turn_of};
 ghost use Rattle.kahn_streams.specs.declared.answer.Outcome.TheVariants as outcome;
 ghost use Rattle.kahn_code.specs.declared.progress.Pause.TheVariants as pause;
-ghost use Rattle.std.specs.Prelude.{◌≡◌, ◌⊎◌, ◌<◌, ◌≤◌, ◌+◌, ◌^◌, length, true, vec_capacity, IfSome, MatchOption};
+ghost use Rattle.std.specs.Prelude.{◌≡◌, ◌⊎◌, ◌<◌, ◌≤◌, ◌+◌, ◌^◌, length, true, vec_capacity, IfErr, IfOk, IfSome, MatchOption, MatchResult};
 
 use crate::bench::Bench;
 use kahn_code::{Pause, Steps};
@@ -27,19 +27,19 @@ const NOTED_ROUNDS: usize = 4;
 // How many brief rounds come one after another at most: a number, since each loop needs an end.
 const BRIEF_ROUNDS: usize = 1_000_000;
 
-// What is left to do in a run on one thread, and what its last round did.
+/// What is left to do in a run on one thread, and what its last round did.
 #[derive(Drop)]
-struct Round {
+pub(crate) struct Round {
     // The most events of a turn, and how many are left of the bound.
     quantum: u64,
-    left: u64,
+    pub(crate) left: u64,
     // Whether memory was refused.
     memory: bool,
     progressed: bool,
     // How many turns did nothing.
     idle_turns: usize,
     // How each instance stood after its turn.
-    ends: Vec<End>,
+    pub(crate) ends: Vec<End>,
 }
 
 // What a run on one thread goes by: the count of its steps, the gate before each quantum, and whether it may be left to several
@@ -245,7 +245,7 @@ impl<'g, L: Ledger, G: Gate> Driver<'g, L, G> {
 
     // Whether there is work for several workers, to whom the run may be left.
     fn leaves(&self, bench: &Bench<'_>) -> bool {
-        self.may_leave && bench.is_wide()
+        self.may_leave && bench.wide() > 0
     }
 
     // Turns of those that may go on, one after another. Here and in brief rounds the round is a local value, which is quicker.
@@ -299,11 +299,11 @@ impl<'g, L: Ledger, G: Gate> Driver<'g, L, G> {
         round
     }
 
-    // Rounds, until one in which nothing was done, which is the answer; or, if the run may be left, until there is work for several
-    // workers.
-    fn last_round(&mut self, bench: &mut Bench<'_>, first: Round) -> Option<Round>
+    // Rounds, until one in which nothing was done; or, if the run may be left, until there is work for several workers: then it may go
+    // on from the round that is the error.
+    fn last_round(&mut self, bench: &mut Bench<'_>, first: Round) -> Result<Round, Round>
         requires { MayRun (sight_of bench.old) first }
-        ensures last { MatchOption result (self.old.may_leave ≡ true) (HasComeToRest bench.old bench.new first) }
+        ensures last { MatchResult result (HasComeToRest bench.old bench.new first) (λ r. (self.old.may_leave ≡ true) × HasAdvanced bench.old bench.new first r) }
         ensures worked { HasWorked bench.old bench.new }
     {
         let may_leave = self.may_leave;
@@ -312,12 +312,12 @@ impl<'g, L: Ledger, G: Gate> Driver<'g, L, G> {
         'rounds: loop {
             self.noted_round(bench, &mut round);
             if !round.progressed {
-                return Some(round);
+                return Ok(round);
             }
             rounds = rounds.saturating_add(1);
             round = self.between_rounds(bench, round, rounds <= NOTED_ROUNDS);
-            if may_leave && bench.is_wide() {
-                return None;
+            if may_leave && bench.wide() > 0 {
+                return Err(round);
             }
         }
     }
@@ -339,8 +339,46 @@ pub(crate) fn verdict_of(memory: bool, ends: &[End]) -> Verdict
 }
 
 /// Runs the processes of a bench on one thread for as many events as the plan's bound, each for at most its quantum at a time, before
-/// which the gate is entered. It answers nothing if the run may be left and there is work for several workers. Steps are counted on a ledger of its
-/// own. The list of ends has room for each instance. It never allocates.
+/// which the gate is entered. If the run may be left and there is work for several workers, it gives back what is left, from which the
+/// run may go on. Steps are counted on a ledger of its own. The list of ends has room for each instance. It never allocates.
+pub(crate) fn run_until_wide<G: Gate, L: Ledger>(
+    blank: Blank,
+    bench: &mut Bench<'_>,
+    gate: &G,
+    may_leave: bool,
+    ends: Vec<End>,
+    plan: Plan,
+) -> Result<PartEnd, Round>
+    requires blank { (blank.name ≡ L.name) × (blank.parts ≡ L.parts) × (0 < blank.parts) }
+    requires quantum { 0 < plan.quantum }
+    requires bound { all_events (sight_of bench.old) + plan.bound < 2 ^ 48 }
+    requires room { length (sight_of bench.old).network.instances ≤ vec_capacity ends }
+    ensures concluded { IfOk result (IsPartEnd bench.new (all_events (sight_of bench.old) + plan.bound)) }
+    ensures wide { IfErr result (λ r. (may_leave ≡ true) × MayGoOn bench.old bench.new plan.bound r) }
+    ensures room { IfOk result (λ r. length (sight_of bench.new).network.instances ≤ vec_capacity r.ends) }
+    ensures worked { HasWorked bench.old bench.new }
+{
+    let mut driver = Driver {
+        steps: Steps::<L>::open(blank),
+        gate,
+        may_leave,
+    };
+    let first = Round::new(bench, plan.quantum, plan.bound, ends);
+    match driver.last_round(bench, first) {
+        Err(round) => Err(round),
+        Ok(last) => {
+            bench.stood();
+            let verdict = verdict_of(last.memory, &last.ends);
+            Ok(PartEnd {
+                verdict,
+                ends: last.ends,
+                left: last.left,
+            })
+        }
+    }
+}
+
+/// The same to the end, if the run may not be left. It answers nothing if it may be left and there is work for several workers.
 pub(crate) fn run_part_alone<G: Gate, L: Ledger>(
     blank: Blank,
     bench: &mut Bench<'_>,
@@ -357,18 +395,8 @@ pub(crate) fn run_part_alone<G: Gate, L: Ledger>(
     ensures room { IfSome result (λ r. length (sight_of bench.new).network.instances ≤ vec_capacity r.ends) }
     ensures worked { HasWorked bench.old bench.new }
 {
-    let mut driver = Driver {
-        steps: Steps::<L>::open(blank),
-        gate,
-        may_leave,
-    };
-    let first = Round::new(bench, plan.quantum, plan.bound, ends);
-    let last = driver.last_round(bench, first)?;
-    bench.stood();
-    let verdict = verdict_of(last.memory, &last.ends);
-    Some(PartEnd {
-        verdict,
-        ends: last.ends,
-        left: last.left,
-    })
+    match run_until_wide::<G, L>(blank, bench, gate, may_leave, ends, plan) {
+        Ok(part) => Some(part),
+        Err(_) => None,
+    }
 }

@@ -65,6 +65,11 @@ impl RunQueue {
         }
     }
 
+    /// The reader that comes before all others.
+    pub(crate) fn take_handed(&mut self) -> Option<usize> {
+        self.next.take()
+    }
+
     // Takes an instance out of the queue, and tells whether it is awake.
     fn leaves(&mut self, instance: usize) -> bool {
         match self.places.get_mut(instance) {

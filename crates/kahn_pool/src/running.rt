@@ -2,25 +2,26 @@
 
 ghost use Rattle.kahn_pool.specs.inner.Below.{IsCutShort, IsInRange, IsRight, IsRightRun, IsUnrun, Settles, inputs_of, network_of};
 ghost use Rattle.kahn_pool.specs.HeldRuns.{IsWant};
-ghost use Rattle.std.specs.Prelude.{◌≡◌, ◌<◌, length, IfOk, MatchResult};
+ghost use Rattle.kahn_pool.specs.inner.Workbench.{MayRun, sight_of};
+ghost use Rattle.kahn_pool.specs.inner.Holding.{IsHandRoomFor};
+ghost use Rattle.kahn_pool.specs.declared.rounds.Round.{Round as RoundOf};
+ghost use Rattle.std.specs.Prelude.{◌≡◌, length, IfOk, MatchResult};
 
+use crate::bench::Bench;
 use crate::laws;
-use crate::one::{run_alone, run_watched};
+use crate::one::{QUANTUM, answered, run_on_alone, run_watched};
+use crate::part::PartRoom;
 use crate::plan::{crew_plan, plan_of};
-use crate::workers::run_workers;
+use crate::rounds::run_until_wide;
+use crate::streams::room_for_answer;
+use crate::workers::{HandRoom, run_on_workers, run_workers};
 use kahn_crew::{Gate, Plan};
-use kahn_streams::{Answer, Config, Input, Network, RunFault};
+use kahn_streams::{Answer, Config, Input, Network, NoMemory, RunFault};
 use std::alloc::Global;
+use std::marker::Brand;
 use std::sync::Wait;
+use std::sync::ledger::Blank;
 use std::thread::{Threads, available_parallelism};
-
-// How many events a process may do before the next one while a run of several workers is on one thread, whatever their quantum is: a
-// round of all comes soon to an end, so that it is seen whether there is work for them.
-fn first_quantum(instances: usize) -> u64
-    ensures { 0 < result }
-{
-    (30_000 / instances.max(1) as u64).max(100).min(1000)
-}
 
 // How many threads may run side by side, if the system tells.
 fn processors<R: Threads>(rt: &R) -> usize {
@@ -30,9 +31,28 @@ fn processors<R: Threads>(rt: &R) -> usize {
     }
 }
 
-// Runs a network by several workers if the gate is open: at first on the caller's thread alone, over plain queues. If there is
-// work for several, the run begins anew with as many workers as may run side by side, and no caller can tell; if that is one, or
-// memory is refused for them, it is made to the end alone.
+// What a hand-over wants. It refuses only if memory was refused.
+fn hand_room(
+    alloc: Global,
+    network: &Network,
+    input: &Input,
+    bench: &Bench<'_>,
+) -> Result<HandRoom, NoMemory>
+    requires names { (bench.now.network ≡ network.now) × (bench.now.input ≡ input.now) }
+    requires may { (r : RoundOf) × MayRun (sight_of bench.now) r }
+    ensures { IfOk result (IsHandRoomFor bench.now) }
+{
+    let part = PartRoom::new(alloc, network.instances())?;
+    let taps = Vec::with_capacity(alloc, network.instances())?;
+    Ok(HandRoom {
+        idles: bench.lanes(alloc, input)?,
+        part,
+        taps,
+    })
+}
+
+// Runs a network by several workers if the gate is open: at first on the caller's thread alone, over plain queues. If there is work for
+// several, they go on from there, as many as have work. If memory is refused for that, the run goes on alone.
 fn run_first<R: Threads + Wait + Sync, G: Gate + Sync>(
     rt: &R,
     alloc: Global,
@@ -45,19 +65,49 @@ fn run_first<R: Threads + Wait + Sync, G: Gate + Sync>(
     requires range { IsInRange plan.workers plan.quantum plan.bound }
     ensures { MatchResult result (IsRight (network_of network.now) (inputs_of input.now) plan.bound plan.watch) (IsWant plan.workers) }
 {
-    let quantum = plan.quantum.min(first_quantum(network.instances()));
-    let alone = Plan { quantum, ..plan };
-    if let Some(answer) = run_alone(alloc, gate, network, input, alone, true)? {
-        return Ok(answer);
+    let Ok(ends) = Vec::with_capacity(alloc, network.instances()) else {
+        return Err(RunFault::NoMemory);
+    };
+    let mut bench = Bench::new(alloc, network, input, plan.watch)?;
+    let (streams, kept) = room_for_answer(alloc, network, input, plan.watch)?;
+    let blank = Blank::new(1);
+    let run = run_until_wide::<G, Brand>(blank, &mut bench, gate, true, ends, plan);
+    let round = match run {
+        Ok(part) => return Ok(answered(bench, part, streams, kept, plan.bound)),
+        Err(round) => round,
+    };
+    let crew = crew_plan(plan, bench.wide());
+    match hand_room(alloc, network, input, &bench) {
+        Err(_) => Ok(run_on_alone(gate, bench, round, streams, kept, plan)),
+        Ok(room) => run_on_workers(
+            rt, alloc, network, input, bench, round, streams, kept, room, crew, gate,
+        ),
     }
-    let crew = crew_plan(plan, network.instances().min(processors(rt)));
-    if crew.workers == 1 {
-        return Ok(run_watched(alloc, gate, network, input, alone)?);
+}
+
+// Runs a network at an open gate by no more workers than instances, or threads that may run side by side. Nobody can tell the quantum
+// there, so it is that of `run_one`.
+fn run_open<R: Threads + Wait + Sync, G: Gate + Sync>(
+    rt: &R,
+    alloc: Global,
+    network: &Network,
+    input: &Input,
+    plan: Plan,
+    gate: &G,
+) -> Result<Answer, RunFault>
+    requires fits { length input.now ≡ length (network_of network.now).channels }
+    requires range { IsInRange plan.workers plan.quantum plan.bound }
+    ensures { MatchResult result (IsRight (network_of network.now) (inputs_of input.now) plan.bound plan.watch) (IsWant plan.workers) }
+{
+    let most = crew_plan(plan, network.instances().min(processors(rt)));
+    let open = Plan {
+        quantum: QUANTUM,
+        ..most
+    };
+    if open.workers == 1 {
+        return Ok(run_watched(alloc, gate, network, input, open)?);
     }
-    match run_workers(rt, alloc, network, input, crew, gate) {
-        Err(RunFault::NoMemory) => Ok(run_watched(alloc, gate, network, input, alone)?),
-        told => told,
-    }
+    run_first(rt, alloc, network, input, open, gate)
 }
 
 /// Runs a network with an input that fits it. Its answer is right, whatever the number of workers and the quantum are. If its
@@ -67,9 +117,10 @@ fn run_first<R: Threads + Wait + Sync, G: Gate + Sync>(
 ///
 /// It refuses with `BadConfig` if a number of the configuration is out of its limit, then with `UnknownWatch` if no channel has
 /// the name that is to be watched, with `NoMemory` if memory was refused before the first event, and with `NoThread` if a thread
-/// couldn't be started. One worker starts none: it has the caller's thread, on which it runs one process after another over plain
-/// queues. Each further worker has a thread of its own. If the gate is open, several begin as one does, and start threads only
-/// once there is work for two, for as many workers as there are instances and processors at most. Memory that is refused later
+/// couldn't be started and the gate isn't open. One worker starts none: it has the caller's thread, on which it runs one process
+/// after another over plain queues. Each further worker has a thread of its own. If the gate is open, several begin as one does,
+/// and start threads once there is work for two: as many as have work, and no more than run side by side. If one can't be
+/// started there, or memory is refused for them, the run is left to those that came, or to one. Memory that is refused later
 /// stops the run: its answer has the verdict `Memory`, by one worker only if an instance has a next event and the bound isn't
 /// used up. Before each quantum of an instance a gate that isn't open is entered.
 pub fn run<R: Threads + Wait + Sync, G: Gate + Sync>(
@@ -91,7 +142,7 @@ pub fn run<R: Threads + Wait + Sync, G: Gate + Sync>(
         return Ok(run_watched(alloc, gate, network, &input, plan)?);
     }
     if gate.is_open() {
-        return run_first(rt, alloc, network, &input, plan, gate);
+        return run_open(rt, alloc, network, &input, plan, gate);
     }
     run_workers(rt, alloc, network, &input, plan, gate)
 }

@@ -3,13 +3,16 @@
 ghost use Rattle.std.specs.Prelude.{◌≡◌, ◌<◌, ◌≤◌, [], length, vec_capacity, IfErr, IfOk, MatchResult};
 ghost use Rattle.kahn_pool.specs.inner.Below.{IsInRange, IsLack, IsRight, cells_of, inputs_of, network_of};
 ghost use Rattle.kahn_pool.specs.HeldRuns.{IsWant};
-ghost use Rattle.kahn_pool.specs.inner.Holding.{AreHeldBy, HasEnded};
-ghost use Rattle.kahn_pool.specs.inner.Workbench.{AreKeptOf, AreStreamsReady};
+ghost use Rattle.kahn_pool.specs.inner.Holding.{AreHeldBy, HasEnded, IsHandRoomFor};
+ghost use Rattle.kahn_pool.specs.inner.Workbench.{AreKeptOf, AreStreamsReady, IsBenchOf, IsWide};
 
-use crate::part::{PartRoom, Stopped, first_idles, run_part};
+use crate::bench::Bench;
+use crate::one::run_on_alone;
+use crate::part::{PartRoom, Stopped, first_idles, run_part, run_settled};
 use crate::plan::Part;
+use crate::rounds::Round;
 use crate::streams::{fill, room_for_answer};
-use kahn_code::{Kept, compile};
+use kahn_code::{Kept, Tap, compile};
 use kahn_crew::{CrewFault, Gate, Plan};
 use kahn_job::Idle;
 use kahn_streams::{Answer, Input, Network, RunFault, Stream};
@@ -82,5 +85,53 @@ pub(crate) fn run_workers<R: Threads + Wait + Sync, G: Gate + Sync>(
     };
     let idles = first_idles(alloc, &part)?;
     let stopped = run_part(rt, alloc, &part, idles, room, gate);
+    Ok(answered(&part, stopped, streams, kept)?)
+}
+
+/// What is wanted of memory where a run is handed over: jobs that stand where the bench stands, room for what a part wants, and room for
+/// taps, if the bench takes its processes back.
+#[derive(Drop)]
+pub(crate) struct HandRoom {
+    pub(crate) idles: Vec<Idle>,
+    pub(crate) part: PartRoom,
+    pub(crate) taps: Vec<Tap>,
+}
+
+/// The answer of a run that was left there, once several workers went on from where its processes stand. If memory is refused before
+/// their first event, the run goes on alone from there. The plan has the bound of the whole run. It refuses only if a thread couldn't
+/// be started.
+pub(crate) fn run_on_workers<R: Threads + Wait + Sync, G: Gate + Sync>(
+    rt: &R,
+    alloc: Global,
+    network: &Network,
+    input: &Input,
+    bench: Bench<'_>,
+    round: Round,
+    streams: Vec<Stream>,
+    kept: Vec<Kept>,
+    room: HandRoom,
+    plan: Plan,
+    gate: &G,
+) -> Result<Answer, RunFault>
+    requires range { IsInRange plan.workers plan.quantum plan.bound }
+    requires names { IsBenchOf bench network.now input.now plan.watch }
+    requires wide { IsWide bench plan.bound round }
+    requires room { IsHandRoomFor bench room }
+    requires ready { AreStreamsReady network.now input.now plan.watch streams.items kept.items (vec_capacity kept) }
+    ensures { MatchResult result (IsRight (network_of network.now) (inputs_of input.now) plan.bound plan.watch) (IsWant plan.workers) }
+{
+    let (vacant, idles) = bench.hand_over(room.idles);
+    let part = Part {
+        network,
+        input,
+        code: vacant.code(),
+        plan,
+        left: round.left,
+    };
+    let stopped = run_settled(rt, alloc, &part, idles, room.part, gate);
+    if let Err(CrewFault::NoMemory) = stopped.outcome {
+        let bench = vacant.taken_back(stopped.idles, room.taps);
+        return Ok(run_on_alone(gate, bench, round, streams, kept, plan));
+    }
     Ok(answered(&part, stopped, streams, kept)?)
 }

@@ -20,8 +20,8 @@ impl Gate for Through {
 // How many turns a gate waits at most.
 const TURNS: u32 = 1_000_000;
 
-// Waits until so many entries were counted. Whether that came before turns ran out.
-fn wait_for(entries: &AtomicU64, wanted: u64) -> bool {
+/// Waits until so many entries were counted. Whether that came before turns ran out.
+pub(crate) fn wait_for(entries: &AtomicU64, wanted: u64) -> bool {
     let backoff = Backoff::new();
     for _ in 0..TURNS {
         if entries.load(Ordering::SeqCst) >= wanted {

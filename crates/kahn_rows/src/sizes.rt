@@ -1,11 +1,12 @@
 //! Long streams, and networks that are as large as they may be.
 
-use crate::gates::Through;
+use crate::gates::{Through, wait_for};
 use crate::rows::{AMPLE, config, reported};
 use kahn_pool::{Gate, Verdict};
 use std::alloc::{AllocError, Global};
 use std::sync::atomic::{AtomicU64, Ordering};
 use std::test::Fail;
+use std::thread::available_parallelism;
 
 // A chain of so many copies after a count to this number, with channels X0 and so on between.
 fn chain(alloc: Global, copies: u64, number: u64) -> Result<String, AllocError> {
@@ -67,19 +68,6 @@ end 4 copy: waits on X2 after 300001
 finished 1100004
 ";
 
-static BY_EIGHT: &str = "
-end 1 count: ended after 40001
-end 2 copy: waits on X0 after 60001
-end 3 copy: waits on X1 after 60001
-end 4 copy: waits on X2 after 60001
-end 5 copy: waits on X3 after 60001
-end 6 copy: waits on X4 after 60001
-end 7 copy: waits on X5 after 60001
-end 8 copy: waits on X6 after 60001
-end 9 copy: waits on X7 after 60001
-finished 520009
-";
-
 #[test]
 fn a_chain_of_copies(rt: HostRuntime) -> Result<(), Fail> {
     for (number, ends) in [(64, SHORT), (65, SEGMENT_AND_ONE), (100_000, LONG)] {
@@ -93,15 +81,66 @@ fn a_chain_of_copies(rt: HostRuntime) -> Result<(), Fail> {
     Ok(())
 }
 
-// A gate that says that it is open: only workers enter it, and not who runs all processes alone.
+// Processes that count to 200,000 by themselves, and send that.
+fn farm(alloc: Global, processes: u64) -> Result<String, AllocError> {
+    let mut text = String::from_str(alloc, "begin integer output channel W0")?;
+    for channel in 1..processes {
+        text.push_str(&format!(in alloc; ", W{channel}")?)?;
+    }
+    text.push_str(
+        "\
+;
+  process count(integer out W);
+  begin integer I; while I < 200000 do I := I + 1; send I on W end;
+  count(W0)",
+    )?;
+    for channel in 1..processes {
+        text.push_str(&format!(in alloc; " par count(W{channel})")?)?;
+    }
+    text.push_str("\nend\n")?;
+    Ok(text)
+}
+
+// A gate that says that it is open: only workers enter it, and not who runs all processes alone. It holds each until as many are in
+// it as are wanted, or turns run out, and counts how often that many were in it, or more.
 #[derive(Drop)]
 struct Tally {
-    entries: AtomicU64,
+    wanted: u64,
+    inside: AtomicU64,
+    met: AtomicU64,
+    over: AtomicU64,
+}
+
+impl Tally {
+    fn of(wanted: u64) -> Tally {
+        Tally {
+            wanted,
+            inside: AtomicU64::new(0),
+            met: AtomicU64::new(0),
+            over: AtomicU64::new(0),
+        }
+    }
+
+    // Whether as many met as are wanted, and how often more did.
+    fn told(&self) -> (bool, u64) {
+        (
+            self.met.load(Ordering::SeqCst) > 0,
+            self.over.load(Ordering::SeqCst),
+        )
+    }
 }
 
 impl Gate for Tally {
     fn enter(&self, _instance: usize) {
-        self.entries.fetch_add(1, Ordering::SeqCst);
+        let inside = self.inside.fetch_add(1, Ordering::SeqCst).wrapping_add(1);
+        if inside > self.wanted {
+            self.over.fetch_add(1, Ordering::SeqCst);
+        } else {
+            self.met
+                .fetch_add(u64::from(inside == self.wanted), Ordering::SeqCst);
+            wait_for(&self.met, 1);
+        }
+        self.inside.fetch_sub(1, Ordering::SeqCst);
     }
 
     fn is_open(&self) -> bool {
@@ -109,36 +148,46 @@ impl Gate for Tally {
     }
 }
 
-// At an open gate workers come where there is much to do in long visits for many, and nowhere else: three copies hand one another all
-// that they do. The report is the same.
+// Copies, or if there are none, so many processes that count.
+fn network(alloc: Global, copies: u64, number: u64) -> Result<String, AllocError> {
+    if copies == 0 {
+        farm(alloc, number)
+    } else {
+        chain(alloc, copies, number)
+    }
+}
+
+// At an open gate as many workers come as have work, whatever the quantum is, and no more than run side by side. Copies hand one another
+// all that they do, so none come. The report is that of one worker.
 #[test]
-fn workers_come_where_there_is_work_for_them(rt: HostRuntime) -> Result<(), Fail> {
+fn as_many_come_as_have_work(rt: HostRuntime) -> Result<(), Fail> {
+    let processors = match available_parallelism(&rt) {
+        Ok(count) => count.get() as u64,
+        Err(_) => 16,
+    };
     let rows = [
-        (3, 64, 4, 1000, SHORT, false),
-        (3, 100_000, 4, 1000, LONG, false),
-        (8, 20_000, 1, 1000, BY_EIGHT, false),
-        (8, 20_000, 4, 1000, BY_EIGHT, true),
-        (8, 20_000, 16, 1_000_000, BY_EIGHT, true),
-        (8, 20_000, 4, 7, BY_EIGHT, false),
+        (0, 4, 4, 1000, 4),
+        (0, 4, 3, 7, 3),
+        (0, 2, 16, 1_000_000, 2),
+        (0, 1, 4, 1000, 0),
+        (3, 100_000, 4, 1000, 0),
+        (8, 20_000, 4, 1000, 0),
     ];
-    for (copies, number, workers, quantum, ends, come) in rows {
-        let program = chain(rt.alloc(), copies, number)?;
-        let report = counted(rt.alloc(), number, ends)?;
-        let config = config(rt.alloc(), workers, quantum, 2_000_000, None)?;
-        let gate = Tally {
-            entries: AtomicU64::new(0),
+    for (copies, number, workers, quantum, come) in rows {
+        let program = network(rt.alloc(), copies, number)?;
+        let wanted = if processors == 1 {
+            0
+        } else {
+            processors.min(come)
         };
-        let (verdict, written) = reported(&rt, rt.alloc(), program.as_str(), "", config, &gate)?;
+        let gate = Tally::of(wanted);
+        let one = config(rt.alloc(), 1, quantum, 2_000_000, None)?;
+        let (_, alone) = reported(&rt, rt.alloc(), program.as_str(), "", one, &gate)?;
+        let several = config(rt.alloc(), workers, quantum, 2_000_000, None)?;
+        let (verdict, written) = reported(&rt, rt.alloc(), program.as_str(), "", several, &gate)?;
         assert_eq!(rt; verdict, Verdict::Finished);
-        assert!(rt;
-            written.as_str() == report.as_str(),
-            "{copies} {number} {quantum}"
-        );
-        assert_eq!(rt;
-            gate.entries.load(Ordering::SeqCst) > 0,
-            come,
-            "{copies} {workers} {quantum}"
-        );
+        assert!(rt; written.as_str() == alone.as_str(), "{copies} {number}");
+        assert_eq!(rt; gate.told(), (wanted > 0, 0), "{copies} {number} {workers}");
     }
     Ok(())
 }

@@ -1,10 +1,11 @@
 -- Inner. Jobs on which nobody works, and jobs before their first event.
-use Rattle.std.specs.Prelude.{◌≡◌}
-use Rattle.kahn_job.specs.inner.Words.{ℕ, true, false, List, [], length, map, replicate, Option, None, Some, slice_get, slice_set, slice_index_or, Program, Side, Inner, Output, Reads, Writes, network_of, instance_at, actual_at, role_at, AreInputsExtended, Lists, inputs_of, is_output, lane_name, Told, IsAt}
+use Rattle.std.specs.Prelude.{◌≡◌, ◌≤◌, ◌^◌}
+use Rattle.kahn_job.specs.inner.Words.{ℕ, Tapped, true, false, List, [], length, map, replicate, Option, None, Some, slice_get, slice_set, slice_index_or, Program, Side, Inner, Input, Output, Actual, Hands, Reads, Waiting, Writes, given_of, taken_of, network_of, instance_at, actual_at, role_at, AreInputsExtended, Lists, inputs_of, is_output, lane_name, Told, IsAt}
 use Rattle.kahn_job.specs.inner.Ends.{End, IsFlushed, ShareLane}
 use Rattle.kahn_job.specs.inner.Berths.{AreServed, AreJoinedOn, HaveStayed, Serves, end_at, end_in}
 use Rattle.kahn_job.specs.inner.Settling.{AreResting}
-use Rattle.kahn_job.specs.inner.Works.{Work, IsJob, grown_work}
+use Rattle.kahn_job.specs.inner.Ways.{no_end}
+use Rattle.kahn_job.specs.inner.Works.{IsSamePlace, Work, IsJob, grown_work}
 
 abbrev pub rows_of : List Work → List (List End)
 rows_of ws = map (λ w. w.ends) ws
@@ -52,6 +53,34 @@ pub record AreEndsOf (t : Program) (lists : Lists) (c : ℕ) (writer reader : En
   pub takes : (role_at (network_of t) c ≡ Output → ⊥) → Serves t lists (Reads c) reader
   pub fresh : IsFresh writer × IsFresh reader
 
+-- the two ends of a channel, of which this is so; of an inner channel they are those of one lane
+pub record AreEndsSo (t : Program) (so : Actual → End → Type 0) (whole : End → Type 0) (c : ℕ) (writer reader : End) : Type 0 where
+  pub puts : (role_at (network_of t) c ≡ Input → ⊥) → so (Writes c) writer
+  pub takes : (role_at (network_of t) c ≡ Output → ⊥) → so (Reads c) reader
+  pub lane : role_at (network_of t) c ≡ Inner → ShareLane writer reader
+  pub every : whole writer × whole reader
+
+-- the end of a channel that is handed over stands where the queue of that stands
+abbrev pub StandsByQueue : Program → List Waiting → Actual → End → Type 0
+StandsByQueue t queues (Reads c) e = e.next ≡ taken_of (slice_get queues c)
+StandsByQueue t queues (Writes c) e = is_output (role_at (network_of t) c) ≡ false → e.next ≡ given_of (slice_get queues c)
+StandsByQueue t queues (Hands v) e = Unit {0}
+
+abbrev pub ServesAt : Program → Lists → List Waiting → Actual → End → Type 0
+ServesAt t lists queues a e = Serves t lists a e × StandsByQueue t queues a e
+
+-- no more was flushed than was put, and all that was put
+abbrev pub IsAhead : End → Type 0
+IsAhead e = (e.flushed ≤ e.next) × IsFlushed e
+
+-- few tokens were put on each inner channel
+abbrev pub HaveFewTokens : Program → List Waiting → Type 0
+HaveFewTokens t queues = (d : ℕ) → role_at (network_of t) d ≡ Inner → given_of (slice_get queues d) ≤ 2 ^ 48
+
+-- the two ends of a channel stand where its queue stands
+abbrev pub AreEndsAt : Program → Lists → List Waiting → ℕ → End → End → Type 0
+AreEndsAt t lists queues c writer reader = AreEndsSo t (ServesAt t lists queues) IsAhead c writer reader
+
 -- the end comes to that parameter of that instance
 abbrev pub placed : List (List End) → Option Side → End → List (List End)
 placed rows None e = rows
@@ -74,3 +103,26 @@ pub record AreOpening (t : Program) (lists : Lists) (watch : Option ℕ) (ws : L
   pub idle : AreIdle t lists ws
   pub settled : HaveSettled t lists (rows_of ws)
   pub each : (p : ℕ) (w : Work) → slice_get ws p ≡ Some w → IsOpening t lists watch p w.cell
+
+-- the job of instance p before its first event, whose parameters have no ends yet
+abbrev pub HasNoEnds : Program → Lists → Option ℕ → ℕ → Work → Type 0
+HasNoEnds t lists watch p w = IsOpening t lists watch p w.cell × (w.ends ≡ replicate (length (instance_at (network_of t) p).actuals) no_end)
+
+-- so for all instances
+pub record HaveNoEnds (t : Program) (lists : Lists) (watch : Option ℕ) (ws : List Work) : Type 0 where
+  pub count : length ws ≡ length (network_of t).instances
+  pub each : (p : ℕ) (w : Work) → slice_get ws p ≡ Some w → HasNoEnds t lists watch p w
+
+-- a job for each instance, whose ends are those of its channels for this input, and stand where these queues stand
+pub record AreJobsAt (t : Program) (lists : Lists) (queues : List Waiting) (ws : List Work) : Type 0 where
+  pub count : length ws ≡ length (network_of t).instances
+  pub each : (p : ℕ) (c : Told) → slice_get (cells_of ws) p ≡ Some c → (c.network ≡ t) × (c.instance ≡ p)
+  pub settled : HaveSettled t lists (rows_of ws)
+  pub at : (p q : ℕ) → StandsByQueue t queues (actual_at (instance_at (network_of t) p) q) (end_in (rows_of ws) p q)
+
+-- the cells of the jobs and of the taps are those of the same instances
+abbrev pub AreSamePlaces : List Told → List Told → Type 0
+AreSamePlaces cells tolds = (p : ℕ) (c d : Told) → slice_get cells p ≡ Some c → slice_get tolds p ≡ Some d → IsSamePlace c d
+
+abbrev pub tolds_of : List Tapped → List Told
+tolds_of taps = map (λ x. x.told) taps

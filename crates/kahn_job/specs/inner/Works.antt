@@ -9,6 +9,10 @@ pub record Work : Type 0 where
   pub cell : Told
   pub ends : List End
 
+-- they are cells of one instance of one network
+abbrev pub IsSamePlace : Told → Told → Type 0
+IsSamePlace c d = (d.network ≡ c.network) × (d.instance ≡ c.instance)
+
 -- how many parameters the process of the job has
 abbrev pub width_of : Work → ℕ
 width_of w = length (instance_at (network_of w.cell.network) w.cell.instance).actuals

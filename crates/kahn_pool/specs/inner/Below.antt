@@ -2,12 +2,12 @@
 pub use Rattle.kahn_code.specs.Cells.{AreKeptTokens, StoodBy, View, exec_on, is_streamed}
 pub use Rattle.kahn_code.specs.Lines.{AreQueued, IsPoured, Lines as Queues, place_at, waiting_of}
 pub use Rattle.kahn_code.specs.{Progress.Paused, Standing.count, Standing.tokens, declared.cell.Kept.Kept, declared.progress.Pause.Pause, inner.Tapped.HasForgotten, inner.Tapped.Tapped}
-pub use Rattle.kahn_code.specs.Progress.{IsAt, Told, told_view}
+pub use Rattle.kahn_code.specs.Progress.{AreCounts, IsAt, Told, told_view}
 pub use Rattle.kahn_code.specs.inner.Gone.{Gone, kept_behind, nothing_gone}
 pub use Rattle.kahn_crew.specs.{declared.closing.Left.Left, declared.closing.CrewFault.TheVariants.NoMemory, declared.run.Plan.Plan, inner.Tasks.handed_to_task}
 pub use Rattle.kahn_crew.specs.inner.Left.{AreAll, HaveGone, IsLack, IsOver}
 pub use Rattle.kahn_job.specs.{declared.standing.Standing.Standing, inner.Berths.IsWithinInput, inner.Berths.end_at, inner.Ends.IsReady, inner.Idles.IsOpening, inner.Settling.AreResting, inner.Settling.HaveStood, inner.Works.IsJob, inner.Works.Work}
-pub use Rattle.kahn_job.specs.inner.Idles.{AreIdle, HaveSettled, cells_of, rows_of}
+pub use Rattle.kahn_job.specs.inner.Idles.{AreIdle, AreJobsAt, HaveSettled, cells_of, rows_of}
 pub use Rattle.kahn_job.specs.inner.Tasks.{Continues, Tasked, TellsOutcome}
 pub use Rattle.kahn_streams.specs.Answers.{AreBegun, AreOne, AreRight, HasEndAt, HasStream, IsAllowed, IsCutShort, IsInRange, IsRight, IsRightRun, IsUndeclared, IsUnrun, IsWatched, Settles, channel_lines, is_watched, print_lines, stream_line, stream_lines, values_of}
 pub use Rattle.kahn_streams.specs.Feeds.{IsEntryFed, IsMeant, IsNotMeant, IsUnwelcome, total_after}

@@ -1,12 +1,16 @@
 -- Inner. The jobs of a held run.
 use Rattle.std.specs.Prelude.{◌≡◌, ℕ, ◌+◌, ◌<◌, ◌≤◌, ◌^◌, Bool, List, [], length, map, sum_by, Option, Some, None, Err, MatchResult, slice_get, vec_capacity}
-use Rattle.kahn_pool.specs.inner.Below.{AreIdle, AreInputsExtended, End, HaveGone, IsInRange, IsLack, Left, Lists, NoMemory, Plan, Program, Tasked, Token, Told, Verdict, Work, cells_of, inputs_of, network_of, told_view}
+use Rattle.kahn_pool.specs.inner.Below.{AreIdle, AreInputsExtended, AreJobsAt, End, HaveGone, IsInRange, IsLack, Left, Lists, NoMemory, Plan, Program, Tasked, Token, Told, Verdict, Work, cells_of, inputs_of, network_of, told_view}
 use Rattle.kahn_pool.specs.HeldRuns.{HeldRun, seen_events, seen_of}
-use Rattle.kahn_pool.specs.{declared.part.PartRoom.PartRoom, declared.part.Stopped.Stopped, declared.plan.Part.Part, inner.Bench.IsConcluded, inner.Bench.RunState, inner.Streams.AreAllGiven, inner.Streams.AreGiven, inner.Workbench.AllStandBy}
+use Rattle.kahn_pool.specs.{declared.part.PartRoom.PartRoom, declared.part.Stopped.Stopped, declared.plan.Part.Part, declared.workers.HandRoom.HandRoom, inner.Bench.IsConcluded, inner.Bench.RunState, inner.Streams.AreAllGiven, inner.Streams.AreGiven, inner.Workbench.AllStandBy, inner.Workbench.Table}
 
 -- the cell without its input
 abbrev pub cell_alone : Told → Told
 cell_alone c = record c { input = [] }
+
+-- the cell for this input
+abbrev pub cell_for : Lists → Told → Told
+cell_for lists c = record c { input = lists }
 
 -- what rounds see of the jobs
 abbrev pub held_state : Program → Lists → Option ℕ → List Work → RunState
@@ -88,3 +92,9 @@ pub record IsRoomFor (n : ℕ) (r : PartRoom) : Type 0 where
   pub tasks : (r.tasks.items ≡ []) × (n ≤ vec_capacity r.tasks)
   pub idles : (r.idles.items ≡ []) × (n ≤ vec_capacity r.idles)
   pub ends : n ≤ vec_capacity r.ends
+
+-- the jobs of this room stand where the bench stands, and it is enough for their part, and for as many taps
+pub record IsHandRoomFor (b : Table) (r : HandRoom) : Type 0 where
+  pub jobs : AreJobsAt b.network b.input b.queues.queues r.idles.items
+  pub part : IsRoomFor (length (network_of b.network).instances) r.part
+  pub taps : (r.taps.items ≡ []) × (length (network_of b.network).instances ≤ vec_capacity r.taps)

@@ -26,6 +26,14 @@ abbrev pub table_of : Program → Lists → Option ℕ → Program → List Tapp
 table_of t lists watch code taps queues =
     record { network = t; input = lists; watch = watch; code = code; cells = map told_in taps; gone = map gone_in taps; queues = queues }
 
+-- a bench whose cells went elsewhere
+abbrev pub vacant_of : Table → Table
+vacant_of b = record b { cells = []; gone = [] }
+
+-- with these cells, which have let go of nothing
+abbrev pub seated_with : Table → List Told → Table
+seated_with b cells = record b { cells = cells; gone = replicate (length cells) nothing_gone }
+
 -- none of so many cells has let go of anything
 abbrev pub AreWhole : ℕ → List Gone → Type 0
 AreWhole n gone = gone ≡ replicate n nothing_gone
@@ -108,6 +116,21 @@ pub record IsInRound (b : Table) (old : Round) (d : Table) (new : Round) (k : �
 pub record HasComeToRest (b d : Table) (old new : Round) : Type 0 where
   pub advanced : HasAdvanced b d old new
   pub last : IsLast (sight_of d) (all_events (sight_of b) + old.left) new.left new.memory new.ends.items
+
+-- rounds for so many events were left, and it may go on with what is left of those
+pub record MayGoOn (b d : Table) (bound : ℕ) (r : Round) : Type 0 where
+  pub may : MayRun (sight_of d) r
+  pub total : all_events (sight_of d) + r.left ≡ all_events (sight_of b) + bound
+
+-- rounds of a run with so many events in all were left there, and it has let go of nothing
+pub record IsWide (b : Table) (bound : ℕ) (r : Round) : Type 0 where
+  pub whole : AreWhole (length (network_of b.network).instances) b.gone
+  pub may : MayRun (sight_of b) r
+  pub total : all_events (sight_of b) + r.left ≡ bound
+
+-- it is of this network, for this input, with this channel watched
+abbrev pub IsBenchOf : Table → Program → Lists → Option ℕ → Type 0
+IsBenchOf b t lists watch = (b.network ≡ t) × (b.input ≡ lists) × (b.watch ≡ watch)
 
 -- a right answer of this network and input for so many events, which want of memory cut short only before the last one
 abbrev pub IsRightAlone : Program → Lists → Option ℕ → ℕ → Answer → Type 0

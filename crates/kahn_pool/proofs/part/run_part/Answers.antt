@@ -26,4 +26,4 @@ returns-then-is_err g c =
     (subst (λ cs. HaveRisen cs (cells_of us)) e.cells (risen_here (cells_of us))) NoMemory tt refl (λ f. (refl, ap (map cell_alone) e.cells))
 
 pub returns : goal.returns
-returns g c = stopped_since c.args.part.now c.args.idles.items c.settle-settled.new.idles.items c.run_settled.result c.settle-settled.ensures.cells c.run_settled.ensures
+returns g c = stopped_since c.args.part.now c.args.idles.items c.settle-settled.new.idles.items c.run_settled.result c.settle-settled.ensures.cells c.run_settled.ensures.stopped

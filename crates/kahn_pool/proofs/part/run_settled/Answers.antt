@@ -1,6 +1,6 @@
-use Rattle.std.proofs.Common.{arith, sym, ◌∙◌, subst}
-use Rattle.kahn_pool.proofs.Common.{AreReadyTasks, HaveGone, woken_ready, Work, at_mapped}
-use Rattle.kahn_pool.proofs.Held_jobs.{alone_still, have_risen, refused_so, woken_events, ended_so}
+use Rattle.std.proofs.Common.{false, true, arith, ◌≡◌, sym, ◌∙◌, subst, IsOk, Result}
+use Rattle.kahn_pool.proofs.Common.{AreReadyTasks, CrewFault, HaveGone, Verdict, woken_ready, Work, at_mapped}
+use Rattle.kahn_pool.proofs.Held_jobs.{alone_still, cells_still, have_risen, refused_so, woken_events, ended_so}
 use Rattle.kahn_pool.proofs.part.run_settled.Goals as goal
 
 pub wake_all-tasks-requires-clause-room : goal.wake_all-tasks-requires-clause-room
@@ -45,12 +45,22 @@ give_up-requires-clause-left g c =
       gone = subst (λ b. HaveGone t.network.now t.input.now t.plan.watch b c.wake_all-tasks.result.items left.tasks.items left.budget) all c.in-Err.ensures.refused;
     }
 
-pub returns-in-Ok : goal.returns-in-Ok
-returns-in-Ok g c = ended_so c.args.part.now c.args.idles.items c.conclude.result c.conclude.ensures.held c.conclude.ensures.ended c.conclude.ensures.is_one
+pub returns-in-Ok-clause-stopped : goal.returns-in-Ok-clause-stopped
+returns-in-Ok-clause-stopped g c = ended_so c.args.part.now c.args.idles.items c.conclude.result c.conclude.ensures.held c.conclude.ensures.ended c.conclude.ensures.is_one
     (have_risen c.requires.part.held c.wake_all-tasks.ensures c.in-Ok.ensures.gone c.conclude.result.idles.items c.conclude.ensures.cells)
 
-pub returns-in-Err : goal.returns-in-Err
-returns-in-Err g c =
+pub returns-in-Ok-clause-untouched : goal.returns-in-Ok-clause-untouched
+returns-in-Ok-clause-untouched g c e = absurd (let no : false ≡ true = subst (λ (o : Result Verdict CrewFault). IsOk o) e c.conclude.ensures.is_one in cc)
+
+pub returns-in-Err-clause-untouched : goal.returns-in-Err-clause-untouched
+returns-in-Err-clause-untouched g c e =
+    let up = c.give_up.ensures in
+    let f = c.in-Err.ensures in
+    let same = sym up.outcome.0 ∙ e in
+    cells_still c.requires.part.held c.wake_all-tasks.ensures f.refused c.give_up.result.idles.items up.cells (f.untouched (cc))
+
+pub returns-in-Err-clause-stopped : goal.returns-in-Err-clause-stopped
+returns-in-Err-clause-stopped g c =
     let e = c.in-Err.ensures in
     let up = c.give_up.ensures in
     let us = c.give_up.result.idles.items in

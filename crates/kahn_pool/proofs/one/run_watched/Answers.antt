@@ -1,7 +1,7 @@
 use Rattle.std.proofs.Common.{ℕ, arith, ◌≡◌, ◌+◌, length, replicate, sym, ap, ◌∙◌, subst, Option, vec_capacity}
 use Rattle.kahn_pool.proofs.Common.{Program, Lists, network_of, nothing_gone, AreStreamsReady, IsRightAlone, all_events, sight_of}
 use Rattle.kahn_pool.specs.inner.FlowBench.{IsPartEnd}
-use Rattle.kahn_pool.proofs.one.run_alone.Goals as goal
+use Rattle.kahn_pool.proofs.one.run_watched.Goals as goal
 
 pub answered-requires-clause-ended : goal.answered-requires-clause-ended
 answered-requires-clause-ended g c =
@@ -24,8 +24,8 @@ answered-requires-clause-ready g c =
     subst (λ (x : Program × Lists × Option ℕ). AreStreamsReady x.0 x.1 x.2 c.in_ok-streams.streams.items kept.items (vec_capacity kept))
     (λ i. (sym (w.network ∙ n.0) i, sym (w.input ∙ n.1) i, sym (w.watch ∙ n.2) i)) c.in_ok-streams.ensures
 
-pub returns-in-Some : goal.returns-in-Some
-returns-in-Some g c =
+pub returns : goal.returns
+returns g c =
     let w = c.run_part_alone-part.ensures.worked in
     let n = c.in_ok-bench.ensures.names in
     subst (λ (x : Program × Lists × Option ℕ). IsRightAlone x.0 x.1 x.2 c.args.plan.bound c.answered.result)

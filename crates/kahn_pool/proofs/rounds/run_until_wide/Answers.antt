@@ -1,12 +1,12 @@
 use Rattle.std.proofs.Common.{◌+◌, subst}
 use Rattle.kahn_pool.proofs.Common.{HasComeToRest, IsLast, IsVerdict, all_events, sight_of}
 use Rattle.kahn_pool.proofs.Benched.{within}
-use Rattle.kahn_pool.proofs.rounds.run_part_alone.Goals as goal
+use Rattle.kahn_pool.proofs.rounds.run_until_wide.Goals as goal
 
 pub returns-clause-concluded : goal.returns-clause-concluded
 returns-clause-concluded g c =
-    let last = c.in_ok-last.last in
-    let ended : HasComeToRest c.args.bench.now c.last_round.new.bench c.new-first.result last = c.in_ok-last.ensures.last in (
+    let last = c.in-Ok.last in
+    let ended : HasComeToRest c.args.bench.now c.last_round.new.bench c.new-first.result last = c.in-Ok.ensures.last in (
       last.memory,
       record {
         last = subst (λ n. IsLast (sight_of c.last_round.new.bench) (all_events (sight_of c.args.bench.now) + n) last.left last.memory last.ends.items) c.new-first.ensures.same.1 ended.last;
@@ -18,5 +18,5 @@ returns-clause-concluded g c =
 
 pub returns-clause-room : goal.returns-clause-room
 returns-clause-room g c =
-    let ended : HasComeToRest c.args.bench.now c.last_round.new.bench c.new-first.result c.in_ok-last.last = c.in_ok-last.ensures.last in
+    let ended : HasComeToRest c.args.bench.now c.last_round.new.bench c.new-first.result c.in-Ok.last = c.in-Ok.ensures.last in
     ended.advanced.may.room
