@@ -24,6 +24,7 @@ WARNED = re.compile(r"[^\n]*:\d+:\d+: warning: ")
 PLACE = r"[^\n]*:(\d+:\d+): error: \w+ can have come from here\n[^\n]*\n[^\n]*\n"
 UNTOLD = r"and (?:1 place|\d+ places) more\n"
 FAULTED = re.compile(rf"(?m)^(\d+)( \w+ has a fault, \w+)\n((?:{PLACE})+(?:{UNTOLD})?)")
+REFERRED = re.compile(r"(?m)^(\d+) \w+ has a fault, \w+: see (\d+) \w+$")
 OWN = "\n  = its own queue is empty: let it send before it waits"
 RING = "\n  = this ring wants a first value (let one of its processes send before it waits), or one of them takes more than another sends: --trace shows what came"
 GO_ON = "--bound N with a greater N lets the run go on"
@@ -129,7 +130,8 @@ def line_of(checked, text, inputs, ends, p):
     if word == "wants more":
         return f"{who(p)} wants more, after {events} event{'' if events == 1 else 's'}"
     if channel is None:
-        return f"{who(p)} has a fault, {word.split()[1]}"
+        first = next(z for z, (other, _, _) in enumerate(ends) if other == word and checked.instances[z][0][1] == checked.instances[p][0][1])
+        return f"{who(p)} has a fault, {word.split()[1]}" + (f": see {who(first)}" if first != p else "")
     name, writer = checked.channels[channel][0], awaited(checked, ends, p)
     out = f"{who(p)} waits on {name}{spots(checked, text, channel)}" + (", an input" + taken(len(inputs.get(channel, []))) if writer is None else f" from {who(writer)}")
     why, z = cause(checked, ends, p)
@@ -157,6 +159,8 @@ def without_places(told):
     """The same without the places of faults, and these: the lines and columns by the number of the process, and whether these are all."""
     found = {int(it.group(1)) - 1: it.group(3) for it in FAULTED.finditer(told)}
     places = {p: (re.findall(PLACE, told), re.search(UNTOLD, told) is None) for p, told in found.items()}
+    for it in REFERRED.finditer(told):
+        places[int(it.group(1)) - 1] = places[int(it.group(2)) - 1]
     return FAULTED.sub(r"\1\2\n", told), places
 
 

@@ -1,5 +1,5 @@
 -- Tables in which each name stands for the same, and what they say is wrong.
-use Rattle.std.proofs.Common.{◌≡◌, ◌⊎◌, inl, inr, ℕ, suc, ◌+◌, ◌≤◌, ◌<◌, Bool, true, false, cond, List, [], ◌∷◌, ◌++◌, length, Option, None, Some, Ok, Err, refl, ap, sym, ◌∙◌, subst, append_assoc, bytes_eq, arith}
+use Rattle.std.proofs.Common.{◌≡◌, inl, inr, ℕ, suc, ◌+◌, Bool, true, false, cond, List, [], ◌∷◌, ◌++◌, length, Option, None, Some, Ok, Err, refl, ap, sym, ◌∙◌, subst, append_assoc, bytes_eq, arith}
 use Rattle.std.specs.Option.{option_or}
 use Rattle.std.specs.Map.{lookup}
 use Rattle.kahn_streams.specs.declared.span.Span.{Span}
@@ -33,7 +33,7 @@ use Rattle.std.proofs.lemmas.List.{append-nil}
 
 -- ---- tables
 
-lookup_append : {X : Type 0} (test : List ℕ → Bool) (a c : List (List ℕ × X)) → lookup test (a ++ c) ≡ option_or (lookup test a) (lookup test c)
+pub lookup_append : {X : Type 0} (test : List ℕ → Bool) (a c : List (List ℕ × X)) → lookup test (a ++ c) ≡ option_or (lookup test a) (lookup test c)
 lookup_append test [] c = refl
 lookup_append {X} test (e ∷ es) c = by (test e.0) (lookup_append test es c)
   where
@@ -45,7 +45,7 @@ pub alike_more : {X : Type 0} (a b c : List (List ℕ × X)) → StandAlike a b 
 alike_more a b c h x =
     lookup_append (bytes_eq x) a c ∙ ap (λ o. option_or o (lookup (bytes_eq x) c)) (h x) ∙ sym (lookup_append (bytes_eq x) b c)
 
-or_none : {X : Type 0} (o : Option X) → option_or o None ≡ o
+pub or_none : {X : Type 0} (o : Option X) → option_or o None ≡ o
 or_none None = refl
 or_none (Some x) = refl
 

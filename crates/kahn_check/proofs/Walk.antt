@@ -1,9 +1,5 @@
 -- How the first fault of a list goes by its parts, and rows as lists.
-use Rattle.std.proofs.Common.{◌≡◌, ℕ, Bool, true, false, cond, List, [], ◌∷◌, ◌++◌, map, None, Some, Ok, Err, refl, ap, sym, ◌∙◌, string_bytes, bytes_eq}
-use Rattle.std.specs.Map.{lookup}
-use Rattle.std.specs.String.{string_eq}
-use Rattle.indexmap.specs.IndexMap.{insert_entry}
-use Rattle.std.specs.declared.string.String.{String}
+use Rattle.std.proofs.Common.{◌≡◌, List, [], ◌∷◌, ◌++◌, Ok, Err, refl, ap, sym}
 use Rattle.kahn_streams.specs.declared.span.Span.{Span}
 use Rattle.kahn_streams.specs.declared.tree.Kind.{Kind}
 use Rattle.kahn_streams.specs.declared.tree.Form.{Row_of-Operand, end_of-Operand, more_of-Operand}
@@ -14,11 +10,6 @@ use Rattle.kahn_streams.specs.declared.tree.Action.TheBlock.{items-the_row-State
 use Rattle.kahn_streams.specs.Wiring.{takes, gives, Scope}
 use Rattle.kahn_streams.specs.declared.fault.CheckFault.{CheckFault}
 use Rattle.kahn_streams.specs.Faults.{verdict, wrong_first, wrong_second, spanning, faults_in, kind_of, level_faults, level_kind, row_faults, body_faults, faults_of}
-
-pub find_named : {A X : Type 0} (x : List ℕ) (es : List (String A × X)) →
-    lookup (λ k. bytes_eq x (string_bytes k)) es ≡ lookup (bytes_eq x) (map (λ e. (string_bytes e.0, e.1)) es)
-find_named x [] = refl
-find_named x (e ∷ es) = ap (cond (bytes_eq x (string_bytes e.0)) (Some e.1)) (find_named x es)
 
 -- a part without faults is passed over
 pub verdict_ok : {A B : Type 0} (xs ys : List CheckFault) (a b : A) (c : B) → verdict xs a ≡ Ok b → verdict (xs ++ ys) c ≡ verdict ys c
@@ -72,25 +63,3 @@ pub list_start : (s : Scope) (fs : List CheckFault) (k0 k : Kind) (at : Span) (x
 list_start s fs k0 k at xs h =
     let e : k ≡ k0 = sym (verdict_value fs k0 k (sym h)) in
     rw e (sym (verdict_ok fs (list_faults s k0 at xs) k0 k (list_kind k0 xs) (sym h)))
-
--- ---- a name that is declared
-
-abbrev pub named : {A X : Type 0} → List (String A × X) → List (List ℕ × X)
-named es = map (λ e. (string_bytes e.0, e.1)) es
-
-pub insert_named : {A X : Type 0} (es : List (String A × X)) (k : String A) (w : X) → lookup (bytes_eq (string_bytes k)) (named es) ≡ None →
-    named (insert_entry string_eq es k w) ≡ named es ++ (string_bytes k, w) ∷ []
-insert_named [] k w h = refl
-insert_named (e ∷ es) k w h = by (bytes_eq (string_bytes k) (string_bytes e.0)) h (insert_named es k w)
-  where
-    by : (b : Bool) → cond b (Some e.1) (lookup (bytes_eq (string_bytes k)) (named es)) ≡ None →
-        (lookup (bytes_eq (string_bytes k)) (named es) ≡ None → named (insert_entry string_eq es k w) ≡ named es ++ (string_bytes k, w) ∷ []) →
-        named (cond b ((e.0, w) ∷ es) (e ∷ insert_entry string_eq es k w)) ≡ named (e ∷ es) ++ (string_bytes k, w) ∷ []
-    by true i go = cc
-    by false i go = ap (λ r. (string_bytes e.0, e.1) ∷ r) (go i)
-
-pub declared_name : {A X : Type 0} (es : List (String A × X)) (k : String A) (w : X) (x : List ℕ) (now : List (List ℕ × X)) →
-    string_bytes k ≡ x → named es ≡ now → lookup (bytes_eq x) now ≡ None → named (insert_entry string_eq es k w) ≡ now ++ (x, w) ∷ []
-declared_name es k w x now h i n =
-    let m : lookup (bytes_eq (string_bytes k)) (named es) ≡ None = rw (h, i) n in
-    rw (← i, ← h) (insert_named es k w m)

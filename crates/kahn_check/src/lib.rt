@@ -19,3 +19,6 @@ pub use kahn_streams::{Channel, CheckFault, Network, NetworkInstance, Side};
 pub use laws::{exact, part_by_part};
 pub use network::check;
 pub use part::every;
+
+// For the crates above.
+pub use names::Names;

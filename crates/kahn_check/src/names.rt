@@ -1,23 +1,27 @@
 //! Names, and what each of them stands for.
 
-ghost use Rattle.std.specs.Prelude.{◌≡◌, ◌++◌, ◌∷◌, [], IfOk, MatchResult, None};
+ghost use Rattle.std.specs.Prelude.{◌≡◌, ◌++◌, ◌∷◌, [], List, ℕ, IfOk, MatchResult, None};
 ghost use Rattle.std.specs.Map.{lookup};
 ghost use Rattle.std.proofs.Common.{bytes_eq};
 ghost use Rattle.kahn_streams.specs.View.{bytes_of};
 ghost use Rattle.kahn_streams.specs.Faults.{Declares};
 ghost use Rattle.kahn_check.specs.inner.Firsts.{kept_first};
+ghost use Rattle.kahn_check.specs.inner.Names.{hashed};
 
-use indexmap::IndexMap;
-use kahn_streams::{CheckFault, Name, NoMemory, Side, Taking};
+use kahn_streams::{About, CheckFault, Name, NoMemory, Side, Taking};
 use std::alloc::Global;
-use std::hash::{BuildHasherDefault, DefaultHasher};
-use std::marker::Model;
+use std::collections::BTreeMap;
+use std::hash::{DefaultHasher, Hash, Hasher};
+use std::marker::{Model, PhantomData};
 
-/// What each name stands for, in the order in which they were added.
+/// What each name stands for. Contracts see the names in the order in which they were added.
 #[derive(Drop)]
 pub struct Names<V> {
-    // not by the default's hash, under which names can be found by a rule that all have one place in the table
-    names: IndexMap<String, V, BuildHasherDefault<DefaultHasher>>,
+    // By the hash of a name, which is quick to compare, and by its text where another name has that hash. Both in order:
+    // whoever chooses the names can't make a look-up slow, as he can in a table of hashes.
+    firsts: BTreeMap<u64, (String, V)>,
+    others: BTreeMap<String, V>,
+    listed: About<Listed<V>>,
 }
 
 /// What each name that a process body sees stands for.
@@ -26,12 +30,46 @@ pub type Scope = Names<Taking>;
 /// By the channel's name, where this side of it is.
 pub type Sides = Names<Side>;
 
-impl<V> Model for Names<V> {
-    ghost use Rattle.std.specs.Prelude.{List, ℕ, map, string_bytes};
+/// The names in their order. Contracts alone speak of it: no value of it is made.
+pub struct Listed<V> {
+    marker: PhantomData<V>,
+}
+
+impl<V> Model for Listed<V> {
+    ghost use Rattle.std.specs.Prelude.{List, ℕ, []};
 
     ghost Value = { List (List ℕ × V) };
 
-    ghost view = { λ s. map (λ e. (string_bytes e.0, e.1)) s.names.entries };
+    ghost view = { λ _. [] };
+}
+
+impl<V> Model for Names<V> {
+    ghost use Rattle.std.specs.Prelude.{List, ℕ};
+    ghost use Rattle.std.specs.BTreeMap.{get, get_by_text};
+    ghost use Rattle.std.specs.Ordering.{nat_cmp};
+    ghost use Rattle.kahn_check.specs.inner.Names.{AreFound};
+
+    ghost Value = { List (List ℕ × V) };
+
+    ghost view = { λ s. s.listed.value };
+
+    ghost invariant = { λ s. AreFound s.listed.value (get nat_cmp s.firsts) (get_by_text s.others) };
+}
+
+fn hashed(name: &Name) -> u64
+    ensures { result ≡ hashed (bytes_of name.now) }
+{
+    let mut hasher = DefaultHasher::new();
+    name.text.as_str().hash(&mut hasher);
+    hasher.finish()
+}
+
+// The names that the caller lists.
+fn in_order<V>(_names: &Names<V>, _name: &Name, _what: &V) -> About<Listed<V>>
+    ghost list: { List (List ℕ × V) }
+    ensures { result.value ≡ list }
+{
+    About::named()
 }
 
 impl<V: Copy> Names<V> {
@@ -40,7 +78,9 @@ impl<V: Copy> Names<V> {
         ensures { result ≡ [] }
     {
         Names {
-            names: IndexMap::with_hasher(alloc, BuildHasherDefault::new()),
+            firsts: BTreeMap::new(alloc),
+            others: BTreeMap::new(alloc),
+            listed: About::named(),
         }
     }
 
@@ -48,7 +88,12 @@ impl<V: Copy> Names<V> {
     pub fn find(&self, name: &Name) -> Option<V>
         ensures { result ≡ lookup (bytes_eq (bytes_of name.now)) self.now }
     {
-        self.names.get(name.text.as_str()).copied()
+        if let Some(first) = self.firsts.get(&hashed(name)) {
+            if first.0.as_str() == name.text.as_str() {
+                return Some(first.1);
+            }
+        }
+        self.others.get(name.text.as_str()).copied()
     }
 
     /// Adds a name that stands for nothing yet.
@@ -56,7 +101,15 @@ impl<V: Copy> Names<V> {
         requires { lookup (bytes_eq (bytes_of name.now)) self.old ≡ None }
         ensures { MatchResult result (λ u. self.new ≡ self.old ++ (bytes_of name.now, what) ∷ []) (λ f. f ≡ CheckFault.NoMemory) }
     {
-        self.names.insert(name.text.clone()?, what)?;
+        let hash = hashed(name);
+        let text = name.text.clone()?;
+        let listed = in_order(self, name, &what);
+        if self.firsts.contains_key(&hash) {
+            self.others.insert(text, what)?;
+        } else {
+            self.firsts.insert(hash, (text, what))?;
+        }
+        self.listed = listed;
         Ok(())
     }
 

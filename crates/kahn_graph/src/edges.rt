@@ -3,11 +3,11 @@
 ghost use Rattle.std.specs.Prelude.{◌≡◌, ◌<◌, ◌++◌, Option, IfOk, length, string_bytes};
 ghost use Rattle.kahn_streams.specs.Network.{network_of};
 ghost use Rattle.kahn_graph.specs.Graph.{place_text, mark_text, style_text, awaited_text, edge_text, IsEdge, AreEdges};
-ghost use Rattle.kahn_graph.specs.inner.Adding.{Adds, IsKnown, said};
+ghost use Rattle.kahn_graph.specs.inner.Adding.{Adds, IsKnown};
 
 use crate::pieces::add;
 use crate::ports::add_port;
-use crate::report::add_carried;
+use crate::report::{Report, add_carried};
 use crate::stands::is_ring_channel;
 use itoa::Buffer;
 use kahn_chain::Standing;
@@ -64,14 +64,14 @@ fn ring_line(ring: bool) -> &'static str
 // Adds the edge of a channel, from its writer to its reader, as far as the names at its ends.
 fn add_line(
     text: &mut String,
-    report: &[&str],
+    report: &Report,
     number: usize,
     name: &str,
     kind: Kind,
     writer: Option<Side>,
     reader: Option<Side>,
 ) -> Result<(), AllocError>
-    ensures { IfOk result (λ _. string_bytes text.new ≡ string_bytes text.old ++ edge_text (said report.now) number name.now kind writer reader) }
+    ensures { IfOk result (λ _. string_bytes text.new ≡ string_bytes text.old ++ edge_text report.now number name.now kind writer reader) }
 {
     add(text, &["  "])?;
     add_place(text, number, writer)?;
@@ -86,14 +86,14 @@ fn add_line(
 fn add_edge(
     text: &mut String,
     network: &Network,
-    report: &[&str],
+    report: &Report,
     standings: &[Standing],
     rings: &[bool],
     channel: usize,
 ) -> Result<(), AllocError>
     requires here { channel < length (network_of network.now).channels }
-    requires known { IsKnown network.now (said report.now) standings.now rings.now }
-    ensures { IfOk result (λ _. Adds (IsEdge network.now (said report.now) channel) (string_bytes text.old) (string_bytes text.new)) }
+    requires known { IsKnown network.now report.now standings.now rings.now }
+    ensures { IfOk result (λ _. Adds (IsEdge network.now report.now channel) (string_bytes text.old) (string_bytes text.new)) }
 {
     let found = network.channel(channel);
     let writer = network.writer(channel);
@@ -113,12 +113,12 @@ fn add_edge(
 pub(crate) fn add_edges(
     text: &mut String,
     network: &Network,
-    report: &[&str],
+    report: &Report,
     standings: &[Standing],
     rings: &[bool],
 ) -> Result<(), AllocError>
-    requires { IsKnown network.now (said report.now) standings.now rings.now }
-    ensures { IfOk result (λ _. Adds (AreEdges network.now (said report.now)) (string_bytes text.old) (string_bytes text.new)) }
+    requires { IsKnown network.now report.now standings.now rings.now }
+    ensures { IfOk result (λ _. Adds (AreEdges network.now report.now) (string_bytes text.old) (string_bytes text.new)) }
 {
     for channel in 0..network.channels() {
         add_edge(text, network, report, standings, rings, channel)?;

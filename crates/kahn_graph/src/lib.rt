@@ -6,6 +6,7 @@ mod nodes;
 mod picture;
 mod pieces;
 mod ports;
+mod printing;
 mod report;
 mod stands;
 mod tips;

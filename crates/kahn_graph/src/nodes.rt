@@ -1,17 +1,19 @@
 //! The nodes of a picture.
 
-ghost use Rattle.std.specs.Prelude.{◌≡◌, ◌<◌, ◌++◌, IfOk, codes, length, string_bytes};
+ghost use Rattle.std.specs.Prelude.{◌≡◌, ◌<◌, ◌++◌, IfOk, codes, length, map, string_bytes};
 ghost use Rattle.kahn_streams.specs.Network.{network_of};
+ghost use Rattle.kahn_streams.specs.Prints.{declaration_prints, process_prints};
 ghost use Rattle.kahn_graph.specs.Graph.{named_text, values_text, node_text, IsNode, AreNodes, border_text, colour_text, ring_text, truth_text};
-ghost use Rattle.kahn_graph.specs.inner.Adding.{Adds, AddsValue, IsKnown, said};
+ghost use Rattle.kahn_graph.specs.inner.Adding.{Adds, AddsValue, IsKnown};
 
 use crate::pieces::add;
-use crate::report::add_ended;
+use crate::printing::is_printing;
+use crate::report::{Report, add_ended};
 use crate::stands::{is_ring_instance, standing};
 use crate::tips::add_tip;
 use itoa::Buffer;
 use kahn_chain::Standing;
-use kahn_streams::{Argument, Network, Parameter, Process, process_prints};
+use kahn_streams::{Argument, Network, Parameter, Process};
 use std::alloc::AllocError;
 
 // A logical value as it is written.
@@ -105,14 +107,16 @@ fn ring_border(ring: bool) -> &'static str
 fn add_made(
     text: &mut String,
     network: &Network,
-    report: &[&str],
+    report: &Report,
     instance: usize,
     process: &Process,
     arguments: &[Argument],
+    prints: bool,
     ring: bool,
 ) -> Result<(), AllocError>
-    requires { instance < usize.MAX }
-    ensures { IfOk result (λ _. string_bytes text.new ≡ string_bytes text.old ++ node_text network.now (said report.now) instance process.now arguments.now ring) }
+    requires here { instance < usize.MAX }
+    requires prints { prints ≡ process_prints process.now }
+    ensures { IfOk result (λ _. string_bytes text.new ≡ string_bytes text.old ++ node_text network.now report.now instance process.now arguments.now ring) }
 {
     let mut first = Buffer::new();
     let mut second = Buffer::new();
@@ -122,7 +126,7 @@ fn add_made(
     add(text, &["  p", node, " [label=\"", number, " ", name])?;
     add_values(text, &process.parameters, arguments)?;
     add_ended(text, report, instance, process.name.text.as_str())?;
-    let border = border(process_prints(process));
+    let border = border(prints);
     let colour = colour(standing(network, report, instance, process.name.text.as_str()));
     add(text, &["\"", border, colour, ring_border(ring)])
 }
@@ -132,16 +136,19 @@ fn add_node(
     text: &mut String,
     network: &Network,
     source: &str,
-    report: &[&str],
+    report: &Report,
     standings: &[Standing],
     rings: &[bool],
+    printing: &[bool],
     instance: usize,
 ) -> Result<(), AllocError>
     requires here { instance < length (network_of network.now).instances }
-    requires known { IsKnown network.now (said report.now) standings.now rings.now }
-    ensures { IfOk result (λ _. Adds (IsNode network.now source.now (said report.now) instance) (string_bytes text.old) (string_bytes text.new)) }
+    requires printing { printing.now ≡ map declaration_prints network.now.declarations.items }
+    requires known { IsKnown network.now report.now standings.now rings.now }
+    ensures { IfOk result (λ _. Adds (IsNode network.now source.now report.now instance) (string_bytes text.old) (string_bytes text.new)) }
 {
     let made = network.instance(instance);
+    let prints = is_printing(network, printing, made.declaration, made.process);
     let ring = is_ring_instance(network, report, standings, rings, instance);
     add_made(
         text,
@@ -150,6 +157,7 @@ fn add_node(
         instance,
         made.process,
         made.arguments,
+        prints,
         ring,
     )?;
     add_tip(text, network, source, instance)?;
@@ -162,15 +170,19 @@ pub(crate) fn add_nodes(
     text: &mut String,
     network: &Network,
     source: &str,
-    report: &[&str],
+    report: &Report,
     standings: &[Standing],
     rings: &[bool],
+    printing: &[bool],
 ) -> Result<(), AllocError>
-    requires { IsKnown network.now (said report.now) standings.now rings.now }
-    ensures { IfOk result (λ _. Adds (AreNodes network.now source.now (said report.now)) (string_bytes text.old) (string_bytes text.new)) }
+    requires printing { printing.now ≡ map declaration_prints network.now.declarations.items }
+    requires known { IsKnown network.now report.now standings.now rings.now }
+    ensures { IfOk result (λ _. Adds (AreNodes network.now source.now report.now) (string_bytes text.old) (string_bytes text.new)) }
 {
     for instance in 0..network.instances() {
-        add_node(text, network, source, report, standings, rings, instance)?;
+        add_node(
+            text, network, source, report, standings, rings, printing, instance,
+        )?;
     }
     Ok(())
 }

@@ -1,30 +1,34 @@
 //! The whole picture.
 
-ghost use Rattle.std.specs.Prelude.{IfOk, string_bytes};
+ghost use Rattle.std.specs.Prelude.{◌≡◌, IfOk, map, string_bytes};
 ghost use Rattle.std.specs.Str.Lines.{lines};
+ghost use Rattle.kahn_streams.specs.Prints.{declaration_prints};
 ghost use Rattle.kahn_graph.specs.Graph.{IsPicture};
-ghost use Rattle.kahn_graph.specs.inner.Adding.{IsKnown, said};
+ghost use Rattle.kahn_graph.specs.inner.Adding.{IsKnown};
 
 use crate::edges::add_edges;
 use crate::nodes::add_nodes;
 use crate::pieces::add;
-use crate::report::lines;
+use crate::printing::printing;
+use crate::report::Report;
 use crate::stands::standings;
 use kahn_chain::{Standing, rings};
 use kahn_streams::Network;
 use std::alloc::{AllocError, Global};
 
-// The picture of a network, with what the lines of a report say of it, and which instances are on rings.
+// The picture of a network, with what the lines of a report say of it, which instances are on rings, and which processes print.
 fn drawn(
     alloc: Global,
     network: &Network,
     source: &str,
-    report: &[&str],
+    report: &Report,
     standings: &[Standing],
     rings: &[bool],
+    printing: &[bool],
 ) -> Result<String, AllocError>
-    requires { IsKnown network.now (said report.now) standings.now rings.now }
-    ensures { IfOk result (λ text. IsPicture network.now source.now (said report.now) (string_bytes text)) }
+    requires printing { printing.now ≡ map declaration_prints network.now.declarations.items }
+    requires known { IsKnown network.now report.now standings.now rings.now }
+    ensures { IfOk result (λ text. IsPicture network.now source.now report.now (string_bytes text)) }
 {
     let mut text = String::new(alloc);
     add(
@@ -33,7 +37,9 @@ fn drawn(
             "digraph network {\n  rankdir=LR;\n  node [shape=box];\n  edge [labelfontsize=9, labeldistance=1.5, labelangle=45];\n",
         ],
     )?;
-    add_nodes(&mut text, network, source, report, standings, rings)?;
+    add_nodes(
+        &mut text, network, source, report, standings, rings, printing,
+    )?;
     add_edges(&mut text, network, report, standings, rings)?;
     add(&mut text, &["}\n"])?;
     Ok(text)
@@ -44,13 +50,16 @@ fn told_picture(
     alloc: Global,
     network: &Network,
     source: &str,
-    report: &[&str],
+    report: &Report,
 ) -> Result<String, AllocError>
-    ensures { IfOk result (λ text. IsPicture network.now source.now (said report.now) (string_bytes text)) }
+    ensures { IfOk result (λ text. IsPicture network.now source.now report.now (string_bytes text)) }
 {
     let standings = standings(alloc, network, report)?;
     let rings = rings(alloc, network, &standings)?;
-    drawn(alloc, network, source, report, &standings, &rings)
+    let printing = printing(alloc, network)?;
+    drawn(
+        alloc, network, source, report, &standings, &rings, &printing,
+    )
 }
 
 /// The text in the language of Graphviz that draws the network of a program text: a node for each instance, with its number, its
@@ -67,6 +76,6 @@ pub fn picture_text(
 ) -> Result<String, AllocError>
     ensures { IfOk result (λ text. IsPicture network.now source.now (lines report.now) (string_bytes text)) }
 {
-    let report = lines(alloc, report)?;
+    let report = Report::of(alloc, report)?;
     told_picture(alloc, network, source, &report)
 }

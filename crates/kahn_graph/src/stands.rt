@@ -5,9 +5,9 @@ ghost use Rattle.std.specs.Str.Lines.{lines};
 ghost use Rattle.kahn_streams.specs.Network.{network_of, channel_names};
 ghost use Rattle.kahn_chain.specs.Chain.{AreRings, IsRingMark};
 ghost use Rattle.kahn_graph.specs.Stands.{begins_with, told_wait, worded_standing, told_standing, standings_from, told_standings, is_told, is_told_from, IsWaitMark};
-ghost use Rattle.kahn_graph.specs.inner.Adding.{is_wait as is_wait_on, said, IsKnown, IsWaitAt};
+ghost use Rattle.kahn_graph.specs.inner.Adding.{is_wait as is_wait_on, IsKnown, IsWaitAt};
 
-use crate::report::{ending, lines as report_lines, without};
+use crate::report::{Report, without};
 use kahn_chain::Standing;
 use kahn_streams::{Instance, Network};
 use std::alloc::{AllocError, Global};
@@ -50,14 +50,14 @@ fn worded(network: &Network, words: &str) -> Option<Standing>
 /// How an instance stands that runs a process of that name, where a report tells it.
 pub(crate) fn standing(
     network: &Network,
-    report: &[&str],
+    report: &Report,
     instance: usize,
     name: &str,
 ) -> Option<Standing>
     requires { instance < usize.MAX }
-    ensures { result ≡ told_standing network.now (said report.now) instance name.now }
+    ensures { result ≡ told_standing network.now report.now instance name.now }
 {
-    match ending(report, instance, name) {
+    match report.ending(instance, name) {
         Some(words) => worded(network, words),
         None => None,
     }
@@ -67,10 +67,10 @@ pub(crate) fn standing(
 fn all_standings(
     alloc: Global,
     network: &Network,
-    report: &[&str],
+    report: &Report,
     instances: &[Instance],
 ) -> Result<Vec<Standing>, AllocError>
-    ensures { IfOk result (λ list. list.items ≡ standings_from network.now (said report.now) 0 instances.now) }
+    ensures { IfOk result (λ list. list.items ≡ standings_from network.now report.now 0 instances.now) }
 {
     let mut list = Vec::new(alloc);
     for (number, instance) in instances.iter().enumerate() {
@@ -84,19 +84,22 @@ fn all_standings(
 pub(crate) fn standings(
     alloc: Global,
     network: &Network,
-    report: &[&str],
+    report: &Report,
 ) -> Result<Vec<Standing>, AllocError>
-    ensures { IfOk result (λ list. list.items ≡ told_standings network.now (said report.now)) }
+    ensures { IfOk result (λ list. list.items ≡ told_standings network.now report.now) }
 {
     all_standings(alloc, network, report, &network.program().instances)
 }
 
 // Whether a report tells how one of these instances ended.
-fn is_any_told(report: &[&str], instances: &[Instance]) -> bool
-    ensures { result ≡ is_told_from (said report.now) 0 instances.now }
+fn is_any_told(report: &Report, instances: &[Instance]) -> bool
+    ensures { result ≡ is_told_from report.now 0 instances.now }
 {
     for (number, instance) in instances.iter().enumerate() {
-        if ending(report, number, instance.process.text.as_str()).is_some() {
+        if report
+            .ending(number, instance.process.text.as_str())
+            .is_some()
+        {
             return true;
         }
     }
@@ -104,8 +107,8 @@ fn is_any_told(report: &[&str], instances: &[Instance]) -> bool
 }
 
 // Whether the lines of a report tell how an instance of the network ended.
-fn is_told_in(network: &Network, report: &[&str]) -> bool
-    ensures { result ≡ is_told network.now (said report.now) }
+fn is_told_in(network: &Network, report: &Report) -> bool
+    ensures { result ≡ is_told network.now report.now }
 {
     is_any_told(report, &network.program().instances)
 }
@@ -114,7 +117,7 @@ fn is_told_in(network: &Network, report: &[&str]) -> bool
 pub fn is_told(alloc: Global, network: &Network, report: &str) -> Result<bool, AllocError>
     ensures { IfOk result (λ told. told ≡ is_told network.now (lines report.now)) }
 {
-    let report = report_lines(alloc, report)?;
+    let report = Report::of(alloc, report)?;
     Ok(is_told_in(network, &report))
 }
 
@@ -162,13 +165,13 @@ fn is_any_wait(network: &Network, standings: &[Standing], rings: &[bool], channe
 /// Whether some instance of a ring waits on a channel, by a report.
 pub(crate) fn is_ring_channel(
     network: &Network,
-    _report: &[&str],
+    _report: &Report,
     standings: &[Standing],
     rings: &[bool],
     channel: usize,
 ) -> bool
-    requires { IsKnown network.now (said _report.now) standings.now rings.now }
-    ensures { IsWaitMark (network_of network.now) (told_standings network.now (said _report.now)) channel result }
+    requires { IsKnown network.now _report.now standings.now rings.now }
+    ensures { IsWaitMark (network_of network.now) (told_standings network.now _report.now) channel result }
 {
     is_any_wait(network, standings, rings, channel)
 }
@@ -176,14 +179,14 @@ pub(crate) fn is_ring_channel(
 /// Whether an instance is on a ring, by a report.
 pub(crate) fn is_ring_instance(
     _network: &Network,
-    _report: &[&str],
+    _report: &Report,
     _standings: &[Standing],
     rings: &[bool],
     instance: usize,
 ) -> bool
     requires here { instance < length (network_of _network.now).instances }
-    requires known { IsKnown _network.now (said _report.now) _standings.now rings.now }
-    ensures { IsRingMark (network_of _network.now) (told_standings _network.now (said _report.now)) instance result }
+    requires known { IsKnown _network.now _report.now _standings.now rings.now }
+    ensures { IsRingMark (network_of _network.now) (told_standings _network.now _report.now) instance result }
 {
     rings[instance]
 }

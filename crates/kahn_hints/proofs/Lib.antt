@@ -1,3 +1,4 @@
+mod Handing
 mod Nearest
 mod Onces
 mod Rows

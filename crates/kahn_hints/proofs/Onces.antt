@@ -1,17 +1,18 @@
 -- One name more, and which are kept then.
-use Rattle.std.proofs.Common.{◌≡◌, ◌<◌, ◌≤◌, ◌+◌, ◌||◌, ◌∙◌, ℕ, Bool, true, false, not, List, [], ◌∷◌, ◌++◌, Some, append-nil, append_assoc, ap, bytes_eq, drop, get_or, if◌then◌else◌, is_some, length, map, refl, subst, sym}
+use Rattle.std.proofs.Common.{◌≡◌, ◌<◌, ◌≤◌, ◌+◌, ◌||◌, ◌∙◌, ℕ, Bool, true, false, not, List, [], ◌∷◌, ◌++◌, Some, append-nil, append_assoc, ap, arith, bytes_eq, drop, get_or, if◌then◌else◌, is_some, length, length-append, map, refl, subst, sym, take}
 use Rattle.std.specs.List.{filter, list_any}
 use Rattle.std.proofs.lemmas.Bool.Decides.{same_from_decides}
-use Rattle.std.proofs.lemmas.List.{at_drop_all, at_drop_more}
+use Rattle.std.proofs.lemmas.List.{at_drop_all, at_drop_more, take-append-le, take_all}
 use Rattle.std.proofs.lemmas.Slice.Eq.{bytes_eq-Decides}
 use Rattle.kahn_streams.specs.View.{bytes_of}
 use Rattle.kahn_streams.specs.declared.tree.Name.{Name}
 use Rattle.kahn_hints.specs.Places.{called_first, is_called}
 use Rattle.kahn_hints.specs.Sight.{each_once}
 use Rattle.kahn_hints.specs.inner.Once.{is_kept, kept_on, once}
+use Rattle.kahn_hints.proofs.Sights.{length_of_map}
 
 -- the same letters, either way round
-turned : (a b : List ℕ) → bytes_eq a b ≡ bytes_eq b a
+pub turned : (a b : List ℕ) → bytes_eq a b ≡ bytes_eq b a
 turned a b = same_from_decides _ _ (bytes_eq-Decides a b) (let d = bytes_eq-Decides b a in (λ h. sym (d.0 h), λ h. d.1 (sym h)))
 
 kept_is : (names : List Name) (n : Name) → is_some (called_first (bytes_of n) names) ≡ is_kept names n
@@ -106,3 +107,24 @@ all_new (m ∷ ms) = ap (λ l. m ∷ l) (all_new ms)
 
 pub once_none : (names ms : List Name) → names ≡ [] → kept_on names ms ≡ each_once ms
 once_none names ms none = ap (λ l. kept_on l ms) none ∙ all_new (each_once ms)
+
+-- ---- the first five
+
+once_most : (names : List Name) (n : Name) → length (once names n) ≤ length names + 1
+once_most names n = by (is_some (called_first (bytes_of n) names))
+  where
+    by : (b : Bool) → length (if b then names else names ++ n ∷ []) ≤ length names + 1
+    by true = omega arith
+    by false = omega (arith, length-append names (n ∷ []))
+
+pub one_longer : {A : Type 0} (f : A → Name) (xs ys : List A) (n : Name) → map f ys ≡ once (map f xs) n → length ys ≤ length xs + 1
+one_longer f xs ys n e = omega (arith, length_of_map f ys, length_of_map f xs, ap length e, once_most (map f xs) n)
+
+pub five_first : {A : Type 0} (f : A → Name) (xs : List A) (more all : List Name) → kept_on (map f xs) more ≡ all → length xs ≡ 5 → map f xs ≡ take 5 all
+five_first f xs more all e five =
+    let long : length (map f xs) ≡ 5 = sym (length_of_map f xs) ∙ five in
+    let rest = filter (λ n. not (is_kept (map f xs) n)) (each_once more) in
+    sym (ap (take 5) (sym e) ∙ take-append-le 5 (map f xs) rest (omega (arith, long)) ∙ take_all 5 (map f xs) (omega (arith, long)))
+
+pub all_few : {A : Type 0} (f : A → Name) (xs : List A) (all : List Name) → map f xs ≡ all → length xs < 5 → map f xs ≡ take 5 all
+all_few f xs all e few = sym (take_all 5 (map f xs) (omega (arith, length_of_map f xs, few))) ∙ ap (take 5) e

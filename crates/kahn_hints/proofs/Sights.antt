@@ -1,5 +1,6 @@
 -- The names in sight that are told.
-use Rattle.std.proofs.Common.{◌≡◌, ◌∙◌, ◌<◌, ◌++◌, ℕ, zero, suc, List, [], ◌∷◌, drop, length, map, take, refl, sym, ap, append_assoc, arith}
+use Rattle.std.proofs.Common.{◌≡◌, ◌==◌, ◌∙◌, ◌<◌, ◌++◌, ℕ, zero, suc, List, [], ◌∷◌, drop, length, map, take, refl, sym, ap, append_assoc, arith, codes, false, if◌then◌else◌}
+use Rattle.std.proofs.lemmas.Bool.Decides.{nat_tests}
 use Rattle.std.proofs.lemmas.List.{take_all}
 use Rattle.kahn_streams.specs.declared.tree.Name.{Name}
 use Rattle.kahn_hints.specs.Inputs.{counted_channels, more_channels, told_channels}
@@ -14,7 +15,7 @@ take_of_map f zero xs = refl
 take_of_map f (suc n) [] = refl
 take_of_map f (suc n) (x ∷ xs) = ap (λ l. f x ∷ l) (take_of_map f n xs)
 
-length_of_map : {A B : Type 0} (f : A → B) (xs : List A) → length xs ≡ length (map f xs)
+pub length_of_map : {A B : Type 0} (f : A → B) (xs : List A) → length xs ≡ length (map f xs)
 length_of_map f [] = refl
 length_of_map f (x ∷ xs) = ap suc (length_of_map f xs)
 
@@ -32,6 +33,28 @@ sight_joined f xs ys old lead one new is told p q =
     ∙ append_assoc old (sight_lead (length xs)) (listed_names (map f ys))
     ∙ ap (λ l. old ++ (sight_lead (length xs) ++ listed_names l)) (ap (map f) told ∙ take_of_map f 5 xs)
     ∙ ap (λ n. old ++ (sight_lead n ++ listed_names (take 5 (map f xs)))) (length_of_map f xs)
+
+take_twice : {A : Type 0} (n : ℕ) (xs : List A) → take n (take n xs) ≡ take n xs
+take_twice zero xs = refl
+take_twice (suc n) [] = refl
+take_twice (suc n) (x ∷ xs) = ap (λ l. x ∷ l) (take_twice n xs)
+
+some_lead : (n : ℕ) → sight_lead (suc n) ≡ codes "; in sight: "
+some_lead n = ap (λ b. if b then [] else codes "; in sight: ") (not_none n)
+  where
+    not_none : (k : ℕ) → (suc k == 0) ≡ false
+    not_none k = grind (arith, nat_tests)
+
+lead_of_few : (xs : List Name) → sight_lead (length (take 5 xs)) ≡ sight_lead (length xs)
+lead_of_few [] = refl
+lead_of_few (x ∷ xs) = some_lead (length (take 4 xs)) ∙ sym (some_lead (length xs))
+
+-- the first five tell what all would
+pub sight_of_few : (few xs : List Name) → few ≡ take 5 xs → sight_words few ≡ sight_words xs
+sight_of_few few xs e =
+    ap sight_words e
+    ∙ ap (λ l. sight_lead (length (take 5 xs)) ++ listed_names l) (take_twice 5 xs)
+    ∙ ap (λ l. l ++ listed_names (take 5 xs)) (lead_of_few xs)
 
 -- of one channel and more
 pub counted : (n : ℕ) → (n ≡ 0 → ⊥) → (n ≡ 1 → ⊥) → counted_channels n ≡ more_channels n

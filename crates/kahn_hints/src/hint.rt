@@ -426,9 +426,11 @@ fn add_tail(
         CheckFault::ChannelExpected(at) => words.push_str(channel_words(use_at(program, at))),
         CheckFault::ValueExpected(at) => add_valued(words, alloc, text, program, at),
         CheckFault::TwoWriters(at) => {
-            words.push_str(twice_at(text, program, Direction::Out, at))
+            words.push_str(twice_at(alloc, text, program, Direction::Out, at)?)
         }
-        CheckFault::TwoReaders(at) => { words.push_str(twice_at(text, program, Direction::In, at)) }
+        CheckFault::TwoReaders(at) => {
+            words.push_str(twice_at(alloc, text, program, Direction::In, at)?)
+        }
         CheckFault::NoWriter(at) => words.push_str(unwritten_at(text, program, at)),
         CheckFault::NoReader(at) => {
             words.push_str(unread_words(channel_called(program, word_at(text, at))))

@@ -3,6 +3,7 @@
 #![tactic(auto)]
 
 mod exchange;
+mod handed;
 mod hint;
 mod inputs;
 mod kinds;

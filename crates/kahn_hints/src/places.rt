@@ -1,9 +1,11 @@
 //! Where the names of a program are declared and handed over.
 
-ghost use Rattle.std.specs.Prelude.{◌≡◌, IfOk, map, option_map};
+ghost use Rattle.std.specs.Prelude.{◌≡◌, IfOk, is_some, map, option_map};
 ghost use Rattle.std.specs.List.{find, list_any};
 ghost use Rattle.kahn_streams.specs.Faults.{same_kind};
 ghost use Rattle.kahn_streams.specs.Wiring.{processes_of, same_direction};
+ghost use Rattle.kahn_hints.specs.Uses.{argument_use};
+ghost use Rattle.kahn_hints.specs.inner.Handed.{hands};
 ghost use Rattle.kahn_hints.specs.Places.{asked_of, asked_behind, asked_name, called_first, channel_called, declares, first_process, has_none, is_called, is_sought, names_seen, passed, passed_by, passed_if, passed_in, process_called, takes_channel, word_at};
 
 use crate::names::{Sort, process_names, program_names};
@@ -249,6 +251,29 @@ fn passed_in<'p>(
     None
 }
 
+/// Whether an argument is the channel of these letters.
+fn hands(word: &[u8], argument: &Argument) -> bool
+    ensures { result ≡ hands word.now argument.now }
+{
+    match argument {
+        Argument::Channel(name) => is_called(word, name),
+        Argument::Number(_, _) => false,
+        Argument::Logical(_, _) => false,
+    }
+}
+
+/// Whether one of the arguments is.
+fn is_handed(word: &[u8], arguments: &[Argument]) -> bool
+    ensures { result ≡ list_any (hands word.now) arguments.now }
+{
+    for argument in arguments {
+        if hands(word, argument) {
+            return true;
+        }
+    }
+    false
+}
+
 /// The first of such arguments of an instance.
 fn passed_by<'p>(
     program: &Program,
@@ -258,6 +283,10 @@ fn passed_by<'p>(
 ) -> Option<&'p Name>
     ensures { option_map (λ n. n.now) result ≡ passed_by program.now direction word.now instance.now }
 {
+    // a look at the arguments is cheaper than the search for the process
+    if !is_handed(word, &instance.arguments) {
+        return None;
+    }
     match process_called(program, instance.process.text.as_bytes()) {
         Some(process) => passed_in(direction, word, &process.parameters, &instance.arguments),
         None => None,
@@ -299,10 +328,25 @@ fn asked_behind<'p>(
     None
 }
 
+/// Whether one of the arguments stands at a place.
+fn is_asked(at: Span, arguments: &[Argument]) -> bool
+    ensures { result ≡ list_any (λ x. is_some (argument_use at x)) arguments.now }
+{
+    for argument in arguments {
+        if argument_use(at, argument).is_some() {
+            return true;
+        }
+    }
+    false
+}
+
 /// The same of an instance.
 pub(crate) fn asked_of<'p>(program: &'p Program, at: Span, instance: &Instance) -> Option<&'p Name>
     ensures { option_map (λ n. n.now) result ≡ asked_of program.now at instance.now }
 {
+    if !is_asked(at, &instance.arguments) {
+        return None;
+    }
     match process_called(program, instance.process.text.as_bytes()) {
         Some(process) => asked_behind(at, &process.parameters, &instance.arguments),
         None => None,

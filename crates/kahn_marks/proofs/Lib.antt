@@ -1,4 +1,5 @@
 mod Feeds
+mod Fronts
 pub mod Joined
 mod Rows
 mod Shown

@@ -3,7 +3,7 @@ use Rattle.std.proofs.Common.{◌≡◌, ℕ, ◌+◌, zero, suc, List, [], ◌�
 use Rattle.std.proofs.lemmas.Option.{unwrap_or-slice_get}
 use Rattle.std.proofs.lemmas.Str.{chars-nil}
 use Rattle.kahn_marks.specs.declared.columns.Row.{Row}
-use Rattle.kahn_marks.specs.Marks.{piece_of, with_places, times_over}
+use Rattle.kahn_marks.specs.Marks.{piece_of, shown_character, with_places, times_over}
 
 -- what is written of characters, the first of which begins at `at`
 abbrev pub written : Row → ℕ → ℕ → ℕ → List ℕ → List ℕ
@@ -19,7 +19,7 @@ moved row from bytes here at next c cs ds old new all same is step added before 
     ∙ ap (λ l. old ++ written row from bytes at l) (sym is)
     ∙ before
 
-none_left : (xs : List ℕ) → length xs ≡ 0 → xs ≡ []
+pub none_left : (xs : List ℕ) → length xs ≡ 0 → xs ≡ []
 none_left [] e = refl
 none_left (x ∷ xs) e = absurd (omega (arith, e))
 
@@ -27,6 +27,18 @@ none_left (x ∷ xs) e = absurd (omega (arith, e))
 pub done : (row : Row) (from bytes at : ℕ) (rest text all : List ℕ) → length rest ≡ 0 → text ++ written row from bytes at (chars rest) ≡ all → text ≡ all
 done row from bytes at rest text all none before =
     sym (append-nil text) ∙ ap (λ l. text ++ written row from bytes at l) (sym (ap chars (none_left rest none) ∙ chars-nil)) ∙ before
+
+-- of a text that is shown, one character more
+pub shown_more : (c : ℕ) (cs ds old new all : List ℕ) → cs ≡ c ∷ ds → new ≡ old ++ shown_character c → old ++ flat_map shown_character cs ≡ all
+    → new ++ flat_map shown_character ds ≡ all
+shown_more c cs ds old new all is added before =
+    ap (λ l. l ++ flat_map shown_character ds) added ∙ append_assoc old (shown_character c) (flat_map shown_character ds)
+    ∙ ap (λ l. old ++ flat_map shown_character l) (sym is) ∙ before
+
+-- and none
+pub shown_whole : (rest text all : List ℕ) → length rest ≡ 0 → text ++ flat_map shown_character (chars rest) ≡ all → text ≡ all
+shown_whole rest text all none before =
+    sym (append-nil text) ∙ ap (λ l. text ++ flat_map shown_character l) (sym (ap chars (none_left rest none) ∙ chars-nil)) ∙ before
 
 -- once more, at the end
 pub once_more : (n : ℕ) (piece : List ℕ) → times_over (suc n) piece ≡ times_over n piece ++ piece

@@ -1,2 +1,4 @@
 pub mod Marks
+pub mod Near
+pub mod Shown
 pub mod Told

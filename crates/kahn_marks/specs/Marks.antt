@@ -35,6 +35,10 @@ is_kept_back c = is_control c || is_format c
 abbrev pub shown_character : ℕ → List ℕ
 shown_character c = if c == 9 then codes "    " else if is_kept_back c then encode_utf8 0xFFFD else encode_utf8 c
 
+-- and a text, as of a path
+abbrev pub shown_text : List ℕ → List ℕ
+shown_text text = flat_map shown_character (chars text)
+
 -- the columns that it takes then in a terminal
 abbrev pub columns : ℕ → ℕ
 columns c = if c == 9 then 4 else if is_kept_back c then 1 else unwrap_or (char_width false c) 0

@@ -55,7 +55,7 @@ fn is_format(character: char) -> bool
 }
 
 /// Whether a terminal doesn't get a character as it is.
-fn is_kept_back(character: char) -> bool
+pub(crate) fn is_kept_back(character: char) -> bool
     ensures { result ≡ is_kept_back character }
 {
     character.is_control() || is_format(character)
@@ -75,7 +75,7 @@ fn columns(character: char) -> usize
 }
 
 /// Adds a character as it is shown: a tab as four blanks, and a control or format character as U+FFFD.
-fn add_shown(text: &mut String, character: char) -> Result<(), AllocError>
+pub(crate) fn add_shown(text: &mut String, character: char) -> Result<(), AllocError>
     ensures { IfOk result (λ _. string_bytes text.new ≡ string_bytes text.old ++ shown_character character) }
 {
     if character == '\t' {

@@ -2,13 +2,17 @@
 #![tactic(auto)]
 
 mod columns;
+mod near;
 mod note;
 mod pieces;
 mod places;
+mod sentence;
 mod told;
 
 // For the crates above.
+pub use near::is_within;
 pub use note::{marked, marked_too, marked_warning};
 pub use pieces::{add, add_repeated};
 pub use places::{add_spot, place};
+pub use sentence::{add_shown_text, shown_part};
 pub use told::{MOST_NOTES, add_more, first_ones};

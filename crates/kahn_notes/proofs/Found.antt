@@ -1,5 +1,5 @@
 -- A lexeme that is found is as the lexer makes it.
-use Rattle.std.proofs.Common.{ℕ, zero, suc, List, [], ◌∷◌, ◌++◌, Option, Some, None, IfSome, length, slice_get, sym, subst, IsUtf8}
+use Rattle.std.proofs.Common.{ℕ, List, [], ◌∷◌, ◌++◌, length, sym, subst, IsUtf8}
 use Rattle.std.proofs.lemmas.Str.{IsCharBoundary-start}
 use Rattle.kahn_streams.specs.declared.span.Span.{Span}
 use Rattle.kahn_syntax.specs.declared.fault.What.{What}
@@ -9,8 +9,6 @@ use Rattle.kahn_syntax.specs.Texts.{AreProper, IsProper, AreLexemes}
 use Rattle.kahn_syntax.proofs.Cuts.{lexed_slices}
 use Rattle.kahn_syntax.proofs.Proper.{lexed_proper}
 use Rattle.kahn_wanted.specs.declared.found.Unexpected.{Unexpected}
-use Rattle.kahn_wanted.specs.declared.mended.Mends.{Mends}
-use Rattle.kahn_wanted.specs.Mends.{AreMendsOf, lexeme_before}
 use Rattle.kahn_wanted.specs.Wanted.{IsAtFault, IsInstead, IsUnexpected}
 use Rattle.kahn_notes.specs.Notes.{MayFind}
 
@@ -32,17 +30,3 @@ at_place text xs span Other u h is = instead text xs span u h is
 
 pub may_find : (text : List ℕ) (span : Span) (what : What) (u : Unexpected) → IsUtf8 text → IsUnexpected text span what u → MayFind text u.found
 may_find text span what u utf8 (xs, h, is) = at_place text xs span what u (proper text xs utf8 h) is
-
--- so is the one before a place
-may_get : (text : List ℕ) (xs : List Lexeme) (i : ℕ) → AreProper text xs → MayFind text (slice_get xs i)
-may_get text [] i h = tt
-may_get text (x ∷ xs) zero h = h.0
-may_get text (x ∷ xs) (suc i) h = may_get text xs i h.1
-
-may_before : (text : List ℕ) (xs : List Lexeme) (i : ℕ) → AreProper text xs → MayFind text (lexeme_before xs i)
-may_before text xs zero h = tt
-may_before text xs (suc i) h = may_get text xs i h
-
-pub may_last : (text : List ℕ) (span : Span) (what : What) (m : Option Mends) → IsUtf8 text → AreMendsOf text span what m → IfSome m (λ n. MayFind text n.before)
-may_last text span what None utf8 h = tt
-may_last text span what (Some m) utf8 (xs, are, (few, i, place, is, told)) = subst (MayFind text) (sym is) (may_before text xs i (proper text xs utf8 are))

@@ -1,5 +1,3 @@
-mod Closing
-mod Firsts
 mod Found
 pub mod Named
 pub mod Pieces

@@ -1,10 +1,4 @@
-pub mod Advice
-pub mod Blocked
 pub mod Characters
-pub mod Closed
-pub mod Foreign
 pub mod Held
 pub mod Notes
-pub mod Order
 pub mod Words
-pub mod inner

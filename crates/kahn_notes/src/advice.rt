@@ -1,9 +1,6 @@
 //! What is said where something stands as in another language, or without what belongs to it, by what may stand there.
 
-ghost use Rattle.std.specs.Prelude.{◌≡◌, map, option_map};
-ghost use Rattle.kahn_notes.specs.Advice.{advice, first_fitting, fits, is_met, may_be};
-
-use crate::habits::HABITS;
+use crate::habits::{HABITS, NESTED, SIGNS};
 use crate::wanting::{awaits, finds, offers};
 use kahn_syntax::{Class, Lexeme};
 use kahn_wanted::{Group, Wanted};
@@ -39,9 +36,7 @@ pub(crate) type Habit = (
 );
 
 /// Whether a test holds of a place.
-fn holds(test: Test, before: Option<Lexeme>, found: Option<Lexeme>, wanted: &Wanted) -> bool
-    ensures { result ≡ is_met before found wanted.now test }
-{
+fn holds(test: Test, before: Option<Lexeme>, found: Option<Lexeme>, wanted: &Wanted) -> bool {
     match test {
         Test::First => before.is_none(),
         Test::Number => match found {
@@ -58,16 +53,12 @@ fn holds(test: Test, before: Option<Lexeme>, found: Option<Lexeme>, wanted: &Wan
 }
 
 /// Whether what was found is one of some classes, where there are some.
-fn may_be(classes: &[Class], lexeme: Option<Lexeme>) -> bool
-    ensures { result ≡ may_be classes.now lexeme }
-{
+fn may_be(classes: &[Class], lexeme: Option<Lexeme>) -> bool {
     classes.is_empty() || finds(classes, lexeme)
 }
 
 /// Whether a habit is found at a place.
-fn fits(habit: &Habit, before: Option<Lexeme>, found: Option<Lexeme>, wanted: &Wanted) -> bool
-    ensures { result ≡ fits before found wanted.now (habit.now.0.now, habit.now.1.now, habit.now.2.now, habit.now.3.now) }
-{
+fn fits(habit: &Habit, before: Option<Lexeme>, found: Option<Lexeme>, wanted: &Wanted) -> bool {
     if !may_be(habit.0, before) || !may_be(habit.1, found) {
         return false;
     }
@@ -85,9 +76,7 @@ fn first_fitting(
     before: Option<Lexeme>,
     found: Option<Lexeme>,
     wanted: &Wanted,
-) -> Option<&'static str>
-    ensures { option_map (λ words. words.now) result ≡ first_fitting before found wanted.now (map (λ h. (h.0.now, h.1.now, h.2.now, h.3.now)) habits.now) }
-{
+) -> Option<&'static str> {
     for habit in habits {
         if fits(habit, before, found, wanted) {
             return Some(habit.3);
@@ -101,8 +90,29 @@ pub(crate) fn advice(
     before: Option<Lexeme>,
     found: Option<Lexeme>,
     wanted: &Wanted,
-) -> Option<&'static str>
-    ensures { option_map (λ words. words.now) result ≡ advice before found wanted.now }
-{
+) -> Option<&'static str> {
     first_fitting(&HABITS, before, found, wanted)
+}
+
+/// Whether no byte stands between two lexemes.
+pub(crate) fn are_joined(before: Option<Lexeme>, found: Option<Lexeme>) -> bool {
+    match (before, found) {
+        (Some(one), Some(other)) => one.span.to == other.span.from,
+        (_, _) => false,
+    }
+}
+
+/// What is said before a change of one lexeme: of two signs that are one in other languages, and of an `if` where a change would mislead.
+pub(crate) fn early_advice(
+    before: Option<Lexeme>,
+    found: Option<Lexeme>,
+    wanted: &Wanted,
+) -> Option<&'static str> {
+    if let Some(words) = first_fitting(&NESTED, before, found, wanted) {
+        return Some(words);
+    }
+    if are_joined(before, found) {
+        return first_fitting(&SIGNS, before, found, wanted);
+    }
+    None
 }

@@ -1,14 +1,32 @@
 //! What is said of a comment before a place where a text goes wrong.
 
 ghost use Rattle.std.specs.Prelude.{◌≡◌, ◌++◌, IfOk, string_bytes};
-ghost use Rattle.kahn_notes.specs.Notes.{IsCommented, comment_text, comment_verb, comment_words};
+ghost use Rattle.kahn_notes.specs.Notes.{IsCommented, comment_text, comment_verb, comment_words, remark};
 
-use crate::mended::add_remark;
-use kahn_marks::{add_spot, marked, place};
+use itoa::Buffer;
+use kahn_marks::{add, add_repeated, add_spot, marked, place};
 use kahn_streams::NoMemory;
 use kahn_syntax::Span;
 use kahn_wanted::comment_before;
 use std::alloc::{AllocError, Global};
+
+/// Adds a line below the carets under a part.
+pub(crate) fn add_remark(
+    note: &mut String,
+    text: &str,
+    span: Span,
+    words: &str,
+) -> Result<(), AllocError>
+    ensures { IfOk result (λ _. string_bytes note.new ≡ string_bytes note.old ++ remark text.now span words.now) }
+{
+    let from = span.from.min(text.len());
+    let (line, _) = Span { from, to: from }.place(text);
+    let mut buffer = Buffer::new();
+    let number = buffer.format(line);
+    note.push_str(" ")?;
+    add_repeated(note, " ", number.len())?;
+    add(note, &[" = ", words, "\n"])
+}
 
 /// Whether a comment ends on the line where it begins, in words.
 fn comment_verb(text: &str, comment: Span) -> &'static str

@@ -1,17 +1,13 @@
 //! Words of other languages, and what this one has in their place.
 
-ghost use Rattle.std.specs.Prelude.{◌≡◌, map, option_map};
-ghost use Rattle.kahn_notes.specs.Foreign.{acting_words, advised, foreign, foreign_words, is_one_of, joins, name_before, spelled_name, told_word};
-
-use crate::advice::advice;
+use crate::advice::{advice, are_joined};
+use crate::place::{Place, ahead, back, before, found, is_declared, letters};
 use crate::wanting::{awaits, finds};
-use kahn_syntax::{Class, Lexeme, Sign};
-use kahn_wanted::{Wanted, bytes_between};
+use kahn_syntax::{Class, Keyword, Lexeme, Sign};
+use kahn_wanted::Wanted;
 
 /// Whether a word is one of these, in any letter case.
-fn is_one_of(word: &[u8], others: &[&str]) -> bool
-    ensures { result ≡ is_one_of word.now (map (λ other. other.now) others.now) }
-{
+fn is_one_of(word: &[u8], others: &[&str]) -> bool {
     for other in others {
         if word.eq_ignore_ascii_case(other.as_bytes()) {
             return true;
@@ -24,13 +20,13 @@ fn is_one_of(word: &[u8], others: &[&str]) -> bool
 type Told = (&'static [&'static str], &'static str);
 
 /// Those that are told of wherever they stand.
-pub(crate) const FOREIGN: [Told; 11] = [
+pub(crate) const FOREIGN: [Told; 13] = [
     (
-        &["for", "until", "loop", "forever"],
+        &["for", "until", "loop", "forever", "foreach"],
         "a loop is `while E do S`, or `repeat S`, which has no end",
     ),
     (
-        &["break", "exit"],
+        &["break", "exit", "continue"],
         "a loop ends where the test of its `while` is false",
     ),
     (
@@ -43,7 +39,15 @@ pub(crate) const FOREIGN: [Told; 11] = [
         "the kinds are `integer` and `logical`; one stands before its names",
     ),
     (
-        &["endif", "endwhile", "fi", "od"],
+        &["let", "local"],
+        "a kind declares variables, right behind the `begin` of a process: `integer X`",
+    ),
+    (
+        &["function", "func", "procedure", "proc", "def"],
+        "a process is `process P(integer in U; integer out W); begin .. end`",
+    ),
+    (
+        &["endif", "endwhile", "endfor", "fi", "od", "done"],
         "an `if`, a `while` or a `repeat` has no `end` of its own",
     ),
     (
@@ -63,7 +67,7 @@ pub(crate) const FOREIGN: [Told; 11] = [
 ];
 
 /// Those that are told of where they begin a statement.
-pub(crate) const ACTING: [Told; 3] = [
+pub(crate) const ACTING: [Told; 6] = [
     (
         &["select", "alt"],
         "there is no choice among channels, since timing can't matter: a process waits on one at a time",
@@ -73,15 +77,25 @@ pub(crate) const ACTING: [Told; 3] = [
         "a choice is `if E then S else if F then T else ..`",
     ),
     (
-        &["skip", "pass"],
+        &["recv", "receive", "get", "read"],
+        "a statement takes a value by `X := wait(C)`",
+    ),
+    (
+        &["put", "emit", "write"],
+        "a statement sends a value by `send E on C`",
+    ),
+    (
+        &["writeln", "println", "printf", "echo"],
+        "a statement prints a value by `print E`",
+    ),
+    (
+        &["skip", "pass", "null", "nop"],
         "a statement that does nothing is empty, or `begin end`",
     ),
 ];
 
 /// What is said of a word, where it is one of these.
-fn told_word(told: &[Told], word: &[u8]) -> Option<&'static str>
-    ensures { option_map (λ words. words.now) result ≡ told_word word.now (map (λ t. (map (λ w. w.now) t.0.now, t.1.now)) told.now) }
-{
+fn told_word(told: &[Told], word: &[u8]) -> Option<&'static str> {
     for row in told {
         if is_one_of(word, row.0) {
             return Some(row.1);
@@ -90,94 +104,77 @@ fn told_word(told: &[Told], word: &[u8]) -> Option<&'static str>
     None
 }
 
-/// What is said of a word wherever it stands.
-fn foreign_words(word: &[u8]) -> Option<&'static str>
-    ensures { option_map (λ words. words.now) result ≡ foreign_words word.now }
-{
-    told_word(&FOREIGN, word)
+/// Whether a word is one of these.
+pub(crate) fn is_foreign(word: &[u8]) -> bool {
+    told_word(&FOREIGN, word).is_some() || told_word(&ACTING, word).is_some()
 }
 
-/// The letters of a name.
-fn spelled_name(text: &str, lexeme: Option<Lexeme>) -> &[u8]
-    ensures { result.now ≡ spelled_name text.now lexeme }
-{
-    let Some(lexeme) = lexeme else {
+/// The letters of the name so far before a place, if the text doesn't declare it; of one that has a value given to it, and of that of a
+/// process, none.
+fn free_name<'p>(place: Place<'p>, count: usize) -> &'p [u8] {
+    let Some(lexeme) = back(place, count) else {
         return &[];
     };
-    match lexeme.what {
-        Class::Name => bytes_between(text, lexeme.span.from, lexeme.span.to),
-        Class::Word(_) | Class::Number(_) | Class::Sign(_) => &[],
+    let is_given = count == 1
+        && finds(
+            &[Class::Sign(Sign::Equal), Class::Sign(Sign::Becomes)],
+            found(place),
+        );
+    let name = letters(place.text, lexeme);
+    let is_head = finds(
+        &[Class::Word(Keyword::Process)],
+        back(place, count.saturating_add(1)),
+    );
+    if lexeme.what != Class::Name
+        || is_given
+        || is_head
+        || is_declared(place.text, ahead(place, 1), name)
+    {
+        return &[];
     }
-}
-
-/// The letters of a name before what was found, but for one that has a value given to it.
-fn name_before(text: &str, before: Option<Lexeme>, found: Option<Lexeme>) -> &[u8]
-    ensures { result.now ≡ name_before text.now before found }
-{
-    if finds(&[Class::Sign(Sign::Equal)], found) {
-        &[]
-    } else {
-        spelled_name(text, before)
-    }
-}
-
-/// What is said of a name before a place, or at it.
-fn foreign(text: &str, before: Option<Lexeme>, found: Option<Lexeme>) -> Option<&'static str>
-    ensures { option_map (λ words. words.now) result ≡ foreign text.now before found }
-{
-    match foreign_words(name_before(text, before, found)) {
-        Some(words) => Some(words),
-        None => foreign_words(spelled_name(text, found)),
-    }
+    name
 }
 
 /// What is said of a name that begins a statement.
-fn acting_words(
-    text: &str,
-    before: Option<Lexeme>,
-    found: Option<Lexeme>,
-    wanted: &Wanted,
-) -> Option<&'static str>
-    ensures { option_map (λ words. words.now) result ≡ acting_words text.now before found wanted.now }
-{
-    if awaits(Class::Sign(Sign::Becomes), wanted) {
-        return told_word(&ACTING, name_before(text, before, found));
+fn acting_words(place: Place) -> Option<&'static str> {
+    if awaits(Class::Sign(Sign::Becomes), place.wanted) {
+        return told_word(&ACTING, free_name(place, 1));
     }
     None
 }
 
-/// What is said of a lexeme right behind another one: of letters behind a number, and of `-` behind a name that is no argument.
-fn joins(before: Option<Lexeme>, found: Option<Lexeme>, wanted: &Wanted) -> Option<&'static str>
-    ensures { option_map (λ words. words.now) result ≡ joins before found wanted.now }
-{
-    match (before, found) {
-        (Some(one), Some(other)) if one.span.to == other.span.from => match (one.what, other.what) {
-            (Class::Number(_), Class::Name) => Some("a number has decimal digits alone"),
-            (Class::Name, Class::Sign(Sign::Minus)) if !awaits(Class::Sign(Sign::Close), wanted) =>
-                { Some("a name has letters, digits and `_`") }
-            _ => None,
-        },
-        _ => None,
+/// What is said of a word of another language before a place, or at it.
+pub(crate) fn foreign_words(place: Place) -> Option<&'static str> {
+    if let Some(words) = told_word(&FOREIGN, free_name(place, 1)) {
+        return Some(words);
+    }
+    match told_word(&FOREIGN, free_name(place, 0)) {
+        Some(words) => Some(words),
+        None => acting_words(place),
     }
 }
 
+/// What is said of a lexeme right behind another one: of letters behind a number, and of `-` behind a name that is no argument.
+fn joins(before: Option<Lexeme>, found: Option<Lexeme>, wanted: &Wanted) -> Option<&'static str> {
+    if !are_joined(before, found) {
+        return None;
+    }
+    let is_number = matches!(before, Some(lexeme) if matches!(lexeme.what, Class::Number(_)));
+    if is_number && finds(&[Class::Name], found) {
+        return Some("a number has decimal digits alone");
+    }
+    let is_dash = finds(&[Class::Name], before) && finds(&[Class::Sign(Sign::Minus)], found);
+    if is_dash && !awaits(Class::Sign(Sign::Close), wanted) {
+        return Some("a name has letters, digits and `_`");
+    }
+    None
+}
+
 /// What is said of a lexeme behind another one, where these may stand.
-pub(crate) fn advised(
-    text: &str,
-    before: Option<Lexeme>,
-    found: Option<Lexeme>,
-    wanted: &Wanted,
-) -> Option<&'static str>
-    ensures { option_map (λ words. words.now) result ≡ advised text.now before found wanted.now }
-{
-    if let Some(words) = foreign(text, before, found) {
-        return Some(words);
-    }
-    if let Some(words) = acting_words(text, before, found, wanted) {
-        return Some(words);
-    }
-    match joins(before, found, wanted) {
+pub(crate) fn habit_words(place: Place) -> Option<&'static str> {
+    let (before, found) = (before(place), found(place));
+    match joins(before, found, place.wanted) {
         Some(words) => Some(words),
-        None => advice(before, found, wanted),
+        None => advice(before, found, place.wanted),
     }
 }

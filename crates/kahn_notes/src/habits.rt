@@ -13,8 +13,8 @@ use kahn_syntax::Sign::{
 };
 use kahn_wanted::Group::{Arithmetic, Declaration, Operand, Statement};
 
-/// The first that holds is told.
-pub(crate) const HABITS: [Habit; 73] = [
+/// These are told before a change of one lexeme, which would mislead.
+pub(crate) const NESTED: [Habit; 4] = [
     (
         &[Word(Then)],
         &[Word(If)],
@@ -34,52 +34,20 @@ pub(crate) const HABITS: [Habit; 73] = [
         "a `repeat` behind `then` stands between `begin` and `end`",
     ),
     (
-        &[Word(Then)],
-        &[Word(Wait)],
         &[],
-        "`wait(C)` is a value: a statement takes one by `X := wait(C)`",
+        &[Word(If)],
+        &[All(Operand)],
+        "an `if` among operators stands in brackets",
     ),
-    (
-        BEGINS,
-        &[Word(Wait)],
-        &[],
-        "`wait(C)` is a value: a statement takes one by `X := wait(C)`",
-    ),
-    (
-        BEGINS,
-        &[Sign(Open), Sign(Minus)],
-        &[],
-        "a statement begins with a name or a keyword; a comment goes from `comment` to `;`",
-    ),
+];
+
+/// Two signs that are one in other languages, or are told where they stand side by side.
+pub(crate) const SIGNS: [Habit; 10] = [
     (
         &[Sign(Open)],
         &[Sign(Times)],
         &[],
         "a comment goes from `comment` to `;`",
-    ),
-    (
-        &[Word(Begin), Word(Do), Word(Else), Sign(Semicolon)],
-        &[Word(Do)],
-        &[],
-        "a loop is `while E do S`, or `repeat S`, which has no end",
-    ),
-    (
-        &[Word(Repeat)],
-        &[],
-        &[Number],
-        "`repeat` goes on for ever: `while I < 10 do begin ..; I := I + 1 end` is ten turns",
-    ),
-    (
-        &[Word(Par)],
-        &[Word(End), Word(Else)],
-        &[],
-        "`par` stands between instances: `p(A) par q(B)`",
-    ),
-    (
-        &[Word(Par)],
-        &[Word(Begin)],
-        &[],
-        "instances stand without `begin`: `p(A) par q(B)`",
     ),
     (
         &[Sign(Minus)],
@@ -109,16 +77,68 @@ pub(crate) const HABITS: [Habit; 73] = [
         "there is no power: `X * X`",
     ),
     (
-        &[Word(Wait)],
-        &[],
-        &[],
-        "brackets stand round the channel: `wait(C)`",
-    ),
-    (
         &[Sign(Becomes)],
         &[Sign(Less)],
         &[],
         "a value is taken by `wait(C)`",
+    ),
+    (
+        &[],
+        &[Sign(Plus), Sign(Minus)],
+        &[May(Sign(Becomes))],
+        "there is no `++` and no `+=`: `X := X + 1`",
+    ),
+];
+
+/// The first that holds is told.
+pub(crate) const HABITS: [Habit; 60] = [
+    (
+        &[Word(Then)],
+        &[Word(Wait)],
+        &[],
+        "`wait(C)` is a value: a statement takes one by `X := wait(C)`",
+    ),
+    (
+        BEGINS,
+        &[Word(Wait)],
+        &[],
+        "`wait(C)` is a value: a statement takes one by `X := wait(C)`",
+    ),
+    (
+        BEGINS,
+        &[Sign(Open), Sign(Minus)],
+        &[],
+        "a statement begins with a name or a keyword; a comment goes from `comment` to `;`",
+    ),
+    (
+        &[Word(Begin), Word(Do), Word(Else), Sign(Semicolon)],
+        &[Word(Do)],
+        &[],
+        "a loop is `while E do S`, or `repeat S`, which has no end",
+    ),
+    (
+        &[Word(Repeat)],
+        &[],
+        &[Number],
+        "`repeat` goes on for ever: `while I < 10 do begin ..; I := I + 1 end` is ten turns",
+    ),
+    (
+        &[Word(Par)],
+        &[Word(End), Word(Else)],
+        &[],
+        "`par` stands between instances: `p(A) par q(B)`",
+    ),
+    (
+        &[Word(Par)],
+        &[Word(Begin)],
+        &[],
+        "instances stand without `begin`: `p(A) par q(B)`",
+    ),
+    (
+        &[Word(Wait)],
+        &[],
+        &[],
+        "brackets stand round the channel: `wait(C)`",
     ),
     (
         &[Word(On)],
@@ -212,12 +232,6 @@ pub(crate) const HABITS: [Habit; 73] = [
     (
         &[],
         &[Word(If)],
-        &[All(Operand)],
-        "an `if` among operators stands in brackets",
-    ),
-    (
-        &[],
-        &[Word(If)],
         &[Operator, MayNot(Sign(Semicolon))],
         "a choice among values is `if T then A else B`",
     ),
@@ -282,6 +296,12 @@ pub(crate) const HABITS: [Habit; 73] = [
         "a program ends with its instances: `p(A, B) par q(B, C)`",
     ),
     (
+        &[Sign(Semicolon)],
+        &[Word(Begin)],
+        &[May(Word(Integer)), NotAll(Declaration), NotAll(Statement)],
+        "`)` stands behind the parameters: `process P(integer in U; integer out W);`",
+    ),
+    (
         &[],
         &[Word(Begin)],
         &[All(Declaration)],
@@ -334,12 +354,6 @@ pub(crate) const HABITS: [Habit; 73] = [
         &[Sign(Plus)],
         &[Value],
         "no `+` stands before a value: leave it out",
-    ),
-    (
-        &[],
-        &[Sign(Plus), Sign(Minus)],
-        &[May(Sign(Becomes))],
-        "there is no `++` and no `+=`: `X := X + 1`",
     ),
     (
         &[],

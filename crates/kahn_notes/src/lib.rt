@@ -3,18 +3,24 @@
 #![tactic(auto)]
 
 mod advice;
-mod blocked;
+mod below;
+mod blocks;
+mod changed;
 mod characters;
+mod choice;
 mod classes;
-mod closed;
 mod commented;
 mod foreign;
+mod guards;
 mod habits;
 mod held;
-mod help;
+mod indent;
+mod layout;
 mod listing;
-mod mended;
-mod order;
+mod one;
+mod place;
+mod spelling;
+mod split;
 mod unexpected;
 mod wanting;
 mod words;

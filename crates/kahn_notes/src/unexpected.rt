@@ -1,24 +1,23 @@
 //! What is said of a lexeme that can't stand where it stands, or of a text that ends too early.
 
-ghost use Rattle.std.specs.Prelude.{◌≡◌, ◌++◌, ℕ, IfOk, List, string_bytes};
+ghost use Rattle.std.specs.Prelude.{◌≡◌, ◌++◌, IfOk, string_bytes};
 ghost use Rattle.kahn_syntax.specs.declared.fault.SyntaxFault.TheVariants.{Expected};
 ghost use Rattle.kahn_syntax.specs.Texts.{IsProper, IsTextFault};
 ghost use Rattle.kahn_marks.specs.Marks.{marked};
-ghost use Rattle.kahn_notes.specs.Notes.{StandsBelow, IsNote, MayFind, found_words, lexeme_words, unexpected_words};
+ghost use Rattle.kahn_notes.specs.Notes.{IsNote, MayFind, found_words, lexeme_words, unexpected_words};
 
-use crate::closed::closed_end;
-use crate::help::add_below;
+use crate::below::below;
 use crate::listing::add_wanted;
 use crate::words::{keyword_words, sign_words};
 use itoa::Buffer;
 use kahn_marks::{add, marked};
 use kahn_streams::NoMemory;
-use kahn_syntax::{Class, Lexeme, Span, What, lex};
-use kahn_wanted::{Unexpected, blocks_at, comment_before, mends_at, wanted_at};
+use kahn_syntax::{Class, Lexeme, Span, What};
+use kahn_wanted::{Unexpected, wanted_at};
 use std::alloc::{AllocError, Global};
 
 /// Adds what a lexeme is, of a sign with an article.
-pub(crate) fn add_lexeme(
+fn add_lexeme(
     note: &mut String,
     text: &str,
     lexeme: Lexeme,
@@ -86,37 +85,11 @@ fn place_note(
     marked(alloc, path, text, span, words.as_str())
 }
 
-/// Adds what stands below it.
-fn add_rest(
-    note: &mut String,
-    alloc: Global,
-    text: &str,
-    span: Span,
-    what: What,
-    unexpected: &Unexpected,
-) -> Result<(), NoMemory>
-    requires { IsTextFault text.now (Expected span what) }
-    ensures { IfOk result (λ _. (below : List ℕ) × StandsBelow text.now span what unexpected.now below × (string_bytes note.new ≡ string_bytes note.old ++ below)) }
-{
-    let comment = comment_before(alloc, text, span.from)?;
-    let mends = mends_at(alloc, text, span, what)?;
-    let blocks = blocks_at(alloc, text, span, what)?;
-    let Ok(lexemes) = lex(alloc, text) else {
-        return Err(NoMemory);
-    };
-    let end = closed_end(&lexemes, span.from, &blocks);
-    add_below(
-        note, alloc, text, &lexemes, span, unexpected, &mends, &blocks, end, comment,
-    )?;
-    Ok(())
-}
-
-/// A note on a place where a text goes wrong: what stands there and what may stand there; which `end` closed a block too early, or what
-/// the language has where a habit of others is found, or else the changes of one lexeme there with which the text is a program, where
-/// there are one to seven and the text has at most 8,192 lexemes: three at most, leaving out the `;` before an `else` alone, and none
-/// that puts a name, a literal or `repeat`, an operator in the place of a name, or `print` before a `wait`; which blocks are open, or
-/// which statements have none; and which comment before the place ends there or swallowed something: that alone, where nothing else
-/// stands before it. It refuses only where memory was refused.
+/// A note on a place where a text goes wrong: what stands there and what may stand there, and below it the first that answers of these: a
+/// comment that swallowed something; the keyword that a name is one slip away from; a word of another language; a block without `end`, or
+/// an `end` too many, by the indentation; the change of one lexeme that is most often meant, of those with which the text is a program or
+/// else goes on farthest, where it has at most 8,192 lexemes; and what the language has where a habit of others is found. It refuses only
+/// where memory was refused.
 pub fn unexpected_note(
     alloc: Global,
     path: &str,
@@ -129,6 +102,7 @@ pub fn unexpected_note(
 {
     let unexpected = wanted_at(alloc, text, span, what)?;
     let mut note = place_note(alloc, path, text, span, what, &unexpected)?;
-    add_rest(&mut note, alloc, text, span, what, &unexpected)?;
+    let below = below(alloc, text, span, what, &unexpected.wanted)?;
+    note.push_str(below.as_str())?;
     Ok(note)
 }

@@ -1,15 +1,10 @@
 //! Which lexemes were found, and which of them and which groups of them may stand at a place.
 
-ghost use Rattle.std.specs.Prelude.{◌≡◌};
-ghost use Rattle.kahn_notes.specs.Advice.{awaits, count_of, finds, has_fewer, offers};
-
 use kahn_syntax::{Class, Lexeme};
 use kahn_wanted::{Group, Wanted};
 
 /// Whether a lexeme of one of these classes was found.
-pub(crate) fn finds(classes: &[Class], lexeme: Option<Lexeme>) -> bool
-    ensures { result ≡ finds classes.now lexeme }
-{
+pub(crate) fn finds(classes: &[Class], lexeme: Option<Lexeme>) -> bool {
     match lexeme {
         Some(lexeme) => classes.contains(&lexeme.what),
         None => false,
@@ -17,35 +12,27 @@ pub(crate) fn finds(classes: &[Class], lexeme: Option<Lexeme>) -> bool
 }
 
 /// Whether one of a class may stand, in no group.
-pub(crate) fn awaits(class: Class, wanted: &Wanted) -> bool
-    ensures { result ≡ awaits class wanted.now }
-{
+pub(crate) fn awaits(class: Class, wanted: &Wanted) -> bool {
     wanted.others.contains(&class)
 }
 
 /// Whether all of a group may stand.
-pub(crate) fn offers(group: Group, wanted: &Wanted) -> bool
-    ensures { result ≡ offers group wanted.now }
-{
+pub(crate) fn offers(group: Group, wanted: &Wanted) -> bool {
     wanted.groups.contains(&group)
 }
 
 /// How many there are of a class.
-fn count_of(class: Class, lexemes: &[Lexeme]) -> usize
-    ensures { result ≡ count_of class lexemes.now }
-{
-    let mut count = 0;
+fn count_of(class: Class, lexemes: &[Lexeme]) -> usize {
+    let mut count = 0usize;
     for lexeme in lexemes {
         if lexeme.what == class {
-            count += 1;
+            count = count.saturating_add(1);
         }
     }
     count
 }
 
 /// Whether there are fewer of one class than of another.
-pub(crate) fn has_fewer(one: Class, other: Class, lexemes: &[Lexeme]) -> bool
-    ensures { result ≡ has_fewer one other lexemes.now }
-{
+pub(crate) fn has_fewer(one: Class, other: Class, lexemes: &[Lexeme]) -> bool {
     count_of(one, lexemes) < count_of(other, lexemes)
 }

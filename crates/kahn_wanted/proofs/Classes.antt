@@ -11,7 +11,7 @@ use Rattle.kahn_syntax.specs.declared.lexeme.Sign.{Sign}
 use Rattle.kahn_syntax.specs.declared.lexeme.Sign.TheVariants as mark
 use Rattle.kahn_syntax.specs.declared.lexeme.Lexeme.{Lexeme}
 use Rattle.kahn_streams.specs.declared.span.Span.{Span}
-use Rattle.kahn_syntax.specs.Texts.{terminal, terminals, sign_terminal, IsUnsigned, IsProper, AreProper}
+use Rattle.kahn_syntax.specs.Texts.{terminal, terminals, sign_terminal, IsUnsigned, IsProper}
 use Rattle.kahn_wanted.specs.declared.asked.TheConstants.{CLASSES}
 use Rattle.kahn_wanted.specs.declared.groups.Group.{Group}
 use Rattle.kahn_wanted.specs.declared.groups.Wanted.{Wanted}
@@ -92,10 +92,6 @@ plain_proper text (class.Word w) utf8 h = tt
 plain_proper text class.Name utf8 h = (omega arith, omega arith, IsCharBoundary-start text utf8, IsCharBoundary-start text utf8)
 plain_proper text (class.Number n) utf8 h = h
 plain_proper text (class.Sign s) utf8 h = tt
-
-pub proper_more : (text : List ℕ) (xs : List Lexeme) (x : Lexeme) → AreProper text xs → IsProper text x.what x.span → AreProper text (xs ++ x ∷ [])
-proper_more text [] x h p = (p, tt)
-proper_more text (y ∷ xs) x h p = (h.0, proper_more text xs x h.1 p)
 
 -- ---- of the first classes of some those were told for which P holds
 

@@ -1,9 +1,12 @@
 mod Alike
-mod Answering
+mod Beside
 mod Classes
 mod Front
 mod Gaps
+mod Gone
+pub mod Leading
 mod Opened
 mod Splices
 pub mod Suspects
+mod Walking
 mod Whole

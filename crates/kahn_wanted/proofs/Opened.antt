@@ -1,16 +1,13 @@
--- One lexeme more, and which blocks are open then, and which statements have none.
-use Rattle.std.proofs.Common.{◌≡◌, ◌≤◌, ◌<◌, ◌-◌, ◌+◌, ◌&&◌, ◌||◌, ◌∙◌, ℕ, zero, suc, Bool, true, false, not, List, [], ◌∷◌, ◌++◌, Option, Some, None, append-nil, append_assoc, ap, arith, drop, get_or, if◌then◌else◌, length, length-append, length-take, refl, sym, take}
-use Rattle.std.specs.List.{list_any}
+-- One lexeme more, and which blocks are open then.
+use Rattle.std.proofs.Common.{◌≡◌, ◌≤◌, ◌<◌, ◌-◌, ◌+◌, ◌∙◌, ℕ, zero, suc, List, [], ◌∷◌, ◌++◌, Option, Some, None, append-nil, append_assoc, ap, arith, drop, get_or, length, length-append, length-take, refl, sym, take}
 use Rattle.std.proofs.lemmas.List.{at_drop_all, at_drop_more, take_all}
 use Rattle.kahn_syntax.specs.declared.lexeme.Class.{Class}
 use Rattle.kahn_syntax.specs.declared.lexeme.Class.TheVariants as class
 use Rattle.kahn_syntax.specs.declared.lexeme.Keyword.TheVariants as word
 use Rattle.kahn_syntax.specs.declared.lexeme.Lexeme.{Lexeme}
 use Rattle.kahn_wanted.specs.declared.blocks.Block.{Block}
-use Rattle.kahn_wanted.specs.Blocks.{bare_heads, block_of, closed_from, closed_in, is_bare, is_process, open_blocks}
-use Rattle.kahn_wanted.specs.inner.Open.{bare_after, bare_on, blocks_after, heads_from, open_on}
-
--- ---- open blocks
+use Rattle.kahn_wanted.specs.Blocks.{block_of, closed_from, closed_in, open_blocks}
+use Rattle.kahn_wanted.specs.inner.Open.{blocks_after, open_on}
 
 -- the front of a longer list, and of a shorter one
 of_longer : (bs more : List Block) (n : ℕ) → n ≤ length bs → take n (bs ++ more) ≡ take n bs
@@ -60,52 +57,3 @@ open_none bs xs none = ap (λ l. open_on l None xs) none ∙ ap (λ l. l ++ open
 pub open_done : (xs : List Lexeme) (i : ℕ) (bs all : List Block) (last : Option Lexeme) → length xs ≤ i → open_on bs last (drop i xs) ≡ all → bs ≡ all
 open_done xs i bs all last past so_far =
     sym (append-nil bs) ∙ ap (λ l. l ++ []) (sym (take_all (length bs - 0) bs (omega arith))) ∙ sym (at_drop_all (open_on bs last) xs i past) ∙ so_far
-
--- ---- statements without a block
-
-behind_none : (p q : Bool) (bare rest : List Lexeme) → (if q then [] else (if p then [] else bare)) ++ rest ≡ (if p || q then [] else bare) ++ rest
-behind_none true true bare rest = refl
-behind_none true false bare rest = refl
-behind_none false true bare rest = refl
-behind_none false false bare rest = refl
-
-behind_head : (p q r : Bool) (bare rest : List Lexeme) (head : Lexeme)
-    → (if q then [] else (if p then [] else (if r then bare ++ head ∷ [] else bare))) ++ rest
-    ≡ (if p || q then [] else bare) ++ (if r && not (p || q) then head ∷ rest else rest)
-behind_head true true true bare rest head = refl
-behind_head true true false bare rest head = refl
-behind_head true false true bare rest head = refl
-behind_head true false false bare rest head = refl
-behind_head false true true bare rest head = refl
-behind_head false true false bare rest head = refl
-behind_head false false true bare rest head = append_assoc bare (head ∷ []) rest
-behind_head false false false bare rest head = refl
-
-head_on : (text : List ℕ) (bare : List Lexeme) (last : Option Lexeme) (x : Lexeme) (xs : List Lexeme)
-    → bare_on text (bare_after text bare last x) (Some x) xs ≡ bare_on text bare last (x ∷ xs)
-head_on text bare None x xs = behind_none (is_process x.what) (list_any (λ y. is_process y.what) xs) bare (bare_heads text (x ∷ xs))
-head_on text bare (Some head) x xs =
-    behind_head (is_process x.what) (list_any (λ y. is_process y.what) xs) (is_bare text head x) bare (bare_heads text (x ∷ xs)) head
-
-module _ (text : List ℕ) (xs : List Lexeme) (i : ℕ) (d : Lexeme) (bare new all : List Lexeme) (last : Option Lexeme) where
-  pub bare_more : i < length xs → new ≡ bare_after text bare last (get_or xs i d) → bare_on text bare last (drop i xs) ≡ all
-      → bare_on text new (Some (get_or xs i d)) (drop (i + 1) xs) ≡ all
-  bare_more below is so_far =
-      let x = get_or xs i d in
-      let rest = drop (i + 1) xs in
-      ap (λ l. bare_on text l (Some x) rest) is ∙ head_on text bare last x rest ∙ sym (at_drop_more (bare_on text bare last) xs i d below) ∙ so_far
-
-nothing : (q : Bool) (rest : List Lexeme) → (if q then [] else []) ++ rest ≡ rest
-nothing true rest = refl
-nothing false rest = refl
-
-pub bare_none : (text : List ℕ) (bare xs : List Lexeme) → bare ≡ [] → bare_on text bare None xs ≡ bare_heads text xs
-bare_none text bare xs none = ap (λ l. bare_on text l None xs) none ∙ nothing (list_any (λ y. is_process y.what) xs) (bare_heads text xs)
-
-no_more : (text : List ℕ) (last : Option Lexeme) → heads_from text last [] ≡ []
-no_more text None = refl
-no_more text (Some head) = refl
-
-pub bare_done : (text : List ℕ) (xs : List Lexeme) (i : ℕ) (bare all : List Lexeme) (last : Option Lexeme) → length xs ≤ i → bare_on text bare last (drop i xs) ≡ all → bare ≡ all
-bare_done text xs i bare all last past so_far =
-    sym (append-nil bare) ∙ ap (λ l. bare ++ l) (sym (no_more text last)) ∙ sym (at_drop_all (bare_on text bare last) xs i past) ∙ so_far

@@ -1,5 +1,5 @@
--- Believed. The changes of one lexeme beside a fault with which a text is a program.
-use Rattle.std.specs.Prelude.{◌≡◌, ◌≤◌, ◌<◌, ◌+◌, ◌-◌, ℕ, zero, suc, pos, List, [], ◌∷◌, ◌++◌, Option, Some, None, map, take, drop, length, slice_get}
+-- Believed. The changes of one lexeme beside a fault with which a text is a program, or goes wrong only later.
+use Rattle.std.specs.Prelude.{◌≡◌, ◌≤◌, ◌<◌, ◌+◌, ◌-◌, ℕ, zero, suc, pos, List, [], ◌∷◌, ◌++◌, All, Option, Some, None, map, take, drop, length, slice_get}
 use Rattle.kahn_streams.specs.declared.span.Span.{Span}
 use Rattle.kahn_syntax.specs.declared.lexeme.Class.{Class}
 use Rattle.kahn_syntax.specs.declared.lexeme.Class.TheVariants as class
@@ -11,11 +11,12 @@ use Rattle.kahn_syntax.specs.declared.lexeme.Lexeme.{Lexeme}
 use Rattle.kahn_syntax.specs.declared.fault.What.{What}
 use Rattle.kahn_syntax.specs.declared.fault.What.TheVariants.{More}
 use Rattle.kahn_syntax.specs.Grammar.{Terminal}
-use Rattle.kahn_syntax.specs.Texts.{terminal, terminals, AreLexemes, IsWholeWithin}
+use Rattle.kahn_syntax.specs.Texts.{terminal, terminals, AreLexemes, BeginsWithin, IsWholeWithin}
 use Rattle.kahn_wanted.specs.Wanted.{class_of_terminal, words, signs}
 use Rattle.kahn_wanted.specs.declared.changes.Spot.{Spot}
 use Rattle.kahn_wanted.specs.declared.changes.Spot.TheVariants.{Between, Here, Before}
 use Rattle.kahn_wanted.specs.declared.changes.Change.{Change}
+use Rattle.kahn_wanted.specs.declared.farther.Farther.{Farther}
 use Rattle.kahn_wanted.specs.declared.mended.Mends.{Mends}
 
 -- all classes of terminals: the number 0 stands for all numbers
@@ -109,3 +110,25 @@ AreMendsAt text xs span what (Some m) = (length xs ≤ most_mended) × (i : ℕ)
 -- the changes beside the place where a text goes wrong
 abbrev pub AreMendsOf : List ℕ → Span → What → Option Mends → Type 0
 AreMendsOf text span what m = (xs : List Lexeme) × AreLexemes text xs × AreMendsAt text xs span what m
+
+-- ---- the first of several mistakes
+
+-- a lexeme of the class, or none
+abbrev pub IsPutLexeme : Option Class → List Lexeme → Type 0
+IsPutLexeme None put = put ≡ []
+IsPutLexeme (Some c) put = (x : Lexeme) × (put ≡ x ∷ []) × (x.what ≡ c)
+
+-- with the change more lexemes begin a program than stand before place i
+abbrev pub IsFarther : List ℕ → List Lexeme → ℕ → Change → Type 0
+IsFarther text xs i c = HasSpot xs i c.spot c.put × (put : List Lexeme) × IsPutLexeme c.put put
+    × ((n : ℕ) × (i < n) × BeginsWithin (terminals text (take n (changed xs i c.spot put))))
+
+abbrev pub AreFarther : List ℕ → List Lexeme → ℕ → List Farther → Type 0
+AreFarther text xs i fs = All (λ f. IsFarther text xs i f.change) fs
+
+abbrev pub AreFartherAt : List ℕ → List Lexeme → Span → What → List Farther → Type 0
+AreFartherAt text xs span what fs = (i : ℕ) × IsPlace xs span what i × AreFarther text xs i fs
+
+-- beside the place where a text goes wrong
+abbrev pub AreFartherOf : List ℕ → Span → What → List Farther → Type 0
+AreFartherOf text span what fs = (xs : List Lexeme) × AreLexemes text xs × AreFartherAt text xs span what fs

@@ -1,12 +1,11 @@
-//! Which classes of lexemes may stand behind lexemes: the parser is asked whether they begin a program.
+//! Which classes of lexemes may stand behind lexemes: these are read once, and each class is tried on what is open then.
 
-ghost use Rattle.std.specs.Prelude.{◌≡◌, ◌∷◌, ◌++◌, [], All, IfOk};
-ghost use Rattle.kahn_syntax.specs.Texts.{terminal, terminals, AreProper, IsProper, IsUnsigned, Begins, BeginsWithin, IsFault};
-ghost use Rattle.kahn_wanted.specs.inner.Asked.{AreLed, AreOf, MayCome, AnswersBegin, is_more};
+ghost use Rattle.std.specs.Prelude.{◌≡◌, List, ℕ, IfOk};
+ghost use Rattle.kahn_wanted.specs.inner.Asked.{AreOf};
 
-use kahn_streams::NoMemory;
-use kahn_syntax::{Class, Keyword, Lexeme, Sign, Span, SyntaxFault, What, lexemes_fault};
-use std::alloc::Global;
+use crate::walk::{awaited_behind, may_pass};
+use kahn_syntax::{Class, Keyword, Lexeme, Sign};
+use std::alloc::{AllocError, Global};
 
 /// The classes of lexemes; the one of the number 0 stands for all numbers. The sign for `not` is the word.
 pub(crate) const CLASSES: [Class; 44] = [
@@ -56,73 +55,18 @@ pub(crate) const CLASSES: [Class; 44] = [
     Class::Sign(Sign::AtLeast),
 ];
 
-// Whether only more is wanted.
-fn is_more(what: What) -> bool
-    ensures { result ≡ is_more what }
-{
-    match what {
-        What::More => true,
-        What::Nothing | What::Other => false,
-    }
-}
-
-// Whether lexemes begin a program that have this fault, where those before the last one do.
-fn said(text: &str, lexemes: &[Lexeme], fault: SyntaxFault) -> Result<bool, NoMemory>
-    requires led { AreLed text.now lexemes.now }
-    requires fault { IsFault text.now lexemes.now fault }
-    ensures { IfOk result (AnswersBegin (terminals text.now lexemes.now)) }
-{
-    match fault {
-        SyntaxFault::Expected(_, what) => Ok(is_more(what)),
-        SyntaxFault::TooDeep(_) => Ok(true),
-        _ => Err(NoMemory),
-    }
-}
-
-/// Whether the lexemes begin a program, where those before the last one do.
-fn begins(alloc: Global, text: &str, lexemes: &[Lexeme]) -> Result<bool, NoMemory>
-    requires proper { AreProper text.now lexemes.now }
-    requires led { AreLed text.now lexemes.now }
-    ensures { IfOk result (AnswersBegin (terminals text.now lexemes.now)) }
-{
-    match lexemes_fault(alloc, text, lexemes) {
-        None => Ok(true),
-        Some(fault) => said(text, lexemes, fault),
-    }
-}
-
-/// Whether a lexeme may come behind others that begin a program.
-fn may_come(alloc: Global, text: &str, before: &[Lexeme], lexeme: Lexeme) -> Result<bool, NoMemory>
-    requires proper { AreProper text.now before.now }
-    requires one { IsProper text.now lexeme.what lexeme.span }
-    requires within { BeginsWithin (terminals text.now before.now) }
-    ensures { IfOk result (AnswersBegin (terminals text.now before.now ++ terminal text.now lexeme.what lexeme.span ∷ [])) }
-{
-    let mut lexemes = Vec::new(alloc);
-    lexemes.extend_from_slice(before)?;
-    lexemes.push(lexeme)?;
-    begins(alloc, text, &lexemes)
-}
-
-/// Those of some classes of which one may come behind lexemes that begin a program.
+/// Those of some classes of which one may come behind lexemes.
 pub(crate) fn coming(
     alloc: Global,
-    text: &str,
     before: &[Lexeme],
     some: &[Class],
-) -> Result<Vec<Class>, NoMemory>
-    requires proper { AreProper text.now before.now }
-    requires unsigned { All IsUnsigned some.now }
-    requires within { BeginsWithin (terminals text.now before.now) }
-    ensures { IfOk result (λ ws. AreOf text.now before.now some.now ws.items) }
+) -> Result<Vec<Class>, AllocError>
+    ensures { IfOk result (λ ws. (text : List ℕ) → AreOf text before.now some.now ws.items) }
 {
+    let stack = awaited_behind(alloc, before)?;
     let mut wanted = Vec::new(alloc);
     for class in some {
-        let lexeme = Lexeme {
-            span: Span { from: 0, to: 0 },
-            what: *class,
-        };
-        if may_come(alloc, text, before, lexeme)? {
+        if may_pass(alloc, &stack, *class)? {
             wanted.push(*class)?;
         }
     }

@@ -1,12 +1,12 @@
 //! The comments of a text, and which of them has to do with what stands at a place behind it.
 
-ghost use Rattle.std.specs.Prelude.{◌≡◌, ◌↔◌, ℕ, ◌≤◌, IfOk, IsTrue, length, take};
-ghost use Rattle.std.specs.List.{list_all};
+ghost use Rattle.std.specs.Prelude.{◌≡◌, ◌↔◌, ◌==◌, ℕ, ◌≤◌, IfOk, IsTrue, drop, length, not, take};
+ghost use Rattle.std.specs.List.{list_all, list_any};
 ghost use Rattle.std.specs.Str.{IsCharBoundary};
 ghost use Rattle.kahn_syntax.specs.Texts.{Gap, IsComment};
 ghost use Rattle.kahn_wanted.specs.Comments.{AreComments, IsCommentBefore, IsLastSuspect, IsSuspect, is_beside};
 ghost use Rattle.kahn_wanted.specs.Swallowing.{is_space};
-ghost use Rattle.kahn_wanted.specs.inner.Passing.{EndWithin, Passed};
+ghost use Rattle.kahn_wanted.specs.inner.Passing.{EndWithin, HoldsFrom, Passed};
 
 use crate::swallowing::{is_blank, swallows};
 use kahn_streams::NoMemory;
@@ -63,34 +63,53 @@ pub fn comments_of(alloc: Global, text: &str) -> Result<Vec<Span>, NoMemory>
     Ok(comments)
 }
 
-/// Whether these are blanks alone.
-fn are_blank(bytes: &[u8]) -> bool
-    ensures { result ≡ list_all is_space bytes.now }
+/// The byte behind the last line feed of a text.
+fn line_start(text: &[u8]) -> usize
+    ensures { HoldsFrom (λ i. not (list_any (λ b. b == 10) (drop i text.now))) result }
 {
-    for byte in bytes {
-        if !is_blank(*byte) {
-            return false;
+    let mut at = text.len();
+    'bytes: while 0 < at {
+        if text[at - 1] == b'\n' {
+            return at;
         }
+        at -= 1;
     }
-    true
+    0
 }
 
-/// Whether no line ends behind a byte of a text, or blanks alone stand there.
-fn is_beside(text: &[u8], at: usize) -> bool
-    requires { at ≤ length text.now }
-    ensures { result ≡ is_beside text.now at }
+/// The byte from which on blanks alone stand.
+fn blanks_start(text: &[u8]) -> usize
+    ensures { HoldsFrom (λ i. list_all is_space (drop i text.now)) result }
 {
-    let rest = &text[at..];
-    let broken = rest.contains(&b'\n');
-    !broken || are_blank(rest)
+    let mut at = text.len();
+    'bytes: while 0 < at {
+        if !is_blank(text[at - 1]) {
+            return at;
+        }
+        at -= 1;
+    }
+    0
+}
+
+/// The byte from which on no line ends, or blanks alone stand.
+fn beside_from(text: &[u8]) -> usize
+    ensures { HoldsFrom (is_beside text.now) result }
+{
+    let line = line_start(text);
+    let blanks = blanks_start(text);
+    if line < blanks {
+        return line;
+    }
+    blanks
 }
 
 /// Whether a comment of a text has to do with what stands behind the text.
-fn is_suspect(text: &[u8], comment: Span) -> bool
-    requires { comment.to ≤ length text.now }
+fn is_suspect(text: &[u8], beside: usize, comment: Span) -> bool
+    requires within { comment.to ≤ length text.now }
+    requires beside { HoldsFrom (is_beside text.now) beside }
     ensures { IsTrue result ↔ IsSuspect text.now comment }
 {
-    if is_beside(text, comment.to) {
+    if beside <= comment.to {
         return true;
     }
     swallows(text, comment.from, comment.to, true)
@@ -101,11 +120,12 @@ fn last_suspect(text: &[u8], comments: &[Span]) -> Option<Span>
     requires { EndWithin text.now comments.now }
     ensures { IsLastSuspect text.now comments.now result }
 {
+    let beside = beside_from(text);
     let mut at = comments.len();
     'comments: while 0 < at {
         at -= 1;
         let comment = comments[at];
-        if is_suspect(text, comment) {
+        if is_suspect(text, beside, comment) {
             return Some(comment);
         }
     }

@@ -1,9 +1,9 @@
 //! What stands where a text goes wrong, and what may stand there.
 
-ghost use Rattle.std.specs.Prelude.{◌≡◌, ◌≤◌, ◌<◌, ℕ, IfOk, length, slice_index_or};
+ghost use Rattle.std.specs.Prelude.{◌≡◌, ◌≤◌, ◌<◌, List, ℕ, IfOk, length, slice_index_or};
 ghost use Rattle.kahn_syntax.specs.declared.fault.SyntaxFault.TheVariants.{Expected};
 ghost use Rattle.kahn_syntax.specs.declared.lexeme.Lexeme.{Lexeme};
-ghost use Rattle.kahn_syntax.specs.Texts.{BeginsWithin, IsFault, IsTextFault, terminals, AreProper};
+ghost use Rattle.kahn_syntax.specs.Texts.{IsFault, IsTextFault, terminals};
 ghost use Rattle.kahn_wanted.specs.Wanted.{AreWanted, IsAtFault, IsUnexpected};
 
 use crate::asked::{CLASSES, coming};
@@ -12,7 +12,7 @@ use crate::groups::{Wanted, grouped};
 use crate::mended::place_of;
 use kahn_streams::NoMemory;
 use kahn_syntax::{Lexeme, Span, What, lex};
-use std::alloc::Global;
+use std::alloc::{AllocError, Global};
 
 /// What stands where a text goes wrong, and what may stand there.
 #[derive(Drop)]
@@ -23,14 +23,12 @@ pub struct Unexpected {
     pub wanted: Wanted,
 }
 
-/// What may stand behind lexemes that begin a program.
-fn wanted_behind(alloc: Global, text: &str, before: &[Lexeme]) -> Result<Wanted, NoMemory>
-    requires proper { AreProper text.now before.now }
-    requires within { BeginsWithin (terminals text.now before.now) }
-    ensures { IfOk result (AreWanted (terminals text.now before.now)) }
+/// What may stand behind lexemes.
+fn wanted_behind(alloc: Global, before: &[Lexeme]) -> Result<Wanted, AllocError>
+    ensures { IfOk result (λ wanted. (text : List ℕ) → AreWanted (terminals text before.now) wanted) }
 {
-    let classes = coming(alloc, text, before, &CLASSES)?;
-    Ok(grouped(alloc, &classes)?)
+    let classes = coming(alloc, before, &CLASSES)?;
+    grouped(alloc, &classes)
 }
 
 /// How many lexemes stand before the first one with this span.
@@ -55,12 +53,11 @@ fn wanted_of(
     span: Span,
     what: What,
 ) -> Result<Unexpected, NoMemory>
-    requires proper { AreProper text.now lexemes.now }
-    requires fault { IsFault text.now lexemes.now (Expected span what) }
+    requires { IsFault text.now lexemes.now (Expected span what) }
     ensures { IfOk result (IsAtFault text.now lexemes.now span what) }
 {
     let number = place_of(text, lexemes, span, what);
-    let wanted = wanted_behind(alloc, text, &lexemes[..number])?;
+    let wanted = wanted_behind(alloc, &lexemes[..number])?;
     Ok(Unexpected {
         found: lexeme_at(lexemes, number),
         wanted,

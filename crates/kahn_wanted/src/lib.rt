@@ -2,17 +2,23 @@
 #![tactic(auto)]
 
 mod asked;
+mod awaited;
 mod blocks;
 mod changes;
 mod comments;
+mod farther;
 mod found;
+mod grammar;
 mod groups;
+mod leads;
 mod mended;
 mod swallowing;
+mod walk;
 
-pub use blocks::{Block, Blocks, blocks_at};
+pub use blocks::{Block, open_behind};
 pub use changes::{Change, Spot};
 pub use comments::{comment_before, comments_of};
+pub use farther::{Farther, farther_at};
 pub use found::{Unexpected, wanted_at};
 pub use groups::{Group, Wanted};
 pub use mended::{Mends, mends_at};

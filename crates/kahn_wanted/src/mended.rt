@@ -13,7 +13,7 @@ use kahn_syntax::{Lexeme, Span, SyntaxFault, What, lex, lexemes_fault};
 use std::alloc::Global;
 
 /// Of how many lexemes a text may be for which changes are looked for: each is tried by a parse of the whole text.
-const MOST: usize = 8192;
+pub(crate) const MOST: usize = 8192;
 
 /// The changes of one lexeme beside a place with which a text is a program.
 #[derive(Drop)]

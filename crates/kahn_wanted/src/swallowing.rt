@@ -1,6 +1,6 @@
 //! What a comment has behind its first line that reads like the beginning or the end of a statement.
 
-ghost use Rattle.std.specs.Prelude.{◌≡◌, ◌↔◌, ℕ, ◌≤◌, ◌<◌, IfNone, IfSome, IsTrue, length, slice_index};
+ghost use Rattle.std.specs.Prelude.{◌≡◌, ◌↔◌, ℕ, ◌+◌, ◌≤◌, ◌<◌, IfNone, IfSome, IsTrue, length, slice_index};
 ghost use Rattle.kahn_syntax.specs.Texts.{IsBlank};
 ghost use Rattle.kahn_wanted.specs.Swallowing.{Swallows, begins_line, has_call, has_statement, has_word, is_block_word_at, is_of_word, is_part_at, is_space, is_statement_at, line_has, opens};
 
@@ -61,22 +61,13 @@ fn has_call(word: &[u8], text: &[u8]) -> bool
     }
 }
 
-/// Whether the end of a line stands before a byte, or that and blanks.
-fn begins_line(text: &[u8], place: usize) -> bool
-    requires { place ≤ length text.now }
-    ensures { result ≡ begins_line text.now place }
+/// Whether the end of a line stands before the next byte, or that and blanks, by whether it does so before this one.
+fn begins_next(text: &[u8], at: usize, line: bool) -> bool
+    requires inside { at < length text.now }
+    requires line { line ≡ begins_line text.now at }
+    ensures { result ≡ begins_line text.now (at + 1) }
 {
-    let mut at = place;
-    'blanks: while 0 < at {
-        at -= 1;
-        if text[at] == b'\n' {
-            return true;
-        }
-        if !is_blank(text[at]) {
-            return false;
-        }
-    }
-    false
+    text[at] == b'\n' || (is_blank(text[at]) && line)
 }
 
 /// Whether a word stands behind the first byte of a text, in any letter case, before a line ends.
@@ -108,46 +99,53 @@ fn has_statement(text: &[u8]) -> bool
 }
 
 /// Whether `:=`, a whole word `wait` with a bracket behind it, or a line with a statement begins at a byte that isn't the first of the text.
-fn is_statement_at(text: &[u8], at: usize) -> bool
+/// It is told whether a line begins there, behind blanks.
+fn is_statement_at(text: &[u8], at: usize, line: bool) -> bool
     requires low { 0 < at }
     requires high { at < length text.now }
+    requires line { line ≡ begins_line text.now at }
     ensures { result ≡ is_statement_at text.now at }
 {
     let rest = &text[at..];
     rest.starts_with(b":=")
         || (!is_of_word(text[at - 1]) && has_call(b"wait", rest))
-        || (begins_line(text, at) && has_statement(rest))
+        || (line && has_statement(rest))
 }
 
 /// Whether a line with `begin` or `end` begins at a byte.
-fn is_block_word_at(text: &[u8], at: usize) -> bool
-    requires { at < length text.now }
+fn is_block_word_at(text: &[u8], at: usize, line: bool) -> bool
+    requires inside { at < length text.now }
+    requires line { line ≡ begins_line text.now at }
     ensures { result ≡ is_block_word_at text.now at }
 {
     let rest = &text[at..];
-    begins_line(text, at) && (has_word(b"begin", rest) || has_word(b"end", rest))
+    line && (has_word(b"begin", rest) || has_word(b"end", rest))
 }
 
 /// Whether one of the former begins at such a byte, or of both where these are looked for too.
-fn is_part_at(blocks: bool, text: &[u8], at: usize) -> bool
+fn is_part_at(blocks: bool, text: &[u8], at: usize, line: bool) -> bool
     requires low { 0 < at }
     requires high { at < length text.now }
+    requires line { line ≡ begins_line text.now at }
     ensures { result ≡ is_part_at blocks text.now at }
 {
-    is_statement_at(text, at) || (blocks && is_block_word_at(text, at))
+    is_statement_at(text, at, line) || (blocks && is_block_word_at(text, at, line))
 }
 
-/// Whether one begins between two bytes.
+/// Whether one begins between two bytes, at the first of which a line begins.
 fn has_part(blocks: bool, text: &[u8], from: usize, to: usize) -> bool
     requires low { 0 < from }
     requires high { to ≤ length text.now }
+    requires line { IsTrue (begins_line text.now from) }
     ensures { IsTrue result ↔ ((i : ℕ) × (from ≤ i) × (i < to) × IsTrue (is_part_at blocks text.now i)) }
 {
     let mut at = from;
+    let mut line = true;
     'places: while at < to {
-        if is_part_at(blocks, text, at) {
+        if is_part_at(blocks, text, at, line) {
             return true;
         }
+        line = begins_next(text, at, line);
         at += 1;
     }
     false

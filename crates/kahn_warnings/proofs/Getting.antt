@@ -1,6 +1,12 @@
 -- What a set of names got, one part of a body after another.
-use Rattle.std.proofs.Common.{◌≡◌, ◌∙◌, ◌||◌, ◌++◌, Bool, true, false, cond, if◌then◌else◌, nat_eq, List, [], ◌∷◌, arith, flat_map, refl, ap, sym}
+use Rattle.std.proofs.Common.{◌≡◌, ◌∙◌, ◌||◌, ◌++◌, ℕ, Bool, true, false, cond, if◌then◌else◌, is_some, nat_eq, List, [], ◌∷◌, Option, None, Some, arith, bytes_eq, flat_map, refl, ap, sym}
 use Rattle.std.proofs.lemmas.Grind.{common_steps}
+use Rattle.std.specs.Cmp.Lexicographic.{nat_list_eq_equiv}
+use Rattle.std.specs.Map.{lookup}
+use Rattle.std.specs.Option.{option_or}
+use Rattle.kahn_check.proofs.Alike.{alike_kept, lookup_append}
+use Rattle.kahn_check.specs.inner.Firsts.{kept_first}
+use Rattle.kahn_warnings.specs.inner.Collecting.{contains}
 
 or_true : (b : Bool) → b || true ≡ true
 or_true true = refl
@@ -11,9 +17,19 @@ or_false true = refl
 or_false false = refl
 
 -- one name more
-pub at_one : (b had : Bool) → cond b true had ≡ nat_eq 0 (if b then 0 else 1) || had
-at_one true had = refl
-at_one false had = refl
+pub kept_one : (names : List (List ℕ × Unit {0})) (n x : List ℕ) → contains (kept_first names n tt) x ≡ nat_eq 0 (if bytes_eq n x then 0 else 1) || contains names x
+kept_one names n x =
+    ap is_some (alike_kept names n tt x ∙ lookup_append (bytes_eq x) names ((n, tt) ∷ []))
+    ∙ by (lookup (bytes_eq x) names) (bytes_eq x n) ∙ ap (λ b. nat_eq 0 (if b then 0 else 1) || contains names x) (bytes_turned x n)
+  where
+    bytes_turned : (a b : List ℕ) → bytes_eq a b ≡ bytes_eq b a
+    bytes_turned a b = nat_list_eq_equiv.symm a b
+
+    by : (o : Option (Unit {0})) (b : Bool) → is_some (option_or o (cond b (Some tt) None)) ≡ nat_eq 0 (if b then 0 else 1) || is_some o
+    by None true = refl
+    by None false = refl
+    by (Some u) true = refl
+    by (Some u) false = refl
 
 -- what is left, where all is a first part and the rest, and the first part was got
 pub got_first : (all first rest had has : Bool) → all ≡ first || rest → has ≡ first || had → rest || has ≡ all || had

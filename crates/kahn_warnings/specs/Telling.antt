@@ -25,7 +25,7 @@ warning_words AlwaysFalse = codes "test is always false"
 warning_words Unchanged = codes "nothing in the loop changes this test; `begin` and `end` make one statement of several"
 warning_words BareDo = codes "nothing stands behind `do`, so nothing changes this test: a statement behind `;` is not in the loop"
 warning_words BareThen = codes "nothing stands behind `then`: a statement behind `;` is always done"
-warning_words Beside = codes "statement doesn't belong to the `if` on its line; `begin` and `end` make one statement of several"
+warning_words Beside = codes "statement is indented like the one before it, and isn't part of the same `if` or loop; `begin` and `end` make one statement of several"
 
 -- of a comment its last byte is told too
 abbrev pub last_byte : Span → Span

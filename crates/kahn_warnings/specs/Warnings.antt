@@ -1,5 +1,5 @@
 -- Believed. What is warned of, and in which order: the comments first, then one process after another, and in each its instances, its
--- parameters, its variables, its statements and the constants in these.
+-- parameters, its variables, its statements and the constants in these; and then statements by their indentation.
 use Rattle.std.specs.Prelude.{◌≡◌, ◌==◌, ℕ, Bool, true, false, ◌&&◌, not, List, [], ◌∷◌, ◌++◌, Option, Some, None, if◌then◌else◌, flat_map}
 use Rattle.std.specs.List.{list_any}
 use Rattle.std.specs.Option.{option_or}
@@ -18,7 +18,6 @@ use Rattle.kahn_streams.specs.declared.tree.Instance.{Instance}
 use Rattle.kahn_streams.specs.declared.tree.Declaration.{Declaration}
 use Rattle.kahn_streams.specs.declared.tree.Program.{Program}
 use Rattle.kahn_streams.specs.declared.tree.Declaration.TheVariants as D
-use Rattle.kahn_wanted.specs.Blocks.{bytes_between}
 use Rattle.kahn_warnings.specs.Comments.{AreCommentWarnings}
 use Rattle.kahn_warnings.specs.Constants.{constant_of, constant_warnings, is_true}
 use Rattle.kahn_warnings.specs.Loops.{is_seen, never_ends}
@@ -87,52 +86,11 @@ abbrev pub first_unreached : List Statement → Option Span
 first_unreached [] = None
 first_unreached (s ∷ rest) = if never_ends (statement_of [] s) then first_standing rest else first_unreached rest
 
--- ---- a statement behind an `if`
-
--- an `if` without `else`, with one statement that is no block
-abbrev pub is_single : Action → Bool
-is_single Empty = false
-is_single (Assign x e) = true
-is_single (Send e q) = true
-is_single (Print e) = true
-is_single (Block' shape row) = false
-is_single (If' t p span a b) = true
-is_single (While' t p span a) = true
-is_single (Repeat' p span a) = true
-
-abbrev pub is_alone : Action → Held-Action-If-2 → Bool
-is_alone a None' = is_single a
-is_alone a (Some' p span b) = false
-
-abbrev pub is_short_if : Action → Bool
-is_short_if Empty = false
-is_short_if (Assign x e) = false
-is_short_if (Send e q) = false
-is_short_if (Print e) = false
-is_short_if (Block' shape row) = false
-is_short_if (If' t p span a b) = is_alone a b
-is_short_if (While' t p span a) = false
-is_short_if (Repeat' p span a) = false
-
--- no line ends from the end of a part of a text to another part
-abbrev pub is_on_line : List ℕ → Option Span → Option Span → Bool
-is_on_line text (Some at) (Some next) = not (list_any (λ b. b == 10) (bytes_between text at.to next.from))
-is_on_line text (Some at) None = false
-is_on_line text None next = false
-
--- of these statements each one that begins on the line on which such an `if` ends before it
-abbrev pub place_beside : List ℕ → Statement → List Statement → Option Span
-place_beside text s rest = if is_short_if s.action && is_on_line text s.span (first_standing rest) then first_standing rest else None
-
-abbrev pub beside_warnings : List ℕ → List Statement → List Warning
-beside_warnings text [] = []
-beside_warnings text (s ∷ rest) = warned_where Beside (place_beside text s rest) ++ beside_warnings text rest
+-- ---- in each statement
 
 -- of a list of statements beside those of each
-abbrev pub list_warnings : List ℕ → List Statement → List Warning
-list_warnings text ss = warned_where Unreached (first_unreached ss) ++ beside_warnings text ss
-
--- ---- in each statement
+abbrev pub list_warnings : List Statement → List Warning
+list_warnings ss = warned_where Unreached (first_unreached ss)
 
 -- the statements of a block
 abbrev pub block_items : {m : _} → Row_of-Statement m → List Statement
@@ -145,26 +103,26 @@ bare_warnings at a = if is_empty a then warned_where BareThen at else []
 
 -- in a statement that stands here
 abbrev mutual
-  pub statement_warnings : List ℕ → Option Span → Action → List Warning
-  statement_warnings text at Empty = []
-  statement_warnings text at (Assign x e) = []
-  statement_warnings text at (Send e q) = []
-  statement_warnings text at (Print e) = []
-  statement_warnings text at (Block' shape row) = row_warnings text row ++ list_warnings text (block_items row)
-  statement_warnings text at (If' t p span a b) = statement_warnings text span a ++ else_warnings text at a b
-  statement_warnings text at (While' t p span a) = endless_warnings at t a ++ statement_warnings text span a
-  statement_warnings text at (Repeat' p span a) = idle_warnings at a ++ statement_warnings text span a
+  pub statement_warnings : Option Span → Action → List Warning
+  statement_warnings at Empty = []
+  statement_warnings at (Assign x e) = []
+  statement_warnings at (Send e q) = []
+  statement_warnings at (Print e) = []
+  statement_warnings at (Block' shape row) = row_warnings row ++ list_warnings (block_items row)
+  statement_warnings at (If' t p span a b) = statement_warnings span a ++ else_warnings at a b
+  statement_warnings at (While' t p span a) = endless_warnings at t a ++ statement_warnings span a
+  statement_warnings at (Repeat' p span a) = idle_warnings at a ++ statement_warnings span a
 
-  pub row_warnings : {m : _} → List ℕ → Row_of-Statement m → List Warning
-  row_warnings text end_of-Statement = []
-  row_warnings text (more_of-Statement span a rest) = statement_warnings text span a ++ row_warnings text rest
+  pub row_warnings : {m : _} → Row_of-Statement m → List Warning
+  row_warnings end_of-Statement = []
+  row_warnings (more_of-Statement span a rest) = statement_warnings span a ++ row_warnings rest
 
-  pub else_warnings : List ℕ → Option Span → Action → Held-Action-If-2 → List Warning
-  else_warnings text at a None' = bare_warnings at a
-  else_warnings text at a (Some' p span b) = statement_warnings text span b
+  pub else_warnings : Option Span → Action → Held-Action-If-2 → List Warning
+  else_warnings at a None' = bare_warnings at a
+  else_warnings at a (Some' p span b) = statement_warnings span b
 
-abbrev pub body_warnings : List ℕ → List Statement → List Warning
-body_warnings text ss = flat_map (λ s. statement_warnings text s.span s.action) ss ++ list_warnings text ss
+abbrev pub body_warnings : List Statement → List Warning
+body_warnings ss = flat_map (λ s. statement_warnings s.span s.action) ss ++ list_warnings ss
 
 -- ---- constants
 
@@ -173,14 +131,22 @@ body_constants ss = flat_map (λ s. constant_warnings s.action) ss
 
 -- ---- the whole
 
-abbrev pub declaration_warnings : List ℕ → List Instance → Declaration → List Warning
-declaration_warnings text is (D.Channels kind role names) = []
-declaration_warnings text is (D.Process p) =
-    process_warnings is p ++ names_warnings p ++ body_warnings text p.statements.items ++ body_constants p.statements.items
+abbrev pub declaration_warnings : List Instance → Declaration → List Warning
+declaration_warnings is (D.Channels kind role names) = []
+declaration_warnings is (D.Process p) =
+    process_warnings is p ++ names_warnings p ++ body_warnings p.statements.items ++ body_constants p.statements.items
 
-abbrev pub program_warnings : List ℕ → Program → List Warning
-program_warnings text t = flat_map (declaration_warnings text t.instances.items) t.declarations.items
+abbrev pub program_warnings : Program → List Warning
+program_warnings t = flat_map (declaration_warnings t.instances.items) t.declarations.items
 
--- all that is warned of in a program of this text
+-- a statement that is indented as if it belonged to the one before
+abbrev pub by_layout : Span → List Warning
+by_layout at = warned_where Beside (Some at)
+
+-- what is warned of in a program of this text, by its comments and its tree
+abbrev pub AreTreeWarnings : List ℕ → Program → List Warning → Type 0
+AreTreeWarnings text t ws = (comments : List Warning) × AreCommentWarnings text comments × (ws ≡ comments ++ program_warnings t)
+
+-- and all, with such statements
 abbrev pub AreWarnings : List ℕ → Program → List Warning → Type 0
-AreWarnings text t ws = (comments : List Warning) × AreCommentWarnings text comments × (ws ≡ comments ++ program_warnings text t)
+AreWarnings text t ws = (known : List Warning) × AreTreeWarnings text t known × (spans : List Span) × (ws ≡ known ++ flat_map by_layout spans)

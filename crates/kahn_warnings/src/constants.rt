@@ -28,7 +28,7 @@ pub(crate) fn bad(outcome: Result<Value, Failure>) -> Option<Failure>
 }
 
 /// The value with the other sign.
-fn negated(value: Option<Value>) -> Option<Value>
+pub(crate) fn negated(value: Option<Value>) -> Option<Value>
     ensures { result ≡ negated value }
 {
     match value {
@@ -38,7 +38,7 @@ fn negated(value: Option<Value>) -> Option<Value>
 }
 
 /// The other truth value.
-fn inverted(value: Option<Value>) -> Option<Value>
+pub(crate) fn inverted(value: Option<Value>) -> Option<Value>
     ensures { result ≡ inverted value }
 {
     match value {
@@ -63,7 +63,7 @@ pub(crate) fn combined(
 }
 
 /// That of one of two branches.
-fn chosen(test: Option<Value>, yes: Option<Value>, no: Option<Value>) -> Option<Value>
+pub(crate) fn chosen(test: Option<Value>, yes: Option<Value>, no: Option<Value>) -> Option<Value>
     ensures { result ≡ chosen test yes no }
 {
     match test {

@@ -7,6 +7,7 @@ mod comments;
 mod constants;
 mod faults;
 mod laws;
+mod layout;
 mod loops;
 mod names;
 mod notes;

@@ -35,7 +35,7 @@ fn warning_words(kind: WarningKind) -> &'static str
         WarningKind::BareThen =>
             "nothing stands behind `then`: a statement behind `;` is always done",
         WarningKind::Beside =>
-            "statement doesn't belong to the `if` on its line; `begin` and `end` make one statement of several",
+            "statement is indented like the one before it, and isn't part of the same `if` or loop; `begin` and `end` make one statement of several",
     }
 }
 

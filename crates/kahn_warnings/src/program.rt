@@ -1,19 +1,19 @@
 //! All that is warned of in a program.
 
-ghost use Rattle.std.specs.Prelude.{◌≡◌, ◌++◌, IfOk};
+ghost use Rattle.std.specs.Prelude.{◌≡◌, ◌++◌, IfOk, flat_map};
 ghost use Rattle.kahn_streams.specs.View.{stmt_of};
-ghost use Rattle.kahn_warnings.specs.Warnings.{AreWarnings, bare_warnings, body_constants, body_warnings, declaration_warnings, beside_warnings, endless_warnings, first_standing, first_unreached, idle_warnings, is_on_line, is_short_if, is_single, list_warnings, place_beside, statement_warnings};
+ghost use Rattle.kahn_warnings.specs.Warnings.{AreTreeWarnings, AreWarnings, bare_warnings, body_constants, body_warnings, by_layout, declaration_warnings, endless_warnings, first_standing, first_unreached, idle_warnings, list_warnings, statement_warnings};
 ghost use Rattle.kahn_warnings.specs.Warned.{warned_where};
 
 use crate::comments::comment_warnings;
 use crate::constants::{constant_of, is_true};
+use crate::layout::misplaced;
 use crate::loops::{is_seen, never_ends};
 use crate::names::{add_names, add_process};
 use crate::surely::add_constants;
 use crate::uses::is_empty;
 use crate::warning::{Warning, WarningKind};
 use kahn_streams::{Action, Declaration, Expression, Instance, NoMemory, Program, Span, Statement};
-use kahn_wanted::bytes_between;
 use std::alloc::{AllocError, Global};
 
 /// Adds a warning of a part, where that stands anywhere.
@@ -88,123 +88,42 @@ fn first_standing(statements: &[Statement]) -> Option<Span>
 }
 
 /// Where the first such statement stands behind one that never ends.
+#[tactic(auto, using(crate::proofs::Lists::none_behind))]
 fn first_unreached(statements: &[Statement]) -> Option<Span>
     ensures { result ≡ first_unreached statements.now }
 {
     let mut rest = statements;
     'statements: while let Some((first, behind)) = rest.split_first() {
+        if is_empty(first) {
+            rest = behind;
+            continue 'statements;
+        }
+        // where nothing stands behind it, nobody asks whether it ends
+        let Some(next) = first_standing(behind) else {
+            return None;
+        };
         if never_ends(first) {
-            return first_standing(behind);
+            return Some(next);
         }
         rest = behind;
     }
     None
 }
 
-/// Whether a statement stands there that is no block.
-fn is_single(statement: &Statement) -> bool
-    ensures { result ≡ is_single statement.now.action }
-{
-    match &statement.action {
-        Action::Empty => false,
-        Action::Assign(_, _) => true,
-        Action::Send(_, _) => true,
-        Action::Print(_) => true,
-        Action::Block(_) => false,
-        Action::If(_, _, _) => true,
-        Action::While(_, _) => true,
-        Action::Repeat(_) => true,
-    }
-}
-
-/// Whether it is an `if` without `else`, with one statement that is no block.
-fn is_short_if(statement: &Statement) -> bool
-    ensures { result ≡ is_short_if statement.now.action }
-{
-    match &statement.action {
-        Action::Empty => false,
-        Action::Assign(_, _) => false,
-        Action::Send(_, _) => false,
-        Action::Print(_) => false,
-        Action::Block(_) => false,
-        Action::If(_, yes, no) => match no {
-            Some(_) => false,
-            None => is_single(yes),
-        },
-        Action::While(_, _) => false,
-        Action::Repeat(_) => false,
-    }
-}
-
-/// Whether no line ends from the end of a part of the text to another part.
-fn is_on_line(text: &str, before: Option<Span>, next: Option<Span>) -> bool
-    ensures { result ≡ is_on_line text.now before next }
-{
-    match (before, next) {
-        (Some(before), Some(next)) => !bytes_between(text, before.to, next.from).contains(&b'\n'),
-        (Some(_), None) => false,
-        (None, _) => false,
-    }
-}
-
-/// Where the first of the rest stands, where that begins on the line on which such an `if` ends before it.
-fn place_beside(text: &str, first: &Statement, rest: &[Statement]) -> Option<Span>
-    ensures { result ≡ place_beside text.now first.now rest.now }
-{
-    if !is_short_if(first) {
-        return None;
-    }
-    let next = first_standing(rest);
-    if is_on_line(text, first.span, next) {
-        next
-    } else {
-        None
-    }
-}
-
-/// Adds the warnings of those of these statements.
-fn add_beside(
-    warnings: &mut Vec<Warning>,
-    text: &str,
-    statements: &[Statement],
-) -> Result<(), AllocError>
-    ensures { IfOk result (λ _. warnings.new.items ≡ warnings.old.items ++ beside_warnings text.now statements.now) }
-{
-    let mut rest = statements;
-    'statements: while let Some((first, behind)) = rest.split_first() {
-        add_where(
-            warnings,
-            WarningKind::Beside,
-            place_beside(text, first, behind),
-        )?;
-        rest = behind;
-    }
-    Ok(())
-}
-
 /// Adds those of a list of statements beside those of each.
-fn add_list(
-    warnings: &mut Vec<Warning>,
-    text: &str,
-    statements: &[Statement],
-) -> Result<(), AllocError>
-    ensures { IfOk result (λ _. warnings.new.items ≡ warnings.old.items ++ list_warnings text.now statements.now) }
+fn add_list(warnings: &mut Vec<Warning>, statements: &[Statement]) -> Result<(), AllocError>
+    ensures { IfOk result (λ _. warnings.new.items ≡ warnings.old.items ++ list_warnings statements.now) }
 {
     add_where(
         warnings,
         WarningKind::Unreached,
         first_unreached(statements),
-    )?;
-    add_beside(warnings, text, statements)
+    )
 }
 
 /// Adds the warnings of a statement.
-fn add_statement(
-    warnings: &mut Vec<Warning>,
-    text: &str,
-    statement: &Statement,
-) -> Result<(), AllocError>
-    ensures { IfOk result (λ _. warnings.new.items ≡ warnings.old.items ++ statement_warnings text.now statement.now.span statement.now.action) }
+fn add_statement(warnings: &mut Vec<Warning>, statement: &Statement) -> Result<(), AllocError>
+    ensures { IfOk result (λ _. warnings.new.items ≡ warnings.old.items ++ statement_warnings statement.now.span statement.now.action) }
 {
     match &statement.action {
         Action::Empty => Ok(()),
@@ -213,51 +132,48 @@ fn add_statement(
         Action::Print(_) => Ok(()),
         Action::Block(statements) => {
             for inner in statements {
-                add_statement(warnings, text, inner)?;
+                add_statement(warnings, inner)?;
             }
-            add_list(warnings, text, statements)
+            add_list(warnings, statements)
         }
         Action::If(_, yes, no) => {
-            add_statement(warnings, text, yes)?;
+            add_statement(warnings, yes)?;
             match no {
-                Some(no) => add_statement(warnings, text, no),
+                Some(no) => add_statement(warnings, no),
                 None => add_bare(warnings, statement.span, yes),
             }
         }
         Action::While(test, body) => {
             add_endless(warnings, statement.span, test, body)?;
-            add_statement(warnings, text, body)
+            add_statement(warnings, body)
         }
         Action::Repeat(body) => {
             add_idle(warnings, statement.span, body)?;
-            add_statement(warnings, text, body)
+            add_statement(warnings, body)
         }
     }
 }
 
 /// Adds those of a body.
-fn add_body(
-    warnings: &mut Vec<Warning>,
-    text: &str,
-    statements: &[Statement],
-) -> Result<(), AllocError>
-    ensures { IfOk result (λ _. warnings.new.items ≡ warnings.old.items ++ body_warnings text.now statements.now) }
+fn add_body(warnings: &mut Vec<Warning>, statements: &[Statement]) -> Result<(), AllocError>
+    ensures { IfOk result (λ _. warnings.new.items ≡ warnings.old.items ++ body_warnings statements.now) }
 {
     for statement in statements {
-        add_statement(warnings, text, statement)?;
+        add_statement(warnings, statement)?;
     }
-    add_list(warnings, text, statements)
+    add_list(warnings, statements)
 }
 
 /// Adds those of the constants in a body.
 fn add_body_constants(
     warnings: &mut Vec<Warning>,
+    alloc: Global,
     statements: &[Statement],
 ) -> Result<(), AllocError>
     ensures { IfOk result (λ _. warnings.new.items ≡ warnings.old.items ++ body_constants statements.now) }
 {
     for statement in statements {
-        add_constants(warnings, statement)?;
+        add_constants(warnings, alloc, statement)?;
     }
     Ok(())
 }
@@ -266,32 +182,50 @@ fn add_body_constants(
 fn add_declaration(
     warnings: &mut Vec<Warning>,
     alloc: Global,
-    text: &str,
     instances: &[Instance],
     declaration: &Declaration,
 ) -> Result<(), AllocError>
-    ensures { IfOk result (λ _. warnings.new.items ≡ warnings.old.items ++ declaration_warnings text.now instances.now declaration.now) }
+    ensures { IfOk result (λ _. warnings.new.items ≡ warnings.old.items ++ declaration_warnings instances.now declaration.now) }
 {
     match declaration {
         Declaration::Channels(_, _, _) => Ok(()),
         Declaration::Process(process) => {
             add_process(warnings, instances, process)?;
             add_names(warnings, alloc, process)?;
-            add_body(warnings, text, &process.statements)?;
-            add_body_constants(warnings, &process.statements)
+            add_body(warnings, &process.statements)?;
+            add_body_constants(warnings, alloc, &process.statements)
         }
     }
 }
 
-/// All that is warned of in a program of this text: the comments first, then one process after another. It refuses only where
-/// memory was refused. The time is that of the size of the program times how deep its statements are nested, and that of the names
-/// in each test of a loop times the size of its body.
-pub fn warnings(alloc: Global, program: &Program, text: &str) -> Result<Vec<Warning>, NoMemory>
-    ensures { IfOk result (λ ws. AreWarnings text.now program.now ws.items) }
+/// All that is warned of in a program of this text, by its comments and its tree.
+fn tree_warnings(alloc: Global, program: &Program, text: &str) -> Result<Vec<Warning>, NoMemory>
+    ensures { IfOk result (λ ws. AreTreeWarnings text.now program.now ws.items) }
 {
     let mut warnings = comment_warnings(alloc, text)?;
     for declaration in &program.declarations {
-        add_declaration(&mut warnings, alloc, text, &program.instances, declaration)?;
+        add_declaration(&mut warnings, alloc, &program.instances, declaration)?;
     }
+    Ok(warnings)
+}
+
+/// Adds a warning of each part.
+fn add_misplaced(warnings: &mut Vec<Warning>, spans: &[Span]) -> Result<(), AllocError>
+    ensures { IfOk result (λ _. warnings.new.items ≡ warnings.old.items ++ flat_map by_layout spans.now) }
+{
+    for span in spans {
+        add_where(warnings, WarningKind::Beside, Some(*span))?;
+    }
+    Ok(())
+}
+
+/// All that is warned of in a program of this text: the comments first, then one process after another, and then by indentation. It
+/// refuses only where memory was refused. The time is that of the size of the program times how deep its statements are nested.
+pub fn warnings(alloc: Global, program: &Program, text: &str) -> Result<Vec<Warning>, NoMemory>
+    ensures { IfOk result (λ ws. AreWarnings text.now program.now ws.items) }
+{
+    let mut warnings = tree_warnings(alloc, program, text)?;
+    let spans = misplaced(alloc, text, program)?;
+    add_misplaced(&mut warnings, &spans)?;
     Ok(warnings)
 }

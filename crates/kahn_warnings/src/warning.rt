@@ -35,7 +35,7 @@ pub enum WarningKind {
     BareDo,
     /// An `if` without `else`, and with nothing behind `then`.
     BareThen,
-    /// A statement on the line on which an `if` without `else`, with one statement that is no block, ends before it.
+    /// A statement that is indented like the one before it, which stands behind a `then`, an `else`, a `do` or a `repeat`, and is no block.
     Beside,
 }
 

@@ -1,12 +1,14 @@
-pub mod Noted
-pub mod Refused
-pub mod Stands
-pub mod Parts
 mod Back
 mod Good
+mod Awaiting
 mod Lined
+pub mod Noted
 mod Numbers
+pub mod Parts
 mod Read
+pub mod Refused
 mod Reports
+pub mod Stands
+mod Sublists
 mod Unfed
 mod Waiting

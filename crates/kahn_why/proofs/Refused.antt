@@ -17,7 +17,7 @@ use Rattle.kahn_notes.specs.Notes.{IsCommented, IsNote}
 use Rattle.kahn_wanted.specs.Comments.{AreComments}
 use Rattle.kahn_report.specs.Work.{IsParsed}
 use Rattle.kahn_report.specs.declared.working.WorkFault.TheVariants.{Check, Syntax}
-use Rattle.kahn_why.specs.Refusing.{IsNoteOn, IsPlacedNote, IsRefusal, IsSyntaxRefusal, expected_of, refused_words}
+use Rattle.kahn_why.specs.Refusing.{AreToldFaults, IsNoteOn, IsPlacedNote, IsRefusal, IsSyntaxRefusal, expected_of, refused_words}
 use Rattle.kahn_why.specs.Noting.{faults_text}
 
 abbrev unwrapped : Span × What → Option (Span × What) → Span × What
@@ -52,12 +52,12 @@ told_other path program f note e h =
     (λ p. (w : String Global) × (note ≡ Some w) × IsNote path program p.0 p.1 w)) (sym e) h
 
 -- what is said of the faults of the network
-pub told_faults : (path program : List ℕ) (t : Program) (cs : List Span) (fs : List CheckFault) (words : String Global) → IsParsed program t → AreComments program 0 cs → (fs ≡ [] → ⊥) → fs ≡ faults_by_part t →
-    verdict (faults_by_part t) (tt {0}) ≡ verdict (faults t) (tt {0}) → string_bytes words ≡ faults_text path program t cs fs → IsNoteOn path program words
-told_faults path program t cs [] words parsed are some told first is = absurd (some refl)
-told_faults path program t cs (g ∷ gs) words parsed are some told first is =
-    let met : verdict (faults t) (tt {0}) ≡ Err g = sym first ∙ ap (λ z. verdict z (tt {0})) (sym told) in
-    (Check g, (t, parsed, inr met), (t, cs, parsed, are, met, is ∙ ap (faults_text path program t cs) told))
+pub told_faults : (path program : List ℕ) (t : Program) (cs : List Span) (fs told : List CheckFault) (words : String Global) → IsParsed program t → AreComments program 0 cs → (fs ≡ [] → ⊥) → fs ≡ faults_by_part t →
+    verdict (faults_by_part t) (tt {0}) ≡ verdict (faults t) (tt {0}) → AreToldFaults fs told → string_bytes words ≡ faults_text path program t cs told → IsNoteOn path program words
+told_faults path program t cs [] told words parsed are some all first kept is = absurd (some refl)
+told_faults path program t cs (g ∷ gs) told words parsed are some all first kept is =
+    let met : verdict (faults t) (tt {0}) ≡ Err g = sym first ∙ ap (λ z. verdict z (tt {0})) (sym all) in
+    (Check g, (t, parsed, inr met), (t, cs, parsed, are, met, told, subst (λ l. AreToldFaults l told) all kept, is))
 
 -- what is said of a fault of the text, as the note on it
 pub told_syntax : (path program : List ℕ) (f : SyntaxFault) (note : Option (String Global)) → IsTextFault program f → IsSyntaxRefusal path program f note →

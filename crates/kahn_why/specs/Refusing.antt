@@ -1,5 +1,5 @@
 -- Believed. The note on why a program text is refused.
-use Rattle.std.specs.Prelude.{◌≡◌, ◌⊎◌, ◌++◌, ℕ, Bool, true, List, [], Option, Some, None, Err, MatchOption, string_bytes}
+use Rattle.std.specs.Prelude.{◌≡◌, ◌⊎◌, ◌++◌, ℕ, All, Bool, true, Contains, List, [], Option, Some, None, Err, MatchOption, string_bytes}
 use Rattle.std.specs.declared.alloc.Global.{Global}
 use Rattle.std.specs.declared.string.String.{String}
 use Rattle.kahn_streams.specs.declared.span.Span.{Span}
@@ -40,10 +40,14 @@ IsSyntaxRefusal path program f note = MatchOption (expected_of f)
     (IsPlacedNote path program f note)
     (λ e. (words : String Global) × (note ≡ Some words) × IsNote path program e.0 e.1 words)
 
--- of a fault of the network: the text spells a program whose first fault it is, and the note tells the parts of that program
+-- these are some of the faults, and none only where there is none: what seems to follow from another fault isn't told
+abbrev pub AreToldFaults : List CheckFault → List CheckFault → Type 0
+AreToldFaults fs told = All (Contains fs) told × (told ≡ [] → fs ≡ [])
+
+-- of a fault of the network: the text spells a program whose first fault it is, and the note tells some of the faults of its parts
 abbrev pub IsNetworkNote : List ℕ → List ℕ → CheckFault → String Global → Type 0
 IsNetworkNote path program f words = (t : Program) × (cs : List Span) × IsParsed program t × AreComments program 0 cs × (verdict (faults t) (tt {0}) ≡ Err f)
-    × (string_bytes words ≡ faults_text path program t cs (faults_by_part t))
+    × (told : List CheckFault) × AreToldFaults (faults_by_part t) told × (string_bytes words ≡ faults_text path program t cs told)
 
 -- where it has a place
 abbrev pub IsCheckRefusal : List ℕ → List ℕ → CheckFault → Option (String Global) → Type 0

@@ -1,6 +1,6 @@
 -- Believed. What is said of a run that stopped: a line for each process that hasn't ended, advice to each ring, and how the run ended.
-use Rattle.std.specs.Prelude.{◌≡◌, ℕ, ◌+◌, ◌<◌, ◌==◌, List, [], ◌∷◌, ◌++◌, Bool, true, false, codes, decimal, if◌then◌else◌, flat_map, length, map, nat_lt, string_bytes, IfOk, Option, Some, None, Result, option_map, slice_index_or}
-use Rattle.std.proofs.Common.{Bor}
+use Rattle.std.specs.Prelude.{◌≡◌, ℕ, ◌+◌, ◌<◌, ◌==◌, ◌&&◌, List, [], ◌∷◌, ◌++◌, Bool, true, false, codes, decimal, if◌then◌else◌, flat_map, length, map, nat_lt, string_bytes, IfOk, Option, Some, None, Result, option_map, slice_index_or}
+use Rattle.std.proofs.Common.{Bor, bytes_eq}
 use Rattle.std.specs.declared.alloc.Global.{Global}
 use Rattle.std.specs.declared.string.String.{String}
 use Rattle.std.specs.List.{concat, list_any}
@@ -168,10 +168,9 @@ marks_text path source words xs = flat_map (λ x. marked path source x words) xs
 abbrev pub first_marks : List ℕ → List ℕ → List ℕ → List Span → List ℕ
 first_marks path source words xs = first_told (marks_text path source words) [] (codes "place") most_notes xs
 
--- the line of p, which has this fault, and notes on the places in the program text that it can have come from
 abbrev pub fault_words : Failure → List ℕ
-fault_words Overflow = codes " has a fault, overflow\n"
-fault_words Division = codes " has a fault, division\n"
+fault_words Overflow = codes " has a fault, overflow"
+fault_words Division = codes " has a fault, division"
 
 abbrev pub here_words : Failure → List ℕ
 here_words Overflow = codes "overflow can have come from here"
@@ -180,8 +179,23 @@ here_words Division = codes "division can have come from here"
 abbrev pub places_text : List ℕ → List ℕ → Program → ℕ → Failure → List ℕ
 places_text path source t p k = first_marks path source (here_words k) (fault_places k (instance_body t p))
 
-abbrev pub faulted_text : List ℕ → List ℕ → Program → ℕ → Failure → List ℕ
-faulted_text path source t p k = who_text t p ++ (fault_words k ++ places_text path source t p k)
+abbrev pub has_failed : Failure → Outcome → Bool
+has_failed Overflow (Faulted Overflow) = true
+has_failed Division (Faulted Division) = true
+has_failed k x = false
+
+-- the first instance of the process of p that has this fault, where the first of these ends is that of instance z
+abbrev pub first_failed : Program → ℕ → Failure → ℕ → List End → ℕ
+first_failed t p k z [] = p
+first_failed t p k z (x ∷ xs) = if has_failed k x.outcome && bytes_eq (process_name t p) (process_name t z) then z else first_failed t p k (z + 1) xs
+
+-- the places are told once for a process: others refer to the first instance
+abbrev pub told_places : List ℕ → List ℕ → Program → ℕ → Failure → ℕ → List ℕ
+told_places path source t p k z = if z == p then codes "\n" ++ places_text path source t p k else concat (codes ": see " ∷ who_text t z ∷ codes "\n" ∷ [])
+
+-- the line of p, which has this fault, and notes on the places in the program text that it can have come from
+abbrev pub faulted_text : List ℕ → List ℕ → Program → List End → ℕ → Failure → List ℕ
+faulted_text path source t es p k = who_text t p ++ (fault_words k ++ told_places path source t p k (first_failed t p k 0 es))
 
 -- the line of p, which wants more events
 abbrev pub events_words : ℕ → List ℕ
@@ -190,25 +204,25 @@ events_words n = if n == 1 then codes " event\n" else codes " events\n"
 abbrev pub wants_text : Program → ℕ → ℕ → List ℕ
 wants_text t p n = concat (who_text t p ∷ codes " wants more, after " ∷ decimal n ∷ events_words n ∷ [])
 
--- the lines of p, which stands so after that many events by this cause
-abbrev pub stood_text : List ℕ → List ℕ → Program → Verdict → Option Lists → ℕ → Outcome → ℕ → Cause → List ℕ
-stood_text path source t v fed p Ended n y = []
-stood_text path source t v fed p (Waits c) n y = waits_text source t v fed p c y
-stood_text path source t v fed p (Faulted k) n y = faulted_text path source t p k
-stood_text path source t v fed p More n y = wants_text t p n
+-- the lines of p, which stands so after that many events by this cause, among instances with these ends
+abbrev pub stood_text : List ℕ → List ℕ → Program → Verdict → Option Lists → List End → ℕ → Outcome → ℕ → Cause → List ℕ
+stood_text path source t v fed es p Ended n y = []
+stood_text path source t v fed es p (Waits c) n y = waits_text source t v fed p c y
+stood_text path source t v fed es p (Faulted k) n y = faulted_text path source t es p k
+stood_text path source t v fed es p More n y = wants_text t p n
 
-abbrev pub line_text : List ℕ → List ℕ → Program → Verdict → Option Lists → ℕ → End → Cause → List ℕ
-line_text path source t v fed p x y = stood_text path source t v fed p x.outcome x.events y
+abbrev pub line_text : List ℕ → List ℕ → Program → Verdict → Option Lists → List End → ℕ → End → Cause → List ℕ
+line_text path source t v fed es p x y = stood_text path source t v fed es p x.outcome x.events y
 
 -- the cause of p
 abbrev pub cause_at : List Cause → ℕ → Cause
 cause_at ys p = slice_index_or ys p (Input 0 0)
 
 -- the lines of the ends, the first of which is that of p
-abbrev pub lines_text : List ℕ → List ℕ → Program → Verdict → Option Lists → List Cause → ℕ → List End → List ℕ
-lines_text path source t v fed ys p [] = []
-lines_text path source t v fed ys p (x ∷ xs) =
-    line_text path source t v fed p x (cause_at ys p) ++ lines_text path source t v fed ys (p + 1) xs
+abbrev pub lines_text : List ℕ → List ℕ → Program → Verdict → Option Lists → List End → List Cause → ℕ → List End → List ℕ
+lines_text path source t v fed es ys p [] = []
+lines_text path source t v fed es ys p (x ∷ xs) =
+    line_text path source t v fed es p x (cause_at ys p) ++ lines_text path source t v fed es ys (p + 1) xs
 
 -- how the run can go on
 abbrev pub bound_text : Verdict → List ℕ
@@ -218,7 +232,7 @@ bound_text Memory = []
 
 -- the lines, and the last line of the report
 abbrev pub explained_text : List ℕ → List ℕ → Program → Option Lists → Answer → List Cause → List ℕ
-explained_text path source t fed a ys = lines_text path source t a.verdict fed ys 0 a.ends.items ++ (bound_text a.verdict ++ last_text a)
+explained_text path source t fed a ys = lines_text path source t a.verdict fed a.ends.items ys 0 a.ends.items ++ (bound_text a.verdict ++ last_text a)
 
 -- ---- what the run came to
 

@@ -2,6 +2,7 @@
 #![tactic(auto)]
 
 mod explaining;
+mod kept;
 mod laws;
 mod noting;
 mod refusing;

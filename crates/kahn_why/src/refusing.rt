@@ -6,6 +6,7 @@ ghost use Rattle.kahn_syntax.specs.Texts.{IsTextFault as IsSyntaxFault};
 ghost use Rattle.kahn_fault.specs.Message.{check_span};
 ghost use Rattle.kahn_why.specs.Refusing.{IsNoteOn, IsPlacedNote, IsRefusal, IsSyntaxRefusal, expected_of, refused_words};
 
+use crate::kept::kept;
 use crate::noting::faults_note;
 use kahn_check::{CheckFault, every, part_by_part};
 use kahn_fault::{check_span, syntax_span, syntax_words};
@@ -95,13 +96,14 @@ fn network_note(
     }
     part_by_part();
     let comments = comments_of(alloc, program)?;
-    let note = faults_note(alloc, path, program, &tree, &comments, &faults)?;
+    let told = kept(alloc, program, &tree, &faults)?;
+    let note = faults_note(alloc, path, program, &tree, &comments, &told)?;
     Ok(Some(note))
 }
 
 /// The note on a fault of a program text, where it has a place: what stands there and what may stand there, or the words of
 /// the fault with what is wanted and what is found, the nearest name, and another place that has to do with it. Of a network each
-/// part that has a fault is told. It refuses only where memory was refused.
+/// part that has a fault is told, but for those that seem to follow from another one. It refuses only where memory was refused.
 #[tactic(auto, using(crate::proofs::Refused::told_syntax))]
 pub(crate) fn refusal_note(
     alloc: Global,

@@ -1,5 +1,6 @@
 //! Why the run of an answer, or of a report, stopped.
 
+mod awaited;
 mod lines;
 mod pieces;
 mod places;

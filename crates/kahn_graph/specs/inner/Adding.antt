@@ -12,10 +12,6 @@ use Rattle.kahn_chain.specs.Chain.{AreRings, LeadsOn}
 use Rattle.kahn_graph.specs.Graph.{tip_text, values_text}
 use Rattle.kahn_graph.specs.Stands.{told_standings}
 
--- the lines of a report that is lent line by line
-abbrev pub said : List (Bor (List ℕ)) → List (List ℕ)
-said = map (λ line. line.now)
-
 -- behind the old text stands one of these
 abbrev pub Adds : (List ℕ → Type 0) → List ℕ → List ℕ → Type 0
 Adds P old new = (text : List ℕ) × P text × (new ≡ old ++ text)

@@ -1,27 +1,15 @@
--- Inner. What the parser's answer says of lexemes whose last one may be at fault.
+-- Inner. Which lexemes may stand behind others.
 use Rattle.std.specs.Prelude.{◌≡◌, ◌↔◌, List, [], ◌∷◌, ◌++◌, Bool, true, false, ℕ, Contains}
 use Rattle.kahn_streams.specs.declared.span.Span.{Span}
 use Rattle.kahn_syntax.specs.declared.lexeme.Class.{Class}
 use Rattle.kahn_syntax.specs.declared.lexeme.Lexeme.{Lexeme}
-use Rattle.kahn_syntax.specs.declared.fault.What.{What}
-use Rattle.kahn_syntax.specs.declared.fault.What.TheVariants.{More, Nothing, Other}
 use Rattle.kahn_syntax.specs.Grammar.{Terminal}
 use Rattle.kahn_syntax.specs.Texts.{terminal, terminals, Begins, BeginsWithin}
-
--- the last of these lexemes stands behind others that begin a program within the limit
-abbrev pub AreLed : List ℕ → List Lexeme → Type 0
-AreLed text xs = (before : List Lexeme) × (x : Lexeme) × (xs ≡ before ++ x ∷ []) × BeginsWithin (terminals text before)
 
 -- whether they begin a program
 abbrev pub AnswersBegin : List Terminal → Bool → Type 0
 AnswersBegin ks true = Begins ks
 AnswersBegin ks false = ¬ (Begins ks)
-
--- whether only more is wanted
-abbrev pub is_more : What → Bool
-is_more More = true
-is_more Nothing = false
-is_more Other = false
 
 -- no bytes, at the beginning of a text
 abbrev pub nowhere : Span

@@ -1,16 +1,16 @@
 //! The lines of an explanation.
 
-ghost use Rattle.std.specs.Prelude.{◌≡◌, ◌<◌, ◌++◌, IfOk, length, string_bytes};
+ghost use Rattle.std.specs.Prelude.{◌≡◌, ◌<◌, ◌≤◌, ◌++◌, IfOk, length, string_bytes};
 ghost use Rattle.kahn_streams.specs.Network.{network_of};
 ghost use Rattle.kahn_why.specs.Waits.{instance_waits};
+ghost use Rattle.kahn_why.specs.inner.Awaited.{awaited_places};
 ghost use Rattle.kahn_why.specs.Words.{as_text, cause_text, faulted_text, ringed_text, line_text, lines_text, wants_text, spots_text, waits_text, ends_at, fed_lists, AreOfNetwork, GrowsBy, IsOfNetwork};
 
+use crate::why::awaited::awaited;
 use crate::why::pieces::{
     add_source, add_who, advice, events_word, fault_word, for_ever, lasting, stopped_word,
 };
-use crate::why::places::add_places;
-use crate::why::spots::add_spots;
-use crate::why::waits::channel_waits;
+use crate::why::places::{add_places, first_failed};
 use itoa::Buffer;
 use kahn_chain::Cause;
 use kahn_marks::add;
@@ -80,64 +80,58 @@ fn add_end(
     text.push_str(advice(network, instance, channel, cause))
 }
 
-/// Adds the places of the waits of an instance on a channel.
-fn add_awaited(
-    text: &mut String,
-    alloc: Global,
-    program: &str,
-    network: &Network,
-    instance: usize,
-    channel: usize,
-) -> Result<(), AllocError>
-    requires here { instance < length network.now.instances.items }
-    requires channel { channel < length (network_of network.now).channels }
-    ensures { IfOk result (λ _. string_bytes text.new ≡ string_bytes text.old ++ spots_text program.now (instance_waits network.now instance channel)) }
-{
-    let places = channel_waits(alloc, network, instance, channel)?;
-    add_spots(text, program, &places)
-}
-
 /// Adds the line of an instance that waits on a channel, and what mends its ring.
 fn add_waits(
     text: &mut String,
-    alloc: Global,
-    program: &str,
+    _program: &str,
     network: &Network,
     verdict: Verdict,
     fed: Option<&Input>,
+    awaited: &str,
     instance: usize,
     channel: usize,
     cause: Cause,
 ) -> Result<(), AllocError>
+    requires awaited { awaited.now ≡ spots_text _program.now (instance_waits network.now instance channel) }
     requires here { instance < length network.now.instances.items }
     requires there { ends_at cause < length network.now.instances.items }
     requires channel { channel < length (network_of network.now).channels }
-    ensures { GrowsBy result text.old text.new (waits_text program.now network.now verdict (fed_lists fed.entry) instance channel cause) }
+    ensures { GrowsBy result text.old text.new (waits_text _program.now network.now verdict (fed_lists fed.entry) instance channel cause) }
 {
     add_who(text, "", network, instance)?;
     add(text, &[" waits on ", channel_name(network, channel)])?;
-    add_awaited(text, alloc, program, network, instance, channel)?;
+    text.push_str(awaited)?;
     add_source(text, network, verdict, fed, channel)?;
     add_cause(text, network, verdict, instance, cause)?;
     add_end(text, network, instance, channel, cause)
 }
 
-/// Adds the line of an instance that has a fault, and notes on the places that it can have come from.
+/// Adds the line of an instance that has a fault, and notes on the places that it can have come from, unless an instance of its process
+/// before it has them.
 fn add_faulted(
     text: &mut String,
     alloc: Global,
     path: &str,
     program: &str,
     network: &Network,
+    ends: &[End],
     instance: usize,
     kind: Failure,
 ) -> Result<(), AllocError>
-    requires { instance < length network.now.instances.items }
-    ensures { IfOk result (λ _. string_bytes text.new ≡ string_bytes text.old ++ faulted_text path.now program.now network.now instance kind) }
+    requires here { instance < length network.now.instances.items }
+    requires ends { length ends.now ≤ length network.now.instances.items }
+    ensures { IfOk result (λ _. string_bytes text.new ≡ string_bytes text.old ++ faulted_text path.now program.now network.now ends.now instance kind) }
 {
     add_who(text, "", network, instance)?;
     text.push_str(fault_word(kind))?;
-    add_places(text, alloc, path, program, network, instance, kind)
+    let first = first_failed(network, ends, instance, kind);
+    if first == instance {
+        text.push_str("\n")?;
+        add_places(text, alloc, path, program, network, instance, kind)
+    } else {
+        add_who(text, ": see ", network, first)?;
+        text.push_str("\n")
+    }
 }
 
 /// Adds the line of an instance that wants more events.
@@ -165,19 +159,25 @@ fn add_line(
     network: &Network,
     verdict: Verdict,
     fed: Option<&Input>,
+    ends: &[End],
+    awaited: &str,
     instance: usize,
     end: End,
     cause: Cause,
 ) -> Result<(), AllocError>
-    requires { IsOfNetwork network.now instance end.outcome cause }
-    ensures { GrowsBy result text.old text.new (line_text path.now program.now network.now verdict (fed_lists fed.entry) instance end cause) }
+    requires awaited { awaited.now ≡ spots_text program.now (awaited_places network.now instance end.outcome) }
+    requires named { IsOfNetwork network.now instance end.outcome cause }
+    requires ends { length ends.now ≤ length network.now.instances.items }
+    ensures { GrowsBy result text.old text.new (line_text path.now program.now network.now verdict (fed_lists fed.entry) ends.now instance end cause) }
 {
     match end.outcome {
         Outcome::Ended => Ok(()),
         Outcome::Waits(channel) => add_waits(
-            text, alloc, program, network, verdict, fed, instance, channel, cause,
+            text, program, network, verdict, fed, awaited, instance, channel, cause,
         ),
-        Outcome::Faulted(kind) => add_faulted(text, alloc, path, program, network, instance, kind),
+        Outcome::Faulted(kind) => {
+            add_faulted(text, alloc, path, program, network, ends, instance, kind)
+        }
         Outcome::More => add_more(text, network, instance, end.events),
     }
 }
@@ -195,8 +195,9 @@ pub(crate) fn add_lines(
     ends: &[End],
 ) -> Result<(), AllocError>
     requires { AreOfNetwork network.now ends.now causes.now }
-    ensures { GrowsBy result text.old text.new (lines_text path.now program.now network.now verdict (fed_lists fed.entry) causes.now 0 ends.now) }
+    ensures { GrowsBy result text.old text.new (lines_text path.now program.now network.now verdict (fed_lists fed.entry) ends.now causes.now 0 ends.now) }
 {
+    let awaited = awaited(alloc, program, network, ends)?;
     for (instance, end) in ends.iter().enumerate() {
         add_line(
             text,
@@ -206,6 +207,8 @@ pub(crate) fn add_lines(
             network,
             verdict,
             fed,
+            ends,
+            awaited[instance].as_str(),
             instance,
             *end,
             causes[instance],

@@ -166,8 +166,8 @@ pub(crate) fn fault_word(kind: Failure) -> &'static str
     ensures { result.now ≡ fault_words kind }
 {
     match kind {
-        Failure::Overflow => " has a fault, overflow\n",
-        Failure::Division => " has a fault, division\n",
+        Failure::Overflow => " has a fault, overflow",
+        Failure::Division => " has a fault, division",
     }
 }
 

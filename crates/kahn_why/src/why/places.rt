@@ -1,10 +1,13 @@
 //! Where in its process a fault of arithmetic can have come from.
 
-ghost use Rattle.std.specs.Prelude.{◌≡◌, ◌<◌, ◌++◌, IfOk, length, string_bytes};
-ghost use Rattle.kahn_why.specs.Words.{first_marks, here_words, instance_body, marks_text, places_text};
+ghost use Rattle.std.specs.Prelude.{◌≡◌, ◌<◌, ◌≤◌, ◌++◌, ◌&&◌, IfOk, length, string_bytes};
+ghost use Rattle.std.proofs.Common.{bytes_eq};
+ghost use Rattle.kahn_report.specs.Formats.{process_name};
+ghost use Rattle.kahn_why.specs.Words.{first_failed, first_marks, has_failed, here_words, instance_body, marks_text, places_text};
 
 use kahn_marks::{MOST_NOTES, add_more, first_ones, marked};
-use kahn_streams::{Failure, Network, Span, Statement};
+use kahn_report::process_name;
+use kahn_streams::{End, Failure, Network, Outcome, Span, Statement};
 use kahn_warnings::fault_places;
 use std::alloc::{AllocError, Global};
 
@@ -14,6 +17,45 @@ fn instance_body(network: &Network, instance: usize) -> &[Statement]
     ensures { result.now ≡ instance_body network.now instance }
 {
     &network.instance(instance).process.statements
+}
+
+/// Whether an instance that ended so has that fault.
+fn has_failed(kind: Failure, outcome: Outcome) -> bool
+    ensures { result ≡ has_failed kind outcome }
+{
+    match (kind, outcome) {
+        (Failure::Overflow, Outcome::Faulted(Failure::Overflow)) => true,
+        (Failure::Division, Outcome::Faulted(Failure::Division)) => true,
+        (_, _) => false,
+    }
+}
+
+/// Whether an instance that ended so is of the process of another one, and has that fault.
+fn is_same(
+    network: &Network,
+    instance: usize,
+    kind: Failure,
+    number: usize,
+    outcome: Outcome,
+) -> bool
+    ensures { result ≡ has_failed kind outcome && bytes_eq (process_name network.now instance) (process_name network.now number) }
+{
+    has_failed(kind, outcome) && process_name(network, instance) == process_name(network, number)
+}
+
+/// The first instance of the process of an instance that has that fault.
+pub(crate) fn first_failed(network: &Network, ends: &[End], instance: usize, kind: Failure) -> usize
+    requires here { instance < length network.now.instances.items }
+    requires ends { length ends.now ≤ length network.now.instances.items }
+    ensures here { result < length network.now.instances.items }
+    ensures first { result ≡ first_failed network.now instance kind 0 ends.now }
+{
+    for (number, end) in ends.iter().enumerate() {
+        if is_same(network, instance, kind, number, end.outcome) {
+            return number;
+        }
+    }
+    instance
 }
 
 /// What is said of a place that a fault can have come from.

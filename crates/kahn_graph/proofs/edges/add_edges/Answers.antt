@@ -1,4 +1,4 @@
-use Rattle.std.proofs.Common.{◌++◌, map}
+use Rattle.std.proofs.Common.{◌++◌}
 use Rattle.kahn_graph.specs.Graph.{IsEdge}
 use Rattle.kahn_graph.proofs.Texts.{one_more, grown}
 use Rattle.kahn_graph.proofs.edges.add_edges.Goals as goal
@@ -7,4 +7,4 @@ pub loop-channel-preserved : goal.loop-channel-preserved
 loop-channel-preserved c =
     let (texts, all, before) = c.loop-channel.invariant in
     let (text, is, after) = c.in_ok-add_edge.ensures in
-    (texts ++ text, one_more (IsEdge c.args.network.now (map (λ line. line.now) c.args.report.now)) c.loop-channel.channel texts text all is, grown _ _ _ texts text before after)
+    (texts ++ text, one_more (IsEdge c.args.network.now c.args.report.now) c.loop-channel.channel texts text all is, grown _ _ _ texts text before after)

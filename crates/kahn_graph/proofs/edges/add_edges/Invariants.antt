@@ -1,7 +1,7 @@
 -- The edges so far were added.
-use Rattle.std.proofs.Common.{◌≡◌, ℕ, List, ◌++◌, map, string_bytes}
+use Rattle.std.proofs.Common.{◌≡◌, ℕ, List, ◌++◌, string_bytes}
 use Rattle.kahn_graph.specs.Graph.{IsAll, IsEdge}
 use Rattle.kahn_graph.proofs.edges.add_edges.Given as goal
 
 abbrev pub invariant-loop-channel : goal.invariant-loop-channel
-invariant-loop-channel l = (edges : List ℕ) × IsAll (IsEdge l.network (map (λ line. line.now) l.report)) l.channel edges × (string_bytes l.text ≡ string_bytes l.initial.text ++ edges)
+invariant-loop-channel l = (edges : List ℕ) × IsAll (IsEdge l.network l.report) l.channel edges × (string_bytes l.text ≡ string_bytes l.initial.text ++ edges)

@@ -1,4 +1,4 @@
-use Rattle.std.proofs.Common.{◌++◌, map}
+use Rattle.std.proofs.Common.{◌++◌}
 use Rattle.kahn_graph.specs.Graph.{IsNode}
 use Rattle.kahn_graph.proofs.Texts.{one_more, grown}
 use Rattle.kahn_graph.proofs.nodes.add_nodes.Goals as goal
@@ -7,4 +7,4 @@ pub loop-instance-preserved : goal.loop-instance-preserved
 loop-instance-preserved c =
     let (texts, all, before) = c.loop-instance.invariant in
     let (text, is, after) = c.in_ok-add_node.ensures in
-    (texts ++ text, one_more (IsNode c.args.network.now c.args.source.now (map (λ line. line.now) c.args.report.now)) c.loop-instance.instance texts text all is, grown _ _ _ texts text before after)
+    (texts ++ text, one_more (IsNode c.args.network.now c.args.source.now c.args.report.now) c.loop-instance.instance texts text all is, grown _ _ _ texts text before after)

@@ -7,5 +7,5 @@ place_note-requires c = may_find c.args.text.now c.args.span c.args.what c.in_ok
 
 pub returns : goal.returns
 returns c =
-    let (below, is, new) = c.in_ok-add_rest.ensures in
-    (c.in_ok-unexpected.unexpected, c.in_ok-unexpected.ensures, below, is, new ∙ ap (λ l. l ++ below) c.in_ok-note.ensures)
+    let below = c.as_str.result.now in
+    (c.in_ok-unexpected.unexpected, c.in_ok-unexpected.ensures, below, c.in_ok-push_str.ensures.bytes ∙ ap (λ l. l ++ below) c.in_ok-note.ensures)

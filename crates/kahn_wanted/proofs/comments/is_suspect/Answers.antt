@@ -1,9 +1,9 @@
-use Rattle.std.proofs.Common.{refl, sym, ◌∙◌, inl}
+use Rattle.std.proofs.Common.{arith, false, inl, refl, sym}
 use Rattle.kahn_wanted.proofs.Suspects.{either}
 use Rattle.kahn_wanted.proofs.comments.is_suspect.Goals as goal
 
-pub returns-then-is_beside : goal.returns-then-is_beside
-returns-then-is_beside c = (λ _. inl (sym c.is_beside.ensures ∙ c.if-is_beside.true), λ _. refl)
+pub returns-then-beside-comment : goal.returns-then-beside-comment
+returns-then-beside-comment c = (λ _. inl (c.requires.beside.0 _ c.if-beside-comment.true), λ _. refl)
 
 pub returns : goal.returns
-returns c = either _ c.is_beside.result c.swallows.result _ c.is_beside.ensures c.if-is_beside.false c.swallows.ensures.0 c.swallows.ensures.1
+returns c = either _ false c.swallows.result _ (sym (c.requires.beside.1 _ (omega (arith, c.if-beside-comment.false)))) refl c.swallows.ensures.0 c.swallows.ensures.1

@@ -1,8 +1,7 @@
-use Rattle.std.proofs.Common.{length, sym, subst}
+use Rattle.std.proofs.Common.{sym, subst}
 use Rattle.std.proofs.lemmas.Result.{IfOk-weaker}
 use Rattle.kahn_syntax.specs.declared.fault.SyntaxFault.TheVariants.{Expected}
-use Rattle.kahn_syntax.specs.Texts.{IsFault, AreLexemes, AreProper}
-use Rattle.kahn_syntax.proofs.Proper.{lexed_proper}
+use Rattle.kahn_syntax.specs.Texts.{IsFault, AreLexemes}
 use Rattle.kahn_wanted.specs.Wanted.{IsAtFault, IsUnexpected}
 use Rattle.kahn_wanted.proofs.Front.{of_lexemes}
 use Rattle.kahn_wanted.proofs.found.wanted_at.Goals as goal
@@ -10,10 +9,7 @@ use Rattle.kahn_wanted.proofs.found.wanted_at.Goals as goal
 pub wanted_of-requires : goal.wanted_of-requires
 wanted_of-requires c =
     let text = c.args.text.now in
-    record {
-      proper = subst (AreProper text) (sym c.deref.ensures.value) (lexed_proper text 0 (length text) c.in-Ok.lexemes.items c.in-Ok.ensures.lexed.1 c.in-Ok.ensures.slices);
-      fault = subst (λ l. IsFault text l (Expected c.args.span c.args.what)) (sym c.deref.ensures.value) (of_lexemes text c.in-Ok.lexemes.items c.args.span c.args.what c.in-Ok.ensures.lexed c.requires);
-    }
+    subst (λ l. IsFault text l (Expected c.args.span c.args.what)) (sym c.deref.ensures.value) (of_lexemes text c.in-Ok.lexemes.items c.args.span c.args.what c.in-Ok.ensures.lexed c.requires)
 
 pub returns : goal.returns
 returns c =

@@ -1,13 +1,14 @@
-use Rattle.std.proofs.Common.{◌↔◌, Contains, subst}
+use Rattle.std.proofs.Common.{◌↔◌, Contains, List, ℕ, subst}
+use Rattle.std.proofs.lemmas.Result.{IfOk-weaker}
 use Rattle.kahn_syntax.specs.declared.lexeme.Class.{Class}
-use Rattle.kahn_wanted.specs.Wanted.{told_classes}
-use Rattle.kahn_wanted.proofs.Classes.{plain, wanted_of}
+use Rattle.kahn_syntax.specs.Texts.{terminals}
+use Rattle.kahn_wanted.specs.Wanted.{AreWanted, told_classes}
+use Rattle.kahn_wanted.proofs.Classes.{wanted_of}
 use Rattle.kahn_wanted.proofs.found.wanted_behind.Goals as goal
-
-pub coming-requires-clause-unsigned : goal.coming-requires-clause-unsigned
-coming-requires-clause-unsigned c = plain
 
 pub returns : goal.returns
 returns c =
-    wanted_of c.args.text.now c.args.before.now c.in_ok-classes.classes.items c.in_ok-grouped.field-0 c.in_ok-classes.ensures
-    (subst (λ l. (x : Class) → Contains (told_classes c.in_ok-grouped.field-0) x ↔ Contains l x) c.deref.ensures.value c.in_ok-grouped.ensures)
+    IfOk-weaker c.grouped.result (λ w. (x : Class) → Contains (told_classes w) x ↔ Contains c.deref.result.now x)
+    (λ w. (text : List ℕ) → AreWanted (terminals text c.args.before.now) w)
+    (λ w h text. wanted_of text c.args.before.now c.in_ok-classes.classes.items w (c.in_ok-classes.ensures text)
+    (subst (λ l. (x : Class) → Contains (told_classes w) x ↔ Contains l x) c.deref.ensures.value h)) c.grouped.ensures

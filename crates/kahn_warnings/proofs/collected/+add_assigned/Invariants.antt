@@ -1,6 +1,6 @@
 -- The names of the statements that are left, with those so far, are all.
 use Rattle.std.proofs.Common.{◌≡◌, ◌||◌, [], ◌∷◌, List, ℕ, drop}
-use Rattle.std.specs.HashSet.{contains_text}
+use Rattle.kahn_warnings.specs.inner.Collecting.{contains}
 use Rattle.kahn_streams.specs.View.{statement_of}
 use Rattle.kahn_warnings.specs.Uses.{is_assigned_in}
 use Rattle.kahn_warnings.proofs.Lists.{any_in}
@@ -8,5 +8,5 @@ use Rattle.kahn_warnings.proofs.collected.+add_assigned.Given as goal
 
 abbrev pub invariant-loop-inner : goal.invariant-loop-inner
 invariant-loop-inner l =
-    (x : List ℕ) → any_in (is_assigned_in 0) (x ∷ []) (drop l.inner-index l.inner-items) || contains_text l.names x
-    ≡ is_assigned_in 0 (statement_of (x ∷ []) l.fn.statement) || contains_text l.fn.names x
+    (x : List ℕ) → any_in (is_assigned_in 0) (x ∷ []) (drop l.inner-index l.inner-items) || contains l.names x
+    ≡ is_assigned_in 0 (statement_of (x ∷ []) l.fn.statement) || contains l.fn.names x

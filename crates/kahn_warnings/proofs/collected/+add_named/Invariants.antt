@@ -1,6 +1,6 @@
 -- The names of the operands that are left, with those so far, are all.
 use Rattle.std.proofs.Common.{◌≡◌, ◌||◌, [], ◌∷◌, List, ℕ, drop}
-use Rattle.std.specs.HashSet.{contains_text}
+use Rattle.kahn_warnings.specs.inner.Collecting.{contains}
 use Rattle.kahn_streams.specs.View.{expression_of}
 use Rattle.kahn_warnings.specs.Uses.{is_named}
 use Rattle.kahn_warnings.proofs.Lists.{operands_named}
@@ -8,5 +8,5 @@ use Rattle.kahn_warnings.proofs.collected.+add_named.Given as goal
 
 abbrev pub invariant-loop-operand : goal.invariant-loop-operand
 invariant-loop-operand l =
-    (x : List ℕ) → operands_named (x ∷ []) (drop l.operand-index l.operand-items) || contains_text l.names x
-    ≡ is_named 0 (expression_of (x ∷ []) l.fn.expression) || contains_text l.fn.names x
+    (x : List ℕ) → operands_named (x ∷ []) (drop l.operand-index l.operand-items) || contains l.names x
+    ≡ is_named 0 (expression_of (x ∷ []) l.fn.expression) || contains l.fn.names x

@@ -1,6 +1,6 @@
 use Rattle.std.proofs.Common.{rules, arith, ◌≡◌, ◌∙◌, ◌||◌, ◌+◌, [], ◌∷◌, ap, sym, drop}
 use Rattle.std.proofs.lemmas.Grind.{common_steps}
-use Rattle.std.specs.HashSet.{contains_text}
+use Rattle.kahn_warnings.specs.inner.Collecting.{contains}
 use Rattle.kahn_streams.specs.View.{statement_of}
 use Rattle.kahn_streams.specs.declared.tree.Action.TheViews.{the_lemmas}
 use Rattle.kahn_warnings.specs.Uses.{is_used_in}
@@ -11,7 +11,7 @@ use Rattle.kahn_warnings.proofs.collected.+add_used.Goals as goal
 pub loop-inner-init : goal.loop-inner-init
 loop-inner-init t c x =
     let names = x ∷ [] in
-    let had = contains_text c.args.names.now x in
+    let had = contains c.args.names.now x in
     let whole : is_used_in 0 (statement_of names c.args.statement.now) ≡ any_in (is_used_in 0) names c.in-Block.statements.items = search (rules, the_lemmas, block_is_used_in) in
     ap (λ l. any_in (is_used_in 0) names l || had) c.deref-inner-items.ensures.value ∙ sym (ap (λ b. b || had) whole)
 
@@ -21,9 +21,9 @@ loop-inner-preserved t c x =
     let ss = c.deref-inner-items.result.now in
     let i = c.loop-inner.inner-index in
     let next : any_in (is_used_in 0) names (drop i ss) ≡ is_used_in 0 (statement_of names c.inner-item.result) || any_in (is_used_in 0) names (drop (i + 1) ss) = grind (arith, common_steps) in
-    got_first _ _ _ (contains_text c.loop-inner.names x) _ next (c.in_ok-add_used-in-Block.ensures x) ∙ c.loop-inner.invariant x
+    got_first _ _ _ (contains c.loop-inner.names x) _ next (c.in_ok-add_used-in-Block.ensures x) ∙ c.loop-inner.invariant x
 
 pub returns-after-loop-inner : goal.returns-after-loop-inner
 returns-after-loop-inner t c x =
     let none : drop c.loop-inner.inner-index c.deref-inner-items.result.now ≡ [] = grind (arith, common_steps) in
-    sym (ap (λ l. any_in (is_used_in 0) (x ∷ []) l || contains_text c.loop-inner.names x) none) ∙ c.loop-inner.invariant x
+    sym (ap (λ l. any_in (is_used_in 0) (x ∷ []) l || contains c.loop-inner.names x) none) ∙ c.loop-inner.invariant x

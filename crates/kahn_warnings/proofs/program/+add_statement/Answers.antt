@@ -12,13 +12,12 @@ returns-after-loop-inner t c =
     let xs = c.in-Block.statements.items in
     let ss = c.deref-inner-items.result.now in
     let it = c.args.statement.now in
-    let text = c.args.text.now in
-    let whole : statement_warnings text it.span it.action ≡ flat_map (each text) xs ++ list_warnings text xs = search (rules, the_lemmas, block_statement) in
+    let whole : statement_warnings it.span it.action ≡ flat_map each xs ++ list_warnings xs = search (rules, the_lemmas, block_statement) in
     let all : take c.loop-inner.inner-index ss ≡ ss = grind (arith, common_steps) in
     IfOk-weaker c.add_list.result _ _
-    (λ r h. h ∙ ap (λ l. l ++ list_warnings text c.deref.result.now) (c.loop-inner.invariant ∙ ap (λ l. old ++ flat_map (each text) l) (all ∙ c.deref-inner-items.ensures.value))
-    ∙ ap (λ l. (old ++ flat_map (each text) xs) ++ list_warnings text l) c.deref.ensures.value
-    ∙ append_assoc old (flat_map (each text) xs) (list_warnings text xs) ∙ ap (λ l. old ++ l) (sym whole))
+    (λ r h. h ∙ ap (λ l. l ++ list_warnings c.deref.result.now) (c.loop-inner.invariant ∙ ap (λ l. old ++ flat_map each l) (all ∙ c.deref-inner-items.ensures.value))
+    ∙ ap (λ l. (old ++ flat_map each xs) ++ list_warnings l) c.deref.ensures.value
+    ∙ append_assoc old (flat_map each xs) (list_warnings xs) ∙ ap (λ l. old ++ l) (sym whole))
     c.add_list.ensures
 
 pub loop-inner-preserved : goal.loop-inner-preserved

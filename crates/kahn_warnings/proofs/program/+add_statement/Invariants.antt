@@ -4,4 +4,4 @@ use Rattle.kahn_warnings.proofs.Lists.{each}
 use Rattle.kahn_warnings.proofs.program.+add_statement.Given as goal
 
 abbrev pub invariant-loop-inner : goal.invariant-loop-inner
-invariant-loop-inner l = l.warnings.items ≡ l.initial.warnings.items ++ flat_map (each l.text) (take l.inner-index l.inner-items)
+invariant-loop-inner l = l.warnings.items ≡ l.initial.warnings.items ++ flat_map each (take l.inner-index l.inner-items)

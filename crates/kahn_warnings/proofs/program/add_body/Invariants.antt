@@ -4,4 +4,4 @@ use Rattle.kahn_warnings.proofs.Lists.{each}
 use Rattle.kahn_warnings.proofs.program.add_body.Given as goal
 
 abbrev pub invariant-loop-statement : goal.invariant-loop-statement
-invariant-loop-statement l = l.warnings.items ≡ l.initial.warnings.items ++ flat_map (each l.text) (take l.statement-index l.statements)
+invariant-loop-statement l = l.warnings.items ≡ l.initial.warnings.items ++ flat_map each (take l.statement-index l.statements)

@@ -1,4 +1,5 @@
 use Rattle.std.proofs.Common.{◌≡◌, ◌==◌, ◌∙◌, [], ap, length, true}
+use Rattle.kahn_why.specs.Refusing.{AreToldFaults}
 use Rattle.kahn_why.proofs.Refused.{told_faults}
 use Rattle.kahn_why.proofs.refusing.network_note.Goals as goal
 
@@ -10,5 +11,7 @@ returns c =
     let faults = c.in_ok-faults.faults.items in
     let some : faults ≡ [] → ⊥ =
     (λ e. let none : c.is_empty.result ≡ true = c.is_empty.ensures ∙ ap (λ n. n == 0) (c.in_ok-faults.faults.ok.0 ∙ ap length e) in cc (none, c.if-is_empty.false)) in
-    told_faults path program tree c.in_ok-comments.comments.items faults c.in_ok-note.note (c.in-Ok.ensures.spells, c.in-Ok.ensures.nesting) c.in_ok-comments.ensures some c.in_ok-faults.ensures (c.part_by_part.ensures.first tree)
-    (rw c.deref.ensures.value at (rw c.deref-2.ensures.value at c.in_ok-note.ensures))
+    let told = c.in_ok-told.told.items in
+    let kept : AreToldFaults faults told = (rw c.deref.ensures.value at c.in_ok-told.ensures.among, rw c.deref.ensures.value at c.in_ok-told.ensures.some) in
+    told_faults path program tree c.in_ok-comments.comments.items faults told c.in_ok-note.note (c.in-Ok.ensures.spells, c.in-Ok.ensures.nesting) c.in_ok-comments.ensures some c.in_ok-faults.ensures (c.part_by_part.ensures.first tree)
+    kept (rw c.deref-2.ensures.value at (rw c.deref-3.ensures.value at c.in_ok-note.ensures))

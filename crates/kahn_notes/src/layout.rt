@@ -1,0 +1,86 @@
+//! How deep the lines of a text are indented.
+
+use kahn_syntax::Lexeme;
+use kahn_wanted::bytes_between;
+use std::alloc::{AllocError, Global};
+
+/// A line up to some byte.
+#[derive(Clone, Copy)]
+struct Line {
+    number: usize,
+    /// How deep it is indented, in columns.
+    deep: usize,
+    /// Whether nothing but blanks stands on it so far.
+    blank: bool,
+}
+
+/// A lexeme, with its line.
+#[derive(Clone, Copy)]
+pub(crate) struct Seat {
+    /// The lexeme.
+    pub(crate) lexeme: Lexeme,
+    /// The number of its line.
+    pub(crate) line: usize,
+    /// How deep that line is indented, in columns.
+    pub(crate) deep: usize,
+    /// Whether it begins the line.
+    pub(crate) first: bool,
+}
+
+/// A line behind one byte more; a tab goes to the next multiple of 8.
+fn passed(line: Line, byte: u8) -> Line {
+    match (byte, line.blank) {
+        (b'\n', _) => Line {
+            number: line.number.saturating_add(1),
+            deep: 0,
+            blank: true,
+        },
+        (b' ', true) => Line {
+            deep: line.deep.saturating_add(1),
+            ..line
+        },
+        (b'\t', true) => Line {
+            deep: (line.deep | 7).saturating_add(1),
+            ..line
+        },
+        (_, _) => Line {
+            blank: false,
+            ..line
+        },
+    }
+}
+
+/// A line behind more bytes.
+fn walked(line: Line, bytes: &[u8]) -> Line {
+    let mut line = line;
+    for byte in bytes {
+        line = passed(line, *byte);
+    }
+    line
+}
+
+/// The lexemes of a text, each with its line.
+pub(crate) fn seats(
+    alloc: Global,
+    text: &str,
+    lexemes: &[Lexeme],
+) -> Result<Vec<Seat>, AllocError> {
+    let mut seats = Vec::new(alloc);
+    let mut line = Line {
+        number: 1,
+        deep: 0,
+        blank: true,
+    };
+    let mut at = 0;
+    for lexeme in lexemes {
+        line = walked(line, bytes_between(text, at, lexeme.span.from));
+        at = lexeme.span.from;
+        seats.push(Seat {
+            lexeme: *lexeme,
+            line: line.number,
+            deep: line.deep,
+            first: line.blank,
+        })?;
+    }
+    Ok(seats)
+}

@@ -1,0 +1,29 @@
+-- Which terminals a part of the grammar begins with, by the classes of lexemes.
+use Rattle.std.proofs.Common.{◌≡◌, ◌&&◌, ◌||◌, not, false, codes, bytes_eq, refl}
+use Rattle.kahn_syntax.specs.declared.lexeme.Keyword.{Keyword}
+use Rattle.kahn_syntax.specs.declared.lexeme.Sign.{Sign}
+use Rattle.kahn_syntax.specs.declared.lexeme.Sign.TheVariants as mark
+use Rattle.kahn_syntax.specs.Grammar.{Terminal, word}
+use Rattle.kahn_syntax.specs.Texts.{bytes_of_sign, letters_of, sign_terminal}
+use Rattle.kahn_syntax.specs.inner.Machine.{a_name, a_number, a_sign, a_word, accepts, either}
+use Rattle.kahn_wanted.specs.inner.Walk.{is_denial}
+
+pub word_or_sign : (w : Keyword) (s : Sign) → (is_denial s && bytes_eq (letters_of w) (codes "not")) ≡ accepts (a_word w) (sign_terminal s)
+word_or_sign w mark.Not = refl
+word_or_sign w _ = refl
+
+pub sign_or_word : (g s : Sign) → (not (is_denial s) && bytes_eq (bytes_of_sign g) (bytes_of_sign s)) ≡ accepts (a_sign g) (sign_terminal s)
+sign_or_word g mark.Not = refl
+sign_or_word g _ = refl
+
+pub no_number : (s : Sign) → false ≡ accepts a_number (sign_terminal s)
+no_number mark.Not = refl
+no_number _ = refl
+
+pub no_name : (s : Sign) → false ≡ accepts a_name (sign_terminal s)
+no_name mark.Not = refl
+no_name _ = refl
+
+pub one_of_two : (v w : Keyword) (k : Terminal) → (accepts (a_word v) k || accepts (a_word w) k) ≡ accepts (either v w) k
+one_of_two v w (word u) = refl
+one_of_two v w _ = refl

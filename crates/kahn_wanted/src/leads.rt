@@ -1,0 +1,236 @@
+//! Which lexemes a part of the grammar begins with.
+
+ghost use Rattle.std.specs.Prelude.{◌≡◌, List, ℕ, option_map};
+ghost use Rattle.std.proofs.Common.{bytes_eq};
+ghost use Rattle.kahn_streams.specs.declared.span.Span.{Span};
+ghost use Rattle.kahn_syntax.specs.Grammar.{rank, word as word_terminal};
+ghost use Rattle.kahn_syntax.specs.Texts.{bytes_of_sign, letters_of, sign_terminal, terminal};
+ghost use Rattle.kahn_syntax.specs.inner.Machine.{a_name, a_number, a_sign, a_word, accepts, an_operator, enters, operator_of, rank_or};
+ghost use Rattle.kahn_wanted.specs.inner.Walk.{is_denial, lead_of, awaited_parts, rules_as};
+
+use crate::awaited::{Awaited, Lead, Rule};
+use kahn_syntax::{Class, Keyword, Operator, Sign};
+
+/// Whether two keywords are the same.
+fn same_word(first: Keyword, second: Keyword) -> bool
+    ensures { result ≡ bytes_eq (letters_of first) (letters_of second) }
+{
+    first.letters().as_bytes() == second.letters().as_bytes()
+}
+
+/// The bytes of a sign.
+fn sign_bytes(sign: Sign) -> &'static [u8]
+    ensures { result.now ≡ bytes_of_sign sign }
+{
+    match sign {
+        Sign::Becomes => b":=",
+        Sign::Open => b"(",
+        Sign::Close => b")",
+        Sign::Comma => b",",
+        Sign::Semicolon => b";",
+        Sign::Plus => b"+",
+        Sign::Minus => b"-",
+        Sign::Times => b"*",
+        Sign::Equal => b"=",
+        Sign::Unequal => b"<>",
+        Sign::Less => b"<",
+        Sign::AtMost => b"<=",
+        Sign::Greater => b">",
+        Sign::AtLeast => b">=",
+        Sign::Not => b"\xC2\xAC",
+    }
+}
+
+/// Whether two signs are the same.
+fn same_sign(first: Sign, second: Sign) -> bool
+    ensures { result ≡ bytes_eq (bytes_of_sign first) (bytes_of_sign second) }
+{
+    sign_bytes(first) == sign_bytes(second)
+}
+
+/// Whether it is the sign for `not`.
+fn is_denial(sign: Sign) -> bool
+    ensures { result ≡ is_denial sign }
+{
+    match sign {
+        Sign::Not => true,
+        Sign::Becomes
+        | Sign::Open
+        | Sign::Close
+        | Sign::Comma
+        | Sign::Semicolon
+        | Sign::Plus
+        | Sign::Minus
+        | Sign::Times
+        | Sign::Equal
+        | Sign::Unequal
+        | Sign::Less
+        | Sign::AtMost
+        | Sign::Greater
+        | Sign::AtLeast => false,
+    }
+}
+
+/// Whether a lexeme is this keyword.
+#[tactic(auto, using(crate::proofs::Leading::word_or_sign))]
+fn is_word(word: Keyword, class: Class) -> bool
+    ensures { (text : List ℕ) (at : Span) → result ≡ accepts (a_word word) (terminal text class at) }
+{
+    match class {
+        Class::Word(found) => same_word(word, found),
+        Class::Sign(found) => is_denial(found) && same_word(word, Keyword::Not),
+        Class::Name => false,
+        Class::Number(_) => false,
+    }
+}
+
+/// Whether it is this sign.
+#[tactic(auto, using(crate::proofs::Leading::sign_or_word))]
+fn is_sign(sign: Sign, class: Class) -> bool
+    ensures { (text : List ℕ) (at : Span) → result ≡ accepts (a_sign sign) (terminal text class at) }
+{
+    match class {
+        Class::Word(_) => false,
+        Class::Sign(found) => !is_denial(found) && same_sign(sign, found),
+        Class::Name => false,
+        Class::Number(_) => false,
+    }
+}
+
+/// Whether it is a number.
+#[tactic(auto, using(crate::proofs::Leading::no_number))]
+fn is_number(class: Class) -> bool
+    ensures { (text : List ℕ) (at : Span) → result ≡ accepts a_number (terminal text class at) }
+{
+    match class {
+        Class::Word(_) => false,
+        Class::Sign(_) => false,
+        Class::Name => false,
+        Class::Number(_) => true,
+    }
+}
+
+/// Whether it is a name.
+#[tactic(auto, using(crate::proofs::Leading::no_name))]
+fn is_name(class: Class) -> bool
+    ensures { (text : List ℕ) (at : Span) → result ≡ accepts a_name (terminal text class at) }
+{
+    match class {
+        Class::Word(_) => false,
+        Class::Sign(_) => false,
+        Class::Name => true,
+        Class::Number(_) => false,
+    }
+}
+
+/// The level of an operator.
+fn rank(operator: Operator) -> u8
+    ensures { result ≡ rank operator }
+{
+    match operator {
+        Operator::Or => 1,
+        Operator::And => 2,
+        Operator::Equal
+        | Operator::Unequal
+        | Operator::Less
+        | Operator::AtMost
+        | Operator::Greater
+        | Operator::AtLeast => 4,
+        Operator::Add | Operator::Subtract => 5,
+        Operator::Multiply | Operator::Divide | Operator::Remainder => 6,
+    }
+}
+
+/// That of a keyword, and 0 where it is no operator.
+fn word_rank(word: Keyword) -> u8
+    ensures { result ≡ rank_or (operator_of (word_terminal word)) }
+{
+    match word {
+        Keyword::Or => 1,
+        Keyword::And => 2,
+        Keyword::Div | Keyword::Mod => 6,
+        Keyword::Begin
+        | Keyword::Channel
+        | Keyword::Do
+        | Keyword::Else
+        | Keyword::End
+        | Keyword::False
+        | Keyword::If
+        | Keyword::In
+        | Keyword::Input
+        | Keyword::Integer
+        | Keyword::Logical
+        | Keyword::Not
+        | Keyword::On
+        | Keyword::Out
+        | Keyword::Output
+        | Keyword::Par
+        | Keyword::Print
+        | Keyword::Process
+        | Keyword::Repeat
+        | Keyword::Send
+        | Keyword::Then
+        | Keyword::True
+        | Keyword::Wait
+        | Keyword::While => 0,
+    }
+}
+
+/// That of a sign, and 0 where it is no operator.
+fn sign_rank(sign: Sign) -> u8
+    ensures { result ≡ rank_or (operator_of (sign_terminal sign)) }
+{
+    match sign {
+        Sign::Equal | Sign::Unequal | Sign::Less | Sign::AtMost | Sign::Greater | Sign::AtLeast =>
+            4,
+        Sign::Plus | Sign::Minus => 5,
+        Sign::Times => 6,
+        Sign::Becomes | Sign::Open | Sign::Close | Sign::Comma | Sign::Semicolon | Sign::Not => 0,
+    }
+}
+
+/// That of a lexeme, and 0 where it is no operator.
+fn rank_of(class: Class) -> u8
+    ensures { (text : List ℕ) (at : Span) → result ≡ rank_or (operator_of (terminal text class at)) }
+{
+    match class {
+        Class::Word(word) => word_rank(word),
+        Class::Sign(sign) => sign_rank(sign),
+        Class::Name => 0,
+        Class::Number(_) => 0,
+    }
+}
+
+/// Whether it is an operator of the level of this one.
+fn is_operator(operator: Operator, class: Class) -> bool
+    ensures { (text : List ℕ) (at : Span) → result ≡ accepts (an_operator operator) (terminal text class at) }
+{
+    rank_of(class) == rank(operator)
+}
+
+/// Whether a lexeme is one with which a part begins.
+#[tactic(auto, using(crate::proofs::Leading::one_of_two))]
+fn accepts(lead: Lead, class: Class) -> bool
+    ensures { (text : List ℕ) (at : Span) → result ≡ accepts (lead_of lead) (terminal text class at) }
+{
+    match lead {
+        Lead::Word(word) => is_word(word, class),
+        Lead::Either(first, second) => is_word(first, class) || is_word(second, class),
+        Lead::Sign(sign) => is_sign(sign, class),
+        Lead::Number => is_number(class),
+        Lead::Name => is_name(class),
+        Lead::Operator(operator) => is_operator(operator, class),
+    }
+}
+
+/// What is open behind a lexeme, by the first rule that has it.
+pub(crate) fn entered(rules: &'static [Rule], class: Class) -> Option<&'static [Awaited]>
+    ensures { (text : List ℕ) (at : Span) → option_map (λ ps. awaited_parts ps.now) result ≡ enters (rules_as rules.now) (terminal text class at) }
+{
+    for rule in rules {
+        if accepts(rule.0, class) {
+            return Some(rule.1);
+        }
+    }
+    None
+}

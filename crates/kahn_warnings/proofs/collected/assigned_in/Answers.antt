@@ -1,0 +1,11 @@
+use Rattle.std.proofs.Common.{◌||◌, ◌∙◌, [], ◌∷◌, ap}
+use Rattle.kahn_streams.specs.View.{statement_of}
+use Rattle.kahn_warnings.specs.Uses.{is_assigned_in}
+use Rattle.kahn_warnings.specs.inner.Collecting.{contains}
+use Rattle.kahn_warnings.proofs.Getting.{or_false}
+use Rattle.kahn_warnings.proofs.collected.assigned_in.Goals as goal
+
+pub returns : goal.returns
+returns c x =
+    let got = is_assigned_in 0 (statement_of (x ∷ []) c.args.statement.now) in
+    c.in_ok-add_assigned.ensures x ∙ ap (λ ks. got || contains ks x) c.new-names.ensures ∙ or_false got

@@ -1,0 +1,9 @@
+use Rattle.std.proofs.Common.{arith}
+use Rattle.std.proofs.lemmas.Grind.{common_steps}
+use Rattle.kahn_warnings.proofs.program.add_misplaced.Goals as goal
+
+pub loop-span-preserved : goal.loop-span-preserved
+loop-span-preserved c = grind (arith, common_steps, c.loop-span.invariant, c.in_ok-add_where.ensures)
+
+pub returns : goal.returns
+returns c = grind (arith, common_steps, c.loop-span.invariant)

@@ -1,0 +1,16 @@
+use Rattle.std.proofs.Common.{arith, append-nil, sym}
+use Rattle.std.proofs.lemmas.Grind.{common_steps}
+use Rattle.kahn_warnings.proofs.program.tree_warnings.Goals as goal
+
+pub loop-declaration-init : goal.loop-declaration-init
+loop-declaration-init c = (c.in_ok-warnings.warnings.items, c.in_ok-warnings.ensures, sym (append-nil c.in_ok-warnings.warnings.items))
+
+pub loop-declaration-preserved : goal.loop-declaration-preserved
+loop-declaration-preserved c =
+    let (comments, are, so_far) = c.loop-declaration.invariant in
+    (comments, are, grind (arith, common_steps, so_far, c.in_ok-add_declaration.ensures))
+
+pub returns : goal.returns
+returns c =
+    let (comments, are, so_far) = c.loop-declaration.invariant in
+    (comments, are, grind (arith, common_steps, so_far))

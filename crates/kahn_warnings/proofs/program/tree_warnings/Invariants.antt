@@ -1,0 +1,11 @@
+-- The warnings of the comments, and those of the declarations so far.
+use Rattle.std.proofs.Common.{◌≡◌, ◌++◌, List, flat_map, take}
+use Rattle.kahn_warnings.specs.Comments.{AreCommentWarnings}
+use Rattle.kahn_warnings.specs.Warnings.{declaration_warnings}
+use Rattle.kahn_warnings.specs.declared.warning.Warning.{Warning}
+use Rattle.kahn_warnings.proofs.program.tree_warnings.Given as goal
+
+abbrev pub invariant-loop-declaration : goal.invariant-loop-declaration
+invariant-loop-declaration l =
+    (comments : List Warning) × AreCommentWarnings l.text comments
+    × (l.warnings.items ≡ comments ++ flat_map (declaration_warnings l.program.instances.items) (take l.declaration-index l.program.declarations.items))

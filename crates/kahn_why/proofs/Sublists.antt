@@ -1,0 +1,9 @@
+-- Some of a list.
+use Rattle.std.proofs.Common.{◌≡◌, List, [], ◌∷◌, ◌++◌, All, Contains, subst, sym}
+use Rattle.std.proofs.lemmas.List.Elements.{All-append, All-from_recursion}
+use Rattle.kahn_streams.specs.declared.fault.CheckFault.{CheckFault}
+
+-- one more of them
+pub one_of_them : (fs old new : List CheckFault) (x : CheckFault) → new ≡ old ++ x ∷ [] → Contains fs x → All (Contains fs) old → All (Contains fs) new
+one_of_them fs old new x is has all =
+    subst (All (Contains fs)) (sym is) (All-append (Contains fs) old (x ∷ []) all (All-from_recursion (Contains fs) (x ∷ []) (has, tt)))
