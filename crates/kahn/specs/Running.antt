@@ -1,12 +1,14 @@
 -- Believed. A run of the program, from the bytes of the two texts to the bytes that go out and the exit status (this project's profile).
 use Rattle.std.specs.Prelude.{◌≡◌, ℕ, List, Option, Result, Ok, Err, IfOk, string_bytes}
 use Rattle.kahn_streams.specs.declared.config.Config.{Config}
+use Rattle.kahn_streams.specs.Written.{Writes}
 use Rattle.kahn_streams.specs.declared.answer.Verdict.{Verdict}
 use Rattle.kahn_report.specs.Work.{FinishesWithin, IsWorked}
 use Rattle.kahn_report.specs.declared.working.WorkFault.{WorkFault}
 use Rattle.kahn_fault.specs.Status.{status_of}
-use Rattle.kahn_fault.specs.Telling.{WasWritten, told_text}
+use Rattle.kahn_fault.specs.Telling.{told_text}
 use Rattle.kahn_fault.specs.declared.fault.Fault.{Fault}
+use Rattle.kahn_fault.specs.declared.telling.Told.{Told}
 use Rattle.kahn_fault.specs.declared.texts.Texts.{Texts}
 use Rattle.kahn_fault.specs.declared.fault.Fault.TheVariants.{Work}
 
@@ -15,10 +17,11 @@ abbrev pub run_answer : Result Verdict WorkFault → Result Verdict Fault
 run_answer (Ok verdict) = Ok verdict
 run_answer (Err fault) = Err (Work fault)
 
--- the whole work was done on the texts; its fault, where there is one, was told to the writer of faults, and the status says how it ended
-abbrev pub HasRunTexts : Texts → Config → Option (List ℕ) → Option (List ℕ) → Option (List ℕ) → Option (List ℕ) → ℕ → Type 0
-HasRunTexts texts config old new untold told status =
+-- the whole work was done on the texts; its fault, where there is one, went out to the writer of faults, as far as that took it; and the
+-- status says how it ended
+abbrev pub HasRunTexts : Texts → Config → Option (List ℕ) → Option (List ℕ) → Option (List ℕ) → Option (List ℕ) → Told → Type 0
+HasRunTexts texts config old new untold told answer =
     let program = string_bytes texts.program in
     let input = string_bytes texts.input in
     (r : Result Verdict WorkFault) × IsWorked program input config old new r × IfOk r (FinishesWithin program input config)
-    × WasWritten (told_text program (run_answer r)) untold told × (status ≡ status_of (run_answer r))
+    × Writes untold told answer.line (told_text program (run_answer r)) × (answer.status ≡ status_of (run_answer r))

@@ -26,7 +26,7 @@ fn answered<R: Runtime + AllocGlobal + Threads + Wait + Sync, W: Write>(
         Err(fault) => return tell(&Err(fault), "", errors).status,
     };
     match BufWriter::new(rt.alloc(), io::writer(rt)) {
-        Ok(mut writer) => ran(rt, &texts, options.config, &mut writer, errors),
+        Ok(mut writer) => ran(rt, &texts, options.config, &mut writer, errors).status,
         Err(_) => {
             let refused = Fault::Work(WorkFault::Run(RunFault::NoMemory));
             tell(&Err(refused), "", errors).status

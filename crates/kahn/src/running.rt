@@ -3,7 +3,7 @@
 ghost use Rattle.std.specs.Prelude.{◌≡◌};
 ghost use Rattle.kahn.specs.Running.{HasRunTexts, run_answer};
 
-use kahn_fault::{Fault, Texts, tell};
+use kahn_fault::{Fault, Texts, Told, tell};
 use kahn_pool::{Config, Open, Verdict};
 use kahn_report::{WorkFault, work};
 use std::io::Write;
@@ -21,18 +21,18 @@ fn run_answer(worked: Result<Verdict, WorkFault>) -> Result<Verdict, Fault>
     }
 }
 
-/// Runs the program text on the input text, writes the report to `writer`, and gives the exit status. A fault is told to `errors`, in
-/// one line; if that can't be written, the status stays.
+/// Runs the program text on the input text, writes the report to `writer`, and tells a fault to `errors`, in one line. It gives the exit
+/// status, and whether that line went out; if it didn't, the status stays.
 pub(crate) fn ran<R: Runtime + AllocGlobal + Threads + Wait + Sync, W: Write, E: Write>(
     rt: &R,
     texts: &Texts,
     config: Config,
     writer: &mut W,
     errors: &mut E,
-) -> u8
+) -> Told
     ensures { HasRunTexts texts.now config (W.contents writer.old) (W.contents writer.new) (E.contents errors.old) (E.contents errors.new) result }
 {
     let (program, input) = (texts.program.as_str(), texts.input.as_str());
     let answer = run_answer(work(rt, rt.alloc(), program, input, config, &Open, writer));
-    tell(&answer, program, errors).status
+    tell(&answer, program, errors)
 }

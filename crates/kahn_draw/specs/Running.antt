@@ -1,5 +1,6 @@
 -- Believed. A run of the program, from the bytes of the two texts to the bytes that go out and the exit status (this project's profile).
 use Rattle.std.specs.Prelude.{◌≡◌, ℕ, Bool, true, false, List, Option, Some, None, Result, Ok, Err, IfOk, string_bytes}
+use Rattle.kahn_streams.specs.Written.{Writes}
 use Rattle.kahn_streams.specs.declared.answer.Verdict.{Verdict}
 use Rattle.kahn_streams.specs.declared.answer.Verdict.TheVariants.{Finished}
 use Rattle.kahn_report.specs.declared.working.WorkFault.{WorkFault}
@@ -7,6 +8,7 @@ use Rattle.kahn_fault.specs.Status.{status_of}
 use Rattle.kahn_fault.specs.Telling.{WasWritten, pointer_text, told_text}
 use Rattle.kahn_fault.specs.declared.fault.Fault.{Fault}
 use Rattle.kahn_fault.specs.declared.fault.Fault.TheVariants.{Work}
+use Rattle.kahn_fault.specs.declared.telling.Told.{Told}
 use Rattle.kahn_fault.specs.declared.texts.Texts.{Texts}
 use Rattle.kahn_draw.specs.Drawing.{IsDrawn, IsToldReport, stray_line}
 
@@ -25,11 +27,12 @@ abbrev pub IsPointed : Option (List ℕ) → Result Verdict Fault → Option (Li
 IsPointed (Some path) answer old new = WasWritten (pointer_text path answer) old new
 IsPointed None answer old new = new ≡ old
 
--- the picture was drawn; a stray report, a fault and which program says more were told in this order, and the status says how it ended
-abbrev pub HasDrawnAs : Texts → Option (List ℕ) → Bool → Option (List ℕ) → Option (List ℕ) → Option (List ℕ) → Option (List ℕ) → ℕ → Type 0
-HasDrawnAs texts path reported out made old new status =
+-- the picture was drawn; a stray report, a fault, as far as its line went out, and which program says more were told in this order; and the
+-- status says how it ended
+abbrev pub HasDrawnAs : Texts → Option (List ℕ) → Bool → Option (List ℕ) → Option (List ℕ) → Option (List ℕ) → Option (List ℕ) → Told → Type 0
+HasDrawnAs texts path reported out made old new answer =
     let program = string_bytes texts.program in
     let report = string_bytes texts.input in
     (r : Result Bool WorkFault) × (mid last : Option (List ℕ)) × IsDrawn program report out made r × IfOk r (IsToldReport program report)
-    × IsStrayTold reported r old mid × WasWritten (told_text program (drawn_answer r)) mid last × IsPointed path (drawn_answer r) last new
-    × (status ≡ status_of (drawn_answer r))
+    × IsStrayTold reported r old mid × Writes mid last answer.line (told_text program (drawn_answer r)) × IsPointed path (drawn_answer r) last new
+    × (answer.status ≡ status_of (drawn_answer r))

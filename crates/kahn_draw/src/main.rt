@@ -4,7 +4,7 @@
 mod drawing;
 mod running;
 
-use kahn_fault::{read_texts, tell};
+use kahn_fault::{read_texts, shown_path, tell_shown};
 use kahn_line::{DrawOptions, read_draw_line, tell_line, tell_no_memory, tell_words};
 use running::ran;
 use std::alloc::{AllocError, Global};
@@ -13,10 +13,10 @@ use std::process::ExitCode;
 use std::rt::Runtime;
 use std::{env, io};
 
-/// The path of the program text, where there is one.
+/// The path of the program text, where there is one, as it is shown.
 fn path_of(alloc: Global, program: &Option<String>) -> Result<Option<String>, AllocError> {
     match program {
-        Some(path) => Ok(Some(String::from_str(alloc, path.as_str())?)),
+        Some(path) => Ok(Some(shown_path(alloc, path.as_str())?)),
         None => Ok(None),
     }
 }
@@ -32,9 +32,9 @@ fn answered<R: Runtime + AllocGlobal, W: Write>(
     match read_texts(rt, options.program, options.report) {
         Ok(texts) => {
             let (path, out) = (path.as_deref(), &mut io::writer(rt));
-            ran(rt.alloc(), &texts, path, reported, out, writer)
+            ran(rt.alloc(), &texts, path, reported, out, writer).status
         }
-        Err(fault) => tell(&Err(fault), "", writer).status,
+        Err(fault) => tell_shown(rt.alloc(), fault, writer),
     }
 }
 

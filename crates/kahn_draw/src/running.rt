@@ -4,7 +4,7 @@ ghost use Rattle.std.specs.Prelude.{◌≡◌, option_copied};
 ghost use Rattle.kahn_draw.specs.Running.{HasDrawnAs, IsPointed, IsStrayTold, drawn_answer};
 
 use crate::drawing::{draw, tell_stray};
-use kahn_fault::{Fault, Texts, tell, tell_explain};
+use kahn_fault::{Fault, Texts, Told, tell, tell_explain};
 use kahn_pool::Verdict;
 use kahn_report::WorkFault;
 use std::alloc::Global;
@@ -45,8 +45,8 @@ fn point<E: Write>(path: Option<&str>, answer: &Result<Verdict, Fault>, errors: 
     }
 }
 
-/// Draws the program of the texts, whose input is the report, to `out`, and gives the exit status. A report of another program and a
-/// fault are told to `log`.
+/// Draws the program of the texts, whose input is the report, to `out`. A report of another program and a fault are told to
+/// `log`. It gives the exit status, and whether the line of the fault went out.
 pub(crate) fn ran<W: Write, E: Write>(
     alloc: Global,
     texts: &Texts,
@@ -54,7 +54,7 @@ pub(crate) fn ran<W: Write, E: Write>(
     reported: bool,
     out: &mut W,
     log: &mut E,
-) -> u8
+) -> Told
     ensures { HasDrawnAs texts.now (option_copied path.entry) reported (W.contents out.old) (W.contents out.new) (E.contents log.old) (E.contents log.new) result }
 {
     let program = texts.program.as_str();
@@ -63,5 +63,5 @@ pub(crate) fn ran<W: Write, E: Write>(
     let answer = drawn_answer(drawn);
     let told = tell(&answer, program, log);
     point(path, &answer, log);
-    told.status
+    told
 }

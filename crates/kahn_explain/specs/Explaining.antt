@@ -15,6 +15,7 @@ use Rattle.kahn_report.specs.declared.working.WorkFault.{WorkFault}
 use Rattle.kahn_report.specs.declared.working.WorkFault.TheVariants.{Syntax, Check, Text, Run, Write}
 use Rattle.std.specs.declared.alloc.Global.{Global}
 use Rattle.std.specs.declared.string.String.{String}
+use Rattle.kahn_marks.specs.Marks.{shown_text}
 use Rattle.kahn_why.specs.Refusing.{AreAllowed, IsRefusal, IsRefusedFor}
 use Rattle.kahn_why.specs.declared.explaining.Came.{Came}
 use Rattle.kahn_why.specs.declared.explaining.Came.TheVariants.{Stopped, Refused}
@@ -74,5 +75,5 @@ came_status Refused = 1
 
 -- what the path of the program text is called in a note
 abbrev pub path_name : Option (String Global) → List ℕ
-path_name (Some path) = string_bytes path
+path_name (Some path) = shown_text (string_bytes path)
 path_name None = codes "<stdin>"

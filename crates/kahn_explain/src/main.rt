@@ -11,7 +11,7 @@ mod outlet;
 mod running;
 mod tracing;
 
-use kahn_fault::{read_texts, tell_reason, tell_unread};
+use kahn_fault::{read_texts, shown_path, tell_reason, tell_unread};
 use kahn_line::{ExplainOptions, read_explain_line, tell_line, tell_no_memory, tell_words};
 use outlet::Outlet;
 use running::{Paths, Task, ran};
@@ -28,7 +28,7 @@ fn path_name(alloc: Global, program: &Option<String>) -> Result<String, AllocErr
     ensures { IfOk result (λ path. string_bytes path ≡ path_name program.now) }
 {
     match program {
-        Some(path) => String::from_str(alloc, path.as_str()),
+        Some(path) => shown_path(alloc, path.as_str()),
         None => String::from_str(alloc, "<stdin>"),
     }
 }

@@ -12,7 +12,7 @@ mod texts;
 pub use fault::{Fault, live_status, status};
 pub use laws::fault_lies;
 pub use message::{fault_line, line_counted};
-pub use reasons::{tell_reason, tell_unread};
+pub use reasons::{shown_path, tell_reason, tell_shown, tell_unread};
 pub use telling::{Told, tell, tell_explain};
 pub use texts::{MOST_INPUT_BYTES, MOST_PROGRAM_BYTES, Texts, input_of, program_of, read_texts};
 

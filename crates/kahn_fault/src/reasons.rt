@@ -1,13 +1,16 @@
 //! Why a text can't be read.
 
-ghost use Rattle.std.specs.Prelude.{◌≡◌, Err};
+ghost use Rattle.std.specs.Prelude.{◌≡◌, Err, IfOk, string_bytes};
+ghost use Rattle.kahn_marks.specs.Marks.{shown_text};
 ghost use Rattle.kahn_streams.specs.Written.{Writes};
 ghost use Rattle.kahn_fault.specs.Reasons.{reason_line, file_words};
 ghost use Rattle.kahn_fault.specs.Status.{status_of};
 
 use crate::fault::Fault;
 use crate::telling::tell;
+use kahn_marks::add_shown_text;
 use kahn_report::{ReadFault, WriteFault, write_line};
+use std::alloc::{AllocError, Global};
 use std::fs;
 use std::io::{ErrorKind, Read, Write};
 use std::rt::Runtime;
@@ -69,13 +72,62 @@ pub fn tell_reason<'a, W: Write>(
     write_line(writer, &[name.as_bytes(), b": ", reason.as_bytes(), b"\n"])
 }
 
-/// Tells why the texts of a run can't be read: the line of the fault, and then, behind the name of the program, the reason, where
-/// there is one. It gives the status.
-pub fn tell_unread<R: Runtime, W: Write>(rt: &R, name: &str, fault: Fault, writer: &mut W) -> u8
+/// A path as it is shown.
+pub fn shown_path(alloc: Global, path: &str) -> Result<String, AllocError>
+    ensures { IfOk result (λ shown. string_bytes shown ≡ shown_text path.now) }
+{
+    let mut shown = String::new(alloc);
+    add_shown_text(&mut shown, path)?;
+    Ok(shown)
+}
+
+/// That, or the path itself where memory is refused for it.
+fn shown_or(alloc: Global, path: String) -> String {
+    match shown_path(alloc, path.as_str()) {
+        Ok(shown) => shown,
+        Err(_) => path,
+    }
+}
+
+/// The same of a path that may not be given.
+fn shown_if(alloc: Global, path: Option<String>) -> Option<String> {
+    match path {
+        Some(path) => Some(shown_or(alloc, path)),
+        None => None,
+    }
+}
+
+/// A fault with its path as it is shown.
+fn shown_fault(alloc: Global, fault: Fault) -> Fault
+    ensures { status_of (Err result) ≡ status_of (Err fault) }
+{
+    match fault {
+        Fault::Open(path) => Fault::Open(shown_or(alloc, path)),
+        Fault::Program(path, fault) => Fault::Program(shown_if(alloc, path), fault),
+        Fault::InputText(path, fault) => Fault::InputText(shown_or(alloc, path), fault),
+        Fault::Work(fault) => Fault::Work(fault),
+    }
+}
+
+/// Tells why the texts of a run can't be read, with a path as it is shown, and gives the status.
+pub fn tell_shown<W: Write>(alloc: Global, fault: Fault, writer: &mut W) -> u8
+    ensures { result ≡ status_of (Err fault) }
+{
+    tell(&Err(shown_fault(alloc, fault)), "", writer).status
+}
+
+/// Tells why the texts of a run can't be read, as `tell_shown` does, and then, behind the name of the program, the reason, where there
+/// is one. It gives the status.
+pub fn tell_unread<R: Runtime + AllocGlobal, W: Write>(
+    rt: &R,
+    name: &str,
+    fault: Fault,
+    writer: &mut W,
+) -> u8
     ensures { result ≡ status_of (Err fault) }
 {
     let reason = unread_words(rt, &fault);
-    let status = tell(&Err(fault), "", writer).status;
+    let status = tell_shown(rt.alloc(), fault, writer);
     if !reason.is_empty() {
         // What can't be written here changes no status.
         let _told = tell_reason(name, reason, writer);

@@ -169,7 +169,14 @@ pub(crate) fn workers_arg<'a>(alloc: Global, given: &'a str) -> Arg<'a>
     ensures rule { rule_of result ≡ number_rule (codes "workers") 1 16 given.entry.now }
     ensures local { result.global ≡ false }
 {
-    number_arg(alloc, "workers", 1, 16, given, "Number of threads, 1 to 16")
+    number_arg(
+        alloc,
+        "workers",
+        1,
+        16,
+        given,
+        "Threads at most, as many as have work, 1 to 16",
+    )
 }
 
 /// The option of the quantum.

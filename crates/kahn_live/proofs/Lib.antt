@@ -1,5 +1,6 @@
 pub mod Begun
 pub mod Cutting
 pub mod Feeding
+mod Kept
 pub mod Meeting
 pub mod Whole

@@ -1,10 +1,9 @@
 -- What a whole run is made of.
-use Rattle.std.proofs.Common.{◌≡◌, ◌∙◌, inr, ℕ, Bool, true, false, true≢false, eqb, List, [], None, Some, Option, MatchOption, Result, Ok, Err, if◌then◌else◌, refl, sym, ap, append-nil, subst}
+use Rattle.std.proofs.Common.{◌≡◌, ◌∙◌, inr, ℕ, Bool, true, false, true≢false, eqb, List, [], None, Some, Option, MatchOption, Result, Ok, Err, if◌then◌else◌, refl, sym, ap, subst}
 use Rattle.std.specs.Prelude.{is_some, option_copied, string_bytes}
-use Rattle.std.specs.Io.Buffered.{reader_buffer, reader_capacity, reader_inner, reader_remaining, writer_buffer, writer_contents, writer_inner}
-use Rattle.std.specs.Io.KnownBytes.{append_known, prepend_known}
+use Rattle.std.specs.Io.Buffered.{reader_buffer, reader_capacity, reader_inner, reader_remaining}
+use Rattle.std.specs.Io.KnownBytes.{prepend_known}
 use Rattle.std.specs.declared.io.buffered.BufReader.{BufReader}
-use Rattle.std.specs.declared.io.buffered.BufWriter.{BufWriter}
 use Rattle.std.specs.declared.alloc.Global.{Global}
 use Rattle.std.specs.declared.string.String.{String}
 use Rattle.kahn_streams.specs.declared.config.Config.{Config}
@@ -38,16 +37,6 @@ pub fresh : {I A : Type 0} (left : I → Option (List ℕ)) (r : BufReader I A) 
 fresh left r input inner empty room =
     ap (λ (k : ℕ). if eqb k 0 then None else prepend_known (reader_buffer r) (left (reader_inner r))) room
     ∙ ap (λ (b : List ℕ). prepend_known b (left (reader_inner r))) empty ∙ prepend_none (left (reader_inner r)) ∙ ap left inner
-
-append_none : (m : Option (List ℕ)) → append_known m [] ≡ m
-append_none None = refl
-append_none (Some x) = ap Some (append-nil x)
-
--- a writer whose buffer is empty
-pub unwritten : {T A : Type 0} (written : T → Option (List ℕ)) (w : BufWriter T A) (output : T) → writer_inner w ≡ output → writer_buffer w ≡ []
-    → writer_contents written w ≡ written output
-unwritten written w output inner empty =
-    ap (λ (b : List ℕ). append_known (written (writer_inner w)) b) empty ∙ append_none (written (writer_inner w)) ∙ ap written inner
 
 -- the stream that is named
 pub named_stream : (h : HeldRun) (name : String Global) (bytes : List ℕ) (r : Option ℕ) → bytes ≡ string_bytes name

@@ -20,14 +20,13 @@ use Rattle.kahn_report.specs.declared.read.ReadFault.TheVariants.{Failed as Fail
 use Rattle.kahn_report.specs.declared.working.WorkFault.TheVariants.{Run as RunWork, Write as WriteWork}
 use Rattle.kahn_fault.specs.declared.fault.Fault.{Fault}
 use Rattle.kahn_fault.specs.declared.fault.Fault.TheVariants.{Program, Work}
-use Rattle.std.specs.Char.{is_ascii_digit}
 use Rattle.std.specs.Option.{is_none}
 use Rattle.std.specs.Str.{bytes_eq}
 use Rattle.kahn_session.specs.Live.{HasVerdict, IsDeaf, IsFirstFault, IsFirstInput, IsMeantLine, IsOtherInput, IsTakenLine, IsUnfedBy, Live, breaks}
 use Rattle.kahn_session.specs.Refusals.{alike_text, alone_text, at_end_number, failed_text, is_want, refusal_text, stepped_text, take_words, waiting_text}
 use Rattle.kahn_session.specs.declared.fault.TakeFault.{TakeFault}
 use Rattle.kahn_session.specs.declared.fault.TakeFault.TheVariants.{TooLong, NotUtf8, BadLine, BadValue, Feed, NoMemory, Write}
-use Rattle.kahn_live.specs.Lines.{CutsLine, fed_text, most_kept, unmarked}
+use Rattle.kahn_live.specs.Lines.{CutsLine, fed_text, is_bare_line, most_kept, unmarked}
 use Rattle.kahn_live.specs.declared.stage.Stage.{Stage}
 use Rattle.kahn_live.specs.declared.taking.Fed.{Fed}
 use Rattle.kahn_live.specs.declared.telling.Teller.{Teller}
@@ -58,7 +57,7 @@ pub record Telling : Type 0 where
   pub bytes : Option (List ℕ)
   -- whether a write failed: then not all that is told stands there
   pub failed : Bool
-  -- whether a refused line leaves the status as it is, and whether one counts
+  -- whether a refused line leaves the status as it is, if it isn't lost for want of memory, and whether one counts
   pub keep_going : Bool
   pub refused : Bool
   -- the program's file
@@ -129,12 +128,16 @@ is_next number before = not (number == 0) && number - 1 == before
 abbrev pub is_again : Complaints → ℕ → TakeFault → Option (List ℕ) → Bool
 is_again k number f hint = (is_none hint && is_next number k.number) && is_alike k.last f
 
+-- whether a refused line counts: not where refused lines leave the status as it is, unless it was lost for want of memory
+abbrev pub does_count : Bool → TakeFault → Bool
+does_count keep_going f = not keep_going || is_want f
+
 -- one line more was refused, and nothing was told
-pub record IsTallied (number : ℕ) (old new : Telling) : Type 0 where
+pub record IsTallied (number : ℕ) (f : TakeFault) (old new : Telling) : Type 0 where
   pub bytes : new.bytes ≡ old.bytes
   pub failed : new.failed ≡ old.failed
   pub keep_going : new.keep_going ≡ old.keep_going
-  pub refused : new.refused ≡ (not old.keep_going || old.refused)
+  pub refused : new.refused ≡ (does_count old.keep_going f || old.refused)
   pub path : new.path ≡ old.path
   pub complaints : new.complaints ≡ record old.complaints { number = number }
 
@@ -145,19 +148,15 @@ is_hinted (Some input) before = true
 
 -- why the line was refused was told, with a part of it and more words, and this is known then
 abbrev pub IsNewPut : Complaints → ℕ → TakeFault → Part → Option (List ℕ) → Telling → Telling → Type 0
-IsNewPut known number f part hint old new = WasToldOf (refusal_text old.path number f part.word.now part.words.now hint) (not old.keep_going) known old new
+IsNewPut known number f part hint old new = WasToldOf (refusal_text old.path number f part.word.now part.words.now hint) (does_count old.keep_going f) known old new
 
 abbrev pub IsNewTold : ℕ → TakeFault → Part → Option (List ℕ) → Telling → Telling → Type 0
 IsNewTold number f part hint old new =
     IsNewPut (record old.complaints { last = Some f; first = number; number = number; hinted = is_hinted hint old.complaints.hinted }) number f part hint old new
 
--- the line was told of, or counted
-abbrev pub IsComplaintBy : Bool → ℕ → TakeFault → Part → Option (List ℕ) → Telling → Telling → Type 0
-IsComplaintBy true number f part hint old new = IsTallied number old new
-IsComplaintBy false number f part hint old new = (mid : Telling) × IsMoreTold old mid × IsNewTold number f part hint mid new
-
-abbrev pub IsComplaint : ℕ → TakeFault → Part → Option (List ℕ) → Telling → Telling → Type 0
-IsComplaint number f part hint old new = IsComplaintBy (is_again old.complaints number f hint) number f part hint old new
+-- the same, behind how many lines more were refused as the one that was told before it
+abbrev pub IsNextTold : ℕ → TakeFault → Part → Option (List ℕ) → Telling → Telling → Type 0
+IsNextTold number f part hint old new = (mid : Telling) × IsMoreTold old mid × IsNewTold number f part hint mid new
 
 -- the part of the line that is at fault, and what is wanted there
 abbrev pub IsNoPart : List ℕ → List ℕ → Type 0
@@ -193,10 +192,6 @@ IsRefusedPart t line NotUtf8 part more = IsNoPart part more
 IsRefusedPart t line NoMemory part more = IsNoPart part more
 IsRefusedPart t line (Write f) part more = IsNoPart part more
 
--- whether a line begins as a number does
-abbrev pub is_bare_line : List ℕ → Bool
-is_bare_line line = is_ascii_digit (slice_index line 0) || slice_index line 0 == 45
-
 abbrev pub is_bad_line : TakeFault → Bool
 is_bad_line BadLine = true
 is_bad_line f = false
@@ -210,13 +205,17 @@ abbrev pub IsHintBy : Bool → Live → Option (List ℕ) → Type 0
 IsHintBy true s hint = IsFirstInput s.flow.run.network hint
 IsHintBy false s hint = hint ≡ None
 
+-- the line was counted; or it was told of, with the part of it that is at fault
+abbrev pub IsComplaint : Live → ℕ → List ℕ → TakeFault → Option (List ℕ) → Bool → Telling → Telling → Type 0
+IsComplaint s number line f hint true old new = IsTallied number f old new
+IsComplaint s number line f hint false old new =
+    (part : Part) × IsRefusedPart s.flow.run.network line f part.word.now part.words.now × IsNextTold number f part hint old new
+
 -- the line that was fed was refused, and that was told
 pub record IsRefused (s : Live) (number : ℕ) (line : List ℕ) (f : TakeFault) (old new : Telling) : Type 0 where
   pub hint : Option (List ℕ)
   pub named : IsHintBy (not old.complaints.hinted && wants_hint number line f) s hint
-  pub part : Part
-  pub at_fault : IsRefusedPart s.flow.run.network line f part.word.now part.words.now
-  pub told : IsComplaint number f part hint old new
+  pub told : IsComplaint s number line f hint (is_again old.complaints number f hint) old new
 
 -- what was put off may have been sent: no byte more was written
 abbrev pub HasWaited : Point → Point → Type 0

@@ -1,5 +1,6 @@
 -- Believed. The lines of standard input: where each is cut, and what is fed of it (this project's profile).
-use Rattle.std.specs.Prelude.{◌≡◌, ◌≢◌, ◌⊎◌, ◌==◌, ◌&&◌, ℕ, Bool, true, false, ◌+◌, ◌<◌, ⊤, List, [], ◌∷◌, ◌++◌, length, take, drop, All, Option, None, Some, if◌then◌else◌}
+use Rattle.std.specs.Prelude.{◌≡◌, ◌≢◌, ◌⊎◌, ◌==◌, ◌&&◌, ◌||◌, ℕ, Bool, true, false, ◌+◌, ◌<◌, ⊤, List, [], ◌∷◌, ◌++◌, length, slice_index, take, drop, All, Option, None, Some, if◌then◌else◌}
+use Rattle.std.specs.Char.{is_ascii_digit}
 use Rattle.std.specs.Io.KnownBytes.{IsAtEnd}
 use Rattle.std.specs.Cmp.Lexicographic.{pointwise}
 use Rattle.kahn_report.specs.Formats.{most_input_bytes}
@@ -18,6 +19,10 @@ abbrev pub CutsLine : List ℕ → Option (List ℕ) → Option (List ℕ) → T
 CutsLine line None new = ⊤
 CutsLine line (Some text) None = ⊥
 CutsLine line (Some text) (Some rest) = IsCutLine line text rest
+
+-- whether a line begins as a number does
+abbrev pub is_bare_line : List ℕ → Bool
+is_bare_line line = is_ascii_digit (slice_index line 0) || slice_index line 0 == 45
 
 abbrev pub byte_order_mark : List ℕ
 byte_order_mark = 239 ∷ 187 ∷ 191 ∷ []

@@ -3,6 +3,7 @@ use Rattle.std.specs.Prelude.{◌≡◌, ◌⊎◌, ℕ, Bool, true, false, List
 use Rattle.std.specs.List.{concat}
 use Rattle.std.specs.declared.alloc.Global.{Global}
 use Rattle.std.specs.declared.string.String.{String}
+use Rattle.std.specs.Io.KnownBytes.{Keeps}
 use Rattle.kahn_streams.specs.declared.config.Config.{Config}
 use Rattle.kahn_streams.specs.declared.tree.Program.{Program}
 use Rattle.kahn_pool.specs.HeldRuns.{HeldRun}
@@ -26,6 +27,7 @@ use Rattle.kahn_session.specs.Refusals.{unknown_text}
 use Rattle.kahn_session.specs.Live.{HasOpened, IsClosed, IsFaulty, IsFirstInput, IsLastText, IsRinged, IsStreamOf, IsStuck, IsUnopened, HasVerdict, Live}
 use Rattle.kahn_live.specs.Course.{AreAllMet, LinesGiven, HasSent, HasWaited, IsMoreTold, IsWriteFault, Point, Telling, WasTold, no_memory, telling_of}
 use Rattle.kahn_live.specs.declared.running.Asked.{Asked}
+use Rattle.kahn_live.specs.declared.running.Returned.{Returned}
 use Rattle.kahn_live.specs.declared.serving.Amiss.{Amiss}
 use Rattle.kahn_live.specs.declared.serving.Amiss.TheVariants.{Faulted, Ringed}
 use Rattle.kahn_live.specs.declared.serving.Ending.{Ending}
@@ -128,22 +130,36 @@ IsLacking r old new = (r ≡ Err no_memory) × (new ≡ old)
 abbrev pub HasServed : Bool → LinesGiven → Result Ending Fault → Option (List ℕ) → Point → Point → Type 0
 HasServed strict f r text old new = HasServedAll strict f r text old new ⊎ IsLacking r old new
 
+-- whether the lines of a run ended since a write failed
+abbrev pub is_unwritten : Result Ending Fault → Bool
+is_unwritten (Err (Work (WriteWork f))) = true
+is_unwritten r = false
+
 -- what is new couldn't be sent in the end
 abbrev pub IsUnsent : Result Ending Fault → Result Ending Fault → Type 0
-IsUnsent (Ok x) (Ok y) = ⊥
+IsUnsent (Ok x) (Ok y) = y ≡ Gone
 IsUnsent (Ok x) (Err fault) = IsWriteFault fault
-IsUnsent (Err f) r = ⊥
+IsUnsent (Err f) r = (r ≡ Ok Gone) ⊎ (r ≡ Err f)
 
--- how a run ended is how its lines ended, unless nobody reads what is new any more, or it couldn't be sent
+-- How a run ended is how its lines ended; or nobody reads what is new any more, only if these ended since a write failed. The same where the
+-- last send failed, which is a write fault otherwise.
 abbrev pub IsSent : Bool → Result Ending Fault → Result Ending Fault → Type 0
-IsSent true ending r = r ≡ Ok Gone
-IsSent false ending r = (r ≡ ending) ⊎ IsUnsent ending r
+IsSent true ending r = IsUnsent ending r
+IsSent false ending r = (r ≡ ending) ⊎ ((is_unwritten ending ≡ true) × (r ≡ Ok Gone))
+
+abbrev pub WasSent : Result Ending Fault → Result Ending Fault → Type 0
+WasSent ending r = (failed : Bool) × IsSent failed ending r
 
 -- ---- the whole run
 
 -- this holds of what is told, before and after, and of the answer
 abbrev pub Tells : {X E : Type 0} → (E → Option (List ℕ)) → Teller E → X × Teller E → (Telling → Telling → X → Type 0) → Type 0
 Tells said old done holds = holds (telling_of said old) (telling_of said done.1) done.0
+
+-- the same, and of what went out
+abbrev pub Gives : {W E : Type 0} → (W → Option (List ℕ)) → (E → Option (List ℕ)) → Teller E → Returned W E
+    → (Option (List ℕ) → Telling → Telling → Result Ending Fault → Type 0) → Type 0
+Gives written said old done holds = holds (written done.output) (telling_of said old) (telling_of said done.teller) done.ending
 
 -- whether no line can change the run any more, though a process waits and there is an input channel
 abbrev pub IsStuckNow : Live → Bool → Type 0
@@ -164,10 +180,10 @@ why_text false path = []
 abbrev pub IsWhyTold : Live → Result Ending Fault → Telling → Telling → Type 0
 IsWhyTold s r old new = (stuck : Bool) × IsStuckNow s stuck × WasTold (why_text (wants_why stuck r) old.path) old new
 
--- the lines were served from a session on, and this was told
-abbrev pub HasRunSession : Bool → LinesGiven → Live → Option (List ℕ) → Option (List ℕ) → Telling → Telling → Result Ending Fault → Type 0
-HasRunSession strict f s text out old new r = (last : Point) × (ending : Result Ending Fault) × (gone : Bool)
-    × HasServed strict f ending text (record { session = s; out = out; told = old }) last × IsSent gone ending r × IsWhyTold last.session r last.told new
+-- the lines were served from a session on; this went out in all, and this was told
+abbrev pub HasRunSession : Bool → LinesGiven → Live → Option (List ℕ) → Option (List ℕ) → Option (List ℕ) → Telling → Telling → Result Ending Fault → Type 0
+HasRunSession strict f s text out made old new r = (last : Point) × (ending : Result Ending Fault)
+    × HasServed strict f ending text (record { session = s; out = out; told = old }) last × WasSent ending r × Keeps last.out made × IsWhyTold last.session r last.told new
 
 -- what is asked for: the channels whose values stand alone, the lines behind those of the input, and whether the run is judged
 pub record Request : Type 0 where
@@ -196,18 +212,18 @@ IsUnstartedTold None t f old new r = (r ≡ Err (Work (RunWork f))) × (new ≡ 
 IsUnstartedTold (Some name) t f old new r =
     (r ≡ Ok Refused) × ((words : List ℕ) × IsChannelWords t name words × WasTold (unknown_text old.path name words) old new)
 
--- a session of the network was set up and run, or why not: memory was refused, or the run is
-abbrev pub HasRunNetwork : Request → Program → Config → Option (List ℕ) → Option (List ℕ) → Telling → Telling → Result Ending Fault → Type 0
-HasRunNetwork a t config text out old new r = IsLacking r old new
-    ⊎ (((f : RunFault) × IsSetUp a.plain t config (Err f) × IsUnstartedTold (unknown_output f a.plain) t f old new r)
-    ⊎ ((s : Live) × IsSetUp a.plain t config (Ok s) × HasRunSession a.strict (record { input = input_of a.plain; at_end = a.at_end }) s text out old new r))
+-- a session of the network was set up and run, or why not: the run is refused, and nothing went out
+abbrev pub HasRunNetwork : Request → Program → Config → Option (List ℕ) → Option (List ℕ) → Option (List ℕ) → Telling → Telling → Result Ending Fault → Type 0
+HasRunNetwork a t config text out made old new r =
+    ((f : RunFault) × IsSetUp a.plain t config (Err f) × IsUnstartedTold (unknown_output f a.plain) t f old new r × (made ≡ out))
+    ⊎ ((s : Live) × IsSetUp a.plain t config (Ok s) × HasRunSession a.strict (record { input = input_of a.plain; at_end = a.at_end }) s text out made old new r)
 
 -- the network of the program text was run on this text of input, or why not: memory was refused, or the program text is
-abbrev pub HasRunText : List ℕ → LiveOptions → Option (List ℕ) → Option (List ℕ) → Telling → Telling → Result Ending Fault → Type 0
-HasRunText program o text out old new r = IsLacking r old new
-    ⊎ (((f : WorkFault) × IsUnchecked program f × (r ≡ Err (Work f)) × (new ≡ old))
+abbrev pub HasRunText : List ℕ → LiveOptions → Option (List ℕ) → Option (List ℕ) → Option (List ℕ) → Telling → Telling → Result Ending Fault → Type 0
+HasRunText program o text out made old new r = (IsLacking r old new × (made ≡ out))
+    ⊎ (((f : WorkFault) × IsUnchecked program f × (r ≡ Err (Work f)) × (new ≡ old) × (made ≡ out))
     ⊎ ((t : Program) × (config : Config) × IsChecked program t × WatchesPlain o.plain o.config config
-    × HasRunNetwork (record { plain = o.plain; at_end = map string_bytes o.at_end.items; strict = o.strict }) t config text out old new r))
+    × HasRunNetwork (record { plain = o.plain; at_end = map string_bytes o.at_end.items; strict = o.strict }) t config text out made old new r))
 
 -- ---- the status
 
@@ -245,7 +261,12 @@ IsWatchTold true old new = WasWritten (reason_line (codes "kahn_live") (codes "-
 IsWatchTold false old new = new ≡ old
 
 -- a program text, of this file, was run as the options say, on this text of input, behind what was written and what was told before; how that
--- ended was told, and the status is this
-abbrev pub HasRunAs : List ℕ → List ℕ → LiveOptions → Option (List ℕ) → Option (List ℕ) → Option (List ℕ) → Telling → ℕ → Type 0
-HasRunAs program path o text out bytes new status = (r : Result Ending Fault) × (last : Telling) × HasRunText program o text out (untold bytes o.keep_going path) last r
+-- ended was told, this is what went out, and the status is this
+abbrev pub HasRunAs : List ℕ → List ℕ → LiveOptions → Option (List ℕ) → Option (List ℕ) → Option (List ℕ) → Option (List ℕ) → Telling → ℕ → Type 0
+HasRunAs program path o text out bytes made new status =
+    (r : Result Ending Fault) × (last : Telling) × HasRunText program o text out made (untold bytes o.keep_going path) last r
     × IsEndingTold program r last new × (status ≡ ending_status last.refused r)
+
+-- this holds of what went out, of what is told, and of the status
+abbrev pub EndsAs : {W E : Type 0} → (W → Option (List ℕ)) → (E → Option (List ℕ)) → ℕ × W × Teller E → (Option (List ℕ) → Telling → ℕ → Type 0) → Type 0
+EndsAs written said done holds = holds (written done.1) (telling_of said done.2) done.0

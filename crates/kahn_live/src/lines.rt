@@ -3,7 +3,7 @@
 ghost use Rattle.std.specs.Prelude.{◌≡◌, ◌≢◌, ◌==◌, ◌<◌, ◌≤◌, ◌++◌, All, IfOk, length, option_copied, slice_index, take, vec_len};
 ghost use Rattle.std.specs.List.{list_any};
 ghost use Rattle.std.specs.Io.Buffered.{reader_buffer, reader_remaining};
-ghost use Rattle.kahn_live.specs.Lines.{IsNextLine, IsReadyToRead, fed_text, most_kept, unmarked};
+ghost use Rattle.kahn_live.specs.Lines.{IsNextLine, IsReadyToRead, fed_text, is_bare_line, most_kept, unmarked};
 ghost use Rattle.kahn_live.specs.inner.Parts.{IsLastRead, IsLinePart, IsPassed};
 
 use crate::outlet::Outlet;
@@ -41,6 +41,16 @@ enum Part {
     Failed,
     /// Memory was refused for it. It is still to be read.
     NoMemory,
+}
+
+/// Whether a line begins as a number does.
+pub(crate) fn is_bare_line(line: &[u8]) -> bool
+    ensures { result ≡ is_bare_line line.now }
+{
+    match line.first() {
+        None => false,
+        Some(byte) => byte.is_ascii_digit() || *byte == b'-',
+    }
 }
 
 /// Whether the next line can be read without a wait: its line feed has come.

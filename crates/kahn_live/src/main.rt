@@ -6,25 +6,28 @@ ghost use Rattle.kahn_live.specs.Running.{IsWatchTold};
 
 mod lines;
 mod outlet;
+mod patient;
 mod running;
 mod serving;
 mod stage;
 mod taking;
 mod telling;
 
-use kahn_fault::{read_texts, tell_reason, tell_unread};
+use kahn_fault::{read_texts, shown_path, tell, tell_reason, tell_unread};
 use kahn_line::{LiveOptions, read_live_line, tell_line, tell_no_memory, tell_words};
+use patient::waiting;
 use running::ran;
 use std::alloc::{AllocError, Global};
-use std::io::Write;
+use std::io::{BufWriter, Write};
 use std::process::ExitCode;
 use std::rt::Runtime;
 use std::{env, io};
+use taking::wants_memory;
 
-/// The path of the program text, which the words always name.
+/// The path of the program text, which the words always name, as it is shown.
 fn path_of(alloc: Global, program: &Option<String>) -> Result<String, AllocError> {
     match program {
-        Some(path) => String::from_str(alloc, path.as_str()),
+        Some(path) => shown_path(alloc, path.as_str()),
         None => Ok(String::new(alloc)),
     }
 }
@@ -60,11 +63,13 @@ fn answered<R: Runtime + AllocGlobal, W: Write>(
     tell_unwatched(is_unwatched(&options), writer);
     let program = options.program.take();
     match read_texts(rt, program, None) {
-        Ok(texts) => {
-            let program = texts.program.as_str();
-            let (input, output) = (rt.reader(), io::writer(rt));
-            ran(rt.alloc(), program, path, options, input, output, writer).0
-        }
+        Ok(texts) => match BufWriter::new(rt.alloc(), waiting(rt, io::writer(rt))) {
+            Ok(output) => {
+                let (program, input) = (texts.program.as_str(), waiting(rt, rt.reader()));
+                ran(rt.alloc(), program, path, options, input, output, writer).0
+            }
+            Err(_) => tell(&Err(wants_memory()), "", writer).status,
+        },
         Err(fault) => tell_unread(rt, "kahn_live", fault, writer),
     }
 }

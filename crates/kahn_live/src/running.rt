@@ -1,8 +1,8 @@
 //! A run on lines, from the program text to the status.
 
 ghost use Rattle.std.specs.Prelude.{◌≡◌, IfOk, false, option_copied, option_map, string_bytes};
-ghost use Rattle.kahn_live.specs.Course.{AcrossStage, telling_of};
-ghost use Rattle.kahn_live.specs.Running.{HasRunAs, HasRunNetwork, HasRunText, IsChannelWords, IsInForm, IsPlainStream, IsSetUp, Tells, WatchesPlain};
+ghost use Rattle.kahn_live.specs.Course.{telling_of};
+ghost use Rattle.kahn_live.specs.Running.{EndsAs, Gives, HasRunAs, HasRunNetwork, HasRunText, IsChannelWords, IsInForm, IsPlainStream, IsSetUp, Tells, WatchesPlain};
 ghost use Rattle.kahn_live.specs.Running.{IsEndingTold, IsStuckNow, IsUnstartedTold, IsWhyTold, ending_status, input_of, request_of, unknown_output, wants_why};
 
 use crate::outlet::Outlet;
@@ -18,10 +18,18 @@ use kahn_report::{WorkFault, checked};
 use kahn_session::Session;
 use kahn_streams::Network;
 use std::alloc::{AllocError, Global};
-use std::io::{BufWriter, Read, Write};
+use std::io::{Read, Write};
 
 /// The status where what `--plain` or `--at-end` names is refused.
 const REFUSED: u8 = 6;
+
+/// What a run gives back: how it ended, and its writers.
+#[derive(Drop)]
+struct Returned<W: Write, E: Write> {
+    ending: Result<Ending, Fault>,
+    output: W,
+    teller: Teller<E>,
+}
 
 /// How the run is set up: where values stand alone, the channel whose values are shown is watched, so that it has a stream, and no other
 /// one is, whose stream may be the first.
@@ -126,12 +134,16 @@ fn wants_why(stuck: bool, ending: &Result<Ending, Fault>) -> bool
 }
 
 /// Tells which program says why the run can't go on, where it is so at the end.
-fn tell_stuck<W: Write, E: Write>(stage: &mut Stage<'_, W, E>, ending: &Result<Ending, Fault>)
-    ensures { AcrossStage W.contents E.contents stage.old stage.new (λ p q. IsWhyTold p.session ending.now p.told q.told) }
+fn tell_stuck<E: Write>(
+    session: &Session<'_>,
+    ending: &Result<Ending, Fault>,
+    teller: &mut Teller<E>,
+)
+    ensures { IsWhyTold session.now ending.now (telling_of E.contents teller.old) (telling_of E.contents teller.new) }
 {
-    let stuck = is_stuck(&stage.session);
+    let stuck = is_stuck(session);
     let wanted = wants_why(stuck, ending);
-    stage.teller.tell_why(wanted);
+    teller.tell_why(wanted);
 }
 
 /// The channel that `--plain` names for the values that are shown, where a run is refused since none has that name.
@@ -174,7 +186,7 @@ fn unstarted<E: Write + Drop>(
     }
 }
 
-/// Runs a network on the input, and writes what is new to the output.
+/// Runs a network on the input, and writes what is new to the output, which it gives back.
 fn run_network<I: Read + Drop, W: Write + Drop, E: Write + Drop>(
     alloc: Global,
     network: &Network,
@@ -183,19 +195,23 @@ fn run_network<I: Read + Drop, W: Write + Drop, E: Write + Drop>(
     input: I,
     output: W,
     teller: Teller<E>,
-) -> (Result<Ending, Fault>, Teller<E>)
-    ensures { Tells E.contents teller result (HasRunNetwork (request_of asked.entry) network.now config (I.remaining input) (W.contents output)) }
+) -> Returned<W, E>
+    ensures { Gives W.contents E.contents teller result (HasRunNetwork (request_of asked.entry) network.now config (I.remaining input) (W.contents output)) }
 {
     let session = match started(alloc, network, config, asked.plain) {
         Ok(session) => session,
-        Err(fault) => return unstarted(network, fault, asked.plain, teller),
-    };
-    let Ok(writer) = BufWriter::new(alloc, output) else {
-        return (Err(wants_memory()), teller);
+        Err(fault) => {
+            let (ending, teller) = unstarted(network, fault, asked.plain, teller);
+            return Returned {
+                ending,
+                output,
+                teller,
+            };
+        }
     };
     let mut stage = Stage {
         session,
-        outlet: Outlet::new(writer),
+        outlet: Outlet::new(output),
         teller,
     };
     let fed = Fed {
@@ -204,8 +220,18 @@ fn run_network<I: Read + Drop, W: Write + Drop, E: Write + Drop>(
     };
     let ending = work(alloc, &mut stage, input, fed, asked.strict);
     let ending = sent(&mut stage.outlet, ending);
-    tell_stuck(&mut stage, &ending);
-    (ending, stage.teller)
+    let Stage {
+        session,
+        outlet,
+        mut teller,
+    } = stage;
+    tell_stuck(&session, &ending, &mut teller);
+    let output = outlet.writer;
+    Returned {
+        ending,
+        output,
+        teller,
+    }
 }
 
 /// The name of the channel whose values stand alone in the lines of input, where they do.
@@ -218,7 +244,7 @@ fn input_of(plain: Option<&Plain>) -> Option<&str>
     }
 }
 
-/// Runs a program text on the input, and writes what is new to the output.
+/// Runs a program text on the input, and writes what is new to the output, which it gives back.
 fn run<I: Read + Drop, W: Write + Drop, E: Write + Drop>(
     alloc: Global,
     program: &str,
@@ -226,8 +252,8 @@ fn run<I: Read + Drop, W: Write + Drop, E: Write + Drop>(
     input: I,
     output: W,
     teller: Teller<E>,
-) -> (Result<Ending, Fault>, Teller<E>)
-    ensures { Tells E.contents teller result (HasRunText program.now options (I.remaining input) (W.contents output)) }
+) -> Returned<W, E>
+    ensures { Gives W.contents E.contents teller result (HasRunText program.now options (I.remaining input) (W.contents output)) }
 {
     let LiveOptions {
         config,
@@ -242,11 +268,23 @@ fn run<I: Read + Drop, W: Write + Drop, E: Write + Drop>(
         strict,
     };
     let Ok(config) = watching(alloc, config, asked.plain) else {
-        return (Err(wants_memory()), teller);
+        let ending = Err(wants_memory());
+        return Returned {
+            ending,
+            output,
+            teller,
+        };
     };
     match checked(alloc, program) {
         Ok(network) => run_network(alloc, &network, config, asked, input, output, teller),
-        Err(fault) => (Err(Fault::Work(fault)), teller),
+        Err(fault) => {
+            let ending = Err(Fault::Work(fault));
+            Returned {
+                ending,
+                output,
+                teller,
+            }
+        }
     }
 }
 
@@ -268,7 +306,7 @@ fn told<E: Write>(ending: Result<Ending, Fault>, program: &str, teller: &mut Tel
 }
 
 /// Runs a program text, of that file, on the input as the options say, writes what is new, and tells what isn't taken and a
-/// fault of the run to the writer of faults. It gives the status.
+/// fault of the run to the writer of faults. It gives the status, and both writers back.
 pub(crate) fn ran<I: Read + Drop, W: Write + Drop, E: Write + Drop>(
     alloc: Global,
     program: &str,
@@ -277,11 +315,15 @@ pub(crate) fn ran<I: Read + Drop, W: Write + Drop, E: Write + Drop>(
     input: I,
     out: W,
     errors: E,
-) -> (u8, Teller<E>)
-    ensures { HasRunAs program.now (string_bytes path) options (I.remaining input) (W.contents out) (E.contents errors) (telling_of E.contents result.1) result.0 }
+) -> (u8, W, Teller<E>)
+    ensures { EndsAs W.contents E.contents result (HasRunAs program.now (string_bytes path) options (I.remaining input) (W.contents out) (E.contents errors)) }
 {
     let teller = Teller::new(alloc, errors, options.keep_going, path);
-    let (ending, mut teller) = run(alloc, program, options, input, out, teller);
+    let Returned {
+        ending,
+        output,
+        mut teller,
+    } = run(alloc, program, options, input, out, teller);
     let status = told(ending, program, &mut teller);
-    (status, teller)
+    (status, output, teller)
 }

@@ -1,10 +1,10 @@
 //! A session on lines, to the end of its run.
 
-ghost use Rattle.std.specs.Prelude.{◌≡◌, false};
+ghost use Rattle.std.specs.Prelude.{◌≡◌, IfErr, false, is_err};
 ghost use Rattle.std.specs.Io.KnownBytes.{Keeps};
 ghost use Rattle.kahn_session.specs.Live.{HasVerdict};
-ghost use Rattle.kahn_live.specs.Course.{Across, AcrossStage, lines_given, point_of, telling_of};
-ghost use Rattle.kahn_live.specs.Running.{HasServed, HasServedAll, IsEndWanted, IsEnded, IsJudged, IsPlainEnd, IsSent, reached_status};
+ghost use Rattle.kahn_live.specs.Course.{Across, AcrossStage, IsWriteFault, lines_given, point_of, telling_of};
+ghost use Rattle.kahn_live.specs.Running.{HasServed, HasServedAll, IsEndWanted, IsEnded, IsJudged, IsPlainEnd, IsSent, WasSent, is_unwritten, reached_status};
 
 use crate::outlet::Outlet;
 use crate::stage::Stage;
@@ -160,19 +160,41 @@ pub(crate) fn work<I: Read + Drop, W: Write, E: Write>(
     serve(alloc, stage, &mut reader, fed, strict)
 }
 
-/// Sends what is new in the end. Nobody may read it any more.
-pub(crate) fn sent<W: Write>(
-    outlet: &mut Outlet<W>,
+/// Whether a run ended since a write failed.
+fn is_unwritten(ending: &Result<Ending, Fault>) -> bool
+    ensures { result ≡ is_unwritten ending.now }
+{
+    match ending {
+        Err(Fault::Work(WorkFault::Write(_))) => true,
+        _ => false,
+    }
+}
+
+/// How a run ended whose lines ended so, where what is new was sent so: nobody reads it any more if that is why a write failed.
+fn ended(
+    gone: bool,
+    sent: Result<(), Fault>,
     ending: Result<Ending, Fault>,
 ) -> Result<Ending, Fault>
-    ensures kept { Keeps (W.contents outlet.old.writer) (W.contents outlet.new.writer) }
-    ensures sent { IsSent outlet.new.gone ending result }
+    requires { IfErr sent IsWriteFault }
+    ensures { IsSent (is_err sent) ending result }
 {
-    let sent = outlet.send();
-    if outlet.gone() {
+    if gone && (sent.is_err() || is_unwritten(&ending)) {
         return Ok(Ending::Gone);
     }
     let ending = ending?;
     sent?;
     Ok(ending)
+}
+
+/// Sends what is new in the end.
+pub(crate) fn sent<W: Write>(
+    outlet: &mut Outlet<W>,
+    ending: Result<Ending, Fault>,
+) -> Result<Ending, Fault>
+    ensures kept { Keeps (W.contents outlet.old.writer) (W.contents outlet.new.writer) }
+    ensures sent { WasSent ending result }
+{
+    let sent = outlet.send();
+    ended(outlet.gone(), sent, ending)
 }

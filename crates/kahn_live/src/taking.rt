@@ -7,12 +7,12 @@ ghost use Rattle.kahn_inputs.specs.Fitting.{line_name};
 ghost use Rattle.kahn_session.specs.Live.{HasVerdict, breaks};
 ghost use Rattle.kahn_session.specs.Pace.{MayBeSlow};
 ghost use Rattle.kahn_session.specs.declared.fault.TakeFault.TheVariants.{Feed};
-ghost use Rattle.kahn_live.specs.Course.{Across, AreAllMet, AreEachMet, AreLastMet, AreLastTried, AcrossStage, HasSent, IsAnswerTold, IsDeafNow, IsFedPart, IsFirstPart, IsInputMet, IsLastRefused, IsLineMet, IsNameWords, channel_tail};
-ghost use Rattle.kahn_live.specs.Course.{IsAloneTold, IsHintBy, IsNextMet, IsReadMet, IsRefusalTold, IsRefused, IsRefusedPart, IsPartMet, IsWriteFault, lines_given, is_bad_line, is_bare_line, no_memory, point_of, telling_of, wants_hint};
+ghost use Rattle.kahn_live.specs.Course.{Across, AreAllMet, AreEachMet, AreLastMet, AreLastTried, AcrossStage, HasSent, IsAnswerTold, IsComplaint, IsDeafNow, IsFedPart, IsFirstPart, IsInputMet, IsLastRefused, IsLineMet, IsNameWords, channel_tail};
+ghost use Rattle.kahn_live.specs.Course.{IsAloneTold, IsHintBy, IsNextMet, IsReadMet, IsRefusalTold, IsRefused, IsRefusedPart, IsPartMet, IsWriteFault, lines_given, is_bad_line, no_memory, point_of, telling_of, wants_hint};
 ghost use Rattle.kahn_live.specs.Histories.{HasHistories};
 ghost use Rattle.kahn_live.specs.Lines.{IsReadyToRead};
 
-use crate::lines::{Next, fed_line, has_line, next_line};
+use crate::lines::{Next, fed_line, has_line, is_bare_line, next_line};
 use crate::stage::Stage;
 use crate::telling::Teller;
 use kahn_fault::Fault;
@@ -70,16 +70,6 @@ fn send_before<I: Read, W: Write, E: Write>(
         return Ok(());
     }
     stage.outlet.send()
-}
-
-/// Whether a line begins as a number does.
-fn is_bare_line(line: &[u8]) -> bool
-    ensures { result ≡ is_bare_line line.now }
-{
-    match line.first() {
-        None => false,
-        Some(byte) => byte.is_ascii_digit() || *byte == b'-',
-    }
 }
 
 /// Whether a line doesn't begin with a name and a colon.
@@ -172,7 +162,24 @@ fn refused_part<'l>(network: &Network, line: &'l [u8], fault: TakeFault, words: 
     }
 }
 
-/// Tells a fault of the line of that number.
+/// Tells a fault of the line of that number, and the part of it that is at fault.
+fn tell_new_refusal<E: Write>(
+    session: &Session<'_>,
+    teller: &mut Teller<E>,
+    number: u64,
+    line: &[u8],
+    fault: TakeFault,
+    hint: Option<&str>,
+)
+    ensures { IsComplaint session.now number line.now fault (option_copied hint.entry) false (telling_of E.contents teller.old) (telling_of E.contents teller.new) }
+{
+    let network = session.network();
+    let words = words_of(teller.alloc, network, line, fault);
+    let part = refused_part(network, line, fault, words.as_str());
+    teller.tell(number, fault, part, hint);
+}
+
+/// Tells a fault of the line of that number, or counts the line where it is refused as the one before it.
 fn tell_refused<E: Write>(
     session: &Session<'_>,
     teller: &mut Teller<E>,
@@ -184,10 +191,11 @@ fn tell_refused<E: Write>(
 {
     let wanted = is_hint_wanted(teller.hinted, number, line, fault);
     let input = hint_of(session, wanted);
-    let network = session.network();
-    let words = words_of(teller.alloc, network, line, fault);
-    let part = refused_part(network, line, fault, words.as_str());
-    teller.tell(number, fault, part, input);
+    if teller.is_again(number, fault, input) {
+        teller.count(number, fault);
+        return;
+    }
+    tell_new_refusal(session, teller, number, line, fault, input);
 }
 
 /// Tells a fault of the line of that number, behind what is new so far. It fails where that can't be written.

@@ -7,7 +7,7 @@ ghost use Rattle.kahn_session.specs.Refusals.{unknown_text};
 ghost use Rattle.kahn_session.specs.Live.{HasVerdict};
 ghost use Rattle.kahn_fault.specs.Status.{live_status_of};
 ghost use Rattle.kahn_fault.specs.Telling.{pointer_text, told_text};
-ghost use Rattle.kahn_live.specs.Course.{IsAlonePut, IsComplaint, IsTallied, IsMoreTold, IsNewPut, IsNewTold, IsFaultPut, IsNewFault, IsStepPut, IsVerdictPut, IsVerdictTold, IsWaitPut, WasTold, complaints_of, is_again, is_alike, is_hinted, is_next, is_step_new, is_verdict_new, telling_of};
+ghost use Rattle.kahn_live.specs.Course.{IsAlonePut, IsTallied, IsMoreTold, IsNewPut, IsNewTold, IsNextTold, IsFaultPut, IsNewFault, IsStepPut, IsVerdictPut, IsVerdictTold, IsWaitPut, WasTold, complaints_of, does_count, is_again, is_alike, is_hinted, is_next, is_step_new, is_verdict_new, telling_of};
 ghost use Rattle.kahn_live.specs.Running.{IsEndPut, IsEndTold, IsLastTold, untold, why_text};
 
 use kahn_fault::{Fault, live_status, tell, tell_explain};
@@ -15,7 +15,7 @@ use kahn_inputs::Part;
 use kahn_pool::Verdict;
 use kahn_report::{WriteFault, write_line};
 use kahn_session::{
-    Session, TakeFault, take_words, write_alone, write_fault, write_more, write_refusal,
+    Session, TakeFault, is_want, take_words, write_alone, write_fault, write_more, write_refusal,
     write_stopped, write_unknown, write_waiting,
 };
 use kahn_streams::{Failure, Network};
@@ -59,6 +59,13 @@ fn is_alike(last: Option<TakeFault>, fault: TakeFault) -> bool
     }
 }
 
+/// Whether a refused line counts: not where refused lines are to leave the status as it is, unless the line was lost for want of memory.
+fn does_count(keep_going: bool, fault: TakeFault) -> bool
+    ensures { result ≡ does_count keep_going fault }
+{
+    !keep_going || is_want(fault)
+}
+
 /// Writes which program says why a run can't go on.
 fn put_why<W: Write>(writer: &mut W, path: &str) -> Result<(), WriteFault>
     ensures { Writes (W.contents writer.old) (W.contents writer.new) result (why_text true path.now) }
@@ -91,7 +98,7 @@ pub(crate) struct Teller<E: Write> {
     pub(crate) errors: E,
     // Whether a write failed.
     pub(crate) failed: bool,
-    // Whether refused lines leave the status as it is.
+    // Whether refused lines leave the status as it is, but for those that were lost for want of memory.
     pub(crate) keep_going: bool,
     pub(crate) refused: bool,
     // The program's file.
@@ -112,7 +119,7 @@ pub(crate) struct Teller<E: Write> {
 }
 
 impl<E: Write> Teller<E> {
-    /// Before the first line. With `keep_going` no line counts as refused.
+    /// Before the first line. With `keep_going` no line counts as refused but those that are lost for want of memory.
     pub(crate) fn new(alloc: Global, errors: E, keep_going: bool, path: String) -> Teller<E>
         ensures { telling_of E.contents result ≡ untold (E.contents errors) keep_going (string_bytes path) }
     {
@@ -134,7 +141,7 @@ impl<E: Write> Teller<E> {
     }
 
     /// Whether the line of that number is refused as the one before it, and nothing more is to be said of it.
-    fn is_again(&self, number: u64, fault: TakeFault, input: Option<&str>) -> bool
+    pub(crate) fn is_again(&self, number: u64, fault: TakeFault, input: Option<&str>) -> bool
         ensures { result ≡ is_again (complaints_of self.now) number fault (option_copied input.entry) }
     {
         is_unnamed(input) && is_next(number, self.number) && is_alike(self.last, fault)
@@ -151,10 +158,10 @@ impl<E: Write> Teller<E> {
     }
 
     /// Counts the line of that number.
-    fn count(&mut self, number: u64)
-        ensures { IsTallied number (telling_of E.contents self.old) (telling_of E.contents self.new) }
+    pub(crate) fn count(&mut self, number: u64, fault: TakeFault)
+        ensures { IsTallied number fault (telling_of E.contents self.old) (telling_of E.contents self.new) }
     {
-        self.refused |= !self.keep_going;
+        self.refused |= does_count(self.keep_going, fault);
         self.number = number;
     }
 
@@ -185,10 +192,11 @@ impl<E: Write> Teller<E> {
             hint,
         );
         self.failed |= told.is_err();
-        self.refused |= !self.keep_going;
+        self.refused |= does_count(self.keep_going, why);
     }
 
-    /// Tells why the line of that number isn't taken, as `tell_new` does, or counts it where it is refused as the one before it.
+    /// Tells why the line of that number isn't taken, as `tell_new` does, behind how many lines more were refused as the last one that
+    /// was told.
     pub(crate) fn tell(
         &mut self,
         number: u64,
@@ -196,12 +204,8 @@ impl<E: Write> Teller<E> {
         part: Part<'_>,
         input: Option<&str>,
     )
-        ensures { IsComplaint number fault part.entry (option_copied input.entry) (telling_of E.contents self.old) (telling_of E.contents self.new) }
+        ensures { IsNextTold number fault part.entry (option_copied input.entry) (telling_of E.contents self.old) (telling_of E.contents self.new) }
     {
-        if self.is_again(number, fault, input) {
-            self.count(number);
-            return;
-        }
         self.tell_more();
         self.tell_new(number, fault, part, input);
     }

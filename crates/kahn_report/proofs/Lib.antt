@@ -1,6 +1,5 @@
 pub mod Ends
 pub mod Fresh
-pub mod Declared
 pub mod Parts
 pub mod Words
 pub mod Scanned

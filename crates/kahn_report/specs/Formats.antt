@@ -23,10 +23,9 @@ use Rattle.kahn_report.specs.declared.input.TextFault.TheVariants as text_fault
 use mir.Val.{SFits as FitsSigned}
 use mir.Syntax.{w64}
 use Rattle.kahn_streams.specs.declared.entries.InputFault.TheVariants as input_fault
-use Rattle.kahn_streams.specs.declared.tree.Declaration.{Declaration}
 use Rattle.kahn_streams.specs.declared.value.Line.{Line}
 use Rattle.kahn_streams.specs.View.{bytes_of}
-use Rattle.kahn_streams.specs.Network.{channels_of}
+use Rattle.kahn_streams.specs.Network.{channel_names, channels_of}
 use Rattle.kahn_streams.specs.Written.{line_feed, spaced_text}
 use Rattle.kahn_streams.specs.declared.value.Line.TheVariants.{Channel, Print}
 use Rattle.kahn_streams.specs.declared.value.Failure.TheVariants.{Overflow, Division}
@@ -187,13 +186,9 @@ channel_count program = length (channels_of program.declarations.items)
 abbrev pub instance_count : Program → ℕ
 instance_count program = length program.instances.items
 
--- the names of the declared channels, in order of declaration
-abbrev pub declared_names : List Declaration → List (List ℕ)
-declared_names declarations = map (λ c. c.0) (channels_of declarations)
-
 -- the declared name of a channel, and nothing past the last
 abbrev pub channel_name : Program → ℕ → List ℕ
-channel_name program channel = slice_index_or (declared_names program.declarations.items) channel []
+channel_name program channel = slice_index_or (channel_names program) channel []
 
 -- the name of an instance's process, and nothing past the last
 abbrev pub process_name : Program → ℕ → List ℕ

@@ -3,22 +3,16 @@
 ghost use Rattle.std.specs.Prelude.{◌≡◌};
 ghost use Rattle.kahn_report.specs.Formats.{channel_name, process_name};
 
-use kahn_streams::{Declaration, Network};
+use kahn_streams::Network;
 
 /// The declared name of a channel, or nothing past the last. It takes no memory.
 pub fn channel_name(network: &Network, channel: usize) -> &str
     ensures { result.now ≡ channel_name network.now channel }
 {
-    let mut number = channel;
-    for declaration in &network.program().declarations {
-        if let Declaration::Channels(_, _, names) = declaration {
-            if let Some(name) = names.get(number) {
-                return name.text.as_str();
-            }
-            number -= names.len();
-        }
+    if channel >= network.channels() {
+        return "";
     }
-    ""
+    network.channel(channel).name
 }
 
 /// The name of an instance's process, or nothing past the last. It takes no memory.

@@ -9,7 +9,7 @@ use crate::news::closing_counted;
 use itoa::Buffer;
 use kahn_pool::{Answer, End, Outcome, Stream, Verdict};
 use kahn_streams::{Carried, Failure, Line, Network, Steps};
-use kahn_write::{Spaced, WriteFault, put, put_all, put_values};
+use kahn_write::{Spaced, WriteFault, put, put_all, put_line, put_values};
 use std::io::Write;
 use std::marker::Brand;
 use std::sync::ledger::{Blank, Ledger};
@@ -128,7 +128,7 @@ fn put_words<'a, W: Write, L: Ledger>(
     ensures text { Writes (W.contents writer.old) (W.contents writer.new) result (end_words number.now name.now word.now channel.now events.now) }
     ensures few { writes.new ≤ writes.old + length (end_words number.now name.now word.now channel.now events.now) }
 {
-    put_all(
+    put_line(
         writer,
         &[
             b"end ", number, b" ", name, b": ", word, channel, b" after ", events, b"\n",
@@ -154,7 +154,7 @@ pub(crate) fn put_last<W: Write, L: Ledger>(
         Verdict::Bound => b"stopped by bound ",
         Verdict::Memory => b"stopped by memory ",
     };
-    put_all(writer, &[word, events, b"\n"], writes)
+    put_line(writer, &[word, events, b"\n"], writes)
 }
 
 /// Writes the lines of the streams.

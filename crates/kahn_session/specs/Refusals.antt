@@ -1,11 +1,12 @@
 -- Believed. What is said of lines of input that aren't taken, and of their parts (this project's profile).
-use Rattle.std.specs.Prelude.{ℕ, suc, ◌-◌, ◌^◌, ◌==◌, ◌&&◌, ◌||◌, Bool, true, false, not, List, [], ◌∷◌, ◌++◌, Option, None, Some, codes, decimal, if◌then◌else◌, length, nat_le, nat_lt, take}
+use Rattle.std.specs.Prelude.{ℕ, ◌-◌, ◌^◌, ◌==◌, ◌&&◌, ◌||◌, Bool, true, false, not, List, [], ◌∷◌, ◌++◌, Option, None, Some, codes, decimal, if◌then◌else◌, length, nat_lt}
 use Rattle.std.specs.List.{concat}
 use Rattle.kahn_streams.specs.declared.feeds.FeedFault.{FeedFault}
 use Rattle.kahn_streams.specs.declared.feeds.FeedFault.TheVariants as feed
 use Rattle.kahn_streams.specs.declared.tree.Program.{Program}
 use Rattle.kahn_streams.specs.declared.value.Failure.{Failure}
 use Rattle.kahn_streams.specs.declared.value.Failure.TheVariants.{Overflow, Division}
+use Rattle.kahn_marks.specs.Shown.{shown_part}
 use Rattle.kahn_report.specs.Formats.{process_name}
 use Rattle.kahn_session.specs.declared.fault.TakeFault.{TakeFault}
 use Rattle.kahn_session.specs.declared.fault.TakeFault.TheVariants as take
@@ -35,19 +36,6 @@ is_want (take.Feed feed.NoMemory) = true
 is_want f = false
 
 -- ---- a part of a line as it is shown
-
--- a byte of a control character, or one that may begin one, as of U+0080 to U+009F
-abbrev pub is_hidden : ℕ → Bool
-is_hidden b = (nat_lt b 32 || b == 127) || b == 0xC2
-
--- up to the first such byte; of a longer part 40 bytes, and the rest of the character there
-abbrev pub ends_before : ℕ → ℕ → Bool
-ends_before number b = is_hidden b || (nat_le 40 number && (nat_lt b 128 || nat_le 192 b))
-
--- how many bytes are shown, where so many stand before
-abbrev pub shown_bytes : ℕ → List ℕ → ℕ
-shown_bytes number [] = 0
-shown_bytes number (b ∷ bs) = if ends_before number b then 0 else suc (shown_bytes (suc number) bs)
 
 abbrev pub before_part : List ℕ → List ℕ
 before_part [] = []
@@ -81,7 +69,7 @@ pieces path from number words lead part tail more =
 
 abbrev pub said_text : List ℕ → List ℕ → List ℕ → List ℕ → List ℕ → List ℕ → List ℕ
 said_text path from number words part more =
-    pieces path from number words (before_part part) (take (shown_bytes 0 part) part) (behind_part part (shown_bytes 0 part)) more
+    pieces path from number words (before_part part) (shown_part part) (behind_part part (length (shown_part part))) more
 
 -- why a line isn't taken, the part of it that is at fault, and what is wanted there
 abbrev pub refusal_line : List ℕ → ℕ → TakeFault → List ℕ → List ℕ → List ℕ

@@ -1,21 +1,19 @@
 //! What is said of lines of input that aren't taken, and of their parts.
 
-ghost use Rattle.std.specs.Prelude.{◌≡◌, ◌≤◌, [], ◌∷◌, length, option_copied, take};
+ghost use Rattle.std.specs.Prelude.{◌≡◌, [], ◌∷◌, option_copied};
 ghost use Rattle.std.specs.List.{concat};
 ghost use Rattle.kahn_streams.specs.Written.{Writes};
-ghost use Rattle.kahn_session.specs.Refusals.{alike_text, alone_line, alone_text, behind_part, digits, ends_before, failure_words, failed_text, feed_words, hint_text, is_hidden, is_of_plain, is_want, more_words, before_part, line_note, origin, pieces, refusal_line, refusal_text, said_text, shown_bytes, stepped_text, take_words, unknown_text, waiting_text};
+ghost use Rattle.kahn_session.specs.Refusals.{alike_text, alone_line, alone_text, behind_part, digits, failure_words, failed_text, feed_words, hint_text, is_of_plain, is_want, more_words, before_part, line_note, origin, pieces, refusal_line, refusal_text, said_text, stepped_text, take_words, unknown_text, waiting_text};
 
 use crate::fault::TakeFault;
 use itoa::Buffer;
+use kahn_marks::shown_part;
 use kahn_report::{WriteFault, process_name, write_line};
 use kahn_streams::{Failure, FeedFault, Network};
 use std::io::Write;
 
 /// The number of each line of `--at-end`. No line of the input has it.
 pub const AT_END: u64 = u64::MAX;
-
-/// How many bytes of a part of a line are shown, and the rest of a character there.
-const MOST_SHOWN: usize = 40;
 
 /// Why values aren't fed.
 fn feed_words(fault: FeedFault) -> &'static str
@@ -53,37 +51,6 @@ pub fn take_words(fault: TakeFault) -> &'static str
         TakeFault::NoMemory => "no memory",
         TakeFault::Write(_) => "news could not be written",
     }
-}
-
-/// Whether a byte is of a control character, or may begin one.
-fn is_hidden(byte: u8) -> bool
-    ensures { result ≡ is_hidden byte }
-{
-    byte < 32 || byte == 127 || byte == 0xC2
-}
-
-/// Whether what is shown of a part of a line ends before its byte of that number.
-fn ends_before(number: usize, byte: u8) -> bool
-    ensures { result ≡ ends_before number byte }
-{
-    is_hidden(byte) || (number >= MOST_SHOWN && (byte < 128 || byte >= 192))
-}
-
-/// How many bytes of a part of a line are shown.
-fn shown_bytes(part: &[u8]) -> usize
-    ensures within { result ≤ length part.now }
-    ensures shown { result ≡ shown_bytes 0 part.now }
-{
-    let mut number = 0;
-    let mut rest = part;
-    'bytes: while let Some((byte, behind)) = rest.split_first() {
-        if ends_before(number, *byte) {
-            return number;
-        }
-        number += 1;
-        rest = behind;
-    }
-    number
 }
 
 /// What stands before a part of a line.
@@ -130,13 +97,6 @@ fn digits<'b>(buffer: &'b mut Buffer, of_plain: bool, number: u64) -> &'b str
     }
 }
 
-/// What is shown of a part of a line.
-fn shown(part: &[u8]) -> &[u8]
-    ensures { result.now ≡ take (shown_bytes 0 part.now) part.now }
-{
-    &part[..shown_bytes(part)]
-}
-
 /// Writes pieces, a colon behind the third.
 fn put_pieces<'a, W: Write>(
     writer: &mut W,
@@ -180,18 +140,9 @@ fn put_said<W: Write>(
 ) -> Result<(), WriteFault>
     ensures { Writes (W.contents writer.old) (W.contents writer.new) result (said_text path.now origin.now number.now words.now part.now more.now) }
 {
-    let tail = behind_part(part, shown_bytes(part));
-    put_pieces(
-        writer,
-        path,
-        origin,
-        number,
-        words,
-        before_part(part),
-        shown(part),
-        tail,
-        more,
-    )
+    let shown = shown_part(part);
+    let (lead, tail) = (before_part(part), behind_part(part, shown.len()));
+    put_pieces(writer, path, origin, number, words, lead, shown, tail, more)
 }
 
 /// Writes a line of words between the program's file and an end.

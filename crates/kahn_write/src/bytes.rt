@@ -1,6 +1,6 @@
 //! Bytes that go out.
 
-ghost use Rattle.std.specs.Prelude.{◌≡◌, ◌+◌, ◌<◌, ◌≤◌, length, flat_map};
+ghost use Rattle.std.specs.Prelude.{◌≡◌, ◌+◌, ◌<◌, ◌≤◌, IfSome, length, flat_map};
 ghost use Rattle.std.specs.Io.KnownBytes.{Keeps};
 ghost use Rattle.kahn_streams.specs.Written.{Writes};
 
@@ -18,6 +18,9 @@ pub enum WriteFault {
     #[error("a write took no byte")]
     Zero,
 }
+
+/// How many bytes a pipe takes at once, or not at all: where several programs write to it, they stay together.
+const ROOM: usize = 4096;
 
 /// Writes bytes, by as many writes as it takes.
 #[inline(always)]
@@ -57,6 +60,37 @@ pub fn put_all<W: Write, L: Ledger>(
     Ok(())
 }
 
+/// Joins pieces in the room, and gives their text, where they fit.
+fn joined<'a>(pieces: &[&[u8]], room: &'a mut [u8]) -> Option<&'a [u8]>
+    ensures { IfSome result (λ text. text.now ≡ flat_map (λ piece. piece.now) pieces.now) }
+{
+    let mut end = 0;
+    for piece in pieces {
+        if room.len() - end < piece.len() {
+            return None;
+        }
+        room[end..end + piece.len()].copy_from_slice(piece);
+        end += piece.len();
+    }
+    Some(&room[..end])
+}
+
+/// Writes the pieces of a line: by one write, where no more than `ROOM` bytes stand in it and the writer takes them all.
+pub fn put_line<W: Write, L: Ledger>(
+    writer: &mut W,
+    pieces: &[&[u8]],
+    writes: &mut Steps<L>,
+) -> Result<(), WriteFault>
+    ensures text { Writes (W.contents writer.old) (W.contents writer.new) result (flat_map (λ piece. piece.now) pieces.now) }
+    ensures few { writes.new ≤ writes.old + length (flat_map (λ piece. piece.now) pieces.now) }
+{
+    let mut room = [0; ROOM];
+    match joined(pieces, &mut room) {
+        Some(text) => put(writer, text, writes),
+        None => put_all(writer, pieces, writes),
+    }
+}
+
 /// Flushes a writer, which leaves what it holds, and counts that too.
 pub fn flush<W: Write, L: Ledger>(writer: &mut W, writes: &mut Steps<L>) -> Result<(), WriteFault>
     ensures kept { Keeps (W.contents writer.old) (W.contents writer.new) }
@@ -66,7 +100,7 @@ pub fn flush<W: Write, L: Ledger>(writer: &mut W, writes: &mut Steps<L>) -> Resu
     writer.flush().map_err(|_| WriteFault::Failed)
 }
 
-/// Writes pieces one after another and flushes, and counts both.
+/// Writes the pieces of a line and flushes, and counts both.
 pub fn write_line_counted<W: Write, L: Ledger>(
     writer: &mut W,
     pieces: &[&[u8]],
@@ -75,7 +109,7 @@ pub fn write_line_counted<W: Write, L: Ledger>(
     ensures text { Writes (W.contents writer.old) (W.contents writer.new) result (flat_map (λ piece. piece.now) pieces.now) }
     ensures few { writes.new ≤ writes.old + length (flat_map (λ piece. piece.now) pieces.now) + 1 }
 {
-    put_all(writer, pieces, writes)?;
+    put_line(writer, pieces, writes)?;
     flush(writer, writes)
 }
 
@@ -94,7 +128,7 @@ fn write_line_opened<W: Write, L: Ledger>(
     write_line_counted(writer, pieces, &mut writes)
 }
 
-/// Writes pieces one after another, and flushes. After a fault a prefix of them went out.
+/// Writes the pieces of a line, and flushes. After a fault a prefix of them went out. It takes no memory.
 pub fn write_line<W: Write>(writer: &mut W, pieces: &[&[u8]]) -> Result<(), WriteFault>
     ensures { Writes (W.contents writer.old) (W.contents writer.new) result (flat_map (λ piece. piece.now) pieces.now) }
 {

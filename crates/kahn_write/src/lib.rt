@@ -7,5 +7,5 @@ mod values;
 pub use bytes::WriteFault;
 
 // For the crates above.
-pub use bytes::{flush, put, put_all, write_line, write_line_counted};
+pub use bytes::{flush, put, put_all, put_line, write_line, write_line_counted};
 pub use values::{Lined, Spaced, put_values};

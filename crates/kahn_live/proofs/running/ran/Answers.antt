@@ -7,7 +7,8 @@ pub returns : goal.returns
 returns g c =
     let text = g.I.Read.remaining c.args.input in
     let out = g.W.Write.contents c.args.out in
-    let last = telling_of g.E.Write.contents c.run-ending.result.1 in
-    let r = c.run-ending.result.0 in
-    let run = subst (λ (p : Telling). HasRunText c.args.program.now c.args.options text out p last r) c.new-teller.ensures c.run-ending.ensures in
+    let made = g.W.Write.contents c.run-ending.result.output in
+    let last = telling_of g.E.Write.contents c.run-ending.result.teller in
+    let r = c.run-ending.result.ending in
+    let run = subst (λ (p : Telling). HasRunText c.args.program.now c.args.options text out made p last r) c.new-teller.ensures c.run-ending.ensures in
     (r, last, run, c.told-status.ensures.told, c.told-status.ensures.status)

@@ -1,13 +1,24 @@
-use Rattle.std.proofs.Common.{subst}
+use Rattle.std.proofs.Common.{◌∙◌, Bool, subst, sym}
 use Rattle.std.specs.Prelude.{option_copied}
-use Rattle.kahn_live.specs.Course.{IsHintBy, IsRefusedPart}
+use Rattle.kahn_live.specs.Course.{IsComplaint, IsHintBy, telling_of}
 use Rattle.kahn_live.proofs.taking.tell_refused.Goals as goal
 
+pub returns-then-is_again : goal.returns-then-is_again
+returns-then-is_again g c =
+    let hint = option_copied c.hint_of-input.result in
+    let old = telling_of g.E.Write.contents c.args.teller.now in
+    let new = telling_of g.E.Write.contents c.count.new.self in record {
+      hint = hint;
+      named = subst (λ (b : Bool). IsHintBy b c.args.session.now hint) c.is_hint_wanted-wanted.ensures c.hint_of-input.ensures;
+      told = subst (λ (b : Bool). IsComplaint c.args.session.now c.args.number c.args.line.now c.args.fault hint b old new) (sym c.if-is_again.true ∙ c.is_again.ensures) c.count.ensures;
+    }
+
 pub returns : goal.returns
-returns g c = record {
-  hint = option_copied c.hint_of-input.result;
-  named = subst (λ b. IsHintBy b c.args.session.now (option_copied c.hint_of-input.result)) c.is_hint_wanted-wanted.ensures c.hint_of-input.ensures;
-  part = c.refused_part-part.result;
-  at_fault = subst (λ t. IsRefusedPart t c.args.line.now c.args.fault c.refused_part-part.result.word.now c.refused_part-part.result.words.now) c.network-network.ensures c.refused_part-part.ensures;
-  told = c.tell.ensures;
-}
+returns g c =
+    let hint = option_copied c.hint_of-input.result in
+    let old = telling_of g.E.Write.contents c.args.teller.now in
+    let new = telling_of g.E.Write.contents c.tell_new_refusal.new.teller in record {
+      hint = hint;
+      named = subst (λ (b : Bool). IsHintBy b c.args.session.now hint) c.is_hint_wanted-wanted.ensures c.hint_of-input.ensures;
+      told = subst (λ (b : Bool). IsComplaint c.args.session.now c.args.number c.args.line.now c.args.fault hint b old new) (sym c.if-is_again.false ∙ c.is_again.ensures) c.tell_new_refusal.ensures;
+    }

@@ -1,7 +1,8 @@
-use Rattle.std.proofs.Common.{List, ℕ, refl, subst}
-use Rattle.std.specs.Prelude.{not, option_copied, string_bytes}
+use Rattle.std.proofs.Common.{◌∙◌, Bool, List, ℕ, ap, refl, subst}
+use Rattle.std.specs.Prelude.{◌||◌, option_copied, string_bytes}
 use Rattle.kahn_streams.specs.Written.{Writes}
 use Rattle.kahn_session.specs.Refusals.{refusal_text}
+use Rattle.kahn_live.specs.Course.{does_count}
 use Rattle.kahn_live.proofs.Meeting.{either, put_as}
 use Rattle.kahn_live.proofs.telling.Teller.put_new.Goals as goal
 
@@ -14,4 +15,4 @@ returns g c =
     let text = λ (path : List ℕ). refusal_text path c.args.number c.args.why c.args.part.word.now c.args.part.words.now (option_copied c.args.hint) in
     let wrote = subst (λ (path : List ℕ). Writes before after told (text path)) c.as_str.ensures.value c.write_refusal-told.ensures in
     let put = put_as (text (string_bytes old.path)) before after old.failed c.is_err.result told c.is_err.ensures.value wrote in
-    record { front = put.0; whole = put.1; keep_going = refl; refused = either old.refused (not old.keep_going); path = refl; complaints = refl }
+    record { front = put.0; whole = put.1; keep_going = refl; refused = ap (λ (b : Bool). old.refused || b) c.does_count.ensures ∙ either old.refused (does_count old.keep_going c.args.why); path = refl; complaints = refl }

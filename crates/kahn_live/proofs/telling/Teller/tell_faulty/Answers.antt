@@ -1,4 +1,4 @@
-use Rattle.std.proofs.Common.{List, ℕ, Option, refl, subst}
+use Rattle.std.proofs.Common.{List, ℕ, refl, subst}
 use Rattle.std.specs.Prelude.{string_bytes}
 use Rattle.kahn_streams.specs.Written.{Writes}
 use Rattle.kahn_session.specs.Refusals.{failed_text}

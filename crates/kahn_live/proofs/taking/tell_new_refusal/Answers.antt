@@ -1,0 +1,12 @@
+use Rattle.std.proofs.Common.{subst}
+use Rattle.kahn_streams.specs.declared.tree.Program.{Program}
+use Rattle.kahn_live.specs.Course.{IsRefusedPart}
+use Rattle.kahn_live.proofs.taking.tell_new_refusal.Goals as goal
+
+pub returns : goal.returns
+returns g c =
+    let part = c.refused_part-part.result in (
+      part,
+      subst (λ (t : Program). IsRefusedPart t c.args.line.now c.args.fault part.word.now part.words.now) c.network-network.ensures c.refused_part-part.ensures,
+      c.tell.ensures,
+    )

@@ -1,0 +1,68 @@
+//! Streams that another program left so that they don't block: a call that would have to wait is made again after a moment.
+
+ghost use Rattle.std.specs.Prelude.{◌≡◌, IsErr, IsTrue};
+
+use std::io::{ErrorKind, Read, Write};
+use std::time::{Clock, Duration};
+use std::{io, thread};
+
+/// How many milliseconds stand between two calls.
+const MOMENT: u64 = 1;
+
+/// A stream whose calls wait until they can do something.
+#[derive(Drop)]
+pub(crate) struct Patient<'c, S, C> {
+    pub(crate) stream: S,
+    pub(crate) clock: &'c C,
+}
+
+/// A stream, by the clock of the run.
+pub(crate) fn waiting<S, C: Clock>(clock: &C, stream: S) -> Patient<'_, S, C>
+    ensures stream { result.stream ≡ stream }
+{
+    Patient { stream, clock }
+}
+
+/// Whether a call would have to wait.
+fn would_wait<T>(done: &io::Result<T>) -> bool
+    ensures { IsTrue result → IsErr done.now }
+{
+    match done {
+        Ok(_) => false,
+        Err(error) => error.kind() == ErrorKind::WouldBlock,
+    }
+}
+
+impl<S: Read, C: Clock> Read for Patient<'_, S, C> {
+    ghost remaining = { λ p. S.remaining p.stream };
+
+    fn read(&mut self, buf: &mut [u8]) -> io::Result<usize> {
+        for _ in 0..u64::MAX {
+            let done = self.stream.read(buf);
+            if !would_wait(&done) {
+                return done;
+            }
+            thread::sleep(self.clock, Duration::from_millis(MOMENT));
+        }
+        self.stream.read(buf)
+    }
+}
+
+impl<S: Write, C: Clock> Write for Patient<'_, S, C> {
+    ghost contents = { λ p. S.contents p.stream };
+
+    fn write(&mut self, buf: &[u8]) -> io::Result<usize> {
+        for _ in 0..u64::MAX {
+            let done = self.stream.write(buf);
+            if !would_wait(&done) {
+                return done;
+            }
+            thread::sleep(self.clock, Duration::from_millis(MOMENT));
+        }
+        self.stream.write(buf)
+    }
+
+    fn flush(&mut self) -> io::Result<()> {
+        self.stream.flush()
+    }
+}
