@@ -10,7 +10,7 @@ find_explain
 
 # One start of a page in fifty or so doesn't come to an answer on a machine that is full of work, so a run has a second try.
 try_page() {
-  timeout 300 python3 "$top/checks/web.py" "$browser" "$page" "$kahn" "$draw" "$explain" > "$work/said" 2>&1
+  timeout 340 python3 "$top/checks/web.py" "$browser" "$page" "$kahn" "$draw" "$explain" > "$work/said" 2>&1
 }
 
 page=${PAGE:-$top/release/kahn.html}
@@ -26,7 +26,7 @@ if [ -z "${PAGE:-}" ] && ! is_page_released; then
   finish
   exit
 fi
-try_page || ! grep -q "no answer in time" "$work/said" || try_page
+try_page || ! grep -q "no answer in time\|waited for" "$work/said" || try_page
 cat "$work/said"
 [[ $(tail -n 1 "$work/said") =~ ^([0-9]+)\ passed,\ ([0-9]+)\ failed$ ]] || fail "web.py counts nothing"
 passed=$((passed + ${BASH_REMATCH[1]:-0}))

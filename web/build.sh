@@ -7,7 +7,7 @@
 # The library is proved and lowered for x86-64, since the toolchain has no heap for wasm64. The LLVM module that its clang is given is
 # kept, named for WebAssembly by retarget.py, and compiled and linked with support.c.
 set -eu
-here=$(cd "$(dirname "${BASH_SOURCE[0]}")" && pwd)
+here=$(CDPATH='' cd -- "$(dirname -- "${BASH_SOURCE[0]}")" && pwd)
 top=$(dirname "$here")
 source "$here/page.sh"
 to=${1:-$top/release}
@@ -48,7 +48,7 @@ fi
 cd "$out"
 "$clang" --target=x86_64-unknown-linux-gnu -x ir "$crate.bc" -S -emit-llvm -Xclang -disable-llvm-passes -o "$crate.x86.ll"
 python3 "$here/retarget.py" "$crate.x86.ll" "$crate.ll"
-flags=(--target=wasm32-unknown-unknown --no-default-config -ffunction-sections -fdata-sections -O3 -mbulk-memory)
+flags=(--target=wasm32-unknown-unknown --no-default-config -ffunction-sections -fdata-sections -O2 -mbulk-memory)
 "$clang" "${flags[@]}" -mllvm -expand-div-rem-bits=64 -x ir "$crate.ll" -c -o "$crate.o"
 "$clang" "${flags[@]}" -ffreestanding -nostdinc -Wall -Werror -x c "$here/support.c" -c -o support.o
 exports=$(sed -nE 's/^define [^"]*@([a-z_0-9]+)\(.*/--export=\1/p' "$crate.ll")

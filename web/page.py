@@ -1,10 +1,13 @@
-"""Puts the page together: page.py MODULE.wasm OUT.html
+"""Puts the page together: page.py MODULE OUT.html
 
-page.html names the files of this folder that go into it, the module and the examples, each between two @.
+MODULE is the WebAssembly file, or a page that has it in it. page/page.html names the files of its folder that go into it, the module and
+the examples, each between two @. The modules of the page become one script: their imports go, and `export` before a name; so no two may
+give the same name at their top. The page's policy names its scripts and styles by their hashes.
 """
 
 import base64
 import glob
+import hashlib
 import json
 import os
 import re
@@ -12,8 +15,9 @@ import sys
 import zlib
 
 HERE = os.path.dirname(os.path.abspath(__file__))
+PARTS = f"{HERE}/page"
 EXAMPLES = os.path.join(os.path.dirname(HERE), "examples")
-module, out = sys.argv[1:]
+TOP = re.compile(r"^(?:async )?(?:function\*?|class) \w+|^(?:const|let) .*", flags=re.M)
 
 
 def text_of(path):
@@ -24,7 +28,9 @@ def text_of(path):
 
 
 def packed(path):
-    """The bytes of the file, deflated, in base64."""
+    """The bytes of the module, deflated, in base64."""
+    if path.endswith(".html"):
+        return re.search(r'const MODULE = "([^"]*)"', text_of(path))[1]
     with open(path, "rb") as it:
         pack = zlib.compressobj(9, wbits=-15)
         return base64.b64encode(pack.compress(it.read()) + pack.flush()).decode()
@@ -35,8 +41,44 @@ def examples():
     return json.dumps([[os.path.basename(it), text_of(f"{it}.kahn"), text_of(f"{it}.input")] for it in stems], indent=0).replace("</", "<\\/")
 
 
-parts = {"module": packed(module), "examples": examples()}
-parts.update({name: text_of(f"{HERE}/{name}").rstrip("\n") for name in ("page.css", "runner.js", "picture.js", "page.js")})
-page = re.sub(r"@(" + "|".join(map(re.escape, parts)) + r")@", lambda found: parts[found[1]], text_of(f"{HERE}/page.html"))
-with open(out, "w", encoding="utf-8") as it:
-    it.write(page)
+def named(text):
+    """The names that a module gives at its top."""
+    return [it for line in TOP.findall(text) for it in re.findall(r"(?:^(?:async )?(?:function\*?|class|const|let) |, )(\w+)(?= = |;|$)", line)]
+
+
+def scripts(page):
+    """The modules that the page names. Comments and indentation stay in the modules, since the page has to be small."""
+    texts, given = {}, {}
+    for name in re.findall(r"^@(\w+\.js)@$", page, flags=re.M):
+        text = re.sub(r"^import .*\n", "", text_of(f"{PARTS}/{name}"), flags=re.M)
+        text = re.sub(r"^export ", "", text, flags=re.M)
+        for it in named(text):
+            if it in given:
+                sys.exit(f"page.py: {it} is in {given[it]} and in {name}")
+            given[it] = name
+        texts[name] = re.sub(r"^ +", "", re.sub(r"^ *(?://.*)?\n", "", text, flags=re.M), flags=re.M).strip()
+    left = {os.path.basename(it) for it in glob.glob(f"{PARTS}/*.js")} - set(texts)
+    return sys.exit(f"page.py: page.html doesn't name {' '.join(sorted(left))}") if left else texts
+
+
+def hashes(page, name):
+    """The hashes of what stands in the elements of a name, as a policy has them."""
+    texts = re.findall(rf"<{name}>(.*?)</{name}>", page, flags=re.S)
+    return " ".join(f"'sha256-{base64.b64encode(hashlib.sha256(it.encode()).digest()).decode()}'" for it in texts)
+
+
+def filled(page, parts):
+    return re.sub(r"@(" + "|".join(map(re.escape, parts)) + r")@", lambda found: parts[found[1]], page)
+
+
+def main(module, out):
+    page = text_of(f"{PARTS}/page.html")
+    styles = re.sub(r"^ +", "", text_of(f"{PARTS}/page.css"), flags=re.M).strip()
+    page = filled(page, {"module": packed(module), "examples": examples(), "page.css": styles, **scripts(page)})
+    page = filled(page, {"scripts": hashes(page, "script"), "styles": hashes(page, "style")})
+    with open(out, "w", encoding="utf-8") as it:
+        it.write(page)
+
+
+if __name__ == "__main__":
+    main(*sys.argv[1:])

@@ -1,4 +1,6 @@
-" :make runs the program in the current file by kahn_explain, and goes to the place of a fault or of a warning.
+" :make runs the program in the current file by kahn_explain, and goes to the place of a mistake, a warning, a fault or a deadlock.
 let current_compiler = "kahn"
-CompilerSet makeprg=kahn_explain\ %
-CompilerSet errorformat=%f:%l:%c:\ error:\ %m,%f:%l:%c:\ %tarning:\ %m,kahn:\ %m,%+G\ %#=\ %.%#,%-G%.%#
+CompilerSet makeprg=kahn_explain\ %:S
+CompilerSet errorformat=%E%f:%l:%c:\ %trror:\ %m,%W%f:%l:%c:\ %tarning:\ %m,%N%f:%l:%c:\ %tote:\ %m
+CompilerSet errorformat+=%+E%.%#\ waits\ on\ %.%#\ at\ %l:%c%.%#in\ a\ deadlock%.%#
+CompilerSet errorformat+=%+C\ %#=\ %.%#,%-C\ %#%\\d%#\ \|%.%#,kahn:\ %m,%-G%.%#

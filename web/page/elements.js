@@ -1,0 +1,23 @@
+// Elements of the page and of its pictures.
+
+const SVG = "http://www.w3.org/2000/svg";
+
+export const at = (id) => document.getElementById(id);
+
+// An element with its properties, or attributes where it has no such property, and what stands in it.
+export function made(name, values = {}, ...inner) {
+  const it = document.createElement(name);
+  Object.entries(values).forEach(([key, value]) => (key in it && key !== "role" ? (it[key] = value) : it.setAttribute(key, value)));
+  it.append(...inner);
+  return it;
+}
+
+export function svg(name, values = {}, ...inner) {
+  const it = document.createElementNS(SVG, name);
+  Object.entries(values).forEach(([key, value]) => it.setAttribute(key, value));
+  it.append(...inner);
+  return it;
+}
+
+export const numbered = (it) => it.toLocaleString("en");
+export const clipped = (text, most) => (text.length > most ? `${text.slice(0, Math.max(1, most - 1))}…` : text);

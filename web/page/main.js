@@ -1,0 +1,132 @@
+// The page begins: what its buttons and keys do, and which texts it opens with.
+
+import { choose, chooseAt, chooseNothing, chooseStream, goToValue } from "./choosing.js";
+import { at } from "./elements.js";
+import { FIRST } from "./examples.js";
+import { divider } from "./panes.js";
+import { STOPPED } from "./run.js";
+import { lacking } from "./runner.js";
+import { edited, fail, runTexts, save, showBy, showName } from "./running.js";
+import { fit, show, showTab, TABS } from "./showing.js";
+import { BOUND, input, NOTHING, page, picture, plots, program, runner, store, table } from "./state.js";
+import { go, play, playIcon, showPlay, stopPlaying } from "./steps.js";
+import { carried } from "./store.js";
+import { copyLink, downloadTexts, gallery, opened, put } from "./texts.js";
+
+// Milliseconds after the last change of the window's size until it is drawn again.
+const RESIZED = 120;
+
+program.changed = input.changed = at("bound").oninput = edited;
+picture.choose = choose;
+table.choose = plots.choose = chooseStream;
+table.goTo = plots.goTo = goToValue;
+at("run").onclick = runTexts;
+at("stop").onclick = () => runner.end(STOPPED);
+at("examples").onclick = gallery;
+at("help").onclick = () => at("sheet").showModal();
+at("open").onclick = () => at("file").click();
+at("file").onchange = () => opened(at("file").files).then(() => (at("file").value = ""));
+at("download").onclick = downloadTexts;
+at("copy").onclick = copyLink;
+at("by").onchange = showBy;
+at("program").onclick = () => chooseAt(at("program").selectionStart);
+
+function goByHand(k) {
+  stopPlaying();
+  go(k);
+}
+
+at("slider").oninput = () => goByHand(at("slider").valueAsNumber);
+at("play").onclick = play;
+for (const [id, to] of Object.entries({ toStart: () => 0, back: () => page.k - 1, on: () => page.k + 1, toEnd: () => Infinity })) {
+  at(id).append(playIcon(id));
+  at(id).onclick = () => goByHand(to());
+}
+showPlay();
+
+function tabKey(event, name) {
+  const step = { ArrowLeft: -1, ArrowRight: 1 }[event.key];
+  if (!step) return;
+  event.stopPropagation();
+  const next = TABS[(TABS.indexOf(name) + step + TABS.length) % TABS.length];
+  showTab(next);
+  at(`tab-${next}`).focus();
+}
+
+for (const it of TABS) {
+  at(`tab-${it}`).onclick = () => showTab(it);
+  at(`tab-${it}`).onkeydown = (event) => tabKey(event, it);
+}
+document.querySelectorAll("#panes button").forEach((it) => (it.onclick = () => show(it.dataset.to)));
+
+function paneMoved(name, to) {
+  store.put({ panes: { ...store.state.panes, [name]: to } });
+  requestAnimationFrame(fit);
+}
+
+const LINES = {
+  middleLine: { name: "--texts", isRow: false, least: 20, most: 75 },
+  inputLine: { name: "--program", isRow: true, least: 20, most: 90 },
+  valuesLine: { name: "--network", isRow: true, least: 15, most: 85 },
+};
+for (const [id, line] of Object.entries(LINES)) {
+  const kept = store.state.panes?.[line.name];
+  if (kept) at("main").style.setProperty(line.name, `${kept}%`);
+  divider(at(id), at("main"), { ...line, moved: paneMoved });
+}
+
+// Whether a key belongs to what has the focus.
+function isTaken({ target, ctrlKey, metaKey, altKey }) {
+  return /^(?:TEXTAREA|INPUT|SELECT)$/.test(target.tagName) || target.getAttribute?.("role") === "separator"
+    || document.querySelector("dialog[open]") || ctrlKey || metaKey || altKey;
+}
+
+onkeydown = (event) => {
+  if (event.key === "Enter" && (event.ctrlKey || event.metaKey)) {
+    event.preventDefault();
+    runTexts();
+  } else if (event.key === "Escape" && page.chosen !== NOTHING && !document.querySelector("dialog[open]")) {
+    chooseNothing();
+  } else if (page.run && !isTaken(event)) {
+    const tenth = Math.max(1, Math.round(page.run.last / 10));
+    const to = { ArrowLeft: page.k - 1, ArrowRight: page.k + 1, PageUp: page.k - tenth, PageDown: page.k + tenth, Home: 0, End: Infinity }[event.key];
+    const isSpace = event.key === " " && event.target.tagName !== "BUTTON";
+    if (to !== undefined || isSpace) event.preventDefault();
+    if (to !== undefined) goByHand(to);
+    else if (isSpace) play();
+  }
+};
+ondragover = (event) => event.preventDefault();
+ondrop = (event) => {
+  event.preventDefault();
+  if (event.dataTransfer.files.length) opened(event.dataTransfer.files);
+};
+onhashchange = () => {
+  const given = carried(location.hash);
+  if (given) put(given, "");
+};
+onpagehide = save;
+onbeforeprint = () => { program.paint(true); input.paint(true); };
+onafterprint = () => { program.paint(); input.paint(); };
+let resizing;
+onresize = () => {
+  clearTimeout(resizing);
+  resizing = setTimeout(fit, RESIZED);
+};
+matchMedia("(prefers-color-scheme: dark)").addEventListener("change", fit);
+
+// The texts of the link, or the last ones, or the first example.
+function begin() {
+  const linked = carried(location.hash), { texts: kept, name = "" } = store, first = linked ?? kept ?? FIRST;
+  if (linked && kept) store.keep(kept);
+  page.name = linked ? "" : kept ? name : FIRST.name;
+  [program.text, input.text] = [first.program, first.input ?? ""];
+  at("bound").value = first.bound ?? BOUND;
+  showName();
+  if (lacking().length) fail("");
+  else runTexts();
+}
+
+showTab(TABS.includes(page.tab) ? page.tab : TABS[0]);
+show("network");
+begin();

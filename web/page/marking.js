@@ -1,0 +1,79 @@
+// What is marked in the texts, the list of mistakes and warnings, and buttons that go to a place.
+
+import { at, made } from "./elements.js";
+import { applied, fixesOf, isOffer } from "./fixes.js";
+import { lexemeAt, lexemeEnd, placeAt, placeWords } from "./places.js";
+import { show } from "./showing.js";
+import { input, page, program } from "./state.js";
+import { verdictOf } from "./verdict.js";
+
+export const atEnd = () => Boolean(page.run && page.moment) && page.moment.k === page.run.events;
+export const isBad = () => atEnd() && ["fault", "deadlock"].includes(verdictOf(page.run).kind);
+
+const found = () => page.check?.why.marks ?? [];
+const kinded = (places, kind) => places.map((it) => ({ ...it, kind }));
+
+function marks() {
+  const { run, moment, chosen } = page;
+  const list = found().filter((it) => it.where === "program").flatMap((it) => [{ ...it, kind: it.severity }, ...kinded(it.notes, "note")]);
+  if (!run || page.isOld) return list;
+  if (atEnd()) list.push(...kinded(verdictOf(run).places, "stuck"));
+  if (moment?.event?.place && !isBad()) list.push({ from: moment.event.place.from, to: lexemeEnd(program.text, moment.event.place.from), kind: "now" });
+  return [...list, ...kinded(placesOf(chosen), "chain")];
+}
+
+// Where the chosen processes wait, or the chosen channel is declared, written and read.
+export function placesOf({ channel, process, processes }) {
+  const { wiring } = page.run, it = wiring.channels[channel];
+  if (it) return [it.place, ...it.sends, ...it.waits].filter(Boolean);
+  return processes.flatMap((i) => [...(i === process ? [wiring.processes[i]] : []), ...waitsOf(i)]);
+}
+
+// Where the text of a process that waits has a wait on that channel.
+export function waitsOf(i) {
+  const { state, on } = page.moment.processes[i];
+  return state === "waits" ? page.run.wiring.channels.find((it) => it.name === on && it.reader === i)?.waits ?? [] : [];
+}
+
+export function remark() {
+  program.mark(marks());
+  input.mark(found().filter((it) => it.where === "input").map((it) => ({ ...it, kind: it.severity })));
+}
+
+// A button that goes to a place of a text.
+export function placeButton({ from, to }, editor = program, words = placeWords(placeAt(editor.text, from))) {
+  return made("button", { className: "place", title: "Go to this place", onclick: () => { show("texts"); editor.goTo(from, to); } }, words);
+}
+
+// Words in which each name between ` is one of the program's.
+export function quoted(words) {
+  return words.split(/`([^`]+)`/).map((it, i) => (i % 2 ? made("code", {}, it) : it));
+}
+
+// Words with places of the program in them, which become buttons.
+export function withPlaces(words) {
+  const button = (it) => placeButton(lexemeAt(program.text, ...it.split(":").map(Number)), program, it);
+  return words.split(/\b(\d+:\d+)\b/).flatMap((it, i) => (i % 2 ? [button(it)] : quoted(it)));
+}
+
+function problem(mark) {
+  const editor = mark.where === "input" ? input : program, fixes = fixesOf(mark, program.text);
+  const buttons = fixes.map((it) => made("button", { className: "apply", onclick: () => apply(it) }, ...quoted(`Apply: ${it.words}`)));
+  const notes = mark.notes.map((it) => made("p", { className: "help" }, placeButton(it), " ", ...quoted(it.words)));
+  const helps = mark.helps.filter((it) => !isOffer(it) || !fixes.length).map((it) => made("p", { className: "help" }, ...withPlaces(it)));
+  const heading = made("p", {}, made("b", {}, mark.severity === "error" ? "Mistake: " : "Warning: "), ...quoted(mark.words));
+  const place = mark.from === undefined ? [] : [placeButton(mark, editor)];
+  return made("li", { className: mark.severity }, ...place, made("div", {}, heading, ...helps, ...notes), ...buttons);
+}
+
+export function showProblems() {
+  const list = found(), more = page.check?.why.more ?? [];
+  at("problems").hidden = !list.length;
+  at("problems").replaceChildren(...list.map(problem), ...more.map((it) => made("li", { className: "more" }, it)));
+  for (const it of ["program", "input"]) at(it).setAttribute("aria-invalid", list.some((one) => one.severity === "error" && one.where === it));
+}
+
+function apply(fix) {
+  program.replace(applied(program.text, fix));
+  program.goTo(fix.from, fix.from + fix.text.length);
+}

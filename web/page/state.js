@@ -1,0 +1,35 @@
+// What the modules of the page share: its fields, its texts, and what is shown of which run.
+
+import { at } from "./elements.js";
+import { Editor } from "./editor.js";
+import { Picture } from "./picture.js";
+import { Plots } from "./plots.js";
+import { Runner } from "./runner.js";
+import { Store } from "./store.js";
+import { Table } from "./table.js";
+
+export const MOST_BOUND = 281474976710655n, BOUND = "1000000";
+export const NOTHING = { processes: [], channels: [] };
+
+export const store = new Store(), runner = new Runner(MODULE), checker = new Runner(MODULE);
+export const program = new Editor(at("program"), at("programInk"), { isProgram: true });
+export const input = new Editor(at("input"), at("inputInk"), { isProgram: false });
+export const picture = new Picture(at("picture")), table = new Table(at("table")), plots = new Plots(at("plots"));
+
+// run: what is shown, isOld: of texts before; moment: at event k; chosen: by a press; check: what is marked; number: of the newest run;
+// width: for which the picture was drawn; name: of the example that the texts are.
+export const page = {
+  run: undefined, isOld: false, moment: undefined, k: 0, chosen: NOTHING, check: undefined, number: 0, width: undefined,
+  tab: store.state.tab ?? "table", name: "",
+};
+
+// The bound, which may be written like 1e6; none where the field has no such number.
+export function boundOf() {
+  const [, digits, zeros = "0"] = /^(\d{1,15})(?:e(\d{1,2}))?$/i.exec(at("bound").value.replace(/[ ,_]/g, "")) ?? [];
+  const bound = digits === undefined ? MOST_BOUND + 1n : BigInt(digits) * 10n ** BigInt(zeros);
+  return bound <= MOST_BOUND ? bound : undefined;
+}
+
+export const texts = () => ({ program: program.text, input: input.text, bound: String(boundOf() ?? BOUND) });
+
+export const isSame = (some, others) => ["program", "input", "bound"].every((it) => some[it] === others[it]);

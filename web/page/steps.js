@@ -1,0 +1,141 @@
+// The slider over events, and what the page shows at each.
+
+import { chosenOf, showChain, showWaits } from "./choosing.js";
+import { at, made, numbered, svg } from "./elements.js";
+import { atEnd, isBad, placeButton, remark } from "./marking.js";
+import { LET_GO, STOPPED } from "./run.js";
+import { fail } from "./running.js";
+import { page, picture, plots, program, store, table } from "./state.js";
+import { verdictOf } from "./verdict.js";
+
+// Seconds that a run plays for, and the milliseconds from one step to the next.
+const SECONDS_TO_PLAY = 14, QUICKEST = 40, SLOWEST = 500;
+// How many hundredths of the room the network's pane takes.
+const LEAST_NETWORK = 34, MOST_NETWORK = 58;
+const PLAYS = {
+  toStart: "M3 3v12M15 3L6 9l9 6z", back: "M13 3L5 9l8 6z", play: "M4 2l12 7-12 7z", pause: "M5 3h3v12H5zM11 3h3v12h-3z", on: "M5 3l8 6-8 6z",
+  toEnd: "M15 3v12M3 3l9 6-9 6z",
+};
+
+export const playIcon = (name) => svg("svg", { viewBox: "0 0 18 18", width: 16, height: 16, "aria-hidden": "true" }, svg("path", { d: PLAYS[name] }));
+
+export function showSteps() {
+  at("slider").max = page.run.last;
+  showScore();
+}
+
+// Who did each event: a row for each process, above the slider.
+export function showScore() {
+  const { run } = page, canvas = at("score"), count = run.wiring.processes.length, width = canvas.clientWidth, ratio = devicePixelRatio || 1;
+  const height = Math.min(42, Math.max(10, count * (count > 12 ? 2 : 4))), each = height / count;
+  canvas.hidden = count === 1;
+  canvas.style.height = `${height}px`;
+  [canvas.width, canvas.height] = [width * ratio, height * ratio];
+  const context = canvas.getContext("2d"), style = getComputedStyle(document.body);
+  context.scale(ratio, ratio);
+  context.fillStyle = style.getPropertyValue("--line");
+  if (count <= 12) for (let i = 0; i < count; i++) context.fillRect(0, i * each + each / 2 - 0.5, width, 1);
+  context.fillStyle = style.getPropertyValue("--faint");
+  const { order = [] } = run.timeline, scale = width / Math.max(1, run.last);
+  for (let from = 0; from < order.length; ) {
+    let to = from;
+    while (to < order.length && order[to] === order[from]) to += 1;
+    context.fillRect(from * scale, order[from] * each, Math.max(0.7, (to - from) * scale), Math.max(1, each - 1));
+    from = to;
+  }
+}
+
+// What a run is asked for, or nothing where its worker was ended meanwhile.
+export async function asked(answer) {
+  try {
+    return await answer;
+  } catch (error) {
+    if (error.message !== STOPPED && error.message !== LET_GO) fail(error.message);
+    return undefined;
+  }
+}
+
+export async function go(k) {
+  const { run } = page;
+  if (!run) return;
+  const to = Math.max(0, Math.min(run.last, k));
+  page.k = to;
+  const moment = await asked(run.momentAt(to));
+  if (!moment || page.k !== to || page.run !== run) return;
+  page.moment = moment;
+  if (page.chosen.process !== undefined) page.chosen = chosenOf({ process: page.chosen.process });
+  update();
+}
+
+function showEvent() {
+  const { run, moment } = page, { event } = moment, isPast = page.k > run.steps;
+  const words = event ? `${event.who} ${event.words}` : moment.k === 0 ? "nothing has happened yet" : "the end of the run";
+  const all = run.isCut && !isPast ? ` of the first ${numbered(run.steps)} of ${numbered(run.events)}` : ` of ${numbered(run.events)}`;
+  const place = event?.place ? [" ", placeButton(event.place)] : [];
+  at("slider").value = page.k;
+  at("slider").setAttribute("aria-valuetext", `event ${numbered(moment.k)}: ${words}`);
+  const parts = [made("b", {}, `Event ${numbered(moment.k)}`), made("span", { className: "hint" }, all), " ", made("span", { className: "words" }, words)];
+  at("event").replaceChildren(...parts, ...place);
+  at("toStart").disabled = at("back").disabled = page.k === 0;
+  at("on").disabled = at("toEnd").disabled = page.k === run.last;
+}
+
+// Scrolls the program to where it happens.
+function revealPlace() {
+  if (document.activeElement === at("program")) return;
+  const place = isBad() ? verdictOf(page.run).places[0] : page.moment.event?.place;
+  if (place) program.reveal(place.from);
+}
+
+export function update() {
+  const { run, moment, chosen } = page;
+  drawPicture();
+  if (page.width) picture.update(moment, chosen, run.streams, isBad());
+  showEvent();
+  if (page.tab === "table") table.update(moment, chosen);
+  if (page.tab === "plots") plots.update(moment, chosen);
+  if (page.tab === "waits") showWaits();
+  showChain();
+  if (page.isOld) return;
+  remark();
+  revealPlace();
+}
+
+// Draws the network where the room has another width than before. Unless its height was chosen, the pane is as high as the picture.
+export function drawPicture() {
+  const width = at("picture").clientWidth, isChosen = store.state.panes?.["--network"] !== undefined, room = at("results").clientHeight;
+  if (page.width === width || !width) return;
+  page.width = width;
+  if (!isChosen) at("main").style.setProperty("--network", `${MOST_NETWORK}%`);
+  picture.draw(page.run.wiring);
+  const rest = at("network").clientHeight - at("picture").clientHeight, wanted = (100 * (picture.svg.clientHeight + rest + 36)) / room;
+  if (!isChosen) at("main").style.setProperty("--network", `${Math.max(LEAST_NETWORK, Math.min(MOST_NETWORK, wanted))}%`);
+}
+
+let playing;
+
+export function play() {
+  if (playing || !page.run) {
+    stopPlaying();
+    return;
+  }
+  const { last } = page.run, start = page.k === last ? 0 : page.k, total = 1000 * SECONDS_TO_PLAY, events = Math.max(1, last - start);
+  const every = Math.max(QUICKEST, Math.min(SLOWEST, total / events)), step = Math.max(1, Math.round((events * every) / total));
+  go(start);
+  playing = setInterval(() => {
+    if (page.k >= page.run.last) stopPlaying();
+    else if (page.moment.k === Math.min(page.k, page.run.events)) go(page.k + step);
+  }, every);
+  showPlay();
+}
+
+export function stopPlaying() {
+  clearInterval(playing);
+  playing = undefined;
+  showPlay();
+}
+
+export function showPlay() {
+  at("play").setAttribute("aria-label", playing ? "Pause" : "Play");
+  at("play").replaceChildren(playIcon(playing ? "pause" : "play"));
+}

@@ -1,0 +1,83 @@
+// Texts in and out: examples, what was replaced, links and files.
+
+import { at, made } from "./elements.js";
+import { groups, isExample } from "./examples.js";
+import { runTexts, save, showName } from "./running.js";
+import { BOUND, input, page, program, store, texts } from "./state.js";
+import { clearAddress, download, linkOf, textsOf } from "./store.js";
+
+// Milliseconds that a note stays, and one with a button.
+const NOTED = 4000, OFFERED = 12000;
+
+export function put({ program: text, input: given, bound }, name) {
+  const old = { program: program.text, input: input.text, bound: at("bound").value, name: page.name }, isOwn = old.program.trim() !== "" && !isExample(old);
+  if (isOwn && !store.isKept && !confirm("This browser keeps no texts. Replace yours?")) return;
+  if (isOwn) store.keep({ program: old.program, input: old.input, bound: old.bound });
+  const { activeElement } = document;
+  // (the program last: it is what the browser's Undo brings back first)
+  input.replace(given);
+  program.replace(text);
+  at("bound").value = bound ?? BOUND;
+  page.name = name;
+  showName();
+  clearAddress();
+  save();
+  at("programPane").scrollTop = 0;
+  (activeElement === document.body ? at("examples") : activeElement).focus({ preventScroll: true });
+  if (isOwn) toast(store.isKept ? "Your texts were replaced, and kept." : "Your texts were replaced.", "Undo", () => put(old, old.name));
+  runTexts();
+}
+
+let toasting;
+
+export function toast(words, action, act) {
+  clearTimeout(toasting);
+  const close = () => at("toast").replaceChildren();
+  const buttons = action ? [made("button", { onclick: () => { close(); act(); } }, action)] : [];
+  at("toast").replaceChildren(made("p", {}, words), ...buttons);
+  toasting = setTimeout(close, action ? OFFERED : NOTED);
+}
+
+// In three columns, and of those that are kept the newest first.
+export function gallery() {
+  const item = (title, words, isCurrent, act) => {
+    const press = () => { at("gallery").close(); act(); };
+    return made("button", { className: "item", "aria-current": isCurrent, onclick: press }, made("b", {}, title), made("span", {}, words));
+  };
+  const section = (title, items) => made("section", {}, made("h2", {}, title), ...items);
+  const itemOf = (it) => item(it.heading, it.words, page.name === it.name, () => put(it, it.name));
+  const sections = groups().map(({ title, list }) => section(title, list.map(itemOf)));
+  const when = (it) => new Date(it.when).toLocaleString("en", { dateStyle: "medium", timeStyle: "short" });
+  const yours = store.state.yours.map((it) => item(when(it), it.program.trim().replace(/\s+/g, " ").slice(0, 60), false, () => put(it, "")));
+  if (yours.length) sections.push(section("Yours, kept in this browser", yours));
+  const close = made("form", { method: "dialog" }, made("button", {}, "Close"));
+  at("gallery").replaceChildren(close, made("h1", {}, "Examples"), made("div", { className: "groups" }, ...sections));
+  at("gallery").showModal();
+}
+
+export async function copyLink() {
+  const { link, isPart, fault } = linkOf(texts());
+  if (fault) {
+    toast(fault);
+    return;
+  }
+  try {
+    await navigator.clipboard.writeText(link);
+    toast(isPart ? "Copied. This page is a file: whoever has it too puts this behind its folder." : "Link copied.");
+  } catch {
+    history.replaceState(null, "", `#${link.split("#")[1]}`);
+    toast("The link is in the address bar.");
+  }
+}
+
+export async function opened(files) {
+  const { program: text, input: given, fault } = await textsOf(files);
+  if (fault) toast(fault);
+  else put({ program: text ?? program.text, input: given ?? (text === undefined ? input.text : ""), bound: at("bound").value }, "");
+}
+
+export function downloadTexts() {
+  const name = page.name || "network";
+  download(`${name}.kahn`, program.text);
+  if (input.text.trim()) setTimeout(() => download(`${name}.input`, input.text), 300);
+}

@@ -1,0 +1,89 @@
+// How many events each process has done, and how many values each stream has, at each bound. The proved run at a bound says it. These
+// numbers only grow, and the events add up to the bound; so between two bounds of which only one process moved the events are known
+// without a run. Any other gap is halved until time is up.
+
+const total = (numbers) => numbers.reduce((sum, it) => sum + it, 0);
+const changed = (from, to) => from.flatMap((it, i) => (it === to[i] ? [] : [i]));
+
+// What the ends of a gap leave open: who moved, or by which events the streams grew.
+const isOrderOpen = (from, to) => changed(from.events, to.events).length > 1;
+
+function areTimesOpen(from, to) {
+  const grown = total(to.counts) - total(from.counts);
+  return grown > 0 && (grown < total(to.events) - total(from.events) || changed(from.counts, to.counts).length > 1);
+}
+
+export class Timeline {
+  // end: the numbers at the last step; ask: those at a bound, from the module.
+  constructor(end, ask) {
+    const start = { events: end.events.map(() => 0), counts: end.counts.map(() => 0) }, steps = total(end.events);
+    Object.assign(this, { steps, ask, bounds: [...new Set([0, steps])], known: new Map([[0, start], [steps, end]]), order: undefined, times: undefined });
+  }
+
+  async learn(k) {
+    if (!this.known.has(k)) {
+      const told = await this.ask(k);
+      if (!this.known.has(k)) this.bounds.push(k);
+      this.known.set(k, told);
+    }
+    return this.known.get(k);
+  }
+
+  // The gaps between the known bounds, with their numbers.
+  gaps() {
+    this.bounds.sort((a, b) => a - b);
+    return this.bounds.slice(1).map((high, i) => ({ low: this.bounds[i], high, from: this.known.get(this.bounds[i]), to: this.known.get(high) }));
+  }
+
+  // Halves the gaps that are open until none is, the time is up or nobody wants it any more; says whether none is.
+  async close(isOpen, end, isWanted) {
+    for (;;) {
+      const open = this.gaps().filter((it) => it.high - it.low > 1 && isOpen(it.from, it.to));
+      if (!open.length) return true;
+      for (const { low, high } of open) {
+        if (performance.now() > end) return false;
+        await this.learn((low + high) >> 1);
+        if (!isWanted()) return false;
+      }
+    }
+  }
+
+  // Learns who did each event.
+  async learnOrder(milliseconds, isWanted) {
+    if (await this.close(isOrderOpen, performance.now() + milliseconds, isWanted)) this.order = this.ordered();
+    return this.order !== undefined;
+  }
+
+  ordered() {
+    const order = new Uint8Array(this.steps);
+    for (const { low, high, from, to } of this.gaps()) order.fill(changed(from.events, to.events)[0], low, high);
+    return order;
+  }
+
+  // Learns by which event each value of each stream came.
+  async learnTimes(milliseconds, isWanted) {
+    if (!this.times && (await this.close(areTimesOpen, performance.now() + milliseconds, isWanted))) this.times = this.timed();
+    return this.times !== undefined;
+  }
+
+  timed() {
+    const times = this.known.get(0).counts.map(() => []);
+    for (const { low, high, from, to } of this.gaps()) {
+      const grown = changed(from.counts, to.counts)[0];
+      if (grown !== undefined) for (let k = low + 1; k <= high; k++) times[grown].push(k);
+    }
+    return times;
+  }
+
+  // The first event behind which a stream has so many values, or none.
+  async firstWith(stream, count) {
+    if (this.known.get(this.steps).counts[stream] < count) return undefined;
+    let low = 0, high = this.steps;
+    while (high - low > 1) {
+      const middle = (low + high) >> 1, { counts } = await this.learn(middle);
+      if (counts[stream] < count) low = middle;
+      else high = middle;
+    }
+    return high;
+  }
+}

@@ -1,0 +1,73 @@
+// Reads what the module tells of a text or a run: mistakes and warnings with their places, and why each process stopped.
+
+import { indexAt, lexemeAt, lexemeEnd } from "./places.js";
+
+const HEADING = /^(\w+):(\d+):(\d+): (error|warning|note): (.*)$/;
+const REASON = /^(\d+) (\w+) (waits on (\w+)|has a fault, (\w+)|wants more)(.*)$/;
+
+// The words of a command line, for whoever has a field or a table in place of an option.
+const OPTIONS = [
+  [/: --trace shows what came$/, ": the table of values shows what came"],
+  [/--bound N with a greater N/, "a greater bound"],
+  [/, and --watch shows it$/, ""],
+  [/; a name stands before the values alone, and with --plain nowhere$/, "; a name stands before the values alone"],
+];
+
+export const plain = (words) => OPTIONS.reduce((text, [form, it]) => text.replace(form, it), words);
+
+export const capital = (words) => words.charAt(0).toUpperCase() + words.slice(1);
+
+// The part of a text that the carets stand below: as many characters as there are carets, within the line.
+function spanOf(text, line, column, carets) {
+  const from = indexAt(text, line, column), end = text.indexOf("\n", from);
+  return { from, to: Math.min(Math.max(from + 1, end < 0 ? text.length : end), Math.max(lexemeEnd(text, from), from + carets)) };
+}
+
+function markOf(heading, carets, texts) {
+  const [, name, line, column, severity, words] = heading, where = name === "input" ? "input" : "program";
+  return { where, severity, words: plain(words), helps: [], notes: [], ...spanOf(texts[where], Number(line), Number(column), carets) };
+}
+
+// The places that a fault of arithmetic can have come from belong to the process before them, notes to the mistake or warning.
+function putMark(mark, { marks, reasons }) {
+  if (/ can have come from here$/.test(mark.words) && reasons.length) reasons.at(-1).places.push(mark);
+  else if (mark.severity !== "note") marks.push(mark);
+  else marks.at(-1)?.notes.push(mark);
+}
+
+export function readWhy(words, texts) {
+  const told = { marks: [], reasons: [], more: [] };
+  let last;
+  const lines = words.split("\n");
+  lines.forEach((line, i) => {
+    const heading = HEADING.exec(line), reason = REASON.exec(line), help = /^ +\d* *= (.*)$/.exec(line);
+    if (heading) {
+      last = markOf(heading, (/\^+/.exec(lines[i + 2] ?? "") ?? [""])[0].length, texts);
+      putMark(last, told);
+    } else if (reason) {
+      told.reasons.push((last = reasonOf(reason, texts.program)));
+    } else if (help) {
+      last?.helps.push(plain(help[1]));
+    } else if (/^and \d+ \w+ more$/.test(line)) {
+      told.more.push(line);
+    }
+  });
+  return told;
+}
+
+function reasonOf([, number, name, , on, fault, rest], program) {
+  const said = /^ at ((?:\d+:\d+)(?: or \d+:\d+)*)/.exec(rest);
+  const places = (said?.[1].split(" or ") ?? []).map((it) => lexemeAt(program, ...it.split(":").map(Number)));
+  const from = /from (\d+) \w+/.exec(rest), cause = /, as (\d+) \w+ /.exec(rest);
+  return {
+    number: Number(number), name, kind: on ? "waits" : fault ? "fault" : "ready", places, helps: [], from: from ? Number(from[1]) : undefined,
+    isRing: /, in a deadlock/.test(rest), isForEver: /: for ever$/.test(rest), cause: cause ? Number(cause[1]) : undefined, words: plain(rest),
+  };
+}
+
+// The mistake that the line of a fault tells, where no more is known of it.
+export function faultOf(line, texts) {
+  const found = /^kahn: (?:(\d+):(\d+): )?(.*)$/m.exec(line), words = found?.[3] ?? line.trim();
+  const where = /^input /.test(words) ? "input" : "program", place = found?.[1] ? lexemeAt(texts.program, Number(found[1]), Number(found[2])) : undefined;
+  return { where, severity: "error", words: plain(words), helps: [], notes: [], ...place };
+}
