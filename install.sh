@@ -5,14 +5,91 @@
 #   install.sh [--uninstall] [PREFIX]      into PREFIX/bin, or from there
 #
 # The prefix may be given by the variable PREFIX too; without one it is /usr/local. DESTDIR, where it is set, is a folder that
-# stands before the prefix, as a package is made in.
+# stands before the prefix, which then begins with /, as a package is made in. Without DESTDIR it writes down what it installs, in
+# PREFIX/share/kahn/installed.sha256. --uninstall removes what is still as it was installed; where anything else stands in the place
+# of a file, or one can't be removed, it says so and gives 1.
 set -eu
-top=$(cd "$(dirname "${BASH_SOURCE[0]}")" && pwd)
+umask 022
+top=$(CDPATH='' cd -- "$(dirname -- "${BASH_SOURCE[0]}")" && pwd)
 source "$top/release/program.sh"
+list=share/kahn/installed.sha256
 
 # usage: what stands above.
 usage() {
   sed -n '2,/^set/s/^# \{0,1\}//p' "${BASH_SOURCE[0]}"
+}
+
+# refuse STATUS WORD..: says why nothing is done.
+refuse() {
+  echo "install.sh: ${*:2}" >&2
+  exit "$1"
+}
+
+# files: all that is installed, below the prefix, one a line.
+files() {
+  printf 'bin/%s\n' "${programs[@]}"
+  pages | cut -d ' ' -f 2
+}
+
+# listed FILE..: the hash and the name of each of these files below the prefix.
+listed() {
+  local file
+  for file in "$@"; do
+    hash_of "$target/$file"
+    echo "$hash  $file"
+  done
+}
+
+# own: hash and name of what install.sh has put there: what it wrote down, and what this release installs.
+own() {
+  cat -- "$target/$list" 2> /dev/null || true
+  sed 's,  ,  bin/,' "$top/release/programs.sha256"
+  pages | while read -r page file; do
+    hash_of "$top/$page"
+    echo "$hash  $file"
+  done
+}
+
+# uninstall: removes each file that is its own, and the list of them once none is left.
+uninstall() {
+  local file own status=0
+  own=$(own)
+  for file in $(files); do
+    [ -e "$target/$file" ] || [ -L "$target/$file" ] || continue
+    if [ -f "$target/$file" ] && [ ! -L "$target/$file" ] && grep -qxF "$(listed "$file")" <<< "$own" && rm -f -- "$target/$file"; then
+      echo "$target/$file"
+    else
+      echo "install.sh: $target/$file isn't what was installed, or can't be removed: it stays" >&2
+      status=1
+    fi
+  done
+  [ $status != 0 ] || rm -f -- "$target/$list"
+  rmdir -- "$target/share/kahn" 2> /dev/null || true
+  return $status
+}
+
+# put MODE FROM FILE: installs one of the files, in no folder of its name and through no link.
+put() {
+  install -D -m "$1" -T -- "$2" "$target/$3" && echo "$target/$3"
+}
+
+# install_all: installs the files, and lists them, once it is known that all programs are there and no folder is in the way.
+install_all() {
+  local name page file paths=()
+  mkdir -p -- "$target/bin" 2> /dev/null && [ -w "$target/bin" ] || refuse 1 "$target can't be written; bash install.sh ~/.local wants no rights"
+  for file in $(files) "$list"; do
+    [ ! -d "$target/$file" ] || refuse 1 "$target/$file is a folder"
+  done
+  for name in "${programs[@]}"; do
+    find_built "$name" || exit $?
+    paths+=("$program")
+  done
+  for name in "${paths[@]}"; do put 755 "$name" "bin/${name##*/}"; done
+  pages | while read -r page file; do put 644 "$top/$page" "$file"; done
+  if [ -z "${DESTDIR:-}" ]; then
+    mapfile -t paths < <(files)
+    listed "${paths[@]}" | install -D -m 644 -T /dev/stdin "$target/$list"
+  fi
 }
 
 uninstall=false
@@ -21,32 +98,27 @@ for word in "$@"; do
   case $word in
     -h | --help) usage; exit ;;
     --uninstall) uninstall=true ;;
-    -*) echo "install.sh: $word is not known; --help tells what is" >&2; exit 2 ;;
+    -*) refuse 2 "$word is not known; --help tells what is" ;;
     *) given+=("$word") ;;
   esac
 done
-[ ${#given[@]} -le 1 ] || { echo "install.sh: one prefix is wanted" >&2; exit 2; }
-target="${DESTDIR:-}${given[0]:-${PREFIX:-/usr/local}}"
+[ ${#given[@]} -le 1 ] || refuse 2 "one prefix is wanted"
+prefix=${given[0]-${PREFIX-/usr/local}}
+case $prefix in
+  '') refuse 2 "the prefix is empty" ;;
+  /*) ;;
+  *)
+    [ -z "${DESTDIR:-}" ] || refuse 2 "with DESTDIR the prefix begins with /"
+    prefix=$PWD/$prefix
+    ;;
+esac
+target=${DESTDIR:-}${prefix%/}
 if $uninstall; then
-  for file in "${programs[@]/#/bin/}" $(pages | cut -d ' ' -f 2); do
-    [ ! -e "$target/$file" ] || { rm "$target/$file" && echo "$target/$file"; }
-  done
+  uninstall
   exit
 fi
-if ! { mkdir -p "$target/bin" && [ -w "$target/bin" ]; } 2> /dev/null; then
-  echo "install.sh: $target can't be written; bash install.sh ~/.local wants no rights" >&2
-  exit 1
-fi
-for name in "${programs[@]}"; do
-  find_built "$name" || exit $?
-  install -D -m 755 "$program" "$target/bin/$name"
-  echo "$target/bin/$name"
-done
-pages | while read -r page file; do
-  install -D -m 644 "$top/$page" "$target/$file"
-  echo "$target/$file"
-done
+install_all
 case :$PATH: in
   *":$target/bin:"*) ;;
-  *) [ -n "${DESTDIR:-}" ] || echo "$target/bin is not on the path: PATH=\$PATH:$target/bin" >&2 ;;
+  *) [ -n "${DESTDIR:-}" ] || echo "$target/bin is not on the path: PATH=\"\$PATH:$target/bin\"" >&2 ;;
 esac

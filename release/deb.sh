@@ -5,12 +5,13 @@
 #   deb.sh [FOLDER]      into FOLDER, or release/out: kahn_VERSION_amd64.deb
 set -eu
 umask 022
-top=$(cd "$(dirname "${BASH_SOURCE[0]}")/.." && pwd)
+top=$(CDPATH='' cd -- "$(dirname -- "${BASH_SOURCE[0]}")/.." && pwd)
 case ${1:-} in -*) sed -n '2,/^set/s/^# \{0,1\}//p' "${BASH_SOURCE[0]}" >&2; exit 2 ;; esac
 source "$top/release/program.sh"
 source "$top/web/page.sh"
 is_page_released || { echo "release/kahn.html isn't of these sources: \`bash web/build.sh\` makes it" >&2; exit 1; }
-to=${1:-$top/release/out}
+to=${1-$top/release/out}
+[ -n "$to" ] || { echo "deb.sh: the folder's name is empty" >&2; exit 2; }
 version=$(sed -nE 's/^## ([0-9]+\.[0-9]+\.[0-9]+)( .*)?$/\1/p' "$top/CHANGELOG.md" | head -n 1)
 root=$(mktemp -d)
 trap 'rm -rf "$root"' EXIT
@@ -27,14 +28,21 @@ put() {
 }
 
 DESTDIR="$root" bash "$top/install.sh" /usr > /dev/null || exit $?
-gzip -9n "$root"/usr/share/man/man1/*
+gzip -9n "$root"/usr/share/man/man*/*
 mv "$root/usr/share/zsh/site-functions" "$root/usr/share/zsh/vendor-completions"
 for name in vim vscode; do
   (cd "$top/editors" && find "$name" -type f) | while read -r file; do put "share/kahn/editors/$(dirname "$file")" "$top/editors/$file"; done
 done
 doc="share/doc/kahn"
 put "$doc" "$top/README.md" "$top/release/kahn.html"
-put "$doc/docs" "$top"/docs/*.md
+# (pages for whoever changes the code stay in the repository)
+for page in "$top"/docs/*.md; do
+  case ${page##*/} in
+    DECISIONS.md | architecture.md | board.md | gate.md | plants.md | toolchain-notes.md) ;;
+    *) put "$doc/docs" "$page" ;;
+  esac
+done
+for kind in compiler ftdetect ftplugin syntax; do put "share/vim/vimfiles/$kind" "$top/editors/vim/$kind/kahn.vim"; done
 put "$doc/docs/pictures" "$top"/docs/pictures/*.{svg,png}
 put "$doc/examples" "$top"/examples/*
 gzip -9n < "$top/CHANGELOG.md" > "$root/usr/$doc/changelog.gz"
@@ -58,6 +66,6 @@ Description: proved parallel interpreter of Kahn's process networks
  depend on the speeds of the processes; that is proved of the program itself.
 END
 find "$root" -exec touch -h -d "@$SOURCE_DATE_EPOCH" {} +
-mkdir -p "$to"
+mkdir -p -- "$to"
 DPKG_DEB_THREADS_MAX=1 dpkg-deb --root-owner-group -Zxz -z9 --build "$root" "$to/kahn_${version}_amd64.deb" > /dev/null
 echo "$to/kahn_${version}_amd64.deb"

@@ -4,10 +4,11 @@
 #
 #   make.sh
 set -eu
-top=$(cd "$(dirname "${BASH_SOURCE[0]}")/.." && pwd)
+top=$(CDPATH='' cd -- "$(dirname -- "${BASH_SOURCE[0]}")/.." && pwd)
 source "$top/release/program.sh"
+read_sources
 for name in "${programs[@]}"; do
-  is_newer "$top/crates/$name/out/$name" || { echo "crates/$name/out/$name isn't there, or is older than a source: build it first" >&2; exit 1; }
+  is_stamped "$name" || { echo "crates/$name/out/$name isn't there, or isn't known to be of these sources: bash release/build.sh $name" >&2; exit 1; }
 done
 for name in "${programs[@]}"; do
   xz -9e -T1 -c "$top/crates/$name/out/$name" > "$top/release/$name.xz"
