@@ -1,6 +1,6 @@
 // The workloads of bench/ in Go, a goroutine for each process and a channel for each channel, for comparison:
 //
-//	beside WORKLOAD SIZE ROOM      pipeline, sample or arithmetic; ROOM is how many values a channel holds (0: a send waits)
+//	beside WORKLOAD SIZE ROOM      pipeline, sample, pipelines or arithmetic; ROOM is how many values a channel holds (0: a send waits)
 package main
 
 import (
@@ -70,9 +70,9 @@ func sum(w chan<- int64, n int64) {
 }
 
 // report writes what comes on a channel, as a report does.
-func report(w <-chan int64) {
+func report(name string, w <-chan int64) {
 	out := bufio.NewWriterSize(os.Stdout, 1<<16)
-	out.WriteString("W:")
+	out.WriteString(name + ":")
 	var text []byte
 	for v := range w {
 		text = strconv.AppendInt(append(text[:0], ' '), v, 10)
@@ -93,7 +93,7 @@ func main() {
 		go copyAll(x0, x1)
 		go copyAll(x1, x2)
 		go copyAll(x2, w)
-		report(w)
+		report("W", w)
 	case "sample":
 		x, y, z, t1, t2, over := channel(), channel(), channel(), channel(), channel(), channel()
 		go f(y, z, x, n, over)
@@ -101,8 +101,19 @@ func main() {
 		go h(t1, y, 0)
 		go h(t2, z, 1)
 		<-over
+	case "pipelines":
+		var outputs [64]chan int64
+		for k := range outputs {
+			x := channel()
+			outputs[k] = make(chan int64, n)
+			go count(x, n)
+			go copyAll(x, outputs[k])
+		}
+		for k := range outputs {
+			report("W"+strconv.Itoa(k), outputs[k])
+		}
 	case "arithmetic":
 		go sum(w, n)
-		report(w)
+		report("W", w)
 	}
 }

@@ -1,6 +1,6 @@
 -- The workloads of bench/ in Lua, a coroutine for each process and a queue without a limit for each channel, for comparison:
 --
---   lua beside.lua WORKLOAD SIZE      pipeline, sample or arithmetic
+--   lua beside.lua WORKLOAD SIZE      pipeline, sample, pipelines or arithmetic
 local function channel() return { first = 1, last = 0 } end
 
 local function send(c, value)
@@ -65,8 +65,8 @@ local function run(processes)
   end
 end
 
-local function report(w)
-  io.write("W:")
+local function report(w, name)
+  io.write(name or "W", ":")
   for at = w.first, w.last do io.write(" ", w[at]) end
   io.write("\n")
 end
@@ -81,6 +81,16 @@ if arg[1] == "pipeline" then
 elseif arg[1] == "sample" then
   local x, y, z, t1, t2 = channel(), channel(), channel(), channel(), channel()
   run { function() f(y, z, x, n) end, function() g(x, t1, t2) end, function() h(t1, y, 0) end, function() h(t2, z, 1) end }
+elseif arg[1] == "pipelines" then
+  local processes, outputs = {}, {}
+  for k = 0, 63 do
+    local x, to = channel(), channel()
+    outputs[k] = to
+    table.insert(processes, function() count(x, n) end)
+    table.insert(processes, function() copy(x, to) end)
+  end
+  run(processes)
+  for k = 0, 63 do report(outputs[k], "W" .. k) end
 elseif arg[1] == "arithmetic" then
   run { function() sum(w, n) end }
   report(w)

@@ -40,6 +40,17 @@ WORKLOADS = {
     "ring": workloads.ring(4_000),
     "ring-against": workloads.ring(4_000, against=True),
     "chain": workloads.chain(4_000),
+    "farm": workloads.farm(4_000_000),
+    "farm-7": (workloads.farm(4_000_000), "--quantum", "7"),
+    "farm-63": (workloads.farm(4_000_000), "--quantum", "63"),
+    "two": workloads.farm(8_000_000, 2),
+    "late": workloads.serial(120_000, 8_000_000),
+    "later": workloads.serial(2_000_000, 8_000_000),
+    "stages": workloads.stages(60_000),
+    "operators": workloads.operators(400_000),
+    "dealt": workloads.dealt(30_000),
+    "star-40": workloads.star(50_000, 40),
+    "star-200": workloads.star(10_000, 200),
 }
 
 
@@ -66,9 +77,9 @@ def instructions(words, room):
     return None
 
 
-def measure(name, program, kahn, by_hand, runs, room):
-    """Prints the line of a workload."""
-    ways = {workers: [kahn, program, "--workers", str(workers), "--bound", BOUND] for workers in WORKERS}
+def measure(name, program, options, kahn, by_hand, runs, room):
+    """Prints the line of a workload, which is run with these options."""
+    ways = {workers: [kahn, program, *options, "--workers", str(workers), "--bound", BOUND] for workers in WORKERS}
     report = subprocess.run(ways[1], capture_output=True, text=True, check=True).stdout
     events = int(report.split()[-1])
     if by_hand and name in BY_HAND:
@@ -98,12 +109,13 @@ def main(kahn, *words):
         if by_hand:
             subprocess.run(["rustc", "-C", "opt-level=3", "-o", by_hand, f"{HERE}/by_hand.rs"], check=True, stderr=subprocess.DEVNULL)
         print(f"{'':13} {'events':>10} {'1 worker':>8} {'2':>8} {'4':>8} {'16':>8} | clock: 2, 4, 16 | processors | by hand, speeds of 1, 2, 4, 16 | instructions")
-        for name, text in WORKLOADS.items():
+        for name, workload in WORKLOADS.items():
             if not wanted or name in wanted:
+                text, *options = (workload,) if isinstance(workload, str) else workload
                 program = f"{room}/{name}.kahn"
                 with open(program, "w", encoding="utf-8") as it:
                     it.write(text)
-                measure(name, program, kahn, by_hand, runs, room)
+                measure(name, program, options, kahn, by_hand, runs, room)
 
 
 if __name__ == "__main__":

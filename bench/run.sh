@@ -3,7 +3,7 @@
 #
 #   run.sh [--runs N] [WORKLOAD ..]      medians of nine runs, or of N; all workloads, or those named
 set -eu
-top=$(cd "$(dirname "${BASH_SOURCE[0]}")/.." && pwd)
+top=$(CDPATH='' cd -- "$(dirname -- "${BASH_SOURCE[0]}")/.." && pwd)
 source "$top/release/program.sh"
-find_built kahn
+find_built kahn || exit $?
 exec python3 "$top/bench/measure.py" "$program" "$@"

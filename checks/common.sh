@@ -1,6 +1,6 @@
 # Sourced by the checks. Sets top (this repository) and work (a folder that goes at the end), and counts what passes and fails.
 set -u
-top=$(cd "$(dirname "${BASH_SOURCE[0]}")/.." && pwd)
+top=$(CDPATH='' cd -- "$(dirname -- "${BASH_SOURCE[0]}")/.." && pwd)
 source "$top/release/program.sh"
 work=$(mktemp -d)
 trap 'rm -rf "$work"' EXIT

@@ -115,6 +115,13 @@ fault:4:72: error: division can have come from here
  4 |   process divide(integer in U; integer out W); begin repeat send 1 div wait(U) on W end;
    |                                                                        ^^^^^^^
 finished 10" '' fault
+network twice 'integer channel A, B; integer output channel V, W;' 'divide(A, V) par count(A, 3) par divide(B, W) par count(B, 3)'
+gives "a fault of two instances of a process" 8 "1 divide has a fault, division
+twice:3:72: error: division can have come from here
+ 3 |   process divide(integer in U; integer out W); begin repeat send 1 div wait(U) on W end;
+   |                                                                        ^^^^^^^
+3 divide has a fault, division: see 1 divide
+finished 18" '' twice
 network both 'integer channel A, B, C; integer output channel W;' 'copy(C, C) par divide(A, B) par count(A, 3) par copy(B, W)'
 "$explain" both > output 2> error
 if [ $? = 8 ] && grep -q "1 copy waits on C at 2:64 from 1 copy, in a deadlock: for ever" output; then pass; else fail "a fault beside a ring"; fi

@@ -159,16 +159,16 @@ gives "a refused line, and a step used up" 3 'W: 0\nend 1 count: wants more afte
 
 # a byte order mark before the first line alone
 printf '\357\273\277A: 1\r\n\357\273\277A: 2\r\n' > lines
-gives "a byte order mark" 1 'B: 2\nend 1 double: waits on A after 4\nfinished 4\n' "$double"': input line 2: not a name and a colon: `\xef\xbb\xbfA:`; a line begins with the name of a channel\n' "$double" < lines
+gives "a byte order mark" 1 'B: 2\nend 1 double: waits on A after 4\nfinished 4\n' "$double"': input line 2: not a name and a colon: `..`; a line begins with the name of a channel\n' "$double" < lines
 
-# what is shown of a line: no control character, 40 bytes and the rest of a character, and what is wanted in each case
+# what is shown of a line: no control or format character, 40 bytes and the rest of a character, and what is wanted in each case
 printf 'A: 21.5\nA: \033[31m\nA: 1\177\nA: \302\2331\nA: 1234567890123456789012345678901234567890\nA: 12345678901234567890123456789012345678901\n' > lines
-printf 'A: 123456789012345678901234567890123456789\303\251x\n' >> lines
+printf 'A: 123456789012345678901234567890123456789\303\251x\nA: 1\342\200\2562\nA: \342\200\2131\nA: 1\302\260\n' >> lines
 while IFS= read -r line; do
   timeout 60 "$live" "$double" <<< "$line" 2>&1 > output.all | sed -n "s/^.*not a value: //p"
 done < lines > parts
 same "parts of lines" "$(cat parts)" "$(printf '%s\n' '`21.5`; numbers are whole' "\`..\`$values" "\`1..\`$values" "\`..\`$values" \
-  '`1234567890123456789012345678901234567890`; it is past 64 bits' '`1234567890123456789012345678901234567890..`; it is past 64 bits' "\`123456789012345678901234567890123456789"$'\303\251'"..\`$values")"
+  '`1234567890123456789012345678901234567890`; it is past 64 bits' '`1234567890123456789012345678901234567890..`; it is past 64 bits' "\`123456789012345678901234567890123456789"$'\303\251'"..\`$values" "\`1..\`$values" "\`..\`$values" '`1'$'\302\260'"\`$values")"
 
 # lines that are fed at the end: in order, and refused as others are
 cat > runs.kahn <<'P'

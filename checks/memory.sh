@@ -6,7 +6,8 @@
 #
 # Several workers begin at once in the program of checks (`kahn_crowd`) where it was built; `kahn` itself goes over to them where three
 # counts are long enough. There 120 runs in a row have to be alike: where memory is refused for the workers, the run goes on without
-# them. The report is so long that several threads put it into text, and memory that is refused for that isn't told.
+# them, from where it stood, and it never lacks a thread. The report is so long that several threads put it into text, and memory that is
+# refused for that isn't told. And where the whole program has little memory, four workers give a report wherever one does.
 #
 # Then the same with a run that is held between its parts (a word of the program of checks): whatever is refused in a part, the next
 # one goes on to the whole answer, and takes no more events for it. And with the program that is fed line by line: whatever is refused
@@ -84,7 +85,7 @@ refuse_run() {
     elif [ -n "$held" ] && [ "$status $said" = "0 again" ] && cmp -s whole part; then
       stopped=$((stopped + 1))
       pass
-    elif [ -z "$held" ] && [ "$status $said" = "6 kahn: no thread" ] && [ ! -s part ]; then
+    elif [ -z "$held" ] && [ "$1" != "$kahn" ] && [ "$status $said" = "6 kahn: no thread" ] && [ ! -s part ]; then
       threads=$((threads + 1))
       pass
     elif [ -z "$held" ] && [ "$status$said" = 4 ] && python3 compare.py whole part 2> why; then
@@ -159,4 +160,20 @@ done
 refuse_parts 1
 enough=120
 refuse_run "$kahn" long.kahn 4 1000
+"$kahn" --workers 1 long.kahn > whole
+reports=0
+for limit in $(seq 3500 500 12000) 15000 20000 30000 40000 80000; do
+  (ulimit -v "$limit"; timeout 60 "$kahn" --workers 1 long.kahn > part 2> error) || continue
+  reports=$((reports + 1))
+  (ulimit -v "$limit"; timeout 60 "$kahn" --workers 4 long.kahn > part 2> error)
+  status=$?
+  if [ "$status" = 0 ] && cmp -s whole part; then
+    pass
+  elif [ "$status" = 4 ] && [ ! -s error ] && python3 compare.py whole part 2> why; then
+    pass
+  else
+    fail "long.kahn by four workers in $limit kB: status $status, $(head -c 300 error)"
+  fi
+done
+[ $reports -gt 0 ] || fail "no report in little memory"
 finish

@@ -9,6 +9,7 @@ for one another; what it keeps comes back here. The programs are tried (try prog
 much passed and failed.
 """
 import concurrent.futures
+import hashlib
 import os
 import re
 import shutil
@@ -52,6 +53,13 @@ def is_program(crate):
     return os.path.exists(f"{TOP}/crates/{crate}/src/main.rt")
 
 
+def launcher(*words):
+    """The status of a function of release/program.sh, and what it prints."""
+    done = subprocess.run(["bash", "-c", 'top=$1; source "$top/release/program.sh"; "${@:2}"', "bash", TOP, *words], stdout=subprocess.PIPE,
+                          stderr=subprocess.STDOUT, check=False)
+    return done.returncode, done.stdout
+
+
 class Task:
     """A command, which waits for other tasks. About a crate it runs in a copy of that and of those below."""
 
@@ -61,6 +69,8 @@ class Task:
     def run(self, room, jobs):
         """The status and what was printed."""
         folder, words, here = TOP, self.words, f"{TOP}/crates/{self.crate}/out"
+        builds = words[:2] == ["rt", "run"]
+        standing = hashlib.sha256(launcher("sources")[1]).hexdigest() if builds else ""
         if self.crate:
             folder = copied(room, self.crate, self.below)
             words = [*words[:2], "--jobs", str(jobs), *words[2:]]
@@ -70,6 +80,9 @@ class Task:
             shutil.rmtree(here, ignore_errors=True)
             shutil.move(f"{folder}/out", here)
         shutil.rmtree(room, ignore_errors=True)
+        if builds and not done.returncode:
+            status, said = launcher("stamp", self.crate, standing)
+            return status, done.stdout + said.decode()
         return done.returncode, done.stdout
 
 

@@ -20,13 +20,13 @@ in_root() {
   dpkg --root="$work/root" --force-not-root --force-depends --log="$work/log" "$@" > "$work/said" 2>&1 || { fail "dpkg $*: $(tail -n 3 "$work/said")"; return 1; }
 }
 
-# try_manual NAME: a manual page, as `man NAME` shows it.
+# try_manual NAME SECTION PART: a manual page with this part, as `man SECTION NAME` shows it.
 try_manual() {
-  local folder="$work/root/usr/share/man"
+  local folder="$work/root/usr/share/man" marks="^NAME\|^ *$1 - \|^$3\|: warning:"
   if command -v man > /dev/null; then
-    same "the manual page of $1" "$(LC_ALL=C MANPATH="$folder" MANWIDTH=80 man --warnings "$1" 2>&1 | grep -c "^NAME\|^ *$1 - \|^OPTIONS\|: warning:")" 3
+    same "$1($2)" "$(LC_ALL=C MANPATH="$folder" MANWIDTH=80 man --warnings "$2" "$1" 2>&1 | grep -c "$marks")" 3
   else
-    same "the manual page of $1" "$(zcat "$folder/man1/$1.1.gz" | head -c 4)" '.\" '
+    same "$1($2)" "$(zcat "$folder/man$2/$1.$2.gz" | head -c 4)" '.\" '
   fi
 }
 
@@ -44,8 +44,9 @@ try_package() {
   in_root --install "$1" || return
   for name in "${programs[@]}"; do
     same "the version of $name" "$("$root/usr/bin/$name" --version)" "$name $(dpkg-deb -f "$1" Version)"
-    try_manual "$name"
+    try_manual "$name" 1 OPTIONS
   done
+  try_manual kahn 7 STATEMENTS
   same "an example" "$(PATH="$root/usr/bin" kahn "$root/usr/share/doc/kahn/examples/count.kahn")" "$(cat "$top/examples/count.report")"
   same "the page" "$(sha256sum < "$root/usr/share/doc/kahn/kahn.html")" "$(sha256sum < "$top/release/kahn.html")"
   same "completions" "$(completed kahn --wor) $(completed kahn_live --plai) $(completed kahn_draw --rep)" "--workers --plain --report"

@@ -72,32 +72,40 @@ need_tools() {
 try_texts() {
   part "limits of the house" python3 checks/lint.py
   part "what must be believed" python3 checks/believed.py
+  part "the list of crates" python3 checks/crates.py
   part "grammars for editors" timeout 600 python3 checks/grammars.py
 }
 
-# The parts that try the programs which KAHN, KAHN_LIVE, KAHN_DRAW and KAHN_EXPLAIN name, and KAHN_CROWD, which isn't released.
+# The parts that try the programs which KAHN, KAHN_LIVE, KAHN_DRAW and KAHN_EXPLAIN name, and KAHN_CROWD, which isn't released. The same
+# texts give the same verdict: random ones are those of SEED, of 1 where it isn't set.
 try_programs() {
+  local seed=${SEED:-1}
   beside "files, streams and words that go wrong" timeout 600 bash checks/program.sh
   beside "lines that come through pipes" timeout 600 bash checks/live.sh
+  beside "lines of standard error" timeout 300 bash checks/lines.sh
   beside "rows" bash checks/rows.sh
   beside "pictures" bash checks/draw.sh
   beside "why runs stopped" timeout 600 bash checks/explain.sh
   beside "commands of the pages" timeout 600 bash checks/transcripts.sh
   beside "the release" timeout 600 bash checks/release.sh
   beside "the first ten minutes" timeout 300 bash checks/newcomer.sh
+  beside "attacks on the launcher" timeout 600 bash checks/launcher.sh
   beside "the page in a browser" timeout 700 bash checks/web.sh
+  beside "places and changes in editors" timeout 300 python3 checks/editors.py "$KAHN_EXPLAIN"
   beside "the Debian package" timeout 300 bash checks/package.sh
   beside "threads that are refused" bash checks/threads.sh
   beside "growths of memory that are refused" bash checks/memory.sh
+  beside "worst texts" timeout 600 python3 checks/worst.py "$KAHN" "$KAHN_LIVE" "$KAHN_DRAW" "$KAHN_EXPLAIN"
   beside "machine instructions of the workloads" timeout 300 python3 bench/counts.py "$KAHN"
-  beside "random programs" python3 fuzz/fuzz.py "$KAHN" 300
-  beside "changes that mend random texts" timeout 300 python3 fuzz/mends.py "$KAHN_EXPLAIN" 200
-  beside "what may stand in random texts" timeout 300 python3 fuzz/sets.py "$KAHN_EXPLAIN" 150
-  beside "why random networks stop" timeout 300 python3 fuzz/causes.py "$KAHN_EXPLAIN" "$KAHN" 150
-  beside "random programs, line by line" timeout 300 python3 fuzz/live.py "$KAHN_LIVE" "$KAHN" 200
+  beside "random programs" python3 fuzz/fuzz.py "$KAHN" 300 "$seed"
+  beside "changes that mend random texts" timeout 300 python3 fuzz/mends.py "$KAHN_EXPLAIN" 200 "$seed"
+  beside "mistakes with known repairs" timeout 300 python3 fuzz/mistakes.py "$KAHN_EXPLAIN" 600 "$seed"
+  beside "what may stand in random texts" timeout 300 python3 fuzz/sets.py "$KAHN_EXPLAIN" 150 "$seed"
+  beside "why random networks stop" timeout 300 python3 fuzz/causes.py "$KAHN_EXPLAIN" "$KAHN" 150 "$seed"
+  beside "random programs, line by line" timeout 300 python3 fuzz/live.py "$KAHN_LIVE" "$KAHN" 200 "$seed"
   if [ -x "${KAHN_CROWD:-}" ]; then
     beside "rows, by workers that begin at once" bash checks/rows.sh "$KAHN_CROWD"
-    beside "random programs, by workers that begin at once" python3 fuzz/fuzz.py "$KAHN_CROWD" 300
+    beside "random programs, by workers that begin at once" python3 fuzz/fuzz.py "$KAHN_CROWD" 300 "$seed"
   fi
   tell_beside
 }

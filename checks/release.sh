@@ -47,7 +47,7 @@ same "another program through a link of another name" "$(given "$work/home/draw"
 
 same "an installation" "$(given bash install.sh "$work/prefix" > /dev/null && "$work/prefix/bin/kahn" examples/count.kahn)" "$report"
 same "what is installed" "$(cd "$work/prefix" && find . -type f | sort)" \
-  "$({ printf './bin/%s\n' "${programs[@]}"; pages | sed 's/.* /.\//'; } | sort)"
+  "$({ printf './bin/%s\n' "${programs[@]}"; pages | sed 's/.* /.\//'; echo ./share/kahn/installed.sha256; } | sort)"
 given bash install.sh --uninstall "$work/prefix" > /dev/null
 same "what is left" "$(find "$work/prefix" -type f)" ""
 given DESTDIR="$work/root" PREFIX=/opt/kahn bash install.sh > /dev/null

@@ -1,0 +1,353 @@
+#!/usr/bin/env python3
+"""The worst texts that are known, each of about the most bytes that there may be, against limits on processor time and memory; and what the
+programs do where the system refuses them something, or they share a stream.
+
+    worst.py KAHN KAHN_LIVE KAHN_DRAW KAHN_EXPLAIN [CASE ..]      all cases, or these
+
+Each text is read by all four programs, and none may take more than a second (user and system) or 300 MB. LIMITS has the cases that may take
+more, since docs/formats.md names them as limits, with the reason. SINCE has those that version 0.9.0 didn't meet, with what it took.
+"""
+import concurrent.futures
+import itertools
+import os
+import re
+import resource
+import shutil
+import subprocess
+import sys
+import tempfile
+
+TOP = os.path.dirname(os.path.dirname(os.path.abspath(__file__)))
+MOST, MOST_INPUT = 1048576, 16777216
+SECONDS, MEGABYTES, KILLED = 1.0, 300, 20
+PROGRAMS = ("kahn", "kahn_live", "kahn_draw", "kahn_explain")
+
+# What may take more than the limits: seconds, megabytes, and why.
+LIMITS = {
+    "variables": (2, 1000, "each of 256 instances has 16 bytes for each of its 209,000 variables"),
+    "straight_line": (2, 300, "a sum of half a million operators is one turn of a loop, and a bound counts turns"),
+    "seven_inputs": (2, 450, "seven million values of inputs and as many of outputs have 16 bytes each"),
+    "trace": (6, 300, "--trace runs the network once for each channel that isn't an output"),
+    "faulty_bodies": (4, 300, "each of the first twenty notes looks for its place in all bodies"),
+}
+
+# What version 0.9.0 took, by the program that took the most.
+SINCE = {
+    "hash": "2.3 s", "blanks": "600 s", "while_names": "200 s", "unknown_name": "40 s", "unknown_processes": "75 s", "two_writers": "43 s",
+    "faults_256": "160 s", "faults_lines": "41 s", "faulty_bodies": "1.8 s", "late": "10 s", "late_lines": "10 s", "waits_256": "5.5 s",
+    "body_256": "4.4 s", "comments": "2.9 s", "nested_blocks": "1.6 s", "report": "120 s", "sleeping_readers": "2.9 s",
+    "refused lines": "6.8 s", "standard error": "12,402 of 20,001 lines mixed", "memory for workers": "no report", "no thread": "no report",
+    "a path that drives a terminal": "printed as it is",
+}
+
+
+def par(instance, count=256):
+    return " par ".join([instance] * count)
+
+
+def filled(before, unit, behind, most=MOST):
+    """A text with as many of the units in its middle as so many bytes hold."""
+    return before + unit * ((most - len(before.encode()) - len(behind.encode())) // len(unit.encode())) + behind
+
+
+def body(statements, declarations=""):
+    return f"begin process f(); begin {declarations}{statements} end; f() end"
+
+
+def names(letter, count, digits=6):
+    return [f"{letter}{number:0{digits}d}" for number in range(count)]
+
+
+def hash_names():
+    """Names that a table with a known hash puts into one place."""
+    with tempfile.TemporaryDirectory() as folder:
+        compiled = f"{folder}/search"
+        subprocess.run([os.environ.get("CC", "cc"), "-O3", "-march=native", "-o", compiled, f"{TOP}/checks/hash_search.c"], check=True)
+        found = subprocess.run([compiled, "16000", "2047", "4"], capture_output=True, check=True, text=True).stdout.split()
+    last = found[-200:]
+    return body(f"{found[0]} := {'+'.join(last[number % 200] for number in range(16000))}", f"integer {','.join(found)}; ")
+
+
+def variables():
+    """As many variables of four letters as there is room for, of 256 instances."""
+    start, end = "begin process f(); begin integer ", f"; print 1 end; {par('f()')} end"
+    every = itertools.product("xyzqvujkhgbcd", *["abcdefghijklmnopqrstuvwxyz"] * 3)
+    return start + ",".join("".join(it) for it in itertools.islice(every, (MOST - len(start) - len(end)) // 5)) + end
+
+
+def seven_inputs():
+    """Seven inputs of a million values, each copied to an output."""
+    ins, outs = [f"A{k}" for k in range(7)], [f"B{k}" for k in range(7)]
+    process = "process f(integer in U; integer out W); begin repeat send wait(U) on W end;"
+    copies = " par ".join(f"f({a},{b})" for a, b in zip(ins, outs))
+    text = f"begin integer input channel {','.join(ins)}; integer output channel {','.join(outs)}; {process} {copies} end"
+    return text, "".join(f"{name}:" + " 1" * (MOST - 1) + "\n" for name in ins)
+
+
+def last_value():
+    """An input of the most bytes, whose last word is no value."""
+    return "begin integer input channel A; process f(integer in U); begin end; f(A) end", "A:" + " 1" * (MOST_INPUT // 2 - 2) + " x"
+
+
+def unknown_processes():
+    """Twenty instances of processes that aren't declared, beside as many that are."""
+    calls = par("{}", 20).format(*(f"zzzzzzzzzzzzzz{chr(97 + number)}()" for number in range(20)))
+    return "begin " + "".join(f"process {name}();begin end;" for name in names("p", (MOST - 1000) // 28)) + calls + " end"
+
+
+def two_writers():
+    """Twenty channels with two writers, many processes, and many more instances than there may be."""
+    channels = [f"c{number}" for number in range(20)]
+    text = f"begin integer channel {','.join(channels)}; " + "".join(f"process {name}();begin end;" for name in names("p", 17000))
+    text += "process w(integer out a);begin send 1 on a end; process q();begin end; "
+    return filled(text + par("{}", 40).format(*(f"w({it})" for it in channels * 2)), " par q()", " end")
+
+
+def waits_256():
+    """A ring of 256 instances, whose body is as long as a text."""
+    channels = [f"c{number}" for number in range(256)]
+    ring = " par ".join(f"f({it},{channels[(number + 1) % 256]})" for number, it in enumerate(channels))
+    return filled(f"begin integer channel {','.join(channels)}; process f(integer in a;integer out b);begin integer x;x:=wait(a);send x on b;", ";", f" end; {ring} end")
+
+
+def faulty_bodies():
+    """Twenty long bodies, each with a fault."""
+    bodies = "".join(filled(f"process p{number}();begin ", ";", f"print z{number} end;", 52000) for number in range(20))
+    return f"begin {bodies}{' par '.join(f'p{number}()' for number in range(20))} end"
+
+
+def dense():
+    """256 instances that write and read all 1,024 channels, for a picture with a report."""
+    channels = names("c", 1024, 4)
+    process = "process f(integer in a,b,c,d;integer out e,g,h,i);begin repeat begin send wait(a) on e;send wait(b) on g;send wait(c) on h;send wait(d) on i end end;"
+    return f"begin integer channel {','.join(channels)};{process}" + " par ".join(f"f({','.join(channels[4 * k : 4 * k + 4] * 2)})" for k in range(256)) + " end"
+
+
+def trace():
+    """A process with all channels but one and no event."""
+    inner = [f"c{number}" for number in range(1022)]
+    ports = ";".join(f"integer in r{number}" for number in range(1022)) + ";" + ";".join(f"integer out w{number}" for number in range(1022))
+    return (f"begin integer input channel I;integer channel {','.join(inner)};integer output channel O;process g(integer in a;integer out o);begin end;"
+            f"process f({ports});begin end;g(I,O) par f({','.join(inner * 2)}) end")
+
+
+def sleeping_readers():
+    """Two processes that send one another a value, of which one has a thousand channels to others, on which nothing is ever sent."""
+    channels = [f"i{number}" for number in range(1016)]
+    start = "begin integer channel " + ",".join(channels) + ",x,y;process s(" + ";".join(f"integer in a{number}" for number in range(4)) + ");begin repeat print wait(a0) end;"
+    start += "process f(integer in a;integer out b;" + ";".join(f"integer out o{number}" for number in range(1016)) + ");begin repeat send wait(a) on b end;"
+    start += "process g(integer in a;integer out b);begin send 1 on b; repeat send wait(a) on b end;"
+    rows = [f"s({','.join(channels[4 * number : 4 * number + 4])})" for number in range(254)]
+    return start + " par ".join([*rows[:127], f"f(x,y,{','.join(channels)})", *rows[127:], "g(y,x)"]) + " end"
+
+
+def star():
+    """A source that sends to 200 readers in turn."""
+    channels = [f"c{number}" for number in range(200)]
+    ports = ";".join(f"integer out o{number}" for number in range(200))
+    source = f"process s({ports});begin repeat begin {';'.join(f'send 1 on o{number}' for number in range(200))} end end;"
+    reader = "process r(integer in a);begin integer x;repeat x:=x+wait(a) end;"
+    return f"begin integer channel {','.join(channels)};{source}{reader}s({','.join(channels)}) par {' par '.join(f'r({it})' for it in channels)} end"
+
+
+def chain():
+    """A source and 255 copies."""
+    inner = [f"c{number}" for number in range(255)]
+    start = f"begin integer channel {','.join(inner)};integer output channel o;process s(integer out b);begin integer x;repeat begin x:=x+1;send x on b end end;"
+    ends = [*inner[1:], "o"]
+    return start + "process f(integer in a;integer out b);begin repeat send wait(a) on b end;s(c0) par " + " par ".join(f"f({a},{b})" for a, b in zip(inner, ends)) + " end"
+
+
+ALONE = {"kahn_live": None, "kahn_draw": None, "kahn_explain": None}
+
+# Each case: what makes the text, or the text and an input, and for a program that takes further words these, or None where it isn't tried.
+CASES = {
+    "hash": (hash_names, {}),
+    "blanks": (lambda: filled("begin process f();begin comment a\nb", " ", ";print 1 end;f() end"), {}),
+    "while_names": (lambda: body("while x" + "+x" * 200000 + ">0 do begin " + "y:=1;" * 120000 + " end", "integer x,y; "), {}),
+    "comments": (lambda: filled("begin process f();begin ", "comment;", " 1\n! end"), {}),
+    "unknown_name": (lambda: body("print zzzzzzzzzzzz", f"integer {','.join(names('v', 130000))}; "), {}),
+    "unknown_processes": (unknown_processes, {}),
+    "two_writers": (two_writers, {}),
+    "faults_256": (lambda: f"begin process f();begin integer x;x:=1 div x;print {'+'.join(['-' * 64 + '1'] * 15000)} end;{par('f()')} end", {}),
+    "faults_lines": (lambda: "begin process f();begin integer x;" + "\n" * 1040000 + "x:=x div x;" * 20 + f" end;{par('f()')} end", {}),
+    "faulty_bodies": (faulty_bodies, {}),
+    "late": (lambda: filled("begin process f();begin ", ";", "print ) end;f() end"), {}),
+    "late_lines": (lambda: filled("begin process f();begin integer x;", "x:=x;\n", "print ) end;f() end"), {}),
+    "waits_256": (waits_256, {}),
+    "body_256": (lambda: filled("begin process f();begin ", ";", f" end;{par('f()')} end"), {}),
+    "nested_blocks": (lambda: filled("begin process f();begin " + "begin " * 63, ";", " end" * 63 + " end;f() end"), {}),
+    "signs": (lambda: filled("begin process f();begin print 1", "+" + "-" * 62 + "1", " end;f() end"), {}),
+    "report": (dense, {"kahn_draw": ["--report", "@report"]}),
+    "last_value": (last_value, {}),
+    "sleeping_readers": (sleeping_readers, {"kahn": ["--bound", "10000000"]}),
+    "star": (star, {"kahn": ["--bound", "20000000"]}),
+    "similar_names": (lambda: body("", f"integer {','.join('q' * 57 + it for it in names('v', 15500))}; "), {}),
+    "unwired": (lambda: f"begin integer channel {','.join(names('c', 1024, 4))};process f();begin end;f() end", {}),
+    "controls": (lambda: filled("begin process f();begin ", "\x00\x1b", " end;f() end"), {}),
+    "directions": (lambda: filled("begin process f();begin comment ", "\u202e\u200b", ";print z end;f() end"), {}),
+    "wide_characters": (lambda: filled("begin process f();begin comment ", "漢", ";print z end;f() end"), {}),
+    "lines": (lambda: filled("begin process f();begin ", "\n", "print z end;f() end"), {}),
+    "variables": (variables, ALONE),
+    "straight_line": (lambda: filled("begin process f();begin integer x;repeat x:=1", "+1", " end;f() end"), {**ALONE, "kahn": ["--bound", "300"]}),
+    "seven_inputs": (seven_inputs, {**ALONE, "kahn": ["--bound", "30000000"]}),
+    "trace": (trace, {**ALONE, "kahn": None, "kahn_explain": ["--trace"]}),
+}
+
+
+def run(words, given=os.devnull, error=os.devnull):
+    """The status of a program, its seconds and its megabytes."""
+    with open(given, "rb") as it, open(error, "wb") as said:
+        started = subprocess.Popen(["bash", "-c", f'ulimit -t {KILLED}; exec "$@"', "bash", *words], stdin=it, stdout=subprocess.DEVNULL, stderr=said)
+        _, status, used = os.wait4(started.pid, 0)
+    started.returncode = os.waitstatus_to_exitcode(status)
+    return started.returncode, used.ru_utime + used.ru_stime, used.ru_maxrss // 1024
+
+
+def run_well(seconds, *words):
+    """The same, of the quickest of some runs, if one takes more than so many seconds: the gate tries much else beside it."""
+    best = run(*words)
+    for _ in range(3):
+        if best[1] <= seconds:
+            break
+        best = min(best, run(*words), key=lambda it: it[1])
+    return best
+
+
+def words_for(program, path, folder, text, more):
+    """The command for a text, and its standard input."""
+    if program == "kahn_live":
+        return [path, f"{text}.kahn", *more], f"{text}.input" if os.path.exists(f"{text}.input") else os.devnull
+    given = ["--input", f"{text}.input"] if os.path.exists(f"{text}.input") and program != "kahn_draw" else []
+    return [path, f"{text}.kahn", *given, *(f"{folder}/report" if it == "@report" else it for it in more)], os.devnull
+
+
+def try_case(name, paths, folder):
+    """What goes wrong with a text, one line for each program, and how much passes."""
+    made, text = CASES[name][0](), f"{folder}/{name}"
+    made, given = made if isinstance(made, tuple) else (made, None)
+    for content, end, most in ((made, "kahn", MOST), (given, "input", MOST_INPUT)):
+        if content is not None:
+            assert len(content.encode()) <= most, (name, end, len(content.encode()))
+            with open(f"{text}.{end}", "w", encoding="utf-8", newline="") as it:
+                it.write(content)
+    seconds, megabytes, _ = LIMITS.get(name, (SECONDS, MEGABYTES, ""))
+    told = []
+    for program in PROGRAMS:
+        more = CASES[name][1].get(program, [])
+        if more is not None:
+            words, lines = words_for(program, paths[program], folder, text, more)
+            status, took, room = run_well(seconds, words, lines)
+            told.append((program, status, took, room, 0 <= status <= 8 and took <= seconds and room <= megabytes))
+    return told
+
+
+def limited(which, most, user=None):
+    """What sets a limit of the system on a program that begins."""
+    def begin():
+        resource.setrlimit(which, (most, most))
+        if user:
+            os.setgroups([])
+            os.setgid(user)
+            os.setuid(user)
+    return begin
+
+
+def has_report(words, begin):
+    done = subprocess.run(words, stdin=subprocess.DEVNULL, capture_output=True, preexec_fn=begin, check=False)
+    return done.returncode in (0, 3, 4) and re.search(rb"^(finished|stopped by \w+) \d+\n\Z", done.stdout, re.MULTILINE) is not None
+
+
+def memory_for_workers(paths, folder):
+    """At every limit on memory at which one worker gives a report, the usual workers give one."""
+    words = [paths["kahn"], f"{folder}/chain.kahn", "--bound", "3000000"]
+    bad = [kilobytes for kilobytes in (4500, 5000, 5500, 6000, 7000, 10000, 15000, 20000, 25000, 30000, 35000, 40000)
+           if has_report([*words, "--workers", "1"], limited(resource.RLIMIT_AS, 1024 * kilobytes))
+           and not has_report(words, limited(resource.RLIMIT_AS, 1024 * kilobytes))]
+    return f"no report with `ulimit -v` {bad}" if bad else ""
+
+
+def no_thread(paths, folder):
+    """A user who may start no thread gets a report."""
+    user = 60001 if os.getuid() == 0 else None
+    shutil.copy(paths["kahn"], f"{folder}/kahn")
+    good = has_report([f"{folder}/kahn", f"{folder}/chain.kahn", "--bound", "3000000"], limited(resource.RLIMIT_NPROC, 1, user))
+    return "" if good else "no report with `ulimit -u 1`"
+
+
+def standard_error(paths, folder):
+    """Two filters that share standard error write whole lines."""
+    with open(f"{folder}/refused", "w", encoding="utf-8") as it:
+        it.write("A: x\nQ: 1\n" * 5000)
+    with open(f"{folder}/error", "ab") as error:
+        words = [paths["kahn_live"], f"{folder}/sum.kahn"]
+        both = [subprocess.Popen(words, stdin=open(f"{folder}/refused", "rb"), stdout=subprocess.DEVNULL, stderr=error) for _ in range(2)]
+        for each in both:
+            each.wait()
+    with open(f"{folder}/error", encoding="utf-8", errors="replace") as it:
+        lines = it.read().splitlines()
+    whole = re.compile(re.escape(f"{folder}/sum.kahn: ") + r"input line \d+: (not a value: `x`|no such channel: `Q`);.*")
+    mixed = sum(not whole.fullmatch(line) for line in lines)
+    return f"{mixed} of {len(lines)} lines are mixed" if mixed or len(lines) != 20000 else ""
+
+
+def refused_lines(paths, folder):
+    """A million lines that are refused in turn."""
+    with open(f"{folder}/million", "w", encoding="utf-8") as it:
+        it.write("A: x\nQ: 1\n" * 500000)
+    _, took, room = run_well(1.5, [paths["kahn_live"], f"{folder}/sum.kahn"], f"{folder}/million", f"{folder}/told")
+    os.remove(f"{folder}/told")
+    return f"{took:.2f} s, {room} MB" if took > 1.5 or room > MEGABYTES else ""
+
+
+def hostile_path(paths, folder):
+    """A path with signs that drive a terminal is told without them, in as many lines as another; kahn tells it as it was given."""
+    bad = []
+    for program in PROGRAMS[1:]:
+        told = [subprocess.run([paths[program], f"{folder}/{name}"], stdin=subprocess.DEVNULL, capture_output=True, check=False) for name in ("plain", "a\x1b[31m\n\u202e\u200b")]
+        said = [(it.stdout + it.stderr).decode(errors="replace") for it in told]
+        if any(sign in said[1] for sign in "\x1b\u202e\u200b") or said[0].count("\n") != said[1].count("\n"):
+            bad.append(program)
+    return f"{', '.join(bad)} prints what drives a terminal" if bad else ""
+
+
+WORLD = {"memory for workers": memory_for_workers, "no thread": no_thread, "standard error": standard_error, "refused lines": refused_lines,
+         "a path that drives a terminal": hostile_path}
+SUM = "begin integer input channel A;integer output channel S;process f(integer in a;integer out s);begin integer t;repeat begin t:=t+wait(a);send t on s end end;f(A,S) end"
+
+
+def say(name, good, what):
+    """Prints what a case took, or that it failed, and gives whether it passed."""
+    if good:
+        print(f"{name}: {what}" if what else name, flush=True)
+    else:
+        since = f" (as 0.9.0: {SINCE[name]})" if name in SINCE else ""
+        print(f"FAILED {name}: {what}{since}", flush=True)
+    return good
+
+
+def main():
+    paths, wanted = {name: os.path.realpath(path) for name, path in zip(PROGRAMS, sys.argv[1:5])}, sys.argv[5:]
+    results = []
+    with tempfile.TemporaryDirectory() as folder:
+        os.chmod(folder, 0o755)
+        for name, text in (("chain", chain()), ("sum", SUM)):
+            with open(f"{folder}/{name}.kahn", "w", encoding="utf-8") as it:
+                it.write(text)
+        with open(f"{folder}/report", "wb") as it:
+            it.write(b"\n" * MOST_INPUT)
+        for name in (it for it in WORLD if not wanted or it in wanted):
+            wrong = WORLD[name](paths, folder)
+            results.append(say(name, not wrong, wrong))
+        chosen = [it for it in CASES if not wanted or it in wanted]
+        with concurrent.futures.ThreadPoolExecutor(os.cpu_count()) as pool:
+            for name, told in zip(chosen, pool.map(lambda it: try_case(it, paths, folder), chosen)):
+                for program, status, took, room, good in told:
+                    why = f" ({LIMITS[name][2]})" if name in LIMITS else ""
+                    results.append(say(name, good, f"{program} {took:.2f} s, {room} MB{why}" + ("" if good else f", status {status}")))
+    print(f"{sum(results)} passed, {len(results) - sum(results)} failed")
+    return 0 if all(results) else 1
+
+
+if __name__ == "__main__":
+    sys.exit(main())
