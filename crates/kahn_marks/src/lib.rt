@@ -6,6 +6,7 @@ mod near;
 mod note;
 mod pieces;
 mod places;
+mod render;
 mod sentence;
 mod told;
 
@@ -14,5 +15,6 @@ pub use near::is_within;
 pub use note::{marked, marked_too, marked_warning};
 pub use pieces::{add, add_repeated};
 pub use places::{add_spot, place};
+pub use render::{Fix, Note, Other, Sort};
 pub use sentence::{add_shown_text, shown_part};
 pub use told::{MOST_NOTES, add_more, first_ones};
