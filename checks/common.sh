@@ -23,6 +23,27 @@ finish() {
   [ "$failed" = 0 ]
 }
 
+# same NAME GIVEN WANTED: compares two texts.
+same() {
+  if [ "$2" = "$3" ]; then pass; else fail "$1: '${2:0:300}', wanted '${3:0:300}'"; fi
+}
+
+# leave WORD..: says why nothing is tried, and counts one pass for it.
+leave() {
+  echo "$*"
+  pass
+  finish
+  exit
+}
+
+# counted WORD..: runs a part whose last line counts, and adds that up.
+counted() {
+  "$@" | tee "$work/counted"
+  [[ $(tail -n 1 "$work/counted") =~ ^([0-9]+)\ passed,\ ([0-9]+)\ failed$ ]] || { fail "$* counts nothing"; return; }
+  passed=$((passed + BASH_REMATCH[1]))
+  failed=$((failed + BASH_REMATCH[2]))
+}
+
 # found NAME PATH: the program of that path, or else that of this tree, as ./kahn finds it.
 found() {
   local path=$2
@@ -35,34 +56,18 @@ found() {
   echo "$path"
 }
 
-# Sets kahn: the program that the variable KAHN names, or else that of this tree.
-find_program() {
+# find_programs: sets kahn, live, draw and explain: the programs that KAHN, KAHN_LIVE, KAHN_DRAW and KAHN_EXPLAIN name, or else those of
+# this tree; and crowd, whose workers all begin at once, or nothing if that wasn't built, since it isn't released.
+find_programs() {
   kahn=$(found kahn "${KAHN:-}") || exit 2
-}
-
-# Sets crowd: the program that the variable KAHN_CROWD names, or else that of this tree, whose workers all begin at once; none where
-# it wasn't built, since it isn't released.
-find_crowd() {
+  live=$(found kahn_live "${KAHN_LIVE:-}") || exit 2
+  draw=$(found kahn_draw "${KAHN_DRAW:-}") || exit 2
+  explain=$(found kahn_explain "${KAHN_EXPLAIN:-}") || exit 2
   crowd=${KAHN_CROWD:-$top/crates/kahn_crowd/out/kahn_crowd}
   [ -x "$crowd" ] || crowd=
-}
-
-# Sets live: the program that the variable KAHN_LIVE names, or else that of this tree.
-find_live() {
-  live=$(found kahn_live "${KAHN_LIVE:-}") || exit 2
 }
 
 # refuse_by SOURCE: compiles the library that refuses the program something, "$work/refuse.so".
 refuse_by() {
   "${CC:-cc}" -shared -fPIC -O1 -o "$work/refuse.so" "$top/checks/$1" -ldl || exit 2
-}
-
-# Sets draw: the program that the variable KAHN_DRAW names, or else that of this tree.
-find_draw() {
-  draw=$(found kahn_draw "${KAHN_DRAW:-}") || exit 2
-}
-
-# Sets explain: the program that the variable KAHN_EXPLAIN names, or else that of this tree.
-find_explain() {
-  explain=$(found kahn_explain "${KAHN_EXPLAIN:-}") || exit 2
 }

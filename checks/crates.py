@@ -12,7 +12,7 @@ TOP = os.path.dirname(os.path.dirname(os.path.abspath(__file__)))
 LIST = f"{TOP}/crates/README.md"
 HEAD = """# The crates
 
-From the bottom up: a crate uses only crates that stand before it. crates.txt says which, and docs/architecture.md which file holds what.
+From the bottom up: a crate uses only crates that stand before it. crates.txt says which, and docs/dev/architecture.md which file holds what.
 (`python3 checks/crates.py --write` makes this list.)
 """
 

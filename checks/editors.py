@@ -13,6 +13,9 @@ import sys
 import tempfile
 
 TOP = os.path.dirname(os.path.dirname(os.path.abspath(__file__)))
+sys.path.append(f"{TOP}/tests")
+from common import Tried
+
 EDITORS = f"{TOP}/editors"
 
 MISTAKE = """begin integer output channel X;
@@ -52,20 +55,6 @@ call add(places, line('.') . ':' . col('.') . ' ' . &commentstring)
 call writefile(places, 'places')
 qa!
 """
-
-
-class Tried:
-    """Counts what passed."""
-
-    def __init__(self):
-        self.passed = self.failed = 0
-
-    def same(self, name, given, wanted):
-        if given == wanted:
-            self.passed += 1
-        else:
-            self.failed += 1
-            print(f"FAILED {name}: {given!r:.400}, wanted {wanted!r:.400}")
 
 
 def place_of(program, words):
@@ -112,8 +101,7 @@ def main(explain):
                 try_vim(vim, path, name, places, tried)
             if node:
                 try_extension(node, explain, path, name, places, marked, changed, tried)
-    print(f"{tried.passed} passed, {tried.failed} failed")
-    return 1 if tried.failed else 0
+    return tried.finish()
 
 
 if __name__ == "__main__":

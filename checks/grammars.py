@@ -14,6 +14,9 @@ import sys
 import tempfile
 
 TOP = os.path.dirname(os.path.dirname(os.path.abspath(__file__)))
+sys.path.append(f"{TOP}/tests")
+from common import Tried
+
 VIM = {"keyword": "kahnKeyword", "name": "kahnName", "number": "kahnNumber", "sign": "kahnSign", "comment": "kahnComment"}
 TEXTMATE = {"keyword": "keyword.control.kahn", "name": "variable.other.kahn", "number": "constant.numeric.kahn",
             "sign": "punctuation.kahn", "comment": "comment.block.kahn"}
@@ -122,14 +125,11 @@ def main():
         grammars.append(("Vim", vim, VIM))
     else:
         print("vim is not there (Debian's package vim): its grammar is not tested")
-    passed = failed = 0
+    tried = Tried()
     for grammar, classes_of, names in grammars:
         for name, text in texts.items():
-            told = list(differences(text, classes_of(text), names))
-            passed, failed = passed + (not told), failed + bool(told)
-            print(*(f"FAILED {grammar}, {name}: {line}" for line in told[:5]), sep="\n", end="\n" if told else "")
-    print(f"{passed} passed, {failed} failed")
-    return 1 if failed or not passed else 0
+            tried.same(f"{grammar}, {name}", list(differences(text, classes_of(text), names)), [])
+    return tried.finish()
 
 
 def is_lexed(text):

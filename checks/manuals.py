@@ -8,6 +8,9 @@ import subprocess
 import sys
 
 TOP = os.path.dirname(os.path.dirname(os.path.abspath(__file__)))
+sys.path.append(f"{TOP}/tests")
+from common import Tried
+
 COMPLETIONS = f"{TOP}/editors/completions"
 OPTION = re.compile(r"(?m)^  (?:    |(-\w), )(--[\w-]+)(?:\.\.\.)?(?: <([^>]+)>)? {2,}(.*)$")
 
@@ -59,8 +62,8 @@ def fish(name):
     return [f"--{it}" for it in re.findall(rf"(?m)^complete -c {name} (?:-s \w )?-l ([\w-]+)", read(f"{COMPLETIONS}/{name}.fish"))]
 
 
-def differences(path):
-    """What differs for the program: lines; and how many comparisons there were."""
+def try_program(path, tried):
+    """Compares what there is of the program."""
     name = os.path.basename(path)
     text = subprocess.run([path, "--help"], capture_output=True, text=True, check=True).stdout
     wanted = helped(text)
@@ -72,15 +75,15 @@ def differences(path):
     for paragraph in [it for it in text.split("Print version\n")[1].split("Exit status:")[0].split("\n\n") if it.strip()]:
         given = " ".join(plain(page).split())
         pairs.append((f"'{paragraph[:30]}'", " ".join(paragraph.split()) in re.sub(r" \.(?:PP|nf|fi|RS|RE|sp)(?= )", "", given), True))
-    return [f"FAILED {name}, {part}: {has}, wanted {given}" for part, has, given in pairs if has != given], len(pairs)
+    for part, has, given in pairs:
+        tried.same(f"{name}, {part}", has, given)
 
 
 def main(*programs):
-    told = [differences(it) for it in programs]
-    lines = [line for lines, _ in told for line in lines]
-    print("\n".join(lines), end="\n" if lines else "")
-    print(f"{sum(count for _, count in told) - len(lines)} passed, {len(lines)} failed")
-    return 1 if lines else 0
+    tried = Tried()
+    for path in programs:
+        try_program(path, tried)
+    return tried.finish()
 
 
 if __name__ == "__main__":

@@ -13,9 +13,7 @@
 # one goes on to the whole answer, and takes no more events for it. And with the program that is fed line by line: whatever is refused
 # in the first part of a live run, or in the next, the parts after it go on to the whole answer.
 source "$(dirname "${BASH_SOURCE[0]}")/common.sh"
-find_program
-find_crowd
-find_live
+find_programs
 refuse_by refuse_growth.c
 cd "$work" || exit 2
 enough=25

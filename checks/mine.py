@@ -19,6 +19,9 @@ import tempfile
 import time
 
 TOP = os.path.dirname(os.path.dirname(os.path.abspath(__file__)))
+sys.path.append(f"{TOP}/tests")
+from common import launcher
+
 TESTS = ("kahn_units", "kahn_rows")
 COUNTED = re.compile(r"(\d+) passed, (\d+) failed")
 
@@ -39,9 +42,9 @@ def crates():
 
 
 def seconds():
-    """How long the proof of each crate takes by one job from nothing, as docs/gate.md has it."""
+    """How long the proof of each crate takes by one job from nothing, as docs/dev/checks.md has it."""
     found = {}
-    for line in read(f"{TOP}/docs/gate.md").splitlines():
+    for line in read(f"{TOP}/docs/dev/checks.md").splitlines():
         if line.startswith("| kahn"):
             names, times = (column.split(",") for column in line.split("|")[1:3])
             numbers = [int(re.sub(r"\D", "", it) or 0) for it in times]
@@ -51,13 +54,6 @@ def seconds():
 
 def is_program(crate):
     return os.path.exists(f"{TOP}/crates/{crate}/src/main.rt")
-
-
-def launcher(*words):
-    """The status of a function of release/program.sh, and what it prints."""
-    done = subprocess.run(["bash", "-c", 'top=$1; source "$top/release/program.sh"; "${@:2}"', "bash", TOP, *words], stdout=subprocess.PIPE,
-                          stderr=subprocess.STDOUT, check=False)
-    return done.returncode, done.stdout
 
 
 class Task:

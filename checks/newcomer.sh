@@ -4,14 +4,6 @@
 # on the path. Where there is no git, or the release isn't of these sources, it says so and counts one pass for it.
 source "$(dirname "${BASH_SOURCE[0]}")/common.sh"
 
-# leave WORD..: says why nothing is tried.
-leave() {
-  echo "$*: nothing is tried"
-  pass
-  finish
-  exit
-}
-
 # given WORD..: what the words print for a newcomer, whose environment has little more than a path.
 given() {
   env -i PATH=/usr/bin:/bin HOME="$work/home" ADDRESS="$top" "$@" 2>&1
@@ -30,11 +22,7 @@ try_commands() {
   for name in ./kahn ./kahn_live ./kahn_draw; do
     if grep -q "^\\$ .*$name " README.md; then pass; else fail "README.md shows no $name"; fi
   done
-  given "$(python3 -c 'import sys; print(sys.executable)')" checks/transcripts.py --here README.md > "$work/said"
-  cat "$work/said"
-  [[ $(tail -n 1 "$work/said") =~ ^([0-9]+)\ passed,\ ([0-9]+)\ failed$ ]] || fail "transcripts.py counts nothing"
-  passed=$((passed + ${BASH_REMATCH[1]:-0}))
-  failed=$((failed + ${BASH_REMATCH[2]:-0}))
+  counted given "$(python3 -c 'import sys; print(sys.executable)')" tests/run.py --here README.md
 }
 
 # try_page: the page that README.md names is there, and shows a report where there is a browser. A start has a second try, as in web.sh.
@@ -48,10 +36,10 @@ try_page() {
 
 mkdir "$work/home"
 given git config --global safe.directory '*' && given git -C "$top" rev-parse --quiet --verify HEAD > /dev/null \
-  || leave "there is no git, or this is no clone"
+  || leave "there is no git, or this is no clone: nothing is tried"
 clone || { fail "the clone"; finish; exit; }
 cd "$work/kahn" || exit 2
-(top=$PWD && is_released) || leave "release/ isn't of the sources that are committed"
+(top=$PWD && is_released) || leave "release/ isn't of the sources that are committed: nothing is tried"
 try_commands
 try_page
 finish

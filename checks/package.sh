@@ -4,16 +4,8 @@
 # so, and does the last alone; likewise where release/kahn.html or the programs aren't of these sources.
 source "$(dirname "${BASH_SOURCE[0]}")/common.sh"
 source "$top/web/page.sh"
-find_program
-find_live
-find_draw
-find_explain
+find_programs
 PATH="$PATH:/usr/sbin:/sbin"
-
-# same NAME GIVEN WANTED: compares two texts.
-same() {
-  if [ "$2" = "$3" ]; then pass; else fail "$1: '${2:0:300}', wanted '${3:0:300}'"; fi
-}
 
 # in_root WORD..: dpkg on the empty root.
 in_root() {
@@ -55,10 +47,7 @@ try_package() {
   same "what is left" "$(find "$root" -mindepth 1 -not -path "$root/var*")" ""
 }
 
-python3 "$top/checks/manuals.py" "$kahn" "$live" "$draw" "$explain" | tee "$work/manuals"
-[[ $(tail -n 1 "$work/manuals") =~ ^([0-9]+)\ passed,\ ([0-9]+)\ failed$ ]] || fail "manuals.py counts nothing"
-passed=$((passed + ${BASH_REMATCH[1]:-0}))
-failed=$((failed + ${BASH_REMATCH[2]:-0}))
+counted python3 "$top/checks/manuals.py" "$kahn" "$live" "$draw" "$explain"
 if ! command -v dpkg-deb > /dev/null; then
   echo "no dpkg: the package is not made"
 elif ! is_page_released; then

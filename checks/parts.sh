@@ -80,13 +80,11 @@ try_texts() {
 # texts give the same verdict: random ones are those of SEED, of 1 where it isn't set.
 try_programs() {
   local seed=${SEED:-1}
-  beside "files, streams and words that go wrong" timeout 600 bash checks/program.sh
-  beside "lines that come through pipes" timeout 600 bash checks/live.sh
-  beside "lines of standard error" timeout 300 bash checks/lines.sh
-  beside "rows" bash checks/rows.sh
-  beside "pictures" bash checks/draw.sh
-  beside "why runs stopped" timeout 600 bash checks/explain.sh
-  beside "commands of the pages" timeout 600 bash checks/transcripts.sh
+  beside "lines that come through pipes" timeout 600 python3 tests/run.py live
+  beside "streams, and the examples explained" timeout 300 python3 tests/run.py streams explain
+  beside "rows" python3 tests/run.py rows
+  beside "sessions, and commands of the pages" timeout 600 python3 tests/run.py sessions pages
+  beside "notes and pictures" timeout 600 python3 tests/run.py notes pictures
   beside "the release" timeout 600 bash checks/release.sh
   beside "the first ten minutes" timeout 300 bash checks/newcomer.sh
   beside "attacks on the launcher" timeout 600 bash checks/launcher.sh
@@ -95,8 +93,9 @@ try_programs() {
   beside "the Debian package" timeout 300 bash checks/package.sh
   beside "threads that are refused" bash checks/threads.sh
   beside "growths of memory that are refused" bash checks/memory.sh
-  beside "worst texts" timeout 600 python3 checks/worst.py "$KAHN" "$KAHN_LIVE" "$KAHN_DRAW" "$KAHN_EXPLAIN"
+  beside "worst texts" timeout 600 python3 tests/run.py worst
   beside "machine instructions of the workloads" timeout 300 python3 bench/counts.py "$KAHN"
+  beside "examples with replaced words" timeout 300 python3 fuzz/parts.py "$KAHN_EXPLAIN" 600
   beside "random programs" python3 fuzz/fuzz.py "$KAHN" 300 "$seed"
   beside "changes that mend random texts" timeout 300 python3 fuzz/mends.py "$KAHN_EXPLAIN" 200 "$seed"
   beside "mistakes with known repairs" timeout 300 python3 fuzz/mistakes.py "$KAHN_EXPLAIN" 600 "$seed"
@@ -104,7 +103,7 @@ try_programs() {
   beside "why random networks stop" timeout 300 python3 fuzz/causes.py "$KAHN_EXPLAIN" "$KAHN" 150 "$seed"
   beside "random programs, line by line" timeout 300 python3 fuzz/live.py "$KAHN_LIVE" "$KAHN" 200 "$seed"
   if [ -x "${KAHN_CROWD:-}" ]; then
-    beside "rows, by workers that begin at once" bash checks/rows.sh "$KAHN_CROWD"
+    beside "rows, by workers that begin at once" python3 tests/run.py crowd
     beside "random programs, by workers that begin at once" python3 fuzz/fuzz.py "$KAHN_CROWD" 300 "$seed"
   fi
   tell_beside

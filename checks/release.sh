@@ -3,17 +3,9 @@
 # one in a copy of the repository in which nothing was built, with no toolchain on the path. Where the sources differ it says so,
 # and that no program was compared: then the next release is still to be made.
 source "$(dirname "${BASH_SOURCE[0]}")/common.sh"
-find_program
-find_live
-find_draw
-find_explain
+find_programs
 
-if ! is_released; then
-  echo "release/ isn't of these sources: its programs are not compared"
-  pass
-  finish
-  exit
-fi
+is_released || leave "release/ isn't of these sources: its programs are not compared"
 
 # compare NAME PATH: the released program of that name with the one at the path.
 compare() {
@@ -24,10 +16,6 @@ compare kahn_live "$live"
 compare kahn_draw "$draw"
 compare kahn_explain "$explain"
 
-# same NAME GIVEN WANTED: compares two texts.
-same() {
-  if [ "$2" = "$3" ]; then pass; else fail "$1: '${2:0:300}', wanted '${3:0:300}'"; fi
-}
 # given NAME WORD..: what the words print in an environment with little more than a path.
 given() {
   env -i PATH=/usr/bin:/bin HOME="$work/home" "$@" 2>&1

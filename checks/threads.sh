@@ -8,8 +8,7 @@
 # so, with its status and without a report, and each other run has to give the whole report. A held run of it goes on in its next part to
 # the whole report.
 source "$(dirname "${BASH_SOURCE[0]}")/common.sh"
-find_program
-find_crowd
+find_programs
 refuse_by refuse_thread.c
 refused=0 left=0
 

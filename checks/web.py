@@ -11,10 +11,10 @@ import subprocess
 import sys
 import tempfile
 
-sys.dont_write_bytecode = True
 TOP = os.path.dirname(os.path.dirname(os.path.abspath(__file__)))
-sys.path += [f"{TOP}/checks"]
+sys.path.append(f"{TOP}/tests")
 import browser
+import common
 import rows
 import web_looks
 import web_tries
@@ -119,7 +119,7 @@ def compare_steps(page, tried, kahn):
 
 
 def main(program, path, *words):
-    tried = web_tries.Tried()
+    tried = common.Tried()
     try:
         with browser.Browser(program, path, SECONDS_TO_OPEN if words[0] == "--opens" else SECONDS) as page:
             if words[0] == "--pictures":
@@ -134,8 +134,7 @@ def main(program, path, *words):
                 compare_rows(page, tried, *words)
     except (RuntimeError, TimeoutError) as error:
         tried.same("the page", str(error), "an answer")
-    print(f"{tried.passed} passed, {tried.failed} failed")
-    return 1 if tried.failed else 0
+    return tried.finish()
 
 
 if __name__ == "__main__":

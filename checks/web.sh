@@ -4,9 +4,7 @@
 # isn't of these sources.
 source "$(dirname "${BASH_SOURCE[0]}")/common.sh"
 source "$top/web/page.sh"
-find_program
-find_draw
-find_explain
+find_programs
 
 # One start of a page in fifty or so doesn't come to an answer on a machine that is full of work, so a run has a second try.
 try_page() {
@@ -15,20 +13,9 @@ try_page() {
 
 page=${PAGE:-$top/release/kahn.html}
 browser=$(command -v "${BROWSER:-chromium}") || {
-  echo "no browser ${BROWSER:-chromium}: the page is not tried (Debian's package chromium)"
-  pass
-  finish
-  exit
+  leave "no browser ${BROWSER:-chromium}: the page is not tried (Debian's package chromium)"
 }
-if [ -z "${PAGE:-}" ] && ! is_page_released; then
-  echo "release/kahn.html isn't of these sources: \`bash web/build.sh\` makes it"
-  pass
-  finish
-  exit
-fi
+[ -n "${PAGE:-}" ] || is_page_released || leave "release/kahn.html isn't of these sources: \`bash web/build.sh\` makes it"
 try_page || ! grep -q "no answer in time\|waited for" "$work/said" || try_page
-cat "$work/said"
-[[ $(tail -n 1 "$work/said") =~ ^([0-9]+)\ passed,\ ([0-9]+)\ failed$ ]] || fail "web.py counts nothing"
-passed=$((passed + ${BASH_REMATCH[1]:-0}))
-failed=$((failed + ${BASH_REMATCH[2]:-0}))
+counted cat "$work/said"
 finish

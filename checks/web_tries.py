@@ -44,20 +44,6 @@ WARNING = ENDLESS.replace("send I", "send I mod 0")
 COPY = "begin integer input channel A; integer output channel B; process p(integer in U; integer out W); begin repeat send wait(U) on W end; p(A, B) end"
 
 
-class Tried:
-    """Counts what passed."""
-
-    def __init__(self):
-        self.passed = self.failed = 0
-
-    def same(self, name, given, wanted=True):
-        if given == wanted:
-            self.passed += 1
-        else:
-            self.failed += 1
-            print(f"FAILED {name}: {given!r:.300}, wanted {wanted!r:.300}")
-
-
 def chain(length):
     """A network of so many processes, one behind the other."""
     names = ", ".join(f"C{i}" for i in range(1, length))

@@ -35,13 +35,7 @@ for name in vim vscode; do
 done
 doc="share/doc/kahn"
 put "$doc" "$top/README.md" "$top/release/kahn.html"
-# (pages for whoever changes the code stay in the repository)
-for page in "$top"/docs/*.md; do
-  case ${page##*/} in
-    DECISIONS.md | architecture.md | board.md | gate.md | plants.md | toolchain-notes.md) ;;
-    *) put "$doc/docs" "$page" ;;
-  esac
-done
+put "$doc/docs" "$top"/docs/*.md
 for kind in compiler ftdetect ftplugin syntax; do put "share/vim/vimfiles/$kind" "$top/editors/vim/$kind/kahn.vim"; done
 put "$doc/docs/pictures" "$top"/docs/pictures/*.{svg,png}
 put "$doc/examples" "$top"/examples/*

@@ -1,15 +1,12 @@
 """Rows that are made by a rule, for rows.py: each is its name and its files, as a row's folder has them."""
-import os
-
 import reference
+from common import TOP, read
 
-TOP = os.path.dirname(os.path.dirname(os.path.abspath(__file__)))
 MOST_BYTES = 1048576
 
 
 def example(name):
-    with open(f"{TOP}/examples/{name}", "rb") as it:
-        return it.read()
+    return read(f"{TOP}/examples/{name}")
 
 
 def row(name, program, report=None, fault=None, status=0, words=(), given=None, limits=None):

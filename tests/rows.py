@@ -1,6 +1,4 @@
-"""The rows of checks/rows and the examples, each run on the built program and compared byte for byte.
-
-    rows.py PROGRAM WORK [NAME..]      WORK is an empty folder
+"""The rows of checks/rows and the examples, each run by kahn and compared byte for byte.
 
 A row is a folder with some of these files:
 
@@ -19,14 +17,11 @@ inputs and command lines of one line that are refused from the tables in checks/
 """
 import os
 import subprocess
-import sys
 from concurrent.futures import ThreadPoolExecutor
 
-sys.dont_write_bytecode = True
-TOP = os.path.dirname(os.path.dirname(os.path.abspath(__file__)))
-sys.path += [f"{TOP}/fuzz", f"{TOP}/checks"]
 import families
 import reference
+from common import TOP, read
 
 FILES = {"program.kahn", "input", "words", "report", "fault", "status", "limits"}
 WAYS = [["--workers", str(workers), "--quantum", str(quantum)] for workers in (1, 4, 16) for quantum in (1, 1000)]
@@ -83,16 +78,11 @@ def difference(what, has, wanted):
 
 
 def files_of(folder):
-    files = {}
-    for name in os.listdir(folder):
-        with open(f"{folder}/{name}", "rb") as it:
-            files[name] = it.read()
-    return files
+    return {name: read(f"{folder}/{name}") for name in os.listdir(folder)}
 
 
 def lines_of(table):
-    with open(f"{TOP}/checks/rows/{table}", encoding="utf-8") as it:
-        return it.read().split("\n")
+    return read(f"{TOP}/checks/rows/{table}").decode().split("\n")
 
 
 def kept_rows():
@@ -118,8 +108,7 @@ def table_rows():
             before, what = mark.split("^ ")
             column = len(text[: len(before)].encode()) + 1
             yield f"refused-programs.txt:{number}", {"program.kahn": text.encode(), "fault": f"kahn: 1:{column}: {what}\n".encode(), "status": b"1"}
-    with open(f"{TOP}/examples/double.kahn", "rb") as it:
-        double = it.read()
+    double = read(f"{TOP}/examples/double.kahn")
     for number, line in enumerate(lines_of("refused-inputs.txt"), 1):
         if " -> " in line:
             text, what = line.split(" -> ")
@@ -149,7 +138,7 @@ def rows_in(work):
 
 
 def run(program, row, way):
-    """Runs a row in a way: a line for each difference."""
+    """Runs a row in a way: a line if anything differs."""
     words = [*row.words, *way]
     given = [program, "program.kahn", *(["--input", "input"] if row.input is not None else []), *words]
     try:
@@ -157,25 +146,21 @@ def run(program, row, way):
         told = row.differences(ran)
     except (OSError, subprocess.TimeoutExpired) as error:
         told = [str(error)]
-    return [f"FAILED {' '.join([row.name, *words])}: {it}" for it in told]
+    return [f"{' '.join([row.name, *words])}: {'; '.join(told)}"] if told else []
 
 
-def main(program, work, *names):
-    rows = list(rows_in(work))
-    lost = [f"FAILED {name}: there is no such row" for name in names if name not in [row.name for row in rows]]
-    rows = [row for row in rows if not names or row.name in names]
-    lost += [f"FAILED {row.name}: no file of a row is called {file}" for row in rows for file in row.unknown]
-    lost += [f"FAILED {row.name}: it has no program.kahn" for row in rows if row.program is None]
-    tasks = [(row, way) for row in rows for way in row.ways()]
+def try_rows(program, work, only, tried):
+    """Runs all rows, or those that have the word in their names."""
+    every = [row for row in rows_in(work) if only in row.name]
+    for row in every:
+        for file in row.unknown:
+            tried.fail(f"{row.name}: no file of a row is called {file}")
+        if row.program is None:
+            tried.fail(f"{row.name}: it has no program.kahn")
+    tasks = [(row, way) for row in every for way in row.ways()]
     with ThreadPoolExecutor(os.cpu_count()) as pool:
-        told = list(pool.map(lambda task: run(program, *task), tasks))
-    for line in [*lost, *(line for lines in told for line in lines)]:
-        print(line)
-    failed = len(lost) + sum(map(bool, told))
-    print(f"{len(rows)} rows")
-    print(f"{len(tasks) + len(lost) - failed} passed, {failed} failed")
-    return 1 if failed else 0
-
-
-if __name__ == "__main__":
-    sys.exit(main(*sys.argv[1:]))
+        for lines in pool.map(lambda task: run(program, *task), tasks):
+            tried.passed += not lines
+            for line in lines:
+                tried.fail(line)
+    print(f"{len(every)} rows")

@@ -1,21 +1,14 @@
-"""The pictures of programs, compared with those that the checker of fuzz/ makes of the same texts, in Python.
-
-    draw.py KAHN_DRAW      draws the examples, the rows of checks/rows, the rows of families.py and what is refused in them, each
-                           alone and with its report, and with reports that no run writes
-"""
+"""Pictures of programs, compared with those that the checker of fuzz/ makes of the same texts: of the examples, the rows of checks/rows and
+those of families.py, and of what is refused in them, each alone and with its report, and with reports that no run writes."""
 import glob
 import os
 import re
 import subprocess
-import sys
 import tempfile
 
-sys.dont_write_bytecode = True
-TOP = os.path.dirname(os.path.dirname(os.path.abspath(__file__)))
-sys.path += [f"{TOP}/fuzz", f"{TOP}/checks"]
 import families
 import reference
-
+from common import TOP, read, write
 
 MOST_REPORT = 16777216
 
@@ -136,11 +129,6 @@ def wanted_of(program, report):
         return 1, b"", f"kahn: {line}:{column}: {fault.text}\n".encode()
 
 
-def read(path):
-    with open(path, "rb") as it:
-        return it.read()
-
-
 def runs():
     """Programs with the reports of their runs, where they have one: (name, program, report)."""
     for path in sorted(glob.glob(f"{TOP}/examples/*.kahn")):
@@ -216,30 +204,17 @@ def processor_time():
     return times.children_user + times.children_system
 
 
-def main(draw):
+def try_pictures(draw, tried):
+    """Draws all of them, each in less than a second of processor time."""
     cases = [(name, program, None) for name, program, _ in runs()]
     cases += [(f"{name} with its report", program, report) for name, program, report in runs() if report is not None]
-    cases += [*odd_reports(), *ring_reports()]
-    passed = failed = 0
     with tempfile.TemporaryDirectory() as folder:
-        for name, program, report in cases:
+        for name, program, report in [*cases, *odd_reports(), *ring_reports()]:
             words = []
             if report is not None:
                 words = ["--report", f"{folder}/report"]
-                with open(words[1], "wb") as it:
-                    it.write(report)
+                write(words[1], report)
             before = processor_time()
             ran = subprocess.run([draw, *words], input=program, capture_output=True, timeout=60)
-            seconds = processor_time() - before
-            status, out, err = wanted_of(program, report)
-            if (ran.returncode, ran.stdout, ran.stderr) == (status, out, err) and seconds < 1:
-                passed += 1
-            else:
-                failed += 1
-                print(f"FAILED {name}: status {ran.returncode} after {seconds:.2f} s, {ran.stdout[:300]!r} {ran.stderr[:200]!r}")
-    print(f"{passed} passed, {failed} failed")
-    return 1 if failed or not passed else 0
-
-
-if __name__ == "__main__":
-    sys.exit(main(*sys.argv[1:]))
+            tried.same(name, (ran.returncode, ran.stdout, ran.stderr), wanted_of(program, report))
+            tried.same(f"{name}: in a second", processor_time() - before < 1)

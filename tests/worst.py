@@ -1,8 +1,5 @@
-#!/usr/bin/env python3
-"""The worst texts that are known, each of about the most bytes that there may be, against limits on processor time and memory; and what the
-programs do where the system refuses them something, or they share a stream.
-
-    worst.py KAHN KAHN_LIVE KAHN_DRAW KAHN_EXPLAIN [CASE ..]      all cases, or these
+"""The worst texts that are known, each of about the most bytes that there may be, against limits on processor time and memory; and that there
+is a report if memory for workers, or threads, are refused.
 
 Each text is read by all four programs, and none may take more than a second (user and system) or 300 MB. LIMITS has the cases that may take
 more, since docs/formats.md names them as limits, with the reason. SINCE has those that version 0.9.0 didn't meet, with what it took.
@@ -14,13 +11,12 @@ import re
 import resource
 import shutil
 import subprocess
-import sys
 import tempfile
 
-TOP = os.path.dirname(os.path.dirname(os.path.abspath(__file__)))
+from common import NAMES, TOP, measured_well, write
+
 MOST, MOST_INPUT = 1048576, 16777216
-SECONDS, MEGABYTES, KILLED = 1.0, 300, 20
-PROGRAMS = ("kahn", "kahn_live", "kahn_draw", "kahn_explain")
+SECONDS, MEGABYTES = 1.0, 300
 
 # What may take more than the limits: seconds, megabytes, and why.
 LIMITS = {
@@ -36,8 +32,7 @@ SINCE = {
     "hash": "2.3 s", "blanks": "600 s", "while_names": "200 s", "unknown_name": "40 s", "unknown_processes": "75 s", "two_writers": "43 s",
     "faults_256": "160 s", "faults_lines": "41 s", "faulty_bodies": "1.8 s", "late": "10 s", "late_lines": "10 s", "waits_256": "5.5 s",
     "body_256": "4.4 s", "comments": "2.9 s", "nested_blocks": "1.6 s", "report": "120 s", "sleeping_readers": "2.9 s",
-    "refused lines": "6.8 s", "standard error": "12,402 of 20,001 lines mixed", "memory for workers": "no report", "no thread": "no report",
-    "a path that drives a terminal": "printed as it is",
+    "memory for workers": "no report", "no thread": "no report",
 }
 
 
@@ -195,25 +190,6 @@ CASES = {
 }
 
 
-def run(words, given=os.devnull, error=os.devnull):
-    """The status of a program, its seconds and its megabytes."""
-    with open(given, "rb") as it, open(error, "wb") as said:
-        started = subprocess.Popen(["bash", "-c", f'ulimit -t {KILLED}; exec "$@"', "bash", *words], stdin=it, stdout=subprocess.DEVNULL, stderr=said)
-        _, status, used = os.wait4(started.pid, 0)
-    started.returncode = os.waitstatus_to_exitcode(status)
-    return started.returncode, used.ru_utime + used.ru_stime, used.ru_maxrss // 1024
-
-
-def run_well(seconds, *words):
-    """The same, of the quickest of some runs, if one takes more than so many seconds: the gate tries much else beside it."""
-    best = run(*words)
-    for _ in range(3):
-        if best[1] <= seconds:
-            break
-        best = min(best, run(*words), key=lambda it: it[1])
-    return best
-
-
 def words_for(program, path, folder, text, more):
     """The command for a text, and its standard input."""
     if program == "kahn_live":
@@ -229,16 +205,15 @@ def try_case(name, paths, folder):
     for content, end, most in ((made, "kahn", MOST), (given, "input", MOST_INPUT)):
         if content is not None:
             assert len(content.encode()) <= most, (name, end, len(content.encode()))
-            with open(f"{text}.{end}", "w", encoding="utf-8", newline="") as it:
-                it.write(content)
+            write(f"{text}.{end}", content)
     seconds, megabytes, _ = LIMITS.get(name, (SECONDS, MEGABYTES, ""))
     told = []
-    for program in PROGRAMS:
+    for program in NAMES:
         more = CASES[name][1].get(program, [])
         if more is not None:
             words, lines = words_for(program, paths[program], folder, text, more)
-            status, took, room = run_well(seconds, words, lines)
-            told.append((program, status, took, room, 0 <= status <= 8 and took <= seconds and room <= megabytes))
+            status, took, room = measured_well(seconds, words, lines)
+            told.append((program, status, took, room // 1024, 0 <= status <= 8 and took <= seconds and room <= 1024 * megabytes))
     return told
 
 
@@ -275,79 +250,29 @@ def no_thread(paths, folder):
     return "" if good else "no report with `ulimit -u 1`"
 
 
-def standard_error(paths, folder):
-    """Two filters that share standard error write whole lines."""
-    with open(f"{folder}/refused", "w", encoding="utf-8") as it:
-        it.write("A: x\nQ: 1\n" * 5000)
-    with open(f"{folder}/error", "ab") as error:
-        words = [paths["kahn_live"], f"{folder}/sum.kahn"]
-        both = [subprocess.Popen(words, stdin=open(f"{folder}/refused", "rb"), stdout=subprocess.DEVNULL, stderr=error) for _ in range(2)]
-        for each in both:
-            each.wait()
-    with open(f"{folder}/error", encoding="utf-8", errors="replace") as it:
-        lines = it.read().splitlines()
-    whole = re.compile(re.escape(f"{folder}/sum.kahn: ") + r"input line \d+: (not a value: `x`|no such channel: `Q`);.*")
-    mixed = sum(not whole.fullmatch(line) for line in lines)
-    return f"{mixed} of {len(lines)} lines are mixed" if mixed or len(lines) != 20000 else ""
+WORLD = {"memory for workers": memory_for_workers, "no thread": no_thread}
 
 
-def refused_lines(paths, folder):
-    """A million lines that are refused in turn."""
-    with open(f"{folder}/million", "w", encoding="utf-8") as it:
-        it.write("A: x\nQ: 1\n" * 500000)
-    _, took, room = run_well(1.5, [paths["kahn_live"], f"{folder}/sum.kahn"], f"{folder}/million", f"{folder}/told")
-    os.remove(f"{folder}/told")
-    return f"{took:.2f} s, {room} MB" if took > 1.5 or room > MEGABYTES else ""
-
-
-def hostile_path(paths, folder):
-    """A path with signs that drive a terminal is told without them, in as many lines as another; kahn tells it as it was given."""
-    bad = []
-    for program in PROGRAMS[1:]:
-        told = [subprocess.run([paths[program], f"{folder}/{name}"], stdin=subprocess.DEVNULL, capture_output=True, check=False) for name in ("plain", "a\x1b[31m\n\u202e\u200b")]
-        said = [(it.stdout + it.stderr).decode(errors="replace") for it in told]
-        if any(sign in said[1] for sign in "\x1b\u202e\u200b") or said[0].count("\n") != said[1].count("\n"):
-            bad.append(program)
-    return f"{', '.join(bad)} prints what drives a terminal" if bad else ""
-
-
-WORLD = {"memory for workers": memory_for_workers, "no thread": no_thread, "standard error": standard_error, "refused lines": refused_lines,
-         "a path that drives a terminal": hostile_path}
-SUM = "begin integer input channel A;integer output channel S;process f(integer in a;integer out s);begin integer t;repeat begin t:=t+wait(a);send t on s end end;f(A,S) end"
-
-
-def say(name, good, what):
-    """Prints what a case took, or that it failed, and gives whether it passed."""
-    if good:
-        print(f"{name}: {what}" if what else name, flush=True)
-    else:
+def say(name, wrong, what, tried):
+    """Prints what a case took, or what is wrong with it."""
+    if wrong:
         since = f" (as 0.9.0: {SINCE[name]})" if name in SINCE else ""
-        print(f"FAILED {name}: {what}{since}", flush=True)
-    return good
+        tried.fail(f"{name}: {what} {wrong}{since}")
+    else:
+        tried.passed += 1
+        print(f"{name}: {what}", flush=True)
 
 
-def main():
-    paths, wanted = {name: os.path.realpath(path) for name, path in zip(PROGRAMS, sys.argv[1:5])}, sys.argv[5:]
-    results = []
-    with tempfile.TemporaryDirectory() as folder:
-        os.chmod(folder, 0o755)
-        for name, text in (("chain", chain()), ("sum", SUM)):
-            with open(f"{folder}/{name}.kahn", "w", encoding="utf-8") as it:
-                it.write(text)
-        with open(f"{folder}/report", "wb") as it:
-            it.write(b"\n" * MOST_INPUT)
-        for name in (it for it in WORLD if not wanted or it in wanted):
-            wrong = WORLD[name](paths, folder)
-            results.append(say(name, not wrong, wrong))
-        chosen = [it for it in CASES if not wanted or it in wanted]
-        with concurrent.futures.ThreadPoolExecutor(os.cpu_count()) as pool:
-            for name, told in zip(chosen, pool.map(lambda it: try_case(it, paths, folder), chosen)):
-                for program, status, took, room, good in told:
-                    why = f" ({LIMITS[name][2]})" if name in LIMITS else ""
-                    results.append(say(name, good, f"{program} {took:.2f} s, {room} MB{why}" + ("" if good else f", status {status}")))
-    print(f"{sum(results)} passed, {len(results) - sum(results)} failed")
-    return 0 if all(results) else 1
-
-
-if __name__ == "__main__":
-    sys.exit(main())
+def try_worst(paths, folder, only, tried):
+    """All cases, or those that have the word in their names."""
+    os.chmod(folder, 0o755)
+    write(f"{folder}/chain.kahn", chain())
+    write(f"{folder}/report", b"\n" * MOST_INPUT)
+    for name in (it for it in WORLD if only in it):
+        say(name, WORLD[name](paths, folder), "", tried)
+    chosen = [it for it in CASES if only in it]
+    with concurrent.futures.ThreadPoolExecutor(os.cpu_count()) as pool:
+        for name, told in zip(chosen, pool.map(lambda it: try_case(it, paths, folder), chosen)):
+            for program, status, took, room, good in told:
+                why = f" ({LIMITS[name][2]})" if name in LIMITS else ""
+                say(name, "" if good else f"status {status}", f"{program} {took:.2f} s, {room} MB{why}", tried)

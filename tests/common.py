@@ -1,0 +1,120 @@
+"""What all tests share: the programs that are tried, and counts of what passed."""
+import os
+import subprocess
+import sys
+import tempfile
+import unittest
+
+sys.dont_write_bytecode = True
+TOP = os.path.dirname(os.path.dirname(os.path.abspath(__file__)))
+sys.path.append(f"{TOP}/fuzz")
+NAMES = ("kahn", "kahn_live", "kahn_draw", "kahn_explain")
+
+
+def launcher(*words):
+    """The status of a function of release/program.sh, and what it prints."""
+    done = subprocess.run(["bash", "-c", 'top=$1; source "$top/release/program.sh"; "${@:2}"', "bash", TOP, *words], stdout=subprocess.PIPE,
+                          stderr=subprocess.STDOUT, check=False)
+    return done.returncode, done.stdout
+
+
+def program(name):
+    """The path of a program: the one that a variable such as KAHN_LIVE names, or else that of this tree, as ./kahn_live finds it."""
+    path = os.environ.get(name.upper())
+    if not path:
+        status, said = launcher("eval", f'find_built {name} && echo "$program"')
+        if status:
+            sys.exit(said.decode())
+        path = said.decode().splitlines()[-1]
+    path = os.path.realpath(path)
+    if not os.access(path, os.X_OK):
+        sys.exit(f"there is no program {path}")
+    return path
+
+
+def crowd():
+    """The program whose workers all begin at once, which isn't released; nothing if it wasn't built."""
+    path = os.path.realpath(os.environ.get("KAHN_CROWD", f"{TOP}/crates/kahn_crowd/out/kahn_crowd"))
+    return path if os.access(path, os.X_OK) else None
+
+
+def measured(words, given=os.devnull, error=os.devnull, output=os.devnull, most=20, folder=None):
+    """The status of a program, its seconds of processor time, of which it may take so many, and its most memory in kB."""
+    with open(given, "rb") as it, open(output, "wb") as told, open(error, "wb") as said:
+        run = subprocess.Popen(["bash", "-c", f'ulimit -t {most}; exec "$@"', "bash", *words], cwd=folder, stdin=it, stdout=told, stderr=said)
+        _, status, used = os.wait4(run.pid, 0)
+    run.returncode = os.waitstatus_to_exitcode(status)
+    return run.returncode, used.ru_utime + used.ru_stime, used.ru_maxrss
+
+
+def measured_well(seconds, *words, **more):
+    """The same, of the quickest of some runs if one takes more than so many seconds, since the gate tries much else beside it."""
+    best = measured(*words, **more)
+    for _ in range(3):
+        if best[1] <= seconds:
+            break
+        best = min(best, measured(*words, **more), key=lambda it: it[1])
+    return best
+
+
+def read(path):
+    with open(path, "rb") as it:
+        return it.read()
+
+
+def write(path, text):
+    with open(path, "wb") as it:
+        it.write(text if isinstance(text, bytes) else text.encode())
+
+
+class Tried:
+    """Counts what passed and failed."""
+
+    def __init__(self):
+        self.passed = self.failed = 0
+
+    def fail(self, what):
+        self.failed += 1
+        print(f"FAILED {what}", flush=True)
+
+    def same(self, name, given, wanted=True):
+        if given == wanted:
+            self.passed += 1
+        else:
+            self.fail(f"{name}: {given!r:.600}, wanted {wanted!r:.600}")
+
+    def finish(self):
+        """Prints the last line, and gives the status."""
+        print(f"{self.passed} passed, {self.failed} failed")
+        return 1 if self.failed or not self.passed else 0
+
+
+class Room(unittest.TestCase):
+    """Tests in a folder of their own, with the examples."""
+
+    def setUp(self):
+        room = tempfile.TemporaryDirectory()
+        self.addCleanup(room.cleanup)
+        self.folder = room.name
+        os.symlink(f"{TOP}/examples", f"{self.folder}/examples")
+
+    def put(self, **texts):
+        """Files by their names."""
+        for name, text in texts.items():
+            write(f"{self.folder}/{name}", text)
+
+    def same(self, name, given, wanted=True):
+        """One case of a test."""
+        with self.subTest(name):
+            self.assertEqual(given, wanted)
+
+    def ran(self, *words, text=b"", **variables):
+        """Standard output, standard error and status of a command, which runs in the folder."""
+        done = subprocess.run(words, cwd=self.folder, input=text, capture_output=True, env={**os.environ, **variables}, timeout=60, check=False)
+        return done.stdout.decode(), done.stderr.decode(), done.returncode
+
+    def refusing(self, source):
+        """The library of checks/ that refuses a program something, compiled."""
+        library = f"{self.folder}/refuse.so"
+        subprocess.run([os.environ.get("CC", "cc"), "-shared", "-fPIC", "-O1", "-o", library, f"{TOP}/checks/{source}", "-ldl"], check=True)
+        return library

@@ -1,0 +1,126 @@
+#!/usr/bin/env python3
+"""Tries the programs: those that KAHN, KAHN_LIVE, KAHN_DRAW and KAHN_EXPLAIN name, or else those of this tree.
+
+run.py [-k WORD] [--write] [--here] [PART ..]
+
+    rows        kahn on the programs of checks/rows and examples/ (rows.py)
+    crowd       the same by workers that all begin at once, if that program was built
+    sessions    commands and what they print, tests/*/*.t (sessions.py)
+    pages       the commands of the README and of docs/; with --here in this tree, by its own programs
+    notes       kahn_explain on checks/mistakes and checks/warnings (notes.py)
+    worst       texts of the most bytes, against limits on time and memory (worst.py)
+    pictures    kahn_draw beside a second maker of pictures (pictures.py)
+    NAME        the tests of tests/test_NAME.py, or a session or page by its path
+
+Without a part it tries rows, sessions, pages, notes, pictures and every test_NAME.py. -k takes only what has the word in its name; --write puts
+what the commands of sessions, and kahn_explain, give in place of what is wanted. The last line says how much passed and failed.
+"""
+import argparse
+import concurrent.futures
+import glob
+import importlib
+import os
+import sys
+import tempfile
+import unittest
+
+import common
+import notes
+import pictures
+import rows
+import sessions
+import worst
+
+TESTS = sorted(os.path.basename(path)[5:-3] for path in glob.glob(f"{common.TOP}/tests/test_*.py"))
+
+
+class Counting(unittest.TestResult):
+    """Counts tests and their parts."""
+
+    def __init__(self, tried):
+        super().__init__()
+        self.tried = tried
+
+    def addSuccess(self, test):
+        self.tried.passed += 1
+
+    def addSkip(self, test, reason):
+        print(f"{test}: not tried, {reason}")
+
+    def told(self, test, error):
+        self.tried.fail(f"{test}: {self._exc_info_to_string(error, test).rstrip()[-1200:]}")
+
+    addError = addFailure = told
+
+    def addSubTest(self, test, subtest, error):
+        if error:
+            self.told(subtest, error)
+        else:
+            self.tried.passed += 1
+
+
+def try_module(name, only, tried):
+    """The tests of a file."""
+    loader = unittest.TestLoader()
+    loader.testNamePatterns = [f"*{only}*"] if only else None
+    loader.loadTestsFromModule(importlib.import_module(f"test_{name}")).run(Counting(tried))
+
+
+def try_sessions(paths, work, programs, words, tried):
+    """Sessions, several side by side."""
+    def one(number, path):
+        given = sessions.try_session(path, programs, f"{work}/{number}", words.only, tried)
+        if words.write:
+            sessions.rewrite(path, given)
+
+    with concurrent.futures.ThreadPoolExecutor(os.cpu_count()) as pool:
+        for done in [pool.submit(one, number, path) for number, path in enumerate(paths)]:
+            done.result()
+
+
+def try_part(part, work, words, tried):
+    """A part by its name."""
+    programs = f"{work}/programs"
+    os.mkdir(programs)
+    for name in common.NAMES:
+        os.symlink(common.program(name), f"{programs}/{name}")
+    if part in ("rows", "crowd"):
+        program = common.crowd() if part == "crowd" else f"{programs}/kahn"
+        rows.try_rows(program, work, words.only, tried)
+    elif part == "pages" or part.endswith(".md"):
+        folder = common.TOP if words.here else f"{work}/tree"
+        if not words.here:
+            os.mkdir(folder)
+            sessions.copy_tree(programs, folder)
+        sessions.try_pages(folder, sessions.pages() if part == "pages" else [part], tried)
+    elif part == "sessions" or part.endswith(".t"):
+        paths = sessions.sessions() if part == "sessions" else [os.path.abspath(part)]
+        try_sessions(paths, work, programs, words, tried)
+    elif part == "notes":
+        notes.try_notes(f"{programs}/kahn_explain", words, tried)
+    elif part == "pictures":
+        pictures.try_pictures(f"{programs}/kahn_draw", tried)
+    elif part == "worst":
+        worst.try_worst({name: os.path.realpath(f"{programs}/{name}") for name in common.NAMES}, work, words.only, tried)
+    elif part in TESTS:
+        try_module(part, words.only, tried)
+    else:
+        tried.fail(f"there is no part {part}")
+
+
+def main():
+    words = argparse.ArgumentParser(usage=__doc__)
+    words.add_argument("-k", dest="only", default="")
+    words.add_argument("--write", action="store_true")
+    words.add_argument("--here", action="store_true")
+    words.add_argument("parts", nargs="*")
+    words = words.parse_args()
+    tried = common.Tried()
+    for part in words.parts or ["rows", "sessions", "pages", "notes", "pictures", *TESTS]:
+        with tempfile.TemporaryDirectory() as work:
+            try_part(part, work, words, tried)
+    return tried.finish()
+
+
+if __name__ == "__main__":
+    sys.exit(main())

@@ -1,0 +1,119 @@
+"""Lines of standard error: each goes out by one write, and paths and words in them drive no terminal. Streams that don't block, and want of
+memory for the arguments of kahn."""
+import contextlib
+import fcntl
+import os
+import re
+import socket
+import subprocess
+import time
+
+import common
+from common import Room, measured_well, read
+
+KAHN, LIVE, DRAW, EXPLAIN = (common.program(name) for name in common.NAMES)
+SUM = """begin integer input channel A; integer output channel S;
+  process sum(integer in U; integer out W); begin integer T; repeat begin T := T + wait(U); send T on W end end;
+  sum(A, S)
+end
+"""
+# an escape, a line feed, a right-to-left override and a zero width space
+STRANGE = "a\x1b[31m\n\u202e\u200b.kahn"
+SHOWN = "a\ufffd[31m\ufffd\ufffd\ufffd.kahn"
+WHOLE = re.compile(r"sum: input line \d+: (not a value: `x`; values are numbers, `true` and `false`|no such channel: `Q`; input channels: `A`)\n")
+
+
+class Streams(Room):
+    def setUp(self):
+        super().setUp()
+        self.put(sum=SUM, wrong="begin x")
+
+    def writes_of(self, words, text=""):
+        """What a program writes on standard error, write by write. A packet of the socket is what one call wrote."""
+        ours, theirs = socket.socketpair(socket.AF_UNIX, socket.SOCK_SEQPACKET)
+        run = subprocess.Popen(words, cwd=self.folder, stdin=subprocess.PIPE, stdout=subprocess.DEVNULL, stderr=theirs)
+        theirs.close()
+        with contextlib.suppress(BrokenPipeError):
+            run.stdin.write(text.encode())
+            run.stdin.close()
+        packets = []
+        while packet := ours.recv(1 << 20):
+            packets.append(packet.decode())
+        ours.close()
+        run.wait()
+        return packets
+
+    def test_each_line_by_one_write(self):
+        for name, words, text in (
+            ("a fault in a text", [KAHN, "wrong"], ""),
+            ("no such file", [KAHN, "nothing"], ""),
+            ("a picture of a wrong text", [DRAW, "wrong"], ""),
+            ("a report of another program", [DRAW, "sum", "--report", "wrong"], ""),
+            ("a file that can't be explained", [EXPLAIN, "nothing"], ""),
+            ("a live text that is wrong", [LIVE, "wrong"], ""),
+            ("no such live file", [LIVE, "nothing"], ""),
+            ("refused lines", [LIVE, "sum"], "A: x\nA: y\nQ: 1\nA\n1\nA: 9223372036854775807\nA: 1\n"),
+            ("the end of values alone", [LIVE, "sum", "--plain", "A"], "1\nx\n2"),
+            ("a channel that isn't there", [LIVE, "sum", "--plain", "A,NONE"], "1\n"),
+        ):
+            packets = self.writes_of(words, text)
+            self.same(f"{name}: writes", packets, "".join(packets).splitlines(keepends=True))
+            self.same(f"{name}: something is said", packets != [])
+
+    def test_two_filters_share_standard_error(self):
+        self.put(lines="A: x\nQ: 1\n" * 5000)
+        with open(f"{self.folder}/error", "ab") as error, open(f"{self.folder}/lines", "rb") as one, open(f"{self.folder}/lines", "rb") as other:
+            runs = [subprocess.Popen([LIVE, "sum"], cwd=self.folder, stdin=it, stdout=subprocess.DEVNULL, stderr=error) for it in (one, other)]
+            for run in runs:
+                run.wait()
+        told = read(f"{self.folder}/error").decode(errors="replace").splitlines(keepends=True)
+        self.same("mixed lines", ([line for line in told if not WHOLE.fullmatch(line)], len(told)), ([], 20_000))
+
+    def test_a_million_refused_lines(self):
+        """In 1.5 s of processor time and 300 MB."""
+        self.put(lines="A: x\nQ: 1\n" * 500_000)
+        status, seconds, room = measured_well(1.5, [LIVE, "sum"], f"{self.folder}/lines", f"{self.folder}/told", folder=self.folder)
+        self.same(f"a million refused lines: {seconds:.2f} s, {room} kB", (status, seconds <= 1.5, room <= 300 * 1024), (1, True, True))
+
+    def test_paths_and_words_that_drive_no_terminal(self):
+        self.put(**{STRANGE: "begin end\n", "plain": "begin end\n"})
+        for name, program in (("live", LIVE), ("draw", DRAW), ("explain", EXPLAIN)):
+            told, other = ("".join(self.ran(program, path)[:2]) for path in (STRANGE, "plain"))
+            self.same(f"a path, {name}", (STRANGE in told, SHOWN in told, told.count("\n")), (False, True, other.count("\n")))
+            self.same(f"a path that isn't there, {name}", self.ran(program, f"no{STRANGE}")[1].split("\n")[0], f"kahn: cannot read no{SHOWN}")
+        self.same("a path that isn't there, byte for byte", self.ran(KAHN, f"no{STRANGE}")[1], f"kahn: cannot read no{STRANGE}\n")
+        told = self.ran(LIVE, "sum", text="A: 1\u202e2\nA\u200b: 1\n".encode())[1]
+        self.same("words", [c for c in told if c in "\u202e\u200b"], [])
+
+    def test_streams_that_do_not_block(self):
+        read_end, write_end = os.pipe()
+        fcntl.fcntl(read_end, fcntl.F_SETFL, os.O_NONBLOCK)
+        words = {"cwd": self.folder, "stderr": subprocess.PIPE}
+        with subprocess.Popen([LIVE, "sum", "--plain", "A"], stdin=read_end, stdout=subprocess.PIPE, **words) as run:
+            os.close(read_end)
+            time.sleep(0.2)
+            os.write(write_end, b"1\n")
+            self.same("input: a line", run.stdout.readline(), b"1\n")
+            os.write(write_end, b"2\n")
+            os.close(write_end)
+            self.same("input: the rest", (run.stdout.read(), run.stderr.read(), run.wait()), (b"3\n", b"", 0))
+        read_end, write_end = os.pipe()
+        fcntl.fcntl(write_end, fcntl.F_SETFL, os.O_NONBLOCK)
+        self.put(numbers="1\n" * 50_000)
+        with open(f"{self.folder}/numbers", "rb") as numbers, subprocess.Popen([LIVE, "sum", "--plain", "A"], stdin=numbers, stdout=write_end, **words) as run:
+            os.close(write_end)
+            time.sleep(0.5)
+            with os.fdopen(read_end) as output:
+                self.same("output", sum(1 for _ in output), 50_000)
+            self.same("output: status", (run.stderr.read(), run.wait()), (b"", 0))
+
+    def test_want_of_memory_for_arguments(self):
+        """Each growth refused until the arguments are read: their strings, their list, and what is read of them."""
+        library, wanting = self.refusing("refuse_growth.c"), 0
+        refused = "error: invalid value '17' for '--workers <N>': 17 is not in 1..=16"
+        for number in range(1, 41):
+            out, err, status = self.ran(KAHN, "--workers", "17", FAIL_AT=str(number), LD_PRELOAD=library)
+            is_read = status == 2 and err.split("\n")[0] == refused
+            wanting += not is_read
+            self.same(f"growth {number}", (out, status, err), ("", 2, err) if is_read else ("", 4, "kahn: no memory\n"))
+        self.same(f"{wanting} of 40 growths are of the arguments", 10 < wanting < 40)
