@@ -26,7 +26,7 @@ def note_of(path, given, words):
     """The note of this path, which may have to be what was given."""
     if words.write:
         write(path, given)
-    return read(path)
+    return read(path) if os.path.exists(path) else b""
 
 
 def try_mistakes(program, words, tried):
