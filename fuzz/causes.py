@@ -12,11 +12,8 @@ import random
 import re
 import subprocess
 import sys
-import tempfile
-from concurrent.futures import ThreadPoolExecutor
 
 sys.dont_write_bytecode = True
-sys.path.insert(0, os.path.dirname(os.path.abspath(__file__)))
 import fuzz
 import reference as ref
 
@@ -218,27 +215,11 @@ def one(explain, kahn, room, seed):
     return None, ([why for why, _ in causes.values()], tried)
 
 
-def main():
-    explain, kahn, count = os.path.abspath(sys.argv[1]), os.path.abspath(sys.argv[2]), int(sys.argv[3]) if len(sys.argv) > 3 else 150
-    first = int(sys.argv[4]) if len(sys.argv) > 4 else random.randrange(10**6)
-    print(f"seed {first}", flush=True)
-    room = tempfile.mkdtemp(prefix="kahn-causes-")
-    kinds, tried, failed = {}, 0, 0
-    seeds = range(first, first + count)
-    with ThreadPoolExecutor(os.cpu_count()) as pool:
-        for seed, (what, more) in zip(seeds, pool.map(lambda seed: one(explain, kahn, room, seed), seeds)):
-            if what is not None:
-                failed += 1
-                print(f"FAILED {seed}: {what}\n   {more}", flush=True)
-                continue
-            tried += more[1]
-            for why in more[0]:
-                kinds[why] = kinds.get(why, 0) + 1
-    for why in sorted(kinds, key=kinds.get, reverse=True):
-        print(f"{kinds[why]:6} {why}")
-    print(f"{tried:6} for ever, tried with a longer input")
-    return fuzz.finished(room, count - failed, failed)
+def tell(given):
+    """How many waits had each reason, and how many were tried with a longer input."""
+    fuzz.tell_kinds(why for whys, _ in given for why in whys)
+    print(f"{sum(tried for _, tried in given):6} for ever, tried with a longer input")
 
 
 if __name__ == "__main__":
-    sys.exit(main())
+    sys.exit(fuzz.drive(one, programs=2, tell=tell))

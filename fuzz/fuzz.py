@@ -4,6 +4,8 @@
 
 Each difference is printed, with the words of the command line; its texts are kept where these name them.
 """
+import collections
+import functools
 import os
 import random
 import re
@@ -14,7 +16,6 @@ import tempfile
 from concurrent.futures import ThreadPoolExecutor
 
 sys.dont_write_bytecode = True
-sys.path.insert(0, os.path.dirname(os.path.abspath(__file__)))
 import reference as ref
 
 KINDS = ("integer", "logical")
@@ -352,39 +353,37 @@ def kind_of(wanted):
     return re.sub(r"\d+", "N", fault) or ("stopped" if wanted.stopped else "finished")
 
 
-def tried(one, seeds):
-    """Tries the case of each seed, and prints what failed, with what leads there, and how many were of each kind: these counts, and how many failed."""
-    kinds, failed = {}, 0
-    with ThreadPoolExecutor(os.cpu_count()) as pool:
-        for seed, (what, more) in zip(seeds, pool.map(one, seeds)):
+def tell_kinds(given):
+    """How many cases were of each kind."""
+    for kind, number in collections.Counter(given).most_common():
+        print(f"{number:6} {kind}")
+
+
+def drive(one, programs=1, count=150, others=(), pool=ThreadPoolExecutor, tell=tell_kinds):
+    """Runs a script of this folder by its words, PROGRAM .. [COUNT] [SEED], and gives its status. It tries `one(*programs, room, seed)` for
+    each seed, and first for the others: (None, what to tell of it) or (what differs, what leads there), which is printed. If something
+    failed its texts are kept in their folder."""
+    words = sys.argv[1:]
+    paths, numbers = [os.path.abspath(path) for path in words[:programs]], [int(it) for it in words[programs : programs + 2]]
+    count, first = [*numbers, *(count, random.randrange(10**9))[len(numbers) :]]
+    print(f"seed {first}", flush=True)
+    room, given, failed = tempfile.mkdtemp(prefix="kahn-fuzz-"), [], 0
+    seeds = [*others, *range(first, first + count)]
+    with pool(os.cpu_count()) as workers:
+        for seed, (what, more) in zip(seeds, workers.map(functools.partial(one, *paths, room), seeds, chunksize=8)):
             if what is None:
-                kinds[more] = kinds.get(more, 0) + 1
+                given.append(more)
             else:
                 failed += 1
                 print(f"FAILED {seed}: {what}\n   {more}", flush=True)
-    for kind in sorted(kinds, key=kinds.get, reverse=True):
-        print(f"{kinds[kind]:6} {kind}")
-    return kinds, failed
-
-
-def finished(room, passed, failed):
-    """The last line, and the status. Where something failed the texts are kept in their folder."""
+    tell(given)
     if failed:
         print(f"the texts are kept in {room}")
     else:
         shutil.rmtree(room)
-    print(f"{passed} passed, {failed} failed")
-    return 1 if failed else 0
-
-
-def main():
-    program, count = os.path.abspath(sys.argv[1]), int(sys.argv[2])
-    first = int(sys.argv[3]) if len(sys.argv) > 3 else random.randrange(10**9)
-    print(f"seed {first}", flush=True)
-    room = tempfile.mkdtemp(prefix="kahn-fuzz-")
-    kinds, failed = tried(lambda seed: one(program, room, seed), range(first, first + count))
-    return finished(room, count - failed - kinds.get('skipped', 0), failed)
+    print(f"{len(given) - given.count('skipped')} passed, {failed} failed")
+    return failed > 0
 
 
 if __name__ == "__main__":
-    sys.exit(main())
+    sys.exit(drive(one, count=300))

@@ -9,10 +9,8 @@ import os
 import random
 import subprocess
 import sys
-import tempfile
 
 sys.dont_write_bytecode = True
-sys.path.insert(0, os.path.dirname(os.path.abspath(__file__)))
 import causes
 import fuzz
 import reference as ref
@@ -91,14 +89,5 @@ def one(live, kahn, room, seed):
     return None, read(ran.stdout.decode())[2].split()[0]
 
 
-def main():
-    live, kahn, count = os.path.abspath(sys.argv[1]), os.path.abspath(sys.argv[2]), int(sys.argv[3]) if len(sys.argv) > 3 else 150
-    first = int(sys.argv[4]) if len(sys.argv) > 4 else random.randrange(10**6)
-    print(f"seed {first}", flush=True)
-    room = tempfile.mkdtemp(prefix="kahn-lines-")
-    _, failed = fuzz.tried(lambda seed: one(live, kahn, room, seed), range(first, first + count))
-    return fuzz.finished(room, count - failed, failed)
-
-
 if __name__ == "__main__":
-    sys.exit(main())
+    sys.exit(fuzz.drive(one, programs=2))

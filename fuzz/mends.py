@@ -9,11 +9,9 @@ import random
 import re
 import subprocess
 import sys
-import tempfile
 from concurrent.futures import ProcessPoolExecutor
 
 sys.dont_write_bytecode = True
-sys.path.insert(0, os.path.dirname(os.path.abspath(__file__)))
 import fuzz
 import reference as ref
 
@@ -213,24 +211,11 @@ def one(program, room, seed):
     return None, len(changes)
 
 
-def main():
-    program, count = os.path.abspath(sys.argv[1]), int(sys.argv[2]) if len(sys.argv) > 2 else 200
-    first = int(sys.argv[3]) if len(sys.argv) > 3 else random.randrange(10**9)
-    print(f"seed {first}", flush=True)
-    room = tempfile.mkdtemp(prefix="kahn-mends-")
-    counts, failed = {}, 0
-    seeds = range(first, first + count)
-    with ProcessPoolExecutor(os.cpu_count()) as pool:
-        for seed, (what, more) in zip(seeds, pool.map(one, [program] * count, [room] * count, seeds, chunksize=8)):
-            if what is None:
-                counts[more] = counts.get(more, 0) + 1
-            else:
-                failed += 1
-                print(f"FAILED {seed}: {what}\n   {more}", flush=True)
+def tell(given):
+    """How many texts had how many changes."""
     for some, word in ((range(1), "no change"), (range(1, 2), "one"), (range(2, 8), "two to seven"), (range(8, 200), "more")):
-        print(f"{sum(counts.get(n, 0) for n in some):6} {word}")
-    return fuzz.finished(room, count - failed, failed)
+        print(f"{sum(number in some for number in given):6} {word}")
 
 
 if __name__ == "__main__":
-    sys.exit(main())
+    sys.exit(fuzz.drive(one, count=200, pool=ProcessPoolExecutor, tell=tell))

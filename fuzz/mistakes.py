@@ -15,7 +15,6 @@ from concurrent.futures import ThreadPoolExecutor
 
 sys.dont_write_bytecode = True
 HERE = os.path.dirname(os.path.abspath(__file__))
-sys.path.insert(0, HERE)
 import reference as ref
 
 LEXEME = re.compile(r"[A-Za-z]\w*|\d+|:=|<>|<=|>=|\S")

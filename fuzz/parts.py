@@ -1,6 +1,6 @@
 """Programs with several faults: the notes of the built `kahn_explain` against reference.py.
 
-    parts.py EXPLAIN COUNT [SEED]     the same seed makes the same texts; where none is given it is chosen at random
+    parts.py EXPLAIN [COUNT] [SEED]     the same seed makes the same texts; where none is given it is chosen at random
 
 Each is an example of examples/ with some names, numbers and words put in the place of others. Each difference is printed.
 """
@@ -13,7 +13,7 @@ import sys
 
 sys.dont_write_bytecode = True
 TOP = os.path.dirname(os.path.dirname(os.path.abspath(__file__)))
-sys.path.insert(0, os.path.join(TOP, "fuzz"))
+import fuzz
 import reference as ref
 
 HEADING = re.compile(r"(?m)^<stdin>:(\d+):(\d+): error: ([a-z ]*)")
@@ -34,8 +34,6 @@ def broken(rng, text):
 
 
 def difference(ran, wanted):
-    if wanted is None or not wanted:
-        return None
     out = ran.stdout.decode()
     got = [(int(line), int(column), words.strip().removesuffix(AS_PROCESS)) for line, column, words in HEADING.findall(out)]
     more = MORE.search(out)
@@ -51,28 +49,16 @@ def difference(ran, wanted):
     return None
 
 
-def main():
-    explain, count = os.path.abspath(sys.argv[1]), int(sys.argv[2])
-    seed = int(sys.argv[3]) if len(sys.argv) > 3 else random.randrange(10**9)
-    texts = [open(path, "rb").read() for path in sorted(glob.glob(f"{TOP}/examples/*.kahn"))]
-    passed = failed = several = 0
-    for number in range(seed, seed + count):
-        rng = random.Random(number)
-        text = broken(rng, rng.choice(texts))
-        wanted = ref.told(text)
-        if not wanted:
-            continue
-        several += len(wanted) > 1
-        what = difference(subprocess.run([explain], input=text, capture_output=True, timeout=60), wanted)
-        if what is None:
-            passed += 1
-        else:
-            failed += 1
-            print(f"FAILED {number}: {what}", flush=True)
-    print(f"seed {seed}, {several} with several faults")
-    print(f"{passed} passed, {failed} failed")
-    return 1 if failed else 0
+def one(explain, _, seed):
+    """(None, how many faults there are, if several), or (what differs, the text)."""
+    rng = random.Random(seed)
+    text = broken(rng, rng.choice([open(path, "rb").read() for path in sorted(glob.glob(f"{TOP}/examples/*.kahn"))]))
+    wanted = ref.told(text)
+    if not wanted:
+        return None, "skipped"
+    what = difference(subprocess.run([explain], input=text, capture_output=True, timeout=60), wanted)
+    return what, text.decode() if what else "several faults" if len(wanted) > 1 else "one fault"
 
 
 if __name__ == "__main__":
-    sys.exit(main())
+    sys.exit(fuzz.drive(one, count=600))

@@ -14,11 +14,9 @@ import random
 import re
 import subprocess
 import sys
-import tempfile
 from concurrent.futures import ProcessPoolExecutor
 
 sys.dont_write_bytecode = True
-sys.path.insert(0, os.path.dirname(os.path.abspath(__file__)))
 import fuzz
 import mends
 import reference as ref
@@ -278,23 +276,10 @@ def one(program, room, seed):
     return what, path
 
 
-def main():
-    program, count = os.path.abspath(sys.argv[1]), int(sys.argv[2]) if len(sys.argv) > 2 else 150
-    first = int(sys.argv[3]) if len(sys.argv) > 3 else random.randrange(10**9)
-    print(f"seed {first}", flush=True)
-    room = tempfile.mkdtemp(prefix="kahn-sets-")
-    sets, failed = set(), 0
-    seeds = [-1 - number for number in range(len(sample()[1]) + 1)] + list(range(first, first + count))
-    with ProcessPoolExecutor(os.cpu_count()) as pool:
-        for seed, (what, more) in zip(seeds, pool.map(one, [program] * len(seeds), [room] * len(seeds), seeds, chunksize=8)):
-            if what is None:
-                sets.add(more)
-            else:
-                failed += 1
-                print(f"FAILED {seed}: {what}\n   {more}", flush=True)
-    print(f"{len(sets):6} different sets")
-    return fuzz.finished(room, len(seeds) - failed, failed)
+def tell(given):
+    print(f"{len(set(given)):6} different sets")
 
 
 if __name__ == "__main__":
-    sys.exit(main())
+    places = [-1 - number for number in range(len(sample()[1]) + 1)]
+    sys.exit(fuzz.drive(one, others=places, pool=ProcessPoolExecutor, tell=tell))
