@@ -1,12 +1,12 @@
 #!/usr/bin/env bash
-# Puts the programs on the path, or takes them off it: those that were built here, or those of release/, where they are of these
+# Puts the programs on the path, or takes them off it: those that were built here, or those of release/, if they are of these
 # sources; and beside them, in PREFIX/share, manual pages and the completions of bash, zsh and fish. It builds nothing.
 #
 #   install.sh [--uninstall] [PREFIX]      into PREFIX/bin, or from there
 #
-# The prefix may be given by the variable PREFIX too; without one it is /usr/local. DESTDIR, where it is set, is a folder that
+# The prefix may be given by the variable PREFIX too; without one it is /usr/local. DESTDIR, if it is set, is a folder that
 # stands before the prefix, which then begins with /, as a package is made in. Without DESTDIR it writes down what it installs, in
-# PREFIX/share/kahn/installed.sha256. --uninstall removes what is still as it was installed; where anything else stands in the place
+# PREFIX/share/kahn/installed.sha256. --uninstall removes what is still as it was installed; if anything else stands in the place
 # of a file, or one can't be removed, it says so and gives 1.
 set -eu
 umask 022

@@ -138,7 +138,7 @@ def clauses(kind, chunk):
 
 
 def exported(crate, whole=False):
-    """The public items of a crate above the line, or all of them: (crate, file, name), where the crate may be one below."""
+    """The public items of a crate above the line, or all of them: (crate, file, name); the crate may be one below."""
     lib = f"{TOP}/crates/{crate}/src/lib.rt"
     if not os.path.exists(lib):
         for path in glob.glob(f"{TOP}/crates/{crate}/src/*.rt"):

@@ -2,7 +2,7 @@
 
     editors.py KAHN_EXPLAIN
 
-Vim is asked itself, and the extension for Visual Studio Code is run by Node.js with a part that plays the editor; where one isn't there
+Vim is asked itself, and the extension for Visual Studio Code is run by Node.js with a part that plays the editor; if one isn't there
 (Debian's packages `vim` and `nodejs`) this is said, and nothing of it is tested.
 """
 import json

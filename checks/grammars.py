@@ -2,7 +2,7 @@
 
 The lexemes are told apart by the lists of that page, its keywords and its signs, and not by the program. The grammar in TextMate's
 form is played by its rules: of the patterns that match the earliest is taken, of several there the first. That of Vim is asked of
-Vim itself, where it is there (Debian's package `vim`); where it isn't, this is said and nothing of it is tested.
+Vim itself, if it is there (Debian's package `vim`); if it isn't, this is said and nothing of it is tested.
 """
 import glob
 import json

@@ -38,7 +38,7 @@ faults=(
   "install  install.sh         s/^  '') refuse.*//                                  # an empty prefix is taken"
 )
 
-# The user that runs the programs, where that is another one than root. (60002 is one more.)
+# The user that runs the programs, if that is another one than root. (60002 is one more.)
 me=()
 [ "$(id -u)" != 0 ] || me=(setpriv --reuid=60001 --regid=60001 --clear-groups --inh-caps=-all --bounding-set=-all)
 
@@ -144,7 +144,7 @@ try_unpacked() {
   mv "$work/live.xz" "$tree/release/kahn_live.xz"
 }
 
-# try_cache: where the tree can't be written, a cache of the user's own is taken, or none.
+# try_cache: if the tree can't be written, a cache of the user's own is taken, or none.
 try_cache() {
   local in="$home/.cache/kahn"
   fresh
@@ -222,7 +222,7 @@ try_sources() {
   sed -i '$d' "$tree/release/sources.sha256"
 }
 
-# try_built: what was built here runs where it is written down that it is of these sources.
+# try_built: what was built here runs if it is written down that it is of these sources.
 try_built() {
   local out="$tree/crates/kahn/out" main="$tree/crates/kahn/src/main.rt"
   printf '#!/bin/sh\necho BUILT\n' > "$out/kahn"

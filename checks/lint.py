@@ -58,7 +58,7 @@ def long_clauses():
 
 
 def body_from(lines, start, indent):
-    """The lines of code of the body of the function that begins there, behind its clauses; none where it has no body."""
+    """The lines of code of the body of the function that begins there, after its clauses; none if it has no body."""
     opened = start
     while lines[opened] != indent + "{" and not re.match(rf"{indent}\S.* \{{$", lines[opened]):
         if lines[opened].endswith((";", "}")) and opened > start and not lines[opened].startswith(indent + " "):

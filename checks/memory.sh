@@ -4,10 +4,10 @@
 # give a report that memory stopped: each of its streams begins the whole one, and the events of its ends add up. All that a run
 # reserves comes before its first worker: once a run got as far as a thread or an event, no later one tells want of memory.
 #
-# Several workers begin at once in the program of checks (`kahn_crowd`) where it was built; `kahn` itself goes over to them where three
-# counts are long enough. There 120 runs in a row have to be alike: where memory is refused for the workers, the run goes on without
+# Several workers begin at once in the program of checks (`kahn_crowd`) if it was built; `kahn` itself goes over to them if three
+# counts are long enough. There 120 runs in a row have to be alike: if memory is refused for the workers, the run goes on without
 # them, from where it stood, and it never lacks a thread. The report is so long that several threads put it into text, and memory that is
-# refused for that isn't told. And where the whole program has little memory, four workers give a report wherever one does.
+# refused for that isn't reported. And if the whole program has little memory, four workers give a report wherever one does.
 #
 # Then the same with a run that is held between its parts (a word of the program of checks): whatever is refused in a part, the next
 # one goes on to the whole answer, and takes no more events for it. And with the program that is fed line by line: whatever is refused
@@ -102,7 +102,7 @@ is_whole() {
 }
 
 # refuse_parts QUANTUM: each growth of a live run in turn. Its first part may take just as many events as the run has; a blank line
-# begins the next, and one more comes at the end, where that one waits.
+# begins the next, and one more comes at the end, if that one waits.
 refuse_parts() {
   local words=(copies.kahn --quantum "$1") name="parts of copies.kahn --quantum $1"
   "$kahn" "${words[@]}" --workers 1 > whole

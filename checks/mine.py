@@ -83,7 +83,7 @@ class Task:
 
 
 def linked(file, to):
-    """A second name for the file, or a copy where that can't be."""
+    """A second name for the file, or a copy if that can't be."""
     try:
         os.link(file, to)
     except OSError:

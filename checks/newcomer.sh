@@ -1,7 +1,7 @@
 #!/usr/bin/env bash
 # Does what README.md shows, in its order, in a fresh clone of what is committed here: the clone, a first report, a program of one's own,
-# a live filter, a picture; and opens the page, where Chromium is there. The programs are those of the clone's release/; no toolchain is
-# on the path. Where there is no git, or the release isn't of these sources, it says so and counts one pass for it.
+# a live filter, a picture; and opens the page, if Chromium is there. The programs are those of the clone's release/; no toolchain is
+# on the path. If there is no git, or the release isn't of these sources, it says so and counts one pass for it.
 source "$(dirname "${BASH_SOURCE[0]}")/common.sh"
 
 # given WORD..: what the words print for a newcomer, whose environment has little more than a path.
@@ -25,7 +25,7 @@ try_commands() {
   counted given "$(python3 -c 'import sys; print(sys.executable)')" tests/run.py --here README.md
 }
 
-# try_page: the page that README.md names is there, and shows a report where there is a browser. A start has a second try, as in web.sh.
+# try_page: the page that README.md names is there, and shows a report if there is a browser. A start has a second try, as in web.sh.
 try_page() {
   local page browser
   page=$(grep -o 'release/[a-z]*\.html' README.md | head -n 1)

@@ -1,7 +1,7 @@
 #!/usr/bin/env bash
 # Makes the Debian package twice, and compares the bytes; installs it into an empty root, runs what it has there, takes it away, and
-# looks for what is left. The manual pages and completions are compared with the help of each program. Where dpkg isn't there it says
-# so, and does the last alone; likewise where release/kahn.html or the programs aren't of these sources.
+# looks for what is left. The manual pages and completions are compared with the help of each program. If dpkg isn't there it says
+# so, and does the last alone; likewise if release/kahn.html or the programs aren't of these sources.
 source "$(dirname "${BASH_SOURCE[0]}")/common.sh"
 source "$top/web/page.sh"
 find_programs

@@ -77,7 +77,7 @@ try_texts() {
 }
 
 # The parts that try the programs which KAHN, KAHN_LIVE, KAHN_DRAW and KAHN_EXPLAIN name, and KAHN_CROWD, which isn't released. The same
-# texts give the same verdict: random ones are those of SEED, of 1 where it isn't set.
+# texts give the same verdict: random ones are those of SEED, of 1 if it isn't set.
 try_programs() {
   local seed=${SEED:-1}
   beside "lines that come through pipes" timeout 600 python3 tests/run.py live

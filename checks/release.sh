@@ -1,6 +1,6 @@
 #!/usr/bin/env bash
-# Compares the programs of release/ with those that are built here, byte for byte, where the release is of these sources; and runs
-# one in a copy of the repository in which nothing was built, with no toolchain on the path. Where the sources differ it says so,
+# Compares the programs of release/ with those that are built here, byte for byte, if the release is of these sources; and runs
+# one in a copy of the repository in which nothing was built, with no toolchain on the path. If the sources differ it says so,
 # and that no program was compared: then the next release is still to be made.
 source "$(dirname "${BASH_SOURCE[0]}")/common.sh"
 find_programs

@@ -1,10 +1,10 @@
 #!/usr/bin/env bash
 # Runs a program with its first thread refused, then with its second, and so on. `kahn` leaves the run to the threads that came: each run
-# has to give the whole report. It runs a network by several threads only where there is work for them, by as many as have work, and by
+# has to give the whole report. It runs a network by several threads only if there is work for them, by as many as have work, and by
 # no more than run side by side: so many can be refused, and no more. A thread that only puts values of the report into text isn't missed
 # either: another one does that.
 #
-# The program of checks whose workers all begin at once, where it was built, promises them: each run whose thread was refused has to say
+# The program of checks whose workers all begin at once, if it was built, promises them: each run whose thread was refused has to say
 # so, with its status and without a report, and each other run has to give the whole report. A held run of it goes on in its next part to
 # the whole report.
 source "$(dirname "${BASH_SOURCE[0]}")/common.sh"
@@ -24,7 +24,7 @@ run_refused() {
 }
 
 # refuse RUNNER PROGRAM WORKERS STARTED: so many threads run the network; with each of them refused in turn, and with each of the next
-# eight, which write the report where it is long (counted in beside), or aren't started.
+# eight, which write the report if it is long (counted in beside), or aren't started.
 refuse() {
   local number status
   beside=0
@@ -97,7 +97,7 @@ for workers in 1 2 3 16; do
   [ $beside -ge $((most - 1)) ] || fail "$beside threads of $workers workers write the long report"
 done
 
-# networks with a short report: as many as have work, whatever the quantum is, also after a long beginning by one; one where one thread
+# networks with a short report: as many as have work, whatever the quantum is, also after a long beginning by one; one if one thread
 # alone may run; none where values go round a ring, or from one process to many
 cat > "$work/networks.py" <<'P'
 import sys

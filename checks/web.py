@@ -61,7 +61,7 @@ def cases():
 
 
 def native(kahn, draw, explain, program, text, bound, folder):
-    """What the programs answer: status, report or fault, picture where there is one, and why the run stopped or the program is refused."""
+    """What the programs answer: status, report or fault, picture if there is one, and why the run stopped or the program is refused."""
     for name, it in (("program", program), ("input", text)):
         with open(f"{folder}/{name}", "w", encoding="utf-8", newline="") as file:
             file.write(it)

@@ -1,6 +1,6 @@
 #!/usr/bin/env bash
 # Tries the page release/kahn.html, or the one that the variable PAGE names, in a headless Chromium (Debian's package chromium, or the
-# one that BROWSER names) against the programs. Where no browser is there it says so and counts one pass for it; likewise where the page
+# one that BROWSER names) against the programs. If no browser is there it says so and counts one pass for it; likewise if the page
 # isn't of these sources.
 source "$(dirname "${BASH_SOURCE[0]}")/common.sh"
 source "$top/web/page.sh"

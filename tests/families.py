@@ -170,7 +170,7 @@ def copies():
         ends = [f"end {i + 2} copy: waits on X{i} after {3 * count + 1}" for i in range(3)]
         report = [f"W:{values}", f"end 1 count: ended after {2 * count + 1}", *ends, f"finished {11 * count + 4}"]
         yield row(f"{count} values through three copies", program, report)
-        # A copy waits, sends and turns in one go where its quantum has three events left.
+        # A copy waits, sends and turns in one go if its quantum has three events left.
         for quantum in ("1", "2", "3", "5") if count == 65 else ():
             for workers in ("1", "4"):
                 yield row(f"{count} values through three copies by {workers} with quantum {quantum}", program, report, words=["--workers", workers, "--quantum", quantum])

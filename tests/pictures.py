@@ -130,7 +130,7 @@ def wanted_of(program, report):
 
 
 def runs():
-    """Programs with the reports of their runs, where they have one: (name, program, report)."""
+    """Programs with the reports of their runs, if they have one: (name, program, report)."""
     for path in sorted(glob.glob(f"{TOP}/examples/*.kahn")):
         report = path.removesuffix(".kahn") + ".report"
         yield os.path.relpath(path, TOP), read(path), read(report) if os.path.exists(report) else None

@@ -155,7 +155,7 @@ def chain():
 
 ALONE = {"kahn_live": None, "kahn_draw": None, "kahn_explain": None}
 
-# Each case: what makes the text, or the text and an input, and for a program that takes further words these, or None where it isn't tried.
+# Each case: what makes the text, or the text and an input, and for a program that takes further words these, or None if it isn't tried.
 CASES = {
     "hash": (hash_names, {}),
     "blanks": (lambda: filled("begin process f();begin comment a\nb", " ", ";print 1 end;f() end"), {}),
