@@ -3,12 +3,12 @@ import base64
 import json
 import os
 import select
+import shutil
 import signal
 import subprocess
 import tempfile
 import time
 
-import palette
 
 SECONDS_TO_WAIT, SECONDS_TO_ANSWER, SECONDS_TO_OPEN = 40, 90, 20
 
@@ -138,6 +138,8 @@ class Browser:
         self.value("new Promise((done) => setTimeout(done, 60))")
 
     def shot(self, path):
-        """A picture of the page as a file, with a palette."""
+        """A picture of the page as a file; with a palette, in a third of the bytes, if Debian's pngquant is there."""
         with open(path, "wb") as file:
-            file.write(palette.with_palette(base64.b64decode(self.call("Page.captureScreenshot", format="png")["data"])))
+            file.write(base64.b64decode(self.call("Page.captureScreenshot", format="png")["data"]))
+        if shutil.which("pngquant"):
+            subprocess.run(["pngquant", "--force", "--ext", ".png", path], check=True)
