@@ -1,4 +1,5 @@
 """What all tests share: the programs that are tried, and counts of what passed."""
+import difflib
 import os
 import subprocess
 import sys
@@ -33,9 +34,9 @@ def program(name):
 
 
 def crowd():
-    """The program whose workers all begin at once, which isn't released; nothing if it wasn't built."""
+    """The program whose workers all begin at once, which isn't released."""
     path = os.path.realpath(os.environ.get("KAHN_CROWD", f"{TOP}/crates/kahn_crowd/out/kahn_crowd"))
-    return path if os.access(path, os.X_OK) else None
+    return path if os.access(path, os.X_OK) else sys.exit(f"there is no program {path}")
 
 
 def measured(words, given=os.devnull, error=os.devnull, output=os.devnull, most=20, folder=None):
@@ -67,6 +68,18 @@ def write(path, text):
         it.write(text if isinstance(text, bytes) else text.encode())
 
 
+def difference(given, wanted):
+    """What differs: of tuples the first part that does, and of texts the lines from about the first byte that does."""
+    if isinstance(given, tuple) and isinstance(wanted, tuple) and len(given) == len(wanted):
+        return next(difference(*pair) for pair in zip(given, wanted) if pair[0] != pair[1])
+    if not isinstance(given, (str, bytes)) or not isinstance(wanted, type(given)):
+        return f"{given!r:.600}, wanted {wanted!r:.600}"
+    start = max(0, len(os.path.commonprefix([given, wanted])) - 200)
+    parts = [it[start : start + 2000] for it in (wanted, given)]
+    lines = [(it if isinstance(it, str) else it.decode(errors="backslashreplace")).split("\n") for it in parts]
+    return "\n".join(difflib.unified_diff(*lines, "wanted", "given", n=2, lineterm=""))
+
+
 class Tried:
     """Counts what passed and failed."""
 
@@ -81,7 +94,7 @@ class Tried:
         if given == wanted:
             self.passed += 1
         else:
-            self.fail(f"{name}: {given!r:.600}, wanted {wanted!r:.600}")
+            self.fail(f"{name}: {difference(given, wanted)}")
 
     def finish(self):
         """Prints the last line, and gives the status."""

@@ -21,7 +21,7 @@ from concurrent.futures import ThreadPoolExecutor
 
 import families
 import reference
-from common import TOP, read
+from common import TOP, difference, read
 
 FILES = {"program.kahn", "input", "words", "report", "fault", "status", "limits"}
 WAYS = [["--workers", str(workers), "--quantum", str(quantum)] for workers in (1, 4, 16) for quantum in (1, 1000)]
@@ -59,7 +59,7 @@ class Row:
         pairs = [("status", ran.returncode, self.status)]
         pairs += [("report", ran.stdout, self.report)] if not self.is_open else []
         pairs += [("fault", ran.stderr, self.fault)]
-        told = [difference(*pair) for pair in pairs if pair[1] != pair[2]]
+        told = [f"{what}: {difference(*pair)}" for what, *pair in pairs if pair[0] != pair[1]]
         return told or (self.judged(ran.stdout) if self.is_open else [])
 
     def judged(self, report):
@@ -67,14 +67,6 @@ class Row:
         wanted = reference.run(self.program, self.input, int(self.option("--bound", 1000000)), self.option("--watch", None))
         why = wanted.stopped(report) if wanted.stopped else "the run isn't stopped by its bound"
         return [f"report is {report[:400]!r}: {why}"] if why else []
-
-
-def difference(what, has, wanted):
-    """What differs: of long texts only what stands round the first byte that does."""
-    if isinstance(has, bytes):
-        start = max(0, len(os.path.commonprefix([has, wanted])) - 200)
-        has, wanted = (".. " * (start > 0) + repr(it[start : start + 400].decode(errors="backslashreplace")) for it in (has, wanted))
-    return f"{what} is {has}, wanted {wanted}"
 
 
 def files_of(folder):

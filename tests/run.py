@@ -10,7 +10,7 @@ run.py [-k WORD] [--write] [--here] [PART ..]
     notes       kahn_explain on checks/mistakes and checks/warnings (notes.py)
     worst       texts of the most bytes, against limits on time and memory (worst.py)
     pictures    kahn_draw beside a second maker of pictures (pictures.py)
-    NAME        the tests of tests/test_NAME.py, or a session or page by its path
+    NAME        the tests of tests/test_NAME.py, or a session or page by its path from the top
 
 Without a part it tries rows, sessions, pages, notes, pictures and every test_NAME.py. -k takes only what has the word in its name; --write puts
 what the commands of sessions, and kahn_explain, give in place of what is wanted. The last line says how much passed and failed.
@@ -85,8 +85,7 @@ def try_part(part, work, words, tried):
     for name in common.NAMES:
         os.symlink(common.program(name), f"{programs}/{name}")
     if part in ("rows", "crowd"):
-        program = common.crowd() if part == "crowd" else f"{programs}/kahn"
-        rows.try_rows(program, work, words.only, tried)
+        rows.try_rows(common.crowd() if part == "crowd" else f"{programs}/kahn", work, words.only, tried)
     elif part == "pages" or part.endswith(".md"):
         folder = common.TOP if words.here else f"{work}/tree"
         if not words.here:
@@ -94,7 +93,7 @@ def try_part(part, work, words, tried):
             sessions.copy_tree(programs, folder)
         sessions.try_pages(folder, sessions.pages() if part == "pages" else [part], tried)
     elif part == "sessions" or part.endswith(".t"):
-        paths = sessions.sessions() if part == "sessions" else [os.path.abspath(part)]
+        paths = sessions.sessions() if part == "sessions" else [os.path.join(common.TOP, part)]
         try_sessions(paths, work, programs, words, tried)
     elif part == "notes":
         notes.try_notes(f"{programs}/kahn_explain", words, tried)

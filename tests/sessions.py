@@ -78,18 +78,8 @@ def try_session(path, programs, folder, only, tried):
         result = ran("\n".join(row.command), folder, programs)
         given.append((row, result))
         if only in row.name:
-            for part, has, wanted in zip(("output", "errors", "status"), result, row.wants()):
-                if has != wanted:
-                    tried.fail(f"{os.path.relpath(path, TOP)}:{row.start}: {row.name}: {part} {shown(has)}, wanted {shown(wanted)}")
-                    break
-            else:
-                tried.passed += 1
+            tried.same(f"{os.path.relpath(path, TOP)}:{row.start}: {row.name}", result, row.wants())
     return given
-
-
-def shown(text):
-    """As much of what was printed as one looks at."""
-    return repr(text.decode(errors="backslashreplace")[:600]) if isinstance(text, bytes) else text
 
 
 def rewrite(path, given):
