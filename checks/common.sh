@@ -57,17 +57,10 @@ found() {
 }
 
 # find_programs: sets kahn, live, draw and explain: the programs that KAHN, KAHN_LIVE, KAHN_DRAW and KAHN_EXPLAIN name, or else those of
-# this tree; and crowd, whose workers all begin at once, or nothing if that wasn't built, since it isn't released.
+# this tree.
 find_programs() {
   kahn=$(found kahn "${KAHN:-}") || exit 2
   live=$(found kahn_live "${KAHN_LIVE:-}") || exit 2
   draw=$(found kahn_draw "${KAHN_DRAW:-}") || exit 2
   explain=$(found kahn_explain "${KAHN_EXPLAIN:-}") || exit 2
-  crowd=${KAHN_CROWD:-$top/crates/kahn_crowd/out/kahn_crowd}
-  [ -x "$crowd" ] || crowd=
-}
-
-# refuse_by SOURCE: compiles the library that refuses the program something, "$work/refuse.so".
-refuse_by() {
-  "${CC:-cc}" -shared -fPIC -O1 -o "$work/refuse.so" "$top/checks/$1" -ldl || exit 2
 }

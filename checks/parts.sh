@@ -65,7 +65,7 @@ finish_parts() {
 need_tools() {
   command -v python3 > /dev/null || stop "python3 is missing: it is in the Debian package python3"
   command -v "${CC:-cc}" > /dev/null || stop "a C compiler (${CC:-cc}) is missing: it is in the Debian package gcc"
-  "${CC:-cc}" -fsyntax-only checks/*.c || stop "the C compiler can't read checks/*.c: the headers are in the Debian package libc6-dev"
+  "${CC:-cc}" -fsyntax-only tests/*.c || stop "the C compiler can't read tests/*.c: the headers are in the Debian package libc6-dev"
 }
 
 # The parts that read the texts of the repository.
@@ -91,8 +91,7 @@ try_programs() {
   beside "the page in a browser" timeout 700 bash checks/web.sh
   beside "places and changes in editors" timeout 300 python3 checks/editors.py "$KAHN_EXPLAIN"
   beside "the Debian package" timeout 300 bash checks/package.sh
-  beside "threads that are refused" bash checks/threads.sh
-  beside "growths of memory that are refused" bash checks/memory.sh
+  beside "threads and growths of memory that are refused" python3 tests/run.py refusals
   beside "worst texts" timeout 600 python3 tests/run.py worst
   beside "machine instructions of the workloads" timeout 300 python3 bench/counts.py "$KAHN"
   beside "examples with replaced words" timeout 300 python3 fuzz/parts.py "$KAHN_EXPLAIN" 600

@@ -77,7 +77,7 @@ def difference(given, wanted):
     start = max(0, len(os.path.commonprefix([given, wanted])) - 200)
     parts = [it[start : start + 2000] for it in (wanted, given)]
     lines = [(it if isinstance(it, str) else it.decode(errors="backslashreplace")).split("\n") for it in parts]
-    return "\n".join(difflib.unified_diff(*lines, "wanted", "given", n=2, lineterm=""))
+    return "\n".join(["", *difflib.unified_diff(*lines, "wanted", "given", n=2, lineterm="")])
 
 
 class Tried:
@@ -127,7 +127,7 @@ class Room(unittest.TestCase):
         return done.stdout.decode(), done.stderr.decode(), done.returncode
 
     def refusing(self, source):
-        """The library of checks/ that refuses a program something, compiled."""
+        """The library that refuses a program something, compiled."""
         library = f"{self.folder}/refuse.so"
-        subprocess.run([os.environ.get("CC", "cc"), "-shared", "-fPIC", "-O1", "-o", library, f"{TOP}/checks/{source}", "-ldl"], check=True)
+        subprocess.run([os.environ.get("CC", "cc"), "-shared", "-fPIC", "-O1", "-o", library, f"{TOP}/tests/{source}", "-ldl"], check=True)
         return library

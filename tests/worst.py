@@ -57,7 +57,7 @@ def hash_names():
     """Names that a table with a known hash puts into one place."""
     with tempfile.TemporaryDirectory() as folder:
         compiled = f"{folder}/search"
-        subprocess.run([os.environ.get("CC", "cc"), "-O3", "-march=native", "-o", compiled, f"{TOP}/checks/hash_search.c"], check=True)
+        subprocess.run([os.environ.get("CC", "cc"), "-O3", "-march=native", "-o", compiled, f"{TOP}/tests/hash_search.c"], check=True)
         found = subprocess.run([compiled, "16000", "2047", "4"], capture_output=True, check=True, text=True).stdout.split()
     last = found[-200:]
     return body(f"{found[0]} := {'+'.join(last[number % 200] for number in range(16000))}", f"integer {','.join(found)}; ")

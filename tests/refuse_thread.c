@@ -1,5 +1,5 @@
 // Refuses the thread whose number the variable FAIL_AT names, counted from 1, and makes an empty file that REFUSED names. For
-// checks/threads.sh, which loads it before the program.
+// tests/test_refusals.py, which loads it before the program.
 #define _GNU_SOURCE
 #include <dlfcn.h>
 #include <errno.h>

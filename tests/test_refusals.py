@@ -1,0 +1,209 @@
+"""Runs with a growth of memory, or a thread, refused: the first one, then the second, and so on.
+
+kahn begins with one worker, and goes over to several if there is work for them; kahn_crowd, which isn't released, begins with all at once, and
+with `held` as its first argument it holds the run between its parts. All that a run reserves comes before its first worker: once a run got as
+far as a thread or an event, no later one reports want of memory.
+"""
+import collections
+import glob
+import itertools
+import os
+
+import common
+from common import TOP, Room, read
+
+KAHN, LIVE = common.program("kahn"), common.program("kahn_live")
+CROWD = os.path.realpath(os.environ.get("KAHN_CROWD", f"{TOP}/crates/kahn_crowd/out/kahn_crowd"))
+HAS_CROWD = os.access(CROWD, os.X_OK)
+COPIES = """begin integer channel X0, X1, X2; integer output channel W;
+  process count(integer out W; integer N);
+  begin integer I; while I < N do begin send I on W; I := I + 1 end end;
+  process copy(integer in U; integer out W);
+  begin repeat send wait(U) on W end;
+  count(X0, 65) par copy(X0, X1) par copy(X1, X2) par copy(X2, W)
+end
+"""
+LONG = """begin integer output channel X, Y, Z;
+  process count(integer out W; integer N);
+  begin integer I; while I < N do begin I := I + 1; send I on W end end;
+  count(X, {0}) par count(Y, {0}) par count(Z, {0})
+end
+"""
+PROGRAMS = [path for path in sorted(glob.glob(f"{TOP}/examples/*.kahn"))
+            if os.path.exists(f"{path[:-5]}.report") and not os.path.exists(f"{path[:-5]}.input")]
+
+
+def events(report):
+    """The sum of the events in a report's last line."""
+    return report.split()[-1]
+
+
+def is_stopped(out, whole):
+    """Whether a report is one that memory stopped: each of its streams begins the whole one, and the events of its ends add up."""
+    lines = out.split("\n")
+    streams = itertools.takewhile(lambda pair: not pair[0].startswith("end "), zip(whole.split("\n"), lines))
+    total = sum(int(events(line)) for line in lines if line.startswith("end "))
+    return lines[-2:] == [f"stopped by memory {total}", ""] and all(f"{every} ".startswith(f"{part} ") for every, part in streams)
+
+
+class Memory(Room):
+    def setUp(self):
+        super().setUp()
+        self.put(**{"copies.kahn": COPIES, "long.kahn": LONG.format(25000)})
+        self.library = self.refusing("refuse_growth.c")
+
+    def growths(self, name, words, judged, workers, enough=25, text=b""):
+        """Refuses one growth after the other, until so many runs in a row are as if nothing had been refused. `judged` says of what a run
+        gave which kind it is: alike, memory, thread or stopped; or nothing."""
+        kinds, number, alike = collections.Counter(), 0, 0
+        while alike < enough and number < 2000 and kinds[None] < 20:
+            number += 1
+            out, err, status = self.ran(*words, text=text, FAIL_AT=str(number), LD_PRELOAD=self.library)
+            kind = "memory" if (out, err, status) == ("", "kahn: no memory\n", 4) else judged(out, err, status)
+            if kind == "memory" and kinds["thread"] + kinds["stopped"]:
+                kind = None
+            self.same(f"{name} with growth {number} refused: status {status}, {err[:300]}, {out[:300]}", kind is not None)
+            kinds[kind] += 1
+            alike = alike + 1 if kind == "alike" else 0
+        self.same(f"{name}: a growth was refused before the first worker", kinds["memory"] > 0)
+        self.same(f"{name}: a growth was refused after the first worker began", kinds["thread"] + kinds["stopped"] > 0)
+        self.same(f"{name}: one worker wants no thread", workers > 1 or not kinds["thread"])
+        self.same(f"{name}: growths come to an end", alike, enough)
+        print(f"{name}: {kinds['memory']} want memory, {kinds['thread']} want a thread, {kinds['stopped']} are stopped or go on later")
+
+    def growths_of_run(self, runner, program, workers, quantum, enough=25):
+        whole, _, _ = self.ran(KAHN, program, "--workers", str(workers), "--quantum", str(quantum))
+
+        def judged(out, err, status):
+            if (out, err, status) == (whole, "", 0):
+                return "alike"
+            if runner != KAHN and (out, err, status) == ("", "kahn: no thread\n", 6):
+                return "thread"
+            return "stopped" if (err, status) == ("", 4) and is_stopped(out, whole) else None
+
+        words = [runner, program, "--workers", str(workers), "--quantum", str(quantum)]
+        self.growths(" ".join(map(os.path.basename, words)), words, judged, workers, enough)
+
+    def growths_of_held(self, program, workers, quantum):
+        """A held run may take just as many events as the run has in all its parts, and nothing that is refused stops it."""
+        whole, _, _ = self.ran(KAHN, program, "--workers", str(workers), "--quantum", str(quantum))
+        words = [CROWD, "held", program, "--workers", str(workers), "--quantum", str(quantum), "--bound", events(whole)]
+        kinds = {(whole, "", 0): "alike", (whole, "again\n", 0): "stopped"}
+        self.growths(f"held {program} by {workers} with quantum {quantum}", words, lambda *given: kinds.get(given), workers)
+
+    def test_runs(self):
+        for workers in (1, 2, 8):
+            for quantum in (1, 1000):
+                for program in ("copies.kahn", "examples/sample-four-turns.kahn"):
+                    self.growths_of_run(CROWD if HAS_CROWD else KAHN, program, workers, quantum)
+
+    def test_held_runs(self):
+        if not HAS_CROWD:
+            self.skipTest("there is no kahn_crowd")
+        for workers in (1, 2, 8):
+            for quantum in (1, 1000):
+                self.growths_of_held("copies.kahn", workers, quantum)
+
+    def test_parts_of_a_live_run(self):
+        """The first part may take just as many events as the run has. A blank line begins the next, and one more comes at the end."""
+        whole, _, _ = self.ran(KAHN, "copies.kahn", "--quantum", "1", "--workers", "1")
+        streams, ends = whole.split("\n", 1)
+
+        def judged(out, err, status):
+            lines = out.splitlines(keepends=True)
+            told = err.replace("kahn_explain copies.kahn --input FILE says why\n", "")
+            kind = {"": "alike"}.get(told, "stopped" if told.startswith("copies.kahn: input line ") and told.endswith("memory\n") else None)
+            # a line for which memory was refused is passed over, and the status may say so
+            is_well = status == 0 or (status, told) == (1, "copies.kahn: input line 1: no memory\n")
+            values = "W:" + "".join(line[2:].rstrip("\n") for line in lines if line.startswith("W:"))
+            return kind if is_well and values == streams and "".join(line for line in lines if not line.startswith("W:")) == ends else None
+
+        words = [LIVE, "copies.kahn", "--quantum", "1", "--step", events(whole)]
+        self.growths("parts of copies.kahn", words, judged, 1, text=b"\n")
+
+    def test_a_run_that_goes_over_to_several_workers(self):
+        """It goes on without them, from where it stood. Memory that is refused for putting the report into text isn't reported."""
+        self.growths_of_run(KAHN, "long.kahn", 4, 1000, enough=120)
+
+    def test_little_memory(self):
+        """Four workers give a report wherever one does."""
+        whole, _, _ = self.ran(KAHN, "--workers", "1", "long.kahn")
+        reports = 0
+        for limit in [*range(3500, 12001, 500), 15000, 20000, 30000, 40000, 80000]:
+            limited = ["bash", "-c", f'ulimit -v {limit}; exec "$@"', "bash", KAHN, "long.kahn", "--workers"]
+            if self.ran(*limited, "1")[2] == 0:
+                reports += 1
+                out, err, status = self.ran(*limited, "4")
+                good = (out, status) == (whole, 0) or (err, status) == ("", 4) and is_stopped(out, whole)
+                self.same(f"four workers in {limit} kB: status {status}, {err[:300]}", good)
+        self.same("reports in little memory", reports > 0)
+
+
+class Threads(Room):
+    """kahn leaves a run to the threads that came. It starts as many as have work, and no more than run side by side; a thread that puts values
+    of the report into text isn't missed either. kahn_crowd promises its workers."""
+
+    def setUp(self):
+        super().setUp()
+        self.library = self.refusing("refuse_thread.c")
+
+    def refused(self, number, *words):
+        """What a run gives with that thread refused, and whether one was."""
+        mark = f"{self.folder}/refused"
+        if os.path.exists(mark):
+            os.remove(mark)
+        given = self.ran(*words, FAIL_AT=str(number), REFUSED=mark, LD_PRELOAD=self.library)
+        return given, os.path.exists(mark)
+
+    def each(self, runner, program, report, workers, started):
+        """Refuses each of so many threads that run the network, and of the next eight, which write a long report or aren't started: how many
+        of these were refused."""
+        later = 0
+        for number in range(1, started + 9):
+            given, is_refused = self.refused(number, runner, "--workers", str(workers), program)
+            wanted = ("", "kahn: no thread\n", 6) if number <= started and runner == CROWD else (report, "", 0)
+            name = f"{os.path.basename(runner)} {os.path.basename(program)} with thread {number} of {workers} workers refused"
+            self.same(name, (*given, is_refused or number > started), (*wanted, True))
+            later += number > started and is_refused
+        return later
+
+    def starts(self, number, name, report, *words):
+        """Just so many threads are started, and the report is whole if the last of them, or the next, is refused."""
+        for at in (it for it in (number, number + 1) if it > 0):
+            given, is_refused = self.refused(at, *words, f"{name}.kahn")
+            self.same(f"{name}: it starts {number} threads, of which {at} is refused", (given, is_refused), ((report, "", 0), at <= number))
+
+    def test_a_long_report(self):
+        """Three instances, so three workers, if so many run side by side; and 150,000 values, which several threads put into text."""
+        self.put(**{"long.kahn": LONG.format(50000)})
+        report, _, _ = self.ran(KAHN, "--workers", "1", "long.kahn")
+        for workers in (1, 2, 3, 16):
+            started = min(workers, 3, os.cpu_count()) - 1
+            self.same(f"threads of {workers} workers write it", self.each(KAHN, "long.kahn", report, workers, started) >= started)
+
+    def test_as_many_as_have_work(self):
+        """Whatever the quantum is, also after a long beginning by one; none if one thread alone may run, or values go round a ring, or from one
+        process to many."""
+        common.sys.path.append(f"{TOP}/bench")
+        import workloads
+        texts = {"four": workloads.farm(200_000, 4), "two": workloads.farm(200_000, 2), "late": workloads.serial(300_000, 200_000),
+                 "ring": workloads.ring(1_000), "star": workloads.star(2_000, 40)}
+        self.put(**{f"{name}.kahn": text for name, text in texts.items()})
+        reports = {name: self.ran(KAHN, "--workers", "1", "--bound", "100000000", f"{name}.kahn")[0] for name in texts}
+        side = os.cpu_count() - 1
+        one = ["taskset", "-c", str(min(os.sched_getaffinity(0)))]
+        for quantum in ("1", "7", "1000"):
+            by = [KAHN, "--bound", "100000000", "--quantum", quantum, "--workers"]
+            for number, name, words in ((min(3, side), "four", [*by, "4"]), (min(2, side), "four", [*by, "3"]), (min(1, side), "two", [*by, "16"]),
+                                        (min(3, side), "late", [*by, "4"]), (0, "ring", [*by, "4"]), (0, "star", [*by, "4"]), (0, "four", [*one, *by, "4"])):
+                self.starts(number, name, reports[name], *words)
+
+    def test_examples(self):
+        for path in PROGRAMS:
+            report = read(f"{path[:-5]}.report").decode()
+            self.each(KAHN, path, report, 16, 0)
+            for workers in (1, 2, 3, 4, 16) if HAS_CROWD else ():
+                self.each(CROWD, path, report, workers, workers - 1)
+                for number in range(1, workers):
+                    given, _ = self.refused(number, CROWD, "held", "--workers", str(workers), path)
+                    self.same(f"held {os.path.basename(path)} with thread {number} of {workers} workers refused", given, (report, "again\n", 0))
