@@ -1,4 +1,4 @@
-// Refuses the growth of memory whose number the variable FAIL_AT names, counted from 1. For checks/memory.sh, which loads
+// Refuses the growth of memory whose number the variable FAIL_AT names, counted from 1. For tests/test_refusals.py, which loads
 // it before the program.
 #include <errno.h>
 #include <stdatomic.h>
