@@ -22,12 +22,14 @@ import glob
 import os
 import re
 import shutil
+import signal
 import subprocess
+import threading
 
 from common import NAMES, TOP, read, write
 
 TOOLS = ("dot", "gnuplot", "m4", "perl")
-SECONDS = 120
+SECONDS = 60
 
 
 class Row:
@@ -62,11 +64,15 @@ def rows_of(path):
 
 
 def ran(command, folder, path, joined=False):
-    """What bash makes of a command: standard output, standard error, status."""
+    """What bash makes of a command: standard output, standard error, status. What it began is killed after a time."""
     words = {"PATH": f"{path}:{os.environ['PATH']}", "LC_ALL": "C.UTF-8", "TOP": TOP}
-    done = subprocess.run(["bash", "-c", command], cwd=folder, env={**os.environ, **words}, stdin=subprocess.DEVNULL, stdout=subprocess.PIPE,
-                          stderr=subprocess.STDOUT if joined else subprocess.PIPE, timeout=SECONDS, check=False)
-    return done.stdout, done.stderr, done.returncode
+    run = subprocess.Popen(["bash", "-c", command], cwd=folder, env={**os.environ, **words}, stdin=subprocess.DEVNULL, stdout=subprocess.PIPE,
+                           stderr=subprocess.STDOUT if joined else subprocess.PIPE, start_new_session=True)
+    late = threading.Timer(SECONDS, os.killpg, (run.pid, signal.SIGKILL))
+    late.start()
+    out, err = run.communicate()
+    late.cancel()
+    return out, err, run.returncode
 
 
 def try_session(path, programs, folder, only, tried):
