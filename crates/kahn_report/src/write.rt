@@ -190,8 +190,9 @@ pub(crate) fn put_ends<W: Write, L: Ledger>(
     Ok(())
 }
 
-/// Writes the report text and flushes, and counts both: at most one write for each byte, and one flush.
-fn write_counted<W: Write, L: Ledger>(
+/// Writes the report text and flushes, and counts both: at most one write for each byte, and one flush. After a fault a prefix of it
+/// went out.
+pub fn write_counted<W: Write, L: Ledger>(
     writer: &mut W,
     network: &Network,
     answer: &Answer,

@@ -4,7 +4,8 @@ use crate::held::{begun, network_of};
 use crate::programs::{HANDED_ON, TWO_COUNTS};
 use crate::rows::{AMPLE, config, reported};
 use crossbeam_utils::Backoff;
-use kahn_pool::{Gate, Verdict};
+use kahn_pool::{Flow, Gate, Verdict};
+use kahn_streams::Input;
 use std::alloc::{AllocError, Global};
 use std::sync::atomic::{AtomicU64, Ordering};
 use std::test::Fail;
@@ -165,6 +166,22 @@ fn one_worker_takes_turns(rt: HostRuntime) -> Result<(), Fail> {
         assert_eq!(rt; gate.came.load(Ordering::SeqCst), came);
         assert_eq!(rt; verdict, Verdict::Finished);
     }
+    Ok(())
+}
+
+// So does a run that is fed as it goes.
+#[test]
+fn a_flow_takes_turns(rt: HostRuntime) -> Result<(), Fail> {
+    let alloc = rt.alloc();
+    let network = network_of(alloc, TWO_COUNTS)?;
+    let input = Input::none(alloc, &network)?;
+    let config = config(alloc, 1, 2, AMPLE, None)?;
+    let mut flow = Flow::start(alloc, &network, input, config)?;
+    let gate = Ordered {
+        came: AtomicU64::new(0),
+    };
+    assert_eq!(rt; flow.resume(0, &gate), Ok(Verdict::Finished));
+    assert_eq!(rt; gate.came.load(Ordering::SeqCst), 0b01_10_01_10_01_10_01_10);
     Ok(())
 }
 

@@ -10,7 +10,8 @@ use kahn_check::CheckFault;
 use kahn_fault::{Fault, fault_line};
 use kahn_pool::{Answer, Open, Verdict, run_one};
 use kahn_report::{
-    ReadFault, WorkFault, WriteFault, read_text, work, write_closing, write_line, write_report_by,
+    ReadFault, WorkFault, WriteFault, read_text, right_lines, work, write_closing, write_line,
+    write_report_by,
 };
 use kahn_streams::{Input, Network};
 use kahn_syntax::Span;
@@ -175,6 +176,7 @@ fn several_threads_write_a_report(rt: HostRuntime) -> Result<(), Fail> {
     let alloc = rt.alloc();
     let network = network_of(alloc, COUNT)?;
     let answer = run_one(alloc, &network, Input::none(alloc, &network)?, 100)?;
+    right_lines();
     writes_by_several(&rt, alloc, &network, &answer)
 }
 
