@@ -1,4 +1,4 @@
-//! Where the cells of a network stand while several workers run them: one pair of hands for each cell, a budget of events, and a reason to stop.
+//! Where the cells of a network are while several workers run them: at most one worker at each cell, a budget of events, and a reason to stop.
 #![tactic(auto)]
 
 mod board;

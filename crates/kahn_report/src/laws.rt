@@ -19,8 +19,8 @@ pub fn one_report()
     ensures { (program input : List ℕ) (config other : Config) → IsOneReport program input config other }
 {}
 
-/// The network of the sample text of Kahn's paper, whatever blanks, comments and letter case stand in it, is the one of which
-/// the law `sample` of kahn_streams speaks: the value at place k of X is k mod 2.
+/// The network of the sample text of Kahn's paper, whatever its blanks, comments and letter case, is that of the law `sample`
+/// of kahn_streams: the value at place k of X is k mod 2.
 pub fn sample_text()
     ensures { (text : List ℕ) (t : Program) → IsSampleText text → IsProgram text t → network_of t ≡ sample_network }
 {}

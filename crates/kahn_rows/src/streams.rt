@@ -22,7 +22,7 @@ use std::process::Abort;
 use std::test::Fail;
 use std::thread::Threads;
 
-// A writer that takes one byte a call, and at one call answers an error, or, where none is named, takes no byte.
+// A writer that takes one byte a call, and at one call returns an error, or, if none is named, takes no byte.
 #[derive(Drop)]
 struct Slow {
     taken: Vec<u8>,
@@ -180,7 +180,7 @@ fn several_threads_write_a_report(rt: HostRuntime) -> Result<(), Fail> {
     writes_by_several(&rt, alloc, &network, &answer)
 }
 
-// What a writer took whose calls count, where its flush fails or not, and what each call of a writer said of it.
+// What a counting writer took, if its flush fails and if not, and what each call of a writer said of it.
 #[test]
 fn the_flush_of_each_writer_fails(rt: HostRuntime) -> Result<(), Fail> {
     let alloc = rt.alloc();

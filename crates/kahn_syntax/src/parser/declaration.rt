@@ -18,7 +18,7 @@ use kahn_streams::{
 };
 use std::alloc::Global;
 
-// The kind that stands first, and the lexemes after it.
+// The kind that comes first, and the lexemes after it.
 fn next_kind(input: &[Lexeme]) -> Option<(Kind, &[Lexeme])>
     ensures first { IfSome result (λ r. (text : List ℕ) → terminals text input.now ≡ kind_terminal r.0 ∷ terminals text r.1.now) }
     ensures passed { IfSome result (λ r. IsPast input.now r.1.now) }
@@ -33,7 +33,7 @@ fn next_kind(input: &[Lexeme]) -> Option<(Kind, &[Lexeme])>
     }
 }
 
-/// The declarations that stand first, each with the semicolon after it: none or more.
+/// Reads the declarations that come first, each with the semicolon after it: none or more.
 pub fn read_declarations<'t>(
     alloc: Global,
     text: &str,
@@ -53,7 +53,7 @@ pub fn read_declarations<'t>(
     Ok((declarations, rest))
 }
 
-// Whether a declaration stands first: a name begins an instance.
+// Whether a declaration comes first: a name begins an instance.
 fn begins_declaration(input: &[Lexeme]) -> bool
     ensures { (text : List ℕ) → starts declaration_rules (terminals text input.now) ≡ result }
 {
@@ -85,7 +85,7 @@ fn read_declaration<'t>(alloc: Global, text: &str, input: &'t [Lexeme]) -> Read<
     }
 }
 
-// The role that stands before `channel`, where one stands.
+// The role before `channel`, if there is one.
 fn read_role(input: &[Lexeme]) -> (Role, &[Lexeme])
     ensures spans { (text : List ℕ) → TakesAll (lexemes text) (role_words result.0 []) input.now result.1.now }
     ensures proper { (text : List ℕ) → AreProper text input.now → AreProper text result.1.now }
@@ -119,7 +119,7 @@ fn read_process<'t>(alloc: Global, text: &str, input: &'t [Lexeme]) -> Read<'t, 
     Ok((process, rest))
 }
 
-// The parameters of a process in their brackets, and what stands between them and its body.
+// The parameters of a process in their brackets, and what is between them and its body.
 fn read_head<'t>(alloc: Global, text: &str, input: &'t [Lexeme]) -> Read<'t, Vec<Parameter>>
     requires proper { AreProper text.now input.now }
     ensures { ParsesPart result text.now head_parts (λ r. Head (lexemes text.now) parameter_with r.0.items) input.now (λ r. r.1.now) }

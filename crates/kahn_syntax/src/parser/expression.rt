@@ -15,7 +15,7 @@ use crate::parser::operator::{Level, next_comparison, next_not, next_operator};
 use kahn_streams::{Expression, Form, Operand};
 use std::alloc::Global;
 
-/// An expression.
+/// Reads an expression.
 #[cycle(expression)]
 pub fn read_expression<'t>(
     alloc: Global,
@@ -37,7 +37,7 @@ pub fn read_expression<'t>(
     made(alloc, input, rest, Form::Conditional(test, yes, no))
 }
 
-/// An expression, and the keyword after it.
+/// Reads an expression, and the keyword after it.
 #[cycle(expression)]
 pub fn read_before<'t>(
     alloc: Global,
@@ -147,7 +147,7 @@ fn read_relation<'t>(
     made(alloc, input, rest, form)
 }
 
-// An operand that no operator parts.
+// An operand that no operator splits.
 #[cycle(expression)]
 fn read_factor<'t>(
     alloc: Global,

@@ -15,7 +15,7 @@ use crate::parser::names::read_name;
 use kahn_streams::{Action, Statement};
 use std::alloc::Global;
 
-/// One statement or more, with semicolons between.
+/// Reads one statement or more, with semicolons between.
 #[cycle(statement)]
 pub fn read_statements<'t>(
     alloc: Global,
