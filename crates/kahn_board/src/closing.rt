@@ -153,7 +153,7 @@ fn join_rest<T: Told>(board: &Board<T>, first: Seat<T>, mut others: Vec<Seat<T>,
     seat
 }
 
-/// Joins all seats, which have left.
+/// Joins all seats, each of which has left.
 pub fn join_all<T: Told>(board: &Board<T>, mut seats: Vec<Seat<T>, Global>) -> Seat<T>
     requires some { 0 < length seats.items }
     requires each { All (IsDoneAt board.now.table.shared.table_id) seats.items }

@@ -11,7 +11,7 @@ ghost use Rattle.kahn_board.specs.inner.Turn.{DrawsAgain, FitsDraw, drawn_of, Be
 use crate::board::{Board, Draw, Look, Rest, Seat};
 use crate::rule::Told;
 
-// How often it draws at most if other workers come between.
+// How often it draws at most when other workers come between.
 const DRAWS: usize = 64;
 
 /// Claims the instance, if it is ready, for what is left of a draw. False if it isn't, since another worker has it, or it
@@ -86,7 +86,7 @@ pub fn rest_ready<T: Told>(seat: &mut Seat<T>, board: &Board<T>, p: usize)
     seat.set_down(board, p, Rest::Ready);
 }
 
-/// Sets the instance down, which has ended.
+/// Sets down the instance, which has ended.
 pub fn rest_over<T: Told>(seat: &mut Seat<T>, board: &Board<T>, p: usize)
     requires board { IsAtBoard board.now seat.old }
     requires holds { EndsTurn T.told T.after board.now.table.shared.key p (λ y. TellsEnd (T.told y)) seat.old }

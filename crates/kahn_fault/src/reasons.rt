@@ -39,7 +39,7 @@ fn reading_words<R: Read>(reader: &mut R) -> &'static str {
     }
 }
 
-/// Returns why the file of a path can't be read, in words. It is tried again, so there are none if it can be read by now.
+/// Returns why the file of a path can't be read, in words, or nothing if it can be read by now: it is tried again.
 fn opening_words<R: Runtime>(rt: &R, path: &str) -> &'static str {
     match fs::open(rt, path) {
         Ok(mut file) => reading_words(&mut file),

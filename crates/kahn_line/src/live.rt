@@ -161,7 +161,8 @@ fn lines_at_end(
 }
 
 /// Reads the words of a command line, the first of which is the name of the program. Fails with `Refused` if clap refuses the
-/// words, as if they name no program text, or they ask for the help or the version, and with `NoMemory` if memory was refused.
+/// words, which have to name a program text, or they ask for the help or the version, and with `NoMemory` if memory was
+/// refused.
 pub fn read_live_line<'a, S: AsStr>(alloc: Global, words: &'a [S]) -> Result<LiveOptions, LineFault>
     ensures { IsLiveRead (map S.text words.now) result }
 {

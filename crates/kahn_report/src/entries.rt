@@ -96,7 +96,7 @@ fn keep(
 }
 
 /// Reads the entries of an input text for a network of `channels` channels: names of channels, and their values. If there are
-/// more entries than channels one is wrong, so only `channels` + 1 are kept. Never fails with `Input`.
+/// more entries than channels, one is wrong, so only `channels` + 1 are kept. Never fails with `Input`.
 #[tactic(auto, using(crate::proofs::Kept::none_read))]
 pub fn read_entries(
     alloc: Global,

@@ -36,7 +36,7 @@ impl Model for Carried {
     ghost invariant = { λ c. (c.token.value.value ≡ c.value) × (c.token.value.place < 2 ^ 64) };
 }
 
-// Stores the value of the token that the caller names, which is that of something at hand.
+// Stores the value of the token that the caller names. `_named` is what the name is taken from.
 fn carried_of<X>(_named: &X, value: Word) -> Carried
     ghost token: { Token }
     requires { (token.value ≡ value) × (token.place < 2 ^ 64) }
@@ -48,7 +48,7 @@ fn carried_of<X>(_named: &X, value: Word) -> Carried
     }
 }
 
-// The token of a value that stands there, for the names of what is carried.
+// The token of a value that stands there. The caller takes its names from `_carried`.
 fn token_of(_carried: &Carried, line: Line, place: u64, value: Word) -> Token
     ghost names: { Names }
     requires { Holds names.network names.input line place value }

@@ -1,4 +1,4 @@
-//! The numbers by which the abstract syntax speaks of the names of a process.
+//! The numbers of a process's names in the abstract syntax.
 
 ghost use Rattle.std.specs.Prelude.{◌≡◌, List, ℕ, IfOk, OnOk};
 ghost use Rattle.std.proofs.Common.{bytes_eq};

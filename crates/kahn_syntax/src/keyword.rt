@@ -1,4 +1,4 @@
-//! The words of the language.
+//! The keywords of the language.
 
 ghost use Rattle.std.specs.Prelude.{◌≡◌, IfSome, IfNone};
 ghost use Rattle.kahn_syntax.specs.declared.lexeme.Keyword.{Keyword};

@@ -45,7 +45,7 @@ fn counters(alloc: Global, count: usize) -> Result<Vec<Counter>, NoMemory>
     Ok(cells)
 }
 
-// Says, for `count` channels, that nothing is published.
+// Makes `count` published numbers, all 0.
 fn none_published(alloc: Global, count: usize) -> Result<Vec<u64>, NoMemory>
     ensures { IfOk result (λ v. v.items ≡ replicate count 0) }
 {

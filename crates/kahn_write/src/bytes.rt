@@ -91,7 +91,7 @@ pub fn put_line<W: Write, L: Ledger>(
     }
 }
 
-/// Flushes a writer, which changes nothing of its contents, and counts that too.
+/// Flushes a writer, whose contents stay, and counts that too.
 pub fn flush<W: Write, L: Ledger>(writer: &mut W, writes: &mut Steps<L>) -> Result<(), WriteFault>
     ensures kept { Keeps (W.contents writer.old) (W.contents writer.new) }
     ensures once { writes.new ≡ writes.old + 1 }

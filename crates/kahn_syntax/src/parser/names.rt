@@ -1,4 +1,4 @@
-//! Names, one and in lists.
+//! Names and lists of names.
 
 ghost use Rattle.std.specs.Prelude.{◌≡◌, ◌+◌, ◌<◌, [], ◌∷◌, ◌⊎◌, false, length, IfOk, IfErr};
 ghost use Rattle.kahn_syntax.specs.declared.parser.cursor.Stop.TheVariants.{Refused, NoMemory};

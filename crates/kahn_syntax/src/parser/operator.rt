@@ -1,4 +1,4 @@
-//! Operators of two operands, by their levels.
+//! Binary operators, by their levels.
 
 ghost use Rattle.std.specs.Prelude.{◌≡◌, ◌+◌, List, ℕ, ◌∷◌, false, length, IfSome, IfNone};
 ghost use Rattle.kahn_syntax.specs.declared.lexeme.Keyword.TheVariants as keyword;

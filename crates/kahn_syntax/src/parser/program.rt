@@ -79,7 +79,7 @@ fn fault_of(text: &str, lexemes: &[Lexeme], stop: Stop) -> SyntaxFault
     }
 }
 
-// A whole program.
+// Reads a whole program.
 fn read_program(alloc: Global, text: &str, lexemes: &[Lexeme]) -> Result<Program, Stop>
     requires proper { AreProper text.now lexemes.now }
     ensures read { IfOk result (λ p. (nesting (program_tree p) ≤ 64) × ProgramSpans text.now p lexemes.now) }
@@ -100,7 +100,7 @@ fn read_program(alloc: Global, text: &str, lexemes: &[Lexeme]) -> Result<Program
     }
 }
 
-// The lexemes after a semicolon, if one comes first.
+// Passes a semicolon, if one comes first.
 fn past_semicolon(input: &[Lexeme]) -> &[Lexeme]
     ensures spans { (text : List ℕ) → May (Takes text (sign mark.Semicolon)) input.now result.now }
     ensures shorter { length result.now ≤ length input.now }
@@ -113,7 +113,7 @@ fn past_semicolon(input: &[Lexeme]) -> &[Lexeme]
     }
 }
 
-// One instance or more, with `par` between.
+// Reads one instance or more, with `par` between.
 fn read_instances<'t>(alloc: Global, text: &str, input: &'t [Lexeme]) -> Read<'t, Vec<Instance>>
     requires proper { AreProper text.now input.now }
     ensures { ParsesPart result text.now (InstancePart ∷ InstancesTail ∷ []) (λ r. InstancesSpan text.now r.0.items) input.now (λ r. r.1.now) }
@@ -130,7 +130,7 @@ fn read_instances<'t>(alloc: Global, text: &str, input: &'t [Lexeme]) -> Read<'t
     }
 }
 
-// An instance.
+// Reads an instance.
 fn read_instance<'t>(alloc: Global, text: &str, input: &'t [Lexeme]) -> Read<'t, Instance>
     requires proper { AreProper text.now input.now }
     ensures { ParsesPart result text.now (InstancePart ∷ []) (λ r. InstanceSpans text.now r.0) input.now (λ r. r.1.now) }
@@ -141,7 +141,7 @@ fn read_instance<'t>(alloc: Global, text: &str, input: &'t [Lexeme]) -> Read<'t,
     Ok((Instance { process, arguments }, rest))
 }
 
-// The arguments of an instance, with commas between, and the bracket after them: none or more.
+// Reads the arguments of an instance, with commas between, and the bracket after them: none or more.
 fn read_arguments<'t>(alloc: Global, text: &str, input: &'t [Lexeme]) -> Read<'t, Vec<Argument>>
     requires proper { AreProper text.now input.now }
     ensures { ParsesPart result text.now (ArgumentsPart ∷ []) (λ r. ClosedArgumentsSpan text.now r.0.items) input.now (λ r. r.1.now) }
@@ -162,7 +162,7 @@ fn read_arguments<'t>(alloc: Global, text: &str, input: &'t [Lexeme]) -> Read<'t
     }
 }
 
-// An argument.
+// Reads an argument.
 fn read_argument<'t>(alloc: Global, text: &str, input: &'t [Lexeme]) -> Read<'t, Argument>
     requires proper { AreProper text.now input.now }
     ensures { ParsesPart result text.now (ArgumentPart ∷ []) (λ r. ArgumentSpans text.now r.0) input.now (λ r. r.1.now) }
@@ -194,7 +194,7 @@ fn read_argument<'t>(alloc: Global, text: &str, input: &'t [Lexeme]) -> Read<'t,
     }
 }
 
-// The number that comes first, negated, and the lexemes after it.
+// Reads the number that comes first, negated.
 #[tactic(auto, using(crate::proofs::Negative::negative_fits))]
 fn next_negative(input: &[Lexeme]) -> Option<(i64, &[Lexeme])>
     ensures number { IfSome result (λ r. (n : ℤ) × (r.0 ≡ neg_ℤ n) × ((text : List ℕ) → terminals text input.now ≡ numeral n ∷ terminals text r.1.now)) }
