@@ -3,7 +3,7 @@
     measure.py KAHN [--runs N] [WORKLOAD ..]      KAHN is the program; without names all workloads, nine runs each
 
 For each workload it prints the events; the milliseconds with 1, 2, 4 and 16 workers; for these the time by the clock and that of all
-processors as multiples of those of one worker; and, where there is an interpreter by hand of it (one thread, built by rustc where it
+processors as multiples of those of one worker; and, if there is an interpreter by hand of it (one thread, built by rustc if it
 is there), its milliseconds, the speed of each as a multiple of that by hand, and with `perf` or `valgrind` the machine instructions an
 event, of one worker and by hand.
 """
@@ -63,7 +63,7 @@ def milliseconds(words):
 
 
 def instructions(words, room):
-    """How many machine instructions a run takes, or None where nothing here counts them."""
+    """How many machine instructions a run takes, or None if nothing here counts them."""
     if shutil.which("perf"):
         ran = subprocess.run(["perf", "stat", "-x,", "-e", "instructions:u", *words], capture_output=True, text=True)
         found = re.search(r"^(\d+),", ran.stderr, re.M)

@@ -1,10 +1,10 @@
 """Random networks that stop: why each process waits, as kahn_explain says it, against what the report of kahn and the tree say.
 
-    causes.py KAHN_EXPLAIN KAHN [COUNT] [SEED]     the same seed makes the same texts; where none is given it is chosen at random
+    causes.py KAHN_EXPLAIN KAHN [COUNT] [SEED]     the same seed makes the same texts; without one it is chosen at random
 
 Who waits on whom is read off the report's end lines and the wiring of reference.py. Whoever has gone as many waits onward as there are
 instances, and still waits on one of them, is in a ring, whose mending is told once. What is said to be for ever is tried: the interpreter of reference.py runs the
-network on a longer input, and each such process has to end there as it did; where it has a fault, the place where that came has to be
+network on a longer input, and each such process has to end there as it did; if it has a fault, the place where that came has to be
 one of those that are told, or not told beside twenty others. The places of waits are read off the tree of reference.py. A difference is printed, and its texts are kept.
 """
 import os

@@ -1,9 +1,9 @@
 """Random programs whose inputs come in lines: what the built kahn_live prints, against the report of kahn on the same values.
 
-    live.py KAHN_LIVE KAHN [COUNT] [SEED]     the same seed makes the same texts; where none is given it is chosen at random
+    live.py KAHN_LIVE KAHN [COUNT] [SEED]     the same seed makes the same texts; without one it is chosen at random
 
 The values of all input channels come in lines of one to four, in any order. What is printed of a stream, line after line, has to be a
-beginning of it; where both have finished streams, ends and events have to be the same. A difference is printed, and its texts are kept.
+beginning of it; if both have finished streams, ends and events have to be the same. A difference is printed, and its texts are kept.
 """
 import os
 import random

@@ -1,6 +1,6 @@
 """Random texts with a fault of the grammar: whether what kahn_explain tells of changes of one lexeme, of blocks and comments is true by reference.py.
 
-    mends.py KAHN_EXPLAIN [COUNT] [SEED]     the same seed makes the same texts; where none is given it is chosen at random
+    mends.py KAHN_EXPLAIN [COUNT] [SEED]     the same seed makes the same texts; without one it is chosen at random
 
 Each change beside the fault is tried, with each class of lexemes. What is told and isn't so is printed, and its text is kept where the line names it.
 """

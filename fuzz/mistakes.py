@@ -2,8 +2,8 @@
 
     mistakes.py KAHN_EXPLAIN [COUNT] [SEED] [-v]     the same seed makes the same mistakes; -v prints those that aren't told rightly
 
-Right: the first remark, or the heading where there is none, names the repair. Misled: there is a remark, and the word of the repair is nowhere.
-Silent: nothing is said. One: exactly one error is told. It fails where fewer are told rightly, or more mislead, than the last lines say.
+Right: the first remark, or the heading if there is none, names the repair. Misled: there is a remark, and the word of the repair is nowhere.
+Silent: nothing is said. One: exactly one error is told. It fails if fewer are told rightly, or more mislead, than the last lines say.
 """
 import os
 import random

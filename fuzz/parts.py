@@ -1,6 +1,6 @@
 """Programs with several faults: the notes of the built `kahn_explain` against reference.py.
 
-    parts.py EXPLAIN [COUNT] [SEED]     the same seed makes the same texts; where none is given it is chosen at random
+    parts.py EXPLAIN [COUNT] [SEED]     the same seed makes the same texts; without one it is chosen at random
 
 Each is an example of examples/ with some names, numbers and words put in the place of others. Each difference is printed.
 """

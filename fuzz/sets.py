@@ -1,6 +1,6 @@
 """Random texts with a fault of the grammar: the lexemes that kahn_explain says may stand there against those of a second grammar.
 
-    sets.py KAHN_EXPLAIN [COUNT] [SEED]     the same seed makes the same texts; where none is given it is chosen at random
+    sets.py KAHN_EXPLAIN [COUNT] [SEED]     the same seed makes the same texts; without one it is chosen at random
 
 Before these stands the sample network, cut off at each place in turn, with a lexeme behind that can't stand there.
 
@@ -86,7 +86,7 @@ class Chart:
 
     def close(self, items):
         here, number = {}, len(self.sets)
-        self.sets.append(here)  # by the symbol that an item wants, None where it wants none
+        self.sets.append(here)  # by the symbol that an item wants, None if it wants none
         seen, empty = set(), set()
         while items:
             item = items.pop()
@@ -146,7 +146,7 @@ def lexeme_of(word):
 
 
 def reads(lexemes):
-    """How many lexemes the parser of the reference reads, or None where they are a program."""
+    """How many lexemes the parser of the reference reads, or None if they are a program."""
     parser = Unlimited(lexemes, 0)
     try:
         parser.program()

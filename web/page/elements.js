@@ -4,7 +4,7 @@ const SVG = "http://www.w3.org/2000/svg";
 
 export const at = (id) => document.getElementById(id);
 
-// An element with its properties, or attributes where it has no such property, and what stands in it.
+// An element with its properties, or attributes if it has no such property, and what stands in it.
 export function made(name, values = {}, ...inner) {
   const it = document.createElement(name);
   Object.entries(values).forEach(([key, value]) => (key in it && key !== "role" ? (it[key] = value) : it.setAttribute(key, value)));

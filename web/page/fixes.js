@@ -33,7 +33,7 @@ function editsOf(words, here, before) {
   return form ? [{ words, ...form[1](form[0].exec(words)[1], here, before) }] : [];
 }
 
-// The edit with blanks, where two words would stand side by side.
+// The edit with blanks, if two words would stand side by side.
 function apart(text, edit) {
   const isBetween = (one, other) => /^\w\w$/.test(`${one ?? ""}${other ?? ""}`), before = text[edit.from - 1], after = text[edit.to], put = edit.text;
   if (put === "") return { ...edit, text: isBetween(before, after) ? " " : "" };

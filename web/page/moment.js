@@ -36,7 +36,7 @@ export function momentOf({ wiring, streams }, k, report, before) {
 
 const only = (places) => (places.length === 1 ? places[0] : undefined);
 
-// The event between two reports: a value more of a stream, or one that no stream shows. It has a place where the text leaves no other.
+// The event between two reports: a value more of a stream, or one that no stream shows. It has a place if the text leaves no other.
 function eventOf({ processes, channels }, streams, mover, report, before) {
   const who = `${processes[mover].number} ${processes[mover].name}`;
   const stream = report.streams.findIndex((it, i) => it.count !== before.streams[i].count);

@@ -25,7 +25,7 @@ function streamOf(name, text) {
   return { name, count, values, last: text.slice(text.lastIndexOf(" ") + 1) };
 }
 
-// A stream is an output channel's or, where it has the number of a process, what that process printed.
+// A stream is an output channel's or, if it has the number of a process, what that process printed.
 export function readReport(text) {
   const streams = [], ends = [];
   let verdict = { kind: "none", events: 0 };

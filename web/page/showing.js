@@ -33,7 +33,7 @@ export function fit() {
   update();
 }
 
-// The field of the input is there where the program has an input, or the field a text.
+// The field of the input is there if the program has an input, or the field a text.
 export function showInput({ channels }) {
   const names = channels.filter((it) => it.role === "input").map((it) => it.name), isThere = names.length > 0 || input.text.trim() !== "";
   at("texts").classList.toggle("alone", !isThere);

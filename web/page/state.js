@@ -23,7 +23,7 @@ export const page = {
   tab: store.state.tab ?? "table", name: "",
 };
 
-// The bound, which may be written like 1e6; none where the field has no such number.
+// The bound, which may be written like 1e6; none if the field has no such number.
 export function boundOf() {
   const [, digits, zeros = "0"] = /^(\d{1,15})(?:e(\d{1,2}))?$/i.exec(at("bound").value.replace(/[ ,_]/g, "")) ?? [];
   const bound = digits === undefined ? MOST_BOUND + 1n : BigInt(digits) * 10n ** BigInt(zeros);

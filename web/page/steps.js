@@ -45,7 +45,7 @@ export function showScore() {
   }
 }
 
-// What a run is asked for, or nothing where its worker was ended meanwhile.
+// What a run is asked for, or nothing if its worker was ended meanwhile.
 export async function asked(answer) {
   try {
     return await answer;
@@ -101,7 +101,7 @@ export function update() {
   revealPlace();
 }
 
-// Draws the network where the room has another width than before. Unless its height was chosen, the pane is as high as the picture.
+// Draws the network if the room has another width than before. Unless its height was chosen, the pane is as high as the picture.
 export function drawPicture() {
   const width = at("picture").clientWidth, isChosen = store.state.panes?.["--network"] !== undefined, room = at("results").clientHeight;
   if (page.width === width || !width) return;

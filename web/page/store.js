@@ -4,7 +4,7 @@ import { isExample } from "./examples.js";
 
 const KEY = "kahn.page", MOST_KEPT = 12, MOST_LINK = 32000, MOST_FILE = 16777216, DIGITS = /^\d{1,15}$/;
 
-// A place to keep things, or none where the browser refuses it.
+// A place to keep things, or none if the browser refuses it.
 function place(name) {
   try {
     return globalThis[name];

@@ -25,7 +25,7 @@ function timeOf(milliseconds) {
   return milliseconds >= 1000 ? `${(milliseconds / 1000).toFixed(1)} s` : `${milliseconds.toFixed(milliseconds < 10 ? 1 : 0)} ms`;
 }
 
-// How the run ended, where something else is said first.
+// How the run ended, if something else is said first.
 function tailOf({ report: { verdict }, isByHand, texts: { bound }, milliseconds }) {
   const after = `after ${counted(verdict.events, "event", "events")}`;
   if (verdict.kind === "finished") return `The run finished ${after}, in ${timeOf(milliseconds)}.`;

@@ -65,7 +65,7 @@ function reasonOf([, number, name, , on, fault, rest], program) {
   };
 }
 
-// The mistake that the line of a fault tells, where no more is known of it.
+// The mistake that the line of a fault tells, if no more is known of it.
 export function faultOf(line, texts) {
   const found = /^kahn: (?:(\d+):(\d+): )?(.*)$/m.exec(line), words = found?.[3] ?? line.trim();
   const where = /^input /.test(words) ? "input" : "program", place = found?.[1] ? lexemeAt(texts.program, Number(found[1]), Number(found[2])) : undefined;
