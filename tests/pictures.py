@@ -204,12 +204,12 @@ def processor_time():
     return times.children_user + times.children_system
 
 
-def try_pictures(draw, tried):
-    """Draws all of them, each in less than a second of processor time."""
+def try_pictures(draw, only, tried):
+    """Draws all of them, or those that have the word in their names, each in less than a second of processor time."""
     cases = [(name, program, None) for name, program, _ in runs()]
     cases += [(f"{name} with its report", program, report) for name, program, report in runs() if report is not None]
     with tempfile.TemporaryDirectory() as folder:
-        for name, program, report in [*cases, *odd_reports(), *ring_reports()]:
+        for name, program, report in (it for it in [*cases, *odd_reports(), *ring_reports()] if only in it[0]):
             words = []
             if report is not None:
                 words = ["--report", f"{folder}/report"]

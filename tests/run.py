@@ -91,14 +91,14 @@ def try_part(part, work, words, tried):
         if not words.here:
             os.mkdir(folder)
             sessions.copy_tree(programs, folder)
-        sessions.try_pages(folder, sessions.pages() if part == "pages" else [part], tried)
+        sessions.try_pages(folder, sessions.pages() if part == "pages" else [part], words.only, tried)
     elif part == "sessions" or part.endswith(".t"):
         paths = sessions.sessions() if part == "sessions" else [os.path.join(common.TOP, part)]
         try_sessions(paths, work, programs, words, tried)
     elif part == "notes":
         notes.try_notes(f"{programs}/kahn_explain", words, tried)
     elif part == "pictures":
-        pictures.try_pictures(f"{programs}/kahn_draw", tried)
+        pictures.try_pictures(f"{programs}/kahn_draw", words.only, tried)
     elif part == "worst":
         worst.try_worst({name: os.path.realpath(f"{programs}/{name}") for name in common.NAMES}, work, words.only, tried)
     elif part in TESTS:
