@@ -1,6 +1,6 @@
 """Random programs and inputs, valid and broken: the built program against reference.py.
 
-    fuzz.py PROGRAM COUNT [SEED]      the same seed makes the same texts; without one it is chosen at random
+    fuzz.py PROGRAM [COUNT] [SEED]    the same seed makes the same texts; without one it is chosen at random
 
 Each difference is printed, with the words of the command line; its texts are kept where these name them.
 """

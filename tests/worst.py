@@ -243,8 +243,8 @@ def memory_for_workers(paths, folder):
 
 
 def no_thread(paths, folder):
-    """A user who may start no thread gets a report."""
-    user = 60001 if os.getuid() == 0 else None
+    """A user who may start no thread, and who runs nothing else, gets a report."""
+    user = 60003 if os.getuid() == 0 else None
     shutil.copy(paths["kahn"], f"{folder}/kahn")
     good = has_report([f"{folder}/kahn", f"{folder}/chain.kahn", "--bound", "3000000"], limited(resource.RLIMIT_NPROC, 1, user))
     return "" if good else "no report with `ulimit -u 1`"
