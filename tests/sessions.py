@@ -13,7 +13,7 @@ before a command names it:
 Other lines are standard output. Commands run in a folder with the files that are beside the session, the repository's examples, and the
 programs on the path. (This is the format of cram, but that standard error is kept apart.)
 
-A page (the README, and those of docs/) has commands between lines of three backticks, of which the first one begins with `$ `; one that has
+A page (the README, CONTRIBUTING, and those of docs/) has commands between lines of three backticks, of which the first one begins with `$ `; one that has
 `<< END` goes on through the line END, and one that ends with a backslash in the next line. They run in a copy of this tree, and what
 they print on both streams has to be as the page shows it. A command by one of TOOLS is left out if that isn't installed, and what comes from
 ADDRESS is left to checks/newcomer.sh.
@@ -30,6 +30,7 @@ from common import NAMES, TOP, read, write
 
 TOOLS = ("dot", "gnuplot", "m4", "perl")
 SECONDS = 60
+NAMED = re.compile(r"\b(?:docs/[\w/-]+\.md|(?:checks|tests|fuzz|bench|web)/[a-z0-9_/-]+\.(?:py|sh|c|t|txt))\b")
 
 
 class Row:
@@ -103,7 +104,7 @@ def sessions():
 
 
 def pages():
-    return ["README.md", *(os.path.relpath(path, TOP) for path in sorted(glob.glob(f"{TOP}/docs/**/*.md", recursive=True)))]
+    return ["README.md", "CONTRIBUTING.md", "bench/README.md", *(os.path.relpath(path, TOP) for path in sorted(glob.glob(f"{TOP}/docs/**/*.md", recursive=True)))]
 
 
 def commands(page):
@@ -135,8 +136,10 @@ def copy_tree(programs, folder):
 
 
 def try_pages(folder, names, only, tried):
-    """Runs the commands of pages in a folder; with a word only those count that have it in them."""
+    """Runs the commands of pages in a folder; with a word only those count that have it in them. The files that a page names have to be there."""
     for page in names:
+        lost = sorted(path for path in set(NAMED.findall(read(f"{TOP}/{page}").decode())) if not os.path.exists(f"{TOP}/{path}"))
+        tried.same(f"{page}: files that aren't there", lost, [])
         for number, command, wanted in commands(page):
             if missing(command):
                 print(f"{page}:{number}: not run, there is no {' '.join(missing(command))}")
