@@ -10,7 +10,8 @@ Each file of specs/ says in its first line which it is, and stands accordingly:
 The reading list of docs/meaning.md has just the files that the clauses of `kahn_report::work` reach, and names definitions that they reach.
 What docs/reading.md shows stands so in one of the files that it names: the lines of each block, in their order.
 
-With `--files CRATE::ITEM ..` it only tells how many lines of definitions of each file those items reach, or all public ones, and the sum.
+With `--files CRATE::ITEM ..` it only tells which files those items reach, or all public ones, how many lines of definitions in each, what they
+are about, and the sum.
 """
 import glob
 import os
@@ -215,7 +216,7 @@ def main():
             lines = sum(len(held[name]) for at, name in seen if at == module)
             total += lines
             if lines:
-                print(f"{lines:4} of {sum(map(len, held.values())):4} {module}")
+                print(f"{lines:4} of {sum(map(len, held.values())):4} {module}: {re.sub('^-- [A-Z][a-z]+[.] *', '', house.heads[module])}")
         print(f"{total:4} in all")
         return 0 if total else "nothing public is called so"
     wrong = list(differences(house, public))
