@@ -74,25 +74,25 @@ A byte order mark.
   ! examples/double.kahn: input line 2: not a name and a colon: `..`; a line begins with the name of a channel
   [1]
 What is shown of a word: no control or format character, 40 bytes and the rest of a character, and what is wanted.
-  $ printf 'A: 21.5\n' | kahn_live examples/double.kahn 2>&1 > /dev/null | sed 's/.*not a value: //'
+  $ printf 'A: 21.5\n' | kahn_live examples/double.kahn 2>&1 > /dev/null | sed -n 's/.*not a value: //p'
   `21.5`; numbers are whole
-  $ printf 'A: \033[31m\n' | kahn_live examples/double.kahn 2>&1 > /dev/null | sed 's/.*not a value: //'
+  $ printf 'A: \033[31m\n' | kahn_live examples/double.kahn 2>&1 > /dev/null | sed -n 's/.*not a value: //p'
   `..`; values are numbers, `true` and `false`
-  $ printf 'A: 1\177\n' | kahn_live examples/double.kahn 2>&1 > /dev/null | sed 's/.*not a value: //'
+  $ printf 'A: 1\177\n' | kahn_live examples/double.kahn 2>&1 > /dev/null | sed -n 's/.*not a value: //p'
   `1..`; values are numbers, `true` and `false`
-  $ printf 'A: \302\2331\n' | kahn_live examples/double.kahn 2>&1 > /dev/null | sed 's/.*not a value: //'
+  $ printf 'A: \302\2331\n' | kahn_live examples/double.kahn 2>&1 > /dev/null | sed -n 's/.*not a value: //p'
   `..`; values are numbers, `true` and `false`
-  $ printf 'A: 1234567890123456789012345678901234567890\n' | kahn_live examples/double.kahn 2>&1 > /dev/null | sed 's/.*not a value: //'
+  $ printf 'A: 1234567890123456789012345678901234567890\n' | kahn_live examples/double.kahn 2>&1 > /dev/null | sed -n 's/.*not a value: //p'
   `1234567890123456789012345678901234567890`; it is past 64 bits
-  $ printf 'A: 12345678901234567890123456789012345678901\n' | kahn_live examples/double.kahn 2>&1 > /dev/null | sed 's/.*not a value: //'
+  $ printf 'A: 12345678901234567890123456789012345678901\n' | kahn_live examples/double.kahn 2>&1 > /dev/null | sed -n 's/.*not a value: //p'
   `1234567890123456789012345678901234567890..`; it is past 64 bits
-  $ printf 'A: 123456789012345678901234567890123456789\303\251x\n' | kahn_live examples/double.kahn 2>&1 > /dev/null | sed 's/.*not a value: //'
+  $ printf 'A: 123456789012345678901234567890123456789\303\251x\n' | kahn_live examples/double.kahn 2>&1 > /dev/null | sed -n 's/.*not a value: //p'
   `123456789012345678901234567890123456789é..`; values are numbers, `true` and `false`
-  $ printf 'A: 1\342\200\2562\n' | kahn_live examples/double.kahn 2>&1 > /dev/null | sed 's/.*not a value: //'
+  $ printf 'A: 1\342\200\2562\n' | kahn_live examples/double.kahn 2>&1 > /dev/null | sed -n 's/.*not a value: //p'
   `1..`; values are numbers, `true` and `false`
-  $ printf 'A: \342\200\2131\n' | kahn_live examples/double.kahn 2>&1 > /dev/null | sed 's/.*not a value: //'
+  $ printf 'A: \342\200\2131\n' | kahn_live examples/double.kahn 2>&1 > /dev/null | sed -n 's/.*not a value: //p'
   `..`; values are numbers, `true` and `false`
-  $ printf 'A: 1\302\260\n' | kahn_live examples/double.kahn 2>&1 > /dev/null | sed 's/.*not a value: //'
+  $ printf 'A: 1\302\260\n' | kahn_live examples/double.kahn 2>&1 > /dev/null | sed -n 's/.*not a value: //p'
   `1°`; values are numbers, `true` and `false`
 Bare numbers.
   $ printf '1\n2\n3\n4\n' | kahn_live examples/double.kahn
