@@ -19,11 +19,11 @@ sort_words sort.Warning = codes "warning"
 sort_words sort.Note = codes "note"
 
 -- a line below the carets; as many columns as the number of the source line takes are left free
-abbrev pub remark : List ℕ → Span → List ℕ → List ℕ
-remark text span words = concat (codes " " ∷ times_over (length (decimal (line_of text span.from))) (codes " ") ∷ codes " = " ∷ shown_text words ∷ codes "\n" ∷ [])
+abbrev pub line_below : List ℕ → Span → List ℕ → List ℕ
+line_below text span words = concat (codes " " ∷ times_over (length (decimal (line_of text span.from))) (codes " ") ∷ codes " = " ∷ shown_text words ∷ codes "\n" ∷ [])
 
 abbrev pub below_text : List ℕ → Span → String Global → List ℕ
-below_text text span sentence = remark text span (string_bytes sentence)
+below_text text span sentence = line_below text span (string_bytes sentence)
 
 -- another place, with what is said there
 abbrev pub other_text : List ℕ → List ℕ → Other → List ℕ
@@ -31,7 +31,7 @@ other_text path text o = marked_as (codes "note") path text o.span (shown_text (
 
 -- one line more tells the change, where there is one
 abbrev pub IsFixShown : List ℕ → Span → Option Fix → List ℕ → List ℕ → Type 0
-IsFixShown text span (Some f) old new = (words : List ℕ) × (new ≡ old ++ remark text span words)
+IsFixShown text span (Some f) old new = (words : List ℕ) × (new ≡ old ++ line_below text span words)
 IsFixShown text span None old new = new ≡ old
 
 -- the lines of a note: nothing of a text gets into them but as it is shown
@@ -41,12 +41,12 @@ IsRendered path text n lines = (headed : List ℕ)
     × (lines ≡ headed ++ flat_map (below_text text n.span) n.below.items ++ flat_map (other_text path text) n.others.items)
 
 -- one blank, or none
-abbrev pub AreBlanks : List ℕ → Type 0
-AreBlanks gap = (gap ≡ []) ⊎ (gap ≡ codes " ")
+abbrev pub IsGap : List ℕ → Type 0
+IsGap gap = (gap ≡ []) ⊎ (gap ≡ codes " ")
 
 -- what is put, with at most a blank on either side
 abbrev pub IsPadded : List ℕ → List ℕ → Type 0
-IsPadded put padded = (front : List ℕ) × (back : List ℕ) × AreBlanks front × AreBlanks back × (padded ≡ (front ++ put) ++ back)
+IsPadded put padded = (front : List ℕ) × (back : List ℕ) × IsGap front × IsGap back × (padded ≡ (front ++ put) ++ back)
 
 -- a text with a change
 abbrev pub IsApplied : List ℕ → Fix → List ℕ → Type 0

@@ -1,7 +1,7 @@
 //! A text with a change, as an editor makes it.
 
 ghost use Rattle.std.specs.Prelude.{◌≡◌, IfOk, IfSome, string_bytes};
-ghost use Rattle.kahn_marks.specs.Notes.{AreBlanks, IsApplied, IsPadded};
+ghost use Rattle.kahn_marks.specs.Notes.{IsGap, IsApplied, IsPadded};
 
 use crate::rendering::Fix;
 use std::alloc::{AllocError, Global};
@@ -28,7 +28,7 @@ fn is_apart(before: Option<u8>, put: &[u8], is_insertion: bool) -> bool {
 
 /// A blank, or none.
 fn gap(is_there: bool) -> &'static str
-    ensures { AreBlanks result.now }
+    ensures { IsGap result.now }
 {
     if is_there { " " } else { "" }
 }

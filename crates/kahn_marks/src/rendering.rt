@@ -2,7 +2,7 @@
 
 ghost use Rattle.std.specs.Prelude.{◌≡◌, ◌++◌, IfOk, flat_map, string_bytes};
 ghost use Rattle.kahn_marks.specs.Marks.{marked_as, shown_text};
-ghost use Rattle.kahn_marks.specs.Notes.{IsFixShown, IsRendered, below_text, other_text, remark, sort_words};
+ghost use Rattle.kahn_marks.specs.Notes.{IsFixShown, IsRendered, below_text, line_below, other_text, sort_words};
 
 use crate::note::marked_as;
 use crate::pieces::{add, add_repeated};
@@ -133,7 +133,7 @@ fn fix_words(alloc: Global, text: &str, span: Span, fix: &Fix) -> Result<String,
 
 /// Adds a line below the carets under a part.
 fn add_remark(lines: &mut String, text: &str, span: Span, words: &str) -> Result<(), AllocError>
-    ensures { IfOk result (λ _. string_bytes lines.new ≡ string_bytes lines.old ++ remark text.now span words.now) }
+    ensures { IfOk result (λ _. string_bytes lines.new ≡ string_bytes lines.old ++ line_below text.now span words.now) }
 {
     let (line, _) = place(text, span.from);
     let mut buffer = Buffer::new();
