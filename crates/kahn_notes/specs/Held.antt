@@ -1,10 +1,31 @@
 -- Believed. Which comment holds the declaration of a name that isn't declared, as it goes on over the end of its line.
-use Rattle.std.specs.Prelude.{ℕ, Bool, true, false, ◌==◌, ◌&&◌, ◌||◌, not, List, [], ◌∷◌, codes, if◌then◌else◌}
-use Rattle.std.specs.List.{find}
+use Rattle.std.specs.Prelude.{ℕ, Bool, true, false, ◌==◌, ◌&&◌, ◌||◌, ◌-◌, not, List, [], ◌∷◌, Option, Some, None, codes, decimal, if◌then◌else◌, length, min, option_map}
+use Rattle.std.specs.List.{concat, find}
+use Rattle.kahn_streams.specs.Place.{line_of}
 use Rattle.kahn_streams.specs.declared.span.Span.{Span}
 use Rattle.kahn_wanted.specs.Blocks.{bytes_between}
 use Rattle.kahn_wanted.specs.Swallowing.{has_word, is_of_word, is_space}
-use Rattle.kahn_notes.specs.Notes.{comment_text}
+use Rattle.kahn_marks.specs.Marks.{spot_text, times_over}
+
+-- a line below the carets; as many columns as the number of the source line takes are left free
+abbrev pub remark : List ℕ → Span → List ℕ → List ℕ
+remark text span words =
+    concat (codes " " ∷ times_over (length (decimal (line_of text (min span.from (length text))))) (codes " ") ∷ codes " = " ∷ words ∷ codes "\n" ∷ [])
+
+abbrev pub remark_or_none : List ℕ → Span → Option (List ℕ) → List ℕ
+remark_or_none text span (Some words) = remark text span words
+remark_or_none text span None = []
+
+-- what is said of a comment before it
+abbrev pub comment_verb : List ℕ → Span → List ℕ
+comment_verb text c = if line_of text c.from == line_of text (c.to - 1) then codes " ends with" else codes " goes on to"
+
+abbrev pub comment_words : List ℕ → Span → List ℕ
+comment_words text c =
+    concat (codes "the comment" ∷ spot_text (codes " at ") text c.from ∷ comment_verb text c ∷ codes " the `;`" ∷ spot_text (codes " at ") text (c.to - 1) ∷ [])
+
+abbrev pub comment_text : List ℕ → Span → Option Span → List ℕ
+comment_text text span c = remark_or_none text span (option_map (comment_words text) c)
 
 -- a text begins with this name, and no letter, digit or `_` goes on behind it
 abbrev pub begins_as : List ℕ → List ℕ → Bool
