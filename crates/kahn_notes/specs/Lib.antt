@@ -1,3 +1,3 @@
-pub mod Held
 pub mod Notes
 pub mod Words
+pub mod inner

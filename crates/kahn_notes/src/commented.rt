@@ -1,7 +1,7 @@
 //! What is said of a comment before a place where a text goes wrong.
 
 ghost use Rattle.std.specs.Prelude.{◌≡◌, IfOk, IfSome, string_bytes};
-ghost use Rattle.kahn_notes.specs.Held.{comment_verb, comment_words};
+ghost use Rattle.kahn_notes.specs.inner.Held.{comment_verb, comment_words};
 ghost use Rattle.kahn_notes.specs.Notes.{Mends};
 
 use crate::characters::character_fix;

@@ -2,7 +2,7 @@
 
 ghost use Rattle.std.specs.Prelude.{◌≡◌, ◌++◌, IfOk, string_bytes};
 ghost use Rattle.std.specs.List.{find};
-ghost use Rattle.kahn_notes.specs.Held.{begins_as, comment_text, dark_part, has_name, held_text, holds_name, later_lines, remark};
+ghost use Rattle.kahn_notes.specs.inner.Held.{begins_as, comment_text, dark_part, has_name, held_text, holds_name, later_lines, remark};
 
 use crate::commented::comment_words;
 use itoa::Buffer;

@@ -1,4 +1,4 @@
--- Believed. Which comment holds the declaration of a name that isn't declared, as it goes on over the end of its line.
+-- Inner. Which comment holds the declaration of a name that isn't declared, as it goes on over the end of its line.
 use Rattle.std.specs.Prelude.{ℕ, Bool, true, false, ◌==◌, ◌&&◌, ◌||◌, ◌-◌, not, List, [], ◌∷◌, Option, Some, None, codes, decimal, if◌then◌else◌, length, min, option_map}
 use Rattle.std.specs.List.{concat, find}
 use Rattle.kahn_streams.specs.Place.{line_of}
