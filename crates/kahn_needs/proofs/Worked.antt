@@ -32,7 +32,7 @@ lt_or_le (suc a) (suc b) = by (lt_or_le a b)
 
 -- ---- a run on tapes that have what it takes
 
-fewer_left : {A : Type 0} (n : ℕ) (s : Script A) (T : Tapes) (q : ℕ) → length ((play n s T).left q) ≤ length (T q)
+pub fewer_left : {A : Type 0} (n : ℕ) (s : Script A) (T : Tapes) (q : ℕ) → length ((play n s T).left q) ≤ length (T q)
 fewer_left n s T q =
     let r = ran n s T in
     let e = ap length (r.tapes q) in
