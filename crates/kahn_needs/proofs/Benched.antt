@@ -1,27 +1,25 @@
 -- Cells that stand where their queues stand.
-use Rattle.std.proofs.Common.{arith, ◌≡◌, ◌⊎◌, inl, inr, ℕ, ◌+◌, ◌<◌, ◌≤◌, List, [], ◌∷◌, ◌++◌, length, replicate, refl, sym, ap, ◌∙◌, subst, Option, Some, slice_get, slice_set, slice_index_or, length-set}
-use mathlib.Core.Path.{fun_ext}
+use Rattle.std.proofs.Common.{arith, ◌≡◌, ℕ, ◌+◌, ◌<◌, ◌≤◌, List, [], ◌∷◌, ◌++◌, length, replicate, refl, sym, ap, ◌∙◌, subst, Option, Some, slice_get, slice_set, slice_index_or, length-set}
 use Rattle.std.proofs.lemmas.Option.{slice_get_read}
-use Rattle.kahn_streams.proofs.By_number.{within}
 use Rattle.kahn_streams.proofs.Entered.{none_of}
 use Rattle.kahn_streams.proofs.Sourced.{writes}
 use Rattle.kahn_streams.specs.Answers.{is_output}
 use Rattle.kahn_streams.specs.Inputs.{Lists, inputs_of}
 use Rattle.kahn_streams.specs.Meaning.{Store}
-use Rattle.kahn_streams.specs.Network.{Actual, Network, Reads, Writes, actual_at, instance_at, network_of, role_at}
+use Rattle.kahn_streams.specs.Network.{Network, Writes, actual_at, instance_at, network_of, role_at}
 use Rattle.kahn_streams.specs.Script.{Outcome, Tapes, Script, Give, Fail, Waits, Sends, Turns, Rest, play, wait_at}
 use Rattle.kahn_streams.specs.Steps.{empty}
 use Rattle.kahn_streams.specs.declared.value.Value.{Value}
 use Rattle.kahn_streams.specs.declared.value.Line.{Line}
 use Rattle.kahn_streams.specs.declared.token.Token.{Token}
 use Rattle.kahn_streams.proofs.Dry.{dry_reads}
-use Rattle.kahn_streams.specs.Solution.{Inputs, opening, values_at, goes_to}
+use Rattle.kahn_streams.specs.Solution.{Inputs, values_at, goes_to}
 use Rattle.kahn_streams.specs.Wiring.{IsWellWired}
 use Rattle.kahn_streams.specs.declared.tree.Program.{Program}
 use Rattle.kahn_streams.specs.declared.value.Line.TheVariants.{Channel, Print}
 use Rattle.kahn_streams.proofs.Proved.{script_at}
 use Rattle.kahn_code.proofs.Lists.{kept_none, one_first}
-use Rattle.kahn_code.proofs.Queued.{given_zero, set_each, set_here, taken_zero}
+use Rattle.kahn_code.proofs.Queued.{given_zero, set_each, taken_zero}
 use Rattle.kahn_code.specs.Cells.{AreKeptTokens, StoodBy, View, exec_on, sent_on}
 use Rattle.kahn_code.specs.Lines.{AreFirst, AreQueued, Lines, actual_here, next_at, place_at, queue_of, waiting_of}
 use Rattle.kahn_code.specs.Progress.{IsAt, IsPause, Paused, Told, site_of, told_view}
@@ -29,12 +27,12 @@ use Rattle.kahn_code.specs.Standing.{LeavesOthers, Site, count}
 use Rattle.kahn_code.specs.declared.progress.Pause.{Pause}
 use Rattle.kahn_code.specs.declared.progress.Pause.TheVariants as pause
 use Rattle.kahn_code.specs.Progress as code
-use Rattle.kahn_needs.specs.inner.Bench.{AreFresh, HasActed, IsFresh, IsLaid, IsSeated, IsStopped, Stood, Table, table_of, events_of}
+use Rattle.kahn_needs.specs.inner.Bench.{AreFresh, HasActed, IsFresh, IsLaid, IsSeated, IsStopped, Table, table_of}
 use Rattle.kahn_needs.proofs.Reaching.{left_zero, sent_zero}
 
 -- ---- a cell at its opening
 
-events_zero : {A : Type 0} (s : Script A) (T : Tapes) → (play 0 s T).events ≡ 0
+pub events_zero : {A : Type 0} (s : Script A) (T : Tapes) → (play 0 s T).events ≡ 0
 events_zero (Give a) T = refl
 events_zero (Fail f) T = refl
 events_zero (Waits q go) T = by (T q)

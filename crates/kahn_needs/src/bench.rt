@@ -1,13 +1,18 @@
 //! The processes of a network over its plain queues, run by single events.
 
-ghost use Rattle.std.specs.Prelude.{◌≡◌, ◌<◌, ◌+◌, ◌^◌, ℕ, IfOk, length, slice_get};
+ghost use Rattle.std.specs.Prelude.{◌≡◌, ◌<◌, ◌+◌, ◌^◌, ℕ, IfOk, IfSome, MatchOption, Some, length, slice_get};
 ghost use Rattle.kahn_streams.specs.Inputs.{Lists};
-ghost use Rattle.kahn_streams.specs.Network.{Reads, actual_at, instance_at, network_of};
+ghost use Rattle.kahn_streams.specs.Network.{Given, Reads, Written, actual_at, instance_at, network_of};
 ghost use Rattle.kahn_code.specs.Lines.{taken_of};
-ghost use Rattle.kahn_needs.specs.inner.Bench.{AreFresh, AreIdle, HasActed, IsLaid, IsTableOf, events_of, table_of};
+ghost use Rattle.kahn_streams.specs.Solution.{source};
+ghost use Rattle.kahn_streams.specs.declared.value.Line.TheVariants.{Channel, Print};
+ghost use Rattle.kahn_streams.specs.declared.token.Token.{Token};
+ghost use Rattle.kahn_needs.specs.Finding.{IsLineOf};
+ghost use Rattle.kahn_needs.specs.inner.Finding.{HasCome, HasSent, HasValue, watch_of};
+ghost use Rattle.kahn_needs.specs.inner.Bench.{AreCounted, AreFresh, AreIdle, HasActed, IsLaid, IsTableOf, events_in, events_of, table_of, taken_in};
 
 use kahn_code::{Cell, Code, CodeFault, Pause, Plain, Steps, compile};
-use kahn_streams::{About, Input, Network};
+use kahn_streams::{About, Carried, Input, Line, Network, Value};
 use std::alloc::Global;
 use std::marker::Model;
 use std::sync::ledger::Ledger;
@@ -137,5 +142,146 @@ impl<'n> Bench<'n> {
             Some(channel) => channel,
             None => unreachable!(),
         }
+    }
+
+    /// Says how all stand: its contract is what it does.
+    pub(crate) fn laid(&self)
+        ensures { IsLaid self.now }
+    {
+        let _watch = self.watch;
+    }
+
+    /// The number of instances.
+    pub(crate) fn instances(&self) -> usize
+        ensures { result ≡ length (network_of self.now.network).instances }
+    {
+        self.network.instances()
+    }
+
+    /// The instance that sends on a line; none on an input.
+    pub(crate) fn writer(&self, line: Line) -> Option<usize>
+        requires { IsLineOf (network_of self.now.network) line }
+        ensures writer { MatchOption result (source (network_of self.now.network) line ≡ Given) (λ p. source (network_of self.now.network) line ≡ Written p) }
+        ensures here { IfSome result (λ p. p < length (network_of self.now.network).instances) }
+    {
+        match line {
+            Line::Channel(channel) => match self.network.writer(channel) {
+                Some(side) => Some(side.instance),
+                None => None,
+            },
+            Line::Print(instance) => Some(instance),
+        }
+    }
+
+    /// How many values were sent on a line.
+    pub(crate) fn sent(&self, line: Line) -> u64
+        requires { IsLineOf (network_of self.now.network) line }
+        ensures { HasSent self.now line result }
+    {
+        match line {
+            Line::Channel(channel) => self.sent_on(channel),
+            Line::Print(instance) => self.printed(instance),
+        }
+    }
+
+    // How many values were sent on a channel.
+    fn sent_on(&self, channel: usize) -> u64
+        requires { channel < length (network_of self.now.network).channels }
+        ensures { HasSent self.now (Channel channel) result }
+    {
+        match self.network.writer(channel) {
+            Some(side) => {
+                let cell = &self.cells[side.instance];
+                cell.sized();
+                cell.sent(side.parameter)
+            }
+            None => 0,
+        }
+    }
+
+    // How many values an instance printed.
+    fn printed(&self, instance: usize) -> u64
+        requires { instance < length (network_of self.now.network).instances }
+        ensures { HasSent self.now (Print instance) result }
+    {
+        self.cells[instance].printed().len() as u64
+    }
+
+    /// The number of channels.
+    pub(crate) fn channels(&self) -> usize
+        ensures { result ≡ length (network_of self.now.network).channels }
+    {
+        self.network.channels()
+    }
+
+    /// The value that was sent at a place of a line.
+    pub(crate) fn value(&self, line: Line, place: u64) -> Value
+        requires line { IsLineOf (network_of self.now.network) line }
+        requires watch { self.now.watch ≡ watch_of line }
+        ensures { HasCome self.now line place → HasValue self.now line place result }
+    {
+        match line {
+            Line::Channel(channel) => self.value_on(channel, place),
+            Line::Print(instance) => self.value_printed(instance, place),
+        }
+    }
+
+    // The value that was sent at a place of the channel of which what is sent is kept.
+    fn value_on(&self, channel: usize, place: u64) -> Value
+        requires channel { channel < length (network_of self.now.network).channels }
+        requires watch { self.now.watch ≡ Some channel }
+        ensures { HasCome self.now (Channel channel) place → HasValue self.now (Channel channel) place result }
+    {
+        match self.network.writer(channel) {
+            Some(side) => {
+                let cell = &self.cells[side.instance];
+                let _parameters = cell.parameters();
+                cell.sized();
+                value_at(cell.kept(side.parameter), place)
+            }
+            None => Value::Integer(0),
+        }
+    }
+
+    // The value that an instance printed at a place.
+    fn value_printed(&self, instance: usize, place: u64) -> Value
+        requires { instance < length (network_of self.now.network).instances }
+        ensures { HasCome self.now (Print instance) place → HasValue self.now (Print instance) place result }
+    {
+        value_at(self.cells[instance].printed(), place)
+    }
+}
+
+/// Of each channel, how many values were taken.
+#[tactic(auto, using(crate::proofs::Counted::counted_none, crate::proofs::Counted::counted_more))]
+pub(crate) fn all_taken(alloc: Global, bench: &Bench<'_>) -> Result<Vec<u64>, CodeFault>
+    ensures { IfOk result (λ v. AreCounted (taken_in bench.now) v.items (length (network_of bench.now.network).channels)) }
+{
+    let mut counts = Vec::new(alloc);
+    for channel in 0..bench.channels() {
+        counts.push(bench.taken(channel))?;
+    }
+    Ok(counts)
+}
+
+/// Of each instance, how many events were done.
+#[tactic(auto, using(crate::proofs::Counted::counted_none, crate::proofs::Counted::counted_more))]
+pub(crate) fn all_events(alloc: Global, bench: &Bench<'_>) -> Result<Vec<u64>, CodeFault>
+    ensures { IfOk result (λ v. AreCounted (events_in bench.now) v.items (length (network_of bench.now.network).instances)) }
+{
+    let mut counts = Vec::new(alloc);
+    for instance in 0..bench.instances() {
+        counts.push(bench.events(instance))?;
+    }
+    Ok(counts)
+}
+
+// The value of the token at a place, if there is one.
+fn value_at(tokens: &[Carried], place: u64) -> Value
+    ensures { (t : Token) → slice_get tokens.now place ≡ Some t → result ≡ t.value }
+{
+    match tokens.get(place as usize) {
+        Some(token) => token.value(),
+        None => Value::Integer(0),
     }
 }

@@ -9,7 +9,7 @@ use Rattle.kahn_streams.specs.Solution.{ending}
 use Rattle.kahn_streams.specs.Wiring.{IsWellWired}
 use Rattle.kahn_streams.specs.declared.tree.Program.{Program}
 use Rattle.kahn_code.specs.Cells.{StoodBy}
-use Rattle.kahn_code.specs.Lines.{AreQueued, Lines, place_at, waiting_of}
+use Rattle.kahn_code.specs.Lines.{AreQueued, Lines, place_at, taken_of, waiting_of}
 use Rattle.kahn_code.specs.Progress.{IsAt, Paused, Told, told_view}
 use Rattle.kahn_code.specs.Standing.{count}
 use Rattle.kahn_code.specs.declared.progress.Pause.{Pause}
@@ -98,3 +98,16 @@ pub record HasActed (b d : Table) (p : ℕ) (z : Pause) : Type 0 where
 abbrev pub events_of : Option Told → ℕ
 events_of None = 0
 events_of (Some x) = x.events
+
+-- the numbers of the first n, each by what it is
+pub record AreCounted (f : ℕ → ℕ) (xs : List ℕ) (n : ℕ) : Type 0 where
+  pub count : length xs ≡ n
+  pub each : (d x : ℕ) → slice_get xs d ≡ Some x → x ≡ f d
+
+-- of each channel how many values were taken
+abbrev pub taken_in : Table → ℕ → ℕ
+taken_in b d = taken_of (slice_get b.queues.queues d)
+
+-- of each instance how many events were done
+abbrev pub events_in : Table → ℕ → ℕ
+events_in b p = events_of (slice_get b.cells p)

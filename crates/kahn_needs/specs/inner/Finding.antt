@@ -1,10 +1,94 @@
--- Inner. What is known of a search for needs.
-use Rattle.std.specs.Prelude.{ℕ, ◌<◌, length}
+-- Inner. What is known in a search for needs.
+use Rattle.std.specs.Prelude.{◌≡◌, ℕ, ◌≤◌, ◌<◌, length, Option, Some, None, slice_get}
+use Rattle.kahn_streams.specs.Inputs.{inputs_of}
+use Rattle.kahn_streams.specs.Network.{Network, Reads, Given, Written, actual_at, instance_at, network_of}
+use Rattle.kahn_streams.specs.Solution.{Inputs, input_list, source}
 use Rattle.kahn_streams.specs.declared.value.Line.{Line}
-use Rattle.kahn_streams.specs.Network.{Network}
-use Rattle.kahn_streams.specs.Solution.{Inputs}
+use Rattle.kahn_streams.specs.declared.value.Line.TheVariants.{Channel, Print}
+use Rattle.kahn_streams.specs.declared.value.Value.{Value}
+use Rattle.kahn_code.specs.Cells.{sent_on}
+use Rattle.kahn_code.specs.Lines.{taken_of}
+use Rattle.kahn_code.specs.Progress.{Paused, Told, told_view}
+use Rattle.kahn_code.specs.Standing.{count}
+use Rattle.kahn_code.specs.declared.progress.Pause.{Pause}
 use Rattle.kahn_needs.specs.Needs.{Cut, held_in}
+use Rattle.kahn_needs.specs.Finding.{IsLineOf}
+use Rattle.kahn_needs.specs.inner.Bench.{IsStopped, IsTableOf, Stood, Table}
+use Rattle.kahn_needs.specs.declared.search.Turn.{Turn}
+use Rattle.kahn_needs.specs.declared.search.Turn.TheVariants as turn
+use Rattle.kahn_needs.specs.declared.search.Sought.{Sought}
+use Rattle.kahn_needs.specs.declared.search.Sought.TheVariants as sought
 
 -- with that cut there is a value at place k of line c
 abbrev pub HoldsAt : Network → Inputs → Cut → Line → ℕ → Type 0
 HoldsAt N I y c k = (n : ℕ) × (k < length (held_in N I y n c))
+
+-- the same in the network of a table
+abbrev pub Holds : Table → Cut → Line → ℕ → Type 0
+Holds b y c k = HoldsAt (network_of b.network) (inputs_of b.input) y c k
+
+-- each cut with a value at place k of line c has one at place j of line d
+abbrev pub IsWanted : Table → Line → ℕ → Line → ℕ → Type 0
+IsWanted b c k d j = (y : Cut) → Holds b y c k → Holds b y d j
+
+-- each cut with a value at place k of line c has the events of each cell, and the values that these took
+abbrev pub AreForced : Table → Line → ℕ → Type 0
+AreForced b c k =
+    (y : Cut) → Holds b y c k → (p : ℕ) (x : Told) → slice_get b.cells p ≡ Some x →
+    (x.events ≤ y.events p)
+    × ((q d j : ℕ) → actual_at (instance_at (network_of b.network) p) q ≡ Reads d → j < count x.taken q → Holds b y (Channel d) j)
+
+-- a value at place j of line d is wanted for the one at place k of line c; an input has none there
+pub record IsDemand (b : Table) (c : Line) (k : ℕ) (d : Line) (j : ℕ) : Type 0 where
+  pub listed : IsLineOf (network_of b.network) d
+  pub wanted : IsWanted b c k d j
+  pub given : source (network_of b.network) d ≡ Given → length (input_list (inputs_of b.input) d) ≤ j
+
+-- n values were sent on the line
+abbrev pub HasSent : Table → Line → ℕ → Type 0
+HasSent b c n =
+    (p : ℕ) → source (network_of b.network) c ≡ Written p → (x : Told) → slice_get b.cells p ≡ Some x → (s : Stood b p x) →
+    length (sent_on (network_of b.network) x.events p s.tapes c) ≡ n
+
+-- a value was sent at that place of a line that an instance writes
+abbrev pub HasCome : Table → Line → ℕ → Type 0
+HasCome b c k =
+    (p : ℕ) × (source (network_of b.network) c ≡ Written p) × (p < length (network_of b.network).instances) × ((n : ℕ) × HasSent b c n × (k < n))
+
+-- it is v
+abbrev pub HasValue : Table → Line → ℕ → Value → Type 0
+HasValue b c k v =
+    (p : ℕ) → source (network_of b.network) c ≡ Written p → (x : Told) → slice_get b.cells p ≡ Some x → (s : Stood b p x) →
+    slice_get (sent_on (network_of b.network) x.events p s.tapes c) k ≡ Some v
+
+-- an instance stopped so
+abbrev pub IsPausedAt : Table → ℕ → Pause → Type 0
+IsPausedAt b p z =
+    (x : Told) × (slice_get b.cells p ≡ Some x) × Paused (network_of b.network) (inputs_of b.input) b.watch p (told_view x) (IsStopped b p z)
+
+-- what a turn for the value at place j of line d tells, where that at place k of line c is sought
+abbrev pub IsTold : Table → Line → ℕ → Line → ℕ → Turn → Type 0
+IsTold b c k d j turn.Sent = HasCome b d j
+IsTold b c k d j turn.Acted = Unit {0}
+IsTold b c k d j (turn.Waits e) = IsDemand b c k (Channel e) (taken_of (slice_get b.queues.queues e))
+IsTold b c k d j turn.Over = (y : Cut) → Holds b y c k → ⊥
+IsTold b c k d j turn.Bound = Unit {0}
+IsTold b c k d j turn.NoMemory = Unit {0}
+
+pub record HasTurned (b e : Table) (c : Line) (k : ℕ) (d : Line) (j : ℕ) (t : Turn) : Type 0 where
+  pub same : IsTableOf b.network b.input b.watch e
+  pub forced : AreForced e c k
+  pub told : IsTold e c k d j t
+
+-- how the search for a value at place k of line c ended
+abbrev pub IsSought : Table → Line → ℕ → Sought → Type 0
+IsSought b c k sought.Come = HasCome b c k
+IsSought b c k sought.Never = (y : Cut) → Holds b y c k → ⊥
+IsSought b c k sought.Ring = Unit {0}
+IsSought b c k sought.Bound = Unit {0}
+IsSought b c k sought.NoMemory = Unit {0}
+
+-- what is kept of the line
+abbrev pub watch_of : Line → Option ℕ
+watch_of (Channel c) = Some c
+watch_of (Print p) = None

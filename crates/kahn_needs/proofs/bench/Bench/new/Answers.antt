@@ -1,4 +1,4 @@
-use Rattle.std.proofs.Common.{◌≡◌, ℕ, Some, slice_get, subst, sym, ap}
+use Rattle.std.proofs.Common.{subst, sym, ap}
 use Rattle.kahn_needs.specs.inner.Bench.{AreIdle, Table}
 use Rattle.kahn_needs.proofs.Benched.{laid_first}
 use Rattle.kahn_needs.proofs.bench.Bench.new.Goals as goal
