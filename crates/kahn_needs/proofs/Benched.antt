@@ -27,7 +27,7 @@ use Rattle.kahn_code.specs.Standing.{LeavesOthers, Site, count}
 use Rattle.kahn_code.specs.declared.progress.Pause.{Pause}
 use Rattle.kahn_code.specs.declared.progress.Pause.TheVariants as pause
 use Rattle.kahn_code.specs.Progress as code
-use Rattle.kahn_needs.specs.inner.Bench.{AreFresh, HasActed, IsFresh, IsLaid, IsSeated, IsStopped, Table, table_of}
+use Rattle.kahn_needs.specs.inner.Bench.{AreUnmoved, HasActed, IsUnmoved, AreSeated, IsSeatOf, IsStopped, Seats, seats_of}
 use Rattle.kahn_needs.proofs.Reaching.{left_zero, sent_zero}
 
 -- ---- a cell at its opening
@@ -67,14 +67,14 @@ stood_first N I watch p x e taken sent kept printed = record {
     kept_by c ts f = subst (λ l. AreKeptTokens N I c l ts) (sym (nothing c)) (subst (AreKeptTokens N I c []) (sym f) (kept_none N I c))
 
 -- the cell of the next instance
-pub fresh_more : (t : Program) (lists : Lists) (watch : Option ℕ) (cells all : List Told) (n : ℕ) (x : Told) → AreFresh t lists watch cells n →
-    IsFresh t lists watch n x → all ≡ cells ++ x ∷ [] → AreFresh t lists watch all (n + 1)
+pub fresh_more : (t : Program) (lists : Lists) (watch : Option ℕ) (cells all : List Told) (n : ℕ) (x : Told) → AreUnmoved t lists watch cells n →
+    IsUnmoved t lists watch n x → all ≡ cells ++ x ∷ [] → AreUnmoved t lists watch all (n + 1)
 fresh_more t lists watch cells all n x h f is =
-    let r = one_first (IsFresh t lists watch) cells all x n (record { count = h.count; each = h.each }) is f in
+    let r = one_first (IsUnmoved t lists watch) cells all x n (record { count = h.count; each = h.each }) is f in
     record { count = r.count; each = r.each }
 
 pub fresh_one : (t : Program) (lists : Lists) (watch : Option ℕ) (n k : ℕ) (x : Told) → (x.network ≡ t) × (x.input ≡ lists) × (x.instance ≡ n) × (x.watch ≡ watch) →
-    (x.events ≡ 0) × (x.printed ≡ []) → (x.taken ≡ replicate k 0) × (x.sent ≡ replicate k 0) × (x.kept ≡ replicate k []) → IsFresh t lists watch n x
+    (x.events ≡ 0) × (x.printed ≡ []) → (x.taken ≡ replicate k 0) × (x.sent ≡ replicate k 0) × (x.kept ≡ replicate k []) → IsUnmoved t lists watch n x
 fresh_one t lists watch n k x names none lists' = record {
   network = names.0;
   input = names.1;
@@ -94,8 +94,8 @@ fresh_one t lists watch n k x names none lists' = record {
 
 -- cells at their openings over queues from which nothing was taken
 pub laid_first : (t code : Program) (lists : Lists) (watch : Option ℕ) (cells : List Told) (q : Lines) → IsWellWired t → code ≡ t →
-    AreFresh t lists watch cells (length (network_of t).instances) → (q.network ≡ t) × (q.input ≡ lists) → AreFirst t lists q.queues → AreQueued q →
-    IsLaid (table_of t lists watch code cells q)
+    AreUnmoved t lists watch cells (length (network_of t).instances) → (q.network ≡ t) × (q.input ≡ lists) → AreFirst t lists q.queues → AreQueued q →
+    AreSeated (seats_of t lists watch code cells q)
 laid_first t code lists watch cells q wired same fresh names first queued = record {
   wired = wired;
   code = same;
@@ -106,9 +106,9 @@ laid_first t code lists watch cells q wired same fresh names first queued = reco
   queued = queued;
 }
   where
-    each : (p : ℕ) (x : Told) → slice_get cells p ≡ Some x → IsSeated (table_of t lists watch code cells q) p x
+    each : (p : ℕ) (x : Told) → slice_get cells p ≡ Some x → IsSeatOf (seats_of t lists watch code cells q) p x
     each p x at =
-        let o : IsFresh t lists watch p x = fresh.each p x at in
+        let o : IsUnmoved t lists watch p x = fresh.each p x at in
         record {
           network = o.network;
           input = o.input;
@@ -118,12 +118,12 @@ laid_first t code lists watch cells q wired same fresh names first queued = reco
           stood = o.stood;
         }
       where
-        own : IsFresh t lists watch p x → (r : ℕ) → actual_at (instance_at (network_of q.network) p) r ≡ actual_at (instance_at (network_of x.network) x.instance) r
+        own : IsUnmoved t lists watch p x → (r : ℕ) → actual_at (instance_at (network_of q.network) p) r ≡ actual_at (instance_at (network_of x.network) x.instance) r
         own o r =
             ap (λ k. actual_at (instance_at (network_of k) p) r) (names.0 ∙ sym o.network) ∙
             ap (λ k. actual_at (instance_at (network_of x.network) k) r) (sym o.instance)
 
-        stands : IsFresh t lists watch p x → IsAt x (place_at q p)
+        stands : IsUnmoved t lists watch p x → IsAt x (place_at q p)
         stands o = record {
           reads = λ r d e. ap (next_at q.queues) (own o r ∙ e) ∙ taken_zero t lists q.queues first d _ refl ∙ sym (o.taken r);
           writes = λ r d e inner.
@@ -140,22 +140,22 @@ laid_first t code lists watch cells q wired same fresh names first queued = reco
 abbrev pub IsSame : Told → Told → Type 0
 IsSame old new = (new.network ≡ old.network) × (new.input ≡ old.input) × (new.instance ≡ old.instance) × (new.watch ≡ old.watch)
 
-abbrev pub ran : Table → ℕ → Told → Lines → Table
+abbrev pub ran : Seats → ℕ → Told → Lines → Seats
 ran b p x q = record { network = b.network; input = b.input; watch = b.watch; code = b.code; cells = slice_set b.cells p x; queues = q }
 
 -- the queues as the ports of instance p
 abbrev pub ports_of : Lines → Site
 ports_of q = record { network = q.network; input = q.input; instance = q.instance }
 
-pub found : {b n : Table} → b ≡ n → IsLaid b → (p : ℕ) {x : Told} → p < length (network_of n.network).instances → x ≡ slice_index_or b.cells p x → slice_get b.cells p ≡ Some x
+pub found : {b n : Seats} → b ≡ n → AreSeated b → (p : ℕ) {x : Told} → p < length (network_of n.network).instances → x ≡ slice_index_or b.cells p x → slice_get b.cells p ≡ Some x
 found {b} is laid p {x} l =
-    slice_get_read b.cells (length b.cells) p x refl (subst (λ k. p < k) (sym (laid.count ∙ ap (λ (y : Table). length (network_of y.network).instances) is)) l)
+    slice_get_read b.cells (length b.cells) p x refl (subst (λ k. p < k) (sym (laid.count ∙ ap (λ (y : Seats). length (network_of y.network).instances) is)) l)
 
-module _ {b : Table} (laid : IsLaid b) (p : ℕ) {x : Told} (at : slice_get b.cells p ≡ Some x) where
+module _ {b : Seats} (laid : AreSeated b) (p : ℕ) {x : Told} (at : slice_get b.cells p ≡ Some x) where
   abbrev lent : Lines
   lent = record { network = b.queues.network; input = b.queues.input; instance = p; queues = b.queues.queues }
 
-  seated : IsSeated b p x
+  seated : IsSeatOf b p x
   seated = laid.each p x at
 
   pub code_is : b.code ≡ x.network
@@ -177,7 +177,7 @@ module _ {b : Table} (laid : IsLaid b) (p : ℕ) {x : Told} (at : slice_get b.ce
       (λ r. waiting_of (queue_of q'.queues (actual_here q' r)) ≡ 0)
       (λ r. 0 < waiting_of (queue_of q'.queues (actual_here q' r)))
       (x'.events ≡ x.events + quantum) z)) where
-    abbrev now : Table
+    abbrev now : Seats
     now = ran b p x' q'
 
     abbrev dry : ℕ → Type 0
@@ -207,7 +207,7 @@ module _ {b : Table} (laid : IsLaid b) (p : ℕ) {x : Told} (at : slice_get b.ce
         subst (λ (k : Program × Lists × Option ℕ × ℕ). code.Paused (network_of k.0) (inputs_of k.1) k.2 k.3 (told_view x') (IsPause (network_of k.0) k.3 dry ready (x'.events ≡ x.events + quantum) z))
         (λ i. (network_is i, input_is i, watch_is i, instance_is i)) paused
 
-    mine : IsSeated now p x'
+    mine : IsSeatOf now p x'
     mine = record {
       network = network_is;
       input = input_is;
@@ -220,9 +220,9 @@ module _ {b : Table} (laid : IsLaid b) (p : ℕ) {x : Told} (at : slice_get b.ce
     leaves_here : LeavesOthers (record { network = b.queues.network; input = b.queues.input; instance = p }) (place_at b.queues) (place_at q')
     leaves_here = subst (λ (y : Lines). LeavesOthers (ports_of y) (place_at y) (place_at q')) is leaves
 
-    others : (o : ℕ) (d : Told) → (o ≡ p → ⊥) → slice_get b.cells o ≡ Some d → IsSeated now o d
+    others : (o : ℕ) (d : Told) → (o ≡ p → ⊥) → slice_get b.cells o ≡ Some d → IsSeatOf now o d
     others o d n e =
-        let s : IsSeated b o d = laid.each o d e in
+        let s : IsSeatOf b o d = laid.each o d e in
         record {
           network = s.network;
           input = s.input;
@@ -235,12 +235,12 @@ module _ {b : Table} (laid : IsLaid b) (p : ℕ) {x : Told} (at : slice_get b.ce
           stood = s.stood;
         }
 
-    pub laid_now : IsLaid now
+    pub laid_now : AreSeated now
     laid_now = record {
       wired = laid.wired;
       code = laid.code;
       count = length-set b.cells p x' ∙ laid.count;
-      each = set_each (IsSeated now) b.cells p x' others mine;
+      each = set_each (IsSeatOf now) b.cells p x' others mine;
       network = ap (λ (s : Site). s.network) site ∙ network_is;
       input = ap (λ (s : Site). s.input) site ∙ input_is;
       queued = queued;

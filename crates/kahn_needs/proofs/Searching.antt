@@ -25,9 +25,9 @@ use Rattle.kahn_code.specs.Standing.{count}
 use Rattle.kahn_code.specs.declared.progress.Pause.{Pause}
 use Rattle.kahn_code.specs.declared.progress.Pause.TheVariants as pause
 use Rattle.kahn_needs.specs.Needs.{Cut}
-use Rattle.kahn_needs.specs.Finding.{IsLineOf}
-use Rattle.kahn_needs.specs.inner.Bench.{HasActed, IsLaid, IsTableOf, Stood, Table}
-use Rattle.kahn_needs.specs.inner.Finding.{AreForced, HasSent, Holds, HoldsAt, IsDemand, IsPausedAt}
+use Rattle.kahn_needs.specs.Finding.{IsNetworkLine}
+use Rattle.kahn_needs.specs.inner.Bench.{HasActed, AreSeated, AreSeatsOf, Stood, Seats}
+use Rattle.kahn_needs.specs.inner.Finding.{AreForced, HasSentSoMany, HoldsIn, HoldsAt, IsDemand, IsPausedAt}
 use Rattle.kahn_needs.proofs.Benched.{found}
 use Rattle.kahn_needs.proofs.Forcing.{goes_further, has_next, has_taken, stuck}
 use Rattle.kahn_needs.proofs.Needing.{held_given, prefix_length, take_below}
@@ -47,7 +47,7 @@ Needs_all t lists y o x =
     (x.events ≤ y.events o)
     × ((q e i : ℕ) → actual_at (instance_at (network_of t) o) q ≡ Reads e → i < count x.taken q → HoldsAt (network_of t) (inputs_of lists) y (Channel e) i)
 
-module _ (b : Table) (laid : IsLaid b) where
+module _ (b : Seats) (laid : AreSeated b) where
   abbrev N : Network
   N = network_of b.network
 
@@ -72,7 +72,7 @@ module _ (b : Table) (laid : IsLaid b) where
 
   -- ---- what a pause tells
 
-  module _ (c : Line) (k : ℕ) (d : Line) (j : ℕ) (demand : IsDemand b c k d j) (p : ℕ) (src : source N d ≡ Written p) (n : ℕ) (sent : HasSent b d n) (few : n ≤ j) where
+  module _ (c : Line) (k : ℕ) (d : Line) (j : ℕ) (demand : IsDemand b c k d j) (p : ℕ) (src : source N d ≡ Written p) (n : ℕ) (sent : HasSentSoMany b d n) (few : n ≤ j) where
     less : (x : Told) → slice_get b.cells p ≡ Some x → (s : Stood b p x) → length (sent_on N x.events p s.tapes d) ≤ j
     less x at s = let e = sent p src x at s in omega (arith, e, few)
 
@@ -108,11 +108,11 @@ module _ (b : Table) (laid : IsLaid b) where
 
     -- it is at an end, so there is none
     over_by : (x : Told) → slice_get b.cells p ≡ Some x → (s : Stood b p x) → (o : Outcome Store) → (exec_on N x.events p s.tapes).outcome ≡ o → (o ≡ Unended → ⊥) →
-        ((q : ℕ) → o ≡ Dry q → ⊥) → (y : Cut) → Holds b y c k → ⊥
+        ((q : ℕ) → o ≡ Dry q → ⊥) → (y : Cut) → HoldsIn b y c k → ⊥
     over_by x at s o is ended dry y there =
         stuck N I b.watch p (told_view x) s d src j (less x at s) y (demand.wanted y there) o is ended (λ q e. absurd (dry q e))
 
-    pub ended : IsPausedAt b p pause.Ended → (y : Cut) → Holds b y c k → ⊥
+    pub ended : IsPausedAt b p pause.Ended → (y : Cut) → HoldsIn b y c k → ⊥
     ended h =
         let is : ending (exec_on N h.0.events p h.2.stood.tapes).outcome ≡ Some Ended = h.2.is in
         over_by h.0 h.1 h.2.stood (exec_on N h.0.events p h.2.stood.tapes).outcome refl (not_cut _ is) (not_dry _ is)
@@ -123,7 +123,7 @@ module _ (b : Table) (laid : IsLaid b) where
         not_dry : (o : Outcome Store) → ending o ≡ Some Ended → (q : ℕ) → o ≡ Dry q → ⊥
         not_dry o e q f = let g : Some (Waits_for q) ≡ Some Ended = sym (ap ending f) ∙ e in cc
 
-    pub faulted : (z : Failure) → IsPausedAt b p (pause.Fault z) → (y : Cut) → Holds b y c k → ⊥
+    pub faulted : (z : Failure) → IsPausedAt b p (pause.Fault z) → (y : Cut) → HoldsIn b y c k → ⊥
     faulted z h =
         let is : ending (exec_on N h.0.events p h.2.stood.tapes).outcome ≡ Some (Faulted z) = h.2.is in
         over_by h.0 h.1 h.2.stood (exec_on N h.0.events p h.2.stood.tapes).outcome refl (not_cut _ is) (not_dry _ is)
@@ -136,7 +136,7 @@ module _ (b : Table) (laid : IsLaid b) where
 
     -- ---- an event
 
-    module _ (forced : AreForced b c k) (b' : Table) (z : Pause) (a : HasActed b b' p z) where
+    module _ (forced : AreForced b c k) (b' : Seats) (z : Pause) (a : HasActed b b' p z) where
       before : Stood b p a.old
       before = (laid.each p a.old a.was).stood
 
@@ -165,9 +165,9 @@ module _ (b : Table) (laid : IsLaid b) where
 
 -- ---- the same demand later
 
-pub demand_on : (b b' : Table) → IsTableOf b.network b.input b.watch b' → (c : Line) (k : ℕ) (d : Line) (j : ℕ) → IsDemand b c k d j → IsDemand b' c k d j
+pub demand_on : (b b' : Seats) → AreSeatsOf b.network b.input b.watch b' → (c : Line) (k : ℕ) (d : Line) (j : ℕ) → IsDemand b c k d j → IsDemand b' c k d j
 demand_on b b' names c k d j h = record {
-  listed = subst (λ t. IsLineOf (network_of t) d) (sym names.0) h.listed;
+  listed = subst (λ t. IsNetworkLine (network_of t) d) (sym names.0) h.listed;
   wanted = subst (λ (k' : Program × Lists). (y : Cut) → HoldsAt (network_of k'.0) (inputs_of k'.1) y c k → HoldsAt (network_of k'.0) (inputs_of k'.1) y d j) both h.wanted;
   given = subst (λ (k' : Program × Lists). source (network_of k'.0) d ≡ Given → length (input_list (inputs_of k'.1) d) ≤ j) both h.given;
 }
@@ -176,14 +176,14 @@ demand_on b b' names c k d j h = record {
     both i = (sym names.0 i, sym names.1 i)
 
 -- no cut has what an input hasn't
-pub none_given : (b : Table) (c : Line) (k : ℕ) (d : Line) (j : ℕ) → IsDemand b c k d j → source (network_of b.network) d ≡ Given → (y : Cut) → Holds b y c k → ⊥
+pub none_given : (b : Seats) (c : Line) (k : ℕ) (d : Line) (j : ℕ) → IsDemand b c k d j → source (network_of b.network) d ≡ Given → (y : Cut) → HoldsIn b y c k → ⊥
 none_given b c k d j h s y there =
     let l = given_within (network_of b.network) (inputs_of b.input) y d j s (h.wanted y there) in
     let m = h.given s in
     omega (arith, l, m)
 
 -- the pause after an event, or none
-pub paused_at : (b b' : Table) (p : ℕ) (z : Pause) → IsLaid b → HasActed b b' p z → IsPausedAt b' p z
+pub paused_at : (b b' : Seats) (p : ℕ) (z : Pause) → AreSeated b → HasActed b b' p z → IsPausedAt b' p z
 paused_at b b' p z laid a =
     (a.new, subst (λ l. slice_get l p ≡ Some a.new) (sym a.cells) (set_here b.cells p a.new (within b.cells p a.old a.was)), a.paused)
 
@@ -192,7 +192,7 @@ paused_at b b' p z laid a =
 same_writer : {p r : ℕ} → Written p ≡ Written r → p ≡ r
 same_writer e = cc
 
-module _ {b n : Table} (is : b ≡ n) (laid : IsLaid b) (c : ℕ) (s : Side) (writer : IsWriter (network_of b.network) c s) {x : Told} (value : x ≡ slice_index_or b.cells s.instance x) where
+module _ {b n : Seats} (is : b ≡ n) (laid : AreSeated b) (c : ℕ) (s : Side) (writer : IsWriter (network_of b.network) c s) {x : Told} (value : x ≡ slice_index_or b.cells s.instance x) where
   cell_at : slice_get b.cells s.instance ≡ Some x
   cell_at = found refl laid s.instance writer.0.0 value
 
@@ -205,21 +205,21 @@ module _ {b n : Table} (is : b ≡ n) (laid : IsLaid b) (c : ℕ) (s : Side) (wr
       let l = writer.0.1 in
       omega (arith, a, e, l)
 
-  sent_here : channel_source (network_of b.network) c ≡ Written s.instance → HasSent b (Channel c) (count x.sent s.parameter)
+  sent_here : channel_source (network_of b.network) c ≡ Written s.instance → HasSentSoMany b (Channel c) (count x.sent s.parameter)
   sent_here source_is p src x' at stood =
       let same : s.instance ≡ p = same_writer (sym source_is ∙ src) in
       let e : x ≡ x' = same_Some x x' (sym cell_at ∙ subst (λ i. slice_get b.cells i ≡ Some x') (sym same) at) in
       stood.gave s.parameter c (subst (λ i. actual_at (instance_at (network_of b.network) i) s.parameter ≡ Writes c) same writer.1) ∙ ap (λ (y : Told). count y.sent s.parameter) (sym e)
 
-  pub sent_there : channel_source (network_of b.network) c ≡ Written s.instance → HasSent n (Channel c) (count x.sent s.parameter)
-  sent_there source_is = subst (λ (y : Table). HasSent y (Channel c) (count x.sent s.parameter)) is (sent_here source_is)
+  pub sent_there : channel_source (network_of b.network) c ≡ Written s.instance → HasSentSoMany n (Channel c) (count x.sent s.parameter)
+  sent_there source_is = subst (λ (y : Seats). HasSentSoMany y (Channel c) (count x.sent s.parameter)) is (sent_here source_is)
 
-pub printed_there : {b n : Table} (is : b ≡ n) (laid : IsLaid b) (p : ℕ) → p < length (network_of n.network).instances → {x : Told} → x ≡ slice_index_or b.cells p x →
-    HasSent n (Print p) (length x.printed)
+pub printed_there : {b n : Seats} (is : b ≡ n) (laid : AreSeated b) (p : ℕ) → p < length (network_of n.network).instances → {x : Told} → x ≡ slice_index_or b.cells p x →
+    HasSentSoMany n (Print p) (length x.printed)
 printed_there {b} {n} is laid p here {x} value r src x' at stood =
     let same : p ≡ r = same_writer src in
     let at' : slice_get n.cells r ≡ Some x =
-    subst (λ i. slice_get n.cells i ≡ Some x) same (subst (λ (y : Table). slice_get y.cells p ≡ Some x) is (found is laid p here value)) in
+    subst (λ i. slice_get n.cells i ≡ Some x) same (subst (λ (y : Seats). slice_get y.cells p ≡ Some x) is (found is laid p here value)) in
     let e : x ≡ x' = same_Some x x' (sym at' ∙ at) in
     let line : sent_on (network_of n.network) x'.events r stood.tapes (Print p) ≡ map token_value x'.printed =
     subst (λ i. sent_on (network_of n.network) x'.events r stood.tapes (Print i) ≡ map token_value x'.printed) (sym same) (sym stood.printed.values) in

@@ -30,8 +30,8 @@ use Rattle.kahn_code.specs.Standing.{count}
 use Rattle.kahn_needs.specs.Needs.{AreNeeds, Cut, Suffices, first_values, held_in}
 use Rattle.kahn_needs.specs.Laws.{IsMadeIn, of_input}
 use Rattle.kahn_needs.specs.Finding.{cut_told}
-use Rattle.kahn_needs.specs.inner.Bench.{AreCounted, IsLaid, Table, events_in, events_of, taken_in}
-use Rattle.kahn_needs.specs.inner.Finding.{AreForced, HasCome, HasValue, Holds, HoldsAt}
+use Rattle.kahn_needs.specs.inner.Bench.{AreCounted, AreSeated, Seats, events_in, events_seen, taken_in}
+use Rattle.kahn_needs.specs.inner.Finding.{AreForced, HasCome, HasValue, HoldsIn, HoldsAt}
 use Rattle.kahn_needs.proofs.Celled.{sent_more}
 use Rattle.kahn_needs.proofs.Benched.{events_zero}
 use Rattle.kahn_needs.proofs.Reaching.{left_zero}
@@ -56,7 +56,7 @@ past_none (x ∷ xs) (suc d) l = past_none xs d (omega (arith, l))
 -- ---- what each instance did
 
 -- so many events on these tapes, all of which it took
-record Did (b : Table) (p : ℕ) : Type 0 where
+record Did (b : Seats) (p : ℕ) : Type 0 where
   e : ℕ
   tapes : Tapes
   does : (exec_on (network_of b.network) e p tapes).events ≡ e
@@ -67,7 +67,7 @@ record Did (b : Table) (p : ℕ) : Type 0 where
   gave : (q d : ℕ) → actual_at (instance_at (network_of b.network) p) q ≡ Writes d → is_output (role_at (network_of b.network) d) ≡ false →
       length (sent_on (network_of b.network) e p tapes (Channel d)) ≡ given_of (slice_get b.queues.queues d)
 
-module _ (b : Table) (laid : IsLaid b) where
+module _ (b : Seats) (laid : AreSeated b) where
   abbrev N : Network
   N = network_of b.network
 
@@ -98,7 +98,7 @@ module _ (b : Table) (laid : IsLaid b) where
         does = s.does;
         all = s.all;
         are = record { stand = s.stand; none = s.none };
-        same = sym (ap events_of at);
+        same = sym (ap events_seen at);
         took = λ q d r. s.took q ∙ sym (taken_there b laid p q d x at r);
         gave = λ q d w inner. s.gave q d w ∙ sym (sent_there p q d x at w inner);
       }
@@ -108,7 +108,7 @@ module _ (b : Table) (laid : IsLaid b) where
     does = events_zero (script_at N 0 p) empty;
     all = left_zero (script_at N 0 p) empty;
     are = record { stand = λ q d r k v h. absurd cc; none = λ q n. refl };
-    same = sym (ap events_of at);
+    same = sym (ap events_seen at);
     took = λ q d r. absurd (no_cell p at (joins_within N p q d (rw r refl)));
     gave = λ q d w inner. absurd (no_cell p at (joins_within N p q d (rw w refl)));
   }
@@ -124,7 +124,7 @@ module _ (b : Table) (laid : IsLaid b) where
     value_is = counted_at (taken_in b) values (length N.channels) of_values (λ d l. ap taken_of (past_none b.queues.queues d (let n = laid.queued.count ∙ ap (λ t. length (network_of t).channels) laid.network in omega (arith, l, n))))
 
     event_is : (p : ℕ) → x.events p ≡ events_in b p
-    event_is = counted_at (events_in b) events (length N.instances) of_events (λ p l. ap events_of (past_none b.cells p (let n = laid.count in omega (arith, l, n))))
+    event_is = counted_at (events_in b) events (length N.instances) of_events (λ p l. ap events_seen (past_none b.cells p (let n = laid.count in omega (arith, l, n))))
 
     given_is : (d : ℕ) → source N (Channel d) ≡ Given → x.values d ≡ taken_in b d
     given_is d s = ap (λ o. of_input o (slice_index_or values d 0)) s ∙ value_is d
@@ -252,8 +252,8 @@ module _ (b : Table) (laid : IsLaid b) where
       within_events y h p = by (slice_get b.cells p) refl
         where
           by : (o : Option Told) → slice_get b.cells p ≡ o → x.events p ≤ y.events p
-          by (Some z) at = let e = event_is p ∙ ap events_of at in let f = (forced y h p z at).0 in omega (arith, e, f)
-          by None at = let e = event_is p ∙ ap events_of at in omega (arith, e)
+          by (Some z) at = let e = event_is p ∙ ap events_seen at in let f = (forced y h p z at).0 in omega (arith, e, f)
+          by None at = let e = event_is p ∙ ap events_seen at in omega (arith, e)
 
       pub are_needs : AreNeeds N I c k v x
       are_needs =
@@ -265,7 +265,7 @@ module _ (b : Table) (laid : IsLaid b) where
 
 -- ---- where no cut has a value, none stands
 
-pub never_stands : (b : Table) (t : Program) (lists : Lists) → b.network ≡ t → b.input ≡ lists → (c : Line) (k : ℕ) → ((y : Cut) → Holds b y c k → ⊥) →
+pub never_stands : (b : Seats) (t : Program) (lists : Lists) → b.network ≡ t → b.input ≡ lists → (c : Line) (k : ℕ) → ((y : Cut) → HoldsIn b y c k → ⊥) →
     (v : Value) → Stands (network_of t) (inputs_of lists) c k v → ⊥
 never_stands b t lists e f c k none v s =
     let N = network_of t in

@@ -11,9 +11,9 @@ use Rattle.kahn_needs.specs.declared.needs.Found.{Found}
 use Rattle.kahn_needs.specs.declared.needs.Found.TheVariants as found
 
 -- a channel of the network, or the print stream of one of its instances
-abbrev pub IsLineOf : Network → Line → Type 0
-IsLineOf N (Channel c) = c < length N.channels
-IsLineOf N (Print p) = p < length N.instances
+abbrev pub IsNetworkLine : Network → Line → Type 0
+IsNetworkLine N (Channel c) = c < length N.channels
+IsNetworkLine N (Print p) = p < length N.instances
 
 -- so many values of each input, and so many events of each instance
 abbrev pub cut_told : Network → List ℕ → List ℕ → Cut
@@ -21,8 +21,8 @@ cut_told N values events = record { values = λ d. of_input (source N (Channel d
 
 -- at place k of line c is this value, and it needs just that; or no value ever stands there. Where a ring of processes wait on one another, or
 -- the bound is used up, nothing is said.
-abbrev pub IsFound : Network → Inputs → Line → ℕ → Found → Type 0
-IsFound N I c k (found.Needs x) = AreNeeds N I c k x.value (cut_told N x.values.items x.events.items)
-IsFound N I c k found.Never = (v : Value) → Stands N I c k v → ⊥
-IsFound N I c k found.Ring = Unit {0}
-IsFound N I c k found.Bound = Unit {0}
+abbrev pub AreNeedsFound : Network → Inputs → Line → ℕ → Found → Type 0
+AreNeedsFound N I c k (found.Needs x) = AreNeeds N I c k x.value (cut_told N x.values.items x.events.items)
+AreNeedsFound N I c k found.Never = (v : Value) → Stands N I c k v → ⊥
+AreNeedsFound N I c k found.Ring = Unit {0}
+AreNeedsFound N I c k found.Bound = Unit {0}

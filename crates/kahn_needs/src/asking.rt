@@ -4,7 +4,7 @@ ghost use Rattle.std.specs.Prelude.{◌≡◌, IfOk};
 ghost use Rattle.kahn_streams.specs.Inputs.{inputs_of};
 ghost use Rattle.kahn_streams.specs.Network.{Given, network_of};
 ghost use Rattle.kahn_streams.specs.Solution.{source};
-ghost use Rattle.kahn_needs.specs.Finding.{IsFound, IsLineOf};
+ghost use Rattle.kahn_needs.specs.Finding.{AreNeedsFound, IsNetworkLine};
 ghost use Rattle.kahn_needs.specs.inner.Finding.{AreForced, HasCome, watch_of};
 
 use crate::bench::{Bench, all_events, all_taken};
@@ -28,11 +28,11 @@ fn kept_of(line: Line) -> Option<usize>
 
 // What all processes did, once the value was sent.
 fn told(alloc: Global, bench: &Bench<'_>, line: Line, place: u64) -> Result<Found, CodeFault>
-    requires line { IsLineOf (network_of bench.now.network) line }
+    requires line { IsNetworkLine (network_of bench.now.network) line }
     requires watch { bench.now.watch ≡ watch_of line }
     requires come { HasCome bench.now line place }
     requires forced { AreForced bench.now line place }
-    ensures { IfOk result (IsFound (network_of bench.now.network) (inputs_of bench.now.input) line place) }
+    ensures { IfOk result (AreNeedsFound (network_of bench.now.network) (inputs_of bench.now.input) line place) }
 {
     bench.laid();
     let value = bench.value(line, place);
@@ -55,9 +55,9 @@ pub fn find(
     place: u64,
     bound: u64,
 ) -> Result<Found, CodeFault>
-    requires line { IsLineOf (network_of network.now) line }
+    requires line { IsNetworkLine (network_of network.now) line }
     requires written { source (network_of network.now) line ≡ Given → ⊥ }
-    ensures { IfOk result (IsFound (network_of network.now) (inputs_of input.now) line place) }
+    ensures { IfOk result (AreNeedsFound (network_of network.now) (inputs_of input.now) line place) }
 {
     let mut bench = Bench::new(alloc, network, input, kept_of(line))?;
     let root = Demand {

@@ -7,9 +7,9 @@ ghost use Rattle.kahn_code.specs.Lines.{taken_of};
 ghost use Rattle.kahn_streams.specs.Solution.{source};
 ghost use Rattle.kahn_streams.specs.declared.value.Line.TheVariants.{Channel, Print};
 ghost use Rattle.kahn_streams.specs.declared.token.Token.{Token};
-ghost use Rattle.kahn_needs.specs.Finding.{IsLineOf};
-ghost use Rattle.kahn_needs.specs.inner.Finding.{HasCome, HasSent, HasValue, watch_of};
-ghost use Rattle.kahn_needs.specs.inner.Bench.{AreCounted, AreFresh, AreIdle, HasActed, IsLaid, IsTableOf, events_in, events_of, table_of, taken_in};
+ghost use Rattle.kahn_needs.specs.Finding.{IsNetworkLine};
+ghost use Rattle.kahn_needs.specs.inner.Finding.{HasCome, HasSentSoMany, HasValue, watch_of};
+ghost use Rattle.kahn_needs.specs.inner.Bench.{AreCounted, AreUnmoved, HaveNotMoved, HasActed, AreSeated, AreSeatsOf, events_in, events_seen, seats_of, taken_in};
 
 use kahn_code::{Cell, Code, CodeFault, Pause, Plain, Steps, compile};
 use kahn_streams::{About, Carried, Input, Line, Network, Value};
@@ -32,15 +32,15 @@ impl<'n> Model for Bench<'n> {
     ghost use Rattle.kahn_streams.specs.contracts.tree.Action as action;
     ghost use Rattle.kahn_streams.specs.contracts.tree.Form as form;
     ghost use Rattle.std.specs.Coded.{codes};
-    ghost use Rattle.kahn_needs.specs.inner.Bench.{Table, IsLaid, table_of};
+    ghost use Rattle.kahn_needs.specs.inner.Bench.{Seats, AreSeated, seats_of};
 
-    ghost Value = { Table };
+    ghost Value = { Seats };
 
     ghost coded = { Prim.hlevel (codes, action.the_row.coded, form.the_row.coded) };
 
-    ghost view = { λ b. table_of b.network.now b.input.value b.watch b.code.network.value b.cells.items b.queues };
+    ghost view = { λ b. seats_of b.network.now b.input.value b.watch b.code.network.value b.cells.items b.queues };
 
-    ghost invariant = { λ b. IsLaid (table_of b.network.now b.input.value b.watch b.code.network.value b.cells.items b.queues) };
+    ghost invariant = { λ b. AreSeated (seats_of b.network.now b.input.value b.watch b.code.network.value b.cells.items b.queues) };
 }
 
 // The cells of all instances at their openings, for the input that is named.
@@ -53,7 +53,7 @@ fn named_cells(
 ) -> Result<Vec<Cell>, CodeFault>
     ghost input: { Lists }
     requires { code.now.network.value ≡ network.now }
-    ensures { IfOk result (λ cells. AreFresh network.now input watch cells.items (length (network_of network.now).instances)) }
+    ensures { IfOk result (λ cells. AreUnmoved network.now input watch cells.items (length (network_of network.now).instances)) }
 {
     let mut cells = Vec::new(alloc);
     for instance in 0..network.instances() {
@@ -71,8 +71,8 @@ impl<'n> Bench<'n> {
         input: &Input,
         watch: Option<usize>,
     ) -> Result<Bench<'n>, CodeFault>
-        ensures names { IfOk result (IsTableOf network.now input.now watch) }
-        ensures idle { IfOk result (λ b. AreIdle b.cells) }
+        ensures names { IfOk result (AreSeatsOf network.now input.now watch) }
+        ensures idle { IfOk result (λ b. HaveNotMoved b.cells) }
     {
         let code = compile(alloc, network)?;
         let cells = named_cells(alloc, network, &code, input, watch)?;
@@ -92,8 +92,8 @@ impl<'n> Bench<'n> {
         queues: Plain<Global>,
     ) -> Bench<'n>
         ghost input: { Lists }
-        requires { IsLaid (table_of network.now input watch code.network.value cells.items queues) }
-        ensures { result ≡ table_of network.now input watch code.network.value cells.items queues }
+        requires { AreSeated (seats_of network.now input watch code.network.value cells.items queues) }
+        ensures { result ≡ seats_of network.now input watch code.network.value cells.items queues }
     {
         Bench {
             network,
@@ -108,7 +108,7 @@ impl<'n> Bench<'n> {
     /// Runs a process for one event, if it has one.
     pub(crate) fn act<L: Ledger>(&mut self, instance: usize, steps: &mut Steps<L>) -> Pause
         requires here { instance < length (network_of self.old.network).instances }
-        requires bound { events_of (slice_get self.old.cells instance) + 1 < 2 ^ 48 }
+        requires bound { events_seen (slice_get self.old.cells instance) + 1 < 2 ^ 48 }
         ensures { HasActed self.old self.new instance result }
     {
         self.queues.at(instance);
@@ -120,7 +120,7 @@ impl<'n> Bench<'n> {
     /// How many events an instance has done.
     pub(crate) fn events(&self, instance: usize) -> u64
         requires { instance < length (network_of self.now.network).instances }
-        ensures { result ≡ events_of (slice_get self.now.cells instance) }
+        ensures { result ≡ events_seen (slice_get self.now.cells instance) }
     {
         self.cells[instance].events()
     }
@@ -146,7 +146,7 @@ impl<'n> Bench<'n> {
 
     /// Says how all stand: its contract is what it does.
     pub(crate) fn laid(&self)
-        ensures { IsLaid self.now }
+        ensures { AreSeated self.now }
     {
         let _watch = self.watch;
     }
@@ -160,7 +160,7 @@ impl<'n> Bench<'n> {
 
     /// The instance that sends on a line; none on an input.
     pub(crate) fn writer(&self, line: Line) -> Option<usize>
-        requires { IsLineOf (network_of self.now.network) line }
+        requires { IsNetworkLine (network_of self.now.network) line }
         ensures writer { MatchOption result (source (network_of self.now.network) line ≡ Given) (λ p. source (network_of self.now.network) line ≡ Written p) }
         ensures here { IfSome result (λ p. p < length (network_of self.now.network).instances) }
     {
@@ -175,8 +175,8 @@ impl<'n> Bench<'n> {
 
     /// How many values were sent on a line.
     pub(crate) fn sent(&self, line: Line) -> u64
-        requires { IsLineOf (network_of self.now.network) line }
-        ensures { HasSent self.now line result }
+        requires { IsNetworkLine (network_of self.now.network) line }
+        ensures { HasSentSoMany self.now line result }
     {
         match line {
             Line::Channel(channel) => self.sent_on(channel),
@@ -187,7 +187,7 @@ impl<'n> Bench<'n> {
     // How many values were sent on a channel.
     fn sent_on(&self, channel: usize) -> u64
         requires { channel < length (network_of self.now.network).channels }
-        ensures { HasSent self.now (Channel channel) result }
+        ensures { HasSentSoMany self.now (Channel channel) result }
     {
         match self.network.writer(channel) {
             Some(side) => {
@@ -202,7 +202,7 @@ impl<'n> Bench<'n> {
     // How many values an instance printed.
     fn printed(&self, instance: usize) -> u64
         requires { instance < length (network_of self.now.network).instances }
-        ensures { HasSent self.now (Print instance) result }
+        ensures { HasSentSoMany self.now (Print instance) result }
     {
         self.cells[instance].printed().len() as u64
     }
@@ -216,7 +216,7 @@ impl<'n> Bench<'n> {
 
     /// The value that was sent at a place of a line.
     pub(crate) fn value(&self, line: Line, place: u64) -> Value
-        requires line { IsLineOf (network_of self.now.network) line }
+        requires line { IsNetworkLine (network_of self.now.network) line }
         requires watch { self.now.watch ≡ watch_of line }
         ensures { HasCome self.now line place → HasValue self.now line place result }
     {

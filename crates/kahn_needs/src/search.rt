@@ -4,9 +4,9 @@
 ghost use Rattle.std.specs.Prelude.{◌≡◌, ◌<◌, true, IfSome, length};
 ghost use Rattle.kahn_streams.specs.Network.{Written, network_of};
 ghost use Rattle.kahn_streams.specs.Solution.{source};
-ghost use Rattle.kahn_needs.specs.Finding.{IsLineOf};
-ghost use Rattle.kahn_needs.specs.inner.Bench.{IsTableOf};
-ghost use Rattle.kahn_needs.specs.inner.Finding.{AreForced, HasCome, HasTurned, IsDemand, IsPausedAt, IsSought, IsTold};
+ghost use Rattle.kahn_needs.specs.Finding.{IsNetworkLine};
+ghost use Rattle.kahn_needs.specs.inner.Bench.{AreSeatsOf};
+ghost use Rattle.kahn_needs.specs.inner.Finding.{AreForced, HasCome, HasTurned, IsDemand, IsPausedAt, IsEndOfSearch, IsTurnTold};
 
 use crate::bench::Bench;
 use kahn_code::{Pause, Steps};
@@ -59,7 +59,7 @@ fn told(bench: &Bench<'_>, root: Demand, demand: Demand, instance: usize, pause:
     requires writer { source (network_of bench.now.network) demand.line ≡ Written instance }
     requires here { instance < length (network_of bench.now.network).instances }
     requires paused { IsPausedAt bench.now instance pause }
-    ensures { IsTold bench.now root.line root.place demand.line demand.place result }
+    ensures { IsTurnTold bench.now root.line root.place demand.line demand.place result }
 {
     bench.laid();
     if bench.sent(demand.line) > demand.place {
@@ -103,7 +103,7 @@ fn act<L: Ledger>(bench: &mut Bench<'_>, root: Demand, demand: Demand, steps: &m
 fn next_demand(bench: &Bench<'_>, root: Demand, demand: Demand, turn: Turn) -> Demand
     requires root { IsDemand bench.now root.line root.place root.line root.place }
     requires demanded { IsDemand bench.now root.line root.place demand.line demand.place }
-    requires told { IsTold bench.now root.line root.place demand.line demand.place turn }
+    requires told { IsTurnTold bench.now root.line root.place demand.line demand.place turn }
     ensures { IsDemand bench.now root.line root.place result.line result.place }
 {
     match turn {
@@ -122,8 +122,8 @@ fn next_demand(bench: &Bench<'_>, root: Demand, demand: Demand, turn: Turn) -> D
 
 // Whether the search is over after a turn, and how.
 fn ended_by(bench: &Bench<'_>, root: Demand, demand: Demand, turn: Turn) -> Option<Sought>
-    requires told { IsTold bench.now root.line root.place demand.line demand.place turn }
-    ensures { IfSome result (IsSought bench.now root.line root.place) }
+    requires told { IsTurnTold bench.now root.line root.place demand.line demand.place turn }
+    ensures { IfSome result (IsEndOfSearch bench.now root.line root.place) }
 {
     match turn {
         Turn::Sent => None,
@@ -142,7 +142,7 @@ fn ended_by(bench: &Bench<'_>, root: Demand, demand: Demand, turn: Turn) -> Opti
 
 // Whether the value of a demand was sent.
 fn has_come(bench: &Bench<'_>, demand: Demand) -> bool
-    requires { IsLineOf (network_of bench.now.network) demand.line }
+    requires { IsNetworkLine (network_of bench.now.network) demand.line }
     ensures { result ≡ true → HasCome bench.now demand.line demand.place }
 {
     match bench.writer(demand.line) {
@@ -170,9 +170,9 @@ pub(crate) fn search<L: Ledger>(
     requires blank { (blank.name ≡ L.name) × (blank.parts ≡ L.parts) × (0 < blank.parts) }
     requires root { IsDemand bench.old root.line root.place root.line root.place }
     requires forced { AreForced bench.old root.line root.place }
-    ensures same { IsTableOf bench.old.network bench.old.input bench.old.watch bench.new }
+    ensures same { AreSeatsOf bench.old.network bench.old.input bench.old.watch bench.new }
     ensures forced { AreForced bench.new root.line root.place }
-    ensures sought { IsSought bench.new root.line root.place result }
+    ensures sought { IsEndOfSearch bench.new root.line root.place result }
 {
     let mut steps = Steps::<L>::open(blank);
     let mut demand = root;

@@ -16,7 +16,7 @@ use Rattle.kahn_code.specs.declared.progress.Pause.{Pause}
 use Rattle.kahn_code.specs.declared.progress.Pause.TheVariants as pause
 
 -- the program and the input, the channel of which what is sent is kept, the program of the code, the cells and the queues
-pub record Table : Type 0 where
+pub record Seats : Type 0 where
   pub network : Program
   pub input : Lists
   pub watch : Option ℕ
@@ -25,15 +25,15 @@ pub record Table : Type 0 where
   pub queues : Lines
 
 -- what contracts see of these cells over these queues
-abbrev pub table_of : Program → Lists → Option ℕ → Program → List Told → Lines → Table
-table_of t lists watch code cells queues = record { network = t; input = lists; watch = watch; code = code; cells = cells; queues = queues }
+abbrev pub seats_of : Program → Lists → Option ℕ → Program → List Told → Lines → Seats
+seats_of t lists watch code cells queues = record { network = t; input = lists; watch = watch; code = code; cells = cells; queues = queues }
 
 -- what the cell of instance p of the table says of its process is true
-abbrev pub Stood : Table → ℕ → Told → Type 0
+abbrev pub Stood : Seats → ℕ → Told → Type 0
 Stood b p x = StoodBy (network_of b.network) (inputs_of b.input) b.watch p (told_view x)
 
 -- the cell is that of instance p, and stands where the queues stand
-pub record IsSeated (b : Table) (p : ℕ) (x : Told) : Type 0 where
+pub record IsSeatOf (b : Seats) (p : ℕ) (x : Told) : Type 0 where
   pub network : x.network ≡ b.network
   pub input : x.input ≡ b.input
   pub instance : x.instance ≡ p
@@ -42,21 +42,21 @@ pub record IsSeated (b : Table) (p : ℕ) (x : Told) : Type 0 where
   pub stood : Stood b p x
 
 -- a cell for each instance, and the queues of the same network and input
-pub record IsLaid (b : Table) : Type 0 where
+pub record AreSeated (b : Seats) : Type 0 where
   pub wired : IsWellWired b.network
   pub code : b.code ≡ b.network
   pub count : length b.cells ≡ length (network_of b.network).instances
-  pub each : (p : ℕ) (x : Told) → slice_get b.cells p ≡ Some x → IsSeated b p x
+  pub each : (p : ℕ) (x : Told) → slice_get b.cells p ≡ Some x → IsSeatOf b p x
   pub network : b.queues.network ≡ b.network
   pub input : b.queues.input ≡ b.input
   pub queued : AreQueued b.queues
 
 -- it is of this network, for this input, and what is sent on that channel is kept
-abbrev pub IsTableOf : Program → Lists → Option ℕ → Table → Type 0
-IsTableOf t lists watch b = (b.network ≡ t) × (b.input ≡ lists) × (b.watch ≡ watch)
+abbrev pub AreSeatsOf : Program → Lists → Option ℕ → Seats → Type 0
+AreSeatsOf t lists watch b = (b.network ≡ t) × (b.input ≡ lists) × (b.watch ≡ watch)
 
 -- the cell of instance p before its first event
-pub record IsFresh (t : Program) (lists : Lists) (watch : Option ℕ) (p : ℕ) (x : Told) : Type 0 where
+pub record IsUnmoved (t : Program) (lists : Lists) (watch : Option ℕ) (p : ℕ) (x : Told) : Type 0 where
   pub network : x.network ≡ t
   pub input : x.input ≡ lists
   pub instance : x.instance ≡ p
@@ -67,16 +67,16 @@ pub record IsFresh (t : Program) (lists : Lists) (watch : Option ℕ) (p : ℕ) 
   pub stood : StoodBy (network_of t) (inputs_of lists) watch p (told_view x)
 
 -- those of the first n instances
-pub record AreFresh (t : Program) (lists : Lists) (watch : Option ℕ) (cells : List Told) (n : ℕ) : Type 0 where
+pub record AreUnmoved (t : Program) (lists : Lists) (watch : Option ℕ) (cells : List Told) (n : ℕ) : Type 0 where
   pub count : length cells ≡ n
-  pub each : (p : ℕ) (x : Told) → slice_get cells p ≡ Some x → IsFresh t lists watch p x
+  pub each : (p : ℕ) (x : Told) → slice_get cells p ≡ Some x → IsUnmoved t lists watch p x
 
 -- none has done or taken anything
-abbrev pub AreIdle : List Told → Type 0
-AreIdle cells = (p : ℕ) (x : Told) → slice_get cells p ≡ Some x → (x.events ≡ 0) × ((q : ℕ) → count x.taken q ≡ 0)
+abbrev pub HaveNotMoved : List Told → Type 0
+HaveNotMoved cells = (p : ℕ) (x : Told) → slice_get cells p ≡ Some x → (x.events ≡ 0) × ((q : ℕ) → count x.taken q ≡ 0)
 
 -- how instance p stopped: at its end, or where it waits for a channel whose queue is empty; of other pauses nothing is said
-abbrev pub IsStopped : Table → ℕ → Pause → script.Outcome Store → Type 0
+abbrev pub IsStopped : Seats → ℕ → Pause → script.Outcome Store → Type 0
 IsStopped b p pause.Ended o = ending o ≡ Some end.Ended
 IsStopped b p (pause.Fault k) o = ending o ≡ Some (end.Faulted k)
 IsStopped b p (pause.Dry q) o =
@@ -85,8 +85,8 @@ IsStopped b p pause.Spent o = Unit {0}
 IsStopped b p pause.NoMemory o = Unit {0}
 
 -- instance p did an event at most, and stopped so
-pub record HasActed (b d : Table) (p : ℕ) (z : Pause) : Type 0 where
-  pub same : IsTableOf b.network b.input b.watch d
+pub record HasActed (b d : Seats) (p : ℕ) (z : Pause) : Type 0 where
+  pub same : AreSeatsOf b.network b.input b.watch d
   pub old : Told
   pub was : slice_get b.cells p ≡ Some old
   pub new : Told
@@ -95,9 +95,9 @@ pub record HasActed (b d : Table) (p : ℕ) (z : Pause) : Type 0 where
   pub paused : Paused (network_of d.network) (inputs_of d.input) d.watch p (told_view new) (IsStopped d p z)
 
 -- the events of a cell
-abbrev pub events_of : Option Told → ℕ
-events_of None = 0
-events_of (Some x) = x.events
+abbrev pub events_seen : Option Told → ℕ
+events_seen None = 0
+events_seen (Some x) = x.events
 
 -- the numbers of the first n, each by what it is
 pub record AreCounted (f : ℕ → ℕ) (xs : List ℕ) (n : ℕ) : Type 0 where
@@ -105,9 +105,9 @@ pub record AreCounted (f : ℕ → ℕ) (xs : List ℕ) (n : ℕ) : Type 0 where
   pub each : (d x : ℕ) → slice_get xs d ≡ Some x → x ≡ f d
 
 -- of each channel how many values were taken
-abbrev pub taken_in : Table → ℕ → ℕ
+abbrev pub taken_in : Seats → ℕ → ℕ
 taken_in b d = taken_of (slice_get b.queues.queues d)
 
 -- of each instance how many events were done
-abbrev pub events_in : Table → ℕ → ℕ
-events_in b p = events_of (slice_get b.cells p)
+abbrev pub events_in : Seats → ℕ → ℕ
+events_in b p = events_seen (slice_get b.cells p)

@@ -1,5 +1,5 @@
 use Rattle.std.proofs.Common.{subst, sym, ap}
-use Rattle.kahn_needs.specs.inner.Bench.{AreIdle, Table}
+use Rattle.kahn_needs.specs.inner.Bench.{HaveNotMoved, Seats}
 use Rattle.kahn_needs.proofs.Benched.{laid_first}
 use Rattle.kahn_needs.proofs.bench.Bench.new.Goals as goal
 
@@ -10,4 +10,4 @@ named-requires c =
 
 pub returns-clause-idle : goal.returns-clause-idle
 returns-clause-idle c =
-    subst AreIdle (sym (ap (λ (b : Table). b.cells) c.named.ensures)) (λ p x e. let f = c.in_ok-cells.ensures.each p x e in (f.events, f.taken))
+    subst HaveNotMoved (sym (ap (λ (b : Seats). b.cells) c.named.ensures)) (λ p x e. let f = c.in_ok-cells.ensures.each p x e in (f.events, f.taken))
