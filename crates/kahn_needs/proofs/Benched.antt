@@ -27,7 +27,7 @@ use Rattle.kahn_code.specs.Standing.{LeavesOthers, Site, count}
 use Rattle.kahn_code.specs.declared.progress.Pause.{Pause}
 use Rattle.kahn_code.specs.declared.progress.Pause.TheVariants as pause
 use Rattle.kahn_code.specs.Progress as code
-use Rattle.kahn_needs.specs.inner.Bench.{AreUnmoved, HasActed, IsUnmoved, AreSeated, IsSeatOf, IsStopped, Seats, seats_of}
+use Rattle.kahn_needs.specs.inner.Bench.{AreUnmoved, HasActed, IsUnmoved, HaveSeats, HasItsSeat, IsStopped, Seats, seats_of}
 use Rattle.kahn_needs.proofs.Reaching.{left_zero, sent_zero}
 
 -- ---- a cell at its opening
@@ -95,7 +95,7 @@ fresh_one t lists watch n k x names none lists' = record {
 -- cells at their openings over queues from which nothing was taken
 pub laid_first : (t code : Program) (lists : Lists) (watch : Option ℕ) (cells : List Told) (q : Lines) → IsWellWired t → code ≡ t →
     AreUnmoved t lists watch cells (length (network_of t).instances) → (q.network ≡ t) × (q.input ≡ lists) → AreFirst t lists q.queues → AreQueued q →
-    AreSeated (seats_of t lists watch code cells q)
+    HaveSeats (seats_of t lists watch code cells q)
 laid_first t code lists watch cells q wired same fresh names first queued = record {
   wired = wired;
   code = same;
@@ -106,7 +106,7 @@ laid_first t code lists watch cells q wired same fresh names first queued = reco
   queued = queued;
 }
   where
-    each : (p : ℕ) (x : Told) → slice_get cells p ≡ Some x → IsSeatOf (seats_of t lists watch code cells q) p x
+    each : (p : ℕ) (x : Told) → slice_get cells p ≡ Some x → HasItsSeat (seats_of t lists watch code cells q) p x
     each p x at =
         let o : IsUnmoved t lists watch p x = fresh.each p x at in
         record {
@@ -147,15 +147,15 @@ ran b p x q = record { network = b.network; input = b.input; watch = b.watch; co
 abbrev pub ports_of : Lines → Site
 ports_of q = record { network = q.network; input = q.input; instance = q.instance }
 
-pub found : {b n : Seats} → b ≡ n → AreSeated b → (p : ℕ) {x : Told} → p < length (network_of n.network).instances → x ≡ slice_index_or b.cells p x → slice_get b.cells p ≡ Some x
+pub found : {b n : Seats} → b ≡ n → HaveSeats b → (p : ℕ) {x : Told} → p < length (network_of n.network).instances → x ≡ slice_index_or b.cells p x → slice_get b.cells p ≡ Some x
 found {b} is laid p {x} l =
     slice_get_read b.cells (length b.cells) p x refl (subst (λ k. p < k) (sym (laid.count ∙ ap (λ (y : Seats). length (network_of y.network).instances) is)) l)
 
-module _ {b : Seats} (laid : AreSeated b) (p : ℕ) {x : Told} (at : slice_get b.cells p ≡ Some x) where
+module _ {b : Seats} (laid : HaveSeats b) (p : ℕ) {x : Told} (at : slice_get b.cells p ≡ Some x) where
   abbrev lent : Lines
   lent = record { network = b.queues.network; input = b.queues.input; instance = p; queues = b.queues.queues }
 
-  seated : IsSeatOf b p x
+  seated : HasItsSeat b p x
   seated = laid.each p x at
 
   pub code_is : b.code ≡ x.network
@@ -207,7 +207,7 @@ module _ {b : Seats} (laid : AreSeated b) (p : ℕ) {x : Told} (at : slice_get b
         subst (λ (k : Program × Lists × Option ℕ × ℕ). code.Paused (network_of k.0) (inputs_of k.1) k.2 k.3 (told_view x') (IsPause (network_of k.0) k.3 dry ready (x'.events ≡ x.events + quantum) z))
         (λ i. (network_is i, input_is i, watch_is i, instance_is i)) paused
 
-    mine : IsSeatOf now p x'
+    mine : HasItsSeat now p x'
     mine = record {
       network = network_is;
       input = input_is;
@@ -220,9 +220,9 @@ module _ {b : Seats} (laid : AreSeated b) (p : ℕ) {x : Told} (at : slice_get b
     leaves_here : LeavesOthers (record { network = b.queues.network; input = b.queues.input; instance = p }) (place_at b.queues) (place_at q')
     leaves_here = subst (λ (y : Lines). LeavesOthers (ports_of y) (place_at y) (place_at q')) is leaves
 
-    others : (o : ℕ) (d : Told) → (o ≡ p → ⊥) → slice_get b.cells o ≡ Some d → IsSeatOf now o d
+    others : (o : ℕ) (d : Told) → (o ≡ p → ⊥) → slice_get b.cells o ≡ Some d → HasItsSeat now o d
     others o d n e =
-        let s : IsSeatOf b o d = laid.each o d e in
+        let s : HasItsSeat b o d = laid.each o d e in
         record {
           network = s.network;
           input = s.input;
@@ -235,12 +235,12 @@ module _ {b : Seats} (laid : AreSeated b) (p : ℕ) {x : Told} (at : slice_get b
           stood = s.stood;
         }
 
-    pub laid_now : AreSeated now
+    pub laid_now : HaveSeats now
     laid_now = record {
       wired = laid.wired;
       code = laid.code;
       count = length-set b.cells p x' ∙ laid.count;
-      each = set_each (IsSeatOf now) b.cells p x' others mine;
+      each = set_each (HasItsSeat now) b.cells p x' others mine;
       network = ap (λ (s : Site). s.network) site ∙ network_is;
       input = ap (λ (s : Site). s.input) site ∙ input_is;
       queued = queued;

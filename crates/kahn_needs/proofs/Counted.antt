@@ -15,7 +15,7 @@ use Rattle.kahn_code.proofs.Lists.{none_first, one_first}
 use Rattle.kahn_code.specs.Cells.{is_streamed, sent_on}
 use Rattle.kahn_code.specs.Progress.{Told}
 use Rattle.kahn_code.specs.Standing.{tokens}
-use Rattle.kahn_needs.specs.inner.Bench.{AreCounted, AreSeated, Stood, Seats}
+use Rattle.kahn_needs.specs.inner.Bench.{AreCounted, HaveSeats, Stood, Seats}
 use Rattle.kahn_needs.specs.inner.Finding.{HasCome, HasValue}
 use Rattle.kahn_needs.proofs.Benched.{found}
 use Rattle.kahn_needs.proofs.Reaching.{eqb_refl}
@@ -45,7 +45,7 @@ or_true : (x y : Bool) → y ≡ true → (x || y) ≡ true
 or_true true y e = refl
 or_true false y e = e
 
-module _ (b : Seats) (laid : AreSeated b) (c : ℕ) (s : Side) (writer : IsWriter (network_of b.network) c s) (x : Told) (at : slice_get b.cells s.instance ≡ Some x)
+module _ (b : Seats) (laid : HaveSeats b) (c : ℕ) (s : Side) (writer : IsWriter (network_of b.network) c s) (x : Told) (at : slice_get b.cells s.instance ≡ Some x)
     (src : channel_source (network_of b.network) c ≡ Written s.instance) (watch : b.watch ≡ Some c) (k : ℕ) (v : Value)
     (told : (t : Token) → slice_get (tokens x.kept s.parameter) k ≡ Some t → v ≡ t.value) where
   streamed : is_streamed (network_of b.network) b.watch c ≡ true
@@ -60,7 +60,7 @@ module _ (b : Seats) (laid : AreSeated b) (c : ℕ) (s : Side) (writer : IsWrite
       value_of_tokens b (Channel c) p x' stood (sent_on (network_of b.network) x'.events p stood.tapes (Channel c)) (tokens x'.kept s.parameter) k come.3.0
       kept.values (come.3.1 p is x' at' stood) come.3.2 v (subst (λ (y : Told). (t : Token) → slice_get (tokens y.kept s.parameter) k ≡ Some t → v ≡ t.value) e told)
 
-pub value_there : {b n : Seats} (is : b ≡ n) (laid : AreSeated b) (c : ℕ) (s : Side) (writer : IsWriter (network_of b.network) c s) {x : Told} → x ≡ slice_index_or b.cells s.instance x →
+pub value_there : {b n : Seats} (is : b ≡ n) (laid : HaveSeats b) (c : ℕ) (s : Side) (writer : IsWriter (network_of b.network) c s) {x : Told} → x ≡ slice_index_or b.cells s.instance x →
     channel_source (network_of b.network) c ≡ Written s.instance → n.watch ≡ Some c → (k : ℕ) (v : Value) (ts : List Token) → ts ≡ tokens x.kept s.parameter →
     ((t : Token) → slice_get ts k ≡ Some t → v ≡ t.value) → HasCome n (Channel c) k → HasValue n (Channel c) k v
 value_there {b} {n} is laid c s writer {x} value src watch k v ts same told =
@@ -78,7 +78,7 @@ module _ (b : Seats) (p : ℕ) (x : Told) (at : slice_get b.cells p ≡ Some x) 
       value_of_tokens b (Print p) r x' stood (sent_on (network_of b.network) x'.events r stood.tapes (Print p)) x'.printed k come.3.0
       line (come.3.1 r is x' at' stood) come.3.2 v (subst (λ (y : Told). (t : Token) → slice_get y.printed k ≡ Some t → v ≡ t.value) e told)
 
-pub printed_value : {b n : Seats} (is : b ≡ n) (laid : AreSeated b) (p : ℕ) → p < length (network_of n.network).instances → {x : Told} → x ≡ slice_index_or b.cells p x → (k : ℕ) (v : Value) (ts : List Token) → ts ≡ x.printed →
+pub printed_value : {b n : Seats} (is : b ≡ n) (laid : HaveSeats b) (p : ℕ) → p < length (network_of n.network).instances → {x : Told} → x ≡ slice_index_or b.cells p x → (k : ℕ) (v : Value) (ts : List Token) → ts ≡ x.printed →
     ((t : Token) → slice_get ts k ≡ Some t → v ≡ t.value) → HasCome n (Print p) k → HasValue n (Print p) k v
 printed_value {b} {n} is laid p here {x} value k v ts same told =
     subst (λ (y : Seats). HasCome y (Print p) k → HasValue y (Print p) k v) is

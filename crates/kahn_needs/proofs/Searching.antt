@@ -26,7 +26,7 @@ use Rattle.kahn_code.specs.declared.progress.Pause.{Pause}
 use Rattle.kahn_code.specs.declared.progress.Pause.TheVariants as pause
 use Rattle.kahn_needs.specs.Needs.{Cut}
 use Rattle.kahn_needs.specs.Finding.{IsNetworkLine}
-use Rattle.kahn_needs.specs.inner.Bench.{HasActed, AreSeated, AreSeatsOf, Stood, Seats}
+use Rattle.kahn_needs.specs.inner.Bench.{HasActed, HaveSeats, AreSeatsOf, Stood, Seats}
 use Rattle.kahn_needs.specs.inner.Finding.{AreForced, HasSentSoMany, HoldsIn, HoldsAt, IsDemand, IsPausedAt}
 use Rattle.kahn_needs.proofs.Benched.{found}
 use Rattle.kahn_needs.proofs.Forcing.{goes_further, has_next, has_taken, stuck}
@@ -47,7 +47,7 @@ Needs_all t lists y o x =
     (x.events ≤ y.events o)
     × ((q e i : ℕ) → actual_at (instance_at (network_of t) o) q ≡ Reads e → i < count x.taken q → HoldsAt (network_of t) (inputs_of lists) y (Channel e) i)
 
-module _ (b : Seats) (laid : AreSeated b) where
+module _ (b : Seats) (laid : HaveSeats b) where
   abbrev N : Network
   N = network_of b.network
 
@@ -183,7 +183,7 @@ none_given b c k d j h s y there =
     omega (arith, l, m)
 
 -- the pause after an event, or none
-pub paused_at : (b b' : Seats) (p : ℕ) (z : Pause) → AreSeated b → HasActed b b' p z → IsPausedAt b' p z
+pub paused_at : (b b' : Seats) (p : ℕ) (z : Pause) → HaveSeats b → HasActed b b' p z → IsPausedAt b' p z
 paused_at b b' p z laid a =
     (a.new, subst (λ l. slice_get l p ≡ Some a.new) (sym a.cells) (set_here b.cells p a.new (within b.cells p a.old a.was)), a.paused)
 
@@ -192,7 +192,7 @@ paused_at b b' p z laid a =
 same_writer : {p r : ℕ} → Written p ≡ Written r → p ≡ r
 same_writer e = cc
 
-module _ {b n : Seats} (is : b ≡ n) (laid : AreSeated b) (c : ℕ) (s : Side) (writer : IsWriter (network_of b.network) c s) {x : Told} (value : x ≡ slice_index_or b.cells s.instance x) where
+module _ {b n : Seats} (is : b ≡ n) (laid : HaveSeats b) (c : ℕ) (s : Side) (writer : IsWriter (network_of b.network) c s) {x : Told} (value : x ≡ slice_index_or b.cells s.instance x) where
   cell_at : slice_get b.cells s.instance ≡ Some x
   cell_at = found refl laid s.instance writer.0.0 value
 
@@ -214,7 +214,7 @@ module _ {b n : Seats} (is : b ≡ n) (laid : AreSeated b) (c : ℕ) (s : Side) 
   pub sent_there : channel_source (network_of b.network) c ≡ Written s.instance → HasSentSoMany n (Channel c) (count x.sent s.parameter)
   sent_there source_is = subst (λ (y : Seats). HasSentSoMany y (Channel c) (count x.sent s.parameter)) is (sent_here source_is)
 
-pub printed_there : {b n : Seats} (is : b ≡ n) (laid : AreSeated b) (p : ℕ) → p < length (network_of n.network).instances → {x : Told} → x ≡ slice_index_or b.cells p x →
+pub printed_there : {b n : Seats} (is : b ≡ n) (laid : HaveSeats b) (p : ℕ) → p < length (network_of n.network).instances → {x : Told} → x ≡ slice_index_or b.cells p x →
     HasSentSoMany n (Print p) (length x.printed)
 printed_there {b} {n} is laid p here {x} value r src x' at stood =
     let same : p ≡ r = same_writer src in

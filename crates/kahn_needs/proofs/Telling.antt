@@ -30,7 +30,7 @@ use Rattle.kahn_code.specs.Standing.{count}
 use Rattle.kahn_needs.specs.Needs.{AreNeeds, Cut, Suffices, first_values, held_in}
 use Rattle.kahn_needs.specs.Laws.{IsMadeIn, of_input}
 use Rattle.kahn_needs.specs.Finding.{cut_told}
-use Rattle.kahn_needs.specs.inner.Bench.{AreCounted, AreSeated, Seats, events_in, events_seen, taken_in}
+use Rattle.kahn_needs.specs.inner.Bench.{AreCounted, HaveSeats, Seats, events_in, events_seen, taken_in}
 use Rattle.kahn_needs.specs.inner.Finding.{AreForced, HasCome, HasValue, HoldsIn, HoldsAt}
 use Rattle.kahn_needs.proofs.Celled.{sent_more}
 use Rattle.kahn_needs.proofs.Benched.{events_zero}
@@ -67,7 +67,7 @@ record Did (b : Seats) (p : ℕ) : Type 0 where
   gave : (q d : ℕ) → actual_at (instance_at (network_of b.network) p) q ≡ Writes d → is_output (role_at (network_of b.network) d) ≡ false →
       length (sent_on (network_of b.network) e p tapes (Channel d)) ≡ given_of (slice_get b.queues.queues d)
 
-module _ (b : Seats) (laid : AreSeated b) where
+module _ (b : Seats) (laid : HaveSeats b) where
   abbrev N : Network
   N = network_of b.network
 

@@ -9,7 +9,7 @@ ghost use Rattle.kahn_streams.specs.declared.value.Line.TheVariants.{Channel, Pr
 ghost use Rattle.kahn_streams.specs.declared.token.Token.{Token};
 ghost use Rattle.kahn_needs.specs.Finding.{IsNetworkLine};
 ghost use Rattle.kahn_needs.specs.inner.Finding.{HasCome, HasSentSoMany, HasValue, watch_of};
-ghost use Rattle.kahn_needs.specs.inner.Bench.{AreCounted, AreUnmoved, HaveNotMoved, HasActed, AreSeated, AreSeatsOf, events_in, events_seen, seats_of, taken_in};
+ghost use Rattle.kahn_needs.specs.inner.Bench.{AreCounted, AreUnmoved, HaveNotMoved, HasActed, HaveSeats, AreSeatsOf, events_in, events_seen, seats_of, taken_in};
 
 use kahn_code::{Cell, Code, CodeFault, Pause, Plain, Steps, compile};
 use kahn_streams::{About, Carried, Input, Line, Network, Value};
@@ -32,7 +32,7 @@ impl<'n> Model for Bench<'n> {
     ghost use Rattle.kahn_streams.specs.contracts.tree.Action as action;
     ghost use Rattle.kahn_streams.specs.contracts.tree.Form as form;
     ghost use Rattle.std.specs.Coded.{codes};
-    ghost use Rattle.kahn_needs.specs.inner.Bench.{Seats, AreSeated, seats_of};
+    ghost use Rattle.kahn_needs.specs.inner.Bench.{Seats, HaveSeats, seats_of};
 
     ghost Value = { Seats };
 
@@ -40,7 +40,7 @@ impl<'n> Model for Bench<'n> {
 
     ghost view = { λ b. seats_of b.network.now b.input.value b.watch b.code.network.value b.cells.items b.queues };
 
-    ghost invariant = { λ b. AreSeated (seats_of b.network.now b.input.value b.watch b.code.network.value b.cells.items b.queues) };
+    ghost invariant = { λ b. HaveSeats (seats_of b.network.now b.input.value b.watch b.code.network.value b.cells.items b.queues) };
 }
 
 // The cells of all instances at their openings, for the input that is named.
@@ -92,7 +92,7 @@ impl<'n> Bench<'n> {
         queues: Plain<Global>,
     ) -> Bench<'n>
         ghost input: { Lists }
-        requires { AreSeated (seats_of network.now input watch code.network.value cells.items queues) }
+        requires { HaveSeats (seats_of network.now input watch code.network.value cells.items queues) }
         ensures { result ≡ seats_of network.now input watch code.network.value cells.items queues }
     {
         Bench {
@@ -146,7 +146,7 @@ impl<'n> Bench<'n> {
 
     /// Says how all stand: its contract is what it does.
     pub(crate) fn laid(&self)
-        ensures { AreSeated self.now }
+        ensures { HaveSeats self.now }
     {
         let _watch = self.watch;
     }

@@ -33,7 +33,7 @@ abbrev pub Stood : Seats → ℕ → Told → Type 0
 Stood b p x = StoodBy (network_of b.network) (inputs_of b.input) b.watch p (told_view x)
 
 -- the cell is that of instance p, and stands where the queues stand
-pub record IsSeatOf (b : Seats) (p : ℕ) (x : Told) : Type 0 where
+pub record HasItsSeat (b : Seats) (p : ℕ) (x : Told) : Type 0 where
   pub network : x.network ≡ b.network
   pub input : x.input ≡ b.input
   pub instance : x.instance ≡ p
@@ -42,11 +42,11 @@ pub record IsSeatOf (b : Seats) (p : ℕ) (x : Told) : Type 0 where
   pub stood : Stood b p x
 
 -- a cell for each instance, and the queues of the same network and input
-pub record AreSeated (b : Seats) : Type 0 where
+pub record HaveSeats (b : Seats) : Type 0 where
   pub wired : IsWellWired b.network
   pub code : b.code ≡ b.network
   pub count : length b.cells ≡ length (network_of b.network).instances
-  pub each : (p : ℕ) (x : Told) → slice_get b.cells p ≡ Some x → IsSeatOf b p x
+  pub each : (p : ℕ) (x : Told) → slice_get b.cells p ≡ Some x → HasItsSeat b p x
   pub network : b.queues.network ≡ b.network
   pub input : b.queues.input ≡ b.input
   pub queued : AreQueued b.queues
