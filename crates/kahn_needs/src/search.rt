@@ -6,7 +6,7 @@ ghost use Rattle.kahn_streams.specs.Network.{Written, network_of};
 ghost use Rattle.kahn_streams.specs.Solution.{source};
 ghost use Rattle.kahn_needs.specs.Finding.{IsNetworkLine};
 ghost use Rattle.kahn_needs.specs.inner.Bench.{AreSeatsOf};
-ghost use Rattle.kahn_needs.specs.inner.Finding.{AreForced, HasCome, HasTurned, IsDemand, IsPausedAt, IsEndOfSearch, IsTurnTold};
+ghost use Rattle.kahn_needs.specs.inner.Finding.{AreForced, HasCome, HasSearched, IsDemand, IsPausedAt, IsEndOfSearch, IsTurnTold};
 
 use crate::bench::Bench;
 use kahn_code::{Pause, Steps};
@@ -78,7 +78,7 @@ fn told(bench: &Bench<'_>, root: Demand, demand: Demand, instance: usize, pause:
 fn act<L: Ledger>(bench: &mut Bench<'_>, root: Demand, demand: Demand, steps: &mut Steps<L>) -> Turn
     requires demanded { IsDemand bench.old root.line root.place demand.line demand.place }
     requires forced { AreForced bench.old root.line root.place }
-    ensures { HasTurned bench.old bench.new root.line root.place demand.line demand.place result }
+    ensures { HasSearched bench.old bench.new root.line root.place demand.line demand.place result }
 {
     bench.laid();
     let Some(instance) = bench.writer(demand.line) else {

@@ -75,7 +75,7 @@ IsTurnTold b c k d j turn.Over = (y : Cut) → HoldsIn b y c k → ⊥
 IsTurnTold b c k d j turn.Bound = Unit {0}
 IsTurnTold b c k d j turn.NoMemory = Unit {0}
 
-pub record HasTurned (b e : Seats) (c : Line) (k : ℕ) (d : Line) (j : ℕ) (t : Turn) : Type 0 where
+pub record HasSearched (b e : Seats) (c : Line) (k : ℕ) (d : Line) (j : ℕ) (t : Turn) : Type 0 where
   pub same : AreSeatsOf b.network b.input b.watch e
   pub forced : AreForced e c k
   pub told : IsTurnTold e c k d j t
