@@ -10,7 +10,7 @@ from common import Room, measured, read
 
 LIVE = common.program("kahn_live")
 PROGRAMS = f"{common.TOP}/tests/kahn_live"
-DOUBLE, COUNT = "examples/double.kahn", "examples/count.kahn"
+DOUBLE = "examples/double.kahn"
 VALUES = "; values are numbers, `true` and `false`"
 SECONDS = 20
 SUMS = """begin integer input channel A; integer output channel SUMS;
@@ -114,12 +114,11 @@ class Live(Room):
         run.send("Z: 1", "B: 1", "A: true", "A: 1 x", "A 1", "A: 5", "A: 6\r")
         self.wants("lines that are refused", run, "B: 10", "B: 12")
         out, status, err = run.end()
-        self.same("the end", out, ["end 1 double: waits on A after 19", "finished 19"])
-        self.same("the status", status, 1)
-        self.same("the errors", err, [f"{DOUBLE}: input line {line}" for line in (
+        self.same("the end", (out, status), ([], 1))
+        self.same("the errors", err, [*(f"{DOUBLE}: input line {line}" for line in (
             "6: no such channel: `Z`; input channels: `A`", "7: not an input channel: `B`; input channels: `A`",
             "8: kind does not agree: `true`; wanted a number", f"9: not a value: `x`{VALUES}",
-            "10: not a name and a colon: `1`; a colon stands behind the name")])
+            "10: not a name and a colon: `1`; a colon stands behind the name")), "end 1 double: waits on A after 19", "finished 19"])
 
     def test_a_watched_channel(self):
         for quantum in ("1", "2", "1000"):
@@ -128,18 +127,21 @@ class Live(Room):
             self.wants(f"quantum {quantum}", run, "A: 1 2", "B: 2 4")
             run.send("A: 3")
             self.wants(f"quantum {quantum}, more", run, "A: 3", "B: 6")
-            self.same(f"quantum {quantum}, the end", run.end(), (["end 1 double: waits on A after 10", "finished 10"], 0, []))
+            self.same(f"quantum {quantum}, the end", run.end(), ([], 0, []))
 
     def test_a_step_goes_on_by_a_blank_line(self):
-        run = Filter(self.folder, COUNT, "--step", "3")
-        self.wants("a step", run, "W: 0")
+        told = f"{DOUBLE}: input line 1: wants more events than --step allows, and goes on with the next line"
+        run = Filter(self.folder, DOUBLE, "--step", "3")
+        run.send("A: 1 2 3")
+        self.wants("a step", run, "B: 2")
         run.send("")
-        self.wants("a second step", run, "W: 1 2")
+        self.wants("a second step", run, "B: 4")
         run.send("")
-        self.same("three steps", run.end(), (["end 1 count: ended after 7", "finished 7"], 0, []))
-        run = Filter(self.folder, COUNT, "--step", "3")
-        self.wants("one step", run, "W: 0")
-        self.same("one step, the end", run.end(), (["end 1 count: wants more after 3", "stopped by bound 3"], 3, []))
+        self.same("three steps", run.end(), (["B: 6"], 0, [told]))
+        run = Filter(self.folder, DOUBLE, "--step", "3")
+        run.send("A: 1 2 3")
+        self.wants("one step", run, "B: 2")
+        self.same("one step, the end", run.end(), ([], 3, [told, "end 1 double: wants more after 4", "stopped by bound 4"]))
 
     def test_what_is_new_goes_out_before_a_long_part(self):
         run = Filter(self.folder, "slow.kahn", "--plain", "A", "--step", "281474976710655")
@@ -167,7 +169,7 @@ class Live(Room):
     def test_no_thread_is_started(self):
         run = Filter(self.folder, DOUBLE, FAIL_AT="1", LD_PRELOAD=self.refusing("refuse_thread.c"))
         run.send("A: 1")
-        self.same("one worker", run.end(), (["B: 2", "end 1 double: waits on A after 4", "finished 4"], 0, []))
+        self.same("one worker", run.end(), (["B: 2"], 0, []))
 
     def soak(self, lines, seconds):
         """The sums of so many ones, a line for each, within so many seconds of processor time: the most memory, in kB."""
@@ -175,8 +177,7 @@ class Live(Room):
         output = f"{self.folder}/output"
         status, _, room = measured([LIVE, "sums.kahn"], f"{self.folder}/ones", output=output, most=seconds, folder=self.folder)
         self.same(f"{lines} lines: status", status, 0)
-        sums = [line for line in read(output).decode().splitlines() if line.startswith("SUMS: ")]
-        self.same(f"{lines} lines: sums", sums == [f"SUMS: {number}" for number in range(1, lines + 1)])
+        self.same(f"{lines} lines: sums", read(output).decode().splitlines() == [f"SUMS: {number}" for number in range(1, lines + 1)])
         return room
 
     def test_time_and_memory_do_not_grow_with_the_lines(self):
@@ -203,8 +204,8 @@ class Growth(Room):
         self.put(**{"copy.kahn": COPY})
         library = self.refusing("refuse_growth.c")
         whole = Filter(self.folder, "copy.kahn")
-        whole.send("N: 65")
-        ends = whole.end()[0][-3:]
+        whole.send("N: 65", "no line")
+        ends = whole.end()[2][-3:]
         values = "".join(f" {number}" for number in range(65))
         began = waited = alike = number = 0
         while alike < 10 and number < 1000 and (waited < 40 or "WHOLE" in os.environ):
@@ -214,7 +215,7 @@ class Growth(Room):
                 self.same(f"growth {number}", True)
                 began += 1
                 continue
-            self.same(f"growth {number}: {told}", (status, "".join(line[2:] for line in out if line.startswith("W:")), out[-3:]), (1, values, ends))
+            self.same(f"growth {number}: {told}", (status, "".join(line[2:] for line in out), told[-3:]), (1, values, ends))
             is_told = any("memory" in line for line in told)
             waited, alike = waited + is_told, 0 if is_told else alike + 1
         self.same("a line waited", waited > 0)

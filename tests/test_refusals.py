@@ -110,13 +110,15 @@ class Memory(Room):
         streams, ends = whole.split("\n", 1)
 
         def judged(out, err, status):
-            lines = out.splitlines(keepends=True)
-            told = err.replace("kahn_explain copies.kahn --input FILE says why\n", "")
+            # how the run ended may be told
+            lines = err.splitlines(keepends=True)
+            told = "".join(line for line in lines if not line.startswith(("end ", "finished ")))
+            ended = "".join(line for line in lines if line.startswith(("end ", "finished ")))
             kind = {"": "alike"}.get(told, "stopped" if told.startswith("copies.kahn: input line ") and told.endswith("memory\n") else None)
             # a line for which memory was refused is passed over, and the status may say so
             is_well = status == 0 or (status, told) == (1, "copies.kahn: input line 1: no memory\n")
-            values = "W:" + "".join(line[2:].rstrip("\n") for line in lines if line.startswith("W:"))
-            return kind if is_well and values == streams and "".join(line for line in lines if not line.startswith("W:")) == ends else None
+            values = "W:" + "".join(line.removeprefix("W:") for line in out.splitlines())
+            return kind if is_well and values == streams and ended in ("", ends) else None
 
         words = [LIVE, "copies.kahn", "--quantum", "1", "--step", events(whole)]
         self.growths("parts of copies.kahn", words, judged, 1, text=b"\n")

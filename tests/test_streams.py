@@ -20,7 +20,7 @@ end
 # an escape, a line feed, a right-to-left override and a zero width space
 STRANGE = "a\x1b[31m\n\u202e\u200b.kahn"
 SHOWN = "a\ufffd[31m\ufffd\ufffd\ufffd.kahn"
-WHOLE = re.compile(r"sum: input line \d+: (not a value: `x`; values are numbers, `true` and `false`|no such channel: `Q`; input channels: `A`)\n")
+WHOLE = re.compile(r"(sum: input line \d+: (not a value: `x`; values are numbers, `true` and `false`|no such channel: `Q`; input channels: `A`)|end 1 sum: waits on A after 1|finished 1)\n")
 
 
 class Streams(Room):
@@ -67,7 +67,7 @@ class Streams(Room):
             for run in runs:
                 run.wait()
         told = read(f"{self.folder}/error").decode(errors="replace").splitlines(keepends=True)
-        self.same("mixed lines", ([line for line in told if not WHOLE.fullmatch(line)], len(told)), ([], 20_000))
+        self.same("mixed lines", ([line for line in told if not WHOLE.fullmatch(line)], len(told)), ([], 20_004))
 
     def test_a_million_refused_lines(self):
         """In 1.5 s of processor time and 300 MB."""

@@ -2,10 +2,10 @@ Files, streams and arguments of kahn_explain.
 
 A text of a million bytes.
   $ { cat "$TOP/checks/mistakes/a-sign-for-becomes.kahn"; head -c 1000000 /dev/zero | tr '\0' ' '; } > long; kahn_explain long
-  long:8:9: error: found `=`, where `:=` may stand
+  long:8:9: error: expected `:=`, found `=`
    8 |       I = wait(U);
      |         ^
-     = one change mends it: `:=` in its place
+     = fix: replace `=` with `:=`
   [1]
 What comes after a limit is past it too: 260 instances.
   $ { echo 'begin process p(); begin end;'; printf 'p() par\n%.0s' $(seq 259); echo 'p() end'; } > past; kahn_explain past
@@ -17,10 +17,10 @@ What comes after a limit is past it too: 260 instances.
   [1]
 Changes are looked for in texts of up to 8,192 lexemes.
   $ echo "begin process p(); begin $(printf 'print 1;%.0s' $(seq 2725)) I = 1 end; p() end;" > most; kahn_explain most | tail -n 1
-     = one change mends it: `:=` in its place
+     = fix: replace `=` with `:=`
 8,193 lexemes.
   $ echo "begin process p(); begin $(printf 'print 1;%.0s' $(seq 2725)); I = 1 end; p() end;" > more; kahn_explain more | sed 's/print 1;//g'
-  more:1:21830: error: found `=`, where `:=` may stand
+  more:1:21830: error: expected `:=`, found `=`
    1 | t 1;; I = 1 end; p() end;
      |                                                                                 ^
      = a statement that begins with a name assigns to it: `X := E`
@@ -96,7 +96,7 @@ A file that may not be read; root may read all.
   kahn_explain: there is no permission to read it
 An empty text.
   $ kahn_explain
-  <stdin>:1:1: error: found the end of the text, where `begin` may stand
+  <stdin>:1:1: error: expected `begin`, found the end of the text
    1 | 
      | ^
   [1]

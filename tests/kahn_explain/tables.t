@@ -57,10 +57,10 @@ A table without a column.
   place
 A table of a text that is refused.
   $ cp "$TOP/checks/mistakes/a-sign-for-becomes.kahn" .; kahn_explain a-sign-for-becomes.kahn --trace
-  ! a-sign-for-becomes.kahn:8:9: error: found `=`, where `:=` may stand
+  ! a-sign-for-becomes.kahn:8:9: error: expected `:=`, found `=`
   !  8 |       I = wait(U);
   !    |         ^
-  !    = one change mends it: `:=` in its place
+  !    = fix: replace `=` with `:=`
   [1]
 A table with an input that is refused.
   $ echo 'W: 1' > values; kahn_explain examples/count.kahn --input values --trace

@@ -3,21 +3,15 @@ Lines that are fed at the end (--at-end): in order, and refused as others are.
 No end mark.
   $ printf 'RAW: 7 7\nRAW: 9' | kahn_live runs.kahn
   RUNS: 2 7
-  end 1 encode: waits on RAW after 8
-  finished 8
 An end mark.
   $ printf 'RAW: 7 7\nRAW: 9' | kahn_live runs.kahn --at-end RAW=-1
   RUNS: 2 7
   RUNS: 1 9
-  end 1 encode: ended after 12
-  finished 12
 Several lines at the end.
   $ printf 'A: 1\n' | kahn_live examples/double.kahn --at-end A=2 --at-end 'A=3 4'
   B: 2
   B: 4
   B: 6 8
-  end 1 double: waits on A after 13
-  finished 13
 No line is taken if one of them can't be, and the first such line is reported.
   $ printf 'A: 1\n' | kahn_live examples/double.kahn --keep-going --at-end A=2 --at-end Z=1 --at-end Z=2
   ! examples/double.kahn: --at-end: no such channel: `Z`; input channels: `A`
@@ -86,8 +80,8 @@ A line of no input among A,B,C,D,E,F,G.
   [6]
 Too many values at the end shows only when they are fed.
   $ { printf 'A:' && yes ' 1' | head -n 1048576 | tr -d '\n'; } | kahn_live examples/double.kahn --step 1 --at-end 'A=1 2'
-  end 1 double: wants more after 2
-  stopped by bound 2
   ! examples/double.kahn: input line 1: wants more events than --step allows, and goes on with the next line
   ! examples/double.kahn: --at-end: too many values
+  ! end 1 double: wants more after 2
+  ! stopped by bound 2
   [3]

@@ -37,11 +37,18 @@ Values alone, and an output for the input.
   ! examples/double.kahn: --plain: not an input channel: `B`; input channels: `A`
   ! examples/double.kahn: bare numbers are taken with --plain A
   [6]
-Values alone, and no name.
+Values of a stream alone, of lines with names.
+  $ printf 'A: 1\nA: 2 3\n' | kahn_live examples/double.kahn --plain ,B
+  2
+  4
+  6
+Values of a stream alone, of a line without a name.
   $ printf '1\n' | kahn_live examples/double.kahn --plain ,B
-  ! examples/double.kahn: --plain: not a name and a colon: `:`; a line begins with the name of a channel
+  ! examples/double.kahn: input line 1: not a name and a colon: `1`; a line begins with the name of a channel
   ! examples/double.kahn: bare numbers are taken with --plain A
-  [6]
+  ! end 1 double: waits on A after 1
+  ! finished 1
+  [1]
 Values alone, and no such output.
   $ printf '1\n' | kahn_live examples/double.kahn --plain A,Z
   ! examples/double.kahn: --plain: no such channel: `Z`; channels: `A` and `B`

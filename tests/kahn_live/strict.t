@@ -6,34 +6,35 @@ A ring of waits, values alone.
   ! end 2 ctl: waits on E after 1
   ! end 3 plant: waits on U after 1
   ! finished 4
-  ! kahn_explain control.kahn --input FILE says why
 A ring of waits.
   $ yes 'SET: 100' | kahn_live control.kahn
-  end 1 err: waits on Y after 2
-  end 2 ctl: waits on E after 1
-  end 3 plant: waits on U after 1
-  finished 4
-  ! kahn_explain control.kahn --input FILE says why
+  ! end 1 err: waits on Y after 2
+  ! end 2 ctl: waits on E after 1
+  ! end 3 plant: waits on U after 1
+  ! finished 4
 A ring of waits, strictly.
   $ yes 100 | kahn_live control.kahn --plain SET --strict
   ! end 1 err: waits on Y after 2
   ! end 2 ctl: waits on E after 1
   ! end 3 plant: waits on U after 1
   ! finished 4
-  ! kahn_explain control.kahn --input FILE says why
   [7]
 A ring of waits, with names, strictly.
   $ yes 'SET: 100' | kahn_live control.kahn --strict
-  end 1 err: waits on Y after 2
-  end 2 ctl: waits on E after 1
-  end 3 plant: waits on U after 1
-  finished 4
-  ! kahn_explain control.kahn --input FILE says why
+  ! end 1 err: waits on Y after 2
+  ! end 2 ctl: waits on E after 1
+  ! end 3 plant: waits on U after 1
+  ! finished 4
   [7]
 A ring beside what waits on an input.
   $ printf '1\n2\n' | kahn_live beside.kahn --plain A
   1
   3
+  ! end 1 copy: waits on X after 1
+  ! end 2 copy: waits on Y after 1
+  ! end 3 sum: waits on A after 7
+  ! end 4 copy: waits on Z after 7
+  ! finished 16
 A ring beside what waits on an input, strictly.
   $ printf '1\n2\n' | kahn_live beside.kahn --plain A --strict
   1
@@ -53,7 +54,6 @@ A fault before a ring, strictly.
   ! end 3 sum: fault overflow after 5
   ! end 4 copy: waits on Z after 4
   ! finished 11
-  ! kahn_explain beside.kahn --input FILE says why
   [8]
 Nothing amiss, strictly.
   $ printf '1\n' | kahn_live examples/double.kahn --plain A --strict
@@ -64,10 +64,6 @@ What waits on one that has ended, strictly.
   7
   1
   9
-  ! end 1 encode: ended after 12
-  ! end 2 copy: waits on X after 13
-  ! finished 25
-  ! kahn_explain piped.kahn --input FILE says why
 A refused line, strictly.
   $ printf '1\nx\n' | kahn_live examples/double.kahn --plain A --strict
   2

@@ -47,7 +47,9 @@ impl Feed {
         self.next < input.count(self.channel) as u64
     }
 
-    /// Returns the next token. None past the list.
+    /// Returns the next token. None past the list. It stands apart, so that taking a token from a lane is short enough to be compiled
+    /// into the loop.
+    #[inline(never)]
     pub(crate) fn take(&mut self, network: &Network, input: &Input) -> Option<Token>
         requires bound { self.old.next < 2 ^ 48 }
         requires of { (self.old.network.value ≡ network.now) × (self.old.input.value ≡ input.now) }

@@ -295,7 +295,9 @@ impl<A: Allocator + Drop> Receiver<A> {
         self.from + self.used as u64
     }
 
-    // Steals the next segment once the open one is used up.
+    // Steals the next segment once the open one is used up. It stands apart, so that `take` is short enough to be compiled into its
+    // callers.
+    #[inline(never)]
     fn refill(&mut self) -> bool
         requires { waiting self.old ≡ 0 }
         ensures same { SameReceiver self.old self.new × (received self.new ≡ received self.old) × (heard self.new ≡ heard self.old) }

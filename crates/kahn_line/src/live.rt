@@ -32,11 +32,10 @@ output channel that has new values, with only these. With a program that doubles
 
   B: 2
   B: 4 6
-  end 1 double: waits on A after 10
-  finished 10
 
-The events after a line are a part of the run. A blank line feeds nothing and runs a part, and so does the start. At the
-end of the input come the last lines: the state of each process, and how the run ended.
+The events after a line are a part of the run. A blank line feeds nothing and runs a part, and so does the start. Standard
+output has values and nothing else. If the status isn't 0, a process has a fault, or processes wait on one another in a
+ring, standard error says at the end how each process stands and how the run ended.
 
 If a line can't be taken, standard error says so, with its number and the word at fault, and the line changes nothing. A
 mistake in a line of `--at-end` is said at the start, and no line is taken. If a line wants more events than --step allows,
@@ -45,14 +44,15 @@ with the next line, even a blank one. The run uses one thread. It doesn't keep w
 
 With `--plain INPUT` a line has only values of that channel, separated by blanks, and kahn_live writes only the new values
 of one stream, one a line. If there are several input channels, use lines with names: with `--plain` the others get no
-values, and kahn_live says so. The last lines then go to standard error, and only if the status isn't 0, a process has a
-fault, or processes wait and none of them on an input.
+values, and kahn_live says so. With `--plain ,OUTPUT` lines have names, and the values of OUTPUT alone are written.
 
   printf '1\\n2 3\\n' | kahn_live double.kahn --plain A
 
   2
   4
   6
+
+A program without an input channel takes no lines. It runs on until its reader goes away or nothing can go on.
 
 Exit status:
   0  the end was reached, and the run finished; or nobody reads the lines any more

@@ -18,8 +18,12 @@ use std::sync::ledger::{Blank, Ledger};
 use std::thread;
 use std::thread::{Threads, available_parallelism};
 
-/// How many values a thread formats before they are written.
-const TOGETHER: usize = 65536;
+/// A report of no more values is short: one thread writes it.
+const SHORT: usize = 65536;
+
+/// How many values a thread formats before they are written. A thread is started anew for each piece, which takes as long as some
+/// thousand values, and each but the last line of a piece is whole.
+const TOGETHER: usize = 262144;
 
 /// Room for a piece of that many values, each of 20 bytes at most and a space.
 const ROOM: usize = 21 * TOGETHER;
@@ -252,7 +256,7 @@ pub fn write_report_by<R: Threads + Sync, W: Write>(
 fn threads_for<R: Threads>(rt: &R, workers: u64, answer: &Answer) -> usize
     ensures { 0 < result }
 {
-    if workers <= 1 || weight_of(&answer.streams) <= TOGETHER {
+    if workers <= 1 || weight_of(&answer.streams) <= SHORT {
         return 1;
     }
     match available_parallelism(rt) {

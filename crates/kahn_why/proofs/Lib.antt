@@ -9,6 +9,5 @@ mod Read
 pub mod Refused
 mod Reports
 pub mod Stands
-mod Sublists
 mod Unfed
 mod Waiting
