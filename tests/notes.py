@@ -13,8 +13,11 @@ MISTAKES, WARNINGS, ROWS = (f"{TOP}/checks/{name}" for name in ("mistakes", "war
 
 
 def explain(program, folder, *words):
-    """Status, standard output and standard error."""
-    done = subprocess.run([program, *words], cwd=folder, stdin=subprocess.DEVNULL, capture_output=True, timeout=60, check=False)
+    """Status, standard output and standard error, within a minute."""
+    try:
+        done = subprocess.run([program, *words], cwd=folder, stdin=subprocess.DEVNULL, capture_output=True, timeout=60, check=False)
+    except subprocess.TimeoutExpired:
+        return -1, b"", b"no answer in a minute\n"
     return done.returncode, done.stdout, done.stderr
 
 
