@@ -178,7 +178,7 @@ CASES = {
     "body_256": (lambda: filled("begin process f();begin ", ";", f" end;{par('f()')} end"), {}),
     "nested_blocks": (lambda: filled("begin process f();begin " + "begin " * 63, ";", " end" * 63 + " end;f() end"), {}),
     "signs": (lambda: filled("begin process f();begin print 1", "+" + "-" * 62 + "1", " end;f() end"), {}),
-    "report": (dense, {"kahn_draw": ["--report", "@report"]}),
+    "run": (dense, {"kahn_draw": ["--input", "@input"]}),
     "last_value": (last_value, {}),
     "sleeping_readers": (sleeping_readers, {"kahn": ["--bound", "10000000"], "kahn_live": None}),
     "star": (star, {"kahn": ["--bound", "20000000"], "kahn_live": None}),

@@ -270,7 +270,7 @@ pub(crate) fn copied(alloc: Global, text: Option<&str>) -> Result<Option<String>
 }
 
 /// The number that was found for a name, or another one where none was.
-fn number_or(matches: &ArgMatches<'_>, name: &str, other: u64) -> u64
+pub(crate) fn number_or(matches: &ArgMatches<'_>, name: &str, other: u64) -> u64
     ensures { ReadsOr other (one_text (found_of matches.now) name.now) result }
 {
     matches.get_one::<u64>(name).unwrap_or(other)
