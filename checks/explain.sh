@@ -258,10 +258,10 @@ cd "$work" || exit 2
 # examples with words put in the place of others: which parts have a fault, by a second reading
 if python3 "$top/fuzz/parts.py" "$explain" 600 > output 2>&1; then pass; else fail "parts: $(tail -n 5 output)"; fi
 { cat "$top/checks/mistakes/a-sign-for-becomes.kahn"; head -c 1000000 /dev/zero | tr '\0' ' '; } > long
-gives "a text of a million bytes" 1 'long:8:9: error: found `=`, where `:=` may stand
+gives "a text of a million bytes" 1 'long:8:9: error: expected `:=`, found `=`
  8 |       I = wait(U);
    |         ^
-   = one change mends it: `:=` in its place' '' long
+   = fix: replace `=` with `:=`' '' long
 # what comes behind a limit is past it too: one note
 { echo 'begin process p(); begin end;'; printf 'p() par\n%.0s' $(seq 259); echo 'p() end'; } > past
 gives "260 instances" 1 'past:258:1: error: limit is exceeded; a program has at most 1024 channels and 256 instances
@@ -273,10 +273,10 @@ and 3 faults more' '' past
 statements=$(printf 'print 1;%.0s' $(seq 2725))
 echo "begin process p(); begin $statements I = 1 end; p() end;" > most
 "$explain" most > output
-if [ "$(tail -n 1 output)" = '   = one change mends it: `:=` in its place' ]; then pass; else fail "8,192 lexemes: $(tail -n 1 output)"; fi
+if [ "$(tail -n 1 output)" = '   = fix: replace `=` with `:=`' ]; then pass; else fail "8,192 lexemes: $(tail -n 1 output)"; fi
 echo "begin process p(); begin $statements; I = 1 end; p() end;" > more
 "$explain" more > output
-if [ "$(wc -l < output)" = 4 ] && grep -q 'found `=`, where' output && ! grep -q 'mends it' output; then pass; else fail "8,193 lexemes: $(tail -n 1 output)"; fi
+if [ "$(wc -l < output)" = 4 ] && grep -q 'expected `:=`, found `=`' output && ! grep -q 'fix: ' output; then pass; else fail "8,193 lexemes: $(tail -n 1 output)"; fi
 # a block may be long, and warnings many: 20 are told
 echo "begin process p(); begin integer I; $(printf 'I:=I;%.0s;' $(seq 170000)) end; p() end" > long
 gives "a block of 340,000 statements" 0 'finished 0' '' long
@@ -315,7 +315,7 @@ if [ "$(id -u)" != 0 ]; then
   cp "$ring" closed && chmod 000 closed
   gives "a file that may not be read" 5 '' $'kahn: cannot read closed\nkahn_explain: there is no permission to read it' closed
 fi
-gives "an empty text" 1 '<stdin>:1:1: error: found the end of the text, where `begin` may stand
+gives "an empty text" 1 '<stdin>:1:1: error: expected `begin`, found the end of the text
  1 | 
    | ^' ''
 echo 'NONE: 1' > values

@@ -193,7 +193,7 @@ def try_bound(page, tried):
 def try_mistakes(page, tried):
     put(page, MISTAKE)
     page.wait("at('verdict').className === 'refused'")
-    tried.same("a mistake", seen(page, "#programInk .error"), ["send"])
+    tried.same("a mistake", seen(page, "#programInk .error"), ["1"])
     tried.same("its field", page.value("at('program').getAttribute('aria-invalid')"), "true")
     tried.same("nothing was run", page.value("at('details').textContent.includes('Nothing was run.')"))
     page.click("#problems .apply")
@@ -207,10 +207,10 @@ def try_mistakes(page, tried):
     tried.same("its field", page.value("at('input').getAttribute('aria-invalid')"), "true")
     put(page, MISTAKE.replace("I := I", "comment 漢字 😀; I := I"))
     page.wait("at('verdict').className === 'refused'")
-    tried.same("a mistake behind letters of several bytes", seen(page, "#programInk .error"), ["send"])
+    tried.same("a mistake behind letters of several bytes", seen(page, "#programInk .error"), ["1"])
     put(page, MISTAKE.replace("a(X)", "a(X)" + " " * 40000))
     page.wait("at('verdict').className === 'refused'")
-    tried.same("a mistake in a long program", seen(page, "#programInk .error"), ["send"])
+    tried.same("a mistake in a long program", seen(page, "#programInk .error"), ["1"])
 
 
 # For each text its first mistake's place, and the changes that are offered with what is said of the text behind each.
@@ -219,7 +219,7 @@ CHANGED = """(async () => {
     for (const program of TEXTS) {
         const first = await firstOf(program), fixes = first?.from === undefined ? [] : fixesOf(first, program), behind = [];
         for (const it of fixes) behind.push(await firstOf(applied(program, it)));
-        const offers = first?.helps.some((it) => /^one change mends (?:it|this place): (?:`|leaving)/.test(it)) || / did you mean `/.test(first?.words ?? "");
+        const offers = first?.helps.some((it) => /^fix: /.test(it)) || / did you mean `/.test(first?.words ?? "");
         const said = first ? [first.words, ...first.helps, ...first.notes.map((it) => it.words)] : [];
         told.push([first?.from, fixes.map((it) => it.words), behind.map((it) => it && [it.from, it.words]), said, Boolean(offers)]);
     }
@@ -232,22 +232,19 @@ OFFERED = """TABLE.map(([text, at, words, helps]) => {
     const from = text.indexOf(at), [fix] = fixesOf({ where: "program", severity: "error", from, words, helps }, text);
     return fix ? applied(text, fix) : text;
 })"""
-SAID = "found it, where others may stand"
+SAID = "expected others, found it"
 WORDS = [
-    ("a = 1", "=", SAID, ["one change mends it: `:=` in its place"], "a := 1"),
-    ("a b", "b", SAID, ["one change mends this place: `;` before it"], "a; b"),
-    ("if a b", "b", SAID, ["one change mends it: `then` before it"], "if a then b"),
-    ("a, b", "b", SAID, ["one change mends it: `;` in place of the `,` before it"], "a; b"),
-    ("a do b", "b", SAID, ["one change mends it: `then` in place of the keyword `do` before it"], "a then b"),
-    ("a 7 b", "b", SAID, ["one change mends it: leaving out the number 7 before it"], "a  b"),
-    ("a b c", "c", SAID, ["one change mends it: leaving out the name `b` before it"], "a  c"),
-    ("a b c", "b", SAID, ["one change mends it: leaving it out"], "a  c"),
-    ("send 2, W", ",", SAID, ["one change mends it: `on` in its place"], "send 2 on W"),
-    ("a,b", ",", SAID, ["one change mends it: leaving it out"], "a b"),
+    ("a = 1", "=", SAID, ["fix: replace `=` with `:=`"], "a := 1"),
+    ("a b", " b", SAID, ["fix: insert `;` after `a`"], "a; b"),
+    ("if a b", " b", SAID, ["fix: insert `then` after `a`"], "if a then b"),
+    ("a, b", ",", SAID, ["fix: replace `,` with `;`"], "a; b"),
+    ("a 7 b", "7", SAID, ["fix: remove `7`"], "a  b"),
+    ("send 2, W", ",", SAID, ["fix: replace `,` with `on`"], "send 2 on W"),
+    ("a,b", ",", SAID, ["fix: remove `,`"], "a b"),
+    ("do a; b end", "b", SAID, ["fix: insert `begin` after `do` at 1:3"], "do begin a; b end"),
     ("NUMBR", "NUMBR", "name is not declared; did you mean `NUMBER`?", [], "NUMBER"),
-    ("sned 1", "1", SAID, ["did you mean `send`? `sned` before it is no keyword"], "send 1"),
-    ("sned 1", "sned", SAID, ["did you mean `send`? `sned` is no keyword"], "send 1"),
-    ("a b", "b", SAID, ["one change mends it: a new word, of which nothing is known"], "a b"),
+    ("sned 1", "sned", "`sned` is no keyword; did you mean `send`?", ["fix: replace `sned` with `send`"], "send 1"),
+    ("a b", "b", SAID, ["fix: a new word, of which nothing is known"], "a b"),
 ]
 
 

@@ -1,8 +1,8 @@
-"""Random texts with a fault of the grammar: whether what kahn_explain tells of changes of one lexeme, of blocks and comments is true by reference.py.
+"""Random texts with a fault of the grammar: whether what kahn_explain tells of a change, of blocks and comments is true by reference.py.
 
     mends.py KAHN_EXPLAIN [COUNT] [SEED]     the same seed makes the same texts; where none is given it is chosen at random
 
-Each change beside the fault is tried, with each class of lexemes. What is told and isn't so is printed, and its text is kept where the line names it.
+The change that is told is made in the text, which is read again. What is told and isn't so is printed, and its text is kept where the line names it.
 """
 import os
 import random
@@ -43,47 +43,14 @@ def place_of(text):
     return lexemes, sum(x[2] < fault.span[0] for x in lexemes)
 
 
-def named(text, lexeme):
-    """A lexeme that stands in the text, in words."""
-    what, value, begin, end = lexeme
-    if what == "name":
-        return f"the name `{value}`"
-    if what == "number":
-        return f"the number {value}"
-    if what == "word" and text[begin:end] != ref.NOT_SIGN:
-        return f"the keyword `{value}`"
-    return f"the `{text[begin:end].decode()}`"
-
-
-def any_of(what, value):
-    """Any lexeme of a class, in words."""
-    return f"a {what}" if what in ("name", "number") else f"`{value}`"
-
-
-def same(text, a, b):
-    """Whether two lexemes are one keyword, sign or number, so that leaving out either is one change."""
-    return a[0] != "name" and a[:2] == b[:2] and (text[a[2]:a[3]] == ref.NOT_SIGN) == (text[b[2]:b[3]] == ref.NOT_SIGN)
-
-
 def mends(text, lexemes, at):
-    """All changes of one lexeme there with which the text is a program: where, what is put there, and in words."""
+    """With how many changes of one lexeme there the text is a program."""
     def makes(first, rest, put):
         return fault_of(lexemes[:first] + put + lexemes[rest:], len(text)) is None
 
-    def puts(spot, first, rest, words):
-        return [(spot, one, any_of(*one) + words) for one in CLASSES if makes(first, rest, [(*one, 0, 0)])]
-
-    out = puts("between", at, at, " before it")
-    here, before = at < len(lexemes), at > 0
-    if here and makes(at, at + 1, []):
-        out.append(("here", None, "leaving it out"))
-    if before and not (here and same(text, lexemes[at - 1], lexemes[at])) and makes(at - 1, at, []):
-        out.append(("before", None, f"leaving out {named(text, lexemes[at - 1])} before it"))
-    if here:
-        out += puts("here", at, at + 1, " in its place")
-    if before:
-        out += puts("before", at - 1, at, f" in place of {named(text, lexemes[at - 1])} before it")
-    return out
+    gaps = [(at, at)] + [(at, at + 1)] * (at < len(lexemes)) + [(at - 1, at)] * (at > 0)
+    puts = [[(*one, 0, 0)] for one in CLASSES]
+    return sum(makes(first, rest, put) for first, rest in gaps for put in puts + [[]] * (first < rest))
 
 
 def place(text, byte):
@@ -92,11 +59,11 @@ def place(text, byte):
 
 
 def unclosed(text, lexemes):
-    """The blocks that are open behind lexemes, in words."""
+    """The places of the blocks that are open behind lexemes."""
     open_ones = []
     for what, value, begin, _ in lexemes:
         if (what, value) == ("word", "begin"):
-            open_ones.append(f"`begin` at {place(text, begin)}")
+            open_ones.append(place(text, begin))
         elif (what, value) == ("word", "end"):
             open_ones = open_ones[:-1]
     return open_ones
@@ -133,68 +100,69 @@ def broken(rng):
             return text, *found
 
 
-def fixes(text, lexemes, at):
-    """The changes at the place with which the text is a program, in words; and those of one lexeme for the name there or before it that go farther."""
-    changes = mends(text, lexemes, at)
-    far = {}
-    for spot, first, rest in (("between", at, at), ("here", at, at + 1), ("before", at - 1, at)):
-        for one in CLASSES + [None]:
-            if first >= 0 and rest <= len(lexemes) and (one or spot != "between"):
-                fault = fault_of(lexemes[:first] + ([(*one, 0, 0)] if one else []) + lexemes[rest:], len(text))
-                far[spot, one] = fault is not None and at < len(lexemes) and fault.span[0] > lexemes[at][2]
-    return changes, far
+FIX = re.compile(r"fix: (replace|insert|remove) `([^`]+)`(?: (?:with|after|before) `([^`]+)`)?(?: at (\d+):(\d+))?")
 
 
-def words_of(text, lexemes, at, spot, one):
-    """A change, in words."""
-    if spot == "between":
-        return any_of(*one) + " before it"
-    if spot == "here":
-        return any_of(*one) + " in its place" if one else "leaving it out"
-    name = named(text, lexemes[at - 1])
-    return f"{any_of(*one)} in place of {name} before it" if one else f"leaving out {name} before it"
+def byte_of(text, line, column):
+    """The byte at a place."""
+    return sum(len(row) + 1 for row in text.split(b"\n")[:int(line) - 1]) + int(column) - 1
+
+
+def applied(text, found, place):
+    """The text with a change, with blanks where two words would grow together; None where it isn't as it is told."""
+    how, one, other, *spot = found.groups()
+    start = byte_of(text, *(spot if spot[0] else place))
+    old, put = (b"", one.encode()) if how == "insert" else (one.encode(), (other or "").encode())
+    if how != "insert" and text[start:start + len(old)] != old:
+        return None
+    if how == "insert" and other and not text[:start].endswith(other.encode()) and not text[start:].startswith(other.encode()):
+        return None
+    return text[:start] + b" " + put + b" " + text[start + len(old):]
+
+
+def left_behind(text):
+    """How many bytes stand behind the fault of a text, or -1 where it is a program; None where its fault isn't of the grammar."""
+    try:
+        fault = fault_of(ref.lex(text), len(text))
+    except ref.Fault:
+        return None
+    if fault is None:
+        return -1
+    return len(text) - fault.span[0] if fault.text in GRAMMAR else None
 
 
 def begins_and_ends(lexemes):
     return [sum(x[:2] == ("word", word) for x in lexemes) for word in ("begin", "end")]
 
 
-def is_true(text, lexemes, at, changes, far, line):
-    """Whether what is told is so; of a habit it isn't asked."""
+def is_true(text, lexemes, at, place, line):
+    """Whether a line below the heading, or the heading itself, is so; of a habit it isn't asked."""
     begins, ends = begins_and_ends(lexemes)
-    told = re.fullmatch(r"one change mends it: (.*)", line)
+    here = lexemes[at][2] if at < len(lexemes) else len(text)
+    told = FIX.fullmatch(line)
     if told:
-        return told[1] in [change[2] for change in changes]
-    told = re.fullmatch(r"one change mends this place: (.*)", line)
+        new = applied(text, told, place)
+        left = left_behind(new) if new is not None else None
+        return left is not None and left < len(text) - here
+    told = re.fullmatch(r"`(\w+)` is no keyword; did you mean `(\w+)`\?", line)
     if told:
-        return not changes and told[1] in [words_of(text, lexemes, at, *change) for change, is_far in far.items() if is_far]
-    told = re.fullmatch(r"did you mean `(\w+)`\? `(\w+)`( before it)? is no keyword", line)
+        start = byte_of(text, *place)
+        return text[start:].startswith(told[1].encode()) and (told[2] in ref.KEYWORDS or told[2] == "comment") and told[1].lower() not in ref.KEYWORDS
+    if line == "the second `begin` has no `end`":
+        return ends < begins
+    told = re.fullmatch(r"`begin` has no `end`: (?:it ends before \d+:\d+|by its indentation it ends (?:before line (\d+)|at the end of the text))", line)
     if told:
-        spot = "before" if told[3] else "here"
-        lexeme = lexemes[at - 1 if told[3] else at]
-        if told[1] == "comment":
-            return lexeme[0] == "name" and text[lexeme[2]:lexeme[3]].decode() == told[2]
-        is_mend = any(change[:2] == (spot, ("word", told[1])) for change in changes)
-        return lexeme[0] == "name" and text[lexeme[2]:lexeme[3]].decode() == told[2] and (is_mend or far.get((spot, ("word", told[1])), False))
-    told = re.fullmatch(r"the second `begin` at (\d+:\d+) has no `end`: leave it out", line)
-    if told:
-        left = [x for x in lexemes if place(text, x[2]) != told[1]]
-        fault = fault_of(left, len(text))
-        return ends < begins and len(left) == len(lexemes) - 1 and (fault is None or at < len(lexemes) and fault.span[0] > lexemes[at][2])
-    told = re.fullmatch(r"`begin` at (\d+:\d+) has no `end`: (?:it ends before \d+:\d+|by its indentation it ends (?:before line (\d+)|at the end of the text))", line)
-    if told:
-        before = [x for x in lexemes[:at] if not told[2] or int(place(text, x[2]).split(":")[0]) < int(told[2])]
-        return ends < begins and any(words.endswith(f" at {told[1]}") for words in unclosed(text, before))
-    told = re.fullmatch(r"the `end` at (\d+:\d+) has no `begin`: .*", line) or re.fullmatch(r"several statements stand behind `\w+` at \d+:\d+ without `begin`, to the `end` at (\d+:\d+): .*", line)
-    if told:
-        return begins < ends and any(x[:2] == ("word", "end") and place(text, x[2]) == told[1] for x in lexemes)
+        before = [x for x in lexemes[:at] if not told[1] or ref.place(text, x[2])[0] < int(told[1])]
+        return ends < begins and f"{place[0]}:{place[1]}" in unclosed(text, before)
+    if line.startswith("`end` has no `begin`") or line.startswith("several statements stand behind"):
+        return begins < ends
     return True
 
 
 def one(program, room, seed):
     """(None, how many changes there are), or (what differs, the text's path)."""
     text, lexemes, at = broken(random.Random(seed))
-    changes, far = fixes(text, lexemes, at)
+    count = mends(text, lexemes, at)
     path = f"{room}/{seed}.kahn"
     with open(path, "wb") as it:
         it.write(text)
@@ -203,14 +171,15 @@ def one(program, room, seed):
     except (OSError, subprocess.TimeoutExpired) as error:
         return str(error), path
     lines = ran.stdout.decode().split("\n")
-    said = [line.split(" = ", 1)[1] for line in lines[3:] if line.strip()]
+    heading = re.match(r".*:(\d+):(\d+): error: (.*)", lines[0])
+    said = [heading[3]] + [line.split(" = ", 1)[1] for line in lines[3:] if re.match(r" +\d* *= ", line)] if heading else []
     last = comment(text, lexemes, at)
     others = [line for line in said if line != last]
-    wrong = [line for line in others if not is_true(text, lexemes, at, changes, far, line)]
-    if ran.returncode != 1 or ran.stderr or (last is not None) != (last in said) or len(others) > 1 or wrong:
+    wrong = [line for line in others if not is_true(text, lexemes, at, heading.groups()[:2], line)]
+    if ran.returncode != 1 or ran.stderr or not heading or (last is not None) != (last in said) or len(others) > 3 or wrong:
         return f"status {ran.returncode}, {said}, of which isn't so {wrong}; a comment {last}", path
     os.remove(path)
-    return None, len(changes)
+    return None, count
 
 
 def main():

@@ -21,14 +21,14 @@ import reference as ref
 LEXEME = re.compile(r"[A-Za-z]\w*|\d+|:=|<>|<=|>=|\S")
 LEFT_OUT = (";", "(", ")", ",", ":=", "do", "then", "on", "par")
 GUARDS = ("do", "then", "else", "repeat")
-LEAST_RIGHT, MOST_MISLED, LEAST_ONE = 93, 3, 97
+LEAST_RIGHT, MOST_MISLED, LEAST_ONE = 96, 2, 97
 
 
 class Mistake:
     """sort: which; text: with the mistake; at: the line of it; words: any of these names the repair."""
 
     def __init__(self, sort, text, line, *words):
-        self.sort, self.text, self.line, self.words = sort, text, line, words
+        self.sort, self.text, self.line, self.words = sort, text, line, [word.lower() for word in words]
 
 
 def lexemes(text):
@@ -84,12 +84,12 @@ def lost(text, lex, rng):
     if not some:
         return None
     _, word, a, b = rng.choice(some)
-    return Mistake(f"lost {word}", replaced(text, a, b, " "), line_of(text, a), f"`{word}` before it", f"`{word}`")
+    return Mistake(f"lost {word}", replaced(text, a, b, " "), line_of(text, a), f"insert `{word}`", f"`{word}`")
 
 
 def doubled(text, lex, rng):
     _, word, a, b = rng.choice([x for x in lex if x[1] not in ("+", "-", "(") and x[0] != "number"])
-    return Mistake("doubled", replaced(text, a, b, f"{word} {word}"), line_of(text, a), "leaving it out", "leaving out", f"second `{word}`", "leave it out")
+    return Mistake("doubled", replaced(text, a, b, f"{word} {word}"), line_of(text, a), "fix: remove", f"second `{word}`")
 
 
 def equals(text, lex, rng):
@@ -98,7 +98,7 @@ def equals(text, lex, rng):
         return None
     _, word, a, b = rng.choice(signs)
     put = "=" if word == ":=" else ":="
-    return Mistake("= and :=", replaced(text, a, b, put), line_of(text, a), f"`{word}` in its place", f"`{word}` in place")
+    return Mistake("= and :=", replaced(text, a, b, put), line_of(text, a), f"with `{word}`")
 
 
 def block_of(lex, i):
@@ -118,7 +118,7 @@ def lost_end(text, lex, rng):
     i = rng.choice(begins)
     k = block_of(lex, i)
     line, column = line_of(text, lex[i][2]), lex[i][2] - text.rfind("\n", 0, lex[i][2])
-    return Mistake("lost end", replaced(text, lex[k][2], lex[k][3], ""), line, f"`begin` at {line}:{column}", f"{line}:{column}")
+    return Mistake("lost end", replaced(text, lex[k][2], lex[k][3], ""), line, f"p:{line}:{column}: error: `begin` has no `end`", f"{line}:{column}")
 
 
 def lost_begin(text, lex, rng):
@@ -131,7 +131,7 @@ def lost_begin(text, lex, rng):
         return None
     guard = lex[i - 1]
     line, column = line_of(text, guard[2]), guard[2] - text.rfind("\n", 0, guard[2])
-    return Mistake("lost begin", replaced(text, lex[i][2], lex[i][3], ""), line, f"`{guard[1]}` at {line}:{column}", "`begin` before it", f"`then` at {line}:{column}")
+    return Mistake("lost begin", replaced(text, lex[i][2], lex[i][3], ""), line, f"p:{line}:{column}: error: several statements", f"insert `begin` after `{guard[1]}`", f"`then` at {line}:{column}")
 
 
 def surplus_end(text, lex, rng):
@@ -139,7 +139,7 @@ def surplus_end(text, lex, rng):
     if not ends:
         return None
     _, _, a, b = rng.choice(ends)
-    return Mistake("end twice", replaced(text, a, b, "end end"), line_of(text, a), "has no `begin`", "leaving", "leave it out")
+    return Mistake("end twice", replaced(text, a, b, "end end"), line_of(text, a), "has no `begin`", "remove `end`")
 
 
 def late_else(text, lex, rng):
@@ -147,7 +147,7 @@ def late_else(text, lex, rng):
     if not elses:
         return None
     _, _, a, b = rng.choice(elses)
-    return Mistake("; before else", text[:a].rstrip() + "; " + text[a:], line_of(text, a), "leaving out the `;`", "leaving it out")
+    return Mistake("; before else", text[:a].rstrip() + "; " + text[a:], line_of(text, a), "remove `;`")
 
 
 def swapped(text, lex, rng):
@@ -243,7 +243,9 @@ def judged(mistake, said):
     first = re.split(r"\n\np:", said)[0]
     remarks = re.findall(r"^ +\d* *= (.*)", first, re.M)
     heads = [words for _, words in (errors or warnings)[:1]] + re.findall(r"^p:\d+:\d+: note: (.*)", first, re.M)
-    good = any(word in line for word in mistake.words for line in (remarks[:1] or heads)) or (not remarks and any(word in line for word in mistake.words for line in heads))
+    first = first.lower()
+    remarks, heads, whole = [it.lower() for it in remarks], [it.lower() for it in heads], first.split("\n")[0]
+    good = any(word in line for word in mistake.words for line in [whole] + (remarks[:1] or heads))
     if mistake.sort in ("kind", "direction", "arguments", "misspelt name", "argument lost"):
         good = any(word in line for word in mistake.words for line in heads + remarks)
     if good:

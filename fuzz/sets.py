@@ -73,7 +73,7 @@ GROUPS = {
 }
 END = "the end of the text"
 PIECE = re.compile("`[^`]+`|a name|a number|" + "|".join(GROUPS) + "|" + END)
-HEADING = re.compile(r".*:(\d+):(\d+): error: found (the (?:name|keyword) `\w+`|the number \d+|`[^`]+`|the end of the text), where (.+) may stand\Z")
+HEADING = re.compile(r".*:(\d+):(\d+): (?:error|note): expected (.+), found (`[^`]+`|the end of the text)\Z")
 # What makes a program whole: the first of these that may stand.
 CLOSERS = ("end", ")", "do", "then", "on", "else", ":=", "name", "(", "number", "channel", ";", "begin", "integer")
 ALL = [one[0] if one[0] in ("name", "number") else one[1] for one in mends.CLASSES]
@@ -201,12 +201,7 @@ def wrong_words(words, wanted, whole):
 
 
 def found_words(text, lexemes, at):
-    if at == len(lexemes):
-        return END
-    what, value, begin, end = lexemes[at]
-    if what in ("name", "number"):
-        return f"the name `{value}`" if what == "name" else f"the number {value}"
-    return f"the keyword `{value}`" if what == "word" and text[begin:end] != ref.NOT_SIGN else f"`{text[begin:end].decode()}`"
+    return END if at == len(lexemes) else f"`{text[lexemes[at][2]:lexemes[at][3]].decode()}`"
 
 
 def put_in(rng):
@@ -245,17 +240,25 @@ def cut(number):
     return text, *mends.place_of(text)
 
 
+def heading_of(output):
+    """The line that tells what was expected, whether it is the heading or says it of the place behind that."""
+    told = [HEADING.match(line) for line in output.decode().split("\n") if re.match(r".*:\d+:\d+: (?:error|note): expected ", line)]
+    return (told[-1:] or [None])[0]
+
+
 def difference(ran, text, lexemes, at):
     wanted, whole = may_stand(lexemes[:at])
     if isinstance(wanted, str):
         return wanted
-    heading = HEADING.match(ran.stdout.decode().split("\n")[0])
+    heading = heading_of(ran.stdout)
     if ran.returncode != 1 or ran.stderr or not heading:
         return f"status {ran.returncode}, {ran.stdout[:200]!r}, {ran.stderr[:200]!r}"
-    line, column, found, words = heading.groups()
-    place = ref.place(text, lexemes[at][2] if at < len(lexemes) else len(text))
-    if (int(line), int(column)) != place:
-        return f"{line}:{column}, not {place}"
+    line, column, words, found = heading.groups()
+    here = ref.place(text, lexemes[at][2] if at < len(lexemes) else len(text))
+    # What is put in is told right behind the lexeme before, and signs that are one in other languages where they begin.
+    places = [here, *(ref.place(text, lexemes[at - 1][end]) for end in (2, 3) if at)]
+    if (int(line), int(column)) not in places:
+        return f"{line}:{column}, not one of {places}"
     if found != found_words(text, lexemes, at):
         return f"found {found}, not {found_words(text, lexemes, at)}"
     return wrong_words(words, wanted, whole)
@@ -274,7 +277,7 @@ def one(program, room, seed):
     what = difference(ran, text, lexemes, at)
     if what is None:
         os.remove(path)
-        return None, ran.stdout.decode().split("\n")[0].split(", where ")[1]
+        return None, heading_of(ran.stdout)[3]
     return what, path
 
 

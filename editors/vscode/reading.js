@@ -37,45 +37,46 @@ function read(output, path) {
   return found.map(({ words, ...it }) => ({ ...it, message: words.join("\n") }));
 }
 
-const BEHIND = [";", ")", ","];
-const at = (index) => ({ from: index, to: index });
-const put = (text) => ({ from, to }) => ({ from, to, text });
-
-// Each form of words, and which lexeme it changes into what.
+// Each form of words, and what stands where then: `at` is the place of the change.
 const FORMS = [
-  [/^`([^`]+)` in its place$/, ([, it], here) => put(it)(here)],
-  [/^`([^`]+)` in place of the (?:\w+ )?\S+ before it$/, ([, it], here, before) => put(it)(before)],
-  [/^`([^`]+)` before it$/, ([, it], here, before) => (BEHIND.includes(it) ? put(it)(at(before.to)) : put(`${it} `)(at(here.from)))],
-  [/^leaving it out$/, (_, here) => put("")(here)],
-  [/^leaving out the (?:\w+ )?\S+ before it$/, (_, here, before) => put("")(before)],
+  [/^fix: replace `([^`]+)` with `([^`]+)`(?: at (\d+):(\d+))?$/, ([, old, put], at) => ({ from: at, to: at + old.length, text: put })],
+  [/^fix: insert `([^`]+)` (?:after|before) `[^`]+`(?: at (\d+):(\d+))?$/, ([, put], at) => ({ from: at, to: at, text: put })],
+  [/^fix: remove `([^`]+)`(?: at (\d+):(\d+))?$/, ([, old], at) => ({ from: at, to: at + old.length, text: "" })],
 ];
+const STANDS_CLOSE = [";", ",", ")", "("];
 
-// The words of the changes that a message offers.
-function offered(message) {
-  return message.split("\n").flatMap((line) => {
-    const meant = /did you mean `([^`]+)`\?(?: `[^`]+` (before it )?is no keyword)?/.exec(line);
-    const named = /changes? (?:that )?mends? (?:it|this place): (.*)$/.exec(line);
-    if (meant) return [meant[2] ? `\`${meant[1]}\` in place of the name before it` : `\`${meant[1]}\` in its place`];
-    return named ? named[1].split(/, | or (?=leaving |`)/) : [];
-  });
-}
-
-// The change with blanks, where two words would stand side by side.
+// The change with blanks, where two words would stand side by side, and before what is put in.
 function apart(text, change) {
   const isBetween = (one, other) => /^\w\w$/.test(`${one ?? ""}${other ?? ""}`), before = text[change.from - 1], after = text[change.to];
   if (change.text === "") return { ...change, text: isBetween(before, after) ? " " : "" };
   const [first, last] = [change.text[0], change.text[change.text.length - 1]];
-  return { ...change, text: `${isBetween(before, first) ? " " : ""}${change.text}${isBetween(last, after) ? " " : ""}` };
+  const isLoose = change.from === change.to && !STANDS_CLOSE.includes(change.text) && /\S/.test(before ?? " ");
+  return { ...change, text: `${isBetween(before, first) || isLoose ? " " : ""}${change.text}${isBetween(last, after) ? " " : ""}` };
+}
+
+// The change that a line offers, at an index or at its own place.
+function changeOf(line, index, text) {
+  for (const [form, change] of FORMS) {
+    const found = form.exec(line);
+    if (!found) continue;
+    const [row, column] = found.slice(-2);
+    return change(found, column === undefined ? index : indexAt(text, Number(row), Number(column)));
+  }
+  return null;
+}
+
+// The lexeme that is told to be another one, if the heading alone says so.
+function meantChange(line, index, text) {
+  const meant = /did you mean `([^`]+)`\?/.exec(line), here = lexemesOf(text).find((it) => it.from >= index);
+  return meant && here ? { from: here.from, to: here.to, text: meant[1] } : null;
 }
 
 // The exact changes of a text that a message at an index offers: what they are called, and what stands where instead.
 function changesOf(message, index, text) {
-  const lexemes = lexemesOf(text), last = { from: text.length, to: text.length };
-  const here = lexemes.find((it) => it.from >= index) ?? last, before = lexemes.filter((it) => it.to <= index).pop() ?? { from: 0, to: 0 };
-  return offered(message).flatMap((words) => {
-    const form = FORMS.find(([it]) => it.test(words));
-    return form ? [{ words, ...apart(text, form[1](form[0].exec(words), here, before)) }] : [];
-  });
+  const [heading, ...lines] = message.split("\n");
+  const told = lines.map((words) => ({ words, change: changeOf(words, index, text) })).filter((it) => it.change);
+  const all = told.length ? told : [{ words: heading, change: meantChange(heading, index, text) }].filter((it) => it.change);
+  return all.map(({ words, change }) => ({ words, ...apart(text, change) }));
 }
 
 module.exports = { changesOf, indexAt, lexemesOf, read };

@@ -13,9 +13,12 @@ export const isBad = () => atEnd() && ["fault", "deadlock"].includes(verdictOf(p
 const found = () => page.check?.why.marks ?? [];
 const kinded = (places, kind) => places.map((it) => ({ ...it, kind }));
 
+// A place behind the last lexeme before it, where something is put in, is shown by the end of that lexeme.
+const seen = (it) => (it.from > 0 && /^\s*$/.test(program.text.slice(it.from, it.to)) ? { ...it, from: it.from - 1, to: it.from } : it);
+
 function marks() {
   const { run, moment, chosen } = page;
-  const list = found().filter((it) => it.where === "program").flatMap((it) => [{ ...it, kind: it.severity }, ...kinded(it.notes, "note")]);
+  const list = found().filter((it) => it.where === "program").flatMap((it) => [{ ...seen(it), kind: it.severity }, ...kinded(it.notes, "note")]);
   if (!run || page.isOld) return list;
   if (atEnd()) list.push(...kinded(verdictOf(run).places, "stuck"));
   if (moment?.event?.place && !isBad()) list.push({ from: moment.event.place.from, to: lexemeEnd(program.text, moment.event.place.from), kind: "now" });

@@ -1,5 +1,4 @@
-mod Handing
 mod Nearest
-mod Onces
-mod Rows
 mod Sights
+mod Sublists
+mod Telling

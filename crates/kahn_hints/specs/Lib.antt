@@ -1,9 +1,5 @@
-pub mod Exchange
 pub mod Hints
 pub mod Inputs
 pub mod Names
 pub mod Near
-pub mod Places
 pub mod Sight
-pub mod Uses
-pub mod inner

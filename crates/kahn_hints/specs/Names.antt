@@ -62,3 +62,8 @@ globals_of asked (D.Process p) = kept asked sort.Process p.name
 -- those that a program declares, in order
 abbrev pub program_names : Option Sort → Program → List Name
 program_names asked t = flat_map (globals_of asked) t.declarations.items
+
+-- the names of a process, or those of the program where there is none, of the sort that is asked for
+abbrev pub names_seen : Option Sort → Program → Option Process → List Name
+names_seen asked t None = program_names asked t
+names_seen asked t (Some p) = process_names asked p

@@ -1,21 +1,22 @@
-//! What more is told of a fault of a network: another place that has to do with it, a name that is near, what is wanted and
-//! what is found.
+//! What is told of the faults of a network: those that don't seem to follow from others, each with what is wanted and what is found, a name
+//! that is near or a change that leaves fewer faults, and another place that has to do with it.
 #![tactic(auto)]
 
-mod exchange;
-mod handed;
-mod hint;
+mod changes;
 mod inputs;
-mod kinds;
+mod kept;
+mod mending;
 mod names;
 mod near;
-mod places;
+mod notes;
+mod others;
+mod place;
 mod said;
+mod sides;
 mod sight;
-mod uses;
 
 pub use near::one_nearest;
 
 // For the crates above.
-pub use hint::check_note;
 pub use inputs::{add_inputs, add_unknown_channel, add_unknown_input};
+pub use notes::{Told, fault_notes};

@@ -1,7 +1,7 @@
 //! The names of a process and of a program, by what they stand for.
 
-ghost use Rattle.std.specs.Prelude.{◌≡◌, ◌++◌, ◌==◌, IfOk, flat_map, map};
-ghost use Rattle.kahn_hints.specs.Names.{channel_sort, globals_of, is_sort, kept, program_names, process_names, taking_sort};
+ghost use Rattle.std.specs.Prelude.{◌≡◌, ◌++◌, ◌==◌, IfOk, flat_map, map, option_map};
+ghost use Rattle.kahn_hints.specs.Names.{channel_sort, globals_of, is_sort, kept, names_seen, program_names, process_names, taking_sort};
 
 use kahn_streams::{Declaration, Direction, Name, Process, Program, Role, Taking};
 use std::alloc::{AllocError, Global};
@@ -138,4 +138,19 @@ pub(crate) fn program_names<'p>(
         add_globals(&mut names, asked, declaration)?;
     }
     Ok(names)
+}
+
+/// The names of a process, or those of the program where there is none, of the sort that is asked for.
+pub(crate) fn names_seen<'p>(
+    alloc: Global,
+    program: &'p Program,
+    process: Option<&'p Process>,
+    asked: Option<Sort>,
+) -> Result<Vec<&'p Name>, AllocError>
+    ensures { IfOk result (λ names. map (λ n. n.now) names.items ≡ names_seen asked program.now (option_map (λ p. p.now) process.entry)) }
+{
+    match process {
+        Some(process) => process_names(alloc, process, asked),
+        None => program_names(alloc, program, asked),
+    }
 }

@@ -1,46 +1,21 @@
-//! The words behind those of a fault: what is wanted, what is found, and what to do; and of another place.
+//! The words behind those of a fault: what is wanted, what is found, and what to do.
 
-ghost use Rattle.std.specs.Prelude.{◌≡◌};
-ghost use Rattle.kahn_hints.specs.Hints.{channel_words, direction_words, handed_words, kind_words, made_words, other_words, reason_words, twice_words, unread_words, unwritten_words};
-
-use crate::hint::Reason;
-use crate::uses::Use;
-use kahn_streams::{Direction, Kind, Role};
-
-/// What is said of another place.
-pub(crate) fn reason_words(reason: Reason) -> &'static str
-    ensures { result.now ≡ reason_words reason }
-{
-    match reason {
-        Reason::DeclaredFirst => "declared here first",
-        Reason::Declared => "declared here",
-        Reason::NoProcess => "declared here as a channel, and not as a process",
-        Reason::Outside => "declared here, outside of the process, which sees its own names alone",
-        Reason::WrittenFirst => "handed over here first, to be written",
-        Reason::ReadFirst => "handed over here first, to be read",
-        Reason::Input =>
-            "declared here as an input, which is written from outside: without `input` a process writes it",
-        Reason::Output =>
-            "declared here as an output, which is read from outside: without `output` a process reads it, and --watch shows it",
-        Reason::Parameter => "its parameter is declared here",
-        Reason::NoInstance => "this process has no instance",
-    }
-}
-
-/// As what a name is declared that should be that of a process.
-pub(crate) fn other_words(found: Option<Use>, channel: Option<(Kind, Role)>) -> &'static str
-    ensures { result.now ≡ other_words found channel }
-{
-    match (found, channel) {
-        (Some(Use::Process), Some(_)) => " as a process, but as a channel",
-        _ => "",
-    }
-}
+use crate::names::{Sort, names_seen};
+use crate::near::nearest;
+use crate::others::argument_span;
+use crate::place::{
+    Place, asked_sort, called_first, class_of, found_kind, instance_at, is_called, word_at,
+};
+use crate::sides::{channel_called, passed, process_called};
+use crate::sight::{add_meant, add_names, first_once};
+use itoa::Buffer;
+use kahn_marks::{add, add_spot};
+use kahn_streams::{CheckFault, Direction, Instance, Kind, Role};
+use kahn_syntax::Class;
+use std::alloc::{AllocError, Global};
 
 /// The kind that is wanted and the one that is found.
-pub(crate) fn kind_words(found: Option<Kind>) -> &'static str
-    ensures { result.now ≡ kind_words found }
-{
+fn kind_words(found: Option<Kind>) -> &'static str {
     match found {
         Some(Kind::Integer) => ": wanted logical, found integer",
         Some(Kind::Logical) => ": wanted integer, found logical",
@@ -49,75 +24,146 @@ pub(crate) fn kind_words(found: Option<Kind>) -> &'static str
 }
 
 /// How a value of the wanted kind is made of an expression in a body, and what an instance hands over for one.
-pub(crate) fn made_words(found: Option<Use>, in_body: bool) -> &'static str
-    ensures { result.now ≡ made_words found in_body }
-{
-    match (found, in_body) {
-        (Some(Use::Expression(Kind::Integer)), true) => "; `X <> 0` is a truth value of `X`",
-        (Some(Use::Expression(Kind::Integer)), false) => "; hand over `true` or `false` there",
-        (Some(Use::Expression(Kind::Logical)), true) => "; `if T then 1 else 0` is a number of `T`",
-        (Some(Use::Expression(Kind::Logical)), false) => "; hand over a number there",
-        _ => "",
+fn made_words(place: Place) -> &'static str {
+    let class = class_of(place.lexemes, Some(place.number));
+    match (found_kind(place), place.process.is_some(), class) {
+        (Some(Kind::Integer), true, _) => "; `X <> 0` is a truth value of `X`",
+        (Some(Kind::Logical), true, _) => "; `if T then 1 else 0` is a number of `T`",
+        (_, false, Some(Class::Name)) => "",
+        (Some(Kind::Integer), false, _) => "; hand over `true` or `false` there",
+        (Some(Kind::Logical), false, _) => "; hand over a number there",
+        (None, _, _) => "",
     }
 }
 
 /// The direction that is wanted and the one that is found.
-pub(crate) fn direction_words(found: Option<Use>) -> &'static str
-    ensures { result.now ≡ direction_words found }
-{
-    match found {
-        Some(Use::Waited) => ": wanted `in`, found `out`",
-        Some(Use::Sent) => ": wanted `out`, found `in`",
-        _ => "",
+fn direction_words(place: Place) -> &'static str {
+    match asked_sort(place) {
+        Sort::Source => ": wanted `in`, found `out`",
+        Sort::Target => ": wanted `out`, found `in`",
+        Sort::Value | Sort::Input | Sort::Channel | Sort::Process => "",
     }
 }
 
 /// What is found where a channel is wanted.
-pub(crate) fn channel_words(found: Option<Use>) -> &'static str
-    ensures { result.now ≡ channel_words found }
-{
-    match found {
-        Some(Use::Handed) => ", found a process",
-        Some(Use::Waited) => ", found a value",
-        Some(Use::Sent) => ", found a value",
-        Some(Use::Expression(_)) => ", found a value",
-        _ => "",
+fn channel_words(place: Place) -> &'static str {
+    if process_called(place.program, word_at(place.text, place.at)).is_some()
+        && place.process.is_none()
+    {
+        ", found a process"
+    } else {
+        ", found a value"
     }
 }
 
-/// What is found where a value is wanted, where a name is handed over: a channel, a process, or neither.
-pub(crate) fn handed_words(channel: bool, process: bool) -> &'static str
-    ensures { result.now ≡ handed_words channel process }
-{
-    if channel {
+/// What is found where a value is wanted.
+fn value_words(place: Place) -> &'static str {
+    let word = word_at(place.text, place.at);
+    if place.process.is_some() || channel_called(place.program, word).is_some() {
         ", found a channel"
-    } else if process {
+    } else if process_called(place.program, word).is_some() {
         ", found a process"
     } else {
         ", found a name; an instance hands over numbers, `true` and `false`"
     }
 }
 
-/// What to do about a channel that is written, or read, once more, where the arguments were perhaps interchanged or not.
-pub(crate) fn twice_words(direction: Direction, interchanged: bool) -> &'static str
-    ensures { result.now ≡ twice_words direction interchanged }
-{
-    match (direction, interchanged) {
-        (_, true) => "; are the arguments interchanged?",
-        (Direction::Out, false) => {
-            "; give each writer a channel of its own, and join these in a process, as in examples/merge.kahn"
+/// As what a name is declared that should be that of a process.
+fn other_words(place: Place) -> &'static str {
+    let channel = channel_called(place.program, word_at(place.text, place.at));
+    match (asked_sort(place), channel) {
+        (Sort::Process, Some(_)) => " as a process, but as a channel",
+        _ => "",
+    }
+}
+
+/// Adds how many arguments are wanted and found at an instance.
+fn add_counts(words: &mut String, place: Place) -> Result<(), AllocError> {
+    let Some(process) = process_called(place.program, word_at(place.text, place.at)) else {
+        return Ok(());
+    };
+    for instance in &place.program.instances {
+        if instance.process.span.from == place.at.from {
+            let mut first = Buffer::new();
+            let mut second = Buffer::new();
+            let wanted = first.format(process.parameters.len());
+            let found = second.format(instance.arguments.len());
+            return add(words, &[": wanted ", wanted, ", found ", found]);
         }
-        (Direction::In, false) => {
-            "; let a process take from it and send each value on a channel for each reader"
+    }
+    Ok(())
+}
+
+/// Adds what is wanted and what is found.
+pub(crate) fn add_found(
+    words: &mut String,
+    place: Place,
+    fault: CheckFault,
+) -> Result<(), AllocError> {
+    match fault {
+        CheckFault::Unknown(_) => words.push_str(other_words(place)),
+        CheckFault::WrongCount(_) => add_counts(words, place),
+        CheckFault::WrongKind(_) => words.push_str(kind_words(found_kind(place))),
+        CheckFault::WrongDirection(_) => words.push_str(direction_words(place)),
+        CheckFault::ChannelExpected(_) => words.push_str(channel_words(place)),
+        CheckFault::ValueExpected(_) => words.push_str(value_words(place)),
+        CheckFault::TooMany(_) => {
+            words.push_str("; a program has at most 1024 channels and 256 instances")
+        }
+        CheckFault::DeclaredTwice(_)
+        | CheckFault::NoWriter(_)
+        | CheckFault::TwoWriters(_)
+        | CheckFault::NoReader(_)
+        | CheckFault::TwoReaders(_)
+        | CheckFault::NoMemory => Ok(()),
+    }
+}
+
+/// Adds which name was perhaps meant: the nearest of those that may stand there, unless it is the very name, declared a second time; or
+/// else the first five of them, each once.
+fn add_unknown(words: &mut String, alloc: Global, place: Place) -> Result<(), AllocError> {
+    let sort = asked_sort(place);
+    let names = names_seen(alloc, place.program, place.process, Some(sort))?;
+    let word = word_at(place.text, place.at);
+    match nearest(word, &names) {
+        Some(name) if is_called(word, name) => Ok(()),
+        Some(name) => add_meant(words, name),
+        None => {
+            let list = first_once(alloc, &names)?;
+            if !list.is_empty() {
+                words.push_str("; in sight: ")?;
+            }
+            add_names(words, &list)
         }
     }
 }
 
-/// What to do about a channel without a writer, which is read or not.
-pub(crate) fn unwritten_words(channel: Option<(Kind, Role)>, read: bool) -> &'static str
-    ensures { result.now ≡ unwritten_words channel read }
-{
-    match (channel, read) {
+/// Adds how the next value is taken, where a parameter to be read stands for a value, or how one is sent, where one to be written does.
+fn add_used(words: &mut String, alloc: Global, place: Place) -> Result<(), AllocError> {
+    let Some(process) = place.process else {
+        return Ok(());
+    };
+    let word = word_at(place.text, place.at);
+    let sources = names_seen(alloc, place.program, Some(process), Some(Sort::Source))?;
+    if let Some(name) = called_first(word, &sources) {
+        let name = name.text.as_str();
+        return add(words, &["; its next value is `wait(", name, ")`"]);
+    }
+    let targets = names_seen(alloc, place.program, Some(process), Some(Sort::Target))?;
+    match called_first(word, &targets) {
+        Some(name) => {
+            let name = name.text.as_str();
+            add(words, &["; it takes a value by `send E on ", name, "`"])
+        }
+        None => Ok(()),
+    }
+}
+
+/// What to do about a channel without a writer.
+fn unwritten_words(place: Place) -> &'static str {
+    let word = word_at(place.text, place.at);
+    let is_read = passed(place.program, Direction::In, word).is_some();
+    match (channel_called(place.program, word), is_read) {
         (Some((_, Role::Inner)), true) => {
             "; hand it to an `out` parameter, or declare it `input` where its values come from outside"
         }
@@ -128,12 +174,72 @@ pub(crate) fn unwritten_words(channel: Option<(Kind, Role)>, read: bool) -> &'st
 }
 
 /// What to do about a channel without a reader.
-pub(crate) fn unread_words(channel: Option<(Kind, Role)>) -> &'static str
-    ensures { result.now ≡ unread_words channel }
-{
-    match channel {
+fn unread_words(place: Place) -> &'static str {
+    match channel_called(place.program, word_at(place.text, place.at)) {
         Some((_, Role::Inner)) =>
             "; hand it to an `in` parameter, or declare it `output` where its values are to be reported",
         _ => "; hand it to an `in` parameter",
+    }
+}
+
+/// Whether two instances are spelled alike.
+fn are_equal(text: &str, one: &Instance, other: &Instance) -> bool {
+    if one.process.text.as_bytes() != other.process.text.as_bytes() {
+        return false;
+    }
+    for (number, argument) in one.arguments.iter().enumerate() {
+        let Some(found) = other.arguments.get(number) else {
+            return false;
+        };
+        if word_at(text, argument_span(argument)) != word_at(text, argument_span(found)) {
+            return false;
+        }
+    }
+    true
+}
+
+/// Adds where an instance stands before the one at a place that is spelled alike; or else what to do about a channel with such a side twice.
+fn add_twice(words: &mut String, place: Place, advice: &str) -> Result<(), AllocError> {
+    let instances = &place.program.instances;
+    if let Some(one) = instance_at(instances, place.at.from) {
+        for other in instances {
+            let from = other.process.span.from;
+            if from < one.process.span.from && are_equal(place.text, one, other) {
+                let lead = "; this instance is the same as the one at ";
+                return add_spot(words, lead, place.text, from);
+            }
+        }
+    }
+    words.push_str(advice)
+}
+
+/// Adds what to do, where no change is known that leaves fewer faults.
+pub(crate) fn add_advice(
+    words: &mut String,
+    alloc: Global,
+    place: Place,
+    fault: CheckFault,
+) -> Result<(), AllocError> {
+    match fault {
+        CheckFault::Unknown(_) | CheckFault::WrongDirection(_) => add_unknown(words, alloc, place),
+        CheckFault::WrongKind(_) => words.push_str(made_words(place)),
+        CheckFault::ValueExpected(_) => add_used(words, alloc, place),
+        CheckFault::TwoWriters(_) => add_twice(
+            words,
+            place,
+            "; give each writer a channel of its own, and join these in a process, as in examples/merge.kahn",
+        ),
+        CheckFault::TwoReaders(_) => add_twice(
+            words,
+            place,
+            "; let a process take from it and send each value on a channel for each reader",
+        ),
+        CheckFault::NoWriter(_) => words.push_str(unwritten_words(place)),
+        CheckFault::NoReader(_) => words.push_str(unread_words(place)),
+        CheckFault::WrongCount(_)
+        | CheckFault::ChannelExpected(_)
+        | CheckFault::DeclaredTwice(_)
+        | CheckFault::TooMany(_)
+        | CheckFault::NoMemory => Ok(()),
     }
 }

@@ -1,8 +1,6 @@
 -- The line of a fault is found.
 use Rattle.std.proofs.Common.{◌≡◌, inl, inr, ◌⊎◌, ℕ, zero, suc, ◌+◌, ◌<◌, ◌≤◌, List, [], ◌∷◌, ◌++◌, Bool, true, false, Option, Some, None, length, slice_get, ap, arith, subst, ◌-◌, ◌==◌, ◌∙◌}
 use Rattle.std.specs.Prelude.{MatchOption}
-use Rattle.std.specs.declared.alloc.Global.{Global}
-use Rattle.std.specs.declared.string.String.{String}
 use Rattle.kahn_streams.specs.declared.tree.Program.{Program}
 use Rattle.kahn_streams.specs.declared.entries.InputFault.{InputFault}
 use Rattle.kahn_streams.specs.Inputs.{Entry, FailsFirst, asked_of_entry}
@@ -10,6 +8,7 @@ use Rattle.kahn_report.specs.Formats.{AreBlanks, AreEntries, HasHead, HasNoHead,
 use Rattle.kahn_report.specs.declared.input.TextFault.{TextFault}
 use Rattle.kahn_report.specs.declared.input.TextFault.TheVariants.{BadLine, BadValue, Input, TooLong, NoMemory}
 use Rattle.kahn_report.proofs.Same_inputs.{one_list}
+use Rattle.kahn_marks.specs.declared.rendering.Note.{Note}
 use Rattle.kahn_inputs.specs.Feeding.{IsInputNote, IsLineNote, IsNumberedNote, refused_number}
 use Rattle.kahn_inputs.specs.Fitting.{parts_length}
 use Rattle.kahn_inputs.specs.Placed.{HasItsPlace}
@@ -83,10 +82,10 @@ no_last text from line (before, whole, after, es, e, spelt, count, (entry, is), 
 
 -- ---- the first line that is neither blank nor an entry
 
-line_placed : (text path : List ℕ) (before : List (List ℕ)) (line : List ℕ) (after : List (List ℕ)) → text_lines text ≡ before ++ (line ∷ after)
+line_placed : (text : List ℕ) (before : List (List ℕ)) (line : List ℕ) (after : List (List ℕ)) → text_lines text ≡ before ++ (line ∷ after)
     → (IsGood line → ⊥) → IsLineNote path text None → ⊥
-line_placed text path before line after e bad (inl (es, spelt, less)) = no_entries text before line after es e bad spelt
-line_placed text path before line after e bad (inr (from, found, is)) = no_last text from found is
+line_placed text before line after e bad (inl (es, spelt, less)) = no_entries text before line after es e bad spelt
+line_placed text before line after e bad (inr (from, found, is)) = no_last text from found is
 
 -- ---- the entry of a number
 
@@ -106,22 +105,22 @@ number_of t given k entry f (inr (a, inr (b, inr (c, inl h)))) = ap refused_numb
 number_of t given k entry f (inr (a, inr (b, inr (c, inr (d, inl h))))) = ap refused_number h.1 ∙ one_less k
 number_of t given k entry f (inr (a, inr (b, inr (c, inr (d, inr (e, h)))))) = absurd h
 
-numbered_placed : (t : Program) (path text : List ℕ) (f : InputFault) (es : List Entry) (k : ℕ) (entry : Entry) → AreEntries (text_lines text) es → slice_get es k ≡ Some entry
-    → IsNumberedNote t path text f k None → ⊥
-numbered_placed t path text f es k entry spelt got (inl (fs, others, less)) =
+numbered_placed : (t : Program) (text : List ℕ) (f : InputFault) (es : List Entry) (k : ℕ) (entry : Entry) → AreEntries (text_lines text) es → slice_get es k ≡ Some entry
+    → IsNumberedNote t text f k None → ⊥
+numbered_placed t text f es k entry spelt got (inl (fs, others, less)) =
     let below = got_below es k entry got in
     let same = ap length (one_list (text_lines text) es fs spelt others) in
     absurd (omega (arith, below, same, less))
-numbered_placed t path text f es k entry spelt got (inr (from, line, inl (before, whole, after, gs, e, earlier, sought, is, same, first, within))) =
+numbered_placed t text f es k entry spelt got (inr (from, line, inl (before, whole, after, gs, e, earlier, sought, is, same, first, within))) =
     no_entries text before whole after es e (bad_head (content whole) is) spelt
-numbered_placed t path text f es k entry spelt got (inr (from, line, inr (before, whole, after, gs, e, earlier, sought, is, same, first, within))) =
+numbered_placed t text f es k entry spelt got (inr (from, line, inr (before, whole, after, gs, e, earlier, sought, is, same, first, within))) =
     no_entries text before whole after es e (bad_values (content whole) is) spelt
 
-pub always_placed : (t u : Program) (path text : List ℕ) (fault : TextFault) → IsInputTextFault u text fault → HasItsPlace fault → IsInputNote t path text fault None → ⊥
-always_placed t u path text (BadLine n) (most, (before, line, after, e, number, good, is)) place note = line_placed text path before line after e (bad_head (content line) is) note
-always_placed t u path text (BadValue n) (most, (before, line, after, e, number, good, is)) place note = line_placed text path before line after e (bad_values (content line) is) note
-always_placed t u path text (Input f) (es, (most, spelt), (k, entry, got, fit, fails)) place note =
-    numbered_placed t path text f es k entry spelt got
-    (subst (λ o. MatchOption o (◌≡◌ {A = Option (String Global)} None None) (λ number. IsNumberedNote t path text f number None)) (number_of u _ k entry f fails) note)
-always_placed t u path text TooLong h place note = absurd place
-always_placed t u path text NoMemory h place note = absurd place
+pub always_placed : (t u : Program) (text : List ℕ) (fault : TextFault) → IsInputTextFault u text fault → HasItsPlace fault → IsInputNote t text fault None → ⊥
+always_placed t u text (BadLine n) (most, (before, line, after, e, number, good, is)) place note = line_placed text before line after e (bad_head (content line) is) note
+always_placed t u text (BadValue n) (most, (before, line, after, e, number, good, is)) place note = line_placed text before line after e (bad_values (content line) is) note
+always_placed t u text (Input f) (es, (most, spelt), (k, entry, got, fit, fails)) place note =
+    numbered_placed t text f es k entry spelt got
+    (subst (λ o. MatchOption o (◌≡◌ {A = Option Note} None None) (λ number. IsNumberedNote t text f number None)) (number_of u _ k entry f fails) note)
+always_placed t u text TooLong h place note = absurd place
+always_placed t u text NoMemory h place note = absurd place

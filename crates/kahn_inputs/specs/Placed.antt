@@ -16,4 +16,4 @@ HasItsPlace NoMemory = ⊥
 
 -- a fault of this very text, for whatever programs
 abbrev pub AlwaysPlaced : Type 0
-AlwaysPlaced = (t u : Program) (path text : List ℕ) (fault : TextFault) → IsInputTextFault u text fault → HasItsPlace fault → IsInputNote t path text fault None → ⊥
+AlwaysPlaced = (t u : Program) (text : List ℕ) (fault : TextFault) → IsInputTextFault u text fault → HasItsPlace fault → IsInputNote t text fault None → ⊥

@@ -1,7 +1,7 @@
 //! Why an input text is refused, as a note on the place.
 
-ghost use Rattle.std.specs.Prelude.{◌≡◌, ◌+◌, ◌++◌, ◌≤◌, IfOk, length, string_bytes};
-ghost use Rattle.kahn_inputs.specs.Feeding.{IsEntryNote, IsEntrySpan, IsFirstGiven, IsGivenNote, IsInputNote, IsKindFor, IsLineNote, IsNumberedNote, IsUnfitSpan, IsValueNote, entry_tail, entry_words, kinds_words, lack_note, lack_words, refused_number, part_note, rest_from, no_value_words, word_note};
+ghost use Rattle.std.specs.Prelude.{◌≡◌, ◌+◌, ◌≤◌, IfOk, length};
+ghost use Rattle.kahn_inputs.specs.Feeding.{AreFirstGiven, IsEntryNote, IsEntrySpan, IsInputNote, IsKindFor, IsLineNote, IsNumberedNote, IsPartNote, IsUnfitSpan, IsValueNote, lack_place, refused_number, rest_from};
 
 use crate::fitting::{
     Lack, behind, colon_at, first_unfit, lack_of, lack_span, line_name, moved_by, name_span,
@@ -10,16 +10,14 @@ use crate::fitting::{
 use crate::seeking::{Found, Sort, find_line, first_named};
 use crate::strange::{no_comment_words, numeral_words, strange_words};
 use kahn_hints::{add_inputs, add_unknown_input};
-use kahn_marks::{marked, marked_too};
+use kahn_marks::{Note, Other, Sort as NoteSort, add, simple};
 use kahn_report::TextFault;
 use kahn_streams::{InputFault, Kind, Network, NoMemory, Span, channel_named};
 use std::alloc::{AllocError, Global};
 use std::str;
 
 /// What is said of a line that doesn't begin with a name and a colon.
-fn lack_words(lack: Lack) -> &'static str
-    ensures { result.now ≡ lack_words lack }
-{
+fn lack_words(lack: Lack) -> &'static str {
     match lack {
         Lack::Name => "not a name and a colon: wanted a name, which begins with a letter",
         Lack::ShortName => "not a name and a colon: wanted a name of at most 64 characters",
@@ -28,16 +26,12 @@ fn lack_words(lack: Lack) -> &'static str
 }
 
 /// What is said of a word that is no value.
-fn no_value_words() -> &'static str
-    ensures { result.now ≡ no_value_words }
-{
+fn no_value_words() -> &'static str {
     "not a value: wanted a number of 64 bits, `true` or `false`"
 }
 
 /// What is said of an entry.
-fn entry_words(fault: InputFault) -> &'static str
-    ensures { result.now ≡ entry_words fault }
-{
+fn entry_words(fault: InputFault) -> &'static str {
     match fault {
         InputFault::UnknownName(_) => "no such channel",
         InputFault::NotAnInput(_) => "not an input channel",
@@ -49,9 +43,7 @@ fn entry_words(fault: InputFault) -> &'static str
 }
 
 /// What is said of a value of another kind than that of its channel.
-fn kinds_words(kind: Option<Kind>) -> &'static str
-    ensures { result.now ≡ kinds_words kind }
-{
+fn kinds_words(kind: Option<Kind>) -> &'static str {
     match kind {
         Some(Kind::Integer) => ": wanted integer, found logical",
         Some(Kind::Logical) => ": wanted logical, found integer",
@@ -59,54 +51,40 @@ fn kinds_words(kind: Option<Kind>) -> &'static str
     }
 }
 
-/// A note on a part of a line.
+/// A note on a part of a line of a text.
 fn part_note(
     alloc: Global,
-    path: &str,
-    text: &str,
+    _text: &str,
     found: Found<'_>,
     span: Span,
-    words: &str,
-) -> Result<String, AllocError>
-    requires line { found.from + length found.line.now ≤ length text.now }
+    words: &[&str],
+) -> Result<Note, AllocError>
+    requires line { found.from + length found.line.now ≤ length _text.now }
     requires order { span.from ≤ span.to }
     requires within { span.to ≤ length found.line.now }
-    ensures { IfOk result (λ note. string_bytes note ≡ part_note path.now text.now found.entry.from found.entry.line.now span words.now) }
+    ensures { IfOk result (IsPartNote found.entry.from span) }
 {
-    marked(alloc, path, text, moved_by(found.from, span), words)
-}
-
-/// The same, with what more is said of the part, and of a strange character in it.
-fn word_note(
-    alloc: Global,
-    path: &str,
-    text: &str,
-    found: Found<'_>,
-    span: Span,
-    words: &str,
-    more: &str,
-) -> Result<String, AllocError>
-    requires line { found.from + length found.line.now ≤ length text.now }
-    requires order { span.from ≤ span.to }
-    requires within { span.to ≤ length found.line.now }
-    ensures { IfOk result (λ note. string_bytes note ≡ word_note path.now text.now found.entry.from found.entry.line.now span words.now more.now) }
-{
-    let strange = strange_words(found.from + span.from, part_of(found.line, span));
-    let mut told = String::from_str(alloc, words)?;
-    told.push_str(more)?;
-    told.push_str(strange)?;
-    part_note(alloc, path, text, found, span, told.as_str())
+    let mut told = String::new(alloc);
+    add(&mut told, words)?;
+    simple(
+        alloc,
+        NoteSort::Error,
+        moved_by(found.from, span),
+        told.as_str(),
+    )
 }
 
 /// The note on a line that doesn't begin with a name and a colon.
-fn lack_note(alloc: Global, path: &str, text: &str, found: Found<'_>) -> Result<String, AllocError>
+fn lack_note(alloc: Global, text: &str, found: Found<'_>) -> Result<Note, AllocError>
     requires { found.from + length found.line.now ≤ length text.now }
-    ensures { IfOk result (λ note. string_bytes note ≡ lack_note path.now text.now found.entry.from found.entry.line.now) }
+    ensures { IfOk result (IsPartNote found.entry.from (lack_place found.entry.line.now)) }
 {
     let lack = lack_of(found.line);
     let span = lack_span(found.line, lack);
-    let more = no_comment_words(part_of(found.line, span));
-    word_note(alloc, path, text, found, span, lack_words(lack), more)
+    let part = part_of(found.line, span);
+    let strange = strange_words(found.from + span.from, part);
+    let more = no_comment_words(part);
+    part_note(alloc, text, found, span, &[lack_words(lack), more, strange])
 }
 
 /// Where what stands behind the colon begins.
@@ -131,13 +109,15 @@ pub(crate) fn unfit_span(asked: Option<Kind>, line: &[u8]) -> Span
 }
 
 /// The note on a line with what is no value.
-fn value_note(alloc: Global, path: &str, text: &str, found: Found<'_>) -> Result<String, AllocError>
+fn value_note(alloc: Global, text: &str, found: Found<'_>) -> Result<Note, AllocError>
     requires { found.from + length found.line.now ≤ length text.now }
-    ensures { IfOk result (IsValueNote path.now text.now found.entry.from found.entry.line.now) }
+    ensures { IfOk result (IsValueNote found.entry.from found.entry.line.now) }
 {
     let span = unfit_span(None, found.line);
-    let more = numeral_words(part_of(found.line, span));
-    word_note(alloc, path, text, found, span, no_value_words(), more)
+    let part = part_of(found.line, span);
+    let strange = strange_words(found.from + span.from, part);
+    let more = numeral_words(part);
+    part_note(alloc, text, found, span, &[no_value_words(), more, strange])
 }
 
 /// The kind of the channel of that name, where a channel has it.
@@ -160,9 +140,7 @@ fn entry_text(
     name: &[u8],
     kind: Option<Kind>,
     fault: InputFault,
-) -> Result<String, AllocError>
-    ensures { IfOk result (λ text. string_bytes text ≡ entry_words fault ++ entry_tail network.now name.now kind fault) }
-{
+) -> Result<String, AllocError> {
     let program = network.program();
     let mut words = String::from_str(alloc, entry_words(fault))?;
     match fault {
@@ -192,61 +170,48 @@ fn entry_span(line: &[u8], kind: Option<Kind>, fault: InputFault) -> Span
     }
 }
 
-/// A note on the first entry of that name.
-fn first_note(alloc: Global, path: &str, text: &str, name: &[u8]) -> Result<String, AllocError>
-    ensures { IfOk result (IsFirstGiven path.now text.now name.now) }
-{
-    match first_named(text, name) {
-        Some(span) => marked_too(alloc, path, text, span, "given here first"),
-        None => Ok(String::new(alloc)),
-    }
-}
-
-/// The note on the entry that stands first, where two are for one channel.
-fn given_note(
+/// The first entry of that name, where two entries are for one channel.
+fn given_first(
     alloc: Global,
-    path: &str,
     text: &str,
     name: &[u8],
     fault: InputFault,
-) -> Result<String, AllocError>
-    ensures { IfOk result (IsGivenNote path.now text.now name.now fault) }
+) -> Result<Vec<Other>, AllocError>
+    ensures { IfOk result (λ others. AreFirstGiven text.now name.now fault others.items) }
 {
-    match fault {
-        InputFault::GivenTwice(_) => first_note(alloc, path, text, name),
-        InputFault::UnknownName(_) => Ok(String::new(alloc)),
-        InputFault::NotAnInput(_) => Ok(String::new(alloc)),
-        InputFault::WrongKind(_) => Ok(String::new(alloc)),
-        InputFault::TooMany(_) => Ok(String::new(alloc)),
-        InputFault::NoMemory => Ok(String::new(alloc)),
+    let mut others = Vec::new(alloc);
+    if let InputFault::GivenTwice(_) = fault {
+        if let Some(span) = first_named(text, name) {
+            let words = String::from_str(alloc, "given here first")?;
+            others.push(Other { span, words })?;
+        }
     }
+    Ok(others)
 }
 
 /// The note on an entry.
 fn entry_note(
     alloc: Global,
-    path: &str,
     network: &Network,
     text: &str,
     found: Found<'_>,
     fault: InputFault,
-) -> Result<String, AllocError>
+) -> Result<Note, AllocError>
     requires { found.from + length found.line.now ≤ length text.now }
-    ensures { IfOk result (IsEntryNote network.now path.now text.now found.entry.from found.entry.line.now fault) }
+    ensures { IfOk result (IsEntryNote network.now text.now found.entry.from found.entry.line.now fault) }
 {
     let name = line_name(found.line);
     let kind = kind_for(network, name);
     let words = entry_text(alloc, network, name, kind, fault)?;
     let span = entry_span(found.line, kind, fault);
-    let mut note = part_note(alloc, path, text, found, span, words.as_str())?;
-    let given = given_note(alloc, path, text, name, fault)?;
-    note.push_str(given.as_str())?;
+    let mut note = part_note(alloc, text, found, span, &[words.as_str()])?;
+    note.others = given_first(alloc, text, name, fault)?;
     Ok(note)
 }
 
 /// The note on the first line that is neither blank nor an entry.
-fn line_note(alloc: Global, path: &str, text: &str) -> Result<Option<String>, NoMemory>
-    ensures { IfOk result (IsLineNote path.now text.now) }
+fn line_note(alloc: Global, text: &str) -> Result<Option<Note>, NoMemory>
+    ensures { IfOk result (IsLineNote text.now) }
 {
     let Some(found) = find_line(alloc, text, text.len())? else {
         return Ok(None);
@@ -254,27 +219,26 @@ fn line_note(alloc: Global, path: &str, text: &str) -> Result<Option<String>, No
     match found.sort {
         Sort::Blank => Ok(None),
         Sort::Entry => Ok(None),
-        Sort::NoHead => Ok(Some(lack_note(alloc, path, text, found)?)),
-        Sort::NoValues => Ok(Some(value_note(alloc, path, text, found)?)),
+        Sort::NoHead => Ok(Some(lack_note(alloc, text, found)?)),
+        Sort::NoValues => Ok(Some(value_note(alloc, text, found)?)),
     }
 }
 
 /// The note on the entry with that number, counted from 0.
 fn numbered_note(
     alloc: Global,
-    path: &str,
     network: &Network,
     text: &str,
     fault: InputFault,
     number: usize,
-) -> Result<Option<String>, NoMemory>
-    ensures { IfOk result (IsNumberedNote network.now path.now text.now fault number) }
+) -> Result<Option<Note>, NoMemory>
+    ensures { IfOk result (IsNumberedNote network.now text.now fault number) }
 {
     let Some(found) = find_line(alloc, text, number)? else {
         return Ok(None);
     };
     match found.sort {
-        Sort::Entry => Ok(Some(entry_note(alloc, path, network, text, found, fault)?)),
+        Sort::Entry => Ok(Some(entry_note(alloc, network, text, found, fault)?)),
         Sort::Blank => Ok(None),
         Sort::NoHead => Ok(None),
         Sort::NoValues => Ok(None),
@@ -299,18 +263,17 @@ fn refused_number(fault: InputFault) -> Option<usize>
 /// there. It refuses only where memory was refused.
 pub fn input_note(
     alloc: Global,
-    path: &str,
     network: &Network,
     text: &str,
     fault: TextFault,
-) -> Result<Option<String>, NoMemory>
-    ensures { IfOk result (IsInputNote network.now path.now text.now fault) }
+) -> Result<Option<Note>, NoMemory>
+    ensures { IfOk result (IsInputNote network.now text.now fault) }
 {
     match fault {
         TextFault::TooLong | TextFault::NoMemory => Ok(None),
-        TextFault::BadLine(_) | TextFault::BadValue(_) => line_note(alloc, path, text),
+        TextFault::BadLine(_) | TextFault::BadValue(_) => line_note(alloc, text),
         TextFault::Input(fault) => match refused_number(fault) {
-            Some(number) => numbered_note(alloc, path, network, text, fault, number),
+            Some(number) => numbered_note(alloc, network, text, fault, number),
             None => Ok(None),
         },
     }

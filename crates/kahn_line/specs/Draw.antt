@@ -26,7 +26,7 @@ pub record IsDraw (words : List Text) (o : DrawOptions) : Type 0 where
   pub bound : o.bound ≡ number_or 1000000 (one_of (codes "bound") (matches_of draw_app words))
   pub in_range : o.bound < 2 ^ 48
 
--- what the words ask for; or what is at fault in them, and `--help` and `--version` are such faults; or want of memory
+-- what the words ask for; or what is at fault in them, such as `--help` and `--version`; or refused memory
 abbrev pub IsDrawRead : List Text → Result DrawOptions LineFault → Type 0
 IsDrawRead words (Ok o) = IsDraw words o × (fault_of draw_app words ≡ [])
 IsDrawRead words (Err (Refused e)) = IsAmong (kind_of e) (fault_of draw_app words)

@@ -82,7 +82,7 @@ fn add_heading<'a>(
 }
 
 /// A note of a sort on a part of the text of a file.
-fn marked_as(
+pub(crate) fn marked_as(
     alloc: Global,
     sort: &str,
     path: &str,

@@ -1,3 +1,2 @@
-mod Found
 pub mod Named
 pub mod Pieces

@@ -1,7 +1,7 @@
 -- A name that stands in a text.
 use Rattle.std.proofs.Common.{◌≡◌, ◌∙◌, ℕ, ◌+◌, ◌<◌, ◌≤◌, Bool, true, false, ◌&&◌, not, List, ◌∷◌, length, drop, ap, get_or, add-one, drop-cons, drop_of_length-le, if◌then◌else◌, sym}
 use Rattle.kahn_wanted.specs.Swallowing.{is_of_word}
-use Rattle.kahn_notes.specs.Held.{begins_as, has_name}
+use Rattle.kahn_notes.specs.inner.Held.{begins_as, has_name}
 
 -- one byte on
 here : (name text : List ℕ) (before at : ℕ) → at < length text → has_name name before (drop at text)

@@ -1,4 +1,3 @@
-pub mod Characters
-pub mod Held
 pub mod Notes
 pub mod Words
+pub mod inner

@@ -1,42 +1,22 @@
--- Believed. What is said of a place where a text goes wrong: what stands there, and what may stand there.
-use Rattle.std.specs.Prelude.{◌≡◌, ◌==◌, ℕ, List, [], ◌∷◌, ◌++◌, ◌-◌, Option, Some, None, codes, decimal, if◌then◌else◌, length, map, min, option_map, slice_range, string_bytes}
-use Rattle.std.specs.Fmt.{signed_decimal}
+-- Believed. What is said of a place where a text goes wrong: what stands there, what may stand there, and a change that mends it.
+use Rattle.std.specs.Prelude.{◌≡◌, ◌<◌, ◌-◌, ◌⊎◌, ℕ, List, [], ◌∷◌, ◌++◌, Option, Some, None, Contains, IfSome, codes, length, map, string_bytes}
 use Rattle.std.specs.List.{concat}
-use Rattle.std.specs.declared.alloc.Global.{Global}
-use Rattle.std.specs.declared.string.String.{String}
-use Rattle.kahn_streams.specs.Place.{line_of}
 use Rattle.kahn_streams.specs.declared.span.Span.{Span}
+use Rattle.kahn_streams.specs.declared.tree.Program.{Program}
 use Rattle.kahn_syntax.specs.declared.fault.What.{What}
 use Rattle.kahn_syntax.specs.declared.fault.What.TheVariants.{More, Nothing, Other}
-use Rattle.kahn_syntax.specs.declared.lexeme.Class.{Class}
-use Rattle.kahn_syntax.specs.declared.lexeme.Class.TheVariants as class
-use Rattle.kahn_syntax.specs.declared.lexeme.Lexeme.{Lexeme}
-use Rattle.kahn_syntax.specs.Texts.{IsProper}
+use Rattle.kahn_syntax.specs.declared.fault.SyntaxFault.TheVariants.{BadCharacter, Expected}
+use Rattle.kahn_syntax.specs.Texts.{IsProgram, IsTextFault}
 use Rattle.kahn_wanted.specs.declared.groups.Group.{Group}
 use Rattle.kahn_wanted.specs.declared.groups.Group.TheVariants as group
 use Rattle.kahn_wanted.specs.declared.groups.Wanted.{Wanted}
 use Rattle.kahn_wanted.specs.declared.found.Unexpected.{Unexpected}
-use Rattle.kahn_wanted.specs.Comments.{IsCommentBefore}
 use Rattle.kahn_wanted.specs.Wanted.{IsUnexpected}
-use Rattle.kahn_marks.specs.Marks.{marked, spot_text, times_over}
-use Rattle.kahn_notes.specs.Words.{any_words, keyword_words, separator, sign_words}
-
--- a lexeme, of a sign with an article
-abbrev pub lexeme_words : List ℕ → List ℕ → Class → Span → List ℕ
-lexeme_words text article (class.Word k) at = concat (codes "the keyword " ∷ keyword_words k ∷ [])
-lexeme_words text article class.Name at = concat (codes "the name `" ∷ slice_range text at.from at.to ∷ codes "`" ∷ [])
-lexeme_words text article (class.Number n) at = codes "the number " ++ signed_decimal n
-lexeme_words text article (class.Sign s) at = concat (article ∷ sign_words s ∷ [])
-
--- what stands at a place
-abbrev pub found_words : List ℕ → Option Lexeme → List ℕ
-found_words text (Some x) = lexeme_words text [] x.what x.span
-found_words text None = codes "the end of the text"
-
--- a lexeme that is found is as the lexer makes it
-abbrev pub MayFind : List ℕ → Option Lexeme → Type 0
-MayFind text (Some x) = IsProper text x.what x.span
-MayFind text None = Unit {0}
+use Rattle.kahn_marks.specs.Notes.{IsApplied}
+use Rattle.kahn_marks.specs.declared.rendering.Fix.{Fix}
+use Rattle.kahn_marks.specs.declared.rendering.Note.{Note}
+use Rattle.kahn_marks.specs.declared.rendering.Other as other
+use Rattle.kahn_notes.specs.Words.{any_words, separator}
 
 -- any lexeme of a group
 abbrev pub wanted_words : Group → List ℕ
@@ -64,35 +44,33 @@ abbrev pub listed : List (List ℕ) → List ℕ
 listed [] = []
 listed (p ∷ ps) = p ++ (separator (length ps) ++ listed ps)
 
-abbrev pub unexpected_words : List ℕ → What → Unexpected → List ℕ
-unexpected_words text what u =
-    concat (codes "found " ∷ found_words text u.found ∷ codes ", where " ∷ listed (pieces_of u.wanted what) ∷ codes " may stand" ∷ [])
+-- all that was expected at a place, and something that was found there
+abbrev pub IsExpected : What → Unexpected → List ℕ → Type 0
+IsExpected what u words = (found : List ℕ) × (words ≡ concat (codes "expected " ∷ listed (pieces_of u.wanted what) ∷ codes ", found " ∷ found ∷ []))
 
--- a line below the carets; as many columns as the number of the source line takes are left free
-abbrev pub remark : List ℕ → Span → List ℕ → List ℕ
-remark text span words =
-    concat (codes " " ∷ times_over (length (decimal (line_of text (min span.from (length text))))) (codes " ") ∷ codes " = " ∷ words ∷ codes "\n" ∷ [])
+-- a text has its fault at a place, where a lexeme can't stand, or a character isn't of the language
+abbrev pub IsFaultOf : List ℕ → Span → Type 0
+IsFaultOf text at = ((what : What) × IsTextFault text (Expected at what)) ⊎ IsTextFault text (BadCharacter at)
 
-abbrev pub remark_or_none : List ℕ → Span → Option (List ℕ) → List ℕ
-remark_or_none text span (Some words) = remark text span words
-remark_or_none text span None = []
+-- a text is a program, or less stands behind its fault than behind a place of another text
+abbrev pub MendsText : List ℕ → Span → List ℕ → Type 0
+MendsText text span new = ((p : Program) × IsProgram new p)
+    ⊎ ((at : Span) × IsFaultOf new at × (length new - at.from < length text - span.from))
 
--- what is said of a comment before it
-abbrev pub comment_verb : List ℕ → Span → List ℕ
-comment_verb text c = if line_of text c.from == line_of text (c.to - 1) then codes " ends with" else codes " goes on to"
+-- so is the text with a change
+abbrev pub Mends : List ℕ → Span → Fix → Type 0
+Mends text span f = (new : List ℕ) × IsApplied text f new × MendsText text span new
 
-abbrev pub comment_words : List ℕ → Span → List ℕ
-comment_words text c =
-    concat (codes "the comment" ∷ spot_text (codes " at ") text c.from ∷ comment_verb text c ∷ codes " the `;`" ∷ spot_text (codes " at ") text (c.to - 1) ∷ [])
+-- the place itself, or that of a change
+abbrev pub IsThereOrFixed : Span → Option Fix → Span → Type 0
+IsThereOrFixed span fix at = (at ≡ span) ⊎ ((f : Fix) × (fix ≡ Some f) × (at ≡ f.span))
 
-abbrev pub comment_text : List ℕ → Span → Option Span → List ℕ
-comment_text text span c = remark_or_none text span (option_map (comment_words text) c)
+-- the heading says this of the place, and stands there or where the change is made; or it is said of the place behind the heading
+abbrev pub IsToldAt : Span → List ℕ → Note → Type 0
+IsToldAt span words n = (IsThereOrFixed span n.fix n.span × (string_bytes n.words ≡ words))
+    ⊎ ((o : other.Other) × Contains n.others.items o × (o.span ≡ span) × (string_bytes o.words ≡ words))
 
--- the note on what stands there, and below it the comment before it that has to do with it
-abbrev pub IsCommented : List ℕ → List ℕ → Span → List ℕ → List ℕ → Type 0
-IsCommented path text span words note = (c : Option Span) × IsCommentBefore text span.from c × (note ≡ marked path text span words ++ comment_text text span c)
-
--- the note on that place of the text of a file: what stands there and exactly what may stand there, and below it whatever helps
-abbrev pub IsNote : List ℕ → List ℕ → Span → What → String Global → Type 0
-IsNote path text span what note = (u : Unexpected) × IsUnexpected text span what u × (below : List ℕ)
-    × (string_bytes note ≡ marked path text span (unexpected_words text what u) ++ below)
+-- the note on a place: it tells exactly what may stand there, and the text with the change that it tells is a program or goes wrong only later
+abbrev pub IsNoteAt : List ℕ → Span → What → Note → Type 0
+IsNoteAt text span what n = (u : Unexpected) × (words : List ℕ) × IsUnexpected text span what u × IsExpected what u words × IsToldAt span words n
+    × IfSome n.fix (Mends text span)

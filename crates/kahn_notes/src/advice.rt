@@ -1,9 +1,12 @@
 //! What is said where something stands as in another language, or without what belongs to it, by what may stand there.
 
 use crate::habits::{HABITS, NESTED, SIGNS};
+use crate::place::{Place, before, found};
+use crate::said::{Said, replacement, sentence};
 use crate::wanting::{awaits, finds, offers};
-use kahn_syntax::{Class, Lexeme};
+use kahn_syntax::{Class, Lexeme, Sign, Span};
 use kahn_wanted::{Group, Wanted};
+use std::alloc::{AllocError, Global};
 
 /// What holds of a place, and of what may stand there.
 #[derive(Clone, Copy)]
@@ -34,6 +37,9 @@ pub(crate) type Habit = (
     &'static [Test],
     &'static str,
 );
+
+/// What is put in the place of both of its lexemes, and a habit.
+pub(crate) type Pair = (&'static str, Habit);
 
 /// Whether a test holds of a place.
 fn holds(test: Test, before: Option<Lexeme>, found: Option<Lexeme>, wanted: &Wanted) -> bool {
@@ -102,17 +108,45 @@ pub(crate) fn are_joined(before: Option<Lexeme>, found: Option<Lexeme>) -> bool 
     }
 }
 
-/// What is said before a change of one lexeme: of two signs that are one in other languages, and of an `if` where a change would mislead.
+/// What is said before a change of one lexeme: of an `if` where a change would mislead.
 pub(crate) fn early_advice(
     before: Option<Lexeme>,
     found: Option<Lexeme>,
     wanted: &Wanted,
 ) -> Option<&'static str> {
-    if let Some(words) = first_fitting(&NESTED, before, found, wanted) {
-        return Some(words);
+    first_fitting(&NESTED, before, found, wanted)
+}
+
+/// Whether two `-` stand side by side at a place.
+fn are_dashes(place: Place) -> bool {
+    let next = place.lexemes.get(place.number.saturating_add(1)).copied();
+    let dash = [Class::Sign(Sign::Minus)];
+    finds(&dash, found(place)) && finds(&dash, next) && are_joined(found(place), next)
+}
+
+/// What is said of two signs that are one in other languages, with what stands for them.
+pub(crate) fn sign_said(alloc: Global, place: Place) -> Result<Option<Said>, AllocError> {
+    if are_dashes(place) {
+        return Ok(Some(sentence(alloc, "a comment goes from `comment` to `;`")?));
     }
-    if are_joined(before, found) {
-        return first_fitting(&SIGNS, before, found, wanted);
+    let (Some(one), Some(other)) = (before(place), found(place)) else {
+        return Ok(None);
+    };
+    if one.span.to != other.span.from {
+        return Ok(None);
     }
-    None
+    for (put, habit) in &SIGNS {
+        if fits(habit, Some(one), Some(other), place.wanted) {
+            let mut said = sentence(alloc, habit.3)?;
+            if !put.is_empty() {
+                let both = Span {
+                    from: one.span.from,
+                    to: other.span.to,
+                };
+                said.fix = Some(replacement(alloc, both, put)?);
+            }
+            return Ok(Some(said));
+        }
+    }
+    Ok(None)
 }

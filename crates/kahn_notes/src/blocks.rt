@@ -5,12 +5,15 @@ ghost use Rattle.std.specs.Prelude.{Contains, IfSome};
 use crate::guards::guard_of;
 use crate::indent::{Misfit, first_misfit};
 use crate::layout::{Seat, seats};
+use crate::mending::mending;
 use crate::place::{Place, found, front};
+use crate::said::{Said, headed, insertion, replacement};
 use crate::wanting::{finds, has_fewer};
 use crate::words::class_words;
 use itoa::Buffer;
-use kahn_marks::{add, add_spot};
-use kahn_syntax::{Class, Keyword, Lexeme, Sign, Span, SyntaxFault, parse};
+use kahn_marks::{Fix, add, add_spot};
+use kahn_streams::NoMemory;
+use kahn_syntax::{Class, Keyword, Lexeme, Sign, Span};
 use kahn_wanted::{Block, open_behind};
 use std::alloc::{AllocError, Global};
 
@@ -62,33 +65,20 @@ fn add_where(
 }
 
 /// What is said of a block that ends before a lexeme by its indentation, if it is open there.
-fn unclosed_words(
+fn unclosed_said(
     alloc: Global,
     place: Place,
     all: &[Seat],
     begin: Seat,
     number: usize,
-    twice: bool,
-) -> Result<Option<String>, AllocError> {
+) -> Result<Option<Said>, AllocError> {
     let blocks = open_behind(alloc, front(place.lexemes, number))?;
     let Some(block) = open_there(&blocks, begin.lexeme.span) else {
         return Ok(None);
     };
-    let mut words = String::new(alloc);
-    if twice {
-        add_spot(
-            &mut words,
-            "the second `begin` at ",
-            place.text,
-            block.begin.span.from,
-        )?;
-        words.push_str(" has no `end`: leave it out")?;
-        return Ok(Some(words));
-    }
-    add_spot(&mut words, "`begin` at ", place.text, block.begin.span.from)?;
-    words.push_str(" has no `end`: ")?;
+    let mut words = String::from_str(alloc, "`begin` has no `end`: ")?;
     add_where(&mut words, place.text, begin, all.get(number).copied())?;
-    Ok(Some(words))
+    Ok(Some(headed(block.begin.span, words)))
 }
 
 /// Whether the lexeme with a number is a `begin`.
@@ -102,60 +92,42 @@ fn is_begin(all: &[Seat], number: Option<usize>) -> bool {
     }
 }
 
-/// A text with blanks in place of a `begin`.
-fn without(alloc: Global, text: &str, begin: Span) -> Result<String, AllocError> {
-    let mut left = String::new(alloc);
-    if let (Some(before), Some(behind)) = (text.get(..begin.from), text.get(begin.to..)) {
-        left.push_str(before)?;
-        left.push_str("     ")?;
-        left.push_str(behind)?;
-    }
-    Ok(left)
-}
-
-/// Whether a text without a `begin` is a program, or goes wrong behind a place.
-fn is_mended(alloc: Global, place: Place, begin: Span) -> Result<bool, AllocError> {
-    let left = without(alloc, place.text, begin)?;
-    match parse(alloc, left.as_str()) {
-        Ok(_) => Ok(true),
-        Err(SyntaxFault::Expected(span, _)) => Ok(match found(place) {
-            Some(lexeme) => lexeme.span.from < span.from,
-            None => false,
-        }),
-        Err(SyntaxFault::NoMemory) => Err(AllocError),
-        Err(_) => Ok(false),
-    }
-}
-
-/// Whether a `begin` stands beside another one and is one too many.
-fn is_doubled(
+/// Leaving out a `begin` that stands beside another one and is one too many.
+fn doubled(
     alloc: Global,
     place: Place,
+    at: Span,
     all: &[Seat],
     begin: usize,
     span: Span,
-) -> Result<bool, AllocError> {
+) -> Result<Option<Fix>, NoMemory> {
     if is_begin(all, begin.checked_sub(1)) || is_begin(all, begin.checked_add(1)) {
-        return is_mended(alloc, place, span);
+        let fix = replacement(alloc, span, "")?;
+        return mending(alloc, place.text, at, Some(fix));
     }
-    Ok(false)
+    Ok(None)
 }
 
 /// The same of the `begin` with a number.
 fn unclosed(
     alloc: Global,
     place: Place,
+    at: Span,
     all: &[Seat],
     begin: usize,
     number: usize,
-) -> Result<Option<String>, AllocError> {
-    match all.get(begin) {
-        Some(seat) => {
-            let twice = is_doubled(alloc, place, all, begin, seat.lexeme.span)?;
-            unclosed_words(alloc, place, all, *seat, number, twice)
-        }
-        None => Ok(None),
+) -> Result<Option<Said>, NoMemory> {
+    let Some(seat) = all.get(begin) else {
+        return Ok(None);
+    };
+    let span = seat.lexeme.span;
+    if let Some(fix) = doubled(alloc, place, at, all, begin, span)? {
+        let words = String::from_str(alloc, "the second `begin` has no `end`")?;
+        let mut said = headed(span, words);
+        said.fix = Some(fix);
+        return Ok(Some(said));
     }
+    Ok(unclosed_said(alloc, place, all, *seat, number)?)
 }
 
 /// Whether several statements stand between two lexemes.
@@ -168,38 +140,22 @@ fn are_several(place: Place, from: usize, to: usize) -> bool {
     }
 }
 
-/// What is said of an `end` that has no `begin`: that statements stand without a block behind what leads to them, or that it is one
-/// too many.
-fn surplus_words(
-    alloc: Global,
-    text: &str,
-    end: Lexeme,
-    guard: Option<Lexeme>,
-) -> Result<String, AllocError> {
-    let mut words = String::new(alloc);
-    match guard {
-        Some(guard) => {
-            add(
-                &mut words,
-                &["several statements stand behind ", class_words(guard.what)],
-            )?;
-            add_spot(&mut words, " at ", text, guard.span.from)?;
-            add_spot(
-                &mut words,
-                " without `begin`, to the `end` at ",
-                text,
-                end.span.from,
-            )?;
-            words.push_str(": insert `begin` behind it")?;
-        }
-        None => {
-            add_spot(&mut words, "the `end` at ", text, end.span.from)?;
-            words.push_str(
-                " has no `begin`: an `if`, a `while` or a `repeat` has no `end` of its own",
-            )?;
-        }
-    }
-    Ok(words)
+/// What is said of statements without a block behind what leads to them, to an `end` that has no `begin`.
+fn several_said(alloc: Global, text: &str, end: Lexeme, guard: Lexeme) -> Result<Said, AllocError> {
+    let mut words = String::from_str(alloc, "several statements stand behind ")?;
+    add(&mut words, &[class_words(guard.what), " without `begin`"])?;
+    add_spot(&mut words, ", to the `end` at ", text, end.span.from)?;
+    let mut said = headed(guard.span, words);
+    said.fix = Some(insertion(alloc, guard.span, "begin")?);
+    Ok(said)
+}
+
+/// What is said of an `end` that is one too many.
+fn surplus_said(alloc: Global, end: Lexeme) -> Result<Said, AllocError> {
+    let words = "`end` has no `begin`: an `if`, a `while` or a `repeat` has no `end` of its own";
+    let mut said = headed(end.span, String::from_str(alloc, words)?);
+    said.fix = Some(replacement(alloc, end.span, "")?);
+    Ok(said)
 }
 
 /// The same of the `end` with a number.
@@ -208,7 +164,7 @@ fn surplus(
     place: Place,
     all: &[Seat],
     number: usize,
-) -> Result<Option<String>, AllocError> {
+) -> Result<Option<Said>, AllocError> {
     let Some(seat) = all.get(number) else {
         return Ok(None);
     };
@@ -216,12 +172,15 @@ fn surplus(
         Some(guard) if are_several(place, guard, number) => place.lexemes.get(guard).copied(),
         _ => None,
     };
-    let words = surplus_words(alloc, place.text, seat.lexeme, guard)?;
-    Ok(Some(words))
+    let said = match guard {
+        Some(guard) => several_said(alloc, place.text, seat.lexeme, guard)?,
+        None => surplus_said(alloc, seat.lexeme)?,
+    };
+    Ok(Some(said))
 }
 
 /// What is said of blocks at a place, by the indentation of the lines up to it.
-pub(crate) fn blocks_words(alloc: Global, place: Place) -> Result<Option<String>, AllocError> {
+pub(crate) fn blocks_said(alloc: Global, place: Place, at: Span) -> Result<Option<Said>, NoMemory> {
     let missing = has_fewer(END, BEGIN, place.lexemes);
     if !missing && !has_fewer(BEGIN, END, place.lexemes) {
         return Ok(None);
@@ -229,8 +188,8 @@ pub(crate) fn blocks_words(alloc: Global, place: Place) -> Result<Option<String>
     let all = seats(alloc, place.text, place.lexemes)?;
     let late = found(place).is_none() || finds(&OUTSIDE, found(place));
     match first_misfit(alloc, &all, place.number, missing, late)? {
-        Some(Misfit::Unclosed(begin, number)) => unclosed(alloc, place, &all, begin, number),
-        Some(Misfit::Surplus(number)) => surplus(alloc, place, &all, number),
+        Some(Misfit::Unclosed(begin, number)) => unclosed(alloc, place, at, &all, begin, number),
+        Some(Misfit::Surplus(number)) => Ok(surplus(alloc, place, &all, number)?),
         None => Ok(None),
     }
 }

@@ -1,171 +1,199 @@
 //! What the language has in the place of characters that it hasn't.
 
-ghost use Rattle.std.specs.Prelude.{◌≡◌, map, option_map};
-ghost use Rattle.kahn_notes.specs.Characters.{byte_at, character_help, character_words, other_help, place_help, rest_at, told_at};
+ghost use Rattle.std.specs.Prelude.{IfOk, IfSome};
+ghost use Rattle.kahn_notes.specs.Notes.{Mends};
 
-use kahn_syntax::SyntaxFault;
+use crate::mending::mending;
+use crate::said::replacement;
+use kahn_marks::Fix;
+use kahn_streams::NoMemory;
+use kahn_syntax::{Span, SyntaxFault};
+use std::alloc::Global;
 
-/// Whether it is told behind a digit alone, the first bytes in UTF-8 of what stands there, and what is said of that.
-type Told = (bool, &'static [u8], &'static str);
+/// Whether it is told behind a digit alone, the first bytes in UTF-8 of what stands there, what is put in the place of these if the text
+/// goes on with it, and what is said.
+type Told = (bool, &'static [u8], &'static [&'static str], &'static str);
 
 /// The first that holds is told.
-pub(crate) const CHARACTERS: [Told; 47] = [
-    (true, b".", "; numbers are whole"),
-    (true, b"_", "; a number has decimal digits alone"),
+pub(crate) const CHARACTERS: [Told; 49] = [
+    (true, b".", &[], "; numbers are whole"),
+    (true, b"_", &[], "; a number has decimal digits alone"),
     (
         false,
         b".",
+        &[""],
         "; no `.` stands in a name or behind the last `end`",
     ),
-    (false, b"_", "; a name begins with a letter"),
-    (false, b"!=", "; unequal is `<>`"),
-    (false, b"~=", "; unequal is `<>`"),
-    (false, b"/=", "; unequal is `<>`"),
+    (false, b"_", &[], "; a name begins with a letter"),
+    (false, b"!=", &["<>"], "; unequal is `<>`"),
+    (false, b"~=", &["<>"], "; unequal is `<>`"),
+    (false, b"/=", &["<>"], "; unequal is `<>`"),
     (
         false,
         b"!",
+        &["not"],
         "; a value is sent by `send E on C`, and `not` is a word",
     ),
-    (false, b"%", "; a remainder is `mod`"),
+    (false, b"%", &["mod"], "; a remainder is `mod`"),
     (
         false,
         b"/",
+        &["div"],
         "; a quotient is `div`, and a comment goes from `comment` to `;`",
     ),
-    (false, b"#", "; a comment goes from `comment` to `;`"),
-    (false, b"\"", "; there are no texts"),
+    (false, b"#", &[], "; a comment goes from `comment` to `;`"),
+    (false, b"\"", &[], "; there are no texts"),
     (
         false,
         b"'",
+        &[],
         "; there are no texts, and a name has letters, digits and `_`",
     ),
     (
         false,
         b"[",
+        &[],
         "; there are no arrays; a channel that one process writes and reads is a queue",
     ),
     (
         false,
         b"{",
+        &["begin"],
+        "; a block goes from `begin` to `end`, a comment from `comment` to `;`",
+    ),
+    (
+        false,
+        b"}",
+        &["end"],
         "; a block goes from `begin` to `end`, a comment from `comment` to `;`",
     ),
     (
         false,
         b"&&",
+        &["and"],
         "; it is the word `and`, and between instances `par`",
     ),
     (
         false,
         b"&",
+        &["and", "par"],
         "; `and` is a word, and of logicals; a remainder is `X mod 8`, and between instances stands `par`",
     ),
     (
         false,
         b"^",
+        &[],
         "; there is no power and no exclusive or: of logicals it is `<>`",
     ),
     (
         false,
-        b"|",
+        b"||",
+        &["or", "par"],
         "; it is the word `or`, and between instances `par`",
     ),
-    (false, b"~", "; it is the word `not`"),
+    (
+        false,
+        b"|",
+        &["or", "par"],
+        "; it is the word `or`, and between instances `par`",
+    ),
+    (false, b"~", &["not"], "; it is the word `not`"),
     (
         false,
         b"?",
+        &[],
         "; a value is taken by `X := wait(C)`, and a choice is `if .. then .. else ..`",
     ),
     (
         false,
         b":",
+        &[";", "then", "do"],
         "; `:` stands before `=` alone; behind a test stands `then` or `do`, and a kind before its names",
     ),
     (
         false,
         b"`",
+        &[],
         "; the lines of a fence are no part of a program",
     ),
     (
         false,
         b"\xC2\xA0",
+        &[],
         "; a no-break space (U+00A0) isn't a blank here",
     ),
-    (false, b"\xC3\x97", "; a product is `*`"),
-    (false, b"\xC3\xB7", "; a quotient is `div`"),
+    (false, b"\xC3\x97", &["*"], "; a product is `*`"),
+    (false, b"\xC3\xB7", &["div"], "; a quotient is `div`"),
     (
         false,
         b"\xE2\x80\x82",
+        &[],
         "; an en space (U+2002) isn't a blank here",
     ),
     (
         false,
         b"\xE2\x80\x83",
+        &[],
         "; an em space (U+2003) isn't a blank here",
     ),
     (
         false,
         b"\xE2\x80\x89",
+        &[],
         "; a thin space (U+2009) isn't a blank here",
     ),
     (
         false,
         b"\xE2\x80\x8A",
+        &[],
         "; a hair space (U+200A) isn't a blank here",
     ),
     (
         false,
         b"\xE2\x80\x8B",
+        &[],
         "; a zero width space (U+200B) isn't a blank here",
     ),
-    (false, b"\xE2\x80\x91", "; minus is `-`"),
-    (false, b"\xE2\x80\x93", "; minus is `-`"),
-    (false, b"\xE2\x80\x94", "; minus is `-`"),
-    (false, b"\xE2\x80\x98", "; there are no texts"),
-    (false, b"\xE2\x80\x99", "; there are no texts"),
-    (false, b"\xE2\x80\x9C", "; there are no texts"),
-    (false, b"\xE2\x80\x9D", "; there are no texts"),
+    (false, b"\xE2\x80\x91", &["-"], "; minus is `-`"),
+    (false, b"\xE2\x80\x93", &["-"], "; minus is `-`"),
+    (false, b"\xE2\x80\x94", &["-"], "; minus is `-`"),
+    (false, b"\xE2\x80\x98", &[], "; there are no texts"),
+    (false, b"\xE2\x80\x99", &[], "; there are no texts"),
+    (false, b"\xE2\x80\x9C", &[], "; there are no texts"),
+    (false, b"\xE2\x80\x9D", &[], "; there are no texts"),
     (
         false,
         b"\xE2\x80\xAF",
+        &[],
         "; a narrow no-break space (U+202F) isn't a blank here",
     ),
-    (false, b"\xE2\x88\x92", "; minus is `-`"),
-    (false, b"\xE2\x89\xA0", "; unequal is `<>`"),
-    (false, b"\xE2\x89\xA4", "; at most is `<=`"),
-    (false, b"\xE2\x89\xA5", "; at least is `>=`"),
+    (false, b"\xE2\x88\x92", &["-"], "; minus is `-`"),
+    (false, b"\xE2\x89\xA0", &["<>"], "; unequal is `<>`"),
+    (false, b"\xE2\x89\xA4", &["<="], "; at most is `<=`"),
+    (false, b"\xE2\x89\xA5", &[">="], "; at least is `>=`"),
     (
         false,
         b"\xEF\xBB\xBF",
+        &[],
         "; a byte order mark (U+FEFF) isn't a blank here: save the text without one",
     ),
-    (false, b"\xC2", ""),
-    (false, b"\xE2", ""),
-    (false, b"\xEF", ""),
+    (false, b"\xC2", &[], ""),
+    (false, b"\xE2", &[], ""),
+    (false, b"\xEF", &[], ""),
 ];
 
-/// What is said of what stands at a place, which may be behind a digit.
-fn told_at(told: &[Told], is_behind_digit: bool, rest: &[u8]) -> Option<&'static str>
-    ensures { option_map (λ words. words.now) result ≡ told_at is_behind_digit rest.now (map (λ t. (t.0, t.1.now, t.2.now)) told.now) }
-{
-    for (behind_digit, bytes, words) in told {
-        if (!*behind_digit || is_behind_digit) && rest.starts_with(bytes) {
-            return Some(*words);
+/// The row of what stands at a place, which may be behind a digit.
+fn told_at(is_behind_digit: bool, rest: &[u8]) -> Option<&'static Told> {
+    for told in &CHARACTERS {
+        if (!told.0 || is_behind_digit) && rest.starts_with(told.1) {
+            return Some(told);
         }
     }
     None
 }
 
-/// What is said of what is among those.
-fn character_words(is_behind_digit: bool, rest: &[u8]) -> Option<&'static str>
-    ensures { option_map (λ words. words.now) result ≡ character_words is_behind_digit rest.now }
-{
-    told_at(&CHARACTERS, is_behind_digit, rest)
-}
-
 /// What is said of any other character, by its first byte.
-fn other_help(first: u8) -> &'static str
-    ensures { result.now ≡ other_help first }
-{
+fn other_help(first: u8) -> &'static str {
     if first < 0x80 {
         ""
     } else {
@@ -174,9 +202,7 @@ fn other_help(first: u8) -> &'static str
 }
 
 /// A byte of a text, or 0 behind its end.
-fn byte_at(bytes: &[u8], at: usize) -> u8
-    ensures { result ≡ byte_at bytes.now at }
-{
+fn byte_at(bytes: &[u8], at: usize) -> u8 {
     match bytes.get(at) {
         Some(byte) => *byte,
         None => 0,
@@ -184,28 +210,46 @@ fn byte_at(bytes: &[u8], at: usize) -> u8
 }
 
 /// What stands from a byte of a text on.
-fn rest_at(bytes: &[u8], at: usize) -> &[u8]
-    ensures { result.now ≡ rest_at bytes.now at }
-{
+fn rest_at(bytes: &[u8], at: usize) -> &[u8] {
     if at <= bytes.len() { &bytes[at..] } else { &[] }
 }
 
-/// What is said of a character that begins at a byte.
-fn place_help(bytes: &[u8], at: usize) -> &'static str
-    ensures { result.now ≡ place_help bytes.now at }
-{
-    let rest = rest_at(bytes, at);
+/// The row of the character that begins at a byte.
+fn row_at(bytes: &[u8], at: usize) -> Option<&'static Told> {
     let is_behind_digit = byte_at(bytes, at.saturating_sub(1)).is_ascii_digit();
-    match character_words(is_behind_digit, rest) {
-        Some(words) => words,
-        None => other_help(byte_at(rest, 0)),
+    told_at(is_behind_digit, rest_at(bytes, at))
+}
+
+/// What is said of a character that begins at a byte.
+fn place_help(bytes: &[u8], at: usize) -> &'static str {
+    match row_at(bytes, at) {
+        Some(told) => told.3,
+        None => other_help(byte_at(bytes, at)),
     }
 }
 
-/// What is said of a character that isn't of the language, or of a number that is too large, behind the words of the fault; nothing of others.
-pub fn character_help(program: &str, fault: SyntaxFault) -> &'static str
-    ensures { result.now ≡ character_help program.now fault }
+/// What is put in the place of a character that isn't of the language: the first that mends the place.
+pub(crate) fn character_fix(alloc: Global, text: &str, span: Span) -> Result<Option<Fix>, NoMemory>
+    ensures { IfOk result (λ fix. IfSome fix (Mends text.now span)) }
 {
+    let Some(told) = row_at(text.as_bytes(), span.from) else {
+        return Ok(None);
+    };
+    let part = Span {
+        from: span.from,
+        to: span.from.saturating_add(told.1.len()),
+    };
+    for put in told.2 {
+        let fix = replacement(alloc, part, put)?;
+        if let Some(fix) = mending(alloc, text, span, Some(fix))? {
+            return Ok(Some(fix));
+        }
+    }
+    Ok(None)
+}
+
+/// What is said of a character that isn't of the language, or of a number that is too large, behind the words of the fault; nothing of others.
+pub fn character_help(program: &str, fault: SyntaxFault) -> &'static str {
     match fault {
         SyntaxFault::BadCharacter(span) => place_help(program.as_bytes(), span.from),
         SyntaxFault::NumberTooLarge(_) => {

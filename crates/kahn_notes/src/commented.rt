@@ -1,32 +1,15 @@
 //! What is said of a comment before a place where a text goes wrong.
 
-ghost use Rattle.std.specs.Prelude.{◌≡◌, ◌++◌, IfOk, string_bytes};
-ghost use Rattle.kahn_notes.specs.Notes.{IsCommented, comment_text, comment_verb, comment_words, remark};
+ghost use Rattle.std.specs.Prelude.{◌≡◌, IfOk, IfSome, string_bytes};
+ghost use Rattle.kahn_notes.specs.inner.Held.{comment_verb, comment_words};
+ghost use Rattle.kahn_notes.specs.Notes.{Mends};
 
-use itoa::Buffer;
-use kahn_marks::{add, add_repeated, add_spot, marked, place};
+use crate::characters::character_fix;
+use kahn_marks::{Note, Sort, add_spot, place, simple};
 use kahn_streams::NoMemory;
 use kahn_syntax::Span;
 use kahn_wanted::comment_before;
 use std::alloc::{AllocError, Global};
-
-/// Adds a line below the carets under a part.
-pub(crate) fn add_remark(
-    note: &mut String,
-    text: &str,
-    span: Span,
-    words: &str,
-) -> Result<(), AllocError>
-    ensures { IfOk result (λ _. string_bytes note.new ≡ string_bytes note.old ++ remark text.now span words.now) }
-{
-    let from = span.from.min(text.len());
-    let (line, _) = Span { from, to: from }.place(text);
-    let mut buffer = Buffer::new();
-    let number = buffer.format(line);
-    note.push_str(" ")?;
-    add_repeated(note, " ", number.len())?;
-    add(note, &[" = ", words, "\n"])
-}
 
 /// Whether a comment ends on the line where it begins, in words.
 fn comment_verb(text: &str, comment: Span) -> &'static str
@@ -42,7 +25,7 @@ fn comment_verb(text: &str, comment: Span) -> &'static str
 }
 
 /// What is said of a comment.
-fn comment_words(alloc: Global, text: &str, comment: Span) -> Result<String, AllocError>
+pub(crate) fn comment_words(alloc: Global, text: &str, comment: Span) -> Result<String, AllocError>
     ensures { IfOk result (λ words. string_bytes words ≡ comment_words text.now comment) }
 {
     let mut words = String::from_str(alloc, "the comment")?;
@@ -53,38 +36,36 @@ fn comment_words(alloc: Global, text: &str, comment: Span) -> Result<String, All
     Ok(words)
 }
 
-/// Adds what is said of a comment before a place, where there is one.
-pub(crate) fn add_comment(
-    note: &mut String,
+/// Adds what is said of a comment, where there is one.
+fn add_comment(
+    note: &mut Note,
     alloc: Global,
     text: &str,
-    span: Span,
     comment: Option<Span>,
 ) -> Result<(), AllocError>
-    ensures { IfOk result (λ _. string_bytes note.new ≡ string_bytes note.old ++ comment_text text.now span comment) }
+    ensures span { IfOk result (λ _. note.new.span ≡ note.old.span) }
+    ensures words { IfOk result (λ _. note.new.words ≡ note.old.words) }
+    ensures fix { IfOk result (λ _. note.new.fix ≡ note.old.fix) }
 {
     match comment {
         Some(comment) => {
             let words = comment_words(alloc, text, comment)?;
-            add_remark(note, text, span, words.as_str())
+            Ok(note.below.push(words)?)
         }
         None => Ok(()),
     }
 }
 
-/// A note on a part of the text of a file where its lexemes go wrong, with these words; and below it the comment before the part that
-/// ends right before it or on its line, or goes on over what reads like a statement. It refuses only where memory was refused.
-pub fn commented_note(
-    alloc: Global,
-    path: &str,
-    text: &str,
-    span: Span,
-    words: &str,
-) -> Result<String, NoMemory>
-    ensures { IfOk result (λ note. IsCommented path.now text.now span words.now (string_bytes note)) }
+/// A note on a part of a text where its lexemes go wrong, with these words; and below it the comment before the part that ends right
+/// before it or on its line, or goes on over what reads like a statement. It refuses only where memory was refused.
+pub fn commented_note(alloc: Global, text: &str, span: Span, words: &str) -> Result<Note, NoMemory>
+    ensures span { IfOk result (λ note. note.span ≡ span) }
+    ensures words { IfOk result (λ note. string_bytes note.words ≡ words.now) }
+    ensures fix { IfOk result (λ note. IfSome note.fix (Mends text.now span)) }
 {
     let comment = comment_before(alloc, text, span.from)?;
-    let mut note = marked(alloc, path, text, span, words)?;
-    add_comment(&mut note, alloc, text, span, comment)?;
+    let mut note = simple(alloc, Sort::Error, span, words)?;
+    note.fix = character_fix(alloc, text, span)?;
+    add_comment(&mut note, alloc, text, comment)?;
     Ok(note)
 }

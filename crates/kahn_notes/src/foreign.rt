@@ -4,7 +4,7 @@ use crate::advice::{advice, are_joined};
 use crate::place::{Place, ahead, back, before, found, is_declared, letters};
 use crate::wanting::{awaits, finds};
 use kahn_syntax::{Class, Keyword, Lexeme, Sign};
-use kahn_wanted::Wanted;
+use kahn_wanted::{Spot, Wanted};
 
 /// Whether a word is one of these, in any letter case.
 fn is_one_of(word: &[u8], others: &[&str]) -> bool {
@@ -16,89 +16,178 @@ fn is_one_of(word: &[u8], others: &[&str]) -> bool {
     false
 }
 
-/// Words of other languages, and what is said of them.
-type Told = (&'static [&'static str], &'static str);
+/// Words of other languages, the keyword in their place if the text goes on with it, and what is said of them.
+type Told = (&'static [&'static str], Option<Keyword>, &'static str);
 
 /// Those that are told of wherever they stand.
-pub(crate) const FOREIGN: [Told; 13] = [
+const FOREIGN: [Told; 20] = [
     (
-        &["for", "until", "loop", "forever", "foreach"],
+        &["for", "until", "foreach"],
+        None,
+        "a loop is `while E do S`, or `repeat S`, which has no end",
+    ),
+    (
+        &["loop", "forever"],
+        Some(Keyword::Repeat),
         "a loop is `while E do S`, or `repeat S`, which has no end",
     ),
     (
         &["break", "exit", "continue"],
+        None,
         "a loop ends where the test of its `while` is false",
     ),
     (
         &["return", "yield"],
+        None,
         "a process has no result: `send E on C` gives a value to another one",
     ),
-    (&["elif", "elsif", "elseif"], "it is two words: `else if`"),
     (
-        &["int", "bool", "boolean", "var", "real", "float"],
+        &["elif", "elsif", "elseif"],
+        None,
+        "it is two words: `else if`",
+    ),
+    (
+        &["int", "integers", "ints"],
+        Some(Keyword::Integer),
         "the kinds are `integer` and `logical`; one stands before its names",
     ),
     (
+        &["bool", "boolean", "logicals", "booleans"],
+        Some(Keyword::Logical),
+        "the kinds are `integer` and `logical`; one stands before its names",
+    ),
+    (
+        &["var", "real", "float"],
+        None,
+        "the kinds are `integer` and `logical`; one stands before its names",
+    ),
+    (
+        &["channels", "chan", "chans"],
+        Some(Keyword::Channel),
+        "a channel is `integer channel C`",
+    ),
+    (
+        &["inputs"],
+        Some(Keyword::Input),
+        "an input is `integer input channel C`",
+    ),
+    (
+        &["outputs"],
+        Some(Keyword::Output),
+        "an output is `integer output channel C`",
+    ),
+    (
         &["let", "local"],
+        None,
         "a kind declares variables, right behind the `begin` of a process: `integer X`",
     ),
     (
-        &["function", "func", "procedure", "proc", "def"],
+        &[
+            "function",
+            "func",
+            "procedure",
+            "proc",
+            "def",
+            "fn",
+            "processes",
+        ],
+        Some(Keyword::Process),
         "a process is `process P(integer in U; integer out W); begin .. end`",
     ),
     (
         &["endif", "endwhile", "endfor", "fi", "od", "done"],
+        Some(Keyword::End),
         "an `if`, a `while` or a `repeat` has no `end` of its own",
     ),
     (
         &["const", "constant"],
+        None,
         "there are no constants: an instance hands a number over, `P(A, 10)`",
     ),
-    (&["xor"], "there is no exclusive or: of logicals it is `<>`"),
-    (&["shl", "shr"], "there is no shift: `X * 16`, `X div 16`"),
+    (
+        &["xor"],
+        None,
+        "there is no exclusive or: of logicals it is `<>`",
+    ),
+    (
+        &["shl", "shr"],
+        None,
+        "there is no shift: `X * 16`, `X div 16`",
+    ),
     (
         &["inout"],
+        None,
         "one process reads a channel, and another one writes it: `in U`, `out W`",
     ),
     (
-        &["go", "spawn", "cobegin", "parbegin"],
+        &["to", "into"],
+        Some(Keyword::On),
+        "a value is sent by `send E on C`",
+    ),
+    (
+        &["go", "call", "spawn", "cobegin", "parbegin"],
+        None,
         "nothing starts an instance: it is `p(A, B)`, and `par` stands between two",
     ),
 ];
 
 /// Those that are told of where they begin a statement.
-pub(crate) const ACTING: [Told; 6] = [
+const ACTING: [Told; 6] = [
     (
         &["select", "alt"],
+        None,
         "there is no choice among channels, since timing can't matter: a process waits on one at a time",
     ),
     (
         &["case", "switch"],
+        None,
         "a choice is `if E then S else if F then T else ..`",
     ),
     (
-        &["recv", "receive", "get", "read"],
+        &["recv", "receive", "get", "read", "take", "await", "waits"],
+        None,
         "a statement takes a value by `X := wait(C)`",
     ),
     (
-        &["put", "emit", "write"],
+        &["put", "emit", "write", "push", "sends", "give"],
+        Some(Keyword::Send),
         "a statement sends a value by `send E on C`",
     ),
     (
-        &["writeln", "println", "printf", "echo"],
+        &["writeln", "println", "printf", "echo", "prints"],
+        Some(Keyword::Print),
         "a statement prints a value by `print E`",
     ),
     (
         &["skip", "pass", "null", "nop"],
+        None,
         "a statement that does nothing is empty, or `begin end`",
     ),
 ];
 
-/// What is said of a word, where it is one of these.
-fn told_word(told: &[Told], word: &[u8]) -> Option<&'static str> {
+/// Those that are told of where a value may stand.
+const GIVING: [Told; 1] = [(
+    &["recv", "receive", "read", "get", "take", "await"],
+    Some(Keyword::Wait),
+    "a value is taken by `wait(C)`",
+)];
+
+/// A word of another language at a place, or before it.
+#[derive(Clone, Copy)]
+pub(crate) struct Foreign {
+    /// Where it stands.
+    pub(crate) spot: Spot,
+    /// The keyword in its place.
+    pub(crate) put: Option<Keyword>,
+    /// What is said of it.
+    pub(crate) words: &'static str,
+}
+
+/// The row of a word, where it is one of these.
+fn told_word(told: &'static [Told], word: &[u8]) -> Option<(Option<Keyword>, &'static str)> {
     for row in told {
         if is_one_of(word, row.0) {
-            return Some(row.1);
+            return Some((row.1, row.2));
         }
     }
     None
@@ -135,22 +224,32 @@ fn free_name<'p>(place: Place<'p>, count: usize) -> &'p [u8] {
     name
 }
 
-/// What is said of a name that begins a statement.
-fn acting_words(place: Place) -> Option<&'static str> {
+/// One of these words so far before a place.
+fn foreign_in(told: &'static [Told], place: Place, count: usize) -> Option<Foreign> {
+    let (put, words) = told_word(told, free_name(place, count))?;
+    let spot = if count == 0 { Spot::Here } else { Spot::Before };
+    Some(Foreign { spot, put, words })
+}
+
+/// A name that begins a statement, or stands before a bracket among values.
+fn acting_word(place: Place) -> Option<Foreign> {
     if awaits(Class::Sign(Sign::Becomes), place.wanted) {
-        return told_word(&ACTING, free_name(place, 1));
+        return foreign_in(&ACTING, place, 1);
+    }
+    if finds(&[Class::Sign(Sign::Open)], found(place)) {
+        return foreign_in(&GIVING, place, 1);
     }
     None
 }
 
-/// What is said of a word of another language before a place, or at it.
-pub(crate) fn foreign_words(place: Place) -> Option<&'static str> {
-    if let Some(words) = told_word(&FOREIGN, free_name(place, 1)) {
-        return Some(words);
+/// A word of another language before a place, or at it.
+pub(crate) fn foreign_word(place: Place) -> Option<Foreign> {
+    if let Some(foreign) = foreign_in(&FOREIGN, place, 1) {
+        return Some(foreign);
     }
-    match told_word(&FOREIGN, free_name(place, 0)) {
-        Some(words) => Some(words),
-        None => acting_words(place),
+    match foreign_in(&FOREIGN, place, 0) {
+        Some(foreign) => Some(foreign),
+        None => acting_word(place),
     }
 }
 

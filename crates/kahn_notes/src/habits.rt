@@ -1,7 +1,7 @@
 //! The words for what stands as in another language, or without what belongs to it, and where each is said.
 
-use crate::advice::Habit;
 use crate::advice::Test::{All, First, May, MayNot, NotAll, Number, Operator, Value};
+use crate::advice::{Habit, Pair};
 use crate::classes::{ACTS, BEGINS, HANDS, OPERATES, STARTS, STOPS, WORDS};
 use kahn_syntax::Class::{Name, Sign, Word};
 use kahn_syntax::Keyword::{
@@ -42,51 +42,81 @@ pub(crate) const NESTED: [Habit; 4] = [
 ];
 
 /// Two signs that are one in other languages, or are told where they stand side by side.
-pub(crate) const SIGNS: [Habit; 10] = [
+pub(crate) const SIGNS: [Pair; 10] = [
     (
-        &[Sign(Open)],
-        &[Sign(Times)],
-        &[],
-        "a comment goes from `comment` to `;`",
+        "",
+        (
+            &[Sign(Open)],
+            &[Sign(Times)],
+            &[],
+            "a comment goes from `comment` to `;`",
+        ),
     ),
     (
-        &[Sign(Minus)],
-        &[Sign(Greater)],
-        &[],
-        "there is no arrow: `send E on C`, `X := wait(C)`",
-    ),
-    (&[Sign(Equal)], &[Sign(Equal)], &[], "equal is one `=`"),
-    (&[Sign(Equal)], &[Sign(Less)], &[], "at most is `<=`"),
-    (&[Sign(Equal)], &[Sign(Greater)], &[], "at least is `>=`"),
-    (
-        &[Sign(Less)],
-        &[Sign(Less)],
-        &[],
-        "there is no shift: `X * 16`, `X div 16`",
+        "",
+        (
+            &[Sign(Minus)],
+            &[Sign(Greater)],
+            &[],
+            "there is no arrow: `send E on C`, `X := wait(C)`",
+        ),
     ),
     (
-        &[Sign(Greater)],
-        &[Sign(Greater)],
-        &[],
-        "there is no shift: `X * 16`, `X div 16`",
+        "=",
+        (&[Sign(Equal)], &[Sign(Equal)], &[], "equal is one `=`"),
     ),
     (
-        &[Sign(Times)],
-        &[Sign(Times)],
-        &[],
-        "there is no power: `X * X`",
+        "<=",
+        (&[Sign(Equal)], &[Sign(Less)], &[], "at most is `<=`"),
     ),
     (
-        &[Sign(Becomes)],
-        &[Sign(Less)],
-        &[],
-        "a value is taken by `wait(C)`",
+        ">=",
+        (&[Sign(Equal)], &[Sign(Greater)], &[], "at least is `>=`"),
     ),
     (
-        &[],
-        &[Sign(Plus), Sign(Minus)],
-        &[May(Sign(Becomes))],
-        "there is no `++` and no `+=`: `X := X + 1`",
+        "",
+        (
+            &[Sign(Less)],
+            &[Sign(Less)],
+            &[],
+            "there is no shift: `X * 16`, `X div 16`",
+        ),
+    ),
+    (
+        "",
+        (
+            &[Sign(Greater)],
+            &[Sign(Greater)],
+            &[],
+            "there is no shift: `X * 16`, `X div 16`",
+        ),
+    ),
+    (
+        "",
+        (
+            &[Sign(Times)],
+            &[Sign(Times)],
+            &[],
+            "there is no power: `X * X`",
+        ),
+    ),
+    (
+        "",
+        (
+            &[Sign(Becomes)],
+            &[Sign(Less)],
+            &[],
+            "a value is taken by `wait(C)`",
+        ),
+    ),
+    (
+        "",
+        (
+            &[],
+            &[Sign(Plus), Sign(Minus)],
+            &[May(Sign(Becomes))],
+            "there is no `++` and no `+=`: `X := X + 1`",
+        ),
     ),
 ];
 

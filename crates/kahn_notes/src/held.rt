@@ -1,10 +1,12 @@
 //! Which comment holds the declaration of a name that isn't declared.
 
-ghost use Rattle.std.specs.Prelude.{◌≡◌, IfOk, string_bytes};
+ghost use Rattle.std.specs.Prelude.{◌≡◌, ◌++◌, IfOk, string_bytes};
 ghost use Rattle.std.specs.List.{find};
-ghost use Rattle.kahn_notes.specs.Held.{begins_as, dark_part, has_name, held_text, holds_name, later_lines};
+ghost use Rattle.kahn_notes.specs.inner.Held.{begins_as, comment_text, dark_part, has_name, held_text, holds_name, later_lines, remark};
 
-use crate::commented::add_comment;
+use crate::commented::comment_words;
+use itoa::Buffer;
+use kahn_marks::{add, add_repeated};
 use kahn_syntax::Span;
 use kahn_wanted::{bytes_between, has_word, is_blank, is_of_word};
 use std::alloc::{AllocError, Global};
@@ -81,6 +83,38 @@ fn holder(text: &str, name: &[u8], comments: &[Span]) -> Option<Span>
         }
     }
     None
+}
+
+/// Adds a line below the carets under a part.
+fn add_remark(note: &mut String, text: &str, span: Span, words: &str) -> Result<(), AllocError>
+    ensures { IfOk result (λ _. string_bytes note.new ≡ string_bytes note.old ++ remark text.now span words.now) }
+{
+    let from = span.from.min(text.len());
+    let (line, _) = Span { from, to: from }.place(text);
+    let mut buffer = Buffer::new();
+    let number = buffer.format(line);
+    note.push_str(" ")?;
+    add_repeated(note, " ", number.len())?;
+    add(note, &[" = ", words, "\n"])
+}
+
+/// Adds what is said of a comment before a place, where there is one.
+fn add_comment(
+    note: &mut String,
+    alloc: Global,
+    text: &str,
+    span: Span,
+    comment: Option<Span>,
+) -> Result<(), AllocError>
+    ensures { IfOk result (λ _. string_bytes note.new ≡ string_bytes note.old ++ comment_text text.now span comment) }
+{
+    match comment {
+        Some(comment) => {
+            let words = comment_words(alloc, text, comment)?;
+            add_remark(note, text, span, words.as_str())
+        }
+        None => Ok(()),
+    }
 }
 
 /// What is said below a note of the comment that holds the declaration of the name at a place, where one of these does.

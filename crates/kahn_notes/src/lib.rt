@@ -3,9 +3,7 @@
 #![tactic(auto)]
 
 mod advice;
-mod below;
 mod blocks;
-mod changed;
 mod characters;
 mod choice;
 mod classes;
@@ -17,8 +15,11 @@ mod held;
 mod indent;
 mod layout;
 mod listing;
+mod mending;
 mod one;
 mod place;
+mod rules;
+mod said;
 mod spelling;
 mod split;
 mod unexpected;

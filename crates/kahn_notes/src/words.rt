@@ -93,3 +93,16 @@ pub(crate) fn group_words(group: Group) -> &'static str
         Group::Comparison => "a comparison",
     }
 }
+
+/// The letters of a keyword or a sign; none of another class.
+pub(crate) fn put_text(class: Class) -> &'static str {
+    let words = match class {
+        Class::Word(keyword) => return keyword.letters(),
+        Class::Sign(sign) => sign_words(sign),
+        Class::Name | Class::Number(_) => return "",
+    };
+    match words.get(1..words.len().saturating_sub(1)) {
+        Some(letters) => letters,
+        None => "",
+    }
+}

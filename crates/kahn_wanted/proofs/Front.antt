@@ -13,8 +13,7 @@ use Rattle.kahn_syntax.specs.Grammar.{Spells}
 use Rattle.kahn_syntax.proofs.Meaning.{terminals_append}
 use Rattle.kahn_syntax.proofs.OneList.{same_lexemes}
 use Rattle.kahn_syntax.proofs.Reached.{le_or}
-use Rattle.kahn_wanted.specs.Mends.{IsPlace}
-use Rattle.kahn_wanted.specs.Wanted.{AreWanted, IsAtFault, IsInstead}
+use Rattle.kahn_wanted.specs.Wanted.{AreWanted, IsAtFault, IsInstead, IsPlace}
 use Rattle.kahn_wanted.specs.declared.found.Unexpected.{Unexpected}
 use Rattle.kahn_wanted.specs.inner.Asked.{StandsBehind}
 

@@ -1,6 +1,5 @@
 pub mod Blocks
 pub mod Comments
-pub mod Mends
 pub mod Swallowing
 pub mod Wanted
 pub mod inner

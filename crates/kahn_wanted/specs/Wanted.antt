@@ -1,5 +1,5 @@
 -- Believed. Which lexemes may stand at a place of a text.
-use Rattle.std.specs.Prelude.{◌≡◌, ◌↔◌, ℕ, List, [], ◌∷◌, ◌++◌, pos, Some, None, Contains, flat_map}
+use Rattle.std.specs.Prelude.{◌≡◌, ◌↔◌, ℕ, List, [], ◌∷◌, ◌++◌, pos, Some, None, Contains, flat_map, length, slice_get}
 use Rattle.kahn_streams.specs.declared.span.Span.{Span}
 use Rattle.kahn_syntax.specs.declared.lexeme.Class.{Class}
 use Rattle.kahn_syntax.specs.declared.lexeme.Class.TheVariants as class
@@ -63,6 +63,11 @@ AreWanted before w = (text : List ℕ) (x : Lexeme) → let k = terminal text x.
 abbrev pub IsInstead : List ℕ → List Lexeme → Span → Unexpected → Type 0
 IsInstead text xs span u = (before : List Lexeme) × (x : Lexeme) × (after : List Lexeme) × (xs ≡ before ++ x ∷ after) × (span ≡ x.span) × (u.found ≡ Some x)
     × AreWanted (terminals text before) u.wanted
+
+-- the place of the lexeme with this span, or the end
+abbrev pub IsPlace : List Lexeme → Span → What → ℕ → Type 0
+IsPlace xs span More i = i ≡ length xs
+IsPlace xs span what i = (x : Lexeme) × (slice_get xs i ≡ Some x) × (span ≡ x.span)
 
 -- What stands where a text goes wrong, which is nothing at its end, and what may stand there.
 abbrev pub IsAtFault : List ℕ → List Lexeme → Span → What → Unexpected → Type 0

@@ -1,5 +1,4 @@
 pub mod Asked
 pub mod Open
 pub mod Passing
-pub mod Tried
 pub mod Walk

@@ -1,15 +1,13 @@
 //! What stands where a text goes wrong, and what may stand there.
 
-ghost use Rattle.std.specs.Prelude.{◌≡◌, ◌≤◌, ◌<◌, List, ℕ, IfOk, length, slice_index_or};
+ghost use Rattle.std.specs.Prelude.{◌≡◌, ◌≤◌, ◌<◌, List, ℕ, IfOk, length, slice_get, slice_index_or, take};
 ghost use Rattle.kahn_syntax.specs.declared.fault.SyntaxFault.TheVariants.{Expected};
 ghost use Rattle.kahn_syntax.specs.declared.lexeme.Lexeme.{Lexeme};
-ghost use Rattle.kahn_syntax.specs.Texts.{IsFault, IsTextFault, terminals};
-ghost use Rattle.kahn_wanted.specs.Wanted.{AreWanted, IsAtFault, IsUnexpected};
+ghost use Rattle.kahn_syntax.specs.Texts.{BeginsWithin, IsFault, IsTextFault, terminals};
+ghost use Rattle.kahn_wanted.specs.Wanted.{AreWanted, IsAtFault, IsPlace, IsUnexpected};
 
 use crate::asked::{CLASSES, coming};
-use crate::changes::lexeme_at;
 use crate::groups::{Wanted, grouped};
-use crate::mended::place_of;
 use kahn_streams::NoMemory;
 use kahn_syntax::{Lexeme, Span, What, lex};
 use std::alloc::{AllocError, Global};
@@ -23,6 +21,24 @@ pub struct Unexpected {
     pub wanted: Wanted,
 }
 
+/// A place where a text goes wrong.
+#[derive(Drop)]
+pub struct Place {
+    /// The lexemes of the text.
+    pub lexemes: Vec<Lexeme>,
+    /// How many of them stand before the place.
+    pub number: usize,
+    /// What stands there, and what may stand there.
+    pub unexpected: Unexpected,
+}
+
+/// The lexeme at a place.
+fn lexeme_at(lexemes: &[Lexeme], number: usize) -> Option<Lexeme>
+    ensures { result ≡ slice_get lexemes.now number }
+{
+    lexemes.get(number).copied()
+}
+
 /// What may stand behind lexemes.
 fn wanted_behind(alloc: Global, before: &[Lexeme]) -> Result<Wanted, AllocError>
     ensures { IfOk result (λ wanted. (text : List ℕ) → AreWanted (terminals text before.now) wanted) }
@@ -32,7 +48,7 @@ fn wanted_behind(alloc: Global, before: &[Lexeme]) -> Result<Wanted, AllocError>
 }
 
 /// How many lexemes stand before the first one with this span.
-pub(crate) fn count_before(lexemes: &[Lexeme], span: Span) -> usize
+fn count_before(lexemes: &[Lexeme], span: Span) -> usize
     ensures within { result ≤ length lexemes.now }
     ensures found { (d : Lexeme) → result < length lexemes.now → (slice_index_or lexemes.now result d).span ≡ span }
     ensures first { (k : ℕ) (d : Lexeme) → k < result → ¬ ((slice_index_or lexemes.now k d).span ≡ span) }
@@ -43,6 +59,20 @@ pub(crate) fn count_before(lexemes: &[Lexeme], span: Span) -> usize
         }
     }
     lexemes.len()
+}
+
+/// How many lexemes stand before a fault.
+fn place_of(_text: &str, lexemes: &[Lexeme], span: Span, what: What) -> usize
+    requires { IsFault _text.now lexemes.now (Expected span what) }
+    ensures place { IsPlace lexemes.now span what result }
+    ensures within { result ≤ length lexemes.now }
+    ensures led { BeginsWithin (terminals _text.now (take result lexemes.now)) }
+{
+    match what {
+        What::More => lexemes.len(),
+        What::Nothing => count_before(lexemes, span),
+        What::Other => count_before(lexemes, span),
+    }
 }
 
 /// What stands where lexemes go wrong, and what may stand there.
@@ -64,13 +94,19 @@ fn wanted_of(
     })
 }
 
-/// What stands where a text goes wrong, and what may stand there. It refuses only where memory was refused.
-pub fn wanted_at(alloc: Global, text: &str, span: Span, what: What) -> Result<Unexpected, NoMemory>
+/// The place where a text goes wrong, which is read into lexemes once. It refuses only where memory was refused.
+pub fn place_at(alloc: Global, text: &str, span: Span, what: What) -> Result<Place, NoMemory>
     requires { IsTextFault text.now (Expected span what) }
-    ensures { IfOk result (IsUnexpected text.now span what) }
+    ensures { IfOk result (λ place. IsUnexpected text.now span what place.unexpected) }
 {
     let Ok(lexemes) = lex(alloc, text) else {
         return Err(NoMemory);
     };
-    wanted_of(alloc, text, &lexemes, span, what)
+    let unexpected = wanted_of(alloc, text, &lexemes, span, what)?;
+    let number = place_of(text, &lexemes, span, what);
+    Ok(Place {
+        lexemes,
+        number,
+        unexpected,
+    })
 }

@@ -4,24 +4,20 @@
 mod asked;
 mod awaited;
 mod blocks;
-mod changes;
 mod comments;
-mod farther;
 mod found;
 mod grammar;
 mod groups;
 mod leads;
-mod mended;
+mod reached;
 mod swallowing;
 mod walk;
 
 pub use blocks::{Block, open_behind};
-pub use changes::{Change, Spot};
 pub use comments::{comment_before, comments_of};
-pub use farther::{Farther, farther_at};
-pub use found::{Unexpected, wanted_at};
+pub use found::{Place, Unexpected, place_at};
 pub use groups::{Group, Wanted};
-pub use mended::{Mends, mends_at};
+pub use reached::{Change, Reach, Spot, reaches};
 pub use swallowing::swallows;
 
 // For the crates above.

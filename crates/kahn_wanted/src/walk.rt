@@ -13,7 +13,7 @@ use std::alloc::{AllocError, Global};
 
 /// Goes on to what is open behind a lexeme, the part that comes first last. It tells whether the lexeme may stand there; where it may
 /// not, nothing is open.
-fn pass(stack: &mut Vec<Awaited>, class: Class) -> Result<bool, AllocError>
+pub(crate) fn pass(stack: &mut Vec<Awaited>, class: Class) -> Result<bool, AllocError>
     ensures { IfOk result (Passes stack.old.items class stack.new.items) }
 {
     'parts: while let Some(part) = stack.pop() {

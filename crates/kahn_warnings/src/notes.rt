@@ -1,18 +1,16 @@
 //! How warnings are told.
 
-ghost use Rattle.std.specs.Prelude.{◌≡◌, ◌++◌, IfOk, flat_map, string_bytes};
-ghost use Rattle.kahn_warnings.specs.Telling.{AreWarningNotes, end_note, last_byte, warning_note, warning_words, warnings_text};
+ghost use Rattle.std.specs.Prelude.{◌≡◌, IfOk};
+ghost use Rattle.kahn_warnings.specs.Telling.{AreNotesOf, AreWarningNotes, note_place, warning_place};
 
 use crate::program::warnings;
 use crate::warning::{Warning, WarningKind};
-use kahn_marks::{MOST_NOTES, add_more, first_ones, marked_too, marked_warning};
+use kahn_marks::{Note, Other, Sort, simple};
 use kahn_streams::{NoMemory, Program, Span};
 use std::alloc::{AllocError, Global};
 
 /// What is said of a warning.
-fn warning_words(kind: WarningKind) -> &'static str
-    ensures { result.now ≡ warning_words kind }
-{
+fn warning_words(kind: WarningKind) -> &'static str {
     match kind {
         WarningKind::LongComment =>
             "comment goes on to a later line, over what reads like a statement",
@@ -39,92 +37,44 @@ fn warning_words(kind: WarningKind) -> &'static str
     }
 }
 
-/// The last byte of a part.
-fn last_byte(span: Span) -> Span
-    ensures { result ≡ last_byte span }
-{
-    Span {
-        from: span.to.saturating_sub(1),
-        to: span.to,
-    }
+/// The end of a comment.
+fn end_of(alloc: Global, warning: Warning) -> Result<Other, AllocError> {
+    let to = warning.span.to;
+    let span = Span {
+        from: to.saturating_sub(1),
+        to,
+    };
+    let words = String::from_str(alloc, "comment ends here")?;
+    Ok(Other { span, words })
 }
 
-/// Adds the note on the end of a comment.
-fn add_end(
-    notes: &mut String,
-    alloc: Global,
-    path: &str,
-    text: &str,
-    warning: Warning,
-) -> Result<(), AllocError>
-    ensures { IfOk result (λ _. string_bytes notes.new ≡ string_bytes notes.old ++ end_note path.now text.now warning.kind warning.span) }
-{
-    if let WarningKind::LongComment = warning.kind {
-        let last = last_byte(warning.span);
-        let note = marked_too(alloc, path, text, last, "comment ends here")?;
-        notes.push_str(note.as_str())?;
-    }
-    Ok(())
-}
-
-/// Adds the note on a warning.
-fn add_note(
-    notes: &mut String,
-    alloc: Global,
-    path: &str,
-    text: &str,
-    warning: Warning,
-) -> Result<(), AllocError>
-    ensures { IfOk result (λ _. string_bytes notes.new ≡ string_bytes notes.old ++ warning_note path.now text.now warning) }
+/// The note on a warning.
+fn note_of(alloc: Global, warning: Warning) -> Result<Note, AllocError>
+    ensures { IfOk result (λ note. note_place note ≡ warning_place warning) }
 {
     let words = warning_words(warning.kind);
-    let note = marked_warning(alloc, path, text, warning.span, words)?;
-    notes.push_str(note.as_str())?;
-    add_end(notes, alloc, path, text, warning)
-}
-
-/// Adds the notes on warnings.
-fn add_notes(
-    notes: &mut String,
-    alloc: Global,
-    path: &str,
-    text: &str,
-    warnings: &[Warning],
-) -> Result<(), AllocError>
-    ensures { IfOk result (λ _. string_bytes notes.new ≡ string_bytes notes.old ++ flat_map (warning_note path.now text.now) warnings.now) }
-{
-    for warning in warnings {
-        add_note(notes, alloc, path, text, *warning)?;
+    let mut note = simple(alloc, Sort::Warning, warning.span, words)?;
+    if let WarningKind::LongComment = warning.kind {
+        note.others.push(end_of(alloc, warning)?)?;
     }
-    Ok(())
+    Ok(note)
 }
 
-/// The notes on the first 20 warnings, and how many more there are.
-fn notes_of(
-    alloc: Global,
-    path: &str,
-    text: &str,
-    warnings: &[Warning],
-) -> Result<String, AllocError>
-    ensures { IfOk result (λ notes. string_bytes notes ≡ warnings_text path.now text.now warnings.now) }
+/// The notes on warnings.
+fn notes_of(alloc: Global, warnings: &[Warning]) -> Result<Vec<Note>, AllocError>
+    ensures { IfOk result (λ notes. AreNotesOf warnings.now notes.items) }
 {
-    let (told, more) = first_ones(warnings, MOST_NOTES);
-    let mut notes = String::new(alloc);
-    add_notes(&mut notes, alloc, path, text, told)?;
-    add_more(&mut notes, "", "warning", more.len())?;
+    let mut notes = Vec::new(alloc);
+    for warning in warnings {
+        notes.push(note_of(alloc, *warning)?)?;
+    }
     Ok(notes)
 }
 
-/// The notes on what is warned of in a program of this text, at most 20 of them, and how many more there are; the empty text where
-/// there is nothing to warn of. It refuses only where memory was refused.
-pub fn warning_notes(
-    alloc: Global,
-    path: &str,
-    text: &str,
-    program: &Program,
-) -> Result<String, NoMemory>
-    ensures { IfOk result (λ notes. AreWarningNotes path.now text.now program.now (string_bytes notes)) }
+/// The notes on what is warned of in a program of this text, in order. It refuses only where memory was refused.
+pub fn warning_notes(alloc: Global, text: &str, program: &Program) -> Result<Vec<Note>, NoMemory>
+    ensures { IfOk result (λ notes. AreWarningNotes text.now program.now notes.items) }
 {
     let warnings = warnings(alloc, program, text)?;
-    Ok(notes_of(alloc, path, text, &warnings)?)
+    Ok(notes_of(alloc, &warnings)?)
 }

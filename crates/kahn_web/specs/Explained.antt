@@ -20,7 +20,7 @@ IsRunExplained program input bound text = (t : Program) × (a : Answer) × (fed 
     × IsChecked program t × IsRunAlone t input bound a × AreAllowed (codes "program") program false notes
     × StandsFor t input fed × IsExplained (codes "program") program t (Some fed) a e × (text ≡ notes ++ string_bytes e.text)
 
--- the note on the fault of the input of a program, where it is called `input`
+-- the note on the fault of the input of a program, which is called `input`
 abbrev pub IsInputRefused : List ℕ → List ℕ → List ℕ → Type 0
 IsInputRefused program input text = (t : Program) × (fault : TextFault) × (came : Came) × IsChecked program t × IsInputTextFault t input fault
     × HasToldInput (codes "input") program input fault (Some []) (Some text) (Ok came)

@@ -6,6 +6,5 @@ pub mod Parts
 pub mod Refused
 pub mod Right_ends
 pub mod Stands
-mod Sublists
 mod Unfed
 mod Waiting

@@ -1,9 +1,26 @@
--- Notes one behind another.
-use Rattle.std.proofs.Common.{◌≡◌, ℕ, List, ◌∷◌, ◌++◌, ◌∙◌, append_assoc}
-use Rattle.std.specs.Prelude.{codes}
-use Rattle.kahn_why.specs.Noting.{after_blank_lines}
+-- Notes in lines, one behind another.
+use Rattle.std.proofs.Common.{◌≡◌, ℕ, List, ◌++◌, ◌∙◌, All, ap, append_assoc}
+use Rattle.std.proofs.lemmas.List.Elements.{All-weaker}
+use Rattle.kahn_marks.specs.Notes.{IsRendered}
+use Rattle.kahn_marks.specs.declared.rendering.Note.{Note}
+use Rattle.kahn_why.specs.Noting.{HasShown, StandsIn}
 
--- one note more, behind a blank line
-pub one_further : (old note : List ℕ) (texts : List (List ℕ)) → ((old ++ codes "\n") ++ note) ++ after_blank_lines texts ≡ old ++ after_blank_lines (note ∷ texts)
-one_further old note texts =
-    append_assoc (old ++ codes "\n") note (after_blank_lines texts) ∙ append_assoc old (codes "\n") (note ++ after_blank_lines texts)
+-- what stands in lines stands in longer ones
+longer : (path text old more new : List ℕ) → new ≡ old ++ more → (n : Note) → StandsIn path text old n → StandsIn path text new n
+longer path text old more new is n (before, one, behind, rendered, e) = (
+  before,
+  one,
+  behind ++ more,
+  rendered,
+  is ∙ ap (λ l. l ++ more) e ∙ append_assoc before (one ++ behind) more ∙ ap (λ l. before ++ l) (append_assoc one behind more),
+)
+
+pub all_longer : (path text old more new : List ℕ) (ns : List Note) → new ≡ old ++ more → All (StandsIn path text old) ns → All (StandsIn path text new) ns
+all_longer path text old more new ns is all = All-weaker (StandsIn path text old) (StandsIn path text new) (longer path text old more new is) ns all
+
+-- one note more
+pub has_shown : (path text old before one behind first second new : List ℕ) (n : Note) → IsRendered path text n one → first ≡ old ++ before → second ≡ first ++ one
+    → new ≡ second ++ behind → HasShown path text n old new
+has_shown path text old before one behind first second new n rendered a b c =
+    let e : new ≡ (old ++ before) ++ (one ++ behind) = c ∙ ap (λ l. l ++ behind) (b ∙ ap (λ l. l ++ one) a) ∙ append_assoc (old ++ before) one behind in
+    (before ++ (one ++ behind), e ∙ append_assoc old before (one ++ behind), (old ++ before, one, behind, rendered, e))

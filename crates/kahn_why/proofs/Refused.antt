@@ -1,6 +1,6 @@
 -- Notes on faults of a program text.
 use Rattle.std.proofs.Common.{◌≡◌, ℕ, List, [], ◌∷◌, Option, Some, None, Err, inr, refl, sym, subst, ap, ◌∙◌, string_bytes}
-use Rattle.std.specs.Prelude.{MatchOption}
+use Rattle.std.specs.Prelude.{IfSome, MatchOption}
 use Rattle.std.specs.declared.alloc.Global.{Global}
 use Rattle.std.specs.declared.string.String.{String}
 use Rattle.kahn_streams.specs.declared.span.Span.{Span}
@@ -13,12 +13,12 @@ use Rattle.kahn_syntax.specs.declared.fault.SyntaxFault.{SyntaxFault}
 use Rattle.kahn_syntax.specs.declared.fault.SyntaxFault.TheVariants.{Expected}
 use Rattle.kahn_syntax.specs.Texts.{IsTextFault}
 use Rattle.kahn_fault.specs.Message.{syntax_span}
-use Rattle.kahn_notes.specs.Notes.{IsCommented, IsNote}
-use Rattle.kahn_wanted.specs.Comments.{AreComments}
+use Rattle.kahn_marks.specs.declared.rendering.Note.{Note}
+use Rattle.kahn_notes.specs.Notes.{IsNoteAt, Mends}
 use Rattle.kahn_report.specs.Work.{IsParsed}
 use Rattle.kahn_report.specs.declared.working.WorkFault.TheVariants.{Check, Syntax}
-use Rattle.kahn_why.specs.Refusing.{AreToldFaults, IsNoteOn, IsPlacedNote, IsRefusal, IsSyntaxRefusal, expected_of, refused_words}
-use Rattle.kahn_why.specs.Noting.{faults_text}
+use Rattle.kahn_why.specs.Refusing.{IsNoteOn, IsPlacedNote, IsRefusal, IsRefusedWords, IsSyntaxNote, IsSyntaxRefusal, expected_of}
+use Rattle.kahn_why.specs.Noting.{AreFaultLines}
 
 abbrev unwrapped : Span × What → Option (Span × What) → Span × What
 unwrapped d None = d
@@ -31,33 +31,31 @@ expected program (Expected s w) span what e h =
 expected program f span what e h = absurd cc
 
 -- what is said of a lexeme that can't stand
-pub told_expected : (path program : List ℕ) (f : SyntaxFault) (span : Span) (what : What) (words : String Global) → expected_of f ≡ Some (span, what)
-    → IsNote path program span what words → IsSyntaxRefusal path program f (Some words)
-told_expected path program f span what words e h =
-    subst (λ o. MatchOption o (IsPlacedNote path program f (Some words))
-    (λ p. (w : String Global) × (Some words ≡ Some w) × IsNote path program p.0 p.1 w)) (sym e) (words, refl, h)
+pub told_expected : (program : List ℕ) (f : SyntaxFault) (span : Span) (what : What) (n : Note) → expected_of f ≡ Some (span, what)
+    → IsNoteAt program span what n → IsSyntaxNote program f (Some n)
+told_expected program f span what n e h =
+    subst (λ o. MatchOption o (IsPlacedNote program f (Some n)) (λ p. (m : Note) × (Some n ≡ Some m) × IsNoteAt program p.0 p.1 m)) (sym e) (n, refl, h)
 
 -- of a fault that has a place
-pub told_placed : (path program : List ℕ) (f : SyntaxFault) (span : Span) (words : List ℕ) (note : String Global) → syntax_span f ≡ Some span
-    → words ≡ refused_words program f → IsCommented path program span words (string_bytes note) → IsPlacedNote path program f (Some note)
-told_placed path program f span words note e is h =
-    subst (λ o. MatchOption o (Some note ≡ None) (λ at. (w : String Global) × (Some note ≡ Some w) × IsCommented path program at (refused_words program f) (string_bytes w))) (sym e)
-    (note, refl, subst (λ l. IsCommented path program span l (string_bytes note)) is h)
+pub told_placed : (program : List ℕ) (f : SyntaxFault) (span : Span) (n : Note) → syntax_span f ≡ Some span → n.span ≡ span → IsRefusedWords f (string_bytes n.words)
+    → IfSome n.fix (Mends program span) → IsPlacedNote program f (Some n)
+told_placed program f span n e there is mends =
+    subst (λ o. MatchOption o (Some n ≡ None)
+    (λ at. (m : Note) × (Some n ≡ Some m) × (m.span ≡ at) × IsRefusedWords f (string_bytes m.words) × IfSome m.fix (Mends program at))) (sym e)
+    (n, refl, there, is, mends)
 
 -- and of the others
-pub told_other : (path program : List ℕ) (f : SyntaxFault) (note : Option (String Global)) → expected_of f ≡ None
-    → IsPlacedNote path program f note → IsSyntaxRefusal path program f note
-told_other path program f note e h =
-    subst (λ o. MatchOption o (IsPlacedNote path program f note)
-    (λ p. (w : String Global) × (note ≡ Some w) × IsNote path program p.0 p.1 w)) (sym e) h
+pub told_other : (program : List ℕ) (f : SyntaxFault) (note : Option Note) → expected_of f ≡ None → IsPlacedNote program f note → IsSyntaxNote program f note
+told_other program f note e h =
+    subst (λ o. MatchOption o (IsPlacedNote program f note) (λ p. (m : Note) × (note ≡ Some m) × IsNoteAt program p.0 p.1 m)) (sym e) h
 
 -- what is said of the faults of the network
-pub told_faults : (path program : List ℕ) (t : Program) (cs : List Span) (fs told : List CheckFault) (words : String Global) → IsParsed program t → AreComments program 0 cs → (fs ≡ [] → ⊥) → fs ≡ faults_by_part t →
-    verdict (faults_by_part t) (tt {0}) ≡ verdict (faults t) (tt {0}) → AreToldFaults fs told → string_bytes words ≡ faults_text path program t cs told → IsNoteOn path program words
-told_faults path program t cs [] told words parsed are some all first kept is = absurd (some refl)
-told_faults path program t cs (g ∷ gs) told words parsed are some all first kept is =
+pub told_faults : (path program : List ℕ) (t : Program) (fs : List CheckFault) (lines : String Global) → IsParsed program t → (fs ≡ [] → ⊥) → fs ≡ faults_by_part t →
+    verdict (faults_by_part t) (tt {0}) ≡ verdict (faults t) (tt {0}) → AreFaultLines path program fs (string_bytes lines) → IsNoteOn path program lines
+told_faults path program t [] lines parsed some all first are = absurd (some refl)
+told_faults path program t (g ∷ gs) lines parsed some all first are =
     let met : verdict (faults t) (tt {0}) ≡ Err g = sym first ∙ ap (λ z. verdict z (tt {0})) (sym all) in
-    (Check g, (t, parsed, inr met), (t, cs, parsed, are, met, told, subst (λ l. AreToldFaults l told) all kept, is))
+    (Check g, (t, parsed, inr met), (t, parsed, met, subst (λ l. AreFaultLines path program l (string_bytes lines)) all are))
 
 -- what is said of a fault of the text, as the note on it
 pub told_syntax : (path program : List ℕ) (f : SyntaxFault) (note : Option (String Global)) → IsTextFault program f → IsSyntaxRefusal path program f note →

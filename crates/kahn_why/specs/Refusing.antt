@@ -1,5 +1,5 @@
 -- Believed. The note on why a program text is refused.
-use Rattle.std.specs.Prelude.{◌≡◌, ◌⊎◌, ◌++◌, ℕ, All, Bool, true, Contains, List, [], Option, Some, None, Err, MatchOption, string_bytes}
+use Rattle.std.specs.Prelude.{◌≡◌, ◌⊎◌, ◌++◌, ℕ, All, Bool, true, Contains, List, [], Option, Some, None, Err, IfSome, MatchOption, string_bytes}
 use Rattle.std.specs.declared.alloc.Global.{Global}
 use Rattle.std.specs.declared.string.String.{String}
 use Rattle.kahn_streams.specs.declared.span.Span.{Span}
@@ -13,41 +13,46 @@ use Rattle.kahn_syntax.specs.declared.fault.SyntaxFault.TheVariants.{Expected}
 use Rattle.kahn_report.specs.declared.working.WorkFault.{WorkFault}
 use Rattle.kahn_report.specs.declared.working.WorkFault.TheVariants.{Syntax, Check, Text, Run, Write}
 use Rattle.kahn_fault.specs.Message.{check_span, syntax_span, syntax_words}
-use Rattle.kahn_notes.specs.Characters.{character_help}
-use Rattle.kahn_notes.specs.Notes.{IsCommented, IsNote}
-use Rattle.kahn_wanted.specs.Comments.{AreComments}
+use Rattle.kahn_marks.specs.Notes.{IsRendered}
+use Rattle.kahn_marks.specs.declared.rendering.Note.{Note}
+use Rattle.kahn_notes.specs.Notes.{IsNoteAt, Mends}
 use Rattle.kahn_report.specs.Work.{IsChecked, IsParsed, IsUnchecked}
-use Rattle.kahn_warnings.specs.Telling.{AreWarningNotes}
-use Rattle.kahn_why.specs.Noting.{faults_text}
+use Rattle.kahn_why.specs.Noting.{AreFaultLines, AreWarningLines}
 
 -- the place and the reason, where a lexeme can't stand or the text ends too early
 abbrev pub expected_of : SyntaxFault → Option (Span × What)
 expected_of (Expected span what) = Some (span, what)
 expected_of _ = None
 
--- the words of a fault, with what the language has in the place of a character that it hasn't
-abbrev pub refused_words : List ℕ → SyntaxFault → List ℕ
-refused_words program f = syntax_words f ++ character_help program f
+-- the words of a fault, and behind them what the language has in the place of a character that it hasn't
+abbrev pub IsRefusedWords : SyntaxFault → List ℕ → Type 0
+IsRefusedWords f words = (help : List ℕ) × (words ≡ syntax_words f ++ help)
 
--- at its place, where it has one, with a comment before it that has to do with it
-abbrev pub IsPlacedNote : List ℕ → List ℕ → SyntaxFault → Option (String Global) → Type 0
-IsPlacedNote path program f note = MatchOption (syntax_span f) (note ≡ None)
-    (λ span. (words : String Global) × (note ≡ Some words) × IsCommented path program span (refused_words program f) (string_bytes words))
+-- the note at the place of a fault, where it has one, with a change that mends it or none
+abbrev pub IsPlacedNote : List ℕ → SyntaxFault → Option Note → Type 0
+IsPlacedNote program f note = MatchOption (syntax_span f) (note ≡ None)
+    (λ span. (n : Note) × (note ≡ Some n) × (n.span ≡ span) × IsRefusedWords f (string_bytes n.words) × IfSome n.fix (Mends program span))
 
--- of such a lexeme it says what may stand there; else it has the words of the fault, where that has a place
+-- of a lexeme that can't stand it tells what may stand there; else it has the words of the fault, where that has a place
+abbrev pub IsSyntaxNote : List ℕ → SyntaxFault → Option Note → Type 0
+IsSyntaxNote program f note = MatchOption (expected_of f)
+    (IsPlacedNote program f note)
+    (λ e. (n : Note) × (note ≡ Some n) × IsNoteAt program e.0 e.1 n)
+
+-- a note in lines, where there is one
+abbrev pub IsRenderedAs : List ℕ → List ℕ → Option Note → Option (String Global) → Type 0
+IsRenderedAs path program (Some n) (Some lines) = IsRendered path program n (string_bytes lines)
+IsRenderedAs path program None None = Unit {0}
+IsRenderedAs path program (Some n) None = ⊥
+IsRenderedAs path program None (Some lines) = ⊥
+
 abbrev pub IsSyntaxRefusal : List ℕ → List ℕ → SyntaxFault → Option (String Global) → Type 0
-IsSyntaxRefusal path program f note = MatchOption (expected_of f)
-    (IsPlacedNote path program f note)
-    (λ e. (words : String Global) × (note ≡ Some words) × IsNote path program e.0 e.1 words)
+IsSyntaxRefusal path program f lines = (note : Option Note) × IsSyntaxNote program f note × IsRenderedAs path program note lines
 
--- these are some of the faults, and none only where there is none: what seems to follow from another fault isn't told
-abbrev pub AreToldFaults : List CheckFault → List CheckFault → Type 0
-AreToldFaults fs told = All (Contains fs) told × (told ≡ [] → fs ≡ [])
-
--- of a fault of the network: the text spells a program whose first fault it is, and the note tells some of the faults of its parts
+-- of a fault of the network: the text spells a program whose first fault it is, and the lines are of notes on the faults of its parts
 abbrev pub IsNetworkNote : List ℕ → List ℕ → CheckFault → String Global → Type 0
-IsNetworkNote path program f words = (t : Program) × (cs : List Span) × IsParsed program t × AreComments program 0 cs × (verdict (faults t) (tt {0}) ≡ Err f)
-    × (told : List CheckFault) × AreToldFaults (faults_by_part t) told × (string_bytes words ≡ faults_text path program t cs told)
+IsNetworkNote path program f lines = (t : Program) × IsParsed program t × (verdict (faults t) (tt {0}) ≡ Err f)
+    × AreFaultLines path program (faults_by_part t) (string_bytes lines)
 
 -- where it has a place
 abbrev pub IsCheckRefusal : List ℕ → List ℕ → CheckFault → Option (String Global) → Type 0
@@ -67,7 +72,7 @@ IsNoteOn path program note = (f : WorkFault) × IsUnchecked program f × IsRefus
 
 -- the notes on what is warned of in the program of this text
 abbrev pub AreNotesOn : List ℕ → List ℕ → List ℕ → Type 0
-AreNotesOn path program notes = (t : Program) × IsChecked program t × AreWarningNotes path program t notes
+AreNotesOn path program lines = (t : Program) × IsChecked program t × AreWarningLines path program t lines
 
 -- and there are none where it is asked to be strict
 abbrev pub AreAllowed : List ℕ → List ℕ → Bool → List ℕ → Type 0

@@ -11,12 +11,18 @@ use Rattle.kahn_report.specs.declared.input.TextFault.{TextFault}
 use Rattle.kahn_report.specs.declared.working.WorkFault.{WorkFault}
 use Rattle.kahn_report.specs.declared.working.WorkFault.TheVariants.{Syntax, Check, Text, Run, Write}
 use Rattle.kahn_inputs.specs.Feeding.{IsInputNote}
+use Rattle.kahn_marks.specs.declared.rendering.Note.{Note}
+use Rattle.kahn_why.specs.Refusing.{IsRenderedAs}
 use Rattle.kahn_why.specs.declared.explaining.Came.{Came}
 use Rattle.kahn_why.specs.declared.explaining.Came.TheVariants.{Stopped, Refused}
 
--- the note on a fault of the input text, for the network of the program text
+-- a note on a fault of an input text in lines, where there is one
+abbrev pub AreInputLines : Program → List ℕ → List ℕ → TextFault → Option (String Global) → Type 0
+AreInputLines t path text fault lines = (note : Option Note) × IsInputNote t text fault note × IsRenderedAs path text note lines
+
+-- that of the fault, for the network of the program text
 abbrev pub IsNoteFor : List ℕ → List ℕ → List ℕ → TextFault → Option (String Global) → Type 0
-IsNoteFor path program text fault note = (t : Program) × IsChecked program t × IsInputNote t path text fault note
+IsNoteFor path program text fault lines = (t : Program) × IsChecked program t × AreInputLines t path text fault lines
 
 -- the note went out, or why not; the fault is answered where it has no place
 abbrev pub HasToldInput : List ℕ → List ℕ → List ℕ → TextFault → Option (List ℕ) → Option (List ℕ) → Result Came WorkFault → Type 0

@@ -4,11 +4,11 @@ ghost use Rattle.std.specs.Prelude.{◌≡◌, ◌++◌, Bool};
 ghost use Rattle.kahn_report.specs.Work.{IsUnchecked};
 ghost use Rattle.kahn_why.specs.inner.Told.{HasAdmitted, HasRefused, HasWritten, IsStrictAbout};
 
+use crate::noting::warned_lines;
 use crate::refusing::refusal_note;
 use crate::why::Told;
 use kahn_report::{WorkFault, checked, write_line};
 use kahn_streams::{Network, NoMemory, RunFault};
-use kahn_warnings::warning_notes;
 use std::alloc::Global;
 use std::io::Write;
 
@@ -83,7 +83,7 @@ pub fn admit<W: Write>(
         Ok(network) => network,
         Err(fault) => return Err(refuse(alloc, path, program, fault, writer)),
     };
-    let Ok(notes) = warning_notes(alloc, path, program, network.program()) else {
+    let Ok(notes) = warned_lines(alloc, path, program, network.program()) else {
         return Err(Err(WorkFault::Run(RunFault::NoMemory)));
     };
     if is_strict_about(strict, notes.as_str()) {

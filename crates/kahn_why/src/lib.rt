@@ -2,7 +2,6 @@
 #![tactic(auto)]
 
 mod explaining;
-mod kept;
 mod laws;
 mod noting;
 mod refusing;

@@ -4,12 +4,12 @@ ghost use Rattle.std.specs.Prelude.{◌≡◌, IfOk, MatchOption, None, string_b
 ghost use Rattle.kahn_report.specs.Work.{IsUnchecked};
 ghost use Rattle.kahn_syntax.specs.Texts.{IsTextFault as IsSyntaxFault};
 ghost use Rattle.kahn_fault.specs.Message.{check_span};
-ghost use Rattle.kahn_why.specs.Refusing.{IsNoteOn, IsPlacedNote, IsRefusal, IsSyntaxRefusal, expected_of, refused_words};
+ghost use Rattle.kahn_why.specs.Refusing.{IsNoteOn, IsPlacedNote, IsRefusal, IsRefusedWords, IsRenderedAs, IsSyntaxNote, IsSyntaxRefusal, expected_of};
 
-use crate::kept::kept;
 use crate::noting::faults_note;
 use kahn_check::{CheckFault, every, part_by_part};
 use kahn_fault::{check_span, syntax_span, syntax_words};
+use kahn_marks::{Note, render};
 use kahn_notes::{character_help, commented_note, unexpected_note};
 use kahn_report::WorkFault;
 use kahn_streams::{NoMemory, Span};
@@ -19,7 +19,7 @@ use std::alloc::{AllocError, Global};
 
 /// The words of a fault of a program text, with what the language has in the place of such a character.
 fn refused_words(alloc: Global, program: &str, fault: SyntaxFault) -> Result<String, AllocError>
-    ensures { IfOk result (λ words. string_bytes words ≡ refused_words program.now fault) }
+    ensures { IfOk result (λ words. IsRefusedWords fault (string_bytes words)) }
 {
     let mut words = String::from_str(alloc, syntax_words(fault))?;
     words.push_str(character_help(program, fault))?;
@@ -27,18 +27,13 @@ fn refused_words(alloc: Global, program: &str, fault: SyntaxFault) -> Result<Str
 }
 
 /// A note with the words of a fault, where that has a place.
-fn placed_note(
-    alloc: Global,
-    path: &str,
-    program: &str,
-    fault: SyntaxFault,
-) -> Result<Option<String>, NoMemory>
-    ensures { IfOk result (IsPlacedNote path.now program.now fault) }
+fn placed_note(alloc: Global, program: &str, fault: SyntaxFault) -> Result<Option<Note>, NoMemory>
+    ensures { IfOk result (IsPlacedNote program.now fault) }
 {
     match syntax_span(fault) {
         Some(span) => {
             let words = refused_words(alloc, program, fault)?;
-            let note = commented_note(alloc, path, program, span, words.as_str())?;
+            let note = commented_note(alloc, program, span, words.as_str())?;
             Ok(Some(note))
         }
         None => Ok(None),
@@ -56,7 +51,39 @@ fn expected_of(fault: SyntaxFault) -> Option<(Span, What)>
 }
 
 /// The note on a fault of the text, where it has a place.
-fn syntax_note(
+fn syntax_note(alloc: Global, program: &str, fault: SyntaxFault) -> Result<Option<Note>, NoMemory>
+    requires { IsSyntaxFault program.now fault }
+    ensures { IfOk result (IsSyntaxNote program.now fault) }
+{
+    match expected_of(fault) {
+        Some((span, what)) => {
+            let note = unexpected_note(alloc, program, span, what)?;
+            Ok(Some(note))
+        }
+        None => placed_note(alloc, program, fault),
+    }
+}
+
+/// A note in lines, where there is one.
+pub(crate) fn rendered(
+    alloc: Global,
+    path: &str,
+    program: &str,
+    note: &Option<Note>,
+) -> Result<Option<String>, AllocError>
+    ensures { IfOk result (IsRenderedAs path.now program.now note.now) }
+{
+    match note {
+        Some(note) => {
+            let lines = render(alloc, path, program, note)?;
+            Ok(Some(lines))
+        }
+        None => Ok(None),
+    }
+}
+
+/// The same in lines.
+fn syntax_refusal(
     alloc: Global,
     path: &str,
     program: &str,
@@ -65,13 +92,9 @@ fn syntax_note(
     requires { IsSyntaxFault program.now fault }
     ensures { IfOk result (IsSyntaxRefusal path.now program.now fault) }
 {
-    match expected_of(fault) {
-        Some((span, what)) => {
-            let note = unexpected_note(alloc, path, program, span, what)?;
-            Ok(Some(note))
-        }
-        None => placed_note(alloc, path, program, fault),
-    }
+    let note = syntax_note(alloc, program, fault)?;
+    let lines = rendered(alloc, path, program, &note)?;
+    Ok(lines)
 }
 
 /// The notes on what is wrong with the network of a program text, where its first fault has a place.
@@ -96,8 +119,7 @@ fn network_note(
     }
     part_by_part();
     let comments = comments_of(alloc, program)?;
-    let told = kept(alloc, program, &tree, &faults)?;
-    let note = faults_note(alloc, path, program, &tree, &comments, &told)?;
+    let note = faults_note(alloc, path, program, &tree, &comments, &faults)?;
     Ok(Some(note))
 }
 
@@ -115,7 +137,7 @@ pub(crate) fn refusal_note(
     ensures { IfOk result (λ note. MatchOption note (IsRefusal path.now program.now fault None) (IsNoteOn path.now program.now)) }
 {
     match fault {
-        WorkFault::Syntax(fault) => syntax_note(alloc, path, program, fault),
+        WorkFault::Syntax(fault) => syntax_refusal(alloc, path, program, fault),
         WorkFault::Check(fault) => network_note(alloc, path, program, fault),
         WorkFault::Text(_) => Ok(None),
         WorkFault::Run(_) => Ok(None),

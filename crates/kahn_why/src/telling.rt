@@ -1,13 +1,30 @@
 //! Tells why an input text is refused.
 
-ghost use Rattle.kahn_why.specs.Telling.{HasToldInput};
+ghost use Rattle.std.specs.Prelude.{IfOk};
+ghost use Rattle.kahn_why.specs.Telling.{AreInputLines, HasToldInput};
 
 use crate::explaining::{Came, write_both};
+use crate::refusing::rendered;
 use kahn_inputs::input_note;
 use kahn_report::{TextFault, WorkFault, checked};
-use kahn_streams::{NoMemory, RunFault};
+use kahn_streams::{Network, NoMemory, RunFault};
 use std::alloc::Global;
 use std::io::Write;
+
+/// The note on why an input text is refused, in lines, where that has a place.
+fn input_lines(
+    alloc: Global,
+    path: &str,
+    network: &Network,
+    text: &str,
+    fault: TextFault,
+) -> Result<Option<String>, NoMemory>
+    ensures { IfOk result (AreInputLines network.now path.now text.now fault) }
+{
+    let note = input_note(alloc, network, text, fault)?;
+    let lines = rendered(alloc, path, text, &note)?;
+    Ok(lines)
+}
 
 /// Writes why an input text is refused, where that has a place; the fault is answered where it has none.
 pub fn refuse_input<W: Write>(
@@ -24,7 +41,7 @@ pub fn refuse_input<W: Write>(
         Ok(network) => network,
         Err(fault) => return Err(fault),
     };
-    match input_note(alloc, path, &network, text, fault) {
+    match input_lines(alloc, path, &network, text, fault) {
         Ok(Some(note)) => write_both("", note.as_str(), Came::Refused, writer),
         Ok(None) => Err(WorkFault::Text(fault)),
         Err(NoMemory) => Err(WorkFault::Run(RunFault::NoMemory)),

@@ -5,9 +5,9 @@ use Rattle.kahn_streams.specs.declared.fault.RunFault.TheVariants.{NoMemory}
 use Rattle.kahn_report.specs.Work.{IsChecked, IsUnchecked}
 use Rattle.kahn_streams.specs.Written.{AppendsFront}
 use Rattle.kahn_write.specs.declared.bytes.WriteFault.{WriteFault}
-use Rattle.kahn_warnings.specs.Telling.{AreWarningNotes}
 use Rattle.kahn_report.specs.declared.working.WorkFault.{WorkFault}
 use Rattle.kahn_report.specs.declared.working.WorkFault.TheVariants.{Syntax, Check, Text, Run, Write}
+use Rattle.kahn_why.specs.Noting.{AreWarningLines}
 use Rattle.kahn_why.specs.Refusing.{IsRefusal, IsRefusedFor}
 use Rattle.kahn_why.specs.declared.explaining.Admitted.{Admitted}
 use Rattle.kahn_why.specs.declared.explaining.Came.{Came}
@@ -25,7 +25,7 @@ IsStrictAbout strict notes false = strict ≡ true → notes ≡ []
 -- the network of the program text, which isn't refused, and the notes on what is warned of in it
 pub record IsAdmitted (path program : List ℕ) (strict : Bool) (x : Admitted) : Type 0 where
   pub checked : IsChecked program x.network
-  pub notes : AreWarningNotes path program x.network (string_bytes x.notes)
+  pub notes : AreWarningLines path program x.network (string_bytes x.notes)
   pub none : strict ≡ true → string_bytes x.notes ≡ []
 
 -- why the program text is refused went out, or why not

@@ -1,6 +1,6 @@
 use Rattle.std.proofs.Common.{◌++◌, ◌-◌, ap, codes, string_bytes, ◌∙◌}
 use Rattle.kahn_marks.specs.Marks.{spot_text}
-use Rattle.kahn_notes.specs.Notes.{comment_verb}
+use Rattle.kahn_notes.specs.inner.Held.{comment_verb}
 use Rattle.kahn_notes.proofs.Pieces.{in_five}
 use Rattle.kahn_notes.proofs.commented.comment_words.Goals as goal
 

@@ -1,6 +1,6 @@
 -- All bytes so far are blanks.
 use Rattle.std.proofs.Common.{◌≡◌, drop}
-use Rattle.kahn_notes.specs.Held.{dark_part}
+use Rattle.kahn_notes.specs.inner.Held.{dark_part}
 use Rattle.kahn_notes.proofs.held.dark_part.Given as goal
 
 abbrev pub invariant-loop-at : goal.invariant-loop-at

@@ -1,6 +1,6 @@
 -- The name stands from here on where it stands at all.
 use Rattle.std.proofs.Common.{◌≡◌, drop}
-use Rattle.kahn_notes.specs.Held.{has_name}
+use Rattle.kahn_notes.specs.inner.Held.{has_name}
 use Rattle.kahn_notes.proofs.held.has_name.Given as goal
 
 abbrev pub invariant-loop-at : goal.invariant-loop-at

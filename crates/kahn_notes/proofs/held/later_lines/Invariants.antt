@@ -1,6 +1,6 @@
 -- No line ends so far.
 use Rattle.std.proofs.Common.{◌≡◌, drop}
-use Rattle.kahn_notes.specs.Held.{later_lines}
+use Rattle.kahn_notes.specs.inner.Held.{later_lines}
 use Rattle.kahn_notes.proofs.held.later_lines.Given as goal
 
 abbrev pub invariant-loop-at : goal.invariant-loop-at

@@ -1,11 +1,13 @@
-use Rattle.std.proofs.Common.{◌++◌, ap, ◌∙◌}
-use Rattle.kahn_notes.proofs.Found.{may_find}
+use Rattle.std.proofs.Common.{IfSome, string_bytes, subst, sym}
+use Rattle.kahn_notes.specs.Notes.{Mends}
 use Rattle.kahn_notes.proofs.unexpected.unexpected_note.Goals as goal
 
-pub place_note-requires : goal.place_note-requires
-place_note-requires c = may_find c.args.text.now c.args.span c.args.what c.in_ok-unexpected.unexpected c.utf8.text c.in_ok-unexpected.ensures
-
 pub returns : goal.returns
-returns c =
-    let below = c.as_str.result.now in
-    (c.in_ok-unexpected.unexpected, c.in_ok-unexpected.ensures, below, c.in_ok-push_str.ensures.bytes ∙ ap (λ l. l ++ below) c.in_ok-note.ensures)
+returns c = (
+  c.in_ok-place.place.unexpected,
+  string_bytes c.in_ok-expected.expected,
+  c.in_ok-place.ensures,
+  c.in_ok-expected.ensures,
+  c.in_ok-note_at.ensures.told,
+  subst (λ f. IfSome f (Mends c.args.text.now c.args.span)) (sym c.in_ok-note_at.ensures.fix) c.in_ok-fix.ensures,
+)

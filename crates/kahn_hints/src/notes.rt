@@ -1,0 +1,193 @@
+//! The notes on what is wrong with a network.
+
+ghost use Rattle.std.specs.Prelude.{◌≡◌, ◌∷◌, [], All, Contains, IfOk, IfSome};
+ghost use Rattle.kahn_fault.specs.Message.{check_span};
+ghost use Rattle.kahn_hints.specs.Hints.{HasOneMore, LessensFaults, TellsFault, TellsOne};
+
+use crate::changes::{Change, Search, add_change, change_for, is_elsewhere, tries_of};
+use crate::kept::kept;
+use crate::mending::left_by;
+use crate::others::others_of;
+use crate::place::{Place, place_of};
+use crate::said::{add_advice, add_found};
+use kahn_fault::{check_span, check_words};
+use kahn_marks::{Fix, MOST_NOTES, Note, Sort, first_ones};
+use kahn_streams::{CheckFault, NoMemory, Program, Span};
+use kahn_syntax::lex;
+use std::alloc::{AllocError, Global};
+
+/// What is told of the faults of a network.
+#[derive(Drop)]
+pub struct Told {
+    /// The notes, of which each is on one fault.
+    pub notes: Vec<Note>,
+    /// How many more faults there are that don't seem to follow from others.
+    pub more: usize,
+}
+
+/// What is told of a fault.
+#[derive(Drop)]
+struct Found {
+    note: Note,
+    /// Whether a change is told that leaves none.
+    is_whole: bool,
+}
+
+/// Where a fault stands; at the beginning where it has no place.
+fn span_of(fault: CheckFault) -> Span
+    ensures { IfSome (check_span fault) (λ span. result ≡ span) }
+{
+    match check_span(fault) {
+        Some(span) => span,
+        None => Span { from: 0, to: 0 },
+    }
+}
+
+/// The words of a fault, with what is wanted and found, and what to do.
+fn words_of(
+    alloc: Global,
+    place: Place,
+    fault: CheckFault,
+    change: &Option<Change>,
+) -> Result<String, AllocError> {
+    let mut words = String::from_str(alloc, check_words(fault))?;
+    add_found(&mut words, place, fault)?;
+    match change {
+        Some(change) => add_change(&mut words, place, change)?,
+        None => add_advice(&mut words, alloc, place, fault)?,
+    }
+    Ok(words)
+}
+
+/// A change, if it leaves fewer faults.
+fn sure_fix(
+    alloc: Global,
+    text: &str,
+    faults: &[CheckFault],
+    fix: Fix,
+) -> Result<Option<Fix>, NoMemory>
+    ensures { IfOk result (λ fix. IfSome fix (LessensFaults text.now faults.now)) }
+{
+    match left_by(alloc, text, faults, &fix)? {
+        Some(_) => Ok(Some(fix)),
+        None => Ok(None),
+    }
+}
+
+/// The change that is told apart from the words of a fault at a place.
+fn fix_of(
+    alloc: Global,
+    text: &str,
+    at: Span,
+    faults: &[CheckFault],
+    change: Option<Change>,
+) -> Result<Option<Fix>, NoMemory>
+    ensures { IfOk result (λ fix. IfSome fix (LessensFaults text.now faults.now)) }
+{
+    let Some(change) = change else {
+        return Ok(None);
+    };
+    if is_elsewhere(&change, at) {
+        return sure_fix(alloc, text, faults, change.fix);
+    }
+    Ok(None)
+}
+
+/// What is told of a fault at a place.
+fn found_at(
+    alloc: Global,
+    text: &str,
+    place: Place,
+    faults: &[CheckFault],
+    fault: CheckFault,
+    tries: &mut usize,
+) -> Result<Found, NoMemory>
+    ensures { IfOk result (λ found. Contains faults.now fault → TellsFault text.now faults.now found.note fault) }
+{
+    let change = change_for(alloc, Search { place, faults }, tries, fault)?;
+    let is_whole = match &change {
+        Some(change) => change.left == 0,
+        None => false,
+    };
+    let words = words_of(alloc, place, fault, &change)?;
+    let others = others_of(alloc, place, fault)?;
+    let note = Note {
+        sort: Sort::Error,
+        span: span_of(fault),
+        words,
+        fix: fix_of(alloc, text, place.at, faults, change)?,
+        below: Vec::new(alloc),
+        others,
+    };
+    Ok(Found { note, is_whole })
+}
+
+/// One note alone, on a fault whose change leaves no other.
+fn alone(alloc: Global, note: Note) -> Result<Told, NoMemory>
+    ensures { IfOk result (λ told. told.notes.items ≡ note ∷ []) }
+{
+    let mut notes = Vec::new(alloc);
+    notes.push(note)?;
+    Ok(Told { notes, more: 0 })
+}
+
+/// How many faults are told behind the first one: none behind one of a limit.
+fn most_behind(faults: &[CheckFault]) -> usize {
+    let mut number = 0usize;
+    for fault in faults {
+        if matches!(fault, CheckFault::TooMany(_)) {
+            return number.min(MOST_NOTES - 1);
+        }
+        number = number.saturating_add(1);
+    }
+    MOST_NOTES - 1
+}
+
+/// Adds the note on a fault, unless that is the only one to be told.
+fn add_note(notes: &mut Vec<Note>, note: Note) -> Result<(), NoMemory>
+    ensures told { IfOk result (λ _. HasOneMore note notes.old.items notes.new.items) }
+    ensures some { IfOk result (λ _. notes.new.items ≡ [] → ⊥) }
+{
+    notes.push(note)?;
+    Ok(())
+}
+
+/// The notes on the faults that are told of a text that spells a program: on 20 at most, and on none behind one of a limit. What seems to
+/// follow from another fault is held back, and so are all others where a change is told that leaves none. It refuses only where memory was
+/// refused.
+pub fn fault_notes(
+    alloc: Global,
+    text: &str,
+    program: &Program,
+    faults: &[CheckFault],
+) -> Result<Told, NoMemory>
+    ensures told { IfOk result (λ told. All (TellsOne text.now faults.now) told.notes.items) }
+    ensures some { IfOk result (λ told. told.notes.items ≡ [] → faults.now ≡ []) }
+{
+    let told = kept(alloc, text, program, faults)?;
+    let mut notes = Vec::new(alloc);
+    let Some((first, rest)) = told.split_first() else {
+        return Ok(Told { notes, more: 0 });
+    };
+    let Ok(lexemes) = lex(alloc, text) else {
+        return Err(NoMemory);
+    };
+    let mut tries = tries_of(text, &lexemes);
+    let place = place_of(text, &lexemes, program, span_of(*first));
+    let found = found_at(alloc, text, place, faults, *first, &mut tries)?;
+    if found.is_whole {
+        return alone(alloc, found.note);
+    }
+    add_note(&mut notes, found.note)?;
+    let (shown, more) = first_ones(rest, most_behind(&told));
+    for fault in shown {
+        let place = place_of(text, &lexemes, program, span_of(*fault));
+        let found = found_at(alloc, text, place, faults, *fault, &mut tries)?;
+        if found.is_whole {
+            return alone(alloc, found.note);
+        }
+        add_note(&mut notes, found.note)?;
+    }
+    let more = more.len();
+    Ok(Told { notes, more })
+}

@@ -1,0 +1,221 @@
+//! A note as data, and how it is written.
+
+ghost use Rattle.std.specs.Prelude.{◌≡◌, ◌++◌, IfOk, flat_map, string_bytes};
+ghost use Rattle.kahn_marks.specs.Marks.{marked_as, shown_text};
+ghost use Rattle.kahn_marks.specs.Notes.{IsFixShown, IsRendered, below_text, line_below, other_text, sort_words};
+
+use crate::note::marked_as;
+use crate::pieces::{add, add_repeated};
+use crate::places::{add_spot, place};
+use crate::sentence::add_shown_text;
+use itoa::Buffer;
+use kahn_streams::Span;
+use std::alloc::{AllocError, Global};
+
+/// How serious a note is.
+#[derive(Clone, Copy, PartialEq, Eq)]
+pub enum Sort {
+    /// The text is refused.
+    Error,
+    /// The text is allowed, and seldom meant.
+    Warning,
+    /// Another place that has to do with an error or a warning.
+    Note,
+}
+
+/// A change of a text: what stands in a part of it, which may be empty, is replaced by a text, which may be empty.
+#[derive(Drop)]
+pub struct Fix {
+    /// The part that is replaced.
+    pub span: Span,
+    /// What is put there, without blanks round it.
+    pub put: String,
+    /// The lexeme beside it, behind which something is put in, or before which.
+    pub beside: Span,
+}
+
+/// Another place that has to do with what is said.
+#[derive(Drop)]
+pub struct Other {
+    /// The place.
+    pub span: Span,
+    /// What is said of it.
+    pub words: String,
+}
+
+/// What is said of a part of a text.
+#[derive(Drop)]
+pub struct Note {
+    /// How serious it is.
+    pub sort: Sort,
+    /// The part of the text that it is about.
+    pub span: Span,
+    /// What is said.
+    pub words: String,
+    /// The one change that mends it, where one is known.
+    pub fix: Option<Fix>,
+    /// Sentences that stand below it.
+    pub below: Vec<String>,
+    /// Other places that have to do with it.
+    pub others: Vec<Other>,
+}
+
+/// A note that has words alone.
+pub fn simple(alloc: Global, sort: Sort, span: Span, words: &str) -> Result<Note, AllocError>
+    ensures sort { IfOk result (λ note. note.sort ≡ sort) }
+    ensures span { IfOk result (λ note. note.span ≡ span) }
+    ensures words { IfOk result (λ note. string_bytes note.words ≡ words.now) }
+{
+    Ok(Note {
+        sort,
+        span,
+        words: String::from_str(alloc, words)?,
+        fix: None,
+        below: Vec::new(alloc),
+        others: Vec::new(alloc),
+    })
+}
+
+/// How a sort is called.
+pub(crate) fn sort_words(sort: Sort) -> &'static str
+    ensures { result.now ≡ sort_words sort }
+{
+    match sort {
+        Sort::Error => "error",
+        Sort::Warning => "warning",
+        Sort::Note => "note",
+    }
+}
+
+/// What stands in a part of a text; nothing where no characters begin and end there.
+pub fn part_of(text: &str, span: Span) -> &str {
+    match text.get(span.from..span.to) {
+        Some(part) => part,
+        None => "",
+    }
+}
+
+/// Adds what is put in behind a lexeme, or before one.
+fn add_insertion(words: &mut String, text: &str, fix: &Fix) -> Result<(), AllocError> {
+    let side = if fix.beside.to <= fix.span.from {
+        "` after `"
+    } else {
+        "` before `"
+    };
+    let beside = part_of(text, fix.beside);
+    add(words, &["insert `", fix.put.as_str(), side, beside, "`"])
+}
+
+/// Adds a change, in one of three forms.
+fn add_change(words: &mut String, text: &str, fix: &Fix) -> Result<(), AllocError> {
+    let old = part_of(text, fix.span);
+    if fix.put.is_empty() {
+        return add(words, &["remove `", old, "`"]);
+    }
+    if fix.span.from == fix.span.to {
+        return add_insertion(words, text, fix);
+    }
+    add(
+        words,
+        &["replace `", old, "` with `", fix.put.as_str(), "`"],
+    )
+}
+
+/// A change in words, with its place, if that isn't where the note is.
+fn fix_words(alloc: Global, text: &str, span: Span, fix: &Fix) -> Result<String, AllocError> {
+    let mut words = String::from_str(alloc, "fix: ")?;
+    add_change(&mut words, text, fix)?;
+    if fix.span.from != span.from {
+        add_spot(&mut words, " at ", text, fix.span.from)?;
+    }
+    Ok(words)
+}
+
+/// Adds a line below the carets under a part.
+fn add_remark(lines: &mut String, text: &str, span: Span, words: &str) -> Result<(), AllocError>
+    ensures { IfOk result (λ _. string_bytes lines.new ≡ string_bytes lines.old ++ line_below text.now span words.now) }
+{
+    let (line, _) = place(text, span.from);
+    let mut buffer = Buffer::new();
+    let number = buffer.format(line);
+    lines.push_str(" ")?;
+    add_repeated(lines, " ", number.len())?;
+    lines.push_str(" = ")?;
+    add_shown_text(lines, words)?;
+    lines.push_str("\n")
+}
+
+/// Adds the line of a change, where there is one.
+fn add_fix(
+    lines: &mut String,
+    alloc: Global,
+    text: &str,
+    span: Span,
+    fix: &Option<Fix>,
+) -> Result<(), AllocError>
+    ensures { IfOk result (λ _. IsFixShown text.now span fix.now (string_bytes lines.old) (string_bytes lines.new)) }
+{
+    match fix {
+        Some(fix) => {
+            let words = fix_words(alloc, text, span, fix)?;
+            add_remark(lines, text, span, words.as_str())
+        }
+        None => Ok(()),
+    }
+}
+
+/// Adds sentences, a line each.
+fn add_below(lines: &mut String, text: &str, span: Span, below: &[String]) -> Result<(), AllocError>
+    ensures { IfOk result (λ _. string_bytes lines.new ≡ string_bytes lines.old ++ flat_map (below_text text.now span) below.now) }
+{
+    for sentence in below {
+        add_remark(lines, text, span, sentence.as_str())?;
+    }
+    Ok(())
+}
+
+/// A note on a part of a text, with words as they are shown.
+fn headed(
+    alloc: Global,
+    sort: &str,
+    path: &str,
+    text: &str,
+    span: Span,
+    words: &str,
+) -> Result<String, AllocError>
+    ensures { IfOk result (λ lines. string_bytes lines ≡ marked_as sort.now path.now text.now span (shown_text words.now)) }
+{
+    let mut shown = String::new(alloc);
+    add_shown_text(&mut shown, words)?;
+    marked_as(alloc, sort, path, text, span, shown.as_str())
+}
+
+/// Adds other places, with the words on each.
+fn add_others(
+    lines: &mut String,
+    alloc: Global,
+    path: &str,
+    text: &str,
+    others: &[Other],
+) -> Result<(), AllocError>
+    ensures { IfOk result (λ _. string_bytes lines.new ≡ string_bytes lines.old ++ flat_map (other_text path.now text.now) others.now) }
+{
+    for other in others {
+        let place = headed(alloc, "note", path, text, other.span, other.words.as_str())?;
+        lines.push_str(place.as_str())?;
+    }
+    Ok(())
+}
+
+/// A note on the text of a file, as lines: `PATH:LINE:COLUMN: error: WORDS`, the source line with carets, the change that mends it and
+/// sentences, and then the other places. What would drive a terminal is shown as U+FFFD. It refuses only where memory was refused.
+pub fn render(alloc: Global, path: &str, text: &str, note: &Note) -> Result<String, AllocError>
+    ensures { IfOk result (λ lines. IsRendered path.now text.now note.now (string_bytes lines)) }
+{
+    let words = note.words.as_str();
+    let mut lines = headed(alloc, sort_words(note.sort), path, text, note.span, words)?;
+    add_fix(&mut lines, alloc, text, note.span, &note.fix)?;
+    add_below(&mut lines, text, note.span, &note.below)?;
+    add_others(&mut lines, alloc, path, text, &note.others)?;
+    Ok(lines)
+}

@@ -1,0 +1,99 @@
+//! Whether a change mends a place where a text goes wrong: the text with it is read.
+
+ghost use Rattle.std.specs.Prelude.{◌-◌, ◌<◌, IfOk, IfSome, IsTrue, length};
+ghost use Rattle.kahn_notes.specs.Notes.{IsFaultOf, Mends, MendsText};
+ghost use Rattle.kahn_syntax.specs.Texts.{IsTextFault};
+
+use kahn_marks::{Fix, applied};
+use kahn_streams::NoMemory;
+use kahn_syntax::{Span, SyntaxFault, parse};
+use std::alloc::Global;
+
+/// Whether less stands behind a place of a text than behind one of another text.
+fn is_less(new: &str, at: Span, text: &str, span: Span) -> bool
+    ensures { IsTrue result → length new.now - at.from < length text.now - span.from }
+{
+    new.len().saturating_sub(at.from) < text.len().saturating_sub(span.from)
+}
+
+/// Where a lexeme of a text can't stand, or a character isn't of the language, by the fault of the text.
+fn place_of(_text: &str, fault: SyntaxFault) -> Option<Span>
+    requires { IsTextFault _text.now fault }
+    ensures { IfSome result (IsFaultOf _text.now) }
+{
+    match fault {
+        SyntaxFault::Expected(at, _what) => Some(at),
+        SyntaxFault::BadCharacter(at) => Some(at),
+        _ => None,
+    }
+}
+
+/// Whether less stands behind the fault of a text than behind a place of another text.
+fn is_later(new: &str, fault: SyntaxFault, text: &str, span: Span) -> bool
+    requires { IsTextFault new.now fault }
+    ensures { IsTrue result → MendsText text.now span new.now }
+{
+    match place_of(new, fault) {
+        Some(at) => is_less(new, at, text, span),
+        None => false,
+    }
+}
+
+/// Whether a text is a program, or less stands behind its fault than behind a place of another text.
+fn goes_on(alloc: Global, new: &str, text: &str, span: Span) -> Result<bool, NoMemory>
+    ensures { IfOk result (λ mends. IsTrue mends → MendsText text.now span new.now) }
+{
+    match parse(alloc, new) {
+        Ok(_program) => Ok(true),
+        Err(fault) => {
+            if fault == SyntaxFault::NoMemory {
+                return Err(NoMemory);
+            }
+            Ok(is_later(new, fault, text, span))
+        }
+    }
+}
+
+/// Whether a text with a change is a program, or goes wrong only later.
+fn is_mended(alloc: Global, text: &str, span: Span, fix: &Fix) -> Result<bool, NoMemory>
+    ensures { IfOk result (λ mends. IsTrue mends → Mends text.now span fix.now) }
+{
+    match applied(alloc, text, fix)? {
+        Some(new) => goes_on(alloc, new.as_str(), text, span),
+        None => Ok(false),
+    }
+}
+
+/// A change, if it mends a place.
+pub(crate) fn mending(
+    alloc: Global,
+    text: &str,
+    span: Span,
+    fix: Option<Fix>,
+) -> Result<Option<Fix>, NoMemory>
+    ensures { IfOk result (λ fix. IfSome fix (Mends text.now span)) }
+{
+    let Some(fix) = fix else {
+        return Ok(None);
+    };
+    if is_mended(alloc, text, span, &fix)? {
+        return Ok(Some(fix));
+    }
+    Ok(None)
+}
+
+/// Whether a text with a change is a program.
+pub(crate) fn is_program(alloc: Global, text: &str, fix: &Fix) -> Result<bool, NoMemory> {
+    match applied(alloc, text, fix)? {
+        Some(new) => match parse(alloc, new.as_str()) {
+            Ok(_) => Ok(true),
+            Err(fault) => {
+                if fault == SyntaxFault::NoMemory {
+                    return Err(NoMemory);
+                }
+                Ok(false)
+            }
+        },
+        None => Ok(false),
+    }
+}

@@ -1,0 +1,7 @@
+-- The notes on the warnings so far.
+use Rattle.std.proofs.Common.{◌≡◌, map, take}
+use Rattle.kahn_warnings.specs.Telling.{AreNotesOf}
+use Rattle.kahn_warnings.proofs.notes.notes_of.Given as goal
+
+abbrev pub invariant-loop-warning : goal.invariant-loop-warning
+invariant-loop-warning l = AreNotesOf (take l.warning-index l.warnings) l.notes.items
