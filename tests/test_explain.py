@@ -9,8 +9,6 @@ import common
 from common import TOP, Room, read
 
 EXPLAIN = common.program("kahn_explain")
-# a report says of no input how many values it had
-OF_INPUTS = re.compile(r"(?m), (of which .* taken|to which nothing came: --input FILE brings values)$")
 ENDLESS = """begin integer output channel A;
   process p(integer out W); begin integer I; repeat begin I := I + 1 end; send I on W end; p(A) end
 """
@@ -27,10 +25,6 @@ class Explained(Room):
             told = re.findall(r"(?m)^\d+ \w+ (?:waits on|has a fault|wants more)", out)
             self.same(f"{name}: instances that didn't end", len(told), len(re.findall(": (?:waits on|fault|wants more) ", report)))
             self.same(f"{name}: the last line", out.splitlines()[-1], last)
-            again, _, same = self.ran(EXPLAIN, f"{name}.kahn", "--report", f"{name}.report")
-            self.same(f"{name}, from its report: status", same, status)
-            if status != 3:
-                self.same(f"{name}, from its report", again, OF_INPUTS.sub("", out))
 
     def test_a_warning_before_a_run_without_an_end(self):
         self.put(endless=ENDLESS)

@@ -105,8 +105,12 @@ class Memory(Room):
                 self.growths_of_held("copies.kahn", workers, quantum)
 
     def test_parts_of_a_live_run(self):
-        """The first part may take just as many events as the run has. A blank line begins the next, and one more comes at the end."""
-        whole, _, _ = self.ran(KAHN, "copies.kahn", "--quantum", "1", "--workers", "1")
+        """The first part may take just as many events as the run has. A blank line begins the next, and one more comes at the end. An input
+        stands beside the copies, so that lines come."""
+        drain = "  process drain(integer in U); begin integer X; repeat X := wait(U) end;\n  drain(GO) par count(X0"
+        parts = COPIES.replace("integer channel X0", "integer input channel GO; integer channel X0", 1).replace("  count(X0", drain)
+        self.put(**{"parts.kahn": parts})
+        whole, _, _ = self.ran(KAHN, "parts.kahn", "--quantum", "1", "--workers", "1")
         streams, ends = whole.split("\n", 1)
 
         def judged(out, err, status):
@@ -114,13 +118,13 @@ class Memory(Room):
             lines = err.splitlines(keepends=True)
             told = "".join(line for line in lines if not line.startswith(("end ", "finished ")))
             ended = "".join(line for line in lines if line.startswith(("end ", "finished ")))
-            kind = {"": "alike"}.get(told, "stopped" if told.startswith("copies.kahn: input line ") and told.endswith("memory\n") else None)
+            kind = {"": "alike"}.get(told, "stopped" if told.startswith("parts.kahn: input line ") and told.endswith("memory\n") else None)
             # a line for which memory was refused is passed over, and the status may say so
-            is_well = status == 0 or (status, told) == (1, "copies.kahn: input line 1: no memory\n")
+            is_well = status == 0 or (status, told) == (1, "parts.kahn: input line 1: no memory\n")
             values = "W:" + "".join(line.removeprefix("W:") for line in out.splitlines())
             return kind if is_well and values == streams and ended in ("", ends) else None
 
-        words = [LIVE, "copies.kahn", "--quantum", "1", "--step", events(whole)]
+        words = [LIVE, "parts.kahn", "--quantum", "1", "--step", events(whole)]
         self.growths("parts of copies.kahn", words, judged, 1, text=b"\n")
 
     def test_a_run_that_goes_over_to_several_workers(self):

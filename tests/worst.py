@@ -31,7 +31,7 @@ LIMITS = {
 SINCE = {
     "hash": "2.3 s", "blanks": "600 s", "while_names": "200 s", "unknown_name": "40 s", "unknown_processes": "75 s", "two_writers": "43 s",
     "faults_256": "160 s", "faults_lines": "41 s", "faulty_bodies": "1.8 s", "late": "10 s", "late_lines": "10 s", "waits_256": "5.5 s",
-    "body_256": "4.4 s", "comments": "2.9 s", "nested_blocks": "1.6 s", "report": "120 s", "sleeping_readers": "2.9 s",
+    "body_256": "4.4 s", "comments": "2.9 s", "nested_blocks": "1.6 s", "run": "120 s", "sleeping_readers": "2.9 s",
     "memory for workers": "no report", "no thread": "no report",
 }
 
@@ -173,10 +173,10 @@ CASES = {
     "body_256": (lambda: filled("begin process f();begin ", ";", f" end;{par('f()')} end"), {}),
     "nested_blocks": (lambda: filled("begin process f();begin " + "begin " * 63, ";", " end" * 63 + " end;f() end"), {}),
     "signs": (lambda: filled("begin process f();begin print 1", "+" + "-" * 62 + "1", " end;f() end"), {}),
-    "report": (dense, {"kahn_draw": ["--report", "@report"]}),
+    "run": (dense, {"kahn_draw": ["--input", "@input"]}),
     "last_value": (last_value, {}),
-    "sleeping_readers": (sleeping_readers, {"kahn": ["--bound", "10000000"]}),
-    "star": (star, {"kahn": ["--bound", "20000000"]}),
+    "sleeping_readers": (sleeping_readers, {"kahn": ["--bound", "10000000"], "kahn_live": None}),
+    "star": (star, {"kahn": ["--bound", "20000000"], "kahn_live": None}),
     "similar_names": (lambda: body("", f"integer {','.join('q' * 57 + it for it in names('v', 15500))}; "), {}),
     "unwired": (lambda: f"begin integer channel {','.join(names('c', 1024, 4))};process f();begin end;f() end", {}),
     "controls": (lambda: filled("begin process f();begin ", "\x00\x1b", " end;f() end"), {}),
@@ -195,7 +195,7 @@ def words_for(program, path, folder, text, more):
     if program == "kahn_live":
         return [path, f"{text}.kahn", *more], f"{text}.input" if os.path.exists(f"{text}.input") else os.devnull
     given = ["--input", f"{text}.input"] if os.path.exists(f"{text}.input") and program != "kahn_draw" else []
-    return [path, f"{text}.kahn", *given, *(f"{folder}/report" if it == "@report" else it for it in more)], os.devnull
+    return [path, f"{text}.kahn", *given, *(f"{folder}/input" if it == "@input" else it for it in more)], os.devnull
 
 
 def try_case(name, paths, folder):
@@ -267,7 +267,7 @@ def try_worst(paths, folder, only, tried):
     """All cases, or those that have the word in their names."""
     os.chmod(folder, 0o755)
     write(f"{folder}/chain.kahn", chain())
-    write(f"{folder}/report", b"\n" * MOST_INPUT)
+    write(f"{folder}/input", b"\n" * MOST_INPUT)
     for name in (it for it in WORLD if only in it):
         say(name, WORLD[name](paths, folder), "", tried)
     chosen = [it for it in CASES if only in it]

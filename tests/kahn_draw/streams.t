@@ -8,18 +8,22 @@ A text that isn't UTF-8.
   $ printf 'begin \377' > bytes; kahn_draw bytes
   ! kahn: bytes is not UTF-8
   [5]
-A report that isn't there.
-  $ echo 'begin end' > program; kahn_draw program --report nothing
+An input that isn't there.
+  $ echo 'begin end' > program; kahn_draw program --input nothing
   ! kahn: cannot read nothing
   [5]
-A report that isn't UTF-8.
-  $ kahn_draw program --report bytes
+An input that isn't UTF-8.
+  $ kahn_draw program --input bytes
   ! kahn: bytes is not UTF-8
   [5]
-A program and a report that aren't there.
-  $ kahn_draw nothing --report bytes
+A program and an input that aren't there.
+  $ kahn_draw nothing --input bytes
   ! kahn: cannot read nothing
   [5]
+An input that is refused.
+  $ printf 'A: 1\nB: 2\n' > fed; kahn_draw examples/double.kahn --input fed
+  ! kahn: input B: not an input channel
+  [1]
 An empty text.
   $ kahn_draw
   ! kahn: 1:1: text ends too early
@@ -34,17 +38,20 @@ Two words.
   [2]
   $ head -n 1 error
   error: unexpected argument 'b' found
-A report without a name.
-  $ kahn_draw examples/count.kahn --report 2> error
+An input without a name.
+  $ kahn_draw examples/count.kahn --input 2> error
   [2]
   $ head -n 1 error
-  error: a value is required for '--report <FILE>' but none was supplied
+  error: a value is required for '--input <FILE>' but none was supplied
+A bound out of its limit.
+  $ kahn_draw examples/count.kahn --bound -1 2> error
+  [2]
 The help.
   $ kahn_draw --help | grep -o 'dot -Tsvg' | head -n 1; exit ${PIPESTATUS[0]}
   dot -Tsvg
-A report of another program.
-  $ printf 'end 1 other: ended after 1\nfinished 1\n' > other; kahn_draw examples/count.kahn --report other > output
-  ! kahn: the report is not of this program
+A run that is stopped.
+  $ kahn_draw examples/count.kahn --input /dev/null --bound 3 | grep -o 'wants more after 3.*palegreen'
+  wants more after 3", style=filled, fillcolor=palegreen
 A full disk.
   $ kahn_draw examples/count.kahn > /dev/full
   ! kahn: report could not be written

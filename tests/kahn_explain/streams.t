@@ -129,10 +129,10 @@ Arguments that are refused.
   [2]
   $ head -n 1 error
   error: unexpected argument '--watch' found
-  $ kahn_explain --report 2> error
+  $ kahn_explain --report x 2> error
   [2]
   $ head -n 1 error
-  error: a value is required for '--report <FILE>' but none was supplied
+  error: unexpected argument '--report' found
 The help.
   $ kahn_explain --help | grep -c 'for ever'
   3

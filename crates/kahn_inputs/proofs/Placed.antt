@@ -83,7 +83,7 @@ no_last text from line (before, whole, after, es, e, spelt, count, (entry, is), 
 -- ---- the first line that is neither blank nor an entry
 
 line_placed : (text : List ℕ) (before : List (List ℕ)) (line : List ℕ) (after : List (List ℕ)) → text_lines text ≡ before ++ (line ∷ after)
-    → (IsGood line → ⊥) → IsLineNote path text None → ⊥
+    → (IsGood line → ⊥) → IsLineNote text None → ⊥
 line_placed text before line after e bad (inl (es, spelt, less)) = no_entries text before line after es e bad spelt
 line_placed text before line after e bad (inr (from, found, is)) = no_last text from found is
 

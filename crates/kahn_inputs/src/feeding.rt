@@ -204,8 +204,9 @@ fn entry_note(
     let kind = kind_for(network, name);
     let words = entry_text(alloc, network, name, kind, fault)?;
     let span = entry_span(found.line, kind, fault);
+    let others = given_first(alloc, text, name, fault)?;
     let mut note = part_note(alloc, text, found, span, &[words.as_str()])?;
-    note.others = given_first(alloc, text, name, fault)?;
+    note.others = others;
     Ok(note)
 }
 

@@ -1,7 +1,9 @@
 -- Notes in lines, one behind another.
-use Rattle.std.proofs.Common.{◌≡◌, ℕ, List, ◌++◌, ◌∙◌, All, ap, append_assoc}
-use Rattle.std.proofs.lemmas.List.Elements.{All-weaker}
+use Rattle.std.proofs.Common.{◌≡◌, ◌==◌, ℕ, Bool, true, List, [], ◌∷◌, ◌++◌, ◌∙◌, All, ap, append_assoc, arith, length, sym, take}
+use Rattle.std.proofs.lemmas.Bool.{eqb-true}
+use Rattle.std.proofs.lemmas.List.Elements.{All-from_recursion, All-weaker}
 use Rattle.kahn_marks.specs.Notes.{IsRendered}
+use Rattle.kahn_marks.specs.Told.{most_notes}
 use Rattle.kahn_marks.specs.declared.rendering.Note.{Note}
 use Rattle.kahn_why.specs.Noting.{HasShown, StandsIn}
 
@@ -24,3 +26,9 @@ pub has_shown : (path text old before one behind first second new : List ℕ) (n
 has_shown path text old before one behind first second new n rendered a b c =
     let e : new ≡ (old ++ before) ++ (one ++ behind) = c ∙ ap (λ l. l ++ behind) (b ∙ ap (λ l. l ++ one) a) ∙ append_assoc (old ++ before) one behind in
     (before ++ (one ++ behind), e ∙ append_assoc old before (one ++ behind), (old ++ before, one, behind, rendered, e))
+
+-- of no notes each stands anywhere
+pub none_stand : (path text lines : List ℕ) (notes : List Note) (b : Bool) (n : ℕ) → b ≡ (n == 0) → n ≡ length notes → b ≡ true
+    → All (StandsIn path text lines) (take most_notes notes)
+none_stand path text lines [] b n e l t = All-from_recursion (StandsIn path text lines) [] tt
+none_stand path text lines (note ∷ notes) b n e l t = let h : n ≡ 0 = eqb-true n 0 (sym e ∙ t) in absurd (omega (arith, l, h))

@@ -7,5 +7,5 @@ returns c = (
   rw c.line_name-name.ensures at c.kind_for-kind.ensures,
   c.entry_span-span.ensures.span,
   c.in_ok-note.ensures,
-  rw c.line_name-name.ensures at c.in_ok-given_first.ensures,
+  rw c.line_name-name.ensures at c.in_ok-others.ensures,
 )
