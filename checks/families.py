@@ -196,6 +196,11 @@ def numbers():
     for option, limits in (("workers", (1, 16)), ("quantum", (1, 1000000)), ("bound", (281474976710655,))):
         for number in limits:
             yield row(f"{option} {number} is within its limit", program, report, words=[f"--{option}", str(number)])
+    # Two processes take turns of a quantum each.
+    turns = "begin process p(); begin repeat begin end end; p() par p() end"
+    for quantum, first, second in ((1, 2250, 2250), (1000, 2500, 2000), (1000000, 4500, 0)):
+        report = [f"end 1 p: wants more after {first}", f"end 2 p: wants more after {second}", "stopped by bound 4500"]
+        yield row(f"turns of {quantum}", turns, report, status=3, words=["--workers", "1", "--quantum", str(quantum), "--bound", "4500"])
 
 
 def operands():
@@ -226,17 +231,20 @@ def parameters():
 
 
 def long_runs():
-    """As many values as a channel may be given through one process, and two million prints, within limits on memory and time."""
+    """As many values as a channel may be given through one process, and two million values and prints, within limits on memory and time."""
     program = """begin integer input channel A; integer output channel B; process p(integer in U; integer out W);
       begin integer S, I; while I < 1048576 do begin S := S + wait(U); I := I + 1 end; send S on W; print wait(U) end; p(A, B) end"""
     ended = ["B: 549755289600", "print 1 p:", "end 1 p: waits on A after 2097154", "finished 2097154"]
     given = "A:" + "".join(f" {value}" for value in range(1048576))
     for words in (["--workers", "1"], ["--workers", "4", "--quantum", "64"]):
         yield row(f"1048576 values through one process by workers {words[1]}", program, ended, given=given, words=[*words, "--bound", "3000000"], limits="600 5")
-    program = "begin process p(); begin integer I; while I < 2000000 do begin I := I + 1; print I end end; p() end"
-    printed = "print 1 p:" + "".join(f" {value}" for value in range(1, 2000001))
-    report = [printed, "end 1 p: ended after 4000001", "finished 4000001"]
-    yield row("2000000 prints", program, report, words=["--workers", "1", "--bound", "4000001"], limits="600 5")
+    # one more of each than a list of 2^21 has room for
+    count = 2097153
+    program = f"""begin integer output channel W; process p(integer out W);
+      begin integer I; while I < {count} do begin send I on W; print -I; I := I + 1 end end; p(W) end"""
+    sent, printed = "".join(f" {value}" for value in range(count)), "".join(f" {-value}" for value in range(count))
+    report = ["W:" + sent, "print 1 p:" + printed, f"end 1 p: ended after {3 * count + 1}", f"finished {3 * count + 1}"]
+    yield row(f"{count} values and prints", program, report, words=["--workers", "1", "--bound", "7000000"], limits="600 5")
 
 
 def long_reports():

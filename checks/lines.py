@@ -21,7 +21,10 @@ end
 # an escape, a line feed, a right-to-left override and a zero width space
 STRANGE = "a\x1b[31m\n\u202e\u200b.kahn"
 SHOWN = "a\ufffd[31m\ufffd\ufffd\ufffd.kahn"
-WHOLE = re.compile(r"sum: input line \d+: (not a value: `x`; values are numbers, `true` and `false`|no such channel: `Q`; input channels: `A`)\n")
+WHOLE = re.compile(
+    r"(sum: input line \d+: (not a value: `x`; values are numbers, `true` and `false`|no such channel: `Q`; input channels: `A`)"
+    r"|end 1 sum: waits on A after 1|finished 1)\n"
+)
 KAHN, LIVE, DRAW, EXPLAIN = sys.argv[1:]
 failed = passed = 0
 

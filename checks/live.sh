@@ -87,8 +87,7 @@ send '' 'A: 3 4' 'A:'
 wants "a blank line and two values" 'B: 6 8'
 send 'Z: 1' 'B: 1' 'A: true' 'A: 1 x' 'A 1' 'A: 5' $'A: 6\r'
 wants "lines that are refused" 'B: 10' 'B: 12'
-ends "doubling" 1 "$double"': input line 6: no such channel: `Z`; input channels: `A`\n'"$double"': input line 7: not an input channel: `B`; input channels: `A`\n'"$double"': input line 8: kind does not agree: `true`; wanted a number\n'"$double"': input line 9: not a value: `x`'"$values"'\n'"$double"': input line 10: not a name and a colon: `1`; a colon stands behind the name\n' \
-  'end 1 double: waits on A after 19' 'finished 19'
+ends "doubling" 1 "$double"': input line 6: no such channel: `Z`; input channels: `A`\n'"$double"': input line 7: not an input channel: `B`; input channels: `A`\n'"$double"': input line 8: kind does not agree: `true`; wanted a number\n'"$double"': input line 9: not a value: `x`'"$values"'\n'"$double"': input line 10: not a name and a colon: `1`; a colon stands behind the name\nend 1 double: waits on A after 19\nfinished 19\n'
 
 for quantum in 1 2 1000; do
   start "$double" --watch A --quantum $quantum
@@ -96,23 +95,26 @@ for quantum in 1 2 1000; do
   wants "a watched channel" 'A: 1 2' 'B: 2 4'
   send 'A: 3'
   wants "more of a watched channel" 'A: 3' 'B: 6'
-  ends "a watched channel, by a quantum of $quantum" 0 '' 'end 1 double: waits on A after 10' 'finished 10'
+  ends "a watched channel, by a quantum of $quantum" 0 ''
 done
 
 # a step that is used up goes on by a blank line
-start "$count" --step 3
-wants "a step" 'W: 0'
+stepped="$double: input line 1: wants more events than --step allows, and goes on with the next line\n"
+start "$double" --step 3
+send 'A: 1 2 3'
+wants "a step" 'B: 2'
 send ''
-wants "a second step" 'W: 1 2'
+wants "a second step" 'B: 4'
 send ''
-ends "three steps" 0 '' 'end 1 count: ended after 7' 'finished 7'
-start "$count" --step 3
-wants "a step" 'W: 0'
-ends "one step" 3 '' 'end 1 count: wants more after 3' 'stopped by bound 3'
-gives "a step that two lines use up" 3 'B: 2\nend 1 double: wants more after 3\nstopped by bound 3\n' \
-  "$double"': input line 1: wants more events than --step allows, and goes on with the next line\n' "$double" --step 1 <<< $'A: 1\nA: 2'
-gives "a name in the other letter case" 1 'end 1 double: waits on A after 1\nfinished 1\n' \
-  "$double"': input line 1: no such channel: `a`; did you mean `A`?\n' "$double" <<< 'a: 1'
+ends "three steps" 0 "$stepped" 'B: 6'
+start "$double" --step 3
+send 'A: 1 2 3'
+wants "a step" 'B: 2'
+ends "one step" 3 "$stepped"'end 1 double: wants more after 4\nstopped by bound 4\n'
+gives "a step that two lines use up" 3 'B: 2\n' \
+  "$double"': input line 1: wants more events than --step allows, and goes on with the next line\nend 1 double: wants more after 3\nstopped by bound 3\n' "$double" --step 1 <<< $'A: 1\nA: 2'
+gives "a name in the other letter case" 1 '' \
+  "$double"': input line 1: no such channel: `a`; did you mean `A`?\nend 1 double: waits on A after 1\nfinished 1\n' "$double" <<< 'a: 1'
 
 # what is new goes out before a part that may take long, also where its line is there
 cat > slow.kahn <<'P'
@@ -129,8 +131,22 @@ kill "$process"
 exec 6>&- 5<&-
 wait "$process" 2> /dev/null
 
-# without input channels; print streams; a last line without its line feed
-gives "a program without input" 0 'W: 0 1 2\nend 1 count: ended after 7\nfinished 7\n' '' "$count" < /dev/null
+# without input channels: the run goes on by itself, and takes no line; print streams; a last line without its line feed
+gives "a program without input that is stopped three times" 0 'W: 0\nW: 1 2\n' '' "$count" --step 3 < /dev/null
+cat > numbers.kahn <<'P'
+begin integer output channel W;
+  process numbers(integer out W); begin integer I; repeat begin send I on W; I := I + 1 end end;
+  numbers(W)
+end
+P
+for words in '' '--plain ,W'; do
+  # shellcheck disable=SC2086
+  timeout 20 "$live" numbers.kahn --step 1000 $words 2> error < /dev/null | head -n 2 > output.all
+  same "a source, '$words': status" "${PIPESTATUS[0]}" 0
+  same "a source, '$words': errors" "$(cat error)" ''
+  [ -z "$words" ] || same "a source, '$words'" "$(cat output.all)" $'0\n1'
+done
+gives "a program without input" 0 'W: 0 1 2\n' '' "$count" < /dev/null
 cat > add.kahn <<'P'
 begin integer input channel A;
   process add(integer in U);
@@ -139,27 +155,27 @@ begin integer input channel A;
 end
 P
 printf 'A: 1\nA: 2 3' > lines
-gives "a print stream" 0 'print 1 add: 1\nprint 1 add: 3 6\nend 1 add: waits on A after 10\nfinished 10\n' '' add.kahn < lines
+gives "a print stream" 0 'print 1 add: 1\nprint 1 add: 3 6\n' '' add.kahn < lines
 
 # lines that aren't text, and that are too long
 printf 'A: 1\200\nA: 7\n' > lines
-gives "a line that isn't UTF-8" 1 'B: 14\nend 1 double: waits on A after 4\nfinished 4\n' "$double"': input line 1: not UTF-8\n' "$double" < lines
+gives "a line that isn't UTF-8" 1 'B: 14\n' "$double"': input line 1: not UTF-8\nend 1 double: waits on A after 4\nfinished 4\n' "$double" < lines
 { printf 'A: 1' && head -c 16777213 /dev/zero | tr '\0' ' ' && printf '\nA: 7\n'; } > lines
-gives "a line that is too long" 1 'B: 14\nend 1 double: waits on A after 4\nfinished 4\n' "$double"': input line 1: line is too long\n' "$double" < lines
+gives "a line that is too long" 1 'B: 14\n' "$double"': input line 1: line is too long\nend 1 double: waits on A after 4\nfinished 4\n' "$double" < lines
 { printf 'A: 1' && head -c 16777212 /dev/zero | tr '\0' ' ' && printf '\nA: 7\n'; } > lines
-gives "the longest line" 0 'B: 2\nB: 14\nend 1 double: waits on A after 7\nfinished 7\n' '' "$double" < lines
+gives "the longest line" 0 'B: 2\nB: 14\n' '' "$double" < lines
 
 # a refused line makes the status 1 and no other one less, and may be told to leave it
 printf 'A: 1\nA: x\nA: 3\n' > lines
 told="$double"': input line 2: not a value: `x`'"$values"'\n'
-gives "a refused line" 1 'B: 2\nB: 6\nend 1 double: waits on A after 7\nfinished 7\n' "$told" "$double" < lines
-gives "a refused line that is passed over" 0 'B: 2\nB: 6\nend 1 double: waits on A after 7\nfinished 7\n' "$told" "$double" --keep-going < lines
-gives "a refused line, and a step used up" 3 'W: 0\nend 1 count: wants more after 3\nstopped by bound 3\n' \
-  "$count"': input line 1: not a name and a colon: `line`; a colon stands behind the name\n' "$count" --step 3 <<< 'no line'
+gives "a refused line" 1 'B: 2\nB: 6\n' "$told"'end 1 double: waits on A after 7\nfinished 7\n' "$double" < lines
+gives "a refused line that is passed over" 0 'B: 2\nB: 6\n' "$told" "$double" --keep-going < lines
+gives "a refused line, and a step used up" 3 'B: 2\n' \
+  "$stepped$double"': input line 2: not a name and a colon: `line`; a colon stands behind the name\nend 1 double: wants more after 4\nstopped by bound 4\n' "$double" --step 3 <<< $'A: 1 2 3\nno line'
 
 # a byte order mark before the first line alone
 printf '\357\273\277A: 1\r\n\357\273\277A: 2\r\n' > lines
-gives "a byte order mark" 1 'B: 2\nend 1 double: waits on A after 4\nfinished 4\n' "$double"': input line 2: not a name and a colon: `..`; a line begins with the name of a channel\n' "$double" < lines
+gives "a byte order mark" 1 'B: 2\n' "$double"': input line 2: not a name and a colon: `..`; a line begins with the name of a channel\nend 1 double: waits on A after 4\nfinished 4\n' "$double" < lines
 
 # what is shown of a line: no control or format character, 40 bytes and the rest of a character, and what is wanted in each case
 printf 'A: 21.5\nA: \033[31m\nA: 1\177\nA: \302\2331\nA: 1234567890123456789012345678901234567890\nA: 12345678901234567890123456789012345678901\n' > lines
@@ -185,9 +201,9 @@ begin integer input channel RAW; integer output channel RUNS;
 end
 P
 printf 'RAW: 7 7\nRAW: 9' > lines
-gives "no end mark" 0 'RUNS: 2 7\nend 1 encode: waits on RAW after 8\nfinished 8\n' '' runs.kahn < lines
-gives "an end mark" 0 'RUNS: 2 7\nRUNS: 1 9\nend 1 encode: ended after 12\nfinished 12\n' '' runs.kahn --at-end RAW=-1 < lines
-gives "several lines at the end" 0 'B: 2\nB: 4\nB: 6 8\nend 1 double: waits on A after 13\nfinished 13\n' '' \
+gives "no end mark" 0 'RUNS: 2 7\n' '' runs.kahn < lines
+gives "an end mark" 0 'RUNS: 2 7\nRUNS: 1 9\n' '' runs.kahn --at-end RAW=-1 < lines
+gives "several lines at the end" 0 'B: 2\nB: 4\nB: 6 8\n' '' \
   "$double" --at-end A=2 --at-end 'A=3 4' <<< 'A: 1'
 # no line is taken where one of them can't be, and the first such line is told
 while IFS='|' read -r line wanted; do
@@ -219,8 +235,8 @@ P
 done
 # only when it is fed shows that too many values would wait
 { printf 'A:' && yes ' 1' | head -n 1048576 | tr -d '\n'; } > lines
-gives "too many values at the end" 3 'end 1 double: wants more after 2\nstopped by bound 2\n' \
-  "$double"': input line 1: wants more events than --step allows, and goes on with the next line\n'"$double"': --at-end: too many values\n' \
+gives "too many values at the end" 3 '' \
+  "$double"': input line 1: wants more events than --step allows, and goes on with the next line\n'"$double"': --at-end: too many values\nend 1 double: wants more after 2\nstopped by bound 2\n' \
   "$double" --step 1 --at-end 'A=1 2' < lines
 
 # values alone: of the first stream or of the one that is named, as they come
@@ -239,7 +255,9 @@ gives "a line of values that is passed over" 0 '2\n6\n' "$double"': input line 2
 hint=': bare numbers are taken with --plain A\n'
 gives "values alone, and no such input" 6 '' "$double"': --plain: no such channel: `Z`; input channels: `A`\n'"$double$hint" "$double" --plain Z <<< '1'
 gives "values alone, and an output for the input" 6 '' "$double"': --plain: not an input channel: `B`; input channels: `A`\n'"$double$hint" "$double" --plain B <<< '1'
-gives "values alone, and no name" 6 '' "$double"': --plain: not a name and a colon: `:`; a line begins with the name of a channel\n'"$double$hint" "$double" --plain ,B <<< '1'
+# values of a stream alone, of lines with names
+gives "values alone, of lines with names" 0 '2\n4\n6\n' '' "$double" --plain ,B <<< $'A: 1\nA: 2 3'
+gives "values alone, of a line without a name" 1 '' "$double"': input line 1: not a name and a colon: `1`; a line begins with the name of a channel\n'"$double$hint"'end 1 double: waits on A after 1\nfinished 1\n' "$double" --plain ,B <<< '1'
 gives "values alone, and no such output" 6 '' "$double"': --plain: no such channel: `Z`; channels: `A` and `B`\n' "$double" --plain A,Z <<< '1'
 gives "values alone, and an output in the other letter case" 6 '' "$double"': --plain: no such channel: `b`; did you mean `B`?\n' "$double" --plain A,b <<< '1'
 for words in A A,B; do
@@ -252,11 +270,11 @@ gives "values of the other one of two inputs" 0 '' "$top/examples/merge.kahn"': 
 
 # lines that are refused one behind the other for one reason are told of by the first and by how many they are more
 seq 4 > lines
-gives "bare numbers" 1 'end 1 double: waits on A after 1\nfinished 1\n' \
-  "$double"': input line 1: not a name and a colon: `1`; a line begins with the name of a channel\n'"$double$hint$double"': and 3 lines more like it\n' "$double" < lines
+gives "bare numbers" 1 '' \
+  "$double"': input line 1: not a name and a colon: `1`; a line begins with the name of a channel\n'"$double$hint$double"': and 3 lines more like it\nend 1 double: waits on A after 1\nfinished 1\n' "$double" < lines
 printf 'HEAT\n1\nA: 1\n2\n3\nA: x\nA: y\n' > lines
-gives "lines that are refused for several reasons" 1 'B: 2\nend 1 double: waits on A after 4\nfinished 4\n' \
-  "$double"': input line 1: not a name and a colon; a colon stands behind the name\n'"$double"': input line 2: not a name and a colon: `1`; a line begins with the name of a channel\n'"$double$hint$double"': input line 4: not a name and a colon: `2`; a line begins with the name of a channel\n'"$double"': and 1 line more like it\n'"$double"': input line 6: not a value: `x`'"$values"'\n'"$double"': and 1 line more like it\n' \
+gives "lines that are refused for several reasons" 1 'B: 2\n' \
+  "$double"': input line 1: not a name and a colon; a colon stands behind the name\n'"$double"': input line 2: not a name and a colon: `1`; a line begins with the name of a channel\n'"$double$hint$double"': input line 4: not a name and a colon: `2`; a line begins with the name of a channel\n'"$double"': and 1 line more like it\n'"$double"': input line 6: not a value: `x`'"$values"'\n'"$double"': and 1 line more like it\nend 1 double: waits on A after 4\nfinished 4\n' \
   "$double" < lines
 
 # no line can change the run any more, though processes wait
@@ -270,12 +288,12 @@ begin integer input channel SET; integer channel Y, E, U; integer output channel
 end
 P
 ends='end 1 err: waits on Y after 2\nend 2 ctl: waits on E after 1\nend 3 plant: waits on U after 1\nfinished 4\n'
-yes 100 | gives "a ring of waits, values alone" 0 '' "$ends"'kahn_explain control.kahn --input FILE says why\n' control.kahn --plain SET
-yes 'SET: 100' | gives "a ring of waits" 0 "$ends" 'kahn_explain control.kahn --input FILE says why\n' control.kahn
+yes 100 | gives "a ring of waits, values alone" 0 '' "$ends" control.kahn --plain SET
+yes 'SET: 100' | gives "a ring of waits" 0 '' "$ends" control.kahn
 
 # the same has a status of its own where that is asked for: a ring, also beside what waits on an input, and a fault before a ring
-yes 100 | gives "a ring of waits, strictly" 7 '' "$ends"'kahn_explain control.kahn --input FILE says why\n' control.kahn --plain SET --strict
-yes 'SET: 100' | gives "a ring of waits, with names, strictly" 7 "$ends" 'kahn_explain control.kahn --input FILE says why\n' control.kahn --strict
+yes 100 | gives "a ring of waits, strictly" 7 '' "$ends" control.kahn --plain SET --strict
+yes 'SET: 100' | gives "a ring of waits, with names, strictly" 7 '' "$ends" control.kahn --strict
 cat > beside.kahn <<'P'
 begin integer input channel A; integer channel X, Y, Z; integer output channel B;
   process copy(integer in U; integer out W); begin repeat send wait(U) on W end;
@@ -285,10 +303,10 @@ end
 P
 printf '1\n2\n' > lines
 ends='end 1 copy: waits on X after 1\nend 2 copy: waits on Y after 1\nend 3 sum: waits on A after 7\nend 4 copy: waits on Z after 7\nfinished 16\n'
-gives "a ring beside what waits on an input" 0 '1\n3\n' '' beside.kahn --plain A < lines
+gives "a ring beside what waits on an input" 0 '1\n3\n' "$ends" beside.kahn --plain A < lines
 gives "a ring beside what waits on an input, strictly" 7 '1\n3\n' "$ends" beside.kahn --plain A --strict < lines
 printf '9223372036854775807\n1\n' > lines
-gives "a fault before a ring, strictly" 8 '9223372036854775807\n' 'beside.kahn: input line 2: 3 sum has a fault: overflow\nend 1 copy: waits on X after 1\nend 2 copy: waits on Y after 1\nend 3 sum: fault overflow after 5\nend 4 copy: waits on Z after 4\nfinished 11\nkahn_explain beside.kahn --input FILE says why\n' beside.kahn --plain A --strict < lines
+gives "a fault before a ring, strictly" 8 '9223372036854775807\n' 'beside.kahn: input line 2: 3 sum has a fault: overflow\nend 1 copy: waits on X after 1\nend 2 copy: waits on Y after 1\nend 3 sum: fault overflow after 5\nend 4 copy: waits on Z after 4\nfinished 11\n' beside.kahn --plain A --strict < lines
 
 # a fault is told as soon as there is one, once, where the others go on
 cat > shared.kahn <<'P'
@@ -309,7 +327,7 @@ wait "$process" 2> /dev/null
 
 gives "nothing amiss, strictly" 0 '2\n' '' "$double" --plain A --strict <<< '1'
 sed 's/integer output/integer channel X; &/; s/encode(RAW, RUNS, -1)/encode(RAW, X, -1) par copy(X, RUNS)/; s/^  encode/  process copy(integer in U; integer out W); begin repeat send wait(U) on W end;\n&/' runs.kahn > piped.kahn
-gives "what waits on one that has ended, strictly" 0 '2\n7\n1\n9\n' 'end 1 encode: ended after 12\nend 2 copy: waits on X after 13\nfinished 25\nkahn_explain piped.kahn --input FILE says why\n' piped.kahn --plain RAW --at-end -1 --strict <<< '7 7 9'
+gives "what waits on one that has ended, strictly" 0 '2\n7\n1\n9\n' '' piped.kahn --plain RAW --at-end -1 --strict <<< '7 7 9'
 gives "a refused line, strictly" 1 '2\n' "$double"': input line 2: not a value: `x`'"$values"'\nend 1 double: waits on A after 4\nfinished 4\n' "$double" --plain A --strict <<< $'1\nx'
 
 # who reads may go: then the program ends, and says nothing
@@ -323,7 +341,7 @@ done
 
 # two programs in one pipe
 printf 'A: 1\nA: 2\n' | "$live" "$double" | grep --line-buffered '^B' | sed -u 's/^B/A/' > lines
-gives "a pipe" 0 'B: 4\nB: 8\nend 1 double: waits on A after 7\nfinished 7\n' '' "$double" < lines
+gives "a pipe" 0 'B: 4\nB: 8\n' '' "$double" < lines
 
 # faults that end the program
 gives "no such channel to watch" 6 '' 'kahn: watched channel is not declared\n' "$double" --watch Z < /dev/null
@@ -371,7 +389,7 @@ soak() {
   (ulimit -t "$2"; yes 'A: 1' | head -n "$1" | "$live" sums.kahn > output.all)
   status=$?
   same "$1 lines: status" $status 0
-  if cmp -s <(sed -n 's/^SUMS: //p' output.all) <(seq "$1"); then pass; else fail "$1 lines: sums"; fi
+  if cmp -s output.all <(seq -f 'SUMS: %.0f' "$1"); then pass; else fail "$1 lines: sums"; fi
 }
 
 cat > sums.kahn << 'END'
@@ -385,7 +403,7 @@ END
 printf 'begin integer input channel A; integer output channel W; process one(integer in U; integer out V); begin send wait(U) on V end; one(A, W) end' > one.kahn
 yes 'A: 1' | timeout 10 "$live" one.kahn > output.all 2> error
 same "a network that is over: status" "${PIPESTATUS[1]}" 0
-same "a network that is over" "$(tr '\n' '|' < output.all)$(cat error)" 'W: 1|end 1 one: ended after 2|finished 2|'
+same "a network that is over" "$(tr '\n' '|' < output.all)$(cat error)" 'W: 1|'
 
 soak 200000 5
 
@@ -400,7 +418,7 @@ print(used.ru_maxrss if status == 0 else "failed")' "$live" sums.kahn
 few=$(most_memory 100000)
 many=$(most_memory 1200000)
 if [ "$many" != failed ] && [ "$((many - few))" -le 1024 ]; then pass; else fail "memory: $few kB for 100,000 lines, $many kB for 1,200,000"; fi
-same "1,200,000 lines: the last sum" "$(grep -c . output.all) $(tail -n 3 output.all | head -n 1)" "1200002 SUMS: 1200000"
+same "1,200,000 lines: the last sum" "$(grep -c . output.all) $(tail -n 1 output.all)" "1200000 SUMS: 1200000"
 
 # refuse NUMBER WORD..: refuses one growth. Where the first line is refused it is sent again; a blank line follows, and the end.
 refuse() {
@@ -423,7 +441,7 @@ refuse() {
   if [ $last = 4 ] && [ ! -s output.all ] && [ "$(cat error)" = "kahn: no memory" ]; then
     began=$((began + 1))
     pass
-  elif [ $last = 1 ] && [ "$values" = "$wanted" ] && [ "$(tail -n 3 output.all)" = "$whole_end" ]; then
+  elif [ $last = 1 ] && [ "$values" = "$wanted" ] && [ "$(tail -n 3 error)" = "$whole_end" ]; then
     alike=$((alike + 1))
     if grep -q 'memory' error; then
       waited=$((waited + 1))
@@ -440,8 +458,7 @@ began=0
 waited=0
 alike=0
 number=0
-printf 'N: 65\n' | "$live" copy.kahn > output.all
-whole_end=$(tail -n 3 output.all)
+whole_end=$(printf 'N: 65\nno line\n' | "$live" copy.kahn 2>&1 > output.all | tail -n 3)
 most=40
 [ "${1:-}" = whole ] && most=1000
 while [ $alike -lt 10 ] && [ $waited -lt $most ] && [ $number -lt 1000 ]; do

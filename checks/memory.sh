@@ -98,9 +98,9 @@ refuse_run() {
   ended "$name" "$3" "${held:+go on in the next part}"
 }
 
-# is_whole: whether the streams of the last run, put together, and its last lines are those of the whole report.
+# is_whole: whether the streams of the last run, put together, and its ends, if it told them, are those of the whole report.
 is_whole() {
-  [ $status = 0 ] && [ "W:$(sed -n 's/^W://p' part | tr -d '\n')" = "$(head -n 1 whole)" ] && cmp -s <(grep -v '^W:' whole) <(grep -v '^W:' part)
+  [ $status = 0 ] && [ "W:$(sed -n 's/^W://p' part | tr -d '\n')" = "$(head -n 1 whole)" ] && { ! grep -q '^end ' error || cmp -s <(grep -v '^W:' whole) <(grep -e '^end ' -e '^finished ' error); }
 }
 
 # refuse_parts QUANTUM: each growth of a live run in turn. Its first part may take just as many events as the run has; a blank line
@@ -111,8 +111,8 @@ refuse_parts() {
   begin
   while goes_on; do
     refused "$live" "${words[@]}" --step "$(sed -n 's/^finished //p' whole)" <<< ""
-    # why the copies wait in the end another program says
-    said=$(grep -v '^kahn_explain copies.kahn --input FILE says why$' error | head -c 300)
+    # how it ended may be told
+    said=$(grep -v -e '^end ' -e '^finished ' error | head -c 300)
     # a line for which memory was refused is passed over, and may be told by the status
     [ "$status $said" != "1 copies.kahn: input line 1: no memory" ] || status=0
     alike=$((alike + 1))

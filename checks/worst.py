@@ -286,9 +286,9 @@ def standard_error(paths, folder):
             each.wait()
     with open(f"{folder}/error", encoding="utf-8", errors="replace") as it:
         lines = it.read().splitlines()
-    whole = re.compile(re.escape(f"{folder}/sum.kahn: ") + r"input line \d+: (not a value: `x`|no such channel: `Q`);.*")
+    whole = re.compile(re.escape(f"{folder}/sum.kahn: ") + r"input line \d+: (not a value: `x`|no such channel: `Q`);.*|end 1 \w+: .*|finished \d+")
     mixed = sum(not whole.fullmatch(line) for line in lines)
-    return f"{mixed} of {len(lines)} lines are mixed" if mixed or len(lines) != 20000 else ""
+    return f"{mixed} of {len(lines)} lines are mixed" if mixed or len(lines) != 20004 else ""
 
 
 def refused_lines(paths, folder):

@@ -2,8 +2,9 @@
 
     live.py KAHN_LIVE KAHN [COUNT] [SEED]     the same seed makes the same texts; where none is given it is chosen at random
 
-The values of all input channels come in lines of one to four, in any order. What is printed of a stream, line after line, has to be a
-beginning of it; where both have finished streams, ends and events have to be the same. A difference is printed, and its texts are kept.
+The values of all input channels come in lines of one to four, in any order, and a line behind them is refused, so that the ends are told.
+Only values are printed; those of a stream, line after line, have to be a beginning of it. Where both have finished the streams have to be
+the same, and the ends and events, if they were told. A difference is printed, and its texts are kept.
 """
 import os
 import random
@@ -56,13 +57,20 @@ def read(report):
     return {name: values for name, values in streams.items() if values}, ends, last
 
 
+def lived(ran):
+    """The streams that a live run printed, and the ends and the last line that it told."""
+    streams, stray, last = read(ran.stdout.decode())
+    _, ends, told = read(ran.stderr.decode())
+    return streams, ends, told or ("finished" if ran.returncode == 0 else ""), [*stray, last] if last else stray
+
+
 def difference(ran, whole, step):
     """What is wrong with a live run, or None."""
-    (streams, ends, last), (solution, ends_then, last_then) = read(ran.stdout.decode()), read(whole)
+    (streams, ends, last, stray), (solution, ends_then, last_then) = lived(ran), read(whole)
     finished = [it.startswith("finished") for it in (last, last_then)]
-    if ran.returncode != (0 if finished[0] else 3):
-        return f"status {ran.returncode}, {ran.stderr[:300]!r}"
-    if all(finished) and (streams, ends, last) != (solution, ends_then, last_then):
+    if stray or ran.returncode not in ((0, 1) if finished[0] else (3,)):
+        return f"status {ran.returncode}, {stray}, {ran.stderr[:300]!r}"
+    if all(finished) and (streams != solution or (ends and (ends, last) != (ends_then, last_then))):
         return f"{streams} {ends} {last}, not {solution} {ends_then} {last_then}"
     if finished[1] and step == ENOUGH and not finished[0]:
         return f"{last}, not {last_then}"
@@ -82,13 +90,13 @@ def one(live, kahn, room, seed):
             it.write(content)
     words = [kahn, path, "--input", path + ".input", "--bound", str(ENOUGH), "--workers", "1"]
     whole = subprocess.run(words, stdin=subprocess.DEVNULL, capture_output=True, timeout=60).stdout.decode()
-    ran = subprocess.run([live, path, "--step", str(step)], input=lines.encode(), capture_output=True, timeout=60)
+    ran = subprocess.run([live, path, "--step", str(step)], input=lines.encode() + b"refused\n", capture_output=True, timeout=60)
     what = difference(ran, whole, step)
     if what is not None:
         return what, f"{path} --step {step} < {path}.lines"
     for name in ("", ".input", ".lines"):
         os.remove(path + name)
-    return None, read(ran.stdout.decode())[2].split()[0]
+    return None, lived(ran)[2].split()[0]
 
 
 def main():

@@ -12,12 +12,12 @@ use Rattle.kahn_fault.specs.declared.telling.Told.{Told}
 use Rattle.kahn_fault.specs.declared.texts.Texts.{Texts}
 use Rattle.kahn_fault.specs.declared.fault.Fault.TheVariants.{Work}
 
--- what the run of two texts that were read came to
+-- the result of the run of two texts that were read
 abbrev pub run_answer : Result Verdict WorkFault → Result Verdict Fault
 run_answer (Ok verdict) = Ok verdict
 run_answer (Err fault) = Err (Work fault)
 
--- the whole work was done on the texts; its fault, where there is one, went out to the writer of faults, as far as that took it; and the
+-- the whole work was done on the texts; its fault, if there is one, went out to the writer of faults, as far as that took it; and the
 -- status says how it ended
 abbrev pub HasRunTexts : Texts → Config → Option (List ℕ) → Option (List ℕ) → Option (List ℕ) → Option (List ℕ) → Told → Type 0
 HasRunTexts texts config old new untold told answer =

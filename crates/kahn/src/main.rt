@@ -15,7 +15,7 @@ use std::sync::Wait;
 use std::thread::Threads;
 use std::{env, io};
 
-/// Does what the command line asks for, and gives the status. Faults are told to the writer.
+/// Does what the command line asks for, and returns the status. Faults are reported to the writer.
 fn answered<R: Runtime + AllocGlobal + Threads + Wait + Sync, W: Write>(
     rt: &R,
     options: Options,

@@ -11,7 +11,7 @@ use std::rt::Runtime;
 use std::sync::Wait;
 use std::thread::Threads;
 
-/// What the run of texts that were read came to.
+/// Returns the result of the run of texts that were read.
 fn run_answer(worked: Result<Verdict, WorkFault>) -> Result<Verdict, Fault>
     ensures { result ≡ run_answer worked }
 {
@@ -21,8 +21,8 @@ fn run_answer(worked: Result<Verdict, WorkFault>) -> Result<Verdict, Fault>
     }
 }
 
-/// Runs the program text on the input text, writes the report to `writer`, and tells a fault to `errors`, in one line. It gives the exit
-/// status, and whether that line went out; if it didn't, the status stays.
+/// Runs the program text on the input text, writes the report to `writer`, and reports a fault to `errors`, in one line. Returns the
+/// exit status, and whether that line went out; if it didn't, the status stays.
 pub(crate) fn ran<R: Runtime + AllocGlobal + Threads + Wait + Sync, W: Write, E: Write>(
     rt: &R,
     texts: &Texts,

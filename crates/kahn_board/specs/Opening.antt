@@ -12,7 +12,7 @@ module _ {T : Type 0} where
     pub cells_are : length cells ≡ w.instances
     pub numbers_are : length published ≡ w.channels
     pub small : (c : ℕ) → c < w.channels → slice_index published c < 2 ^ 48
-    -- what a cell tells as flushed is published, on a channel that its instance writes
+    -- what a cell reports as flushed is published, on a channel that its instance writes
     pub flushes : (p c k : ℕ) (y : T) → get_elem? cells p ≡ some y → flushed_of (told y) c ≡ Some k → (c < w.channels) × (w.writer c ≡ Some p) × (k ≡ slice_index published c)
     -- and it is all that the cell sent
     pub flushed_all : (p : ℕ) (y : T) → get_elem? cells p ≡ some y → FlushedAll (told y)
@@ -37,11 +37,11 @@ module _ {T : Type 0} (told : T → Option Summary) (belongs : ℕ → T → Typ
   pub record Closes (v : View) : Type 0 where
     pub each : (length closed.cells.items ≡ w.instances) × ((p : ℕ) → p < w.instances → (y : T) × IsCell p y)
     pub belonging : (p : ℕ) (y : T) → p < w.instances → IsCell p y → belongs p y
-    -- nothing is drawn: the budget and the events told as done are the bound
+    -- nothing is drawn: the budget and the events reported as done add up to the bound
     pub budget_is : closed.budget + v.done ≡ d.bound
-    -- the cells' events have grown by those told as done, but for those that no cell told
+    -- the cells' events have grown by those reported as done, but for those that no cell reported
     pub events : (tally : ℕ → ℕ) × ((p : ℕ) (y : T) → p < w.instances → IsCell p y → TellsEvents (told y) (tally p)) × (d.events + v.done ≡ below tally w.instances + v.untold)
-    -- it is halted exactly where a seat saw so, and exactly where a seat halted it
+    -- it is halted exactly if a seat saw so, and exactly if a seat halted it
     pub halt_seen : (KnowsHalted v → closed.halted ≡ true) × (closed.halted ≡ true → KnowsHalted v)
     pub halt_raised : (0 < v.raised → closed.halted ≡ true) × (closed.halted ≡ true → 0 < v.raised)
     pub by_done : IsDone v → (closed.halted ≡ true) ⊎ ((closed.budget ≡ 0) ⊎ ((p : ℕ) (y : T) → p < w.instances → IsCell p y → IsQuietCell p y))

@@ -36,12 +36,12 @@ after_step v = record v { stage = 2; steps = v.steps + 1 }
 abbrev pub IsIn : View → ℕ → Type 0
 IsIn v p = slice_index v.hands p ≡ 1
 
--- the instance p is got: `flushed` is published, its cell told `events`
+-- the seat got the instance p: `flushed` is published, its cell reported `events`
 abbrev pub after_taking : View → ℕ → List ℕ → ℕ → ℕ → View
 after_taking v p flushed events seen =
     record (after_step v) { hands = slice_set v.hands p 1; flushed = flushed; events_when_got = slice_set v.events_when_got p events; seen = seen }
 
--- the instance p is given up, by a cell that tells t, with `more` counts down to pay
+-- the seat gave up the instance p, whose cell reports t, with `more` counts down to pay
 abbrev pub after_giving_up : View → ℕ → Option Summary → ℕ → View
 after_giving_up v p t more =
     record (after_step v) { hands = slice_set v.hands p 0; untold = v.untold - (events_past t (slice_index v.events_when_got p) - slice_index v.events_when_got p); down = v.down + more }
@@ -76,7 +76,7 @@ after_halting v = record (after_step v) { seen = 2; raised = v.raised + 1 }
 abbrev pub burden : View → ℕ
 burden v = total (λ x. x) v.hands + v.drawn + length v.owed + v.down
 
--- it saw that, and is done where it holds, drew and owes nothing, else busy
+-- it saw `seen`, and is done if it holds, drew and owes nothing, else busy
 abbrev pub after_looking : View → ℕ → View
 after_looking v seen = record (after_step v) { seen = seen; stage = cond (burden v == 0) 1 2 }
 
@@ -85,7 +85,7 @@ abbrev pub SeesMore : ℕ → ℕ → Type 0
 SeesMore old new = (new ≡ old) ⊎ (new ≡ 2)
 
 module _ {T : Type 0} (told : T → Option Summary) (belongs : ℕ → T → Type 0) (w : Wires) where
-  -- the seat took the cell y of the instance p: where it had a channel's writer it knows as much as before; what y tells as flushed is published; it has flushed all that it sent, or the run is halted; it belongs to p;
+  -- the seat took the cell y of the instance p: if it had a channel's writer, it knows as much as before; what y reports as flushed is published; it has flushed all that it sent, or the run is halted; it belongs to p;
   -- its events and those drawn are a number of 48 bits
   abbrev pub Got : Sat T → ℕ → Sat T → T → Type 0
   Got m p n y = (L : List ℕ) × (e : ℕ) × (seen : ℕ) × (n ≡ (after_taking m.0 p L e seen, (p, Some y) ∷ m.1)) × (slice_index m.0.hands p ≡ 0) × (length L ≡ length m.0.flushed)
@@ -99,7 +99,7 @@ module _ {T : Type 0} where
   abbrev pub at_moment : (St T → Type 0) → ℕ → Play T → Play T
   at_moment holds id then st m r n = then st m r n × WordWas holds id m.0 st.word r
 
-  -- the seat may step on the word of a table, where it leaves f n if it finds n, and learns what the play tells
+  -- the seat may step on the word of a table, which becomes f n if it was n, and learns what the play says
   abbrev pub MayStep : (St T → Type 0) → TableId → shared.Seat (Option T) View → ℕ → ℕ → ℕ → (ℕ → ℕ) → Play T → Type 0
   MayStep holds z s word old new f play = (s.table_id ≡ z) × (word < z.words) × Allows holds z.slots s.id s.me word f (play (step z.slots word old new none) s.me)
 

@@ -1,9 +1,7 @@
--- Believed. Where an instance stands, what seats owe to the count, what a board was made with, and the rule of its table: what is true between any two steps of any seats.
--- Words stand eight apart, each in a cache line of its own. Among n instances and m channels:
--- word 8 p of the instance p is 0 where it is ready, 1 where it is held or parked, 2 where it is over;
--- word 8 (n + c) of the channel c is 2 k, or 2 k + 1 where the reader is parked on it, k being the number published;
--- the budget, the count and halted stand at 8 (n + m), 8 (n + m + 1) and 8 (n + m + 2).
--- Slot p has the cell of the instance p.
+-- Believed. Where an instance is, what seats owe to the count, what a board was made with, and the rule of its table: what is true between any two steps of any seats.
+-- Words are eight apart, each in a cache line of its own. Among n instances and m channels: word 8 p of the instance p is 0 if it is ready, 1 if it is held or parked, 2
+-- if it is over; word 8 (n + c) of the channel c is 2 k, or 2 k + 1 if the reader is parked on it, k being the number published; the budget, the count and halted are at 8
+-- (n + m), 8 (n + m + 1) and 8 (n + m + 2). Slot p has the cell of the instance p.
 use Rattle.std.specs.Prelude.{◌≡◌, ◌≢◌, ◌⊎◌, ℕ, ◌+◌, ◌*◌, ◌/◌, ◌%◌, ◌^◌, ◌<◌, ◌≤◌, List, [], length, slice_index, replicate, Some, zero, suc, ◌∷◌, cond, ◌==◌}
 use Rattle.std.specs.Prelude as std
 use mathlib.Core.Option.{Option, none, some}
@@ -12,7 +10,7 @@ use Rattle.atomic_table.specs.Table.{State, Seen}
 use Rattle.kahn_board.specs.Wires.{Summary, TellsWait, TellsEnd, TellsEvents, FlushedAll, flushed_of, events_past, Wires, wires}
 use Rattle.kahn_board.specs.declared.{rule.Terms.Terms, view.View.View}
 
--- where an instance stands
+-- where an instance is
 pub data Place : Type 0 where
   ready : Place
   -- by the seat of this number
@@ -21,14 +19,14 @@ pub data Place : Type 0 where
   parked : ℕ → Place
   over : Place
 
--- the word of an instance that stands there
+-- the word of an instance that is there
 abbrev pub word_code : Place → ℕ
 word_code ready = 0
 word_code (held j) = 1
 word_code (parked c) = 1
 word_code over = 2
 
--- 1 where the seat j has it, else 0
+-- 1 if the seat j has it, else 0
 abbrev pub held_by : ℕ → Place → ℕ
 held_by j (held k) = cond (k == j) 1 0
 held_by j place = 0
@@ -37,7 +35,7 @@ abbrev pub parked_on : ℕ → Place → ℕ
 parked_on c (parked d) = cond (d == c) 1 0
 parked_on c place = 0
 
--- 1 where the reader of the channel c is parked on it, else 0
+-- 1 if the reader of the channel c is parked on it, else 0
 abbrev pub mark_of : (ℕ → Place) → std.Option ℕ → ℕ → ℕ
 mark_of place std.None c = 0
 mark_of place (Some p) c = parked_on c (place p)
@@ -64,7 +62,7 @@ abbrev pub Owes : List ℕ → Owed → Type 0
 Owes hands [] = Unit {0}
 Owes hands (x ∷ xs) = (slice_index hands x.0 ≡ 1) × (slice_index hands x.1 ≡ 1) × (x.0 ≢ x.1) × Apart x.0 xs × Apart x.1 xs × Owes hands xs
 
--- 1 where the instance is neither parked nor over
+-- 1 if the instance is neither parked nor over
 abbrev pub is_up : Place → ℕ
 is_up (parked c) = 0
 is_up over = 0
@@ -82,7 +80,7 @@ all_parts = 65536
 abbrev pub spent : View
 spent = record { parts = 0; hands = []; flushed = []; events_when_got = []; drawn = 0; done = 0; untold = 0; owed = []; down = 0; seen = 0; stage = 0; steps = 0; raised = 0 }
 
--- the view of a seat that has so many parts, and has and knows nothing, among n instances and k channels
+-- the view of a seat with these parts that has and knows nothing, among n instances and k channels
 abbrev pub blank : ℕ → ℕ → ℕ → View
 blank n k parts = record spent { parts = parts; hands = replicate n 0; flushed = replicate k 0; events_when_got = replicate n 0 }
 
@@ -150,14 +148,14 @@ IsHalter views = (j : ℕ) × (v : View) × (get_elem? views j ≡ some v) × Kn
 abbrev pub Quiet : ℕ → (ℕ → Place) → List View → Type 0
 Quiet n place views = ((p : ℕ) → p < n → is_up (place p) ≡ 0) × (total (λ v. length v.owed) views ≡ 0) × (total (λ v. v.down) views ≡ 0)
 
--- the channel c is marked where its reader is parked on it; one that no instance writes keeps its number
+-- the channel c is marked if its reader is parked on it; one that no instance writes keeps its number
 pub record ChannelIs (w : Wires) (d : Deal) (place : ℕ → Place) (words : List ℕ) (c : ℕ) : Type 0 where
   pub mark : slice_index words (channel_at w c) % 2 ≡ mark_of place (w.reader c) c
   pub fixed : w.writer c ≡ std.None → published w words c ≡ d.published c
 
 -- the view v of the seat j is right: it has what is in its hands, which no other seat has, and knows how much is published by the writers among them.
--- Who owes a count up holds the woken reader and its waker. What it saw stays so, and who halted the run knows so. One that has left has no draw,
--- and one without a part is spent
+-- One that owes a count up holds the woken reader and its waker. What it saw stays true, and one that halted the run knows so. One that has left has
+-- no draw, and one without a part is spent
 pub record SeatIs (w : Wires) (place : ℕ → Place) (tally : ℕ → ℕ) (words : List ℕ) (j : ℕ) (v : View) : Type 0 where
   pub hands : (p : ℕ) → p < w.instances → slice_index v.hands p ≡ held_by j (place p)
   pub inside : (p : ℕ) → 0 < slice_index v.hands p → p < w.instances
@@ -182,14 +180,15 @@ module _ {T : Type 0} where
   HasSlot (held j) h = h ≡ some none
   HasSlot place h = (y : T) × (h ≡ some (some (Some y)))
 
-  -- the instance p stands at one place: its word and its slot say so, and where it is held there is the seat; it is parked on a channel that it reads
+  -- the instance p is at one place: its word and its slot say so, and if it is held, there is that seat; it is parked on a channel that it
+  -- reads
   pub record PlaceIs (w : Wires) (place : ℕ → Place) (s : St T) (p : ℕ) : Type 0 where
     pub word_is : slice_index s.words (8 * p) ≡ word_code (place p)
     pub cell_is : HasSlot (place p) (get_elem? s.homes p)
     pub seated : (j : ℕ) → place p ≡ held j → j < length s.views
     pub reads : (c : ℕ) → place p ≡ parked c → (c < w.channels) × (w.reader c ≡ Some p)
 
-  -- where one seat is done and all others are done or unused
+  -- one seat is done and all others are done or unused
   abbrev pub AllLeft : St T → Type 0
   AllLeft s = ((j : ℕ) (v : View) → get_elem? s.views j ≡ some v → IsNotBusy v) × ((j : ℕ) × (v : View) × (get_elem? s.views j ≡ some v) × IsDone v)
 
@@ -198,8 +197,8 @@ module _ {T : Type 0} where
   Stopped w s = (halted w s.words ≢ 0) ⊎ ((count w s.words ≡ 0) ⊎ ((budget w s.words ≡ 0) × (total (λ v. v.drawn) s.views ≡ 0)))
 
 module _ {T : Type 0} (told : T → std.Option Summary) (belongs : ℕ → T → Type 0) (w : Wires) where
-  -- the cell y of the instance p, which is at home: where it is parked it waits there and took what is published; where it is over it has ended. What it tells
-  -- as flushed is published, and is all that it sent, unless halted. It told so many events when it was last given up, and belongs to p
+  -- the cell y of the instance p, which is at home: if it is parked, it waits there and took what is published; if it is over, it has ended. What it reports
+  -- as flushed is published, and is all that it sent, unless halted. It reported its tally of events when it was last given up, and belongs to p
   pub record HomeIs (place : ℕ → Place) (tally : ℕ → ℕ) (words : List ℕ) (p : ℕ) (y : T) : Type 0 where
     pub waits : (c : ℕ) → place p ≡ parked c → TellsWait (told y) c (published w words c)
     pub ends : place p ≡ over → TellsEnd (told y)
@@ -217,14 +216,14 @@ module _ {T : Type 0} (told : T → std.Option Summary) (belongs : ℕ → T →
     pub cells : (p : ℕ) (y : T) → p < w.instances → IsHome s p y → HomeIs place tally s.words p y
     pub seats : (j : ℕ) (v : View) → get_elem? s.views j ≡ some v → SeatIs w place tally s.words j v
     pub parts : total (λ v. v.parts) s.views ≡ all_parts
-    -- no event is drawn twice or lost: budget, undone draws and events told as done are the bound
+    -- no event is drawn twice or lost: budget, undone draws and events reported as done add up to the bound
     pub small : d.bound + d.events < 2 ^ 48
     pub budgeted : budget w s.words + total (λ v. v.drawn) s.views + total (λ v. v.done) s.views ≡ d.bound
-    -- what is told as done is told by cells, but for those that no cell has told yet
+    -- what is reported as done is reported by cells, but for what no cell has reported yet
     pub tallied : d.events + total (λ v. v.done) s.views ≡ below tally w.instances + total (λ v. v.untold) s.views
     -- the count is the number of instances neither parked nor over, but for what is owed to it
     pub counted : count w s.words + total (λ v. length v.owed) s.views ≡ below (λ p. is_up (place p)) w.instances + total (λ v. v.down) s.views
-    -- it is halted only where a seat did so
+    -- it is halted only if a seat did so
     pub halter : halted w s.words ≢ 0 → IsHalter s.views
     -- once all seats have left there is a reason
     pub left : AllLeft s → Stopped w s
@@ -250,7 +249,7 @@ module _ {T : Type 0} where
   belongs after key p y = (x : T) → get_elem? key.cells.value.items p ≡ some x → after x y
 
 module _ {T : Type 0} (told : T → std.Option Summary) where
-  -- the events that the cells tell when the board is made
+  -- the events that the cells report when the board is made
   abbrev pub events_told : List T → ℕ
   events_told cells = total (λ y. events_past (told y) 0) cells
 

@@ -1,4 +1,4 @@
--- Believed. What the rule reads of a network, and what a cell tells of itself, for contracts alone.
+-- Believed. What the rule reads of a network, and what a cell reports of itself, for contracts alone.
 use Rattle.std.specs.List.{list_any}
 use Rattle.std.specs.Prelude.{ℕ, length, position, Bool, false, ◌==◌, Option, ◌≡◌, ◌+◌, ◌≤◌, true, Some, None, IfSome}
 use Rattle.kahn_streams.specs.declared.tree.Program.{Program}
@@ -25,7 +25,7 @@ wires program = record {
   writer = λ c. position (λ i. list_any (λ a. is_written a c) i.actuals) (network_of program).instances;
 }
 
--- what a cell tells
+-- what a cell reports
 pub record Summary : Type 0 where
   pub events : ℕ
   pub has_ended : Bool
@@ -33,10 +33,10 @@ pub record Summary : Type 0 where
   pub waits : Option ℕ
   -- how many tokens it took from the channel
   pub taken : ℕ → ℕ
-  -- how many tokens it sent into the channel, and how many of them it flushed, where it writes it
+  -- how many tokens it sent into the channel, and how many of them it flushed, if it writes it
   pub wrote : ℕ → Option (ℕ × ℕ)
 
--- a cell that tells nothing meets all of these
+-- a cell that reports nothing meets all of these
 abbrev pub TellsWait : Option Summary → ℕ → ℕ → Type 0
 TellsWait told c k = IfSome told (λ t. (t.waits ≡ Some c) × (t.taken c ≡ k))
 
@@ -61,11 +61,11 @@ FlushedAll t = (c k l : ℕ) → wrote_of t c ≡ Some (k, l) → k ≡ l
 abbrev pub TellsEvents : Option Summary → ℕ → Type 0
 TellsEvents told k = IfSome told (λ t. t.events ≡ k)
 
--- its events, where it told k before; one that tells nothing has done nothing
+-- its events, or k, those before, if it reports nothing
 abbrev pub events_past : Option Summary → ℕ → ℕ
 events_past None k = k
 events_past (Some t) k = t.events
 
--- its events past k are among those told as done
+-- its events past k are among those reported as done
 abbrev pub Accounts : Option Summary → ℕ → ℕ → Type 0
 Accounts told k untold = IfSome told (λ t. (k ≤ t.events) × (t.events ≤ k + untold))

@@ -16,13 +16,13 @@ use std::marker::Brand;
 
 type TableSeat<T> = atomic_table::Seat<Option<T>, View>;
 
-/// Where the cells of a network stand.
+/// Where the cells of a network are kept.
 pub struct Board<T: Told> {
     pub(crate) table: Table<Option<T>, View, Terms<T>, Rule<T>, Global>,
     pub instances: usize,
     pub channels: usize,
     pub readers: Vec<Option<usize>, Global>,
-    // The room of the list that `close` hands out.
+    // The memory of the list that `close` returns.
     pub(crate) room: Vec<T, Global>,
     ghost sized: { (table.shared.table_id.words ≡ 8 * (instances + channels) + 24) × (table.shared.table_id.slots ≡ instances) },
     ghost counts: { ((wired table.shared.key).instances ≡ instances) × ((wired table.shared.key).channels ≡ channels) },
@@ -35,7 +35,7 @@ impl<T: Told> Board<T> {
     ghost use prog.Atomic.{either};
     ghost use Rattle.kahn_board.specs.Plays.{HasPlayed, MayStep};
 
-    // A load: the word was so at a moment of the call.
+    // A load: the word had this value at some moment of the call.
     fn load<P: Play<Option<T>, View>>(&self, seat: &mut TableSeat<T>, word: usize) -> u64
         requires { MayStep (holds T.told T.after self.now.table.shared.key) self.now.table.shared.table_id seat.old word 0 0 (λ n. n) P.then }
         ensures { HasPlayed (holds T.told T.after self.now.table.shared.key) self.now.table.shared.table_id seat.old seat.new word 0 0 P.then result }
@@ -43,7 +43,7 @@ impl<T: Told> Board<T> {
         self.table.shared.load::<Brand>(seat, word)
     }
 
-    // A load whose play speaks of a number of the caller's.
+    // A load whose play names a number of the caller's.
     fn load_with<P>(&self, seat: &mut TableSeat<T>, word: usize, number: u64) -> u64
     where
         P: Play<Option<T>, View>,
@@ -54,7 +54,7 @@ impl<T: Told> Board<T> {
         self.load::<P>(seat, word)
     }
 
-    // A compare and exchange: the word was as found at a moment of the call.
+    // A compare-and-exchange: the word had the value found at some moment of the call.
     fn compare_exchange<P>(&self, seat: &mut TableSeat<T>, word: usize, old: u64, new: u64) -> u64
     where
         P: Play<Option<T>, View>,
@@ -90,7 +90,7 @@ impl<T: Told> Board<T> {
         self.budget_word() + 8
     }
 
-    // The word that tells whether the run is halted.
+    // The word that says whether the run is halted.
     #[inline(always)]
     pub(crate) fn halted_word(&self) -> usize
         ensures { result ≡ halted_at (wired self.now.table.shared.key) }
@@ -98,7 +98,7 @@ impl<T: Told> Board<T> {
         self.budget_word() + 16
     }
 
-    // Who reads the channel, where somebody does.
+    // The reader of the channel, which has one.
     fn reader(&self, channel: usize) -> usize
         requires { (channel < self.now.channels) × ((p : ℕ) × ((wired self.now.table.shared.key).reader channel ≡ Some p)) }
         ensures { (wired self.now.table.shared.key).reader channel ≡ Some result }
@@ -109,7 +109,7 @@ impl<T: Told> Board<T> {
         reader
     }
 
-    /// Whether the instance looks ready. It is a hint, of which no clause says more, for a worker that waits a little.
+    /// Whether the instance looks ready: a hint for a worker that spins. No clause says more.
     pub fn looks_ready(&self, p: usize) -> bool
         requires { p < self.now.instances }
     {
@@ -117,7 +117,7 @@ impl<T: Told> Board<T> {
     }
 }
 
-/// The token of one worker.
+/// One worker's access to the board.
 #[derive(Drop)]
 pub struct Seat<T> {
     pub(crate) seat: TableSeat<T>,
@@ -134,8 +134,8 @@ impl<T: Told> Seat<T> {
     ghost use Rattle.atomic_table.specs.Table.{turned as shifted};
     ghost use Rattle.kahn_board.specs.Rule.{belongs, wired};
 
-    /// Whether the instance is ready: it was so, or it wasn't, at a moment of the call. An idle worker looks before it claims,
-    /// since a claim writes a word.
+    /// Whether the instance was ready at some moment of the call. An idle worker looks before it claims, since a claim writes
+    /// a word.
     pub fn looks_ready(&mut self, board: &Board<T>, p: usize) -> bool
         requires { IsAtBoard board.now self.old × (p < board.now.instances) }
         ensures { LooksAt T.told T.after board.now.table.shared.key self.old self.new p result }
@@ -144,8 +144,8 @@ impl<T: Told> Seat<T> {
         found == 0
     }
 
-    /// Takes the instance into the seat's hands where it is ready, with its cell at home. `None` where it isn't ready: then
-    /// all stays as it is.
+    /// Takes the instance into the seat's hands if it is ready, with its cell at home. `None` if it isn't: then nothing
+    /// changes but what the seat knows.
     pub fn claim(&mut self, board: &Board<T>, p: usize) -> Option<()>
         requires { IsAtBoard board.now self.old × (p < board.now.instances) }
         ensures { Claims T.told T.after board.now.table.shared.key self.old self.new p result }
@@ -158,7 +158,7 @@ impl<T: Told> Seat<T> {
         Some(())
     }
 
-    // The first slot goes behind the others.
+    // Moves the first slot after the others.
     fn rotate(&mut self)
         requires { 0 < length self.old.held.items }
         ensures { IsSameSeat self.old self.new × (self.new.seat.me ≡ (self.old.seat.me.0, shifted self.old.seat.me.1)) }
@@ -168,7 +168,7 @@ impl<T: Told> Seat<T> {
         self.seat.turn();
     }
 
-    // Its slot comes first.
+    // Moves its slot to the front.
     fn bring_to_front(&mut self, p: usize)
         requires { IsIn self.old.seat.me.0 p }
         ensures same { IsSameSeat self.old self.new × (self.new.seat.me.0 ≡ self.old.seat.me.0) }
@@ -180,7 +180,7 @@ impl<T: Told> Seat<T> {
         }
     }
 
-    /// Moves the cell out: the only one that the seat has of the instance.
+    /// Moves the cell out, the only one that the seat has of the instance.
     pub fn take_cell(&mut self, board: &Board<T>, p: usize) -> T
         requires board { IsAtBoard board.now self.old }
         requires held { IsIn self.old.seat.me.0 p × ((y : T) × Carries self.old.seat.me.1 p (Some y)) }
@@ -192,7 +192,7 @@ impl<T: Told> Seat<T> {
         shared.exchange(&mut self.seat, p, None).unwrap()
     }
 
-    /// Puts the cell in.
+    /// Puts the cell back.
     pub fn put_back(&mut self, board: &Board<T>, p: usize, cell: T)
         requires board { IsAtBoard board.now self.old }
         requires held { IsIn self.old.seat.me.0 p × Carries self.old.seat.me.1 p None }
@@ -203,7 +203,7 @@ impl<T: Told> Seat<T> {
         let None = old else { unreachable!() };
     }
 
-    /// The instance is ready again, or over.
+    /// Sets the instance down: it is ready again, or over.
     pub fn set_down(&mut self, board: &Board<T>, p: usize, rest: Rest)
         requires board { IsAtBoard board.now self.old }
         requires held { MayLeave T.told T.after board.now.table.shared.key self.old p (λ y. rest ≡ Over → TellsEnd (T.told y)) }
@@ -220,7 +220,7 @@ impl<T: Told> Seat<T> {
         let _ = self.held.pop_front();
     }
 
-    /// The instance waits on the channel, unless other than `taken` tokens of it are published.
+    /// Parks the instance on the channel. False only if other than `taken` tokens of it are published.
     pub fn park(&mut self, board: &Board<T>, p: usize, channel: usize, taken: u64) -> bool
         requires board { IsAtBoard board.now self.old }
         requires reads { (channel < board.now.channels) × ((wired board.now.table.shared.key).reader channel ≡ Some p) × (taken < 2 ^ 48) }
@@ -238,7 +238,7 @@ impl<T: Told> Seat<T> {
         true
     }
 
-    /// So many tokens of the channel are published. Where its reader was parked on it, the seat has the reader now.
+    /// Publishes `count` tokens of the channel. Returns its reader if it was parked on it: the seat has the reader now.
     pub fn publish(&mut self, board: &Board<T>, channel: usize, count: u64) -> Option<usize>
         requires board { IsAtBoard board.now self.old }
         requires few { (channel < board.now.channels) × (count < 2 ^ 48) }
@@ -295,7 +295,7 @@ impl<T: Told> Seat<T> {
         }
     }
 
-    /// So many events of the draw were done. The others may still be done.
+    /// Reports that `n` events of the draw were done. The others may still be done.
     pub fn report_done(&mut self, board: &Board<T>, n: u64)
         requires board { IsAtBoard board.now self.old }
         requires drawn { n ≤ self.old.seat.me.0.drawn }
@@ -304,7 +304,7 @@ impl<T: Told> Seat<T> {
         board.load_with::<Brand>(&mut self.seat, board.budget_word(), n);
     }
 
-    /// So many events of the draw weren't done, the others were.
+    /// Gives back `n` events of the draw, which weren't done. The others were.
     pub fn give_back(&mut self, board: &Board<T>, n: u64)
         requires board { IsAtBoard board.now self.old }
         requires drawn { n ≤ self.old.seat.me.0.drawn }
@@ -314,7 +314,7 @@ impl<T: Told> Seat<T> {
         shared.fetch_add::<GivingBack>(&mut self.seat, board.budget_word(), n);
     }
 
-    /// The run is to stop.
+    /// Halts the run.
     pub fn halt(&mut self, board: &Board<T>)
         requires board { IsAtBoard board.now self.old }
         ensures { Becomes (after_halting self.old.seat.me.0) self.old self.new }
@@ -349,7 +349,7 @@ pub enum Rest {
     Over,
 }
 
-/// What a draw got.
+/// The result of a draw.
 #[derive(Clone, Copy)]
 pub enum Draw {
     Got(u64),
@@ -358,7 +358,7 @@ pub enum Draw {
     Empty,
 }
 
-/// What a look saw.
+/// The result of a look.
 #[derive(Clone, Copy)]
 pub enum Look {
     Halted,

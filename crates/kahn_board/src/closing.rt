@@ -1,4 +1,4 @@
-//! Seats are split and joined, and the board is closed.
+//! Splits and joins seats, and closes the board.
 
 ghost use Rattle.std.specs.Prelude.{◌≡◌, ℕ, ◌+◌, ◌*◌, ◌^◌, ◌<◌, ◌≤◌, [], Option, Some, length, slice_index, replicate, All, IfOk, IfErr};
 ghost use mathlib.Core.Option.{some};
@@ -16,7 +16,7 @@ use kahn_streams::NoMemory;
 use std::alloc::Global;
 use std::collections::VecDeque;
 
-/// How a seat's view is cut in two: the second part is an unused seat.
+/// How a seat's view is split: the second part is an unused seat.
 pub struct Cut;
 
 impl Split<View> for Cut {
@@ -27,7 +27,7 @@ impl Split<View> for Cut {
     ghost right = { split_off };
 }
 
-/// How the views of two seats are put together: the second is spent.
+/// How the views of two seats are joined: the second is spent.
 pub struct Both;
 
 impl Join<View> for Both {
@@ -40,7 +40,7 @@ impl Join<View> for Both {
 }
 
 impl<T: Told> Board<T> {
-    /// A second seat, with one part of the first.
+    /// Splits off a second seat, with one part of the first.
     pub fn split(
         &self,
         alloc: Global,
@@ -57,7 +57,7 @@ impl<T: Told> Board<T> {
         Ok((seat, Seat { seat: second, held }))
     }
 
-    /// One seat of the two.
+    /// Joins two seats to one.
     pub fn join(&self, mut seat: Seat<T>, other: Seat<T>) -> Seat<T>
         requires { IsAtBoard self.now seat × IsAtBoard self.now other × IsFree other.seat.me.0 }
         ensures { IsSameSeat seat result × (result.seat.me ≡ (after_joining seat.seat.me.0 other.seat.me.0, seat.seat.me.1)) }
@@ -67,7 +67,7 @@ impl<T: Told> Board<T> {
         seat
     }
 
-    /// Each cell, in order, the budget, and whether the run was halted.
+    /// Returns each cell, in order, the budget, and whether the run was halted.
     pub fn close(self, seat: Seat<T>) -> Closed<T>
         requires { IsAtBoard self seat × (seat.seat.me.0.parts ≡ all_parts) × IsFree seat.seat.me.0 }
         ensures { Closes T.told (belongs T.after self.table.shared.key) (wired self.table.shared.key) (dealt T.told self.table.shared.key) result seat.seat.me.0 }
@@ -96,14 +96,14 @@ impl<T: Told> Board<T> {
     }
 }
 
-/// What a closed board hands out.
+/// What a closed board returns.
 pub struct Closed<T> {
     pub cells: Vec<T, Global>,
     pub budget: u64,
     pub halted: bool,
 }
 
-/// So many seats from one. `NoMemory` comes with the one seat.
+/// Splits one seat into `count`. `NoMemory` comes with the one seat.
 pub fn split_all<T: Told>(
     alloc: Global,
     board: &Board<T>,
@@ -137,7 +137,7 @@ pub fn split_all<T: Told>(
     Ok(seats)
 }
 
-// One seat of the first and the others.
+// Joins the first seat and the others.
 fn join_rest<T: Told>(board: &Board<T>, first: Seat<T>, mut others: Vec<Seat<T>, Global>) -> Seat<T>
     requires first { SitsAt board.now.table.shared.table_id first }
     requires others { All (SitsAt board.now.table.shared.table_id) others.items }
@@ -153,7 +153,7 @@ fn join_rest<T: Told>(board: &Board<T>, first: Seat<T>, mut others: Vec<Seat<T>,
     seat
 }
 
-/// One seat of all that have left.
+/// Joins all seats, each of which has left.
 pub fn join_all<T: Told>(board: &Board<T>, mut seats: Vec<Seat<T>, Global>) -> Seat<T>
     requires some { 0 < length seats.items }
     requires each { All (IsDoneAt board.now.table.shared.table_id) seats.items }

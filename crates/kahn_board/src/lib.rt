@@ -1,4 +1,5 @@
-//! Where the cells of a network stand while several workers run them: one pair of hands for each cell, a budget of events, and a reason to stop.
+//! The board that holds the cells of a network while several workers run them: at most one worker at each cell, a budget of events, and a
+//! reason to stop.
 #![tactic(auto)]
 
 mod board;

@@ -17,7 +17,7 @@ use std::alloc::{AllocError, Global};
 use std::collections::VecDeque;
 use std::snapshot::Snapshot;
 
-// The first words, eight apart: 0 for each instance, twice the number published for each channel, the bound, the
+// Lays the first words, eight apart: 0 for each instance, twice the number published for each channel, the bound, the
 // number of instances, and 0.
 fn lay_words(
     alloc: Global,
@@ -38,7 +38,7 @@ fn lay_words(
     Ok(words)
 }
 
-// The cells go into slots, and their room is left.
+// Moves the cells into slots, and returns their empty list.
 fn into_slots<T>(
     mut cells: Vec<T, Global>,
     mut slots: Vec<Option<T>, Global>,
@@ -53,7 +53,7 @@ fn into_slots<T>(
     (cells, slots)
 }
 
-// The cells go back into their room.
+// Moves the cells back into their list.
 fn out_of_slots<T>(mut slots: Vec<Option<T>, Global>, mut cells: Vec<T, Global>) -> Vec<T, Global>
     requires full { (xs : List T) × (slots.items ≡ map Some xs) }
     requires room { (cells.items ≡ []) × (length slots.items ≤ vec_capacity cells) }
@@ -68,7 +68,7 @@ fn out_of_slots<T>(mut slots: Vec<Option<T>, Global>, mut cells: Vec<T, Global>)
     cells
 }
 
-// All that a board takes memory for, but its table: the first words, the list of a seat, and the slots.
+// All that a board allocates but its table: the first words, the list of a seat, and the slots.
 type Reserved<T> = (
     Wiring,
     Vec<u64, Global>,
@@ -96,7 +96,7 @@ fn reserved<T>(
 }
 
 impl<T: Told> Board<T> {
-    /// A board and its first seat. All instances are ready, of channel c `published[c]` tokens are published, the
+    /// Makes a board and its first seat. All instances are ready, `published[c]` tokens of channel c are published, the
     /// budget is the bound and the count is the number of instances. `NoMemory` comes with the cells.
     pub fn new(
         alloc: Global,

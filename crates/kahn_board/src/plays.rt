@@ -6,7 +6,7 @@ use crate::view::View;
 use atomic_table::Play;
 use std::marker::Brand;
 
-// What a step tells that speaks of cells, of the network or of a moment is picked where the step is made.
+// What a step tells of cells, of the network or of a moment is chosen where the step is made.
 impl<T> Play<Option<T>, View> for Brand {
     ghost then = { λ _ _ _ _. Unit {0} };
 }

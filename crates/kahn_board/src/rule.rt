@@ -1,4 +1,4 @@
-//! What a cell tells, and the rule of the table.
+//! What a cell reports, and the rule of the table.
 
 ghost use Rattle.std.specs.Prelude.{Option};
 ghost use Rattle.kahn_board.specs.Wires.{Summary};
@@ -10,17 +10,17 @@ use std::alloc::Global;
 use std::marker::PhantomData;
 use std::snapshot::Snapshot;
 
-/// What a cell tells contracts of itself: the events that it did, what it took, sent and flushed, and whether it
-/// has ended or waits. A cell that tells nothing meets every condition.
+/// What a cell reports to contracts: its events, what it took, sent and flushed, and whether it has ended or waits. A
+/// cell that reports nothing meets every condition.
 pub trait Told {
     ghost told: { Self → Option Summary };
 
-    /// The second is a later state of the first. The board asks no law of it.
+    /// The second is a later state of the first. The board requires no law of it.
     ghost after: { Self → Self → Type 0 };
 }
 
-/// What a board was made of: the network, the first words, the cells and the bound. Contracts alone read the first
-/// three, which take no bytes.
+/// What a board was made of: the network, the first words, the cells and the bound. Only contracts read the first
+/// three, which have no bytes.
 #[derive(Drop)]
 pub struct Terms<T> {
     pub network: Snapshot<Network>,

@@ -11,11 +11,11 @@ ghost use Rattle.kahn_board.specs.inner.Turn.{DrawsAgain, FitsDraw, drawn_of, Be
 use crate::board::{Board, Draw, Look, Rest, Seat};
 use crate::rule::Told;
 
-// How often it draws at most, where another worker comes between.
+// How often it draws at most when other workers come between.
 const DRAWS: usize = 64;
 
-/// Takes the instance, where it is ready, for what is left of a draw. False where it is not, since another worker has it,
-/// or it waits, or it is over: its word was not 0 then.
+/// Claims the instance, if it is ready, for what is left of a draw. False if it isn't, since another worker has it, or it
+/// waits, or it is over: its word was not 0 then.
 pub fn claim<T: Told>(seat: &mut Seat<T>, board: &Board<T>, p: usize) -> bool
     requires board { IsAtBoard board.now seat.old }
     requires rests { (n : ℕ) × IsBetween n seat.old }
@@ -29,8 +29,8 @@ pub fn claim<T: Told>(seat: &mut Seat<T>, board: &Board<T>, p: usize) -> bool
     seat.claim(board, p).is_some()
 }
 
-/// Draws events from the budget, again where another worker comes between: the smaller of `quantum` and the budget at that
-/// moment. `Empty` where the budget was 0, `Lost` where another worker came between 64 times.
+/// Draws events from the budget, again if another worker comes between: the smaller of `quantum` and the budget at that
+/// moment. `Empty` if the budget was 0, `Lost` if another worker came between 64 times.
 pub fn draw_some<T: Told>(seat: &mut Seat<T>, board: &Board<T>, p: usize, quantum: u64) -> Draw
     requires board { IsAtBoard board.now seat.old }
     requires holds { (x : Option T) × HoldsInTurn p 0 0 x seat.old }
@@ -51,8 +51,8 @@ pub fn draw_some<T: Told>(seat: &mut Seat<T>, board: &Board<T>, p: usize, quantu
     seat.draw(board, quantum)
 }
 
-/// So many tokens of the channel are published. Answers the reader where it waited on the channel: it is ready again.
-/// `None` where the one step was all there was to do.
+/// Publishes `count` tokens of the channel. Returns the reader if it waited on the channel: it is ready again. `None`
+/// if that one step was all.
 pub fn publish<T: Told>(
     seat: &mut Seat<T>,
     board: &Board<T>,
@@ -75,7 +75,7 @@ pub fn publish<T: Told>(
     Some(reader)
 }
 
-/// The instance is ready for another turn.
+/// Sets the instance down, ready for another turn.
 pub fn rest_ready<T: Told>(seat: &mut Seat<T>, board: &Board<T>, p: usize)
     requires board { IsAtBoard board.now seat.old }
     requires holds { EndsTurn T.told T.after board.now.table.shared.key p (λ y. Unit {0}) seat.old }
@@ -86,7 +86,7 @@ pub fn rest_ready<T: Told>(seat: &mut Seat<T>, board: &Board<T>, p: usize)
     seat.set_down(board, p, Rest::Ready);
 }
 
-/// The instance has ended.
+/// Sets down the instance, which has ended.
 pub fn rest_over<T: Told>(seat: &mut Seat<T>, board: &Board<T>, p: usize)
     requires board { IsAtBoard board.now seat.old }
     requires holds { EndsTurn T.told T.after board.now.table.shared.key p (λ y. TellsEnd (T.told y)) seat.old }
@@ -98,8 +98,8 @@ pub fn rest_over<T: Told>(seat: &mut Seat<T>, board: &Board<T>, p: usize)
     seat.count_down(board);
 }
 
-/// The instance waits on the channel, of which it took so many tokens. False where another number was published: then it
-/// is ready for another turn.
+/// Parks the instance on the channel, of which it took `taken` tokens. False if another number was published: then it is
+/// ready for another turn.
 pub fn rest_dry<T: Told>(
     seat: &mut Seat<T>,
     board: &Board<T>,
@@ -123,8 +123,8 @@ pub fn rest_dry<T: Told>(
     true
 }
 
-/// Whether another turn comes. False where it saw that the run is halted, that no instance can go on, or that the budget
-/// is empty: then it has left.
+/// Whether another turn comes. False if it saw that the run is halted, that no instance can go on, or that the budget is
+/// empty: then it has left.
 pub fn go_on<T: Told>(seat: &mut Seat<T>, board: &Board<T>) -> bool
     requires board { IsAtBoard board.now seat.old }
     requires idle { IsBetweenTurns seat.old }

@@ -15,7 +15,7 @@ pub struct Wiring {
     pub readers: Vec<Option<usize>, Global>,
 }
 
-/// The instance that reads the channel, where one does; none reads an output channel. It takes no memory.
+/// Returns the instance that reads the channel, if one does; none reads an output channel. Never allocates.
 pub fn reader_of(network: &Network, channel: usize) -> Option<usize>
     requires { channel < (wires network.now).channels }
     ensures { result ≡ (wires network.now).reader channel }
@@ -23,7 +23,7 @@ pub fn reader_of(network: &Network, channel: usize) -> Option<usize>
     Some(network.reader(channel)?.instance)
 }
 
-/// The instance that writes the channel, where one does; none writes an input channel. It takes no memory.
+/// Returns the instance that writes the channel, if one does; none writes an input channel. Never allocates.
 pub fn writer_of(network: &Network, channel: usize) -> Option<usize>
     requires { channel < (wires network.now).channels }
     ensures { result ≡ (wires network.now).writer channel }
@@ -32,7 +32,7 @@ pub fn writer_of(network: &Network, channel: usize) -> Option<usize>
 }
 
 impl Wiring {
-    /// That of a network.
+    /// Makes that of a network.
     pub fn of(alloc: Global, network: &Network) -> Result<Wiring, NoMemory>
         ensures { IfOk result (IsWiringOf network.now) }
     {

@@ -10,7 +10,7 @@ use Rattle.kahn_chain.specs.declared.standing.Standing.TheVariants.{Ended, Waits
 use Rattle.kahn_chain.specs.declared.standing.Cause.{Cause}
 use Rattle.kahn_chain.specs.declared.standing.Cause.TheVariants.{Input, Stopped, Ring}
 
--- how an instance stands that has this outcome, or this end
+-- the standing of an instance with this outcome, or this end
 abbrev pub standing_of : Outcome → Standing
 standing_of outcome.Ended = Ended
 standing_of (outcome.Waits c) = Waits c
@@ -20,7 +20,7 @@ standing_of outcome.More = More
 abbrev pub stands : End → Standing
 stands x = standing_of x.outcome
 
--- the list says how each instance stands, and each waits on a channel of the network
+-- the list has each instance's standing, and each waits on a channel of the network
 pub record AreStandings (N : Network) (ss : List Standing) : Type 0 where
   pub each : length ss ≡ length N.instances
   pub channels : (p c : ℕ) → slice_get ss p ≡ Some (Waits c) → c < length N.channels
@@ -60,7 +60,7 @@ pub record AreCauses (N : Network) (ss : List Standing) (ys : List Cause) : Type
   pub each : length ys ≡ length ss
   pub causes : (p : ℕ) (y : Cause) → slice_get ys p ≡ Some y → IsCause N ss p y
 
--- a mark is set where the waits of p lead back to it
+-- the mark says whether the waits of p lead back to it
 abbrev pub IsRingMark : Network → List Standing → ℕ → Bool → Type 0
 IsRingMark N ss p true = LeadsOn N ss p p
 IsRingMark N ss p false = LeadsOn N ss p p → ⊥

@@ -9,8 +9,8 @@ use crate::walk::walk;
 use kahn_streams::Network;
 use std::alloc::{AllocError, Global};
 
-/// Why an instance goes no further, where the instances stand so: its waits lead to one that waits on an input, to one that
-/// doesn't wait, or into a ring, of which the least number is told. It refuses only where memory was refused.
+/// Returns why an instance goes no further, by the standings of all: its waits lead to one that waits on an input, to one
+/// that doesn't wait, or into a ring, whose least number is returned. Fails only if memory was refused.
 pub fn cause(
     alloc: Global,
     network: &Network,
@@ -27,7 +27,7 @@ pub fn cause(
     }
 }
 
-/// Why each instance goes no further. It refuses only where memory was refused.
+/// Returns why each instance goes no further. Fails only if memory was refused.
 pub fn causes(
     alloc: Global,
     network: &Network,

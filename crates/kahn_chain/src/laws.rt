@@ -6,7 +6,7 @@ ghost use Rattle.kahn_chain.specs.Chain.{IsCause};
 ghost use Rattle.kahn_chain.specs.declared.standing.Cause.{Cause};
 ghost use Rattle.kahn_chain.specs.declared.standing.Standing.{Standing};
 
-/// An instance has one cause; so a ring is told exactly where there is one.
+/// An instance has one cause; so a ring is reported exactly if there is one.
 pub fn one_cause()
     ensures { (N : Network) (ss : List Standing) (p : ℕ) (a b : Cause) → IsCause N ss p a → IsCause N ss p b → a ≡ b }
 {}

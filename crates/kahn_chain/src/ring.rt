@@ -55,7 +55,7 @@ fn is_on_ring(
     }
 }
 
-/// Marks the instances whose waits lead back to themselves. It refuses only where memory was refused.
+/// Marks the instances whose waits lead back to themselves. Fails only if memory was refused.
 pub fn rings(
     alloc: Global,
     network: &Network,
@@ -71,7 +71,7 @@ pub fn rings(
     Ok(marks)
 }
 
-/// Whether instances wait on one another in a ring. It refuses only where memory was refused.
+/// Whether instances wait on one another in a ring. Fails only if memory was refused.
 pub fn has_ring(
     alloc: Global,
     network: &Network,

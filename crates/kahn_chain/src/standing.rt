@@ -1,4 +1,4 @@
-//! How the instances of a network stand, and why one goes no further.
+//! The states of a network's instances, and why one goes no further.
 
 ghost use Rattle.std.specs.Prelude.{◌≡◌, IfOk, map};
 ghost use Rattle.kahn_chain.specs.Chain.{standing_of, stands};
@@ -6,7 +6,7 @@ ghost use Rattle.kahn_chain.specs.Chain.{standing_of, stands};
 use kahn_streams::{End, Outcome};
 use std::alloc::{AllocError, Global};
 
-/// How an instance stands.
+/// The state of an instance.
 #[derive(Clone, Copy)]
 pub enum Standing {
     /// It has ended.
@@ -15,7 +15,7 @@ pub enum Standing {
     Waits(usize),
     /// A fault of arithmetic stopped it.
     Faulted,
-    /// It wants more events.
+    /// It needs more events.
     More,
 }
 
@@ -30,7 +30,7 @@ pub enum Cause {
     Ring(usize),
 }
 
-/// How an instance stands that has this outcome.
+/// Returns the standing of an instance with this outcome.
 fn standing_of(outcome: Outcome) -> Standing
     ensures { result ≡ standing_of outcome }
 {
@@ -42,7 +42,7 @@ fn standing_of(outcome: Outcome) -> Standing
     }
 }
 
-/// How the instances stand that have these ends. It refuses only where memory was refused.
+/// Returns the standings of instances with these ends. Fails only if memory was refused.
 pub fn standings(alloc: Global, ends: &[End]) -> Result<Vec<Standing>, AllocError>
     ensures { IfOk result (λ list. list.items ≡ map stands ends.now) }
 {

@@ -9,12 +9,12 @@ use crate::standing::{Cause, Standing};
 use kahn_streams::Network;
 use std::alloc::{AllocError, Global};
 
-/// What comes behind an instance on its chain of waits.
+/// What comes after an instance on its chain of waits.
 #[derive(Clone, Copy)]
 pub(crate) enum Step {
     /// The instance that it waits on.
     On(usize),
-    /// None.
+    /// None, and why.
     Stop(Cause),
 }
 
@@ -27,7 +27,7 @@ pub(crate) struct Walked {
     pub least: usize,
 }
 
-/// What comes behind an instance.
+/// Returns what comes after an instance.
 pub(crate) fn next(network: &Network, standings: &[Standing], instance: usize) -> Step
     requires known { AreStandings (network_of network.now) standings.now }
     requires here { instance < length standings.now }

@@ -16,13 +16,13 @@ use Rattle.kahn_streams.specs.Faults.{most_channels, most_instances, too_many, r
 
 -- ---- the faults of each part, in the order of the walk
 
--- each name of a channel declaration, where n channels are declared before
+-- each name of a channel declaration, after n channels
 abbrev pub channel_parts : List (List ℕ × Global) → ℕ → Kind → Role → List Name → List (List CheckFault)
 channel_parts known n kind role [] = []
 channel_parts known n kind role (x ∷ xs) =
     (too_many most_channels n x.span ++ repeated (lookup (bytes_eq (bytes_of x)) known) x.span) ∷ channel_parts (known ++ (bytes_of x, IsChannel kind role) ∷ []) (suc n) kind role xs
 
--- of a process its name is a part, and its body is one
+-- a process's name is a part, and so is its body
 abbrev pub declaration_parts : List (List ℕ × Global) → ℕ → List Declaration → List (List CheckFault)
 declaration_parts known n [] = []
 declaration_parts known n (D.Channels kind role names ∷ rest) =
@@ -43,7 +43,7 @@ parts t = declaration_parts [] 0 t.declarations.items ++ instance_parts t [] 0 t
 abbrev pub side_parts : Program → List (List CheckFault)
 side_parts t = map (λ c. side_faults t c.0 c.1.1) (declared_channels t.declarations.items)
 
--- ---- what is told
+-- ---- what is reported
 
 -- the parts, put together
 abbrev pub together : List (List CheckFault) → List CheckFault
@@ -63,6 +63,6 @@ abbrev pub unless_empty : List CheckFault → List CheckFault → List CheckFaul
 unless_empty [] fs = fs
 unless_empty (f ∷ rest) fs = f ∷ rest
 
--- the first fault of each part; of a channel's sides only where nothing else is wrong
+-- the first fault of each part; of a channel's sides only if nothing else is wrong
 abbrev pub faults_by_part : Program → List CheckFault
 faults_by_part t = unless_empty (firsts (parts t)) (firsts (side_parts t))

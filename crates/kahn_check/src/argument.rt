@@ -13,7 +13,7 @@ use crate::globals::{Entry, Globals};
 use crate::names::Sides;
 use kahn_streams::{Argument, CheckFault, Direction, Kind, Name, NoMemory, Role, Side, Taking};
 
-/// Whether no instance may stand at that side of the channel.
+/// Whether no instance may be at that side of the channel.
 pub fn closed(direction: Direction, role: Role) -> bool
     ensures { result ≡ is_closed direction role }
 {
@@ -24,7 +24,7 @@ pub fn closed(direction: Direction, role: Role) -> bool
     }
 }
 
-/// The fault of a side that is handed over twice.
+/// Returns the fault of a side that is handed over twice.
 pub fn second(direction: Direction, name: &Name) -> CheckFault
     ensures { result ≡ second_of direction name.now.span }
 {
@@ -34,7 +34,7 @@ pub fn second(direction: Direction, name: &Name) -> CheckFault
     }
 }
 
-/// Whether a channel may be handed over in that direction.
+/// Checks that a channel may be handed over in that direction.
 pub fn misplaced(
     globals: &Globals,
     side: &Sides,
@@ -60,7 +60,7 @@ pub fn misplaced(
     }
 }
 
-/// Whether an argument is what its parameter wants.
+/// Checks that an argument is what its parameter wants.
 pub fn fits(
     globals: &Globals,
     writers: &Sides,
@@ -112,7 +112,7 @@ pub fn keep(
     }
 }
 
-/// Whether an argument is what its parameter wants; a channel is handed over.
+/// Checks that an argument is what its parameter wants, and hands its channel over.
 #[tactic(auto, using(crate::proofs::Alike::no_faults, crate::proofs::Alike::one_fault, crate::proofs::Alike::got_fresh))]
 pub fn place(
     globals: &Globals,

@@ -13,7 +13,7 @@ use std::alloc::Global;
 /// The most channels of a program.
 pub const MOST_CHANNELS: usize = 1024;
 
-/// The names of a channel declaration, of which `count` are declared before. Answers how many are declared then.
+/// Declares the names of a channel declaration, after `count` channels. Returns how many are declared then.
 #[tactic(auto, using(crate::proofs::Declared::channel_new, crate::proofs::Declared::channel_limit, crate::proofs::Declared::channel_known, crate::proofs::Declared::more_channels))]
 pub fn channels<'p>(
     globals: &mut Globals<'p>,
@@ -37,7 +37,7 @@ pub fn channels<'p>(
     Ok(declared)
 }
 
-/// What the names of the program stand for, where no declaration is wrong.
+/// Returns what the names of the program stand for, if no declaration is wrong.
 #[tactic(auto, using(crate::proofs::Declared::channels_done, crate::proofs::Declared::channels_met, crate::proofs::Declared::process_done, crate::proofs::Declared::process_known, crate::proofs::Declared::process_met, crate::proofs::Declared::more_declared, crate::proofs::Declared::more_process))]
 pub fn declarations<'p>(alloc: Global, program: &'p Program) -> Result<Globals<'p>, CheckFault>
     ensures { Checks (declaration_faults [] 0 program.now.declarations.items) (IsTable program.now.declarations.items) result }

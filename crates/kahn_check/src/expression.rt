@@ -8,7 +8,7 @@ ghost use Rattle.kahn_streams.specs.View.{bytes_of};
 use crate::names::Scope;
 use kahn_streams::{CheckFault, Direction, Expression, Form, Kind, Name, Operator, Span, Taking};
 
-/// The kind that an operator takes. The operands of `=` and `<>` are of any one kind.
+/// Returns the kind that an operator takes. The operands of `=` and `<>` are of any one kind.
 pub fn operand_kind(operator: Operator) -> Option<Kind>
     ensures { result ≡ takes operator }
 {
@@ -27,7 +27,7 @@ pub fn operand_kind(operator: Operator) -> Option<Kind>
     }
 }
 
-/// The kind that an operator gives.
+/// Returns the kind that an operator gives.
 pub fn result_kind(operator: Operator) -> Kind
     ensures { result ≡ gives operator }
 {
@@ -48,7 +48,7 @@ pub fn result_kind(operator: Operator) -> Kind
     }
 }
 
-/// Whether the kind that was found is the one that is wanted.
+/// Checks that the kind found is the one wanted.
 pub fn agree(wanted: Kind, found: Kind, span: Span) -> Result<(), CheckFault>
     ensures { result ≡ verdict (wrong wanted found span) tt }
 {
@@ -60,7 +60,7 @@ pub fn agree(wanted: Kind, found: Kind, span: Span) -> Result<(), CheckFault>
     }
 }
 
-/// The kind that is wanted, where it is the one that was found.
+/// Returns the kind wanted, if it is the one found.
 pub fn agreed(wanted: Kind, found: Kind, span: Span) -> Result<Kind, CheckFault>
     ensures { result ≡ verdict (wrong wanted found span) wanted }
 {
@@ -68,7 +68,7 @@ pub fn agreed(wanted: Kind, found: Kind, span: Span) -> Result<Kind, CheckFault>
     Ok(wanted)
 }
 
-/// The kind of the variable or value parameter of that name.
+/// Returns the kind of the variable or value parameter of that name.
 pub fn variable(scope: &Scope, name: &Name) -> Result<Kind, CheckFault>
     ensures { result ≡ verdict (misread (find scope.now (bytes_of name.now)) name.now.span) (kind_in (find scope.now (bytes_of name.now))) }
 {
@@ -79,7 +79,7 @@ pub fn variable(scope: &Scope, name: &Name) -> Result<Kind, CheckFault>
     }
 }
 
-/// The kind of the channel parameter of that name and that direction.
+/// Returns the kind of the channel parameter of that name and that direction.
 pub fn channel(scope: &Scope, name: &Name, wanted: Direction) -> Result<Kind, CheckFault>
     ensures { result ≡ verdict (misused wanted (find scope.now (bytes_of name.now)) name.now.span) (kind_in (find scope.now (bytes_of name.now))) }
 {
@@ -95,7 +95,7 @@ pub fn channel(scope: &Scope, name: &Name, wanted: Direction) -> Result<Kind, Ch
     }
 }
 
-/// The kind of what stands before an operator is one that it takes.
+/// Checks that an operator takes the kind of its first operand.
 pub fn agree_first(operator: Operator, found: Kind, span: Span) -> Result<(), CheckFault>
     ensures { result ≡ verdict (wrong_first (takes operator) found span) tt }
 {
@@ -105,7 +105,7 @@ pub fn agree_first(operator: Operator, found: Kind, span: Span) -> Result<(), Ch
     }
 }
 
-/// The kind of what stands after an operator fits what stands before it.
+/// Checks that the kind of an operator's second operand fits the first.
 pub fn agree_second(
     operator: Operator,
     first: Kind,
@@ -120,7 +120,7 @@ pub fn agree_second(
     }
 }
 
-/// The kind of an expression: what is wrong inside it comes first, from left to right.
+/// Returns the kind of an expression. What is wrong inside it comes first, from left to right.
 #[tactic(auto, using(crate::proofs::Walk::verdict_ok, crate::proofs::Walk::verdict_err, crate::proofs::Walk::verdict_none, crate::proofs::Walk::verdict_same))]
 pub fn kind(scope: &Scope, expression: &Expression) -> Result<Kind, CheckFault>
     ensures { result ≡ verdict (faults_in scope.now expression.now.form) (kind_of scope.now expression.now.form) }
@@ -156,7 +156,7 @@ pub fn kind(scope: &Scope, expression: &Expression) -> Result<Kind, CheckFault>
     }
 }
 
-/// Whether an expression has the kind that is wanted: its inside, then its kind.
+/// Checks that an expression has the kind wanted: its inside, then its kind.
 #[tactic(auto, using(crate::proofs::Walk::verdict_ok, crate::proofs::Walk::verdict_err, crate::proofs::Walk::verdict_none, crate::proofs::Walk::verdict_same))]
 pub fn expect(scope: &Scope, expression: &Expression, wanted: Kind) -> Result<(), CheckFault>
     ensures { result ≡ verdict (faults_as wanted scope.now expression.now) tt }

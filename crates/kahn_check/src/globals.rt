@@ -27,7 +27,7 @@ pub struct Globals<'p> {
 }
 
 impl<'p> Globals<'p> {
-    /// No names.
+    /// Starts with no names.
     pub fn new(alloc: Global) -> Globals<'p>
         ensures known { known result ≡ [] }
         ensures placed { (ds : List Declaration) → ArePlaced ds result }
@@ -37,7 +37,7 @@ impl<'p> Globals<'p> {
         }
     }
 
-    /// What the name stands for.
+    /// Returns what the name stands for, if anything.
     pub fn find(&self, name: &Name) -> Option<Entry<'p>>
         ensures known { option_global result ≡ lookup (bytes_eq (bytes_of name.now)) (known self.now) }
         ensures placed { (ds : List Declaration) → ArePlaced ds self.now → IfSome result (IsPlaced ds) }
@@ -53,7 +53,7 @@ impl<'p> Globals<'p> {
         self.names.declare(name, what)
     }
 
-    /// Declares a name, unless it stands for something already.
+    /// Declares a name, unless it is declared already.
     pub fn keep(&mut self, name: &Name, what: Entry<'p>) -> Result<(), NoMemory>
         ensures { IfOk result (λ u. known self.new ≡ kept_first (known self.old) (bytes_of name.now) (global_of what.entry)) }
     {

@@ -15,7 +15,7 @@ use std::alloc::Global;
 /// The most instances of a program.
 pub const MOST_INSTANCES: usize = 256;
 
-/// The arguments of an instance, one for each parameter.
+/// Hands over the arguments of an instance, one for each parameter.
 #[tactic(auto, using(crate::proofs::Placed::places_step, crate::proofs::Placed::places_met, crate::proofs::Placed::taken_more))]
 pub fn places(
     globals: &Globals,
@@ -44,7 +44,7 @@ pub fn places(
     Ok(())
 }
 
-/// What the instances of a program make of it.
+/// What the instances of a program hand over.
 #[derive(Drop)]
 pub struct Seats {
     /// Who writes each channel.
@@ -55,7 +55,7 @@ pub struct Seats {
     pub processes: Vec<usize>,
 }
 
-/// The writers, the readers and the processes, where no instance is wrong.
+/// Returns the writers, the readers and the processes, if no instance is wrong.
 #[tactic(auto, using(crate::proofs::Placed::seats_limit, crate::proofs::Placed::seats_unknown, crate::proofs::Placed::seats_channel, crate::proofs::Placed::seats_count, crate::proofs::Placed::seats_met, crate::proofs::Placed::seats_step, crate::proofs::Placed::seats_more))]
 pub fn instances(alloc: Global, globals: &Globals, program: &Program) -> Result<Seats, CheckFault>
     requires { IsTable program.now.declarations.items globals.now }

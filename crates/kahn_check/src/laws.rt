@@ -6,14 +6,14 @@ ghost use Rattle.kahn_check.specs.Parts.{parts, side_parts, faults_by_part, toge
 ghost use Rattle.kahn_streams.specs.Faults.{verdict, faults};
 ghost use Rattle.kahn_streams.specs.Wiring.{IsWellWired};
 
-/// A program is well wired exactly where the walk finds no fault.
+/// A program is well wired exactly if the walk finds no fault.
 pub fn exact()
     ensures sound { (t : Program) → faults t ≡ [] → IsWellWired t }
     ensures complete { (t : Program) → IsWellWired t → faults t ≡ [] }
 {}
 
-/// The parts of a program, put together, are its faults; so what is told of them begins with what `check` answers, and nothing is told of
-/// a program that is well wired.
+/// The faults of a program's parts, put together, are its faults; so what is reported of them begins with what `check` returns, and
+/// nothing is reported of a well wired program.
 pub fn part_by_part()
     ensures whole { (t : Program) → together (parts t ++ side_parts t) ≡ faults t }
     ensures first { (t : Program) → verdict (faults_by_part t) (tt {0}) ≡ verdict (faults t) (tt {0}) }

@@ -1,5 +1,5 @@
-//! Checked networks: whether a program is well wired, the first thing that is wrong where it isn't,
-//! and who writes and who reads each channel.
+//! Checked networks: whether a program is well wired, the first thing that is wrong if it isn't, and who writes and who
+//! reads each channel.
 #![tactic(auto)]
 
 mod argument;

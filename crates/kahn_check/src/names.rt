@@ -17,8 +17,8 @@ use std::marker::{Model, PhantomData};
 /// What each name stands for. Contracts see the names in the order in which they were added.
 #[derive(Drop)]
 pub struct Names<V> {
-    // By the hash of a name, which is quick to compare, and by its text where another name has that hash. Both in order:
-    // whoever chooses the names can't make a look-up slow, as he can in a table of hashes.
+    // By the hash of a name, which is quick to compare, and by its text if another name has that hash. Both are ordered:
+    // chosen names can't make a look-up slow, as they can in a hash table.
     firsts: BTreeMap<u64, (String, V)>,
     others: BTreeMap<String, V>,
     listed: About<Listed<V>>,
@@ -30,7 +30,7 @@ pub type Scope = Names<Taking>;
 /// By the channel's name, where this side of it is.
 pub type Sides = Names<Side>;
 
-/// The names in their order. Contracts alone speak of it: no value of it is made.
+/// The names in their order. Only contracts use it: no value of it is made.
 pub struct Listed<V> {
     marker: PhantomData<V>,
 }
@@ -73,7 +73,7 @@ fn in_order<V>(_names: &Names<V>, _name: &Name, _what: &V) -> About<Listed<V>>
 }
 
 impl<V: Copy> Names<V> {
-    /// No names.
+    /// Starts with no names.
     pub fn new(alloc: Global) -> Names<V>
         ensures { result ≡ [] }
     {
@@ -84,7 +84,7 @@ impl<V: Copy> Names<V> {
         }
     }
 
-    /// What the name stands for.
+    /// Returns what the name stands for, if anything.
     pub fn find(&self, name: &Name) -> Option<V>
         ensures { result ≡ lookup (bytes_eq (bytes_of name.now)) self.now }
     {
@@ -113,7 +113,7 @@ impl<V: Copy> Names<V> {
         Ok(())
     }
 
-    /// Adds a name, unless it stands for something already.
+    /// Adds a name, unless it was added already.
     pub fn keep(&mut self, name: &Name, what: V) -> Result<(), NoMemory>
         ensures { IfOk result (λ u. self.new ≡ kept_first self.old (bytes_of name.now) what) }
     {

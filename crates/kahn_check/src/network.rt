@@ -10,9 +10,9 @@ use crate::wires::all_wires;
 use kahn_streams::{CheckFault, Network, Program, kept};
 use std::alloc::Global;
 
-/// The network of a program, or the first thing that is wrong with it, in this order: the declarations
-/// in text order, then the instances, then each declared channel that lacks a writer or a reader.
-/// It refuses with `NoMemory` where memory was refused.
+/// Makes the network of a program, or returns the first thing that is wrong with it, in this order: the declarations in
+/// text order, then the instances, then each declared channel that lacks a writer or a reader. Fails with `NoMemory` if
+/// memory was refused.
 pub fn check(alloc: Global, program: Program) -> Result<Network, CheckFault>
     ensures { MatchResult result (λ n. (n ≡ program) × IsWellWired program) (λ f. IsMet (faults program) f) }
 {

@@ -25,7 +25,7 @@ use kahn_streams::{
 };
 use std::alloc::Global;
 
-/// Adds a fault, where there is one.
+/// Adds a fault, if there is one.
 fn add(faults: &mut Vec<CheckFault>, found: Option<CheckFault>) -> Result<(), NoMemory>
     ensures { IfOk result (λ u. faults.new.items ≡ faults.old.items ++ fault_alone found) }
 {
@@ -38,7 +38,7 @@ fn add(faults: &mut Vec<CheckFault>, found: Option<CheckFault>) -> Result<(), No
     }
 }
 
-/// The fault of a declared name that stands for something already.
+/// Returns the fault of a name that is declared already.
 fn twice(globals: &Globals, name: &Name) -> Option<CheckFault>
     ensures { result ≡ first_fault (repeated (lookup (bytes_eq (bytes_of name.now)) (known globals.now)) name.now.span) }
 {
@@ -48,7 +48,7 @@ fn twice(globals: &Globals, name: &Name) -> Option<CheckFault>
     }
 }
 
-/// The fault of a name that is declared for a channel, where `count` are declared before.
+/// Returns the fault of a channel's name, after `count` channels.
 fn name_fault(globals: &Globals, count: usize, name: &Name) -> Option<CheckFault>
     ensures { result ≡ first_fault (name_faults (known globals.now) count name.now) }
 {
@@ -58,7 +58,7 @@ fn name_fault(globals: &Globals, count: usize, name: &Name) -> Option<CheckFault
     twice(globals, name)
 }
 
-/// One channel more, counted as far as the limit goes.
+/// Counts one channel more, up to the limit.
 fn one_more(count: usize) -> usize
     requires { count ≤ most_channels }
     ensures limit { result ≤ most_channels }
@@ -71,7 +71,7 @@ fn one_more(count: usize) -> usize
     }
 }
 
-/// Adds the faults of the names of a channel declaration, of which `count` are declared before. Answers how many are then.
+/// Adds the faults of the names of a channel declaration, after `count` channels. Returns how many there are then.
 #[tactic(auto, using(crate::proofs::Told::names_begin, crate::proofs::Told::names_step, crate::proofs::Told::names_end))]
 fn add_names<'p>(
     globals: &mut Globals<'p>,
@@ -105,7 +105,7 @@ fn add_body(alloc: Global, faults: &mut Vec<CheckFault>, process: &Process) -> R
     }
 }
 
-/// Adds the faults of a declaration, which has that number; `count` channels are declared before. Answers how many are then.
+/// Adds the faults of declaration `number`, after `count` channels. Returns how many there are then.
 #[tactic(auto, using(crate::proofs::Told::channels_told, crate::proofs::Told::process_told))]
 fn add_declaration<'p>(
     alloc: Global,
@@ -131,7 +131,7 @@ fn add_declaration<'p>(
     }
 }
 
-/// Adds the faults of the declarations. Answers what the names of the program stand for.
+/// Adds the faults of the declarations. Returns what the names of the program stand for.
 fn add_declarations<'p>(
     alloc: Global,
     program: &'p Program,
@@ -148,7 +148,7 @@ fn add_declarations<'p>(
     Ok(globals)
 }
 
-/// The fault of an argument, unless there is a first one already. A channel that is handed over is kept, right or wrong.
+/// Returns the first fault so far, or else that of an argument. A channel that is handed over is kept, right or wrong.
 #[tactic(auto, using(crate::proofs::Told::err_first, crate::proofs::Alike::got_kept))]
 fn argument(
     globals: &Globals,
@@ -170,7 +170,7 @@ fn argument(
     Ok(found)
 }
 
-/// The first fault of the arguments, unless there is a first one already.
+/// Returns the first fault so far, or else that of the arguments.
 #[tactic(auto, using(crate::proofs::Told::arguments_begin, crate::proofs::Told::arguments_step, crate::proofs::Told::arguments_end, crate::proofs::Told::parameters_end))]
 fn arguments(
     globals: &Globals,
@@ -198,7 +198,7 @@ fn arguments(
     Ok(found)
 }
 
-/// The fault of an instance that is one too many.
+/// Returns the fault of an instance that is one too many.
 fn limit(number: usize, instance: &Instance) -> Option<CheckFault>
     ensures { result ≡ first_fault (too_many most_instances number instance.now.process.span) }
 {
@@ -209,7 +209,7 @@ fn limit(number: usize, instance: &Instance) -> Option<CheckFault>
     }
 }
 
-/// The fault of an instance that has not as many arguments as its process has parameters.
+/// Returns the fault of an instance with more or fewer arguments than its process has parameters.
 fn miscounted(process: &Process, instance: &Instance) -> Option<CheckFault>
     ensures { result ≡ first_fault (miscounted (length process.now.parameters.items) (length instance.now.arguments.items) instance.now.process.span) }
 {
@@ -220,7 +220,7 @@ fn miscounted(process: &Process, instance: &Instance) -> Option<CheckFault>
     }
 }
 
-/// Adds the fault of an instance of what is no process, unless there is a first one already.
+/// Adds the fault of an instance of something else than a process, unless there is a first one already.
 fn add_unknown(
     faults: &mut Vec<CheckFault>,
     first: Option<CheckFault>,
@@ -234,7 +234,7 @@ fn add_unknown(
     }
 }
 
-/// Adds the first fault of an instance, which has that number. What it hands over is kept, right or wrong.
+/// Adds the first fault of instance `number`. What it hands over is kept, right or wrong.
 #[tactic(auto, using(crate::proofs::Told::seat_made, crate::proofs::Told::seat_kept, crate::proofs::Told::seat_none, crate::proofs::Told::seat_channel))]
 fn add_instance(
     globals: &Globals,
@@ -303,7 +303,7 @@ fn add_sides(
     Ok(())
 }
 
-/// The same of one declaration, of whatever kind.
+/// Adds the first fault of the sides of each channel of a declaration, of whatever kind.
 #[tactic(auto, using(crate::proofs::Told::channels_sides))]
 fn add_declared_sides(
     writers: &Sides,
@@ -337,9 +337,9 @@ fn add_all_sides(
     Ok(())
 }
 
-/// What is wrong with a program: the first fault of each declared name, of each body and of each instance, in text order; and
-/// where all these are right, of each declared channel that lacks a writer or a reader. The first of them is the one that
-/// `check` answers. It refuses only where memory was refused.
+/// Returns what is wrong with a program: the first fault of each declared name, of each body and of each instance, in text
+/// order; and if all these are right, of each declared channel that lacks a writer or a reader. The first of them is the one
+/// that `check` returns. Fails only if memory was refused.
 pub fn every(alloc: Global, program: &Program) -> Result<Vec<CheckFault>, NoMemory>
     ensures { IfOk result (λ faults. faults.items ≡ faults_by_part program.now) }
 {

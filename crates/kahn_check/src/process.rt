@@ -9,7 +9,7 @@ use crate::statement::body;
 use kahn_streams::{CheckFault, Process, Taking};
 use std::alloc::Global;
 
-/// The names of a process, its parameters first and then its variables.
+/// Returns the names of a process, its parameters first and then its variables.
 #[tactic(auto, using(crate::proofs::Twice::twice_new, crate::proofs::Twice::twice_known, crate::proofs::Twice::more_entries))]
 pub fn locals(alloc: Global, process: &Process) -> Result<Scope, CheckFault>
     ensures { Checks (twice [] (locals_of process.now)) (λ s. s ≡ scope_of process.now) result }
@@ -24,7 +24,7 @@ pub fn locals(alloc: Global, process: &Process) -> Result<Scope, CheckFault>
     Ok(scope)
 }
 
-/// The first thing that is wrong in a process.
+/// Finds the first thing that is wrong in a process.
 #[tactic(auto, using(crate::proofs::Walk::verdict_ok, crate::proofs::Walk::verdict_err))]
 pub fn check_process(alloc: Global, process: &Process) -> Result<(), CheckFault>
     ensures { MatchResult result (λ u. process_faults process.now ≡ []) (λ f. IsMet (process_faults process.now) f) }

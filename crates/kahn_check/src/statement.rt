@@ -7,7 +7,7 @@ use crate::expression::{agree, channel, expect, kind, variable};
 use crate::names::Scope;
 use kahn_streams::{Action, CheckFault, Direction, Kind, Statement};
 
-/// The first thing that is wrong in a statement.
+/// Finds the first thing that is wrong in a statement.
 #[tactic(auto, using(crate::proofs::Walk::verdict_ok, crate::proofs::Walk::verdict_err, crate::proofs::Walk::verdict_none, crate::proofs::Walk::verdict_same))]
 pub fn statement(scope: &Scope, it: &Statement) -> Result<(), CheckFault>
     ensures { result ≡ verdict (faults_of scope.now it.now.action) tt }
@@ -49,7 +49,7 @@ pub fn statement(scope: &Scope, it: &Statement) -> Result<(), CheckFault>
     }
 }
 
-/// The first thing that is wrong in a list of statements.
+/// Finds the first thing that is wrong in a list of statements.
 #[tactic(auto, using(crate::proofs::Walk::verdict_ok, crate::proofs::Walk::verdict_err, crate::proofs::Walk::verdict_none, crate::proofs::Walk::verdict_same))]
 pub fn body(scope: &Scope, statements: &[Statement]) -> Result<(), CheckFault>
     ensures { result ≡ verdict (body_faults scope.now statements.now) tt }

@@ -11,7 +11,7 @@ use crate::names::Sides;
 use kahn_streams::{CheckFault, Declaration, Kind, Name, Role, Wire};
 use std::alloc::Global;
 
-/// Whether the sides of a channel that must be taken are taken.
+/// Checks that the sides of a channel that must be taken are taken.
 pub fn side(writers: &Sides, readers: &Sides, name: &Name, role: Role) -> Result<(), CheckFault>
     ensures { result ≡ verdict (side_in writers.now readers.now name.now role) tt }
 {
@@ -40,7 +40,7 @@ pub fn side(writers: &Sides, readers: &Sides, name: &Name, role: Role) -> Result
     }
 }
 
-/// One channel, where none of its sides is missing.
+/// Makes the wire of a channel, if none of its sides is missing.
 pub fn make_wire(
     writers: &Sides,
     readers: &Sides,
@@ -60,7 +60,7 @@ pub fn make_wire(
     })
 }
 
-/// The channels of one declaration.
+/// Adds the wires of the channels of one declaration.
 #[tactic(auto, using(crate::proofs::Lines::lines_step, crate::proofs::Lines::lines_met, crate::proofs::Lines::lines_more))]
 pub fn add_wires(
     wires: &mut Vec<Wire>,
@@ -78,7 +78,7 @@ pub fn add_wires(
     Ok(())
 }
 
-/// All channels, in order of declaration.
+/// Returns the wires of all channels, in order of declaration.
 #[tactic(auto, using(crate::proofs::Lines::all_step, crate::proofs::Lines::all_met, crate::proofs::Lines::all_more))]
 pub fn all_wires(
     alloc: Global,

@@ -15,7 +15,7 @@ pub use Rattle.kahn_code.specs.declared.listing.Listed.{Listed}
 pub use Rattle.kahn_code.specs.declared.progress.Pause.{Pause}
 pub use Rattle.kahn_code.specs.declared.progress.Progress.{Progress}
 pub use Rattle.kahn_code.specs.inner.Gone.{AllBegin, regrown, kept_behind, nothing_gone}
-pub use Rattle.kahn_code.specs.inner.Forms.{AreFormed, HasFormedCode, IsFormed, reach_in, hands_channel, test_reach, Aims, IsJoined, AreForms, AreInPlace, IsInPlace, before_none, instruction_of, instructions_of, meanings}
+pub use Rattle.kahn_code.specs.inner.Forms.{AreFormed, HasFormedCode, IsFormed, reach_in, hands_channel, test_reach, Aims, HasTurn, IsJoined, AreForms, AreInPlace, IsInPlace, before_none, instruction_of, instructions_of, meanings}
 pub use Rattle.kahn_code.specs.inner.Tapped.{OnNoMemory, WantsSpare, spares_of, Tapped, regrown_tap}
 pub use Rattle.kahn_streams.proofs.By_number.{all_at, within}
 pub use Rattle.kahn_streams.proofs.Proved.{feeds, iterates_rise, prefix_get, prefix_refl, prefix_trans, script_at, solves, some_same, values_append}

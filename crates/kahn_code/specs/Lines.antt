@@ -58,13 +58,13 @@ Joins (Reads d) c = d ≡ c
 Joins (Writes d) c = d ≡ c
 Joins (Hands v) c = ⊥
 
--- the channel of an actual, where it is one
+-- the channel of an actual, if it is one
 abbrev pub route_of : Actual → Option ℕ
 route_of (Reads c) = Some c
 route_of (Writes c) = Some c
 route_of (Hands v) = None
 
--- the queue of the channel of an actual, where it is one
+-- the queue of the channel of an actual, if it is one
 abbrev pub queue_of : List Waiting → Actual → Option Waiting
 queue_of queues (Reads c) = slice_get queues c
 queue_of queues (Writes c) = slice_get queues c
@@ -106,7 +106,7 @@ pub record AreFirst (t : Program) (lists : Lists) (queues : List Waiting) : Type
   pub count : length queues ≡ length (network_of t).channels
   pub each : (c : ℕ) (w : Waiting) → slice_get queues c ≡ Some w → IsFirst t lists c w
 
--- the lists after have these values behind those of channel c, and are else as before
+-- the lists after have these values after those of channel c, and are else as before
 abbrev pub IsPoured : Lists → ℕ → List Value → Lists → Type 0
 IsPoured before c values after = (d : ℕ) → inputs_of after d ≡ inputs_of before d ++ (if c == d then values else [])
 

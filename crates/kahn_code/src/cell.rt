@@ -42,7 +42,7 @@ impl<A: Allocator + Copy + Drop> Model for Cell<A> {
 
 impl<A: Allocator + Copy + Drop> Cell<A> {
     /// A cell at the opening of its process. Its network is that of the code; the caller names its input for contracts
-    /// alone. It refuses only where memory was refused.
+    /// alone. Fails only if memory was refused.
     pub fn new(
         alloc: A,
         code: &Code<A>,
@@ -60,7 +60,7 @@ impl<A: Allocator + Copy + Drop> Cell<A> {
         })
     }
 
-    /// Runs for at most so many events. With a quantum of 0 it only says what comes next, and takes no memory. A cell
+    /// Runs for at most so many events. With a quantum of 0 it only says what comes next, and never allocates. A cell
     /// that has ended or faulted says so again.
     pub fn run<P: Ports, L: Ledger>(
         &mut self,
@@ -111,7 +111,7 @@ impl<A: Allocator + Copy + Drop> Cell<A> {
     }
 
     /// Says that its counts are those of its parameters, that none is greater than its events, and that it keeps nothing of
-    /// what it needn't: its contract is what it does.
+    /// what it needn't. For the prover only.
     pub fn sized(&self)
         ensures { AreCounts self.now }
     {
@@ -126,7 +126,7 @@ impl<A: Allocator + Copy + Drop> Cell<A> {
         self.tap.fresh(parameter)
     }
 
-    /// The same cell for an input whose lists begin with those of its own. It takes no memory.
+    /// The same cell for an input whose lists begin with those of its own. Never allocates.
     pub fn grown(self, input: &Input) -> Cell<A>
         requires { AreInputsExtended (inputs_of self.input) (inputs_of input.now) }
         ensures { result ≡ record self { input = input.now } }
@@ -136,7 +136,7 @@ impl<A: Allocator + Copy + Drop> Cell<A> {
         }
     }
 
-    /// What it kept, without the cell. It takes no memory.
+    /// What it kept, without the cell. Never allocates.
     pub fn into_lists(self) -> Kept<A>
         ensures kept { map (λ v. v.items) result.kept.items ≡ self.kept }
         ensures printed { result.printed.items ≡ self.printed }

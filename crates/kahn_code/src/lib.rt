@@ -4,6 +4,7 @@
 mod cell;
 mod code;
 mod compiled;
+mod counted;
 mod depth;
 mod effects;
 mod emit;

@@ -31,8 +31,8 @@ impl<A: Allocator> Model for Plain<A> {
 }
 
 impl<A: Allocator + Copy + Drop> Plain<A> {
-    /// The queues of a network before anything was taken or put: each input channel has its whole list. It refuses only
-    /// where memory was refused.
+    /// The queues of a network before anything was taken or put: each input channel has its whole list. Fails only if
+    /// memory was refused.
     pub fn new(alloc: A, network: &Network, input: &Input) -> Result<Plain<A>, CodeFault>
         ensures names { IfOk result (λ p. (p.network ≡ network.now) × (p.input ≡ input.now)) }
         ensures first { IfOk result (λ p. AreFirst network.now input.now p.queues) }
@@ -67,21 +67,21 @@ impl<A: Allocator> Plain<A> {
         self.instance = instance;
     }
 
-    /// Says that the queues are all there, and how much was put on the input channels: its contract is what it does.
+    /// Says that the queues are all there, and how much was put on the input channels. For the prover only.
     pub fn counted(&self)
         ensures { AreQueued self.now }
     {
         let _instance = self.instance;
     }
 
-    /// How many tokens were taken from the queue of a channel; none where no channel has that number.
+    /// How many tokens were taken from the queue of a channel; none if no channel has that number.
     pub fn taken(&self, channel: usize) -> u64
         ensures { result ≡ taken_of (slice_get self.now.queues channel) }
     {
         self.queues.get(channel).map_or(0, |queue| queue.taken())
     }
 
-    /// The token that waits in the queue of a channel behind so many others, which stays. It takes no memory.
+    /// The token that waits in the queue of a channel after so many others, which stays. Never allocates.
     pub fn token(&self, channel: usize, number: usize) -> Token
         requires { number < waiting_of (slice_get self.now.queues channel) }
         ensures names { IsOf self.now.network self.now.input result }
@@ -90,9 +90,9 @@ impl<A: Allocator> Plain<A> {
         self.queues[channel].waits(number)
     }
 
-    /// Goes on for a longer input, in which these values stand behind those of an input channel: there they wait behind
-    /// those that wait. It refuses only where memory was refused, and then none of them waits. The caller names the input
-    /// for contracts alone.
+    /// Goes on for a longer input, in which these values come after those of an input channel: there they wait after
+    /// those that wait. Fails only if memory was refused, and then none of them waits. The caller names the input for
+    /// contracts alone.
     pub fn pour(&mut self, channel: usize, values: &[Value]) -> Result<(), NoMemory>
         ghost input: { Lists }
         requires role { role_at (network_of self.old.network) channel ≡ InputRole }
@@ -109,7 +109,7 @@ impl<A: Allocator> Plain<A> {
         Ok(())
     }
 
-    /// How many tokens wait in the queue of a channel; none where no channel has that number.
+    /// How many tokens wait in the queue of a channel; none if no channel has that number.
     pub fn waiting(&self, channel: usize) -> usize
         ensures { result ≡ waiting_of (slice_get self.now.queues channel) }
     {

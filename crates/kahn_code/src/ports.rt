@@ -34,7 +34,7 @@ pub trait Ports {
     // there is room for one token
     ghost has_room: { Self → ℕ → Type 0 };
 
-    /// Whether the next `take` gives a token. It takes no memory.
+    /// Whether the next `take` gives a token. Never allocates.
     fn ready(&mut self, parameter: usize, channel: usize) -> bool
         requires { DoesRead (site self.old) parameter channel }
         ensures site { site self.new ≡ site self.old }
@@ -47,7 +47,7 @@ pub trait Ports {
         ensures yes { IsTrue result → is_ready self.new parameter }
         ensures dry { IsFalse result → is_dry self.new parameter };
 
-    /// The token of the next place. It takes no memory.
+    /// The token of the next place. Never allocates.
     fn take(&mut self, parameter: usize, channel: usize) -> Option<Token>
         requires reads { DoesRead (site self.old) parameter channel }
         requires bound { next self.old parameter < 2 ^ 48 }
@@ -63,7 +63,7 @@ pub trait Ports {
         ensures keeps { (q d : ℕ) → q ≢ parameter → DoesRead (site self.old) q d → is_ready self.old q → is_ready self.new q }
         ensures rooms { StaySo (has_room self.old) (has_room self.new) };
 
-    /// Makes room for one token. Where there is room already it takes no memory, and so refuses nothing.
+    /// Makes room for one token. If there is room already, it never allocates, and so never fails.
     fn room(&mut self, parameter: usize, channel: usize) -> Result<(), NoMemory>
         requires { DoesWrite (site self.old) parameter channel }
         ensures site { site self.new ≡ site self.old }
@@ -77,7 +77,7 @@ pub trait Ports {
         ensures keeps { StaySo (is_ready self.old) (is_ready self.new) }
         ensures rooms { StaySo (has_room self.old) (has_room self.new) };
 
-    /// Puts the token of the next place. It takes no memory.
+    /// Puts the token of the next place. Never allocates.
     fn put(&mut self, parameter: usize, channel: usize, token: Token)
         requires writes { DoesWrite (site self.old) parameter channel }
         requires bound { next self.old parameter < 2 ^ 48 }

@@ -47,7 +47,7 @@ impl<A: Allocator> Queue<A> {
         }
     }
 
-    /// The token of the next place. None where none waits. It takes no memory.
+    /// The token of the next place. None if none waits. Never allocates.
     pub fn take(&mut self) -> Option<Token>
         requires { self.old.taken < 2 ^ 48 }
         ensures names { (self.new.network ≡ self.old.network) × (self.new.input ≡ self.old.input) × (self.new.channel ≡ self.old.channel) }
@@ -68,7 +68,7 @@ impl<A: Allocator> Queue<A> {
         Some(lifted(&self.network, &self.input, token, line, place))
     }
 
-    /// Goes on for an input whose lists begin with those of its own. It takes no memory.
+    /// Goes on for an input whose lists begin with those of its own. Never allocates.
     pub fn regrow(&mut self)
         ghost input: { Lists }
         requires { AreInputsExtended (inputs_of self.old.input) (inputs_of input) }
@@ -77,7 +77,7 @@ impl<A: Allocator> Queue<A> {
         self.input = About::named();
     }
 
-    /// Makes room for one token more. Where there is room already it takes no memory, and so refuses nothing.
+    /// Makes room for one token more. If there is room already, it never allocates, and so never fails.
     #[inline(always)]
     pub fn room(&mut self) -> Result<(), NoMemory>
         ensures more { HasMore 0 self.old self.new }
@@ -95,7 +95,7 @@ impl<A: Allocator> Queue<A> {
         Err(NoMemory)
     }
 
-    /// Puts the token of the next place. It takes no memory.
+    /// Puts the token of the next place. Never allocates.
     #[tactic(auto, using(crate::proofs::Begin::begin_push, kahn_streams::proofs::Token_lists::follow_push))]
     pub fn put(&mut self, token: Token)
         requires room { 0 < self.old.spare }
@@ -122,7 +122,7 @@ impl<A: Allocator> Queue<A> {
         self.taken
     }
 
-    /// The waiting token before which so many wait, which stays. It takes no memory.
+    /// The waiting token before which so many wait, which stays. Never allocates.
     pub fn waits(&self, number: usize) -> Token
         requires { number < self.now.waiting }
         ensures names { IsOf self.now.network self.now.input result }
@@ -136,7 +136,7 @@ impl<A: Allocator> Queue<A> {
         lifted(&self.network, &self.input, token, line, place)
     }
 
-    /// Makes room for so many tokens more. Where there is room already it takes no memory.
+    /// Makes room for so many tokens more. If there is room already, it never allocates.
     pub fn room_for(&mut self, count: usize) -> Result<(), NoMemory>
         ensures more { HasMore 0 self.old self.new }
         ensures room { OnOk result (count ≤ self.new.spare) }
@@ -145,7 +145,7 @@ impl<A: Allocator> Queue<A> {
         Ok(())
     }
 
-    /// Puts the value of the next place of an input channel. It takes no memory.
+    /// Puts the value of the next place of an input channel. Never allocates.
     pub fn give(&mut self, value: Value)
         requires room { 0 < self.old.spare }
         requires input { role_at (network_of self.old.network) self.old.channel ≡ InputRole }
@@ -228,7 +228,7 @@ pub fn first_queues<A: Allocator + Copy + Drop>(
     Ok(queues)
 }
 
-/// All queues go on for an input whose lists begin with those of their own. It takes no memory.
+/// All queues go on for an input whose lists begin with those of their own. Never allocates.
 pub(crate) fn regrow_all<A: Allocator>(queues: &mut Vec<Queue<A>, A>)
     ghost input: { Lists }
     requires { (c : ℕ) (w : Waiting) → slice_get queues.old.items c ≡ Some w → AreInputsExtended (inputs_of w.input) (inputs_of input) }
@@ -239,7 +239,7 @@ pub(crate) fn regrow_all<A: Allocator>(queues: &mut Vec<Queue<A>, A>)
     }
 }
 
-/// Puts the values that stand next in the list of an input channel. It takes no memory.
+/// Puts the values that stand next in the list of an input channel. Never allocates.
 pub(crate) fn give_all<A: Allocator>(queue: &mut Queue<A>, values: &[Value])
     requires room { length values.now ≤ queue.old.spare }
     requires input { role_at (network_of queue.old.network) queue.old.channel ≡ InputRole }

@@ -39,7 +39,7 @@ impl<A: Allocator + Copy + Drop> Model for Tap<A> {
 
 impl<A: Allocator + Copy + Drop> Tap<A> {
     /// A tap at the opening of its process. Its network is that of the code; the caller names its input for contracts
-    /// alone. It refuses only where memory was refused.
+    /// alone. Fails only if memory was refused.
     pub fn new(
         alloc: A,
         code: &Code<A>,
@@ -58,7 +58,7 @@ impl<A: Allocator + Copy + Drop> Tap<A> {
         Ok(assembled(progress, code))
     }
 
-    /// The cell of a tap that has let go of nothing. It takes no memory.
+    /// The cell of a tap that has let go of nothing. Never allocates.
     pub fn into_cell(self) -> Cell<A>
         requires { self.gone ≡ nothing_gone }
         ensures { result ≡ self.told }
@@ -66,14 +66,14 @@ impl<A: Allocator + Copy + Drop> Tap<A> {
         Cell { tap: self }
     }
 
-    /// The tap of a cell, which has let go of nothing. It takes no memory.
+    /// The tap of a cell, which has let go of nothing. Never allocates.
     pub fn of(cell: Cell<A>) -> Tap<A>
         ensures { (result.told ≡ cell) × (result.gone ≡ nothing_gone) }
     {
         cell.tap
     }
 
-    /// Runs for at most so many events. With a quantum of 0 it only says what comes next, and takes no memory. A tap
+    /// Runs for at most so many events. With a quantum of 0 it only says what comes next, and never allocates. A tap
     /// whose process has ended or faulted says so again.
     pub fn run<P: Ports, L: Ledger>(
         &mut self,
@@ -127,14 +127,14 @@ impl<A: Allocator + Copy + Drop> Tap<A> {
     }
 
     /// Says that its counts are those of its parameters, that none is greater than its events, and that it keeps nothing of
-    /// what it needn't: its contract is what it does.
+    /// what it needn't. For the prover only.
     pub fn sized(&self)
         ensures { AreCounts self.now.told }
     {
         let _events = self.progress.events;
     }
 
-    /// Says where its process stands: on the values that it took it does its events. Its contract is what it does.
+    /// Says where its process stands: on the values that it took it does its events. For the prover only.
     pub fn stood(&self, network: &Network)
         requires { self.now.told.network ≡ network.now }
         ensures { StoodBy (network_of network.now) (inputs_of self.now.told.input) self.now.told.watch self.now.told.instance (told_view self.now.told) }
@@ -143,7 +143,7 @@ impl<A: Allocator + Copy + Drop> Tap<A> {
         let _events = self.progress.events;
     }
 
-    /// What it kept since it last let go, without the tap. It takes no memory.
+    /// What it kept since it last let go, without the tap. Never allocates.
     pub fn into_lists(self) -> Kept<A>
         ensures kept { kept_behind self.gone.kept (map (λ v. v.items) result.kept.items) ≡ self.told.kept }
         ensures printed { self.gone.printed ++ result.printed.items ≡ self.told.printed }
@@ -170,14 +170,14 @@ impl<A: Allocator + Copy + Drop> Tap<A> {
         self.progress.printed.as_slice()
     }
 
-    /// Lets go of the tokens that it keeps. It takes no memory.
+    /// Lets go of the tokens that it keeps. Never allocates.
     pub fn forget(&mut self)
         ensures { HasForgotten self.old self.new }
     {
         self.progress.forget();
     }
 
-    /// Goes on for an input whose lists begin with those of its own. It takes no memory.
+    /// Goes on for an input whose lists begin with those of its own. Never allocates.
     pub fn regrow(&mut self)
         ghost input: { Lists }
         requires { AreInputsExtended (inputs_of self.old.told.input) (inputs_of input) }
@@ -211,7 +211,7 @@ fn regrow_all<A: Allocator + Copy + Drop>(taps: &mut Vec<Tap<A>, A>, _queues: &P
     }
 }
 
-/// All taps go on for the input of the queues, whose lists begin with those of their own. It takes no memory.
+/// All taps go on for the input of the queues, whose lists begin with those of their own. Never allocates.
 pub fn regrow_taps<A: Allocator + Copy + Drop>(taps: &mut Vec<Tap<A>, A>, queues: &Plain<A>)
     requires { (p : ℕ) (x : Tapped) → slice_get taps.old.items p ≡ Some x → AreInputsExtended (inputs_of x.told.input) (inputs_of queues.now.input) }
     ensures { taps.new.items ≡ map (regrown_tap queues.now.input) taps.old.items }

@@ -33,7 +33,7 @@ impl Told for Boxed {
     ghost after = { IsLater };
 }
 
-/// Each task in a box, and the room of their list. If memory is refused it gives them back as they were.
+/// Each task in a box, and the room of their list. If memory is refused, it gives them back as they were.
 pub(crate) fn box_all(
     alloc: Global,
     mut tasks: Vec<Task>,
@@ -58,7 +58,7 @@ pub(crate) fn box_all(
     Ok((boxes, tasks))
 }
 
-/// The tasks out of their boxes, and behind them those of a list that is the other way round and has room for all.
+/// The tasks out of their boxes, and after them those of a list that is the other way round and has room for all.
 pub(crate) fn unbox_all(mut boxes: Vec<Boxed>, mut tasks: Vec<Task>) -> Vec<Task>
     requires { length boxes.items + length tasks.items ≤ vec_capacity tasks }
     ensures { result.items ≡ boxes.items ++ reverse tasks.items }

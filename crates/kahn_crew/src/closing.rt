@@ -41,7 +41,7 @@ impl From<CrewFault> for RunFault {
     }
 }
 
-/// The jobs of tasks on which nobody works any more. The list that is given has room for all. It never allocates.
+/// The jobs of tasks on which nobody works any more. The list that is given has room for all. Never allocates.
 pub fn rest_all(tasks: Vec<Task>, mut idles: Vec<Idle>) -> Vec<Idle>
     requires room { (idles.items ≡ []) × (length tasks.items ≤ vec_capacity idles) }
     ensures same { result.items ≡ map work_of tasks.items }

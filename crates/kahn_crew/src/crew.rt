@@ -136,7 +136,7 @@ fn run_workers<R: Threads + Wait + Sync, G: Gate + Sync>(
     ensures cause { OnOk result.0 (0 < result.1.seat.me.0.raised ↔ result.2 ≡ true) }
     ensures lack { IfErr result.0 (IsLack (length hints.items)) }
     ensures halted { result.0 ≡ Err NoThreadFault → 0 < result.1.seat.me.0.raised }
-    // If memory was refused nobody worked.
+    // If memory was refused, nobody worked.
     ensures idle { result.0 ≡ Err NoMemoryFault → result.1.seat.me.0.done ≡ seat.seat.me.0.done }
 {
     let Ok(room) = Vec::with_capacity(alloc, hints.len()) else {
@@ -162,10 +162,10 @@ fn run_workers<R: Threads + Wait + Sync, G: Gate + Sync>(
 /// a worker, or the bound is used up, or every instance has ended or waits on a channel of which it took all. One worker
 /// has the caller's thread, each other one a thread of its own.
 ///
-/// It refuses with `NoMemory` only if memory was refused before the first event: each process is then as it was, and
-/// nothing of the bound is used. If a thread can't be started, which one worker never needs, the run is left to the threads
-/// that came where the gate is open. Else it refuses with `NoThread`: those that were started are halted, and it returns
-/// once they have left. The tasks come back with either, as they were left.
+/// Fails with `NoMemory` only if memory was refused before the first event: each process is then as it was, and nothing of
+/// the bound is used. If a thread can't be started, which one worker never needs, the run is left to the threads that came
+/// where the gate is open. Else it refuses with `NoThread`: those that were started are halted, and it returns once they
+/// have left. The tasks come back with either, as they were left.
 pub fn run_tasks<R: Threads + Wait + Sync, G: Gate + Sync>(
     rt: &R,
     alloc: Global,

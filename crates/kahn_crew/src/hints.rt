@@ -9,7 +9,7 @@ use std::alloc::Global;
 // One of this many hints that a worker takes from its own is the oldest in any case, so that each comes.
 const CHAIN: usize = 64;
 
-/// When a hint comes among a worker's own: before all others, or behind them.
+/// When a hint comes among a worker's own: before all others, or after them.
 #[derive(Clone, Copy)]
 pub(crate) enum Order {
     Next,
@@ -92,7 +92,8 @@ fn bare_hints(alloc: Global, workers: usize, instances: usize) -> Result<Vec<Hin
     Ok(all)
 }
 
-/// The hints of all workers, which name each instance once. It refuses only if memory was refused.
+/// The hints of all workers, which name each instance once. Neighbours, which often send to one another, begin with one worker. Fails only
+/// if memory was refused.
 pub(crate) fn first_hints(
     alloc: Global,
     workers: usize,
@@ -110,8 +111,9 @@ pub(crate) fn first_hints(
             }
         }
     }
+    let share = instances.div_ceil(workers).max(1);
     for instance in 0..instances {
-        if !all[instance % workers].push(instance, Order::Last) {
+        if !all[instance / share % workers].push(instance, Order::Last) {
             return Err(NoMemory);
         }
     }

@@ -14,7 +14,7 @@ use kahn_job::{Idle, Task, jobs};
 use kahn_streams::{Input, Network, NoMemory, Role};
 use std::alloc::Global;
 
-/// The tasks of idle jobs that go on with an input for which their ends have settled. The list that is given has room for all. It never allocates.
+/// The tasks of idle jobs that go on with an input for which their ends have settled. The list that is given has room for all. Never allocates.
 pub fn wake_all(
     network: &Network,
     input: &Input,
@@ -32,7 +32,7 @@ pub fn wake_all(
     tasks
 }
 
-/// The tasks of all instances before their first events. It refuses only if memory was refused.
+/// The tasks of all instances before their first events. Fails only if memory was refused.
 pub fn first_tasks(
     alloc: Global,
     network: &Network,
@@ -69,7 +69,7 @@ fn number(network: &Network, input: &Input, tasks: &[Task], channel: usize) -> u
 }
 
 /// The board of a run, its first seat, the hints of all workers, and a list with room for the tasks that are left. All that was
-/// sent on a channel is published, and all instances are ready. If memory is refused it gives the tasks back.
+/// sent on a channel is published, and all instances are ready. If memory is refused, it gives the tasks back.
 pub(crate) fn open_board(
     alloc: Global,
     network: &Network,

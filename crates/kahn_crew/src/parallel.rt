@@ -19,7 +19,7 @@ pub(crate) trait Parallel<C> {
     /// What is true of one before and after, if it told all to leave before its work.
     ghost quit: { C → Self → Self → Type 0 };
 
-    /// Whether the work of one may be done in another's thread, behind the other's, if no thread can be started for it.
+    /// Whether the work of one may be done in another's thread, after the other's, if no thread can be started for it.
     fn may_wait(shared: &C) -> bool;
 
     /// Tells all to leave their work.
@@ -102,7 +102,7 @@ fn run_from<'s, E, R: Threads, C: Sync + 's, T: Parallel<C> + Send + Drop + 's>(
     }
 }
 
-// All work, the first in this thread and each other in one of its own, or if that can't be started in this thread, behind the others.
+// All work, the first in this thread and each other in one of its own, or if that can't be started in this thread, after the others.
 fn run_waiting<'s, E, R: Threads, C: Sync + 's, T: Parallel<C> + Send + Drop + 's>(
     rt: &R,
     scope: &'s Scope<'s, E>,
@@ -162,9 +162,9 @@ fn run_in<'s, E, R: Threads, C: Sync + 's, T: Parallel<C> + Send + Drop + 's>(
 }
 
 /// All work at the same time, one of them in this thread and each other in a thread of its own. If a thread can't be
-/// started for one that may wait, it works in this thread behind the others. For one that may not, all are told to leave,
-/// and what is left of the work is done in this thread. It takes no memory of an allocator. It answers all after their
-/// work, and whether a thread was missed, which only several take.
+/// started for one that may wait, it works in this thread after the others. For one that may not, all are told to leave,
+/// and what is left of the work is done in this thread. It takes no memory of an allocator. Returns all after their work,
+/// and whether a thread was missed, which only several take.
 pub(crate) fn run_all<R: Threads + Wait + Sync, C: Sync, T: Parallel<C> + Send + Drop>(
     rt: &R,
     shared: &C,

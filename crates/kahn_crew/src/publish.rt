@@ -33,7 +33,7 @@ fn target(network: &Network, code: &Code, instance: usize, parameter: usize) -> 
     }
 }
 
-// Publishes what was flushed on a parameter, if it is more than before. Answers its reader, which may have waited for it or not.
+// Publishes what was flushed on a parameter, if it is more than before. Returns its reader, which may have waited for it or not.
 pub(crate) fn publish_one(
     run: &Run<'_>,
     seat: &mut Seat<Boxed>,
@@ -62,7 +62,7 @@ pub(crate) fn publish_one(
     reader_of(run.network, channel)
 }
 
-/// Hints at an instance that may be ready, if there is one. If memory is refused the run is to stop.
+/// Hints at an instance that may be ready, if there is one. If memory is refused, the run is to stop.
 pub(crate) fn hint(run: &Run<'_>, worker: &mut Worker, instance: Option<usize>, order: Order)
     requires { SitsIn run.now worker.old.seat }
     ensures same { Heeds worker.old worker.new }

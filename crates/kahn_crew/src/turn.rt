@@ -58,8 +58,8 @@ fn heed(run: &Run<'_>, worker: &mut Worker, pause: Pause, flushed: Result<(), No
     worker.seat.halt(run.board);
 }
 
-// Runs the task of an instance for at most `drawn` events, and flushes and publishes what it sent. Answers how many events it
-// did. If memory was refused the run is to stop.
+// Runs the task of an instance for at most `drawn` events, and flushes and publishes what it sent. Returns how many events it
+// did. If memory was refused, the run is to stop.
 fn run_task<L: Ledger>(
     run: &Run<'_>,
     worker: &mut Worker,
@@ -105,7 +105,7 @@ fn rest(run: &Run<'_>, worker: &mut Worker, p: usize, due: Due)
     }
 }
 
-// Runs an instance for at most `drawn` events, and sets it down. Answers how many it did.
+// Runs an instance for at most `drawn` events, and sets it down. Returns how many it did.
 fn spend<L: Ledger>(
     run: &Run<'_>,
     worker: &mut Worker,
@@ -128,7 +128,7 @@ fn spend<L: Ledger>(
 }
 
 // Runs one instance after another for the events that were drawn, as long as more than seven eighths of a quantum are left,
-// so that each has about as many as a draw of its own, and own hints name one that is ready. Answers how many are left.
+// so that each has about as many as a draw of its own, and own hints name one that is ready. Returns how many are left.
 fn spend_all<G: Gate, L: Ledger>(
     run: &Run<'_>,
     gate: &G,

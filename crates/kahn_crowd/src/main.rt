@@ -1,6 +1,6 @@
 //! The program `kahn` with a gate that doesn't say that it is open: as many workers as are asked for begin at once, over lanes and
-//! the board, however little there is to do. With `held` before its other words the run is held between parts, and goes on where
-//! something was refused. It is for checks alone, and isn't released.
+//! the board, however little there is to do. With `held` before its other words the run is held between parts, and goes on after a
+//! refusal. It is for checks alone, and isn't released.
 #![tactic(auto)]
 
 mod parts;
@@ -50,7 +50,7 @@ fn run<R: Runtime + AllocGlobal + Threads + Wait + Sync>(
     }
 }
 
-/// The same in parts.
+/// Runs the program in parts.
 fn run_held<R: Runtime + AllocGlobal + Threads + Wait + Sync, E: Write>(
     rt: &R,
     texts: &Texts,
@@ -66,7 +66,7 @@ fn run_held<R: Runtime + AllocGlobal + Threads + Wait + Sync, E: Write>(
     }
 }
 
-/// Does what the command line asks for, and gives the status. Faults are told to the writer.
+/// Does what the command line asks for, and returns the status. Faults are reported to the writer.
 fn answered<R: Runtime + AllocGlobal + Threads + Wait + Sync, W: Write>(
     rt: &R,
     options: Options,

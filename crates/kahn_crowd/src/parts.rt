@@ -1,4 +1,4 @@
-//! A run that is held between its parts: what memory or a thread was refused for goes on by a further call.
+//! A run that is held between its parts: after refused memory or a refused thread a further call goes on.
 
 ghost use Rattle.std.specs.Prelude.{IsTrue};
 ghost use Rattle.kahn_report.specs.Formats.{HasItsLines, IsLine};
@@ -11,12 +11,12 @@ use std::rt::Runtime;
 use std::sync::Wait;
 use std::thread::Threads;
 
-/// Says that something was refused, and is tried again.
+/// Reports that something was refused, and is tried again.
 fn tell_again<E: Write>(errors: &mut E) {
     let _ = errors.write_all(b"again\n");
 }
 
-/// Runs a part, and where memory or a thread was refused for it one more.
+/// Runs a part, and one more if memory or a thread was refused for it.
 fn resumed<R: Threads + Wait + Sync, G: Gate + Sync, E: Write>(
     rt: &R,
     held: &mut Held<'_>,
@@ -32,7 +32,7 @@ fn resumed<R: Threads + Wait + Sync, G: Gate + Sync, E: Write>(
     }
 }
 
-/// The answer of a run that is settled.
+/// Returns the answer of a run that is settled.
 fn answered<E: Write>(held: &Held<'_>, errors: &mut E) -> Result<Answer, NoMemory> {
     if !held.settled() {
         return Err(NoMemory);
@@ -66,7 +66,7 @@ fn has_its_lines(network: &Network, answer: &Answer) -> bool
         .all(|stream| is_line(network, stream.line))
 }
 
-/// Want of memory, as a fault of the run.
+/// Returns refused memory as a fault of the run.
 fn wants_memory() -> WorkFault {
     WorkFault::Run(RunFault::NoMemory)
 }

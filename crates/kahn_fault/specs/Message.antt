@@ -49,7 +49,7 @@ numbered_line line column words = concat (codes "kahn: " ∷ line ∷ codes ":" 
 abbrev pub place_line : List ℕ → ℕ → List ℕ → List ℕ
 place_line program from words = numbered_line (decimal (line_of program from)) (decimal (column_of program from)) words
 
--- a line with the place of a part, where there is one; beyond the text it is told as the text's end
+-- a line with the place of a part, if there is one; a place beyond the text is reported as the text's end
 abbrev pub placed_line : List ℕ → Option Span → List ℕ → List ℕ
 placed_line program None words = words_line words
 placed_line program (Some span) words = place_line program (min span.from (length program)) words
@@ -58,13 +58,13 @@ placed_line program (Some span) words = place_line program (min span.from (lengt
 abbrev pub memory_line : List ℕ
 memory_line = words_line (codes "no memory")
 
--- why a lexeme can't stand where it stands
+-- why a lexeme is unexpected
 abbrev pub what_words : What → List ℕ
 what_words Other = codes "this cannot stand here"
 what_words More = codes "text ends too early"
 what_words Nothing = codes "text goes on after the program"
 
--- where a text is no program, where it is one place
+-- the place at which a text is no program, if it is one place
 abbrev pub syntax_span : SyntaxFault → Option Span
 syntax_span syntax.TooLong = None
 syntax_span (syntax.BadCharacter span) = Some span
@@ -86,7 +86,7 @@ syntax_words (syntax.Expected span what) = what_words what
 syntax_words (syntax.TooDeep span) = codes "nesting is too deep"
 syntax_words syntax.NoMemory = codes "no memory"
 
--- where a program is refused, where it is one place
+-- the place for which a program is refused, if it is one place
 abbrev pub check_span : CheckFault → Option Span
 check_span (checked.DeclaredTwice span) = Some span
 check_span (checked.Unknown span) = Some span
@@ -151,7 +151,7 @@ work_line program (work.Text fault) = text_line fault
 work_line program (work.Run fault) = run_line fault
 work_line program (work.Write fault) = words_line (codes "report could not be written")
 
--- of a text that wasn't read, by its path and what is said where it is too long
+-- of a text that wasn't read, by its path and what is said if it is too long
 abbrev pub read_line : List ℕ → List ℕ → ReadFault → List ℕ
 read_line path long read.Failed = two_line (codes "cannot read ") path
 read_line path long read.TooLong = words_line long

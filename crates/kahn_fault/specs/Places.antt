@@ -5,7 +5,7 @@ use Rattle.kahn_report.specs.declared.working.WorkFault.{WorkFault}
 use Rattle.kahn_report.specs.declared.working.WorkFault.TheVariants as work
 use Rattle.kahn_fault.specs.Message.{check_span, syntax_span}
 
--- the span of a fault of the program text, where it has one
+-- the span of a fault of the program text, if it has one
 abbrev pub fault_span : WorkFault → Option Span
 fault_span (work.Syntax fault) = syntax_span fault
 fault_span (work.Check fault) = check_span fault
@@ -13,6 +13,6 @@ fault_span (work.Text fault) = None
 fault_span (work.Run fault) = None
 fault_span (work.Write fault) = None
 
--- the span lies in the text
+-- the span is within the text
 abbrev pub LiesIn : List ℕ → Span → Type 0
 LiesIn text at = (at.from ≤ length text) × (at.to ≤ length text)

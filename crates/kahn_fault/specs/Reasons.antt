@@ -14,6 +14,6 @@ file_words kind.FilesystemLoop = codes "its path has too many symbolic links"
 file_words kind.InvalidFilename = codes "its name is too long"
 file_words _ = []
 
--- a line with a reason, behind the name of the program that gives it
+-- a line with a reason, after the name of the program that gives it
 abbrev pub reason_line : List ℕ → List ℕ → List ℕ
 reason_line name reason = concat (name ∷ codes ": " ∷ reason ∷ codes "\n" ∷ [])

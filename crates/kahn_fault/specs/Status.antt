@@ -45,7 +45,7 @@ status_of (Err (Program path fault)) = read_status fault
 status_of (Err (InputText path fault)) = read_status fault
 status_of (Err (Work fault)) = work_status fault
 
--- 1 in place of 0 where a line was refused
+-- 1 in place of 0 if a line was refused
 abbrev pub with_refused : Bool → ℕ → ℕ
 with_refused false status = status
 with_refused true zero = 1

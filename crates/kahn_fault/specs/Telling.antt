@@ -1,4 +1,4 @@
--- Believed. What a program tells of its run in the end.
+-- Believed. What a program reports of its run at the end.
 use Rattle.std.specs.Prelude.{ℕ, Bool, true, false, List, [], ◌∷◌, Option, Result, codes, is_some}
 use Rattle.std.specs.List.{concat}
 use Rattle.std.specs.declared.result.Result.TheVariants.{Ok, Err}
@@ -26,7 +26,7 @@ abbrev pub explain_line : Bool → List ℕ → List ℕ
 explain_line true path = concat (codes "kahn_explain " ∷ path ∷ codes " says more\n" ∷ [])
 explain_line false path = []
 
--- the same of a fault, where it has a place in the program text
+-- the same for a fault, if it has a place in the program text
 abbrev pub pointer_text : List ℕ → Result Verdict Fault → List ℕ
 pointer_text path (Ok verdict) = []
 pointer_text path (Err fault) = explain_line (has_place fault) path

@@ -19,14 +19,14 @@ StandsForProgram given old new (Open path) = ⊥
 StandsForProgram given old new (InputText path fault) = ⊥
 StandsForProgram given old new (Work fault) = ⊥
 
--- the same of an input text
+-- the same for an input text
 abbrev pub StandsForInput : String Global → Option (List ℕ) → Option (List ℕ) → Fault → Type 0
 StandsForInput given old new (InputText path fault) = (given ≡ path) × IsReadFault old new most_input_bytes fault
 StandsForInput given old new (Open path) = ⊥
 StandsForInput given old new (Program path fault) = ⊥
 StandsForInput given old new (Work fault) = ⊥
 
--- each text is within its limit, and the input text is empty where no path is given
+-- each text is within its limit, and the input text is empty if no path is given
 pub record AreWithin (path : Option (String Global)) (texts : Texts) : Type 0 where
   pub program : length (string_bytes texts.program) ≤ most_program_bytes
   pub input : length (string_bytes texts.input) ≤ most_input_bytes

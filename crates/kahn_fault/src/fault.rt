@@ -13,7 +13,7 @@ use std::fmt;
 use std::fmt::{Display, Formatter, Write};
 use thiserror::Error;
 
-/// Why a run has no report. It is shown in the words of its line, without the program's name and without a place.
+/// Why a run has no report. It is displayed in the words of its line, without the program's name and without a place.
 #[derive(Debug, PartialEq, Eq, Drop, Error)]
 pub enum Fault {
     /// The file of that path couldn't be opened.
@@ -30,7 +30,7 @@ pub enum Fault {
     Work(WorkFault),
 }
 
-// A text that wasn't read: its path, what is said where it is too long, and why.
+// A text that wasn't read: its path, what is said if it is too long, and why.
 #[derive(Clone, Copy)]
 struct Unread<'a> {
     path: &'a str,
@@ -53,7 +53,7 @@ impl Display for Unread<'_> {
     }
 }
 
-/// The status of a text that wasn't read.
+/// Returns the status of a text that wasn't read.
 fn read_status(fault: ReadFault) -> u8
     ensures { result ≡ read_status fault }
 {
@@ -64,7 +64,7 @@ fn read_status(fault: ReadFault) -> u8
     }
 }
 
-/// The status of a run without a report.
+/// Returns the status of a run without a report.
 fn work_status(fault: WorkFault) -> u8
     ensures { result ≡ work_status fault }
 {
@@ -80,9 +80,9 @@ fn work_status(fault: WorkFault) -> u8
     }
 }
 
-/// The status that the program ends with: 0 where the run finished, 1 where a text is refused, 3 where the bound
-/// stopped the run, 4 where want of memory did or where memory was refused, 5 where a file or standard input couldn't be
-/// read or wasn't UTF-8, or where the report couldn't be written, and 6 where the run is refused. It takes no memory.
+/// Returns the exit status: 0 if the run finished, 1 if a text is refused, 3 if the bound stopped the run, 4 if memory
+/// was refused, 5 if a file or standard input couldn't be read or wasn't UTF-8, or if the report couldn't be written,
+/// and 6 if the run is refused. Never allocates.
 pub fn status(answer: &Result<Verdict, Fault>) -> u8
     ensures { result ≡ status_of answer.now }
 {
@@ -96,8 +96,8 @@ pub fn status(answer: &Result<Verdict, Fault>) -> u8
     }
 }
 
-/// The status that a program ends with which takes its input line by line: that of its answer, and 1 in place of 0 where a
-/// line was refused. It takes no memory.
+/// Returns the exit status of a program that takes its input line by line: that of its answer, and 1 in place of 0 if a
+/// line was refused. Never allocates.
 pub fn live_status(answer: &Result<Verdict, Fault>, refused: bool) -> u8
     ensures { result ≡ live_status_of refused answer.now }
 {

@@ -5,7 +5,7 @@ ghost use Rattle.kahn_report.specs.Work.{IsUnchecked};
 ghost use Rattle.kahn_report.specs.declared.working.WorkFault.{WorkFault};
 ghost use Rattle.kahn_fault.specs.Places.{LiesIn, fault_span};
 
-/// The place of a fault for which a program text is refused lies in the text.
+/// The place of a fault for which a program text is refused is within the text.
 pub fn fault_lies()
     ensures { (program : List ℕ) (fault : WorkFault) → IsUnchecked program fault → IfSome (fault_span fault) (LiesIn program) }
 {}

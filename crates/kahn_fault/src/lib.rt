@@ -1,5 +1,5 @@
-//! The texts that a run is given, read from the files that the command line names; why it has no report, the line that tells it, and the
-//! status that the program ends with.
+//! The texts that a run is given, read from the files that the command line names; why it has no report, the line that reports it, and
+//! the status that the program ends with.
 #![tactic(auto)]
 
 mod fault;

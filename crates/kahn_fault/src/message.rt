@@ -49,7 +49,7 @@ fn put_two<'a, W: Write, L: Ledger>(
     )
 }
 
-/// Writes a line with a number, or what stands for one, between its words.
+/// Writes a line with a number, or what is in its place, between its words.
 fn put_between<'a, W: Write, L: Ledger>(
     writer: &mut W,
     before: &'a str,
@@ -134,7 +134,7 @@ fn put_byte<W: Write, L: Ledger>(
     )
 }
 
-/// Writes a line with the place of a byte, where there is one.
+/// Writes a line with the place of a byte, if there is one.
 fn put_placed<W: Write, L: Ledger>(
     writer: &mut W,
     program: &str,
@@ -150,7 +150,7 @@ fn put_placed<W: Write, L: Ledger>(
     }
 }
 
-/// Why a lexeme can't stand where it stands.
+/// Returns why a lexeme is unexpected.
 fn what_words(what: What) -> &'static str
     ensures { result.now ≡ what_words what }
 {
@@ -161,7 +161,7 @@ fn what_words(what: What) -> &'static str
     }
 }
 
-/// Where a text is no program, where it is one place.
+/// Returns the place at which a text is no program, if it is one place.
 pub fn syntax_span(fault: SyntaxFault) -> Option<Span>
     ensures { result ≡ syntax_span fault }
 {
@@ -176,7 +176,7 @@ pub fn syntax_span(fault: SyntaxFault) -> Option<Span>
     }
 }
 
-/// Why a text is no program.
+/// Returns why a text is no program.
 pub fn syntax_words(fault: SyntaxFault) -> &'static str
     ensures { result.now ≡ syntax_words fault }
 {
@@ -192,7 +192,7 @@ pub fn syntax_words(fault: SyntaxFault) -> &'static str
     }
 }
 
-/// Where a program is refused, where it is one place.
+/// Returns the place for which a program is refused, if it is one place.
 pub fn check_span(fault: CheckFault) -> Option<Span>
     ensures { result ≡ check_span fault }
 {
@@ -213,7 +213,7 @@ pub fn check_span(fault: CheckFault) -> Option<Span>
     }
 }
 
-/// Why a program is refused.
+/// Returns why a program is refused.
 pub fn check_words(fault: CheckFault) -> &'static str
     ensures { result.now ≡ check_words fault }
 {
@@ -326,7 +326,7 @@ fn put_work<W: Write, L: Ledger>(
     }
 }
 
-/// Writes the line of a text that wasn't read: its path, and what is said where it is too long.
+/// Writes the line of a text that wasn't read: its path, and what is said if it is too long.
 fn put_read<W: Write, L: Ledger>(
     writer: &mut W,
     path: &str,
@@ -344,7 +344,7 @@ fn put_read<W: Write, L: Ledger>(
     }
 }
 
-/// What a path is called.
+/// Returns what a path is called.
 pub(crate) fn path_words(path: &Option<String>) -> &str
     ensures { result.now ≡ path_words path.now }
 {
@@ -405,8 +405,8 @@ fn line_opened<W: Write, L: Ledger>(
     line_counted(told.fault, told.program, writer, &mut writes)
 }
 
-/// Writes the line of a fault and a line feed, and flushes. A span in the fault is one of the program text; one that lies
-/// beyond it is told as its end. After a fault of the writer a prefix of the line went out. It takes no memory.
+/// Writes the line of a fault and a line feed, and flushes. A span in the fault is one of the program text; one beyond it
+/// is reported as its end. After a fault of the writer a prefix of the line went out. Never allocates.
 pub fn fault_line<W: Write>(fault: &Fault, program: &str, writer: &mut W) -> Result<(), WriteFault>
     ensures { Writes (W.contents writer.old) (W.contents writer.new) result (fault_text program.now fault.now) }
 {

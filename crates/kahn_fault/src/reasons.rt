@@ -15,7 +15,7 @@ use std::fs;
 use std::io::{ErrorKind, Read, Write};
 use std::rt::Runtime;
 
-/// What is said of why the system opens or reads no file.
+/// Returns why the system opens or reads no file, in words.
 fn file_words(kind: ErrorKind) -> &'static str
     ensures { result.now ≡ file_words kind }
 {
@@ -30,7 +30,7 @@ fn file_words(kind: ErrorKind) -> &'static str
     }
 }
 
-/// What is said of why the next byte can't be read, and nothing where it can.
+/// Returns why the next byte can't be read, in words, or nothing if it can.
 fn reading_words<R: Read>(reader: &mut R) -> &'static str {
     let mut byte = [0; 1];
     match reader.read(&mut byte) {
@@ -39,7 +39,7 @@ fn reading_words<R: Read>(reader: &mut R) -> &'static str {
     }
 }
 
-/// What is said of why the file of a path can't be read. It is tried once more, so nothing is said where it can be read by now.
+/// Returns why the file of a path can't be read, in words, or nothing if it can be read by now: it is tried again.
 fn opening_words<R: Runtime>(rt: &R, path: &str) -> &'static str {
     match fs::open(rt, path) {
         Ok(mut file) => reading_words(&mut file),
@@ -48,7 +48,7 @@ fn opening_words<R: Runtime>(rt: &R, path: &str) -> &'static str {
     }
 }
 
-/// What is said of why a text can't be read, behind the words of its fault.
+/// Returns why a text can't be read, in the words that follow those of its fault.
 fn unread_words<R: Runtime>(rt: &R, fault: &Fault) -> &'static str {
     match fault {
         Fault::Open(path) => opening_words(rt, path.as_str()),
@@ -61,7 +61,7 @@ fn unread_words<R: Runtime>(rt: &R, fault: &Fault) -> &'static str {
     }
 }
 
-/// Writes a line with a reason, behind the name of the program that gives it. After a fault a prefix of it went out.
+/// Writes a line with a reason, after the name of the program that gives it. After a fault a prefix of it went out.
 pub fn tell_reason<'a, W: Write>(
     name: &'a str,
     reason: &'a str,
@@ -72,7 +72,7 @@ pub fn tell_reason<'a, W: Write>(
     write_line(writer, &[name.as_bytes(), b": ", reason.as_bytes(), b"\n"])
 }
 
-/// A path as it is shown.
+/// Returns a path as it is shown.
 pub fn shown_path(alloc: Global, path: &str) -> Result<String, AllocError>
     ensures { IfOk result (λ shown. string_bytes shown ≡ shown_text path.now) }
 {
@@ -81,7 +81,7 @@ pub fn shown_path(alloc: Global, path: &str) -> Result<String, AllocError>
     Ok(shown)
 }
 
-/// That, or the path itself where memory is refused for it.
+/// Returns that, or the path itself if memory is refused for it.
 fn shown_or(alloc: Global, path: String) -> String {
     match shown_path(alloc, path.as_str()) {
         Ok(shown) => shown,
@@ -89,7 +89,7 @@ fn shown_or(alloc: Global, path: String) -> String {
     }
 }
 
-/// The same of a path that may not be given.
+/// The same for a path, if one is given.
 fn shown_if(alloc: Global, path: Option<String>) -> Option<String> {
     match path {
         Some(path) => Some(shown_or(alloc, path)),
@@ -97,7 +97,7 @@ fn shown_if(alloc: Global, path: Option<String>) -> Option<String> {
     }
 }
 
-/// A fault with its path as it is shown.
+/// Returns a fault with its path as it is shown.
 fn shown_fault(alloc: Global, fault: Fault) -> Fault
     ensures { status_of (Err result) ≡ status_of (Err fault) }
 {
@@ -109,15 +109,15 @@ fn shown_fault(alloc: Global, fault: Fault) -> Fault
     }
 }
 
-/// Tells why the texts of a run can't be read, with a path as it is shown, and gives the status.
+/// Reports why the texts of a run can't be read, with a path as it is shown, and returns the status.
 pub fn tell_shown<W: Write>(alloc: Global, fault: Fault, writer: &mut W) -> u8
     ensures { result ≡ status_of (Err fault) }
 {
     tell(&Err(shown_fault(alloc, fault)), "", writer).status
 }
 
-/// Tells why the texts of a run can't be read, as `tell_shown` does, and then, behind the name of the program, the reason, where there
-/// is one. It gives the status.
+/// Reports why the texts of a run can't be read, as `tell_shown` does, and then, after the name of the program, the reason, if there
+/// is one. Returns the status.
 pub fn tell_unread<R: Runtime + AllocGlobal, W: Write>(
     rt: &R,
     name: &str,
@@ -129,7 +129,7 @@ pub fn tell_unread<R: Runtime + AllocGlobal, W: Write>(
     let reason = unread_words(rt, &fault);
     let status = tell_shown(rt.alloc(), fault, writer);
     if !reason.is_empty() {
-        // What can't be written here changes no status.
+        // A failure to write this doesn't change the status.
         let _told = tell_reason(name, reason, writer);
     }
     status

@@ -1,4 +1,4 @@
-//! What a program tells of its run in the end.
+//! What a program reports of its run at the end.
 
 ghost use Rattle.std.specs.Prelude.{◌≡◌, true};
 ghost use Rattle.kahn_fault.specs.Status.{status_of};
@@ -13,17 +13,17 @@ use kahn_report::{WorkFault, WriteFault, write_line};
 use kahn_streams::Span;
 use std::io::Write;
 
-/// What was told.
+/// What was reported.
 #[derive(Drop)]
 pub struct Told {
-    /// The status that the program ends with. A line that couldn't be written changes no status.
+    /// The status that the program ends with. A line that couldn't be written doesn't change it.
     pub status: u8,
-    /// Whether the line of the fault went out, where there is a fault.
+    /// Whether the line of the fault went out, if there is a fault.
     pub line: Result<(), WriteFault>,
 }
 
-/// Tells the fault of a run, where there is one, in one line, and gives the status. The fault's place is one of the program
-/// text. After a fault of the writer a prefix of the line went out. It takes no memory.
+/// Reports the fault of a run, if there is one, in one line, and returns the status. The fault's place is one of the
+/// program text. After a fault of the writer a prefix of the line went out. Never allocates.
 pub fn tell<W: Write>(answer: &Result<Verdict, Fault>, program: &str, writer: &mut W) -> Told
     ensures status { result.status ≡ status_of answer.now }
     ensures line { Writes (W.contents writer.old) (W.contents writer.new) result.line (told_text program.now answer.now) }
@@ -38,7 +38,7 @@ pub fn tell<W: Write>(answer: &Result<Verdict, Fault>, program: &str, writer: &m
     }
 }
 
-/// Where a program text is at fault, where it is one place.
+/// Returns where a program text is at fault, if it is one place.
 fn fault_span(fault: WorkFault) -> Option<Span>
     ensures { result ≡ fault_span fault }
 {
@@ -83,8 +83,8 @@ fn put_more<W: Write>(fault: &Fault, path: &str, writer: &mut W) -> Result<(), W
     Ok(())
 }
 
-/// Tells which program says more of the fault of a run, where it has a place in the program text, which is that of the file of the path:
-/// one line. After a fault of the writer a prefix of the line went out. It takes no memory.
+/// Reports, in one line, which program says more of the fault of a run, if it has a place in the program text, which is that of the file
+/// at `path`. After a fault of the writer a prefix of the line went out. Never allocates.
 pub fn tell_explain<W: Write>(
     answer: &Result<Verdict, Fault>,
     path: &str,

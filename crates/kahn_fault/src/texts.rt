@@ -23,7 +23,7 @@ pub const MOST_INPUT_BYTES: usize = 16_777_216;
 pub struct Texts {
     /// The program text.
     pub program: String,
-    /// The input text, which is empty where no file is named.
+    /// The input text, which is empty if no file is named.
     pub input: String,
 }
 

@@ -5,8 +5,7 @@ ghost use Rattle.kahn_job.specs.inner.Words.{length, IfSome, IfNone, IsTrue, net
 
 use kahn_streams::{About, Input, Network, Token};
 
-/// An input channel, and the place of the token that is taken next. Of which network it is and for which input, contracts
-/// alone see.
+/// An input channel, and the place of the token that is taken next. Contracts alone see its network and its input.
 #[derive(Drop)]
 pub(crate) struct Feed {
     pub(crate) network: About<Network>,
@@ -17,7 +16,7 @@ pub(crate) struct Feed {
 }
 
 impl Feed {
-    /// The list of an input channel from a place on, of the network and the input that are named.
+    /// Starts at a place of the list of an input channel, of the network and the input that the caller names.
     pub(crate) fn of(_network: &Network, _input: &Input, channel: usize, next: u64) -> Feed
         ghost names: { Names }
         requires inside { channel < length (network_of names.network).channels }
@@ -32,7 +31,7 @@ impl Feed {
         }
     }
 
-    /// Goes on with the list of another input, which is named.
+    /// Goes on with the list of another input, which the caller names.
     pub(crate) fn regrow(&mut self, _input: &Input)
         ghost name: { Lists }
         ensures { (self.new.network ≡ self.old.network) × (self.new.input.value ≡ name) × (self.new.channel ≡ self.old.channel) × (self.new.next ≡ self.old.next) }
@@ -40,7 +39,7 @@ impl Feed {
         self.input = About::named();
     }
 
-    /// Whether there is a token more.
+    /// Whether there is a next token.
     pub(crate) fn is_ready(&self, input: &Input) -> bool
         requires { self.now.input.value ≡ input.now }
         ensures { IsTrue result ↔ (self.now.next < length (inputs_of self.now.input.value self.now.channel)) }
@@ -48,7 +47,9 @@ impl Feed {
         self.next < input.count(self.channel) as u64
     }
 
-    /// The next token. None past the list.
+    /// Returns the next token. None past the list. It stands apart, so that taking a token from a lane is short enough to be compiled
+    /// into the loop.
+    #[inline(never)]
     pub(crate) fn take(&mut self, network: &Network, input: &Input) -> Option<Token>
         requires bound { self.old.next < 2 ^ 48 }
         requires of { (self.old.network.value ≡ network.now) × (self.old.input.value ≡ input.now) }

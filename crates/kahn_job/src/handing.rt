@@ -1,4 +1,4 @@
-//! The ends of parameters come and go, and those of a channel come to the parameters that it is handed to.
+//! Ends are given to parameters and taken back, and a channel's ends go to the parameters that it is handed to.
 
 ghost use Rattle.std.specs.Prelude.{◌≡◌, ◌<◌, ◌≤◌, ◌+◌, ◌^◌, vec_capacity};
 ghost use Rattle.kahn_job.specs.inner.Words.{ℕ, Tapped, nothing_gone, [], length, map, replicate, slice_get, IfOk, IfSome, Some, network_of, lane_name, sender_lane, receiver_lane, sender_name, receiver_name, flushed, sent, received, taken_of, waiting_of, given_of};
@@ -12,7 +12,7 @@ use kahn_lane::{Receiver, Sender, lane, lane_at};
 use kahn_streams::{Input, Network, NoMemory, Role, Side};
 use std::alloc::Global;
 
-/// Gives a parameter another end, and gives out the one it had.
+/// Gives a parameter another end, and returns the one it had.
 pub(crate) fn exchange(idles: &mut Vec<Idle>, side: Side, port: Port) -> Port
     requires { HasPlace (rows_of idles.old.items) side }
     ensures port { result ≡ end_of_side (rows_of idles.old.items) side }
@@ -22,7 +22,7 @@ pub(crate) fn exchange(idles: &mut Vec<Idle>, side: Side, port: Port) -> Port
     idles[side.instance].replace(side.parameter, port)
 }
 
-/// Gives two parameters other ends, and gives out those they had.
+/// Gives two parameters other ends, and returns those they had.
 pub(crate) fn exchange_two(
     idles: &mut Vec<Idle>,
     writer: Side,
@@ -41,7 +41,7 @@ pub(crate) fn exchange_two(
     (sender, receiver)
 }
 
-/// Puts an end where it belongs.
+/// Gives an end to the parameter where it belongs, if any.
 pub(crate) fn place(idles: &mut Vec<Idle>, side: Option<Side>, port: Port)
     requires { IfSome side (HasPlace (rows_of idles.old.items)) }
     ensures rows { rows_of idles.new.items ≡ placed (rows_of idles.old.items) side port }
@@ -52,7 +52,8 @@ pub(crate) fn place(idles: &mut Vec<Idle>, side: Option<Side>, port: Port)
     }
 }
 
-/// The ends of a channel, the writer's and the reader's: of an inner channel those of a new lane, of an input channel its list.
+/// Makes the ends of a channel, the writer's and the reader's: of an inner channel those of a new lane, of an input channel its
+/// list.
 pub(crate) fn ends_of(
     alloc: Global,
     network: &Network,
@@ -72,7 +73,7 @@ pub(crate) fn ends_of(
     }
 }
 
-// A lane that begins where a queue stands, with copies of the tokens that wait there.
+// Makes a lane that begins where a queue stands, with copies of the tokens that wait there.
 fn lane_of(
     alloc: Global,
     network: &Network,
@@ -101,7 +102,7 @@ fn lane_of(
     Ok((sender, receiver))
 }
 
-/// The ends of a channel, the writer's and the reader's, which stand where its queue stands.
+/// Makes the ends of a channel, the writer's and the reader's, which stand where its queue stands.
 pub(crate) fn ends_at(
     alloc: Global,
     network: &Network,
@@ -127,7 +128,7 @@ pub(crate) fn ends_at(
     }
 }
 
-/// The jobs have the cells of these taps from now on, of the same instances, which have let go of nothing. It takes no memory.
+/// Gives the jobs the cells of these taps, which are of the same instances and have let go of nothing. Never allocates.
 pub fn seat(idles: &mut Vec<Idle>, taps: Vec<Tap>)
     requires count { length taps.items ≡ length idles.old.items }
     requires places { AreSamePlaces (cells_of idles.old.items) (tolds_of taps.items) }
@@ -142,7 +143,8 @@ pub fn seat(idles: &mut Vec<Idle>, taps: Vec<Tap>)
     }
 }
 
-/// The taps of the jobs' cells, which have let go of nothing. The list that is given has room for all. It takes no memory.
+/// Returns the taps of the jobs' cells, which have let go of nothing, in the list `taps`, which has room for all. Never
+/// allocates.
 pub fn unseat(idles: Vec<Idle>, mut taps: Vec<Tap>) -> Vec<Tap>
     requires room { (taps.items ≡ []) × (length idles.items ≤ vec_capacity taps) }
     ensures tolds { tolds_of result.items ≡ cells_of idles.items }

@@ -12,8 +12,8 @@ use std::alloc::Global;
 use std::marker::Model;
 use std::mem;
 
-/// A cell and the ends of its channels between two runs. It has no hold on the input, which may grow meanwhile. It keeps a
-/// list with a number for each parameter, which whoever runs the job wants again: so going on never allocates.
+/// A cell and the ends of its channels between two runs. It doesn't borrow the input, which may grow meanwhile. It keeps a
+/// list with a number for each parameter for the next run, so that going on never allocates.
 #[derive(Drop)]
 pub struct Idle {
     pub(crate) cell: Cell,
@@ -39,7 +39,7 @@ impl Model for Idle {
     ghost invariant = { λ j. (j.instance ≡ j.cell.instance) × (length j.numbers.items ≡ width_of (record { cell = j.cell; ends = j.ports.items })) };
 }
 
-// The same tokens once more.
+// Copies tokens.
 fn copied(alloc: Global, tokens: &[Carried]) -> Result<Vec<Carried>, NoMemory>
     ensures { IfOk result (λ v. v.items ≡ tokens.now) }
 {
@@ -51,7 +51,7 @@ fn copied(alloc: Global, tokens: &[Carried]) -> Result<Vec<Carried>, NoMemory>
 }
 
 impl Idle {
-    /// The cell of an instance with the ends of its channels, and a number for each parameter.
+    /// Joins the cell of an instance with the ends of its channels, and a number for each parameter.
     pub(crate) fn new(cell: Cell, instance: usize, ports: Vec<Port>, numbers: Vec<u64>) -> Idle
         requires here { instance ≡ cell.instance }
         requires each { length numbers.items ≡ width_of (record { cell = cell; ends = ports.items }) }
@@ -65,7 +65,7 @@ impl Idle {
         }
     }
 
-    /// Gives a parameter another end, and gives out the one it had.
+    /// Gives a parameter another end, and returns the one it had.
     pub(crate) fn replace(&mut self, parameter: usize, port: Port) -> Port
         requires { parameter < length self.old.ends }
         ensures port { result ≡ end_at self.old.ends parameter }
@@ -74,7 +74,7 @@ impl Idle {
         mem::replace(&mut self.ports[parameter], port)
     }
 
-    /// It has another cell of its instance from now on. It takes no memory.
+    /// Takes another cell of its instance. Never allocates.
     pub(crate) fn seat(&mut self, cell: Cell)
         requires { IsSamePlace self.old.cell cell }
         ensures { self.new ≡ record self.old { cell = cell } }
@@ -82,14 +82,14 @@ impl Idle {
         self.cell = cell;
     }
 
-    /// The tap of its cell, without the job. It takes no memory.
+    /// Turns the job into the tap of its cell. Never allocates.
     pub(crate) fn into_tap(self) -> Tap
         ensures { (result.told ≡ self.cell) × (result.gone ≡ nothing_gone) }
     {
         Tap::of(self.cell)
     }
 
-    /// What its cell kept of what it sent by a parameter.
+    /// Returns what its cell kept of what it sent on a parameter.
     pub fn kept(&self, parameter: usize) -> &[Carried]
         requires { parameter < width_of self.now }
         ensures { result.now ≡ slice_index_or self.now.cell.kept parameter [] }
@@ -98,14 +98,14 @@ impl Idle {
         self.cell.kept(parameter)
     }
 
-    /// What its cell printed.
+    /// Returns what its cell printed.
     pub fn printed(&self) -> &[Carried]
         ensures { result.now ≡ self.now.cell.printed }
     {
         self.cell.printed()
     }
 
-    /// A copy of what its cell kept. It refuses only if memory was refused.
+    /// Copies what its cell kept. Fails only if memory was refused.
     pub fn lists(&self, alloc: Global) -> Result<Kept, NoMemory>
         ensures kept { IfOk result (λ k. map (λ v. v.items) k.kept.items ≡ self.now.cell.kept) }
         ensures printed { IfOk result (λ k. k.printed.items ≡ self.now.cell.printed) }
@@ -120,7 +120,7 @@ impl Idle {
         Ok(Kept { kept, printed })
     }
 
-    /// What its cell kept, without the job. It never allocates.
+    /// Turns the job into what its cell kept. Never allocates.
     pub fn into_lists(self) -> Kept
         ensures kept { map (λ v. v.items) result.kept.items ≡ self.cell.kept }
         ensures printed { result.printed.items ≡ self.cell.printed }

@@ -12,7 +12,7 @@ use kahn_code::{Cell, Code, Plain};
 use kahn_streams::{Input, Network, NoMemory};
 use std::alloc::Global;
 
-// The job of an instance before its first event, for the input that is named, whose parameters have no ends yet.
+// Makes the job of an instance before its first event, for the input that the caller names. Its parameters have no ends yet.
 fn bare_job(
     alloc: Global,
     network: &Network,
@@ -40,7 +40,7 @@ fn bare_job(
     Ok(Idle::new(cell, instance, ports, numbers))
 }
 
-// The jobs of all instances before their first events, in order, whose parameters have no ends yet.
+// Makes the jobs of all instances before their first events, in order. Their parameters have no ends yet.
 fn bare_jobs(
     alloc: Global,
     network: &Network,
@@ -58,8 +58,8 @@ fn bare_jobs(
     Ok(idles)
 }
 
-/// The jobs of all instances before their first events, in order. Each inner channel has a new lane, whose ends are with
-/// the channel's writer and reader. It refuses only if memory was refused.
+/// Makes the jobs of all instances before their first events, in order. Each inner channel has a new lane, whose ends
+/// are with the channel's writer and reader. Fails only if memory was refused.
 pub fn jobs(
     alloc: Global,
     network: &Network,
@@ -80,9 +80,8 @@ pub fn jobs(
     Ok(idles)
 }
 
-/// Jobs of all instances, in order, whose ends stand where these queues stand, and whose cells are to come: those that they
-/// have are at their openings. Each inner channel has a new lane with copies of the tokens that wait in its queue. It refuses
-/// only if memory was refused.
+/// Makes jobs of all instances, in order, whose ends stand where these queues stand. Their cells are still at their openings.
+/// Each inner channel has a new lane with copies of the tokens that wait in its queue. Fails only if memory was refused.
 pub fn jobs_at(
     alloc: Global,
     network: &Network,

@@ -58,7 +58,7 @@ fn left_of(receiver: &Receiver) -> About<u64>
 }
 
 impl Port {
-    /// The reader's end of a lane.
+    /// Makes the reader's end of a lane.
     pub(crate) fn takes(receiver: Receiver) -> Port
         ensures { result ≡ taking receiver (left receiver) }
     {
@@ -66,7 +66,7 @@ impl Port {
         Port(Way::Takes(receiver, asked))
     }
 
-    /// The list of an input channel, from a place on.
+    /// Makes the end of an input channel, whose list it reads from a place on.
     pub(crate) fn feeds(network: &Network, input: &Input, channel: usize, next: u64) -> Port
         requires inside { channel < length (network_of network.now).channels }
         requires given { role_at (network_of network.now) channel ≡ InputRole }
@@ -75,21 +75,21 @@ impl Port {
         Port(Way::Feeds(Feed::of(network, input, channel, next)))
     }
 
-    /// The writer's end of a lane.
+    /// Makes the writer's end of a lane.
     pub(crate) fn puts(sender: Sender) -> Port
         ensures { result ≡ putting sender }
     {
         Port(Way::Puts(sender))
     }
 
-    /// No end.
+    /// Makes a port without an end.
     pub(crate) fn nothing() -> Port
         ensures { result ≡ no_end }
     {
         Port(Way::Nothing)
     }
 
-    /// Whether the next `take` gives a token. It never allocates.
+    /// Whether the next `take` gives a token. Never allocates.
     pub(crate) fn ready(&mut self, _network: &Network, input: &Input) -> bool
         requires reads { self.old.reads ≡ true }
         requires of { IsFor _network.now input.now self.old }
@@ -111,7 +111,7 @@ impl Port {
         }
     }
 
-    /// The token of the next place. It never allocates.
+    /// Returns the token of the next place. Never allocates.
     pub(crate) fn take(&mut self, network: &Network, input: &Input) -> Option<Token>
         requires reads { self.old.reads ≡ true }
         requires of { IsFor network.now input.now self.old }
@@ -135,13 +135,12 @@ impl Port {
         }
     }
 
-    /// Makes room for one token. If the open segment is full it is flushed first. If there is room already it never
-    /// allocates.
+    /// Makes room for one token. A full open segment is flushed first. Never allocates if there is room already.
     pub(crate) fn room(&mut self) -> Result<(), NoMemory>
         requires { self.old.writes ≡ true }
         ensures advances { Advances self.old self.new }
         ensures next { self.new.next ≡ self.old.next }
-        // Nothing was flushed, or a full segment.
+        // Nothing was flushed, or a full segment was.
         ensures flushed { (self.new.flushed ≡ self.old.flushed) ⊎ ((self.old.next ≡ self.old.flushed + 64) × (self.new.flushed ≡ self.old.next)) }
         ensures room { OnOk result (HasRoom self.new) }
         ensures full { OnErr result (HasRoom self.new → ⊥) }
@@ -155,7 +154,7 @@ impl Port {
         sender.room()
     }
 
-    /// Puts the token of the next place. It never allocates.
+    /// Puts the token of the next place. Never allocates.
     pub(crate) fn put(&mut self, token: Token)
         requires writes { self.old.writes ≡ true }
         requires bound { self.old.next < 2 ^ 48 }
@@ -185,7 +184,7 @@ impl Port {
         Ok(())
     }
 
-    /// Goes on with the list of another input. It is the end of an input channel. It never allocates.
+    /// Moves the end of an input channel on to another input. Never allocates.
     #[tactic(auto, using(crate::proofs::Fed::regrown))]
     pub(crate) fn regrow(&mut self, input: &Input)
         requires { CanFeed input.now self.old }
@@ -197,8 +196,7 @@ impl Port {
         feed.regrow(input);
     }
 
-    /// With the reader's end of its lane: the two ends of a lane for an input that has grown. If memory is refused both
-    /// come back as they were.
+    /// Moves the lane on to an input that has grown, with the reader's end. If memory is refused, both come back as they were.
     pub(crate) fn settle(self, reader: Port, input: &Input) -> (Port, Port, Result<(), NoMemory>)
         requires { CanSettle input.now self reader }
         ensures lane { OnOk result.2 (ShareLane result.0 result.1) }
@@ -217,8 +215,7 @@ impl Port {
         }
     }
 
-    /// With the reader's end of its lane in one thread: both ends again, and that no more was taken than was flushed. It never
-    /// allocates.
+    /// Lets the two ends of a lane meet in one thread, which shows that no more was taken than was flushed. Never allocates.
     pub(crate) fn meet(self, reader: Port) -> (Port, Port)
         requires { MayMeet self reader }
         ensures stayed { HasStayed self result.0 × HasStayed reader result.1 }
@@ -231,7 +228,7 @@ impl Port {
         (Port::puts(sender), Port(Way::Takes(receiver, asked)))
     }
 
-    /// Says that of an input channel no more is ready than its list has: its contract is what it does.
+    /// Says that no more of an input channel is ready than its list has. For the prover only.
     #[tactic(auto, using(crate::proofs::Fed::fed))]
     pub(crate) fn fed(&self)
         ensures { IsWithinInput self.now }
@@ -239,7 +236,7 @@ impl Port {
         let _way = &self.0;
     }
 
-    /// How many tokens were flushed. It never allocates.
+    /// Returns how many tokens were flushed. Never allocates.
     pub(crate) fn flushed(&self) -> u64
         ensures { result ≡ self.now.flushed }
     {

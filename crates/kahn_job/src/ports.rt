@@ -30,7 +30,7 @@ impl<'a> Ports for Ends<'a> {
 
     ghost others = { λ s p q. 0 };
 
-    // also which borrow it is that they are lent from
+    // also from which borrow they are lent
     ghost Identity = { ℕ × List Identity };
 
     ghost which = { λ s. (s.ports.ghost_name, identities s.ports.now.items) };

@@ -1,4 +1,5 @@
-//! Both ends of each channel together: they go on with an input that has grown, or meet, and tell that no reader took more than was flushed.
+//! Both ends of each channel together: they go on with an input that has grown, or meet, which shows that no reader took more than was
+//! flushed.
 
 ghost use Rattle.std.specs.Prelude.{◌≡◌, ◌<◌};
 ghost use Rattle.kahn_job.specs.inner.Words.{ℕ, length, OnOk, network_of, Lists};
@@ -12,7 +13,7 @@ use crate::idle::Idle;
 use crate::port::Port;
 use kahn_streams::{Input, Network, NoMemory, Side};
 
-// The lane between two parameters goes on with the input.
+// Moves the lane between two parameters on to the input.
 fn settle_lane(
     idles: &mut Vec<Idle>,
     writer: Side,
@@ -31,7 +32,7 @@ fn settle_lane(
     settled
 }
 
-// The list of an input channel is that of the input from now on.
+// Moves the end of an input channel on to the input.
 fn settle_feed(idles: &mut Vec<Idle>, reader: Side, input: &Input)
     requires place { HasPlace (rows_of idles.old.items) reader }
     requires feed { CanFeed input.now (end_of_side (rows_of idles.old.items) reader) }
@@ -43,7 +44,7 @@ fn settle_feed(idles: &mut Vec<Idle>, reader: Side, input: &Input)
     let _none = exchange(idles, reader, port);
 }
 
-// The ends of a channel go on with the input. If memory is refused they stay as they are.
+// Moves the ends of a channel on to the input. If memory is refused, they stay as they are.
 fn settle_channel(
     network: &Network,
     input: &Input,
@@ -68,8 +69,8 @@ fn settle_channel(
     }
 }
 
-/// The ends of all channels go on with an input whose lists begin with those of theirs. Each stands where it stood, and all
-/// that was put is flushed. If memory is refused, those that went on already look the same to every call.
+/// Moves the ends of all channels on to an input whose lists begin with those of theirs. Each stays at its place, and all
+/// that was put is flushed. If memory is refused, those that moved already look the same to every call.
 pub fn settle(network: &Network, input: &Input, idles: &mut Vec<Idle>) -> Result<(), NoMemory>
     requires { AreResting network.now input.now (rows_of idles.old.items) }
     ensures settled { OnOk result (HaveSettled network.now input.now (rows_of idles.new.items)) }
@@ -84,7 +85,7 @@ pub fn settle(network: &Network, input: &Input, idles: &mut Vec<Idle>) -> Result
     Ok(())
 }
 
-// The two ends of a lane meet.
+// Lets the two ends of a lane meet.
 fn meet_sides(idles: &mut Vec<Idle>, writer: Side, reader: Side)
     requires places { HasPlace (rows_of idles.old.items) writer × HasPlace (rows_of idles.old.items) reader }
     requires apart { writer ≡ reader → ⊥ }
@@ -97,7 +98,7 @@ fn meet_sides(idles: &mut Vec<Idle>, writer: Side, reader: Side)
     let _none = exchange_two(idles, writer, sender, reader, receiver);
 }
 
-// The two ends of a channel meet, if it has two.
+// Lets the two ends of a channel meet, if it has two.
 fn meet_on(network: &Network, idles: &mut Vec<Idle>, channel: usize)
     requires here { channel < length (network_of network.now).channels }
     requires resting { (lists : Lists) × AreResting network.now lists (rows_of idles.old.items) }
@@ -112,8 +113,8 @@ fn meet_on(network: &Network, idles: &mut Vec<Idle>, channel: usize)
     }
 }
 
-/// The two ends of each channel meet, which tells that no reader took more than was flushed. The jobs stay as they are, but for
-/// what their ends know. It never allocates.
+/// Lets the two ends of each channel meet, which shows that no reader took more than was flushed. The jobs stay as they are,
+/// but for what their ends know. Never allocates.
 pub fn meet(network: &Network, mut idles: Vec<Idle>) -> Vec<Idle>
     requires { (lists : Lists) × AreResting network.now lists (rows_of idles.items) }
     ensures met { HaveMet idles.items result.items }

@@ -20,7 +20,7 @@ pub enum Standing {
 }
 
 impl Standing {
-    /// The standing that a pause tells.
+    /// Returns the standing after a pause.
     pub fn after(pause: Pause) -> Standing
         ensures { result ≡ standing_after pause }
     {

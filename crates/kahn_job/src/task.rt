@@ -1,4 +1,4 @@
-//! A task: a job on its way, with what the workers have to know of it.
+//! A task: a job as workers pass it on, with what they have to know of it.
 
 ghost use Rattle.std.specs.Prelude.{◌≡◌, ◌+◌, ◌*◌, ◌^◌, ◌<◌, ◌≤◌};
 ghost use Rattle.kahn_job.specs.inner.Words.{length, slice_set, OnOk, network_of, instance_at, site_code, count, AreCounts, site_of};
@@ -16,9 +16,8 @@ use kahn_streams::{Input, Network, NoMemory};
 use std::marker::Model;
 use std::sync::ledger::Ledger;
 
-/// A cell and the ends of its channels, which go from worker to worker together, with where its process stood when it was
-/// last run, and by parameter how many of the tokens that it sent are published. Code, network and input are lent to it
-/// where it runs.
+/// A cell and the ends of its channels, which go from worker to worker together, with where its process stood when it was last
+/// run, and by parameter how many of the tokens that it sent are published. Code, network and input are lent to it when it runs.
 #[derive(Drop)]
 pub struct Task {
     cell: Cell,
@@ -43,7 +42,7 @@ impl Model for Task {
     ghost invariant = { λ t. IsTask t.instance (record { cell = t.cell; ends = t.ports.items }) t.standing t.published.items };
 }
 
-// How many tokens a cell sent on each of its parameters, written into a list with as many places.
+// Writes how many tokens a cell sent on each of its parameters into a list of that length.
 fn sent_into(cell: &Cell, mut numbers: Vec<u64>) -> Vec<u64>
     requires { length numbers.items ≡ length (instance_at (network_of cell.now.network) cell.now.instance).actuals }
     ensures { result.items ≡ cell.now.sent }
@@ -56,8 +55,8 @@ fn sent_into(cell: &Cell, mut numbers: Vec<u64>) -> Vec<u64>
 }
 
 impl Task {
-    /// The task of an idle job that goes on with an input for which its ends have settled. All that it sent counts as
-    /// published. It never allocates.
+    /// Turns an idle job into a task for an input for which its ends have settled. All that it sent counts as
+    /// published. Never allocates.
     pub fn woken(idle: Idle, input: &Input) -> Task
         requires { CanGoOn input.now idle }
         ensures { result ≡ woken_task input.now idle }
@@ -73,7 +72,7 @@ impl Task {
         }
     }
 
-    /// The job of the task, on which nobody works any more. It never allocates.
+    /// Turns the task back into an idle job. Never allocates.
     pub fn rest(self) -> Idle
         ensures same { result ≡ self.work }
         ensures job { IsJob result }
@@ -127,7 +126,7 @@ impl Task {
         flush_all(&mut self.ports)
     }
 
-    /// Where the process stood when it was last run.
+    /// Returns where the process stood when it was last run.
     pub fn standing(&self) -> Standing
         ensures result { result ≡ self.now.standing }
         ensures said { IsTrueOf self.now.work self.now.standing }
@@ -135,14 +134,14 @@ impl Task {
         self.standing
     }
 
-    /// The number of its events.
+    /// Returns the number of its events.
     pub fn events(&self) -> u64
         ensures { result ≡ self.now.work.cell.events }
     {
         self.cell.events()
     }
 
-    /// How many parameters it has.
+    /// Returns how many parameters it has.
     pub fn parameters(&self) -> usize
         ensures width { result ≡ width_of self.now.work }
         ensures lists { (length self.now.published ≡ result) × (length self.now.work.ends ≡ result) }
@@ -153,7 +152,7 @@ impl Task {
         self.published.len()
     }
 
-    /// How many tokens it took on a parameter.
+    /// Returns how many tokens it took on a parameter.
     pub fn taken(&self, parameter: usize) -> u64
         requires { parameter < length self.now.work.cell.taken }
         ensures { result ≡ count self.now.work.cell.taken parameter }
@@ -161,7 +160,7 @@ impl Task {
         self.cell.taken(parameter)
     }
 
-    /// How many tokens it sent on a parameter.
+    /// Returns how many tokens it sent on a parameter.
     pub fn sent(&self, parameter: usize) -> u64
         requires { parameter < length self.now.work.cell.sent }
         ensures { result ≡ count self.now.work.cell.sent parameter }
@@ -169,7 +168,7 @@ impl Task {
         self.cell.sent(parameter)
     }
 
-    /// How many tokens it flushed on a parameter, also after a refusal. It never allocates.
+    /// Returns how many tokens it flushed on a parameter, also after a refusal. Never allocates.
     pub fn flushed(&self, parameter: usize) -> u64
         requires { parameter < length self.now.work.ends }
         ensures { result ≡ (end_at self.now.work.ends parameter).flushed }
@@ -177,7 +176,7 @@ impl Task {
         self.ports[parameter].flushed()
     }
 
-    /// How many tokens of a parameter are published.
+    /// Returns how many tokens of a parameter are published.
     pub fn published(&self, parameter: usize) -> u64
         requires { parameter < length self.now.published }
         ensures { result ≡ count self.now.published parameter }
@@ -185,7 +184,7 @@ impl Task {
         self.published[parameter]
     }
 
-    /// Marks that number of tokens of a parameter as published.
+    /// Marks `number` tokens of a parameter as published.
     pub fn mark(&mut self, parameter: usize, number: u64)
         requires { parameter < length self.old.published }
         ensures { self.new ≡ record { work = self.old.work; standing = self.old.standing; published = slice_set self.old.published parameter number } }
@@ -193,7 +192,7 @@ impl Task {
         self.published[parameter] = number;
     }
 
-    /// Says that of an input channel no more is ready on a parameter than its list has: its contract is what it does.
+    /// Says that no more of an input channel is ready on a parameter than its list has. For the prover only.
     pub fn fed(&self, parameter: usize)
         requires { parameter < length self.now.work.ends }
         ensures { IsWithinInput (end_at self.now.work.ends parameter) }

@@ -29,14 +29,14 @@ module _ {A : Type 0} where
   abbrev pub sent : Sender A → ℕ
   sent s = s.flushed + vec_len s.current
 
-  -- how many tokens the open segment has, and how many it has place for
+  -- how many tokens the open segment has, and how many it has room for
   abbrev pub filled : Sender A → ℕ
   filled s = vec_len s.current
 
   abbrev pub capacity : Sender A → ℕ
   capacity s = vec_capacity s.current
 
-  -- there is place for a token
+  -- there is room for a token
   abbrev pub CanPut : Sender A → Type 0
   CanPut s = (filled s < 64) × (filled s < capacity s)
 
@@ -64,12 +64,12 @@ module _ {A : Type 0} where
   abbrev pub AreEndsNamed : Named → Sender A → Receiver A → Type 0
   AreEndsNamed n s r = (sender_name s ≡ n) × (receiver_name r ≡ n)
 
-  -- so many tokens were put and flushed, and as many were taken
+  -- n tokens were put, flushed and taken
   abbrev pub HavePassed : ℕ → Sender A → Receiver A → Type 0
   HavePassed n s r = (sent s ≡ n) × (flushed s ≡ n) × (received r ≡ n) × (heard r ≡ n)
 
-  -- the deque was empty, so that all that is known to have been flushed was taken; or 64 segments have left it that this end didn't
-  -- know to have left it
+  -- the deque was empty, so all that this end knows to have been flushed was taken; or 64 segments have left it that this end
+  -- didn't know to have left it
   abbrev pub WasDry : Receiver A → Receiver A → Type 0
   WasDry old new = (heard old ≤ received old) ⊎ (left old + 64 ≤ left new)
 

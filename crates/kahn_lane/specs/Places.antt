@@ -15,7 +15,7 @@ use Rattle.kahn_lane.specs.declared.segments.Mark.{Mark}
 use Rattle.kahn_lane.specs.declared.segments.Stage.{Stage}
 use Rattle.kahn_lane.specs.declared.segments.Stage.TheVariants.{Opening, Telling, Running}
 
--- what the tokens of a lane are of, where it is known
+-- what the tokens of a lane are of, if it is known
 abbrev pub Named : Type 0
 Named = Option LaneName
 

@@ -1,4 +1,4 @@
-//! What the making of a lane or a relay refuses with.
+//! Why a lane or a relay can't be made.
 
 use kahn_streams::NoMemory;
 use std::alloc::AllocError;

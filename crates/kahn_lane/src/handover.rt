@@ -1,7 +1,7 @@
 //! The calls of a relay: items pass between two threads one by one, in order, and any number of them may be under
 //! way.
 //!
-//! A taker that finds nothing says so at once. It never holds its thread.
+//! A taker that finds nothing returns at once. No call ever blocks.
 
 ghost use Rattle.std.specs.Prelude.{◌≡◌, ◌+◌, ◌<◌, List, [], ◌∷◌, ◌++◌, length, IfOk, MatchResult, MatchOption};
 ghost use Rattle.kahn_lane.specs.RelayEnds.{giver_relay, taker_relay, given, got, known_given, ComesBack, SameRelay, WasEmpty};
@@ -13,10 +13,10 @@ use kahn_streams::NoMemory;
 use std::alloc::Allocator;
 use std::mem;
 
-// How often a steal that came between two others is tried again.
+// How often a steal that met another one is tried again.
 const TRIES: usize = 64;
 
-/// The two ends of a new relay, which may go to different threads. Nothing was given or taken yet.
+/// Makes a relay. Its two ends may go to different threads. Nothing was given or taken yet.
 pub fn relay<T: Drop, A: Allocator + Clone + Drop>(
     alloc: A,
 ) -> Result<(Giver<T, A>, Taker<T, A>), LaneFault>
@@ -30,8 +30,7 @@ pub fn relay<T: Drop, A: Allocator + Clone + Drop>(
 }
 
 impl<T, A: Allocator> Giver<T, A> {
-    /// Gives an item. Where memory is refused the item comes back and nothing was given; the first item that is ever
-    /// given is never refused.
+    /// Gives an item. If memory is refused, the item comes back and nothing was given; the very first item is never refused.
     pub fn give(&mut self, item: T) -> Result<(), (NoMemory, T)>
         ensures same { giver_relay self.new ≡ giver_relay self.old }
         ensures rule { MatchResult result (λ _. given self.new ≡ given self.old ++ item ∷ []) (λ e. ComesBack self.old self.new item e.1) }
@@ -44,9 +43,9 @@ impl<T, A: Allocator> Giver<T, A> {
 }
 
 impl<T, A: Allocator> Taker<T, A> {
-    /// The next item. `None` comes only where the deque was empty at one moment of the call, so that all that is
-    /// known to have been given was taken, or after 64 steals that each met another one: then 64 items have left the
-    /// deque that this end didn't know to have left it. It takes no memory.
+    /// Returns the next item. `None` only if the deque was empty at some moment of the call, so that all that is known
+    /// to have been given was taken, or after 64 steals that each met another one: then 64 items have left the deque
+    /// that this end didn't know to have left it. Never allocates.
     pub fn take(&mut self) -> Option<T>
         ensures same { (taker_relay self.new ≡ taker_relay self.old) × (known_given self.new ≡ known_given self.old) }
         ensures rule { MatchOption result ((got self.new ≡ got self.old) × WasEmpty self.old self.new) (λ x. got self.new ≡ got self.old ++ x ∷ []) }
@@ -61,8 +60,8 @@ impl<T, A: Allocator> Taker<T, A> {
         None
     }
 
-    /// With both ends of a relay in one thread: how many items were given and not taken. What was taken is a prefix
-    /// of what was given. It takes no memory.
+    /// Returns, with both ends in one thread, how many items were given and not taken. What was taken is a prefix of
+    /// what was given. Never allocates.
     pub fn meet(&mut self, giver: &mut Giver<T, A>) -> u64
         requires { giver_relay giver.old ≡ taker_relay self.old }
         ensures same { SameRelay giver.old giver.new self.old self.new }

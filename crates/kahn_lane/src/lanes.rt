@@ -1,8 +1,7 @@
 //! The calls of a lane: tokens of one channel pass between two threads in segments, in the order of their places.
 //!
-//! The writer asks for room, puts a token into its open segment, and flushes the segment where it is full or where
-//! the reader is to see it. The reader steals a segment where its own is used up, and takes its tokens one by one.
-//! No call ever holds its thread.
+//! The writer asks for room, puts a token into its open segment, and flushes the segment when it is full or when the reader
+//! is to see it. The reader steals a segment when its own is used up, and takes its tokens one by one. No call ever blocks.
 
 ghost use Rattle.std.specs.Prelude.{◌≡◌, ◌+◌, ◌≤◌, ◌<◌, ◌^◌, ◌⊎◌, true, false, vec_len, vec_capacity, IfOk, IsOk, OnErr, IsSome, MatchResult, MatchOption, Some};
 ghost use Rattle.crossbeam_deque.specs.Handles.{worker_view, worker_deque, worker_flavor, stealer_deque, stealer_flavor};
@@ -21,7 +20,7 @@ use kahn_streams::{Carried, Input, Line, Network, NoMemory, Token};
 use std::alloc::Allocator;
 use std::mem;
 
-// How often a steal that came between two others is tried again.
+// How often a steal that met another one is tried again.
 const TRIES: usize = 64;
 
 // How many tokens a segment has at most.
@@ -51,7 +50,7 @@ fn opened<A: Allocator + Clone + Drop>(
     Ok((worker, stealer))
 }
 
-// The two ends of a new lane that begins at the place of two like tags. The sender keeps the second.
+// The two ends of a new lane that begins at the place of two equal tags. The sender keeps the second.
 pub(crate) fn lane_from<A: Allocator + Clone + Drop>(
     alloc: A,
     head: Tag,
@@ -85,7 +84,7 @@ pub(crate) fn lane_from<A: Allocator + Clone + Drop>(
     Ok((sender, receiver))
 }
 
-/// The two ends of a new lane for the tokens of a channel, which may go to different threads. Nothing was put yet.
+/// Makes a lane for the tokens of a channel. Its two ends may go to different threads. Nothing was put yet.
 pub fn lane<A: Allocator + Clone + Drop>(
     alloc: A,
     network: &Network,
@@ -99,7 +98,7 @@ pub fn lane<A: Allocator + Clone + Drop>(
     lane_at(alloc, network, input, channel, 0)
 }
 
-/// The two ends of a new lane for the tokens of a channel from a place on: those before it were put and taken elsewhere.
+/// Makes a lane for the tokens of a channel from a place on: those before it were put and taken elsewhere.
 pub fn lane_at<A: Allocator + Clone + Drop>(
     alloc: A,
     network: &Network,
@@ -119,9 +118,8 @@ pub fn lane_at<A: Allocator + Clone + Drop>(
 }
 
 impl<A: Allocator + Clone + Drop> Sender<A> {
-    /// Makes place for one token. Where the open segment has 64 tokens it is flushed first. Where memory is refused
-    /// all tokens stay, those of a full segment may have been flushed, and there is no place. Where there is place already
-    /// it takes none.
+    /// Makes room for one token. An open segment of 64 tokens is flushed first. If memory is refused, all tokens stay,
+    /// those of a full segment may have been flushed, and there is no room. Never allocates if there is room already.
     pub fn room(&mut self) -> Result<(), NoMemory>
         ensures same { SameSender self.old self.new × (sent self.new ≡ sent self.old) }
         ensures room { IfOk result (λ _. CanPut self.new) }
@@ -141,9 +139,8 @@ impl<A: Allocator + Clone + Drop> Sender<A> {
         }
     }
 
-    /// Flushes the open segment, so that the reader can take its tokens, and answers how many tokens were flushed so
-    /// far, which is all that were put. Where memory is refused the segment stays open. An empty one needs none. Where there
-    /// was place for one token there is still.
+    /// Flushes the open segment, so that the reader can take its tokens, and returns how many tokens were flushed so far, which
+    /// is all that were put. If memory is refused, the segment stays open; an empty one needs none. Room for one token stays.
     pub fn flush(&mut self) -> Result<u64, NoMemory>
         ensures same { SameSender self.old self.new × (sent self.new ≡ sent self.old) }
         ensures flushed { MatchResult result (λ n. (n ≡ sent self.old) × (flushed self.new ≡ sent self.old)) (λ _. flushed self.new ≡ flushed self.old) }
@@ -217,7 +214,7 @@ impl<A: Allocator + Clone + Drop> Sender<A> {
 }
 
 impl<A: Allocator> Sender<A> {
-    /// Puts the next token into the open segment, for which `room` has made place. It takes no memory.
+    /// Puts the next token into the open segment, where `room` has made room. Never allocates.
     pub fn put(&mut self, token: Token)
         requires room { CanPut self.old }
         requires token { (sender_name self.old ≡ Some (token_name token)) × (token.place ≡ sent self.old) × (sent self.old < 2 ^ 48) }
@@ -227,14 +224,14 @@ impl<A: Allocator> Sender<A> {
         self.current.push_reserved(Carried::of(token));
     }
 
-    /// How many tokens were put so far, flushed or not: the place of the next one.
+    /// Returns how many tokens were put so far, flushed or not: the place of the next one.
     pub fn sent(&self) -> u64
         ensures { result ≡ sent self.now }
     {
         self.flushed + self.current.len() as u64
     }
 
-    /// How many tokens were flushed so far, also after a refusal.
+    /// Returns how many tokens were flushed so far, also after a refusal.
     pub fn flushed(&self) -> u64
         ensures { result ≡ flushed self.now }
     {
@@ -242,7 +239,7 @@ impl<A: Allocator> Sender<A> {
     }
 }
 
-// The list has the tokens of the segment from now on.
+// Replaces the tokens of the list by those of the segment.
 fn fill<A: Allocator + Drop>(current: &mut Vec<Carried, A>, segment: Segment<A>)
     requires room { 1 ≤ vec_capacity current.old }
     requires some { 0 < size segment }
@@ -264,7 +261,7 @@ fn fill<A: Allocator + Drop>(current: &mut Vec<Carried, A>, segment: Segment<A>)
 }
 
 impl<A: Allocator + Drop> Receiver<A> {
-    /// Whether there is a token for the next `take`. `false` comes only as `None` does there. It takes no memory.
+    /// Whether the next `take` gives a token. `false` only when `take` may give `None`. Never allocates.
     pub fn ready(&mut self) -> bool
         ensures same { SameReceiver self.old self.new × (received self.new ≡ received self.old) × (heard self.new ≡ heard self.old) }
         ensures ready { result ≡ true → CanTake self.new }
@@ -274,10 +271,9 @@ impl<A: Allocator + Drop> Receiver<A> {
         self.used < self.current.len() || self.refill()
     }
 
-    /// The next token, which stands at the place that is the number of tokens taken. `None` comes only where the deque
-    /// was empty at one moment of the call, so that all that is known to have been flushed was taken, or after 64
-    /// steals that each met another step: then 64 segments have left the deque that this end didn't know to have left
-    /// it. It takes no memory.
+    /// Returns the next token, whose place is the number of tokens taken. `None` only if the deque was empty at some
+    /// moment of the call, so that all that is known to have been flushed was taken, or after 64 steals that each met
+    /// another step: then 64 segments have left the deque that this end didn't know to have left it. Never allocates.
     pub fn take(&mut self) -> Option<Token>
         ensures same { SameReceiver self.old self.new × (heard self.new ≡ heard self.old) }
         ensures ready { CanTake self.old → IsSome result }
@@ -292,14 +288,16 @@ impl<A: Allocator + Drop> Receiver<A> {
         Some(token)
     }
 
-    /// How many tokens were taken so far: the place of the next one.
+    /// Returns how many tokens were taken so far: the place of the next one.
     pub fn taken(&self) -> u64
         ensures { result ≡ received self.now }
     {
         self.from + self.used as u64
     }
 
-    // Steals the next segment, where the open one is used up.
+    // Steals the next segment once the open one is used up. It stands apart, so that `take` is short enough to be compiled into its
+    // callers.
+    #[inline(never)]
     fn refill(&mut self) -> bool
         requires { waiting self.old ≡ 0 }
         ensures same { SameReceiver self.old self.new × (received self.new ≡ received self.old) × (heard self.new ≡ heard self.old) }
@@ -323,14 +321,14 @@ impl<A: Allocator + Drop> Receiver<A> {
     }
 }
 
-/// With both ends of a lane in one thread: how many tokens were flushed and not taken. It takes no memory.
+/// Returns, with both ends in one thread, how many tokens were flushed and not taken. Never allocates.
 pub fn meet<A: Allocator>(sender: &mut Sender<A>, receiver: &mut Receiver<A>) -> u64
     requires { sender_lane sender.old ≡ receiver_lane receiver.old }
     ensures sender { SameSender sender.old sender.new × (sent sender.new ≡ sent sender.old) × (flushed sender.new ≡ flushed sender.old) }
     ensures receiver { SameReceiver receiver.old receiver.new × (received receiver.new ≡ received receiver.old) }
     ensures ready { CanTake receiver.old → CanTake receiver.new }
     ensures rule { received receiver.old + result ≡ flushed sender.old }
-    // What waits at hand is of these.
+    // The tokens at hand are among these.
     ensures held { waiting receiver.old ≤ result }
     ensures known { heard receiver.new ≡ flushed sender.old }
 {

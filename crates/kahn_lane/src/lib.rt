@@ -1,9 +1,8 @@
-//! Channels without bound between two threads.
+//! Unbounded channels between two threads.
 //!
-//! A relay hands over single items, and a lane the tokens of one channel of a network, in segments. Both stand on ruled
-//! deques, so that contracts know of any two threads that what comes out is what went in, in order, none left out and
-//! none twice. No call holds its thread or needs a handle. What a type of this crate makes grows on the allocator that
-//! its maker was given.
+//! A relay passes single items, and a lane the tokens of one channel of a network, in segments. Both are built on ruled
+//! deques, so contracts know of any two threads that what comes out is what went in, in order, none left out and none
+//! twice. No call blocks or needs a handle. All memory comes from the allocator that the maker was given.
 #![tactic(auto)]
 
 mod ends;

@@ -1,4 +1,4 @@
-//! Tokens on their way to a lane for an input that has grown.
+//! Tokens in transit to a lane for an input that has grown.
 
 ghost use Rattle.std.specs.Prelude.{◌≡◌, Some};
 ghost use Rattle.kahn_lane.specs.Places.{StandFrom, Placed-prop, lane_name-prop, moved_to, tag_name};

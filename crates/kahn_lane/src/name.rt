@@ -1,14 +1,14 @@
 //! What the tokens of a lane are of.
 //!
-//! A lane keeps that all its tokens are of one network, one input and one channel. These are named for contracts
-//! alone: a `LaneName` is never made, and a `Tag` has the bytes of its line and its number alone.
+//! A lane knows that all its tokens are of one network, one input and one channel. These are named for contracts alone:
+//! a `LaneName` is never made, and a `Tag` has only the bytes of its line and its number.
 
 ghost use Rattle.std.specs.Prelude.{◌≡◌, ◌≤◌, ◌^◌};
 ghost use Rattle.kahn_streams.specs.Inputs.{Names};
 
 use kahn_streams::{About, Input, Line, Network};
 
-/// A network, an input and a line. Contracts alone speak of it: no value of it is made.
+/// A network, an input and a line. Only contracts use it: no value of it is made.
 pub struct LaneName {
     pub network: Network,
     pub input: Input,
@@ -40,7 +40,7 @@ fn tag_by<X, Y>(_x: &X, _y: &Y, line: Line, from: u64) -> Tag
     }
 }
 
-/// The tag of a line of this network, for this input, from this place on.
+/// Returns the tag of a line of this network, for this input, from this place on.
 pub(crate) fn make_tag(network: &Network, input: &Input, line: Line, from: u64) -> Tag
     requires { from ≤ 2 ^ 48 }
     ensures here { (result.line ≡ line) × (result.from ≡ from) }
@@ -49,7 +49,7 @@ pub(crate) fn make_tag(network: &Network, input: &Input, line: Line, from: u64) 
     tag_by(network, input, line, from)
 }
 
-/// The tag of the same line and network for another input, from this place on.
+/// Returns the tag of the same line and network for another input, from this place on.
 pub(crate) fn move_tag(tag: &Tag, input: &Input, from: u64) -> Tag
     requires { from ≤ 2 ^ 48 }
     ensures here { (result.line ≡ tag.now.line) × (result.from ≡ from) }

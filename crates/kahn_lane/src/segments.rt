@@ -21,8 +21,8 @@ use crossbeam_deque::{Pass, Stealer, Worker};
 use kahn_streams::{Carried, Line};
 use std::alloc::{Allocator, Global};
 
-/// A run of tokens at consecutive places: one alone, which takes no list, or those of a list. The first segment of a lane
-/// tells what the tokens are of, and has none.
+/// A run of tokens at consecutive places: one alone, which needs no list, or those of a list. The first segment of a lane
+/// says what the tokens are of, and has none.
 #[derive(Drop)]
 pub struct Segment<A: Allocator = Global> {
     pub(crate) tag: Option<Tag>,
@@ -38,9 +38,8 @@ pub enum Stage {
     Running,
 }
 
-/// What a pass may do (flush, steal), what the tokens are of, as far as it knows, and how many tokens it knows to
-/// have been flushed by it, stolen by it, and flushed when the ends last met. Contracts alone speak of it: no value of
-/// it is made.
+/// What a pass may do (flush, steal), what the tokens are of, as far as it knows, and how many tokens it knows to have
+/// been flushed by it, stolen by it, and flushed when the ends last met. Only contracts use it: no value of it is made.
 pub struct Mark {
     pub stage: Stage,
     pub writes: bool,
@@ -66,7 +65,7 @@ impl<A: Allocator> Protocol<Segment<A>, Mark> for InPlaces {
     ghost guest = { spent_mark };
 }
 
-/// The first segment tells what the tokens are of.
+/// The first segment says what the tokens are of.
 pub struct Telling;
 
 impl<A: Allocator> Outcome<Segment<A>, Mark> for Telling {
@@ -134,7 +133,7 @@ impl<A: Allocator> Outcome<Segment<A>, Mark> for Flushed {
     ghost then = { Flushes };
 }
 
-/// A segment is stolen. An empty deque tells that all that is known to have been flushed was stolen.
+/// A segment is stolen. An empty deque shows that all that is known to have been flushed was stolen.
 pub struct Stolen;
 
 impl<A: Allocator> Outcome<Segment<A>, Mark> for Stolen {
@@ -146,7 +145,7 @@ impl<A: Allocator> Outcome<Segment<A>, Mark> for Stolen {
     ghost empty = { λ v. v.known ≤ v.stolen };
 }
 
-/// A pass with both rights takes a segment out. An empty deque tells that all that was flushed was taken out.
+/// A pass with both rights takes a segment out. An empty deque shows that all that was flushed was taken out.
 pub struct Emptied;
 
 impl<A: Allocator> Outcome<Segment<A>, Mark> for Emptied {
@@ -173,7 +172,7 @@ pub(crate) type LaneWorker<A> = Worker<Segment<A>, A, Mark, InPlaces>;
 /// The deque of a lane, as the reader sees it.
 pub(crate) type LaneStealer<A> = Stealer<Segment<A>, A, Mark, InPlaces>;
 
-/// The writer's end of a lane, with its open segment. Its tag tells what the tokens are of.
+/// The writer's end of a lane, with its open segment. Its tag says what the tokens are of.
 #[derive(Drop)]
 pub struct Sender<A: Allocator = Global> {
     pub(crate) worker: LaneWorker<A>,

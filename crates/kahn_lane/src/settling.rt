@@ -87,7 +87,7 @@ struct Prepared<A: Allocator = Global> {
     tokens: Vec<Carried, A>,
 }
 
-// Takes all memory that settling needs.
+// Allocates all that settling needs.
 fn prepare<A: Allocator + Clone + Drop>(
     sender: &Sender<A>,
     receiver: &Receiver<A>,
@@ -112,7 +112,7 @@ fn prepare<A: Allocator + Clone + Drop>(
     })
 }
 
-// The tokens of a lane that weren't taken, lifted to the input.
+// Collects the tokens of a lane that weren't taken, lifted to the input.
 fn gather<A: Allocator + Clone + Drop>(
     sender: Sender<A>,
     receiver: Receiver<A>,
@@ -186,9 +186,8 @@ fn with_tokens<A: Allocator + Drop>(
     }
 }
 
-/// The two ends of a lane for an input whose lists begin with those of the lane's own: as many tokens were sent and
-/// taken, all that were sent are flushed, and all that weren't taken are in the receiver's hands. Where memory is
-/// refused both ends come back as they were.
+/// Moves a lane to an input whose lists begin with those of its own: as many tokens were sent and taken, all that were sent are
+/// flushed, and all that weren't taken are in the receiver's hands. If memory is refused, both ends come back as they were.
 pub fn settle<A: Allocator + Clone + Drop>(
     sender: Sender<A>,
     receiver: Receiver<A>,

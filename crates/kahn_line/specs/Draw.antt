@@ -20,7 +20,7 @@ pub record IsDraw (words : List Text) (o : DrawOptions) : Type 0 where
   pub program : option_map string_bytes o.program ≡ draw_text words (codes "PROGRAM")
   pub report : option_map string_bytes o.report ≡ draw_text words (codes "report")
 
--- what the words ask for; or what is at fault in them, and `--help` and `--version` are such faults; or want of memory
+-- what the words ask for; or what is at fault in them, such as `--help` and `--version`; or refused memory
 abbrev pub IsDrawRead : List Text → Result DrawOptions LineFault → Type 0
 IsDrawRead words (Ok o) = IsDraw words o × (fault_of draw_app words ≡ [])
 IsDrawRead words (Err (Refused e)) = IsAmong (kind_of e) (fault_of draw_app words)

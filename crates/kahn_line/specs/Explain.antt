@@ -33,7 +33,7 @@ explain_number words name other = number_or other (one_of name (matches_of expla
 abbrev pub explain_flag : List Text → Text → Bool
 explain_flag words name = was_given (explain_text words name)
 
--- the options are those that the words name, and its numbers are within their limits; no option has the name `watch`
+-- the options are those that the words name, and their numbers are within their limits; no option has the name `watch`
 pub record IsExplain (words : List Text) (o : ExplainOptions) : Type 0 where
   pub program : option_map string_bytes o.program ≡ explain_text words (codes "PROGRAM")
   pub input : option_map string_bytes o.input ≡ explain_text words (codes "input")
@@ -46,7 +46,7 @@ pub record IsExplain (words : List Text) (o : ExplainOptions) : Type 0 where
   pub trace : o.trace ≡ explain_flag words (codes "trace")
   pub in_range : IsInRange o.config.workers o.config.quantum o.config.bound
 
--- what the words ask for; or what is at fault in them, and `--help` and `--version` are such faults; or want of memory
+-- what the words ask for; or what is at fault in them, such as `--help` and `--version`; or refused memory
 abbrev pub IsExplainRead : List Text → Result ExplainOptions LineFault → Type 0
 IsExplainRead words (Ok o) = IsExplain words o × (fault_of explain_app words ≡ [])
 IsExplainRead words (Err (Refused e)) = IsAmong (kind_of e) (fault_of explain_app words)

@@ -28,7 +28,7 @@ abbrev pub was_given : Option Text → Bool
 was_given None = false
 was_given (Some text) = bytes_eq text (codes "true")
 
--- an option with a number from `least` to `most`, and what it is where the words don't say
+-- an option with a number from `least` to `most`, and its default
 abbrev pub number_rule : Text → ℕ → ℕ → Text → Rule
 number_rule name least most given =
     record (text_rule name) { parser = Some (Unsigned least most); defaults = given ∷ [] }
@@ -52,7 +52,7 @@ kahn_app =
 abbrev pub text_of : List Text → Text → Option Text
 text_of words name = first_of name (matches_of kahn_app words)
 
--- a number as it is written, and `other` where nothing is
+-- a number as it is written, and `other` if none is
 abbrev pub number_or : ℕ → Option Text → ℕ
 number_or other None = other
 number_or other (Some text) = digits_value 10 (without_leading_plus text)
@@ -61,7 +61,7 @@ number_or other (Some text) = digits_value 10 (without_leading_plus text)
 abbrev pub number_for : List Text → Text → ℕ → ℕ
 number_for words name other = number_or other (one_of name (matches_of kahn_app words))
 
--- the options are those that the words name, and its numbers are within their limits
+-- the options are those that the words name, and their numbers are within their limits
 pub record IsAsked (words : List Text) (o : Options) : Type 0 where
   pub program : option_map string_bytes o.program ≡ text_of words (codes "PROGRAM")
   pub input : option_map string_bytes o.input ≡ text_of words (codes "input")
@@ -71,23 +71,23 @@ pub record IsAsked (words : List Text) (o : Options) : Type 0 where
   pub bound : o.config.bound ≡ number_for words (codes "bound") 1000000
   pub in_range : IsInRange o.config.workers o.config.quantum o.config.bound
 
--- the number that a text is read as, where it is one of 64 bits; `other` where there is no text
+-- the number that a text is read as, if it is one of 64 bits; `other` if there is no text
 abbrev pub ReadsOr : ℕ → Option Text → ℕ → Type 0
 ReadsOr other None n = n ≡ other
 ReadsOr other (Some text) n = IsNumeral 10 (without_leading_plus text) → digits_value 10 (without_leading_plus text) < 2 ^ 64 → n ≡ number_or other (Some text)
 
--- a run is set up by what was found, with so many workers where it has no number of them; the option of this name has its bound
+-- a run is set up by what was found, with `workers` workers by default; the option `limit` has its bound
 pub record IsSet (f : Found) (workers : ℕ) (limit : Text) (c : Config) : Type 0 where
   pub threads : ReadsOr workers (one_text f (codes "workers")) c.workers
   pub quantum : ReadsOr 1000 (one_text f (codes "quantum")) c.quantum
   pub bound : ReadsOr 1000000 (one_text f limit) c.bound
   pub watch : option_map string_bytes c.watch ≡ first_value f (codes "watch")
 
--- an error of the library is told as want of memory, or as it is
+-- an error of the library is reported as refused memory, or as it is
 abbrev pub IsTold : Error → LineFault → Type 0
 IsTold e fault = ((kind_of e ≡ OutOfMemory) × (fault ≡ NoMemory)) ⊎ ((kind_of e ≢ OutOfMemory) × (fault ≡ Refused e))
 
--- what the words ask for; or what is at fault in them, and `--help` and `--version` are such faults; or want of memory
+-- what the words ask for; or what is at fault in them, such as `--help` and `--version`; or refused memory
 abbrev pub IsRead : List Text → Result Options LineFault → Type 0
 IsRead words (Ok o) = IsAsked words o × (fault_of kahn_app words ≡ [])
 IsRead words (Err (Refused e)) = IsAmong (kind_of e) (fault_of kahn_app words)

@@ -10,11 +10,11 @@ use Rattle.kahn_line.specs.declared.line.LineFault.{LineFault}
 use Rattle.kahn_line.specs.declared.line.LineFault.TheVariants.{Refused, NoMemory}
 use Rattle.kahn_line.specs.declared.live.LiveOptions.{LiveOptions}
 
--- an option with a text that may be given again
+-- an option with a text that may be repeated
 abbrev pub at_end_rule : Rule
 at_end_rule = record (text_rule (codes "at-end")) { action = Some Append }
 
--- the program text's path without a name, which is there, and the options
+-- the program text's path without a name, which is required, and the options
 abbrev pub live_app : App
 live_app =
     with_rule (with_rule (with_rule (with_rule (with_rule (with_rule (with_rule (with_rule (bare_app (codes "kahn_live"))
@@ -27,7 +27,7 @@ live_app =
     at_end_rule)
     (text_rule (codes "plain"))
 
--- what the words give, where a negative number behind `--at-end` belongs to it
+-- what the words give; a negative number after `--at-end` belongs to it
 abbrev pub live_matches : List Text → List Row
 live_matches words = matches_of live_app (joined_words words)
 
@@ -47,7 +47,7 @@ live_number words name other = number_or other (one_of name (live_matches words)
 abbrev pub live_flag : List Text → Text → Bool
 live_flag words name = was_given (live_text words name)
 
--- the options are those that the words name, and its numbers are within their limits; the events of a part are the bound
+-- the options are those that the words name, and their numbers are within their limits; the events of a part are the bound
 pub record IsLive (words : List Text) (o : LiveOptions) : Type 0 where
   pub program : option_map string_bytes o.program ≡ live_text words (codes "PROGRAM")
   pub watch : option_map string_bytes o.config.watch ≡ live_text words (codes "watch")
@@ -61,7 +61,7 @@ pub record IsLive (words : List Text) (o : LiveOptions) : Type 0 where
   pub plain : option_map plain_parts o.plain ≡ option_map (parted 44) (live_text words (codes "plain"))
   pub in_range : IsInRange o.config.workers o.config.quantum o.config.bound
 
--- what the words ask for; or what is at fault in them, and `--help` and `--version` are such faults; or want of memory
+-- what the words ask for; or what is at fault in them, such as `--help` and `--version`; or refused memory
 abbrev pub IsLiveRead : List Text → Result LiveOptions LineFault → Type 0
 IsLiveRead words (Ok o) = IsLive words o × (fault_of live_app (joined_words words) ≡ [])
 IsLiveRead words (Err (Refused e)) = IsAmong (kind_of e) (fault_of live_app (joined_words words))

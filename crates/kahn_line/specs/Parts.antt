@@ -1,4 +1,4 @@
--- Believed. What words of a command line say that have two parts.
+-- Believed. What words of a command line mean that have two parts.
 use Rattle.std.specs.Prelude.{◌≡◌, ℕ, Bool, List, ◌∷◌, ◌++◌, ◌&&◌, Option, None, Some, ◌==◌, length, slice_index, codes, if◌then◌else◌, map, nat_lt, option_map, string_bytes, unwrap_or, []}
 use Rattle.std.specs.List.{after_first, before_first, position_or_len}
 use Rattle.std.specs.Char.{is_ascii_digit}
@@ -9,7 +9,7 @@ use Rattle.clap.specs.Words.{Row, Text, all_of, rows_of}
 use Rattle.clap.specs.declared.parser.matches.Found.{Found}
 use Rattle.kahn_line.specs.declared.parts.Plain.{Plain}
 
--- what stands before the first such sign, and what stands behind it; a word without the sign is the first part alone
+-- what comes before and after the first such sign; a word without it is the first part alone
 abbrev pub parted : ℕ → Text → Text × Option Text
 parted sign word = (
   before_first (λ b. b == sign) word,
@@ -20,18 +20,18 @@ parted sign word = (
 abbrev pub is_negative : Text → Bool
 is_negative word = slice_index word 0 == 45 && is_ascii_digit (slice_index word 1)
 
--- whether a word is `--at-end`, and the one behind it begins as a negative number does
+-- whether a word is `--at-end`, and the one after it begins as a negative number does
 abbrev pub takes_behind : Text → Text → Bool
 takes_behind word value = bytes_eq word (codes "--at-end") && is_negative value
 
--- the words, where both are joined_words as in `--at-end=-1`
+-- the words, with such two joined as in `--at-end=-1`
 abbrev pub joined_words : List Text → List Text
 joined_words [] = []
 joined_words (word ∷ []) = word ∷ []
 joined_words (word ∷ value ∷ words) =
     if takes_behind word value then (word ++ (codes "=" ++ value)) ∷ joined_words words else word ∷ joined_words (value ∷ words)
 
--- what was added to words stands for the first of these, up to those that are left
+-- what was added to words joins the first of these, up to those that are left
 abbrev pub IsJoinedBy : {S : Type 0} → (S → Text) → List (String Global) → List S → List (String Global) → List S → Type 0
 IsJoinedBy text old words new left = (map string_bytes old ++ joined_words (map text words)) ≡ (map string_bytes new ++ joined_words (map text left))
 
@@ -41,7 +41,7 @@ line_of_parts input (name, Some value) = name ++ (codes ": " ++ value)
 line_of_parts (Some input) (value, None) = input ++ (codes ": " ++ value)
 line_of_parts None (line, None) = line
 
--- the line that `NAME=VALUE` stands for, where 61 is the sign `=`
+-- the line for `NAME=VALUE` (61 is the sign `=`)
 abbrev pub set_line : Option Text → Text → Text
 set_line input word = line_of_parts input (parted 61 word)
 

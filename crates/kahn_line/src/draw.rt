@@ -11,10 +11,10 @@ use std::convert::AsStr;
 
 static ABOUT: &str = "Draws the network of a program, in the language of Graphviz.";
 
-// How a line goes on behind the name of the program.
+// The usage line.
 static USAGE: &str = "kahn_draw [PROGRAM] [--report FILE] [OPTIONS]";
 
-// What stands after the options in the help.
+// The text after the options in the help.
 static MORE: &str = "\
 A box is an instance, with its number, process and value arguments; a second border means that its process prints. An
 arrow is a channel, from its writer to its reader; a dashed one has logical values. Inputs and outputs are marked.
@@ -43,7 +43,7 @@ pub struct DrawOptions {
     pub report: Option<String>,
 }
 
-/// The rules of the command line.
+/// Returns the rules of the command line.
 fn draw_command<'a>(alloc: Global) -> Result<Command<'a>, AllocError>
     ensures { IfOk result (λ c. app_of c ≡ draw_app) }
 {
@@ -57,8 +57,8 @@ fn draw_command<'a>(alloc: Global) -> Result<Command<'a>, AllocError>
         ))
 }
 
-/// Reads the words of a command line, the first of which is the name of the program. It refuses with `Refused` where
-/// clap refuses the words, and where they ask for the help or the version, and with `NoMemory` where memory was refused.
+/// Reads the words of a command line, the first of which is the name of the program. Fails with `Refused` if clap
+/// refuses the words or they ask for the help or the version, and with `NoMemory` if memory was refused.
 pub fn read_draw_line<'a, S: AsStr>(alloc: Global, words: &'a [S]) -> Result<DrawOptions, LineFault>
     ensures { IsDrawRead (map S.text words.now) result }
 {

@@ -15,10 +15,10 @@ use std::convert::AsStr;
 
 static ABOUT: &str = "Runs a network of processes, and explains why the run stopped.";
 
-// How a line goes on behind the name of the program.
+// The usage line.
 static USAGE: &str = "kahn_explain [PROGRAM] [--input FILE] [OPTIONS]";
 
-// What stands after the options in the help.
+// The text after the options in the help.
 static MORE: &str = "\
 kahn_explain writes a line for each process that hasn't ended. The process has a fault, wants more events, or waits. If it
 waits, the line says on what, and where its chain of waits leads: to an input, to a process that has ended, has a fault or
@@ -86,7 +86,7 @@ pub struct ExplainOptions {
     pub trace: bool,
 }
 
-/// The rules of the command line.
+/// Returns the rules of the command line.
 fn explain_command<'a>(alloc: Global) -> Result<Command<'a>, AllocError>
     ensures { IfOk result (λ c. app_of c ≡ explain_app) }
 {
@@ -110,8 +110,8 @@ fn explain_command<'a>(alloc: Global) -> Result<Command<'a>, AllocError>
         ))
 }
 
-/// Reads the words of a command line, the first of which is the name of the program. It refuses with `Refused` where
-/// clap refuses the words, and where they ask for the help or the version, and with `NoMemory` where memory was refused.
+/// Reads the words of a command line, the first of which is the name of the program. Fails with `Refused` if clap
+/// refuses the words or they ask for the help or the version, and with `NoMemory` if memory was refused.
 pub fn read_explain_line<'a, S: AsStr>(
     alloc: Global,
     words: &'a [S],

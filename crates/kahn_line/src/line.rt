@@ -13,16 +13,16 @@ use std::alloc::{AllocError, Global};
 use std::convert::AsStr;
 use thiserror::Error;
 
-/// The version of the programs, which `--version` prints behind the name of the program. CHANGELOG.md has it as its newest heading.
+/// The version of the programs, which `--version` prints after the name of the program. CHANGELOG.md has it as its newest heading.
 static VERSION: &str = "0.9.0";
 
 static ABOUT: &str =
     "Runs a network of processes that send one another values over channels, and reports what was sent.";
 
-// How a line goes on behind the name of the program.
+// The usage line.
 static USAGE: &str = "kahn [PROGRAM] [--input FILE] [OPTIONS]";
 
-// What stands after the options in the help.
+// The text after the options in the help.
 static MORE: &str = "\
 A program that sends 0, 1 and 2 on its output channel W:
 
@@ -100,7 +100,7 @@ impl From<AllocError> for LineFault {
     }
 }
 
-/// An option with a text.
+/// Makes an option with a text.
 pub(crate) fn text_arg<'a>(alloc: Global, name: &'a str, value: &'a str, help: &'a str) -> Arg<'a>
     ensures rule { rule_of result ≡ text_rule name.entry.now }
     ensures local { result.global ≡ false }
@@ -111,7 +111,7 @@ pub(crate) fn text_arg<'a>(alloc: Global, name: &'a str, value: &'a str, help: &
         .help(help)
 }
 
-/// An option with a number from `least` to `most`, and what it is where the words don't say.
+/// Makes an option with a number from `least` to `most`, and its default.
 pub(crate) fn number_arg<'a>(
     alloc: Global,
     name: &'a str,
@@ -128,7 +128,7 @@ pub(crate) fn number_arg<'a>(
         .default_value(given)
 }
 
-/// The place of the program text's path, which may be left out.
+/// Makes the argument of the program text's path, which is optional.
 pub(crate) fn program_arg<'a>(alloc: Global) -> Arg<'a>
     ensures rule { rule_of result ≡ new_rule (codes "PROGRAM") }
     ensures local { result.global ≡ false }
@@ -136,7 +136,7 @@ pub(crate) fn program_arg<'a>(alloc: Global) -> Arg<'a>
     Arg::new(alloc, "PROGRAM").help("File of the program text; without it, standard input")
 }
 
-/// The option of the input text's path.
+/// Makes the option of the input text's path.
 pub(crate) fn input_arg<'a>(alloc: Global) -> Arg<'a>
     ensures rule { rule_of result ≡ text_rule (codes "input") }
     ensures local { result.global ≡ false }
@@ -149,7 +149,7 @@ pub(crate) fn input_arg<'a>(alloc: Global) -> Arg<'a>
     )
 }
 
-/// The option of the bound on events.
+/// Makes the option of the bound on events.
 pub(crate) fn bound_arg<'a>(alloc: Global) -> Arg<'a>
     ensures rule { rule_of result ≡ number_rule (codes "bound") 0 281474976710655 (codes "1000000") }
     ensures local { result.global ≡ false }
@@ -164,7 +164,7 @@ pub(crate) fn bound_arg<'a>(alloc: Global) -> Arg<'a>
     )
 }
 
-/// The option of the number of workers, and how many there are where the words don't say.
+/// Makes the option of the number of workers, and its default.
 pub(crate) fn workers_arg<'a>(alloc: Global, given: &'a str) -> Arg<'a>
     ensures rule { rule_of result ≡ number_rule (codes "workers") 1 16 given.entry.now }
     ensures local { result.global ≡ false }
@@ -179,7 +179,7 @@ pub(crate) fn workers_arg<'a>(alloc: Global, given: &'a str) -> Arg<'a>
     )
 }
 
-/// The option of the quantum.
+/// Makes the option of the quantum.
 pub(crate) fn quantum_arg<'a>(alloc: Global) -> Arg<'a>
     ensures rule { rule_of result ≡ number_rule (codes "quantum") 1 1000000 (codes "1000") }
     ensures local { result.global ≡ false }
@@ -194,7 +194,7 @@ pub(crate) fn quantum_arg<'a>(alloc: Global) -> Arg<'a>
     )
 }
 
-/// The option of the watched channel.
+/// Makes the option of the watched channel.
 pub(crate) fn watch_arg<'a>(alloc: Global, help: &'a str) -> Arg<'a>
     ensures rule { rule_of result ≡ text_rule (codes "watch") }
     ensures local { result.global ≡ false }
@@ -202,7 +202,7 @@ pub(crate) fn watch_arg<'a>(alloc: Global, help: &'a str) -> Arg<'a>
     text_arg(alloc, "watch", "NAME", help)
 }
 
-/// An option without a text.
+/// Makes an option without a text.
 pub(crate) fn flag_arg<'a>(alloc: Global, name: &'a str, help: &'a str) -> Arg<'a>
     ensures rule { rule_of result ≡ flag_rule name.entry.now }
     ensures local { result.global ≡ false }
@@ -223,7 +223,7 @@ pub(crate) fn was_given(found: Option<&str>) -> bool
     }
 }
 
-/// A program's name, its version, its usage, and the texts round its options in the help.
+/// Makes a command: a program's name, its version, its usage, and the texts around its options in the help.
 pub(crate) fn bare<'a>(
     alloc: Global,
     name: &'a str,
@@ -243,7 +243,7 @@ pub(crate) fn bare<'a>(
     )
 }
 
-/// The rules of the command line.
+/// Returns the rules of the command line.
 fn command<'a>(alloc: Global) -> Result<Command<'a>, AllocError>
     ensures { IfOk result (λ c. app_of c ≡ kahn_app) }
 {
@@ -259,7 +259,7 @@ fn command<'a>(alloc: Global) -> Result<Command<'a>, AllocError>
         ))
 }
 
-/// A copy of a text, where there is one.
+/// Copies a text, if there is one.
 pub(crate) fn copied(alloc: Global, text: Option<&str>) -> Result<Option<String>, AllocError>
     ensures { IfOk result (λ copy. option_map string_bytes copy ≡ option_map (λ t. t.now) text.entry) }
 {
@@ -269,14 +269,14 @@ pub(crate) fn copied(alloc: Global, text: Option<&str>) -> Result<Option<String>
     }
 }
 
-/// The number that was found for a name, or another one where none was.
+/// Returns the number that was found for a name, or `other` if none was.
 fn number_or(matches: &ArgMatches<'_>, name: &str, other: u64) -> u64
     ensures { ReadsOr other (one_text (found_of matches.now) name.now) result }
 {
     matches.get_one::<u64>(name).unwrap_or(other)
 }
 
-/// How the run is set up, by the number of workers where none was found and the name of the option with its bound.
+/// Returns how the run is set up, with `workers` workers by default; the option `limit` has its bound.
 pub(crate) fn config_of(
     alloc: Global,
     matches: &ArgMatches<'_>,
@@ -293,8 +293,8 @@ pub(crate) fn config_of(
     })
 }
 
-/// Reads the words of a command line, the first of which is the name of the program. It refuses with `Refused` where
-/// clap refuses the words, and where they ask for the help or the version, and with `NoMemory` where memory was refused.
+/// Reads the words of a command line, the first of which is the name of the program. Fails with `Refused` if clap
+/// refuses the words or they ask for the help or the version, and with `NoMemory` if memory was refused.
 pub fn read_line<'a, S: AsStr>(alloc: Global, words: &'a [S]) -> Result<Options, LineFault>
     ensures { IsRead (map S.text words.now) result }
 {

@@ -19,10 +19,10 @@ use std::convert::AsStr;
 static ABOUT: &str =
     "Runs a network of processes on the lines of its standard input, and shows after each line what is new.";
 
-// How a line goes on behind the name of the program.
+// The usage line.
 static USAGE: &str = "kahn_live PROGRAM [--plain INPUT] [OPTIONS] < LINES";
 
-// What stands after the options in the help.
+// The text after the options in the help.
 static MORE: &str = "\
 Each line of standard input is like a line of an input text, `A: 1 2 3`: an input channel, and values that are added to
 those that it has. After each line the network runs until it waits for more input. Then kahn_live writes a line for each
@@ -32,11 +32,10 @@ output channel that has new values, with only these. With a program that doubles
 
   B: 2
   B: 4 6
-  end 1 double: waits on A after 10
-  finished 10
 
-The events after a line are a part of the run. A blank line feeds nothing and runs a part, and so does the start. At the
-end of the input come the last lines: the state of each process, and how the run ended.
+The events after a line are a part of the run. A blank line feeds nothing and runs a part, and so does the start. Standard
+output has values and nothing else. If the status isn't 0, a process has a fault, or processes wait on one another in a
+ring, standard error says at the end how each process stands and how the run ended.
 
 If a line can't be taken, standard error says so, with its number and the word at fault, and the line changes nothing. A
 mistake in a line of `--at-end` is said at the start, and no line is taken. If a line wants more events than --step allows,
@@ -45,14 +44,15 @@ with the next line, even a blank one. The run uses one thread. It doesn't keep w
 
 With `--plain INPUT` a line has only values of that channel, separated by blanks, and kahn_live writes only the new values
 of one stream, one a line. If there are several input channels, use lines with names: with `--plain` the others get no
-values, and kahn_live says so. The last lines then go to standard error, and only if the status isn't 0, a process has a
-fault, or processes wait and none of them on an input.
+values, and kahn_live says so. With `--plain ,OUTPUT` lines have names, and the values of OUTPUT alone are written.
 
   printf '1\\n2 3\\n' | kahn_live double.kahn --plain A
 
   2
   4
   6
+
+A program without an input channel takes no lines. It runs on until its reader goes away or nothing can go on.
 
 Exit status:
   0  the end was reached, and the run finished; or nobody reads the lines any more
@@ -78,11 +78,11 @@ pub struct LiveOptions {
     pub strict: bool,
     /// The lines that are fed once the input has ended, in this order.
     pub at_end: Vec<String>,
-    /// The channels whose values stand alone in the lines of input and output, where they do.
+    /// The channels whose values stand alone in the lines of input and output, if they do.
     pub plain: Option<Plain>,
 }
 
-/// The option of a line that is fed at the end of the input, which may be given again.
+/// Makes the option of a line that is fed at the end of the input, which may be repeated.
 fn at_end_arg<'a>(alloc: Global) -> Arg<'a>
     ensures rule { rule_of result ≡ at_end_rule }
     ensures local { result.global ≡ false }
@@ -96,7 +96,7 @@ fn at_end_arg<'a>(alloc: Global) -> Arg<'a>
     .action(ArgAction::Append)
 }
 
-/// The option of the channels whose values stand alone.
+/// Makes the option of the channels whose values stand alone.
 fn plain_arg<'a>(alloc: Global) -> Arg<'a>
     ensures rule { rule_of result ≡ text_rule (codes "plain") }
     ensures local { result.global ≡ false }
@@ -109,7 +109,7 @@ fn plain_arg<'a>(alloc: Global) -> Arg<'a>
     )
 }
 
-/// The rules of the command line.
+/// Returns the rules of the command line.
 fn live_command<'a>(alloc: Global) -> Result<Command<'a>, AllocError>
     ensures { IfOk result (λ c. app_of c ≡ live_app) }
 {
@@ -146,7 +146,7 @@ fn live_command<'a>(alloc: Global) -> Result<Command<'a>, AllocError>
         .arg(plain_arg(alloc))
 }
 
-/// The lines that are fed at the end of the input.
+/// Returns the lines that are fed at the end of the input.
 fn lines_at_end(
     alloc: Global,
     matches: &ArgMatches<'_>,
@@ -160,9 +160,9 @@ fn lines_at_end(
     }
 }
 
-/// Reads the words of a command line, the first of which is the name of the program. It refuses with `Refused` where
-/// clap refuses the words, as where they name no program text, and where they ask for the help or the version, and with
-/// `NoMemory` where memory was refused.
+/// Reads the words of a command line, the first of which is the name of the program. Fails with `Refused` if clap refuses the
+/// words, which have to name a program text, or they ask for the help or the version, and with `NoMemory` if memory was
+/// refused.
 pub fn read_live_line<'a, S: AsStr>(alloc: Global, words: &'a [S]) -> Result<LiveOptions, LineFault>
     ensures { IsLiveRead (map S.text words.now) result }
 {

@@ -16,7 +16,7 @@ pub struct Plain {
     pub output: Option<String>,
 }
 
-/// The parts of a word before and behind the first such sign; a word without it has one part.
+/// Returns the parts of a word before and after the first such sign; a word without it has one part.
 fn parted(word: &str, sign: char) -> (&str, Option<&str>)
     requires { sign < 128 }
     ensures first { result.0.now ≡ (parted sign word.now).0 }
@@ -38,14 +38,14 @@ fn is_negative(word: &str) -> bool
     }
 }
 
-/// Whether a word is `--at-end`, and the one behind it begins as a negative number does.
+/// Whether a word is `--at-end`, and the one after it begins as a negative number does.
 fn takes_behind(word: &str, value: &str) -> bool
     ensures { result ≡ takes_behind word.now value.now }
 {
     word == "--at-end" && is_negative(value)
 }
 
-/// A word and its value as one word.
+/// Joins a word and its value to one word.
 fn joined_word(alloc: Global, word: &str, value: &str) -> Result<String, AllocError>
     ensures { IfOk result (λ text. string_bytes text ≡ word.now ++ (codes "=" ++ value.now)) }
 {
@@ -55,7 +55,7 @@ fn joined_word(alloc: Global, word: &str, value: &str) -> Result<String, AllocEr
     Ok(text)
 }
 
-/// Adds what stands for a word and those behind it, up to some of these, which it gives.
+/// Adds a word, joined with the next one if that belongs to it, and returns the words that are left.
 fn add_joined<'w, S: AsStr>(
     alloc: Global,
     all: &mut Vec<String>,
@@ -77,7 +77,7 @@ fn add_joined<'w, S: AsStr>(
     Ok(behind)
 }
 
-/// The words, where a negative number behind `--at-end` is joined to it.
+/// Joins a negative number after `--at-end` to it, in these words.
 pub(crate) fn joined_words<S: AsStr>(alloc: Global, words: &[S]) -> Result<Vec<String>, AllocError>
     ensures { IfOk result (λ all. map string_bytes all.items ≡ joined_words (map S.text words.now)) }
 {
@@ -89,7 +89,7 @@ pub(crate) fn joined_words<S: AsStr>(alloc: Global, words: &[S]) -> Result<Vec<S
     Ok(all)
 }
 
-/// A line of a name and values.
+/// Makes a line of a name and values.
 fn named_line(alloc: Global, name: &str, value: &str) -> Result<String, AllocError>
     ensures { IfOk result (λ line. string_bytes line ≡ name.now ++ (codes ": " ++ value.now)) }
 {
@@ -99,8 +99,8 @@ fn named_line(alloc: Global, name: &str, value: &str) -> Result<String, AllocErr
     Ok(line)
 }
 
-/// The line that a word `NAME=VALUE` stands for, `NAME: VALUE`. A word without `=` is values of the input channel whose values
-/// stand alone, where they do, and else the line itself.
+/// Returns the line for a word `NAME=VALUE`, `NAME: VALUE`. A word without `=` is values of the input channel whose values
+/// stand alone, if they do, and else the line itself.
 fn set_line(alloc: Global, input: Option<&str>, word: &str) -> Result<String, AllocError>
     ensures { IfOk result (λ line. string_bytes line ≡ set_line (option_copied input.entry) word.now) }
 {
@@ -112,7 +112,7 @@ fn set_line(alloc: Global, input: Option<&str>, word: &str) -> Result<String, Al
     }
 }
 
-/// The lines that words stand for.
+/// Returns the lines for words.
 pub(crate) fn set_lines(
     alloc: Global,
     input: Option<&str>,
@@ -127,7 +127,7 @@ pub(crate) fn set_lines(
     Ok(lines)
 }
 
-/// The name of the channel whose values stand alone in the lines of input, where they do.
+/// Returns the name of the channel whose values stand alone in the lines of input, if they do.
 pub fn input_named(plain: &Option<Plain>) -> Option<&str>
     ensures { option_copied result ≡ input_named plain.now }
 {
@@ -137,7 +137,7 @@ pub fn input_named(plain: &Option<Plain>) -> Option<&str>
     }
 }
 
-/// The channels that a word `IN,OUT` or `IN` names, where there is one.
+/// Returns the channels that a word `IN,OUT` or `IN` names, if there is one.
 pub(crate) fn plain_of(alloc: Global, word: Option<&str>) -> Result<Option<Plain>, AllocError>
     ensures { IfOk result (λ p. option_map plain_parts p ≡ option_map (parted 44) (option_map (λ t. t.now) word.entry)) }
 {

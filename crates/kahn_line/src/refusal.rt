@@ -1,4 +1,4 @@
-//! What a program tells where its command line asks for no run.
+//! What a program reports if its command line asks for no run.
 
 ghost use Rattle.std.specs.Prelude.{◌≡◌, ◌≢◌};
 ghost use Rattle.std.specs.IoError.{error_kind};
@@ -12,10 +12,10 @@ use std::io::{Error, ErrorKind};
 /// The status of a command line that is refused.
 const REFUSED: u8 = 2;
 
-/// The status where memory was refused.
+/// The status if memory was refused.
 const NO_MEMORY: u8 = 4;
 
-/// Tells on standard error that memory was refused, and gives the status, 4.
+/// Reports on standard error that memory was refused, and returns the status, 4.
 pub fn tell_no_memory(rt: &impl Eprint) -> u8
     ensures { result ≡ 4 }
 {
@@ -23,7 +23,7 @@ pub fn tell_no_memory(rt: &impl Eprint) -> u8
     NO_MEMORY
 }
 
-/// The programs that have an option, by the text of a refusal that begins with the option.
+/// Returns the programs that have an option, by the text of a refusal that begins with the option.
 fn owners_of(text: &str) -> Option<&'static str> {
     let (_, behind) = text.split_once("unexpected argument '")?;
     let (option, _) = behind.split_once("'")?;
@@ -38,8 +38,8 @@ fn owners_of(text: &str) -> Option<&'static str> {
     }
 }
 
-/// Tells that a word isn't expected, as the option parser says it, but for its advice to pass the word as a value: no program takes
-/// such a one. Of an option of other programs it says which have it.
+/// Reports that a word isn't expected, as the option parser says it, but without its advice to pass the word as a value, which no
+/// program takes. Of an option of other programs it says which have it.
 fn tell_unexpected(rt: &impl Eprint, text: &str) {
     let owners = owners_of(text);
     let mut is_apart = false;
@@ -56,7 +56,7 @@ fn tell_unexpected(rt: &impl Eprint, text: &str) {
     }
 }
 
-/// Tells why the words are refused, or the help or the version where they ask for it.
+/// Reports why the words are refused, or writes the help or the version if they ask for it.
 fn tell_refused(rt: &(impl Print + Eprint + AllocGlobal), error: &clap::Error) {
     let mut text = String::new(rt.alloc());
     if error.kind() == LineKind::UnknownArgument && write!(text, "{error}").is_ok() {
@@ -65,8 +65,8 @@ fn tell_refused(rt: &(impl Print + Eprint + AllocGlobal), error: &clap::Error) {
     let _ = error.print(rt);
 }
 
-/// Tells why a command line asks for no run, and gives the status: 0 where it asks for the help or the version, which
-/// goes to standard output, 2 where it is refused, and 4 where memory was.
+/// Reports why a command line asks for no run, and returns the status: 0 if it asks for the help or the version, which
+/// goes to standard output, 2 if it is refused, and 4 if memory was.
 pub fn tell_line(rt: &(impl Print + Eprint + AllocGlobal), fault: &LineFault) -> u8
     ensures { result ≡ line_status fault.now }
 {
@@ -82,7 +82,7 @@ pub fn tell_line(rt: &(impl Print + Eprint + AllocGlobal), fault: &LineFault) ->
     }
 }
 
-/// Tells why the words of the command line couldn't be had, and gives the status: 2 where one isn't UTF-8, and 4 where
+/// Reports why the words of the command line couldn't be read, and returns the status: 2 if one isn't UTF-8, and 4 if
 /// memory was refused.
 pub fn tell_words(rt: &impl Eprint, error: &Error) -> u8
     ensures memory { error_kind error.now ≡ ErrorKind.OutOfMemory → result ≡ 4 }

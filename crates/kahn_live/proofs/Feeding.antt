@@ -6,7 +6,8 @@ use Rattle.kahn_session.specs.Live.{IsMeantLine, IsTakenLine, IsUnfedBy, Live}
 use Rattle.kahn_session.specs.declared.fault.TakeFault.{TakeFault}
 use Rattle.kahn_session.specs.declared.fault.TakeFault.TheVariants.{TooLong, NotUtf8, BadLine, BadValue, Feed, NoMemory, Write}
 use Rattle.kahn_session.specs.Refusals.{at_end_number}
-use Rattle.kahn_live.specs.Course.{AreEachMet, AreFed, AreMeant, AreRead, LinesGiven, IsFirstPart, IsFirstUnmeant, IsAnyMet, IsBrokenOff, IsCutOff, IsToldBy, Point, Telling, WasAnswered}
+use Rattle.kahn_live.specs.Course.{AreFed, AreMeant, AreRead, IsFirstPart, IsFirstUnmeant, IsAnyMet, IsBrokenOff, IsCutOff, IsToldBy, Point, Telling, WasAnswered}
+use Rattle.kahn_live.specs.LinesMet.{AreEachMet, LinesGiven}
 use Rattle.kahn_live.specs.Histories.{IsShown}
 
 -- one line more was fed

@@ -4,3 +4,4 @@ pub mod Feeding
 mod Kept
 pub mod Meeting
 pub mod Whole
+pub mod Ends

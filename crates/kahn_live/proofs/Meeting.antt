@@ -1,14 +1,14 @@
 -- What lines make, one after the other.
-use Rattle.std.proofs.Common.{◌≡◌, ◌∙◌, inl, inr, ℕ, suc, Bool, true, false, true≢false, List, [], None, Some, Option, Result, Ok, Err, IfOk, is_err, MatchResult, append-nil, refl, sym, ap, subst}
+use Rattle.std.proofs.Common.{◌≡◌, ◌∙◌, inl, inr, ℕ, zero, suc, take, Bool, true, false, true≢false, List, [], None, Some, Option, Result, Ok, Err, IfOk, is_err, MatchResult, append-nil, refl, sym, ap, subst}
 use Rattle.std.proofs.KnownBytes.{Keeps-refl}
 use Rattle.std.specs.Prelude.{◌||◌}
-use Rattle.std.specs.Io.KnownBytes.{Appends, IsAtEnd}
+use Rattle.std.specs.Io.KnownBytes.{Appends}
 use Rattle.kahn_streams.specs.declared.answer.Verdict.{Verdict}
 use Rattle.kahn_streams.specs.Written.{AppendsFront, Writes}
 use Rattle.kahn_fault.specs.declared.fault.Fault.{Fault}
 use Rattle.kahn_session.specs.Live.{HasVerdict, IsTakenLine, Live, breaks}
 use Rattle.kahn_session.specs.declared.fault.TakeFault.{TakeFault}
-use Rattle.kahn_live.specs.Course.{AreRead, WasAnswered, WasFed, HasSent, HasWaited, IsAnswerTold, IsHearing, IsLineMet, IsAnyMet, IsNextMet, IsStep, IsToldBy, Point, Telling}
+use Rattle.kahn_live.specs.Course.{AreRead, WasAnswered, WasFed, HasSent, HasWaited, IsAnswerTold, IsBlankMet, IsHearing, IsLineMet, IsAnyMet, IsNextMet, IsNoneCome, IsSource, IsStep, IsToldBy, Point, Telling}
 
 -- what the session made of a line, where no byte more went out since
 fed_since : (line : List ℕ) (answer : Result Verdict TakeFault) (old mid new : Point) → IsTakenLine line old.session mid.session old.out mid.out answer → HasWaited mid new
@@ -66,9 +66,21 @@ next_read input n number text left rest old last new false more is are hearing s
 
 -- no line more
 pub next_none : (input : Option (List ℕ)) (number : ℕ) (text rest : Option (List ℕ)) (old new : Point) (b : Bool) → b ≡ false → IsNextMet input number (Ok b) text rest old new
-    → IsAtEnd text × HasSent old new
+    → IsNoneCome old.session text × HasSent old new
 next_none input number text rest old new false none met = met
 next_none input number text rest old new true none met = absurd (true≢false none)
+
+-- a blank line, where there is no input channel
+pub blank_next : (input : Option (List ℕ)) (number : ℕ) (text : Option (List ℕ)) (old new : Point) (r : Result Bool Fault) → IsSource old.session true
+    → IsBlankMet input number old new r → IsNextMet input number r text text old new
+blank_next input number text old new (Ok true) source (ready, sent, any) = ([], ready, inr (source, refl, refl), sent, any)
+blank_next input number text old new (Ok false) source met = absurd met
+blank_next input number text old new (Err fault) source (inl (why, sent)) = inl (sent, inl why)
+blank_next input number text old new (Err fault) source (inr (ready, sent, broken)) = inr ([], text, ready, inr (source, refl, refl), sent, broken)
+
+pub none_kept : (n : ℕ) → take {A = ℕ} n [] ≡ []
+none_kept zero = refl
+none_kept (suc n) = refl
 
 -- nothing changed
 pub unmoved : (p : Point) → HasSent p p

@@ -1,6 +1,6 @@
 -- What a whole run is made of.
 use Rattle.std.proofs.Common.{◌≡◌, ◌∙◌, inr, ℕ, Bool, true, false, true≢false, eqb, List, [], None, Some, Option, MatchOption, Result, Ok, Err, if◌then◌else◌, refl, sym, ap, subst}
-use Rattle.std.specs.Prelude.{is_some, option_copied, string_bytes}
+use Rattle.std.specs.Prelude.{string_bytes}
 use Rattle.std.specs.Io.Buffered.{reader_buffer, reader_capacity, reader_inner, reader_remaining}
 use Rattle.std.specs.Io.KnownBytes.{prepend_known}
 use Rattle.std.specs.declared.io.buffered.BufReader.{BufReader}
@@ -13,19 +13,15 @@ use Rattle.kahn_streams.specs.declared.fault.RunFault.{RunFault}
 use Rattle.kahn_fault.specs.declared.fault.Fault.{Fault}
 use Rattle.kahn_line.specs.declared.parts.Plain.{Plain}
 use Rattle.kahn_session.specs.Live.{HasOpened, IsStreamOf, Live}
-use Rattle.kahn_live.specs.Course.{AreAllMet, LinesGiven, Point, Telling}
+use Rattle.kahn_live.specs.Course.{Point, Telling}
+use Rattle.kahn_live.specs.LinesMet.{AreAllMet, LinesGiven}
 use Rattle.kahn_live.specs.Running.{HasServed, IsInForm, IsPlainStream, IsSetUp}
 use Rattle.kahn_live.specs.declared.serving.Ending.{Ending}
-use denote.Ref.{Bor}
 
 -- there is an input channel of the name
 pub all_there : (f : LinesGiven) (text : Option (List ℕ)) (old new : Point) (b : Bool) → b ≡ true → AreAllMet f (Ok b) text old new → AreAllMet f (Ok true) text old new
 all_there f text old new true there met = met
 all_there f text old new false there met = absurd (true≢false (sym there))
-
-pub copied_some : (x : Option (Bor (List ℕ))) → is_some x ≡ is_some (option_copied x)
-copied_some None = refl
-copied_some (Some t) = refl
 
 prepend_none : (m : Option (List ℕ)) → prepend_known [] m ≡ m
 prepend_none None = refl

@@ -1,5 +1,5 @@
 -- Believed. What lines make, one after the other, of a session, of what goes out and of what is told (this project's profile).
-use Rattle.std.specs.Prelude.{◌≡◌, ◌⊎◌, ℕ, zero, suc, ◌-◌, ◌^◌, Bool, true, false, not, ◌||◌, ◌&&◌, ◌==◌, List, [], ◌∷◌, map, take, Option, None, Some, if◌then◌else◌, option_copied, slice_index, string_bytes, Result, Ok, Err}
+use Rattle.std.specs.Prelude.{◌≡◌, ◌⊎◌, ℕ, zero, suc, ◌-◌, ◌^◌, Bool, true, false, not, ◌||◌, ◌&&◌, ◌==◌, List, [], ◌∷◌, take, Option, None, Some, if◌then◌else◌, slice_index, string_bytes, Result, Ok, Err}
 use Rattle.std.specs.Io.KnownBytes.{Appends, IsAtEnd, Keeps}
 use Rattle.kahn_streams.specs.declared.answer.Verdict.{Verdict}
 use Rattle.kahn_streams.specs.declared.answer.Verdict.TheVariants.{Finished, Bound, Memory}
@@ -28,7 +28,6 @@ use Rattle.kahn_session.specs.declared.fault.TakeFault.{TakeFault}
 use Rattle.kahn_session.specs.declared.fault.TakeFault.TheVariants.{TooLong, NotUtf8, BadLine, BadValue, Feed, NoMemory, Write}
 use Rattle.kahn_live.specs.Lines.{CutsLine, fed_text, is_bare_line, most_kept, unmarked}
 use Rattle.kahn_live.specs.declared.stage.Stage.{Stage}
-use Rattle.kahn_live.specs.declared.taking.Fed.{Fed}
 use Rattle.kahn_live.specs.declared.telling.Teller.{Teller}
 use Rattle.std.specs.IoError.{error_kind}
 use Rattle.std.specs.declared.io.Error.{Error}
@@ -366,22 +365,42 @@ IsDeafNow s false = IsHearing s
 abbrev pub fed_line : Option (List ℕ) → ℕ → List ℕ → List ℕ
 fed_line input number line = fed_text input (unmarked number (take most_kept line))
 
--- the line of this number was read, behind which this is left, and met
+-- whether the program has no input channel: then no line is read, and the run goes on by blank ones
+abbrev pub IsSource : Live → Bool → Type 0
+IsSource s true = IsFirstInput s.flow.run.network None
+IsSource s false = (name : List ℕ) × IsFirstInput s.flow.run.network (Some name)
+
+-- the line that comes next, behind which this is left
+abbrev pub IsNextCome : Live → List ℕ → Option (List ℕ) → Option (List ℕ) → Type 0
+IsNextCome s line text rest = (IsSource s false × CutsLine line text rest) ⊎ (IsSource s true × (line ≡ []) × (rest ≡ text))
+
+-- none does
+abbrev pub IsNoneCome : Live → Option (List ℕ) → Type 0
+IsNoneCome s text = IsSource s false × IsAtEnd text
+
+-- the line of this number came, behind which this is left, and was met
 abbrev pub IsStep : Option (List ℕ) → ℕ → Option (List ℕ) → Option (List ℕ) → Point → Point → Type 0
 IsStep input number text rest old new =
-    (line : List ℕ) × (ready : Point) × CutsLine line text rest × HasSent old ready × IsAnyMet number (fed_line input number line) ready new
+    (line : List ℕ) × (ready : Point) × IsNextCome old.session line text rest × HasSent old ready × IsAnyMet number (fed_line input number line) ready new
 
 -- it wasn't read, or it is the last, since nothing can be written
 abbrev pub IsStoppedAt : Option (List ℕ) → ℕ → Option (List ℕ) → Point → Point → Fault → Type 0
 IsStoppedAt input number text old new fault =
     (HasSent old new × (IsWriteFault fault ⊎ IsReadFailed fault))
-    ⊎ ((line : List ℕ) × (rest : Option (List ℕ)) × (ready : Point) × CutsLine line text rest × HasSent old ready
+    ⊎ ((line : List ℕ) × (rest : Option (List ℕ)) × (ready : Point) × IsNextCome old.session line text rest × HasSent old ready
     × IsBrokenOff (fed_line input number line) ready new fault)
+
+-- what is new went out, and then a part was run by a blank line
+abbrev pub IsBlankMet : Option (List ℕ) → ℕ → Point → Point → Result Bool Fault → Type 0
+IsBlankMet input number old new (Ok true) = (ready : Point) × HasSent old ready × IsAnyMet number (fed_line input number []) ready new
+IsBlankMet input number old new (Ok false) = ⊥
+IsBlankMet input number old new (Err fault) =
+    (IsWriteFault fault × HasSent old new) ⊎ ((ready : Point) × HasSent old ready × IsBrokenOff (fed_line input number []) ready new fault)
 
 -- whether there was a line
 abbrev pub IsNextMet : Option (List ℕ) → ℕ → Result Bool Fault → Option (List ℕ) → Option (List ℕ) → Point → Point → Type 0
 IsNextMet input number (Ok true) text rest old new = IsStep input number text rest old new
-IsNextMet input number (Ok false) text rest old new = IsAtEnd text × HasSent old new
+IsNextMet input number (Ok false) text rest old new = IsNoneCome old.session text × HasSent old new
 IsNextMet input number (Err fault) text rest old new = IsStoppedAt input number text old new fault
 
 -- the first lines, as many as these, were read and met in their order, each while it could change the run
@@ -392,7 +411,7 @@ AreRead input (suc n) text rest old new =
 
 -- no further line is read: there is none, or none can change the run, or there were as many as have numbers
 abbrev pub IsReadOut : Option (List ℕ) → Live → ℕ → Type 0
-IsReadOut rest s number = IsAtEnd rest ⊎ (IsDeafNow s true ⊎ (number ≡ 2 ^ 64 - 1))
+IsReadOut rest s number = IsNoneCome s rest ⊎ (IsDeafNow s true ⊎ (number ≡ 2 ^ 64 - 1))
 
 -- the lines of the input were met
 abbrev pub AreAllRead : Option (List ℕ) → Option (List ℕ) → Point → Point → Type 0
@@ -468,32 +487,3 @@ IsUnmeantTold s lines old new r = (line : List ℕ) × (f : TakeFault) × IsFirs
 -- before any is fed, all were tried
 abbrev pub AreLastTried : Live → List (List ℕ) → Telling → Telling → Result Bool Fault → Type 0
 AreLastTried s lines old new r = ((r ≡ Ok true) × AreMeant s lines × (new ≡ old)) ⊎ IsUnmeantTold s lines old new r
-
--- ---- all lines
-
--- what is fed: the lines of the input, behind the name of a channel where values stand alone, and the lines behind them
-pub record LinesGiven : Type 0 where
-  pub input : Option (List ℕ)
-  pub at_end : List (List ℕ)
-
-abbrev pub lines_given : Fed → LinesGiven
-lines_given f = record { input = option_copied f.input; at_end = map string_bytes f.at_end.now }
-
--- behind the part before the first line: the lines of the input stopped the run, or those behind them
-abbrev pub AreStopped : LinesGiven → Fault → Option (List ℕ) → Point → Point → Type 0
-AreStopped f fault text old new =
-    IsInputStopped f.input fault text old new ⊎ ((last : Point) × AreAllRead f.input text old last × IsCutOff f.at_end last new fault)
-
--- the part before the first line, the lines of the input, and the lines behind these, as far as the run came; where there is no
--- input channel of the name no line is read
-abbrev pub AreEachMet : LinesGiven → Result Bool Fault → Option (List ℕ) → Point → Point → Type 0
-AreEachMet f (Ok true) text old new = (begun : Point) × IsFirstPart f.input old begun (Ok true)
-    × ((ready : Point) × (last : Point) × IsAloneTold f.input begun ready × AreAllRead f.input text ready last × AreFed f.at_end last new)
-AreEachMet f (Ok false) text old new = IsFirstPart f.input old new (Ok false)
-AreEachMet f (Err fault) text old new = IsFirstPart f.input old new (Err fault)
-    ⊎ ((begun : Point) × (ready : Point) × IsFirstPart f.input old begun (Ok true) × IsAloneTold f.input begun ready × AreStopped f fault text ready new)
-
--- all that, where each of the lines behind is meant for an input channel; else the first that isn't is told, and nothing else is done
-abbrev pub AreAllMet : LinesGiven → Result Bool Fault → Option (List ℕ) → Point → Point → Type 0
-AreAllMet f r text old new = (AreMeant old.session f.at_end × AreEachMet f r text old new)
-    ⊎ (IsUnmeantTold old.session f.at_end old.told new.told r × (new.session ≡ old.session) × (new.out ≡ old.out))

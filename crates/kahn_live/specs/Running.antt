@@ -1,6 +1,5 @@
 -- Believed. A run on lines, from the program text to the status (this project's profile).
-use Rattle.std.specs.Prelude.{◌≡◌, ◌⊎◌, ℕ, Bool, true, false, List, [], map, Option, None, Some, Result, Ok, Err, option_map, option_copied, is_some, ◌∷◌, codes, string_bytes}
-use Rattle.std.specs.List.{concat}
+use Rattle.std.specs.Prelude.{◌≡◌, ◌⊎◌, ℕ, Bool, true, false, List, [], ◌∷◌, map, Option, None, Some, Result, Ok, Err, option_map, option_copied, codes, string_bytes, IfSome}
 use Rattle.std.specs.declared.alloc.Global.{Global}
 use Rattle.std.specs.declared.string.String.{String}
 use Rattle.std.specs.Io.KnownBytes.{Keeps}
@@ -14,7 +13,6 @@ use Rattle.kahn_streams.specs.declared.fault.RunFault.TheVariants.{UnknownWatch}
 use Rattle.kahn_report.specs.Work.{IsChecked, IsUnchecked}
 use Rattle.kahn_report.specs.declared.working.WorkFault.{WorkFault}
 use Rattle.kahn_report.specs.declared.working.WorkFault.TheVariants.{Run as RunWork, Write as WriteWork}
-use Rattle.kahn_write.specs.declared.bytes.WriteFault.{WriteFault}
 use Rattle.kahn_fault.specs.Status.{live_status_of}
 use Rattle.kahn_fault.specs.Reasons.{reason_line}
 use Rattle.kahn_fault.specs.Telling.{WasWritten, pointer_text, told_text}
@@ -24,8 +22,9 @@ use Rattle.kahn_line.specs.declared.live.LiveOptions.{LiveOptions}
 use Rattle.kahn_line.specs.declared.parts.Plain.{Plain}
 use Rattle.kahn_hints.specs.Inputs.{names_of_channels, unknown_channel}
 use Rattle.kahn_session.specs.Refusals.{unknown_text}
-use Rattle.kahn_session.specs.Live.{HasOpened, IsClosed, IsFaulty, IsFirstInput, IsLastText, IsRinged, IsStreamOf, IsStuck, IsUnopened, HasVerdict, Live}
-use Rattle.kahn_live.specs.Course.{AreAllMet, LinesGiven, HasSent, HasWaited, IsMoreTold, IsWriteFault, Point, Telling, WasTold, no_memory, telling_of}
+use Rattle.kahn_session.specs.Live.{HasOpened, IsFaulty, IsLastText, IsRinged, IsStreamOf, IsUnopened, Live}
+use Rattle.kahn_live.specs.Course.{HasSent, HasWaited, IsMoreTold, IsWriteFault, Point, Telling, WasTold, no_memory, telling_of}
+use Rattle.kahn_live.specs.LinesMet.{AreAllMet, LinesGiven}
 use Rattle.kahn_live.specs.declared.running.Asked.{Asked}
 use Rattle.kahn_live.specs.declared.running.Returned.{Returned}
 use Rattle.kahn_live.specs.declared.serving.Amiss.{Amiss}
@@ -79,11 +78,14 @@ reached_status (Some Faulted) refused v = 8
 reached_status (Some Ringed) refused v = 7
 reached_status None refused v = live_status_of refused (Ok v)
 
--- whether it is told how the run ended, where values stand alone: where the status isn't 0, a process has a fault, or no line can
--- change the run any more though a process waits
+-- processes wait on one another in a ring, or memory was refused for finding out
+abbrev pub IsPerhapsRinged : HeldRun → Type 0
+IsPerhapsRinged h = (ring : Option Bool) × IfSome ring (IsRinged h) × (ring ≡ Some false → ⊥)
+
+-- whether it is told how the run ended: where the status isn't 0, a process has a fault, or processes wait on one another
 abbrev pub IsEndWanted : HeldRun → Option Amiss → Bool → Verdict → Bool → Type 0
-IsEndWanted h amiss refused v true = (reached_status amiss refused v ≡ 0 → ⊥) ⊎ (IsFaulty h true ⊎ IsStuck h true)
-IsEndWanted h amiss refused v false = (reached_status amiss refused v ≡ 0) × IsFaulty h false × IsStuck h false
+IsEndWanted h amiss refused v true = (reached_status amiss refused v ≡ 0 → ⊥) ⊎ (IsFaulty h true ⊎ IsPerhapsRinged h)
+IsEndWanted h amiss refused v false = (reached_status amiss refused v ≡ 0) × IsFaulty h false × IsRinged h false
 
 abbrev pub IsEndPut : HeldRun → Telling → Telling → Type 0
 IsEndPut h old new = (v : Verdict) × (text : List ℕ) × IsLastText h v text × WasTold text old new
@@ -92,36 +94,33 @@ abbrev pub IsEndTold : HeldRun → Telling → Telling → Bool → Type 0
 IsEndTold h old new true = (mid : Telling) × IsMoreTold old mid × IsEndPut h mid new
 IsEndTold h old new false = new ≡ old
 
-abbrev pub IsPlainEnd : HeldRun → Option Amiss → Telling → Telling → Verdict → Type 0
-IsPlainEnd h amiss old new v = (h.verdict ≡ Some v) × ((told : Bool) × IsEndWanted h amiss old.refused v told × IsEndTold h old new told)
+abbrev pub IsVerdictMet : HeldRun → Option Amiss → Telling → Telling → Verdict → Type 0
+IsVerdictMet h amiss old new v = (h.verdict ≡ Some v) × ((told : Bool) × IsEndWanted h amiss old.refused v told × IsEndTold h old new told)
 
--- how the run ended went out; or, where values stand alone, what is new went out, and it is told
-abbrev pub IsEnded : Bool → Option Amiss → Point → Point → Result Verdict Fault → Type 0
-IsEnded false amiss old new (Ok v) = (new.session ≡ old.session) × (new.told ≡ old.told) × IsClosed old.session.flow.run old.out new.out (Ok v)
-IsEnded false amiss old new (Err fault) = (new.session ≡ old.session) × (new.told ≡ old.told)
-    × ((f : WriteFault) × (fault ≡ Work (WriteWork f)) × IsClosed old.session.flow.run old.out new.out (Err f))
-IsEnded true amiss old new (Ok v) = HasWaited old new × IsPlainEnd old.session.flow.run amiss old.told new.told v
-IsEnded true amiss old new (Err fault) = IsWriteFault fault × HasSent old new
+-- what is new went out, and how the run ended is told
+abbrev pub IsEnded : Option Amiss → Point → Point → Result Verdict Fault → Type 0
+IsEnded amiss old new (Ok v) = HasWaited old new × IsVerdictMet old.session.flow.run amiss old.told new.told v
+IsEnded amiss old new (Err fault) = IsWriteFault fault × HasSent old new
 
 -- ---- the lines and the end
 
 -- the run was judged, and how it ended was told
-abbrev pub IsClosing : Bool → Bool → Option Amiss → Point → Point → Result Verdict Fault → Type 0
-IsClosing strict plain amiss old new r = IsJudged strict old.session.flow.run (Ok amiss) × IsEnded plain amiss old new r
+abbrev pub IsClosing : Bool → Option Amiss → Point → Point → Result Verdict Fault → Type 0
+IsClosing strict amiss old new r = IsJudged strict old.session.flow.run (Ok amiss) × IsEnded amiss old new r
 
 -- or it stopped there
-abbrev pub IsUnclosed : Bool → Bool → Point → Point → Fault → Type 0
-IsUnclosed strict plain old new fault =
-    (IsJudged strict old.session.flow.run (Err fault) × (new ≡ old)) ⊎ ((amiss : Option Amiss) × IsClosing strict plain amiss old new (Err fault))
+abbrev pub IsUnclosed : Bool → Point → Point → Fault → Type 0
+IsUnclosed strict old new fault =
+    (IsJudged strict old.session.flow.run (Err fault) × (new ≡ old)) ⊎ ((amiss : Option Amiss) × IsClosing strict amiss old new (Err fault))
 
 -- all lines were met and then the end, or one of these stopped the run
 abbrev pub HasServedAll : Bool → LinesGiven → Result Ending Fault → Option (List ℕ) → Point → Point → Type 0
 HasServedAll strict f (Ok (Reached v amiss)) text old new =
-    (last : Point) × AreAllMet f (Ok true) text old last × IsClosing strict (is_some f.input) amiss last new (Ok v)
+    (last : Point) × AreAllMet f (Ok true) text old last × IsClosing strict amiss last new (Ok v)
 HasServedAll strict f (Ok Refused) text old new = AreAllMet f (Ok false) text old new
 HasServedAll strict f (Ok Gone) text old new = ⊥
 HasServedAll strict f (Err fault) text old new = AreAllMet f (Err fault) text old new
-    ⊎ ((last : Point) × AreAllMet f (Ok true) text old last × IsUnclosed strict (is_some f.input) last new fault)
+    ⊎ ((last : Point) × AreAllMet f (Ok true) text old last × IsUnclosed strict last new fault)
 
 -- nothing was done, since memory was refused
 abbrev pub IsLacking : {X P : Type 0} → Result X Fault → P → P → Type 0
@@ -161,29 +160,10 @@ abbrev pub Gives : {W E : Type 0} → (W → Option (List ℕ)) → (E → Optio
     → (Option (List ℕ) → Telling → Telling → Result Ending Fault → Type 0) → Type 0
 Gives written said old done holds = holds (written done.output) (telling_of said old) (telling_of said done.teller) done.ending
 
--- whether no line can change the run any more, though a process waits and there is an input channel
-abbrev pub IsStuckNow : Live → Bool → Type 0
-IsStuckNow s true = HasVerdict s × IsStuck s.flow.run true × ((name : List ℕ) × IsFirstInput s.flow.run.network (Some name))
-IsStuckNow s false = HasVerdict s → IsStuck s.flow.run false ⊎ IsFirstInput s.flow.run.network None
-
-abbrev pub wants_why : Bool → Result Ending Fault → Bool
-wants_why stuck (Ok (Reached v amiss)) = stuck
-wants_why stuck (Ok Gone) = false
-wants_why stuck (Ok Refused) = false
-wants_why stuck (Err fault) = false
-
--- which program says why, where it is so at the end
-abbrev pub why_text : Bool → List ℕ → List ℕ
-why_text true path = concat (codes "kahn_explain " ∷ path ∷ codes " --input FILE says why\n" ∷ [])
-why_text false path = []
-
-abbrev pub IsWhyTold : Live → Result Ending Fault → Telling → Telling → Type 0
-IsWhyTold s r old new = (stuck : Bool) × IsStuckNow s stuck × WasTold (why_text (wants_why stuck r) old.path) old new
-
 -- the lines were served from a session on; this went out in all, and this was told
 abbrev pub HasRunSession : Bool → LinesGiven → Live → Option (List ℕ) → Option (List ℕ) → Option (List ℕ) → Telling → Telling → Result Ending Fault → Type 0
 HasRunSession strict f s text out made old new r = (last : Point) × (ending : Result Ending Fault)
-    × HasServed strict f ending text (record { session = s; out = out; told = old }) last × WasSent ending r × Keeps last.out made × IsWhyTold last.session r last.told new
+    × HasServed strict f ending text (record { session = s; out = out; told = old }) last × WasSent ending r × Keeps last.out made × (new ≡ last.told)
 
 -- what is asked for: the channels whose values stand alone, the lines behind those of the input, and whether the run is judged
 pub record Request : Type 0 where
@@ -194,8 +174,14 @@ pub record Request : Type 0 where
 abbrev pub request_of : Asked → Request
 request_of a = record { plain = option_copied a.plain; at_end = map string_bytes a.at_end.now; strict = a.strict }
 
+-- the channel whose values stand alone in the lines of input, where one is named
+abbrev pub named_input : List ℕ → Option (List ℕ)
+named_input [] = None
+named_input (b ∷ bs) = Some (b ∷ bs)
+
 abbrev pub input_of : Option Plain → Option (List ℕ)
-input_of plain = option_map (λ p. string_bytes p.input) plain
+input_of None = None
+input_of (Some p) = named_input (string_bytes p.input)
 
 -- the channel that is named for the values that are shown, where a run is refused since none has that name
 abbrev pub unknown_output : RunFault → Option Plain → Option (List ℕ)

@@ -9,6 +9,7 @@ mod outlet;
 mod patient;
 mod running;
 mod serving;
+mod source;
 mod stage;
 mod taking;
 mod telling;

@@ -3,7 +3,7 @@
 ghost use Rattle.std.specs.Prelude.{◌≡◌, IfOk, false, option_copied, option_map, string_bytes};
 ghost use Rattle.kahn_live.specs.Course.{telling_of};
 ghost use Rattle.kahn_live.specs.Running.{EndsAs, Gives, HasRunAs, HasRunNetwork, HasRunText, IsChannelWords, IsInForm, IsPlainStream, IsSetUp, Tells, WatchesPlain};
-ghost use Rattle.kahn_live.specs.Running.{IsEndingTold, IsStuckNow, IsUnstartedTold, IsWhyTold, ending_status, input_of, request_of, unknown_output, wants_why};
+ghost use Rattle.kahn_live.specs.Running.{IsEndingTold, IsUnstartedTold, ending_status, input_of, named_input, request_of, unknown_output};
 
 use crate::outlet::Outlet;
 use crate::serving::{Ending, reached_status, sent, work};
@@ -108,44 +108,6 @@ struct Asked<'a> {
     strict: bool,
 }
 
-/// Whether no line can change the run any more, though a process waits and there is an input channel.
-fn is_stuck(session: &Session<'_>) -> bool
-    ensures { IsStuckNow session.now result }
-{
-    let Some(_) = session.first_input() else {
-        return false;
-    };
-    if !session.settled() {
-        return false;
-    }
-    session.is_stuck()
-}
-
-/// Whether it is told which program says why, where the run can't go on or can.
-fn wants_why(stuck: bool, ending: &Result<Ending, Fault>) -> bool
-    ensures { result ≡ wants_why stuck ending.now }
-{
-    match ending {
-        Ok(Ending::Reached(_, _)) => stuck,
-        Ok(Ending::Gone) => false,
-        Ok(Ending::Refused) => false,
-        Err(_) => false,
-    }
-}
-
-/// Tells which program says why the run can't go on, where it is so at the end.
-fn tell_stuck<E: Write>(
-    session: &Session<'_>,
-    ending: &Result<Ending, Fault>,
-    teller: &mut Teller<E>,
-)
-    ensures { IsWhyTold session.now ending.now (telling_of E.contents teller.old) (telling_of E.contents teller.new) }
-{
-    let stuck = is_stuck(session);
-    let wanted = wants_why(stuck, ending);
-    teller.tell_why(wanted);
-}
-
 /// The channel that `--plain` names for the values that are shown, where a run is refused since none has that name.
 fn unknown_output<'p>(fault: RunFault, plain: Option<&'p Plain>) -> Option<&'p str>
     ensures { option_copied result ≡ unknown_output fault (option_copied plain.entry) }
@@ -220,12 +182,7 @@ fn run_network<I: Read + Drop, W: Write + Drop, E: Write + Drop>(
     };
     let ending = work(alloc, &mut stage, input, fed, asked.strict);
     let ending = sent(&mut stage.outlet, ending);
-    let Stage {
-        session,
-        outlet,
-        mut teller,
-    } = stage;
-    tell_stuck(&session, &ending, &mut teller);
+    let Stage { outlet, teller, .. } = stage;
     let output = outlet.writer;
     Returned {
         ending,
@@ -234,12 +191,22 @@ fn run_network<I: Read + Drop, W: Write + Drop, E: Write + Drop>(
     }
 }
 
-/// The name of the channel whose values stand alone in the lines of input, where they do.
+/// A name, where it isn't empty.
+fn named_input(name: &str) -> Option<&str>
+    ensures { option_copied result ≡ named_input name.now }
+{
+    if name.is_empty() {
+        return None;
+    }
+    Some(name)
+}
+
+/// The name of the channel whose values stand alone in the lines of input, where one is named.
 fn input_of(plain: Option<&Plain>) -> Option<&str>
     ensures { option_copied result ≡ input_of (option_copied plain.entry) }
 {
     match plain {
-        Some(plain) => Some(plain.input.as_str()),
+        Some(plain) => named_input(plain.input.as_str()),
         None => None,
     }
 }

@@ -3,8 +3,9 @@
 ghost use Rattle.std.specs.Prelude.{◌≡◌, IfErr, false, is_err};
 ghost use Rattle.std.specs.Io.KnownBytes.{Keeps};
 ghost use Rattle.kahn_session.specs.Live.{HasVerdict};
-ghost use Rattle.kahn_live.specs.Course.{Across, AcrossStage, IsWriteFault, lines_given, point_of, telling_of};
-ghost use Rattle.kahn_live.specs.Running.{HasServed, HasServedAll, IsEndWanted, IsEnded, IsJudged, IsPlainEnd, IsSent, WasSent, is_unwritten, reached_status};
+ghost use Rattle.kahn_live.specs.Course.{Across, AcrossStage, IsWriteFault, point_of, telling_of};
+ghost use Rattle.kahn_live.specs.LinesMet.{lines_given};
+ghost use Rattle.kahn_live.specs.Running.{HasServed, HasServedAll, IsEndWanted, IsEnded, IsJudged, IsSent, IsVerdictMet, WasSent, is_unwritten, reached_status};
 
 use crate::outlet::Outlet;
 use crate::stage::Stage;
@@ -67,8 +68,9 @@ pub(crate) fn reached_status(amiss: Option<Amiss>, refused: bool, verdict: Verdi
     }
 }
 
-/// Whether it is told how a run with this verdict ended: the status isn't 0, a process has a fault, or no line can change the run any
-/// more though a process waits.
+/// Whether it is told how a run with this verdict ended: the status isn't 0, a process has a fault, or processes wait on one another,
+/// where memory isn't refused for finding out.
+#[tactic(auto, using(crate::proofs::Ends::by_ring, crate::proofs::Ends::unknown_ring))]
 fn is_end_wanted(
     session: &Session<'_>,
     amiss: Option<Amiss>,
@@ -84,17 +86,20 @@ fn is_end_wanted(
     if session.has_fault() {
         return true;
     }
-    session.is_stuck()
+    match session.has_ring() {
+        Ok(ring) => ring,
+        Err(_) => true,
+    }
 }
 
 /// Tells how the run ended, where that is wanted.
-fn close_plain<E: Write>(
+fn tell_verdict<E: Write>(
     session: &Session<'_>,
     amiss: Option<Amiss>,
     teller: &mut Teller<E>,
 ) -> Verdict
     requires { HasVerdict session.now }
-    ensures { IsPlainEnd session.now.flow.run amiss (telling_of E.contents teller.old) (telling_of E.contents teller.new) result }
+    ensures { IsVerdictMet session.now.flow.run amiss (telling_of E.contents teller.old) (telling_of E.contents teller.new) result }
 {
     let Some(verdict) = session.verdict() else {
         unreachable!()
@@ -105,23 +110,16 @@ fn close_plain<E: Write>(
     verdict
 }
 
-/// Writes how the run ended; or where values stand alone sends what is new, and tells it where it isn't as it should be.
+/// Sends what is new, and tells how the run ended where it isn't as it should be.
 fn close<W: Write, E: Write>(
     stage: &mut Stage<'_, W, E>,
-    plain: bool,
     amiss: Option<Amiss>,
 ) -> Result<Verdict, Fault>
     requires { HasVerdict stage.old.session }
-    ensures { IsEnded plain amiss (point_of W.contents E.contents stage.old) (point_of W.contents E.contents stage.new) result }
+    ensures { IsEnded amiss (point_of W.contents E.contents stage.old) (point_of W.contents E.contents stage.new) result }
 {
-    if plain {
-        stage.outlet.send()?;
-        return Ok(close_plain(&stage.session, amiss, &mut stage.teller));
-    }
-    match stage.session.close(&mut stage.outlet) {
-        Ok(verdict) => Ok(verdict),
-        Err(fault) => Err(Fault::Work(WorkFault::Write(fault))),
-    }
+    stage.outlet.send()?;
+    Ok(tell_verdict(&stage.session, amiss, &mut stage.teller))
 }
 
 /// Takes the lines of the reader, and then those behind them, judges the run where it is to be, and closes the session.
@@ -139,7 +137,7 @@ fn serve<I: Read, W: Write, E: Write>(
         return Ok(Ending::Refused);
     }
     let amiss = judged(&stage.session, strict)?;
-    let verdict = close(stage, fed.input.is_some(), amiss)?;
+    let verdict = close(stage, amiss)?;
     Ok(Ending::Reached(verdict, amiss))
 }
 

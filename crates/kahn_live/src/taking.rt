@@ -7,12 +7,14 @@ ghost use Rattle.kahn_inputs.specs.Fitting.{line_name};
 ghost use Rattle.kahn_session.specs.Live.{HasVerdict, breaks};
 ghost use Rattle.kahn_session.specs.Pace.{MayBeSlow};
 ghost use Rattle.kahn_session.specs.declared.fault.TakeFault.TheVariants.{Feed};
-ghost use Rattle.kahn_live.specs.Course.{Across, AreAllMet, AreEachMet, AreLastMet, AreLastTried, AcrossStage, HasSent, IsAnswerTold, IsComplaint, IsDeafNow, IsFedPart, IsFirstPart, IsInputMet, IsLastRefused, IsLineMet, IsNameWords, channel_tail};
-ghost use Rattle.kahn_live.specs.Course.{IsAloneTold, IsHintBy, IsNextMet, IsReadMet, IsRefusalTold, IsRefused, IsRefusedPart, IsPartMet, IsWriteFault, lines_given, is_bad_line, no_memory, point_of, telling_of, wants_hint};
+ghost use Rattle.kahn_live.specs.Course.{Across, AreLastMet, AreLastTried, AcrossStage, HasSent, IsAnswerTold, IsComplaint, IsFedPart, IsFirstPart, IsInputMet, IsLastRefused, IsLineMet, IsNameWords, channel_tail};
+ghost use Rattle.kahn_live.specs.Course.{IsAloneTold, IsHintBy, IsNextMet, IsReadMet, IsRefusalTold, IsRefused, IsRefusedPart, IsPartMet, IsWriteFault, is_bad_line, no_memory, point_of, telling_of, wants_hint};
+ghost use Rattle.kahn_live.specs.LinesMet.{AreAllMet, AreEachMet, lines_given};
 ghost use Rattle.kahn_live.specs.Histories.{HasHistories};
 ghost use Rattle.kahn_live.specs.Lines.{IsReadyToRead};
 
 use crate::lines::{Next, fed_line, has_line, is_bare_line, next_line};
+use crate::source::{is_over, is_source, take_blank};
 use crate::stage::Stage;
 use crate::telling::Teller;
 use kahn_fault::Fault;
@@ -292,7 +294,7 @@ fn take_line<W: Write, E: Write>(
 }
 
 /// Takes a line of the input. Where memory is refused for it, that is told.
-fn take_read<W: Write, E: Write>(
+pub(crate) fn take_read<W: Write, E: Write>(
     stage: &mut Stage<'_, W, E>,
     input: Option<&str>,
     line: &[u8],
@@ -308,16 +310,6 @@ fn take_read<W: Write, E: Write>(
     };
     let _ = take_line(stage, fed, number)?;
     Ok(())
-}
-
-/// Whether no line can change the run any more.
-fn is_over(session: &Session<'_>) -> bool
-    ensures { IsDeafNow session.now result }
-{
-    if !session.settled() {
-        return false;
-    }
-    session.is_deaf()
 }
 
 /// Tells that no line is for another input channel, where values of one stand alone and there is another.
@@ -345,6 +337,9 @@ fn take_next<I: Read, W: Write, E: Write>(
     ensures broken { IfOk result (λ _. stage.new.session.broken ≡ false) }
     ensures met { Across I.remaining W.contents E.contents reader.old reader.new stage.old stage.new (IsNextMet (option_copied input.entry) number result) }
 {
+    if is_source(&stage.session) {
+        return take_blank(stage, input, number, room);
+    }
     send_before(stage, reader)?;
     match next_line(reader, line, &stage.outlet) {
         Next::Line => {

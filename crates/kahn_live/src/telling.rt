@@ -2,18 +2,16 @@
 
 ghost use Rattle.std.specs.Prelude.{◌≡◌, false, option_copied, string_bytes, true};
 ghost use Rattle.std.specs.Option.{is_none};
-ghost use Rattle.kahn_streams.specs.Written.{Writes};
 ghost use Rattle.kahn_session.specs.Refusals.{unknown_text};
 ghost use Rattle.kahn_session.specs.Live.{HasVerdict};
 ghost use Rattle.kahn_fault.specs.Status.{live_status_of};
 ghost use Rattle.kahn_fault.specs.Telling.{pointer_text, told_text};
 ghost use Rattle.kahn_live.specs.Course.{IsAlonePut, IsTallied, IsMoreTold, IsNewPut, IsNewTold, IsNextTold, IsFaultPut, IsNewFault, IsStepPut, IsVerdictPut, IsVerdictTold, IsWaitPut, WasTold, complaints_of, does_count, is_again, is_alike, is_hinted, is_next, is_step_new, is_verdict_new, telling_of};
-ghost use Rattle.kahn_live.specs.Running.{IsEndPut, IsEndTold, IsLastTold, untold, why_text};
+ghost use Rattle.kahn_live.specs.Running.{IsEndPut, IsEndTold, IsLastTold, untold};
 
 use kahn_fault::{Fault, live_status, tell, tell_explain};
 use kahn_inputs::Part;
 use kahn_pool::Verdict;
-use kahn_report::{WriteFault, write_line};
 use kahn_session::{
     Session, TakeFault, is_want, take_words, write_alone, write_fault, write_more, write_refusal,
     write_stopped, write_unknown, write_waiting,
@@ -64,30 +62,6 @@ fn does_count(keep_going: bool, fault: TakeFault) -> bool
     ensures { result ≡ does_count keep_going fault }
 {
     !keep_going || is_want(fault)
-}
-
-/// Writes which program says why a run can't go on.
-fn put_why<W: Write>(writer: &mut W, path: &str) -> Result<(), WriteFault>
-    ensures { Writes (W.contents writer.old) (W.contents writer.new) result (why_text true path.now) }
-{
-    write_line(
-        writer,
-        &[
-            b"kahn_explain ",
-            path.as_bytes(),
-            b" --input FILE says why\n",
-        ],
-    )
-}
-
-/// Writes it where it is wanted.
-fn write_why<W: Write>(writer: &mut W, path: &str, wanted: bool) -> Result<(), WriteFault>
-    ensures { Writes (W.contents writer.old) (W.contents writer.new) result (why_text wanted path.now) }
-{
-    if wanted {
-        return put_why(writer, path);
-    }
-    Ok(())
 }
 
 /// A writer of faults, and what lines were refused.
@@ -309,14 +283,6 @@ impl<E: Write> Teller<E> {
         let told = write_fault(&mut self.errors, path, number, network, instance, kind);
         self.failed |= told.is_err();
         self.faulted = true;
-    }
-
-    /// Tells which program says why the run can't go on, where that is wanted.
-    pub(crate) fn tell_why(&mut self, wanted: bool)
-        ensures { WasTold (why_text wanted (string_bytes self.old.path)) (telling_of E.contents self.old) (telling_of E.contents self.new) }
-    {
-        let told = write_why(&mut self.errors, self.path.as_str(), wanted);
-        self.failed |= told.is_err();
     }
 
     /// Tells how the run of a session ended, in the last lines of a report.

@@ -39,7 +39,7 @@ IsNotRun more old new f = (f ≡ BadMore) × (new ≡ old) × (2 ^ 48 ≤ old.ru
 abbrev pub would_wait : Flowing → Entry → ℕ
 would_wait f entry = slice_index_or f.waits (channel_of f.run.network entry) 0 + length entry.1
 
--- the values are meant for an input channel, stand behind those of it, and nothing else but the answer changes
+-- the values are meant for an input channel, come after those of it, and nothing else but the answer changes
 pub record HasPouredIn (entry : Entry) (old new : Flowing) : Type 0 where
   pub meant : IsMeant old.run.network entry
   pub lists : IsPoured old.run.input (channel_of old.run.network entry) entry.1 new.run.input

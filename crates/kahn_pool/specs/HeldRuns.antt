@@ -57,7 +57,7 @@ abbrev pub writing : List Actual → ℕ → ℕ
 writing [] c = 0
 writing (a ∷ rest) c = if is_written a c then 0 else suc (writing rest c)
 
--- the values of a line by its source, of these inputs and of what each cell kept and printed; none where it has no source
+-- the values of a line by its source, of these inputs and of what each cell kept and printed; none if it has no source
 abbrev pub values_by : Network → Inputs → (ℕ → List (List Token)) → (ℕ → List Token) → Source → Line → List Value
 values_by N I kept printed Given (Channel c) = I c
 values_by N I kept printed (Written p) (Channel c) = map token_value (slice_index_or (kept p) (writing (instance_at N p).actuals c) [])
@@ -114,7 +114,7 @@ pub record HasResumed (more : ℕ) (old new : HeldRun) : Type 0 where
   pub bound : new.bound ≡ old.bound + more
   pub few : old.bound + more < 2 ^ 48
 
--- want of memory apart, it has finished exactly where the size of the solution for the input so far is at most the bound so far
+-- want of memory apart, it has finished exactly if the size of the solution for the input so far is at most the bound so far
 abbrev pub IsResumed : ℕ → HeldRun → HeldRun → Verdict → Type 0
 IsResumed more old new v =
     HasResumed more old new × (new.verdict ≡ Some v) × Settles (network_of new.network) (inputs_of new.input) new.bound v
@@ -128,7 +128,7 @@ IsUnresumed more old new held.Stalled = ⊥
 
 -- ---- more input
 
--- the values stand behind those of their channel, and nothing else but the answer changes
+-- the values come after those of their channel, and nothing else but the answer changes
 pub record HasFed (entry : Entry) (old new : HeldRun) : Type 0 where
   pub fed : IsEntryFed old.network old.input entry new.input
   pub rest : new ≡ record old { input = new.input; verdict = None }

@@ -71,7 +71,7 @@ fn woken(sleepers: &mut Vec<Option<usize>>, channel: usize) -> Option<usize> {
 }
 
 impl Awake {
-    /// No instance is awake. It refuses only if memory was refused.
+    /// No instance is awake. Fails only if memory was refused.
     pub(crate) fn new(alloc: Global, network: &Network) -> Result<Awake, NoMemory> {
         Ok(Awake {
             written: written_by(alloc, network)?,

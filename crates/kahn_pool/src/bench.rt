@@ -78,7 +78,7 @@ fn forget_all(taps: &mut Vec<Tap>)
     }
 }
 
-// Says that each process stands where its tap says: its contract is what it does.
+// Says that each process stands where its tap says. For the prover only.
 fn all_stood(network: &Network, taps: &[Tap])
     requires { (p : ℕ) (x : Tapped) → slice_get taps.now p ≡ Some x → x.told.network ≡ network.now }
     ensures { (p : ℕ) (x : Tapped) → slice_get taps.now p ≡ Some x → StandsAsTold network.now x }
@@ -88,7 +88,7 @@ fn all_stood(network: &Network, taps: &[Tap])
     }
 }
 
-// Says that no tap counted more tokens than events: its contract is what it does.
+// Says that no tap counted more tokens than events. For the prover only.
 fn all_sized(taps: &[Tap])
     ensures { (p : ℕ) (x : Tapped) → slice_get taps.now p ≡ Some x → AreCounts x.told }
 {
@@ -110,7 +110,7 @@ fn all_kept(taps: Vec<Tap>, mut kept: Vec<Kept>) -> Vec<Kept>
 }
 
 impl<'n> Bench<'n> {
-    /// All processes at their openings. It refuses only if memory was refused.
+    /// All processes at their openings. Fails only if memory was refused.
     pub(crate) fn new(
         alloc: Global,
         network: &'n Network,
@@ -276,8 +276,8 @@ impl<'n> Bench<'n> {
         sum
     }
 
-    /// Goes on for a longer input, in which these values stand behind those of an input channel: they wait there. It refuses only
-    /// if memory was refused, and then all goes on as before. The caller names the input for contracts alone.
+    /// Goes on for a longer input, in which these values come after those of an input channel: they wait there. Fails only if
+    /// memory was refused, and then all goes on as before. The caller names the input for contracts alone.
     pub(crate) fn pour(&mut self, channel: usize, values: &[Value]) -> Result<(), NoMemory>
         ghost input: { Lists }
         requires role { role_at (network_of self.old.network) channel ≡ InputRole }
@@ -296,14 +296,14 @@ impl<'n> Bench<'n> {
         }
     }
 
-    /// The processes let go of all that they kept. It never allocates.
+    /// The processes let go of all that they kept. Never allocates.
     pub(crate) fn forget(&mut self)
         ensures { HasEmptied self.old self.new }
     {
         forget_all(&mut self.taps);
     }
 
-    /// Says how all stand: its contract is what it does.
+    /// Says how all stand. For the prover only.
     pub(crate) fn stood(&self)
         ensures laid { IsLaid self.now }
         ensures counted { AreQueued self.now.queues }
@@ -358,8 +358,8 @@ impl<'n> Bench<'n> {
         Some(place)
     }
 
-    /// Jobs that stand where its queues stand, with copies of the tokens that wait there, for `hand_over`. The bench stays as it is. It
-    /// refuses only if memory was refused.
+    /// Jobs that stand where its queues stand, with copies of the tokens that wait there, for `hand_over`. The bench stays as it is.
+    /// Fails only if memory was refused.
     pub(crate) fn lanes(&self, alloc: Global, input: &Input) -> Result<Vec<Idle>, NoMemory>
         requires input { self.now.input ≡ input.now }
         requires few { (p : ℕ) → events_at (sight_of self.now) p < 2 ^ 48 }
@@ -378,7 +378,7 @@ impl<'n> Bench<'n> {
     }
 
     /// The bench without its processes, and jobs that go on from where these stand, which have let go of nothing: the jobs that are
-    /// given get their cells. It never allocates.
+    /// given get their cells. Never allocates.
     pub(crate) fn hand_over(self, mut idles: Vec<Idle>) -> (Vacant<'n>, Vec<Idle>)
         requires whole { AreWhole (length (network_of self.network).instances) self.gone }
         requires jobs { AreJobsAt self.network self.input self.queues.queues idles.items }
@@ -402,7 +402,7 @@ impl<'n> Bench<'n> {
         (vacant, idles)
     }
 
-    /// The streams of an answer: what the writers kept, if nothing was let go of. There is room for what each kept. It never
+    /// The streams of an answer: what the writers kept, if nothing was let go of. There is room for what each kept. Never
     /// allocates.
     pub(crate) fn into_streams(self, mut streams: Vec<Stream>, kept: Vec<Kept>) -> Vec<Stream>
         requires whole { AreWhole (length (network_of self.network).instances) self.gone }
@@ -449,7 +449,7 @@ impl<'n> Vacant<'n> {
         &self.code
     }
 
-    /// The bench with the cells of jobs that stand where its queues stand. The list that is given has room for all. It never allocates.
+    /// The bench with the cells of jobs that stand where its queues stand. The list that is given has room for all. Never allocates.
     pub(crate) fn taken_back(self, idles: Vec<Idle>, taps: Vec<Tap>) -> Bench<'n>
         requires laid { IsLaid (seated_with self (cells_of idles.items)) }
         requires room { (taps.items ≡ []) × (length idles.items ≤ vec_capacity taps) }

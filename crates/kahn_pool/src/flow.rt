@@ -70,7 +70,7 @@ fn lent_of(watch: Option<usize>, channel: usize, values: &[Value]) -> &[Value]
     if watch == Some(channel) { values } else { &[] }
 }
 
-// Makes room for so many tokens more. It refuses only if memory was refused, and then nothing changed.
+// Makes room for so many tokens more. Fails only if memory was refused, and then nothing changed.
 fn make_room(tokens: &mut Vec<Carried>, count: usize) -> Result<(), NoMemory>
     ensures items { tokens.new.items ≡ tokens.old.items }
     ensures room { OnOk result (length tokens.new.items + count ≤ vec_capacity tokens.new) }
@@ -116,8 +116,8 @@ impl<'n> Flow<'n> {
     /// configuration is the first one: `resume(0)` runs for that many events. It runs on the caller's thread alone, whatever
     /// number of workers the configuration has.
     ///
-    /// It refuses with `BadConfig` if a number of the configuration is out of its limit, then with `UnknownWatch` if no channel
-    /// has the name that is to be watched, and with `NoMemory` if memory was refused.
+    /// Fails with `BadConfig` if a number of the configuration is out of its limit, then with `UnknownWatch` if no channel has
+    /// the name that is to be watched, and with `NoMemory` if memory was refused.
     pub fn start(
         alloc: Global,
         network: &'n Network,
@@ -146,7 +146,7 @@ impl<'n> Flow<'n> {
     /// Allows so many events more, and runs until the sum of all bounds is used up, or every process has ended or waits on a
     /// channel of which it took all, or memory was refused. Before each quantum of an instance the gate is entered.
     ///
-    /// It refuses only with `BadMore`, if the sum of all bounds would pass 2^48 - 1, and then nothing changes.
+    /// Fails only with `BadMore`, if the sum of all bounds would pass 2^48 - 1, and then nothing changes.
     pub fn resume<G: Gate>(&mut self, more: u64, gate: &G) -> Result<Verdict, HeldFault>
         ensures { MatchResult result (IsRunOn more self.old self.new) (IsNotRun more self.old self.new) }
     {
@@ -171,9 +171,9 @@ impl<'n> Flow<'n> {
     /// Appends values to the list of an input channel. No process runs before the next part, and there is no verdict until then,
     /// even if there are no values.
     ///
-    /// It refuses with `UnknownName` if no channel has the name, then with `NotAnInput` if the channel isn't an input,
-    /// `WrongKind` if a value isn't of its kind, `TooMany` if more than 1,048,576 values would wait there or a place would be
-    /// 2^48 or more, and `NoMemory` if memory was refused. A refusal leaves all as it was.
+    /// Fails with `UnknownName` if no channel has the name, then with `NotAnInput` if the channel isn't an input, `WrongKind`
+    /// if a value isn't of its kind, `TooMany` if more than 1,048,576 values would wait there or a place would be 2^48 or
+    /// more, and `NoMemory` if memory was refused. A refusal leaves all as it was.
     pub fn feed(&mut self, channel: &str, values: &[Value]) -> Result<(), FeedFault>
         ensures { MatchResult result (λ _. HasPouredIn (channel.now, values.now) self.old self.new) (IsUnpoured (channel.now, values.now) self.old self.new) }
     {
@@ -192,7 +192,7 @@ impl<'n> Flow<'n> {
         Ok(())
     }
 
-    /// Lets go of all that it kept of its streams. It never allocates.
+    /// Lets go of all that it kept of its streams. Never allocates.
     pub fn forget(&mut self)
         ensures { HasLetGo self.old self.new }
     {
@@ -201,7 +201,7 @@ impl<'n> Flow<'n> {
     }
 
     /// What is new of the stream of a line since it was last let go of, in place order. May be called only for a line of `lines`.
-    /// It never allocates.
+    /// Never allocates.
     pub fn fresh(&self, line: Line) -> &[Carried]
         requires { IsLineOf self.now.run line }
         ensures { AreNew self.now line result.now }
@@ -223,7 +223,7 @@ impl<'n> Flow<'n> {
         self.budget
     }
 
-    /// The verdict of the last part, if nothing changed since. It never allocates.
+    /// The verdict of the last part, if nothing changed since. Never allocates.
     pub fn verdict(&self) -> Option<Verdict>
         ensures { result ≡ self.now.run.verdict }
     {
@@ -237,22 +237,22 @@ impl<'n> Flow<'n> {
         self.verdict.is_some()
     }
 
-    /// The events of all parts so far. It never allocates.
+    /// The events of all parts so far. Never allocates.
     pub fn events(&self) -> u64
         ensures { result ≡ sum_by seen_events self.now.run.cells }
     {
         self.plan.bound - self.budget
     }
 
-    /// The lines of its streams, in order. It refuses only if memory was refused.
+    /// The lines of its streams, in order. Fails only if memory was refused.
     pub fn lines(&self) -> Result<Vec<Line>, NoMemory>
         ensures { IfOk result (λ lines. lines.items ≡ stream_lines (network_of self.now.run.network) self.now.run.watch) }
     {
         lines_of(self.alloc, self.network, self.plan.watch)
     }
 
-    /// How each instance stands, right for the input so far and the bound so far. May be called only if the run is settled. It
-    /// never allocates.
+    /// How each instance stands, right for the input so far and the bound so far. May be called only if the run is settled.
+    /// Never allocates.
     pub fn ends(&self) -> &[End]
         requires { (v : VerdictOf) × (self.now.run.verdict ≡ Some v) }
         ensures { (v : VerdictOf) → self.now.run.verdict ≡ Some v → IsRightSoFar self.now.run v result.now }

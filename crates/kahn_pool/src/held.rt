@@ -72,8 +72,8 @@ impl<'n> Held<'n> {
     /// A run of a network with an input that fits it, before its first event. It keeps the allocator for its later calls. The bound
     /// of the configuration is the first one: `resume(0)` runs for that many events.
     ///
-    /// It refuses with `BadConfig` if a number of the configuration is out of its limit, then with `UnknownWatch` if no channel
-    /// has the name that is to be watched, and with `NoMemory` if memory was refused.
+    /// Fails with `BadConfig` if a number of the configuration is out of its limit, then with `UnknownWatch` if no channel has
+    /// the name that is to be watched, and with `NoMemory` if memory was refused.
     pub fn start(
         alloc: Global,
         network: &'n Network,
@@ -111,9 +111,9 @@ impl<'n> Held<'n> {
     /// every process has ended or waits on a channel of which it took all, or memory was refused. Before each quantum of
     /// an instance the gate is entered.
     ///
-    /// It refuses with `BadMore` if the sum of all bounds would pass 2^48 - 1, and with `NoMemory` if memory was refused before
-    /// the first event: both leave all as it was. It refuses with `NoThread` if a thread couldn't be started, and one worker
-    /// starts none: so many events more are allowed then, each process stands where the workers left it, and the run may go on.
+    /// Fails with `BadMore` if the sum of all bounds would pass 2^48 - 1, and with `NoMemory` if memory was refused before the
+    /// first event: both leave all as it was. Fails with `NoThread` if a thread couldn't be started, and one worker starts
+    /// none: so many events more are allowed then, each process stands where the workers left it, and the run may go on.
     pub fn resume<R: Threads + Wait + Sync, G: Gate + Sync>(
         &mut self,
         rt: &R,
@@ -161,9 +161,9 @@ impl<'n> Held<'n> {
     /// Appends values to the list of an input channel. No process runs before the next part, and there is no answer until then,
     /// even if there are no values.
     ///
-    /// It refuses with `UnknownName` if no channel has the name, then with `NotAnInput` if the channel isn't an input,
-    /// `WrongKind` if a value isn't of its kind, `TooMany` if its list would have more than 1,048,576 values, and `NoMemory` if
-    /// memory was refused. A refusal leaves all as it was.
+    /// Fails with `UnknownName` if no channel has the name, then with `NotAnInput` if the channel isn't an input, `WrongKind`
+    /// if a value isn't of its kind, `TooMany` if its list would have more than 1,048,576 values, and `NoMemory` if memory was
+    /// refused. A refusal leaves all as it was.
     pub fn feed(&mut self, channel: &str, values: Vec<Value>) -> Result<(), FeedFault>
         ensures { MatchResult result (λ _. HasFed (channel.now, values.items) self.old self.new) (IsUnfed (channel.now, values.items) self.old self.new) }
     {
@@ -180,7 +180,7 @@ impl<'n> Held<'n> {
         self.budget
     }
 
-    /// The verdict of the last part, if nothing changed since. It never allocates.
+    /// The verdict of the last part, if nothing changed since. Never allocates.
     pub fn verdict(&self) -> Option<Verdict>
         ensures { result ≡ self.now.verdict }
     {
@@ -194,14 +194,14 @@ impl<'n> Held<'n> {
         self.verdict.is_some()
     }
 
-    /// The events of all parts so far. It never allocates.
+    /// The events of all parts so far. Never allocates.
     pub fn events(&self) -> u64
         ensures { result ≡ sum_by seen_events self.now.cells }
     {
         self.plan.bound - self.budget
     }
 
-    /// The lines of the streams of an answer, in order. It refuses only if memory was refused.
+    /// The lines of the streams of an answer, in order. Fails only if memory was refused.
     pub fn lines(&self) -> Result<Vec<Line>, NoMemory>
         ensures { IfOk result (λ lines. lines.items ≡ stream_lines (network_of self.now.network) self.now.watch) }
     {
@@ -209,7 +209,7 @@ impl<'n> Held<'n> {
     }
 
     /// What the stream of a line has so far, in place order. May be called only if the run is settled, and for a line of `lines`.
-    /// It never allocates.
+    /// Never allocates.
     pub fn stream(&self, line: Line) -> &[Carried]
         requires settled { (v : VerdictOf) × (self.now.verdict ≡ Some v) }
         requires line { IsLineOf self.now line }
@@ -225,8 +225,8 @@ impl<'n> Held<'n> {
         }
     }
 
-    /// How each instance stands, right for the input so far and the bound so far. May be called only if the run is settled. It
-    /// never allocates.
+    /// How each instance stands, right for the input so far and the bound so far. May be called only if the run is settled.
+    /// Never allocates.
     pub fn ends(&self) -> &[End]
         requires { (v : VerdictOf) × (self.now.verdict ≡ Some v) }
         ensures { (v : VerdictOf) → self.now.verdict ≡ Some v → IsRightSoFar self.now v result.now }
@@ -234,8 +234,8 @@ impl<'n> Held<'n> {
         &self.ends
     }
 
-    /// A copy of the answer, right for the input so far and the bound so far. May be called only if the run is settled. It
-    /// refuses only if memory was refused.
+    /// A copy of the answer, right for the input so far and the bound so far. May be called only if the run is settled.
+    /// Fails only if memory was refused.
     pub fn answer(&self) -> Result<Answer, NoMemory>
         requires { (v : VerdictOf) × (self.now.verdict ≡ Some v) }
         ensures { IfOk result (IsAnswerOf self.now) }

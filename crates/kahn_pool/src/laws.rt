@@ -9,15 +9,15 @@ pub fn finished_is_one()
     ensures { (N : Network) (I : Inputs) (watch : Option ℕ) (a b : Answer) → HasFinished N I watch a → HasFinished N I watch b → AreOne a b }
 {}
 
-/// Want of memory apart, a right answer is finished exactly if the size of the solution is a number at most the bound; a finished
-/// one has done just so many events.
+/// Unless memory was refused, a right answer is finished exactly if the size of the solution is a number at most the bound; a
+/// finished one has done just so many events.
 pub fn finished_exactly()
     ensures settles { (N : Network) (I : Inputs) (bound : ℕ) (watch : Option ℕ) (a : Answer) → IsRight N I bound watch a → Settles N I bound a.verdict }
     ensures counted { (N : Network) (I : Inputs) (n : ℕ) (watch : Option ℕ) (a : Answer) → IsRight N I n watch a → a.verdict ≡ Finished → HasSize N I a.events }
 {}
 
-/// For one network, input and bound one verdict settles the run, want of memory apart. So right answers have one, as each of
-/// theirs settles it.
+/// For one network, input and bound one verdict settles the run, unless memory was refused. So right answers have one, as
+/// each of theirs settles it.
 pub fn verdict_is_one()
     ensures { (N : Network) (I : Inputs) (bound : ℕ) (v w : Verdict) → Settles N I bound v → Settles N I bound w → v ≢ Memory → w ≢ Memory → v ≡ w }
 {}

@@ -85,7 +85,7 @@ fn cost_of(network: &Network, code: &Code, instance: usize) -> u64
 }
 
 impl Looks {
-    /// Nothing was done. It refuses only if memory was refused.
+    /// Nothing was done. Fails only if memory was refused.
     pub(crate) fn new(alloc: Global, network: &Network, code: &Code) -> Result<Looks, NoMemory>
         requires { code.now.network.value ≡ network.now }
     {

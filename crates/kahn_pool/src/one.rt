@@ -42,7 +42,7 @@ pub(crate) fn answered(
 }
 
 /// Runs a network on the caller's thread over plain queues, with a watched channel or none, each process for at most the quantum of
-/// events before the next one. Before each quantum the gate is entered. It refuses only if memory was refused before the first event.
+/// events before the next one. Before each quantum the gate is entered. Fails only if memory was refused before the first event.
 pub(crate) fn run_watched<G: Gate>(
     alloc: Global,
     gate: &G,
@@ -95,10 +95,10 @@ pub(crate) fn run_on_alone<G: Gate>(
 /// Runs a network on the caller's thread over plain queues, without a watched channel, for at most `bound` events. The
 /// input fits the network.
 ///
-/// It refuses with `BadConfig` exactly where the bound is 2^48 or more, and with `NoMemory` where memory was refused
-/// before the first event. Memory that is refused later stops the run: its answer has the verdict `Memory`, which it has only
-/// where an instance has a next event and the bound isn't used up. Else the verdict is `Finished` exactly where the size of
-/// the solution is at most the bound.
+/// Fails with `BadConfig` exactly if the bound is 2^48 or more, and with `NoMemory` if memory was refused before the first
+/// event. Memory that is refused later stops the run: its answer has the verdict `Memory`, which it has only if an instance
+/// has a next event and the bound isn't used up. Else the verdict is `Finished` exactly if the size of the solution is at
+/// most the bound.
 pub fn run_one(
     alloc: Global,
     network: &Network,

@@ -26,7 +26,7 @@ pub(crate) struct PartRoom {
 }
 
 impl PartRoom {
-    /// Room for so many of each. It refuses only if memory was refused.
+    /// Room for so many of each. Fails only if memory was refused.
     pub(crate) fn new(alloc: Global, instances: usize) -> Result<PartRoom, NoMemory>
         ensures { IfOk result (IsRoomFor instances) }
     {
@@ -47,7 +47,7 @@ pub(crate) struct Stopped {
     pub(crate) outcome: Result<Verdict, CrewFault>,
 }
 
-/// The jobs of all instances before their first events. It refuses only if memory was refused.
+/// The jobs of all instances before their first events. Fails only if memory was refused.
 pub(crate) fn first_idles(alloc: Global, part: &Part<'_>) -> Result<Vec<Idle>, NoMemory>
     ensures { IfOk result (λ idles. AreHeldBy part.now idles.items part.now.plan.bound) }
 {
@@ -60,7 +60,7 @@ pub(crate) fn first_idles(alloc: Global, part: &Part<'_>) -> Result<Vec<Idle>, N
 }
 
 // The jobs, the ends and the verdict of a run that is over: `Memory` exactly if it was halted, and it was halted only if memory
-// was refused to a worker. The lists that are given have room for the jobs and for the ends. It never allocates.
+// was refused to a worker. The lists that are given have room for the jobs and for the ends. Never allocates.
 fn conclude(part: &Part<'_>, mut left: Left, idles: Vec<Idle>, ends: Vec<End>) -> Stopped
     requires left { HaveAllLeft part.now left }
     requires over { IsOver part.now.network.now part.now.input.now left.tasks.items left.budget left.halted }

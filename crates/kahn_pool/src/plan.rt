@@ -33,8 +33,8 @@ fn watched(network: &Network, name: &Option<String>) -> Result<Option<usize>, Ru
     }
 }
 
-/// The plan of a run of that configuration. It refuses with `BadConfig` if a number is out of its limit, then with `UnknownWatch` if
-/// no channel has the name that is to be watched.
+/// The plan of a run of that configuration. Fails with `BadConfig` if a number is out of its limit, then with `UnknownWatch` if no
+/// channel has the name that is to be watched.
 pub(crate) fn plan_of(network: &Network, config: &Config) -> Result<Plan, RunFault>
     ensures allowed { IfOk result (λ _. IsAllowed config.now) }
     ensures watched { IfOk result (λ p. IsWatched network.now config.now.watch p.watch) }

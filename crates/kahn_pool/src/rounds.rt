@@ -268,7 +268,7 @@ impl<'g, L: Ledger, G: Gate> Driver<'g, L, G> {
         round
     }
 
-    // Brief rounds, behind the first ones, until one in which nothing or little was done.
+    // Brief rounds, after the first ones, until one in which nothing or little was done.
     fn brief_rounds(&mut self, bench: &mut Bench<'_>, last: Round, is_first: bool) -> Round
         requires { MayRun (sight_of bench.old) last }
         ensures { HasAdvanced bench.old bench.new last result }
@@ -340,7 +340,7 @@ pub(crate) fn verdict_of(memory: bool, ends: &[End]) -> Verdict
 
 /// Runs the processes of a bench on one thread for as many events as the plan's bound, each for at most its quantum at a time, before
 /// which the gate is entered. If the run may be left and there is work for several workers, it gives back what is left, from which the
-/// run may go on. Steps are counted on a ledger of its own. The list of ends has room for each instance. It never allocates.
+/// run may go on. Steps are counted on a ledger of its own. The list of ends has room for each instance. Never allocates.
 pub(crate) fn run_until_wide<G: Gate, L: Ledger>(
     blank: Blank,
     bench: &mut Bench<'_>,
@@ -378,7 +378,7 @@ pub(crate) fn run_until_wide<G: Gate, L: Ledger>(
     }
 }
 
-/// The same to the end, if the run may not be left. It answers nothing if it may be left and there is work for several workers.
+/// The same to the end, if the run may not be left. Returns nothing if it may be left and there is work for several workers.
 pub(crate) fn run_part_alone<G: Gate, L: Ledger>(
     blank: Blank,
     bench: &mut Bench<'_>,

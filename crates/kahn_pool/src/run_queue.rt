@@ -24,7 +24,7 @@ pub(crate) struct RunQueue {
 }
 
 impl RunQueue {
-    /// No instance of `instances`. It refuses only if memory was refused.
+    /// No instance of `instances`. Fails only if memory was refused.
     pub(crate) fn new(alloc: Global, instances: usize) -> Result<RunQueue, NoMemory> {
         let asleep = Place {
             awake: false,
@@ -38,7 +38,7 @@ impl RunQueue {
         })
     }
 
-    /// The instance goes on when its turn comes, behind all that are in the queue.
+    /// The instance goes on when its turn comes, after all that are in the queue.
     pub(crate) fn wake(&mut self, instance: usize) {
         if let Some(place) = self.places.get_mut(instance) {
             place.awake = true;

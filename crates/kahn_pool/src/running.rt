@@ -31,7 +31,7 @@ fn processors<R: Threads>(rt: &R) -> usize {
     }
 }
 
-// What a hand-over wants. It refuses only if memory was refused.
+// What a hand-over wants. Fails only if memory was refused.
 fn hand_room(
     alloc: Global,
     network: &Network,
@@ -115,8 +115,8 @@ fn run_open<R: Threads + Wait + Sync, G: Gate + Sync>(
 /// verdict. A finished answer is the same for all of them and for every bound; of one that was stopped, which events were done
 /// may depend on them, and never what stands at a place of a stream.
 ///
-/// It refuses with `BadConfig` if a number of the configuration is out of its limit, then with `UnknownWatch` if no channel has
-/// the name that is to be watched, with `NoMemory` if memory was refused before the first event, and with `NoThread` if a thread
+/// Fails with `BadConfig` if a number of the configuration is out of its limit, then with `UnknownWatch` if no channel has the
+/// name that is to be watched, with `NoMemory` if memory was refused before the first event, and with `NoThread` if a thread
 /// couldn't be started and the gate isn't open. One worker starts none: it has the caller's thread, on which it runs one process
 /// after another over plain queues. Each further worker has a thread of its own. If the gate is open, several begin as one does,
 /// and start threads once there is work for two: as many as have work, and no more than run side by side. If one can't be

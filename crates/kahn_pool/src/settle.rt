@@ -1,4 +1,4 @@
-//! Each task that may go on is asked once more what comes next.
+//! Each task that may go on is asked again what comes next.
 
 ghost use Rattle.std.specs.Prelude.{◌≡◌, ◌<◌, ℕ, Some, slice_get};
 ghost use Rattle.kahn_pool.specs.inner.Below.{IsWithinInput, Tasked, end_at};
@@ -12,7 +12,7 @@ use kahn_job::{Standing, Task};
 use std::marker::Brand;
 use std::sync::ledger::{Blank, Ledger};
 
-// Says that of an input channel no more is ready than its list has: its contract is what it does.
+// Says that of an input channel no more is ready than its list has. For the prover only.
 fn fed(task: &Task)
     ensures { (q : ℕ) → IsWithinInput (end_at task.now.work.ends q) }
 {
@@ -21,7 +21,7 @@ fn fed(task: &Task)
     }
 }
 
-// Says what is known of a task that may not go on: its contract is what it does.
+// Says what is known of a task that may not go on. For the prover only.
 fn keep(task: &Task)
     requires { task.now.standing ≡ standing.Going → ⊥ }
     ensures { IsSettledTask task.now }

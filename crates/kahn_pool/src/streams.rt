@@ -72,7 +72,7 @@ fn add_prints(alloc: Global, lines: &mut Vec<Line>, network: &Network) -> Result
 }
 
 /// The lines of the streams of an answer, in order of declaration: those of the output channels and of the channel `watch`, and
-/// then those of prints. It refuses only if memory was refused.
+/// then those of prints. Fails only if memory was refused.
 pub(crate) fn lines_of(
     alloc: Global,
     network: &Network,
@@ -119,7 +119,7 @@ fn fill_one(network: &Network, stream: &mut Stream, lists: &mut Vec<Kept>)
 }
 
 /// Fills each stream from what the cells kept: that of a channel with what its writer kept on the parameter, and a print stream
-/// with what was printed. A stream of an input channel stays. It never allocates.
+/// with what was printed. A stream of an input channel stays. Never allocates.
 pub fn fill(network: &Network, streams: &mut Vec<Stream>, lists: &mut Vec<Kept>)
     requires named { AreNamed (network_of network.now) streams.old.items }
     requires lists { AreLists (network_of network.now) lists.old.items }
@@ -130,7 +130,7 @@ pub fn fill(network: &Network, streams: &mut Vec<Stream>, lists: &mut Vec<Kept>)
     }
 }
 
-// The rest of the list of an input channel, behind the tokens that begin it.
+// The rest of the list of an input channel, after the tokens that begin it.
 fn give_list(
     network: &Network,
     input: &Input,
@@ -148,7 +148,7 @@ fn give_list(
     Ok(())
 }
 
-/// Gives the rest of the list of a watched input channel. It refuses only if memory was refused.
+/// Gives the rest of the list of a watched input channel. Fails only if memory was refused.
 pub(crate) fn give_watched(
     network: &Network,
     input: &Input,
@@ -187,8 +187,8 @@ fn opening_stream(
     Ok(Stream { line, tokens })
 }
 
-/// The streams of an answer, in order, before any token was moved there: a watched input channel has its whole list. It refuses
-/// only if memory was refused.
+/// The streams of an answer, in order, before any token was moved there: a watched input channel has its whole list. Fails only
+/// if memory was refused.
 pub(crate) fn opening_streams(
     alloc: Global,
     network: &Network,
@@ -205,7 +205,7 @@ pub(crate) fn opening_streams(
     Ok(streams)
 }
 
-/// Room for all that the answer of a run wants. It refuses only if memory was refused.
+/// Room for all that the answer of a run wants. Fails only if memory was refused.
 pub(crate) fn room_for_answer(
     alloc: Global,
     network: &Network,

@@ -32,7 +32,7 @@ fn all_kept(idles: Vec<Idle>, mut kept: Vec<Kept>) -> Vec<Kept>
     kept
 }
 
-// The answer of a part that is a whole run. It never allocates: the room is given.
+// The answer of a part that is a whole run. Never allocates: the room is given.
 fn answered(
     part: &Part<'_>,
     stopped: Stopped,
@@ -60,8 +60,8 @@ fn answered(
     }
 }
 
-/// Runs a network by several workers, one in the caller's thread and each other in one of its own, and answers right. It refuses
-/// only if memory was refused before the first event, or if a thread couldn't be started for one of several.
+/// Runs a network by several workers, one in the caller's thread and each other in one of its own, and answers right. Fails only
+/// if memory was refused before the first event, or if a thread couldn't be started for one of several.
 pub(crate) fn run_workers<R: Threads + Wait + Sync, G: Gate + Sync>(
     rt: &R,
     alloc: Global,
@@ -98,8 +98,8 @@ pub(crate) struct HandRoom {
 }
 
 /// The answer of a run that was left there, once several workers went on from where its processes stand. If memory is refused before
-/// their first event, the run goes on alone from there. The plan has the bound of the whole run. It refuses only if a thread couldn't
-/// be started.
+/// their first event, the run goes on alone from there. The plan has the bound of the whole run. Fails only if a thread couldn't be
+/// started.
 pub(crate) fn run_on_workers<R: Threads + Wait + Sync, G: Gate + Sync>(
     rt: &R,
     alloc: Global,

@@ -1,5 +1,5 @@
 -- Believed. The two texts beside the program (this project's profile): which entries an input text spells, line by line, the input that it
--- stands for, and why one stands for none; and the report of an answer, a function of the program and the answer. Each of its lines ends
+-- describes, and why one describes none; and the report of an answer, a function of the program and the answer. Each of its lines ends
 -- with a line feed and has no blank at its end.
 use Rattle.std.specs.Prelude.{◌≡◌, ◌≢◌, ℕ, ◌+◌, ◌-◌, ◌≤◌, ◌<◌, List, [], ◌∷◌, ◌++◌, length, slice_index, Bool, true, false, ◌==◌, ◌||◌, codes, All, take, if◌then◌else◌, ◌⊎◌, MatchOption, Option, map, slice_index_or, decimal, flat_map}
 use Rattle.std.specs.List.{slice_split, concat}
@@ -72,7 +72,7 @@ HasHead line name rest = (before : List ℕ) × (between : List ℕ) × (line �
 abbrev pub IsHeadless : List ℕ → Type 0
 IsHeadless line = (name rest : List ℕ) → HasHead line name rest → ⊥
 
--- it begins with a name and a colon, and this rest alone stands behind them
+-- it begins with a name and a colon, and this rest alone comes after them
 abbrev pub IsHead : List ℕ → List ℕ → List ℕ → Type 0
 IsHead line name rest = HasHead line name rest × ((other behind : List ℕ) → HasHead line other behind → behind ≡ rest)
 
@@ -82,7 +82,7 @@ IsValue word (Integer number) = (slice_index word 0 ≢ 43) × IsNumeral 10 (wit
 IsValue word (Logical true) = str_eq_ignore_ascii_case word (codes "true") ≡ true
 IsValue word (Logical false) = str_eq_ignore_ascii_case word (codes "false") ≡ true
 
--- the parts between blanks spell the values, where what is empty counts for nothing
+-- the parts between blanks spell the values; empty parts count for nothing
 abbrev pub SpellsValues : List (List ℕ) → List Value → Type 0
 SpellsValues [] [] = Unit {0}
 SpellsValues [] (value ∷ values) = ⊥
@@ -90,7 +90,7 @@ SpellsValues ([] ∷ parts) values = SpellsValues parts values
 SpellsValues ((byte ∷ bytes) ∷ parts) [] = ⊥
 SpellsValues ((byte ∷ bytes) ∷ parts) (value ∷ values) = IsValue (byte ∷ bytes) value × SpellsValues parts values
 
--- what stands after a line's colon spells the values
+-- what comes after a line's colon spells the values
 abbrev pub AreValues : List ℕ → List Value → Type 0
 AreValues text values = SpellsValues (slice_split is_blank text) values
 
@@ -110,7 +110,7 @@ text_lines text = slice_split (λ b. b == 10) text
 abbrev pub content : List ℕ → List ℕ
 content line = if slice_index line (length line - 1) == 13 then take (length line - 1) line else line
 
--- the lines spell the entries, where blank lines are skipped
+-- the lines spell the entries; blank lines are skipped
 abbrev pub AreEntries : List (List ℕ) → List Entry → Type 0
 AreEntries [] [] = Unit {0}
 AreEntries [] (entry ∷ entries) = ⊥
@@ -126,7 +126,7 @@ IsGood line = AreBlanks (content line) ⊎ ((entry : Entry) × IsEntry (content 
 abbrev pub HasNoHead : List ℕ → Type 0
 HasNoHead line = ¬ AreBlanks line × IsHeadless line
 
--- a line that has a name and a colon, and what stands after any such is no values
+-- a line that has a name and a colon, and what comes after any such isn't values
 abbrev pub HasNoValues : List ℕ → Type 0
 HasNoValues line = ((name : List ℕ) × (rest : List ℕ) × HasHead line name rest)
     × ((name rest : List ℕ) (values : List Value) → HasHead line name rest → AreValues rest values → ⊥)
@@ -136,7 +136,7 @@ abbrev pub IsFirstLine : (List ℕ → Type 0) → List ℕ → ℕ → Type 0
 IsFirstLine P text n = (before : List (List ℕ)) × (line : List ℕ) × (after : List (List ℕ))
     × (text_lines text ≡ before ++ (line ∷ after)) × (n ≡ length before + 1) × All IsGood before × P (content line)
 
--- what is read of a line: an entry, or nothing where it is blank
+-- what is read of a line: an entry, or nothing if it is blank
 abbrev pub IsReadLine : List ℕ → Option (String Global × Vec Value Global) → Type 0
 IsReadLine line read = MatchOption read (AreBlanks line) (λ entry. IsEntry line (entry_of entry))
 
@@ -150,7 +150,7 @@ IsLineFault line line_fault.NoMemory = Unit {0}
 abbrev pub IsInputText : List ℕ → List Entry → Type 0
 IsInputText text entries = (length text ≤ most_input_bytes) × AreEntries (text_lines text) entries
 
--- the first of the entries that the text spells, up to so many
+-- the first entries that the text spells, at most `most`
 abbrev pub AreFirstEntries : List ℕ → ℕ → List Entry → Type 0
 AreFirstEntries text most first = (entries : List Entry) × IsInputText text entries × (first ≡ take most entries)
 
@@ -166,12 +166,12 @@ IsEntriesFault text (Input fault) = ⊥
 abbrev pub StandsFor : Program → List ℕ → Lists → Type 0
 StandsFor t text lists = (entries : List Entry) × IsInputText text entries × IsInputOf t entries lists
 
--- why a text stands for no input: it spells no entries, or else one of its entries is refused
+-- why a text describes no input: it spells no entries, or else one of its entries is refused
 abbrev pub IsInputTextFault : Program → List ℕ → TextFault → Type 0
 IsInputTextFault t text (Input fault) = (entries : List Entry) × IsInputText text entries × IsFirstRefused t entries fault
 IsInputTextFault t text fault = IsEntriesFault text fault
 
--- a fault of the input as a fault of the text: want of memory is the text's own
+-- a fault of the input as a fault of the text: refused memory is the text's own
 abbrev pub told_of_input : InputFault → TextFault
 told_of_input input_fault.NoMemory = NoMemory
 told_of_input fault = Input fault
@@ -211,7 +211,7 @@ tokens_text program line tokens = line_head program line ++ (flat_map token_text
 abbrev pub stream_text : Program → Stream → List ℕ
 stream_text program stream = tokens_text program stream.line stream.tokens.items
 
--- how an instance stands
+-- the state of an instance
 abbrev pub outcome_word : Outcome → List ℕ
 outcome_word Ended = codes "ended"
 outcome_word (Waits channel) = codes "waits on "
@@ -226,7 +226,7 @@ waited_name program (Waits channel) = channel_name program channel
 waited_name program (Faulted kind) = []
 waited_name program More = []
 
--- an instance's line, of its number, its process, how it stands, its channel and its events
+-- an instance's line, of its number, its process, its state, its channel and its events
 abbrev pub end_words : List ℕ → List ℕ → List ℕ → List ℕ → List ℕ → List ℕ
 end_words number name word channel events = concat (codes "end " ∷ number ∷ codes " " ∷ name ∷ codes ": " ∷ word ∷ channel ∷ codes " after " ∷ events ∷ line_feed ∷ [])
 

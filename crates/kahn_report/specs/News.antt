@@ -8,7 +8,7 @@ use Rattle.kahn_streams.specs.declared.answer.Verdict.{Verdict}
 use Rattle.kahn_streams.specs.Written.{line_feed, plain_line, spaced_text}
 use Rattle.kahn_report.specs.Formats.{line_head, ends_text, last_line}
 
--- the line of a stream that has these values more, and nothing where there are none
+-- the line of a stream with these new values, or nothing if there are none
 abbrev pub more_text : Program → Line → List Value → List ℕ
 more_text program line [] = []
 more_text program line (value ∷ values) = line_head program line ++ (flat_map spaced_text (value ∷ values) ++ line_feed)
@@ -23,7 +23,7 @@ news_text program (line ∷ lines) (values ∷ news) = more_text program line va
 abbrev pub plain_text : List Value → List ℕ
 plain_text values = flat_map plain_line values
 
--- what was shown of each stream, and behind it the news
+-- what was shown of each stream, and after it the news
 abbrev pub joined : List (List Value) → List (List Value) → List (List Value)
 joined shown [] = []
 joined [] (values ∷ news) = values ∷ joined [] news

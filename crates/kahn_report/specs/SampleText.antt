@@ -80,6 +80,6 @@ sample_words =
     ∷ comma ∷ name (codes "T1") ∷ comma ∷ name (codes "T2") ∷ semicolon
     ∷ f_words (g_words (h_words (main_words (word keyword.End ∷ semicolon ∷ []))))
 
--- the text's lexemes are these words, whatever blanks, comments and letter case stand between them
+-- the text's lexemes are these words, whatever the blanks, the comments and the letter case
 abbrev pub IsSampleText : List ℕ → Type 0
 IsSampleText text = (xs : List Lexeme) × AreLexemes text xs × (terminals text xs ≡ sample_words)

@@ -28,15 +28,15 @@ IsParsed text t = IsProgram text t × (nesting (program_tree t) ≤ 64)
 abbrev pub IsChecked : List ℕ → Program → Type 0
 IsChecked text t = IsParsed text t × IsWellWired t
 
--- the right answer of a network for what an input text stands for
+-- the right answer of a network for what an input text describes
 abbrev pub IsTextAnswer : Program → List ℕ → Config → Answer → Type 0
 IsTextAnswer t input config a = (lists : Lists) × StandsFor t input lists × IsRightRun t lists config a
 
--- the right answer for what the two texts stand for
+-- the right answer for what the two texts describe
 abbrev pub IsAnswered : List ℕ → List ℕ → Config → Program → Lists → Answer → Type 0
 IsAnswered program input config t lists a = IsChecked program t × StandsFor t input lists × IsRightRun t lists config a
 
--- want of memory apart, the run of what the two texts stand for finished exactly where its solution is within the bound
+-- unless memory was refused, the run of what the two texts describe finished exactly if its solution is within the bound
 abbrev pub FinishesWithin : List ℕ → List ℕ → Config → Verdict → Type 0
 FinishesWithin program input config verdict =
     (t : Program) × (lists : Lists) × IsChecked program t × StandsFor t input lists × Settles (network_of t) (inputs_of lists) config.bound verdict

@@ -28,7 +28,7 @@ pub enum LineFault {
     NoMemory,
 }
 
-/// A line without one carriage return before its end.
+/// Returns a line without one carriage return before its end.
 fn content(line: &[u8]) -> &[u8]
     ensures { result.now ≡ content_of line.now }
 {
@@ -64,7 +64,7 @@ fn read_entry(alloc: Global, line: &[u8]) -> Result<(String, Vec<Value>), LineFa
     }
 }
 
-/// Reads a line of an input text, without its line feed: an entry, or nothing where it is blank. One carriage return before
+/// Reads a line of an input text, without its line feed: an entry, or nothing if it is blank. One carriage return before
 /// its end is dropped.
 pub fn read_line(alloc: Global, line: &[u8]) -> Result<Option<(String, Vec<Value>)>, LineFault>
     ensures { MatchResult result (IsReadLine (content_of line.now)) (IsLineFault (content_of line.now)) }
@@ -79,7 +79,7 @@ pub fn read_line(alloc: Global, line: &[u8]) -> Result<Option<(String, Vec<Value
     }
 }
 
-/// Keeps an entry, unless there are more than so many.
+/// Keeps an entry, unless there are more than `channels` already.
 fn keep(
     entries: &mut Vec<(String, Vec<Value>)>,
     channels: usize,
@@ -95,8 +95,8 @@ fn keep(
     Ok(())
 }
 
-/// Reads the entries of an input text for so many channels: the names of channels, and their values. Of more entries than
-/// channels one can't be taken, so the first that are one more than the channels are kept. It never refuses an entry as `Input`.
+/// Reads the entries of an input text for a network of `channels` channels: names of channels, and their values. If there are
+/// more entries than channels, one is wrong, so only `channels` + 1 are kept. Never fails with `Input`.
 #[tactic(auto, using(crate::proofs::Kept::none_read))]
 pub fn read_entries(
     alloc: Global,

@@ -7,7 +7,7 @@ ghost use Rattle.kahn_report.specs.Formats.{IsHead, IsHeadless, IsName, is_blank
 
 use std::str;
 
-/// The name of an entry, and what stands after its colon.
+/// The name of an entry, and what comes after its colon.
 #[derive(Clone, Copy)]
 pub(crate) struct Head<'a> {
     pub name: &'a str,
@@ -21,28 +21,28 @@ pub(crate) fn is_blank(byte: u8) -> bool
     byte == b' ' || byte == b'\t'
 }
 
-/// Whether a byte may stand in a name.
+/// Whether a name may contain a byte.
 fn is_word_byte(byte: u8) -> bool
     ensures { result ≡ word_byte byte }
 {
     byte.is_ascii_alphanumeric() || byte == b'_'
 }
 
-/// The first byte that is no blank.
+/// Returns the first byte that is no blank.
 fn first_dark(bytes: &[u8]) -> Option<usize>
     ensures { result ≡ position (λ b. not (blank b)) bytes.now }
 {
     bytes.iter().position(|byte| !is_blank(*byte))
 }
 
-/// The first byte that may not stand in a name.
+/// Returns the first byte that no name may contain.
 fn first_apart(bytes: &[u8]) -> Option<usize>
     ensures { result ≡ position (λ b. not (word_byte b)) bytes.now }
 {
     bytes.iter().position(|byte| !is_word_byte(*byte))
 }
 
-/// How many blanks stand at the front.
+/// Returns how many blanks come first.
 fn blanks(bytes: &[u8]) -> usize
     ensures within { result ≤ length bytes.now }
     ensures stop { result ≡ position_or_len (λ b. not (blank b)) bytes.now }
@@ -50,7 +50,7 @@ fn blanks(bytes: &[u8]) -> usize
     first_dark(bytes).unwrap_or(bytes.len())
 }
 
-/// How many bytes at the front may stand in a name.
+/// Returns how many of the first bytes a name may contain.
 fn word_bytes(bytes: &[u8]) -> usize
     ensures within { result ≤ length bytes.now }
     ensures stop { result ≡ position_or_len (λ b. not (word_byte b)) bytes.now }
@@ -58,14 +58,14 @@ fn word_bytes(bytes: &[u8]) -> usize
     first_apart(bytes).unwrap_or(bytes.len())
 }
 
-/// Bytes without the blanks at their front.
+/// Returns bytes without the blanks that come first.
 fn without_blanks(bytes: &[u8]) -> &[u8]
     ensures { result.now ≡ drop (position_or_len (λ b. not (blank b)) bytes.now) bytes.now }
 {
     &bytes[blanks(bytes)..]
 }
 
-/// The bytes at the front that may stand in a name, and what follows them.
+/// Splits off the first bytes that a name may contain, and returns them and what follows.
 fn split_word(bytes: &[u8]) -> (&[u8], &[u8])
     ensures word { result.0.now ≡ take (position_or_len (λ b. not (word_byte b)) bytes.now) bytes.now }
     ensures rest { result.1.now ≡ drop (position_or_len (λ b. not (word_byte b)) bytes.now) bytes.now }
@@ -73,7 +73,7 @@ fn split_word(bytes: &[u8]) -> (&[u8], &[u8])
     bytes.split_at(word_bytes(bytes))
 }
 
-/// What follows a colon.
+/// Returns what follows a colon.
 fn after_colon(bytes: &[u8]) -> Option<&[u8]>
     ensures { MatchOption result ((rest : List ℕ) → bytes.now ≢ 58 ∷ rest) (λ rest. bytes.now ≡ 58 ∷ rest.now) }
 {
@@ -94,14 +94,14 @@ fn is_name(word: &[u8]) -> bool
     }
 }
 
-/// The text of a word.
+/// Returns the text of a word.
 fn text_of(word: &[u8]) -> Option<&str>
     ensures { MatchOption result (¬ IsUtf8 word.now) (λ text. text.now ≡ word.now) }
 {
     str::from_utf8(word).ok()
 }
 
-/// A word as a name, where it is one.
+/// Returns a word as a name, if it is one.
 fn name_of(word: &[u8]) -> Option<&str>
     requires { All (λ b. word_byte b ≡ true) word.now }
     ensures { MatchOption result (IsName word.now → ⊥) (λ name. IsName word.now × (name.now ≡ word.now)) }
@@ -109,7 +109,7 @@ fn name_of(word: &[u8]) -> Option<&str>
     if is_name(word) { text_of(word) } else { None }
 }
 
-/// The name of a line and what stands after its colon.
+/// Returns the name of a line and what comes after its colon.
 pub(crate) fn head_of(line: &[u8]) -> Option<Head<'_>>
     ensures { MatchOption result (IsHeadless line.now) (λ head. IsHead line.now head.name.now head.rest.now) }
 {

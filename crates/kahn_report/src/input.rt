@@ -1,4 +1,4 @@
-//! The input that an input text stands for.
+//! The input that an input text describes.
 
 ghost use Rattle.std.specs.Prelude.{IfOk, MatchResult};
 ghost use Rattle.kahn_streams.specs.Network.{network_of};
@@ -16,7 +16,7 @@ pub enum TextFault {
     /// A line that isn't blank and doesn't begin with a name and a colon.
     #[error("input line {0}: not a name and a colon")]
     BadLine(usize),
-    /// A line with what is no value after its colon.
+    /// A line with something after its colon that is no value.
     #[error("input line {0}: not a value")]
     BadValue(usize),
     /// The text has entries, and one of them doesn't fit the network. Entries are counted from 1, without skipped lines.
@@ -46,8 +46,8 @@ impl From<InputFault> for TextFault {
 }
 
 /// Reads the input of a network from an input text. A text that is too long is refused first, then the first line that is
-/// neither blank nor an entry, and then the first entry that doesn't fit the network. It refuses with `NoMemory` where
-/// memory was refused. Of entries that can't all fit it keeps one more than the network has channels.
+/// neither blank nor an entry, and then the first entry that doesn't fit the network. Fails with `NoMemory` if memory was
+/// refused. Of more entries than the network has channels only one more is kept.
 #[tactic(auto, using(crate::proofs::Told::entries_told))]
 pub fn read_input(alloc: Global, text: &str, network: &Network) -> Result<Input, TextFault>
     ensures read { MatchResult result (StandsFor network.now text.now) (IsInputTextFault network.now text.now) }

@@ -1,13 +1,17 @@
 //! Laws of reports. Each function does nothing: its contract is the law.
 
+ghost use Rattle.kahn_report.specs.Formats.{HasItsLines};
 ghost use Rattle.kahn_report.specs.Work.{IsOneReport};
+ghost use Rattle.kahn_streams.specs.Answers.{IsRight};
+ghost use Rattle.kahn_streams.specs.Solution.{Inputs};
+ghost use Rattle.kahn_streams.specs.declared.answer.Answer.{Answer};
 ghost use Rattle.kahn_streams.specs.declared.config.Config.{Config};
 ghost use Rattle.kahn_streams.specs.declared.tree.Program.{Program};
 ghost use Rattle.kahn_streams.specs.Network.{network_of};
 ghost use Rattle.kahn_syntax.specs.Texts.{IsProgram};
 ghost use Rattle.kahn_streams.specs.Sample.{sample_network};
 ghost use Rattle.kahn_report.specs.SampleText.{IsSampleText};
-ghost use Rattle.std.specs.Prelude.{◌≡◌, ℕ, List};
+ghost use Rattle.std.specs.Prelude.{◌≡◌, ℕ, List, Option};
 
 /// Two finished reports of one program text and one input text, with one channel watched or none, are the same bytes,
 /// whatever the workers, the quantum and the bound.
@@ -15,8 +19,13 @@ pub fn one_report()
     ensures { (program input : List ℕ) (config other : Config) → IsOneReport program input config other }
 {}
 
-/// The network of the sample text of Kahn's paper, whatever blanks, comments and letter case stand in it, is the one of which
-/// the law `sample` of kahn_streams speaks: the value at place k of X is k mod 2.
+/// The network of the sample text of Kahn's paper, whatever its blanks, comments and letter case, is that of the law `sample`
+/// of kahn_streams: the value at place k of X is k mod 2.
 pub fn sample_text()
     ensures { (text : List ℕ) (t : Program) → IsSampleText text → IsProgram text t → network_of t ≡ sample_network }
+{}
+
+/// Each stream of a right answer is of a line of the network, so that its report may be written.
+pub fn right_lines()
+    ensures { (t : Program) (I : Inputs) (bound : ℕ) (watch : Option ℕ) (a : Answer) → IsRight (network_of t) I bound watch a → HasItsLines t a }
 {}

@@ -17,11 +17,11 @@ mod write;
 
 pub use input::{TextFault, read_input};
 pub use kahn_write::WriteFault;
-pub use laws::{one_report, sample_text};
-pub use read::{ReadFault, read_text};
+pub use laws::{one_report, right_lines, sample_text};
+pub use read::{ReadFault, read_counted, read_text};
 pub use several::write_report_by;
 pub use working::{WorkFault, work};
-pub use write::write_report;
+pub use write::{write_counted, write_report};
 
 // For the crates above.
 pub use entries::{LineFault, MOST_BYTES, read_entries, read_line};

@@ -5,7 +5,7 @@ ghost use Rattle.kahn_report.specs.Formats.{channel_name, process_name};
 
 use kahn_streams::Network;
 
-/// The declared name of a channel, or nothing past the last. It takes no memory.
+/// Returns the declared name of a channel, or nothing past the last. Never allocates.
 pub fn channel_name(network: &Network, channel: usize) -> &str
     ensures { result.now ≡ channel_name network.now channel }
 {
@@ -15,7 +15,7 @@ pub fn channel_name(network: &Network, channel: usize) -> &str
     network.channel(channel).name
 }
 
-/// The name of an instance's process, or nothing past the last. It takes no memory.
+/// Returns the name of an instance's process, or nothing past the last. Never allocates.
 pub fn process_name(network: &Network, instance: usize) -> &str
     ensures { result.now ≡ process_name network.now instance }
 {

@@ -14,7 +14,7 @@ use std::io::Write;
 use std::marker::Brand;
 use std::sync::ledger::{Blank, Ledger};
 
-/// Writes the line of a stream that has these tokens more, and nothing where there are none; and counts the writes.
+/// Writes the line of a stream with these new tokens, or nothing if there are none, and counts the writes.
 fn news_counted<W: Write, L: Ledger>(
     writer: &mut W,
     network: &Network,
@@ -50,7 +50,7 @@ fn news_opened<W: Write, L: Ledger>(
     news_counted(writer, network, line, tokens, &mut writes)
 }
 
-/// Writes what is new on a stream: a line with its heading, as in a report, and these values, or nothing where there are
+/// Writes what is new on a stream: a line with its heading, as in a report, and these values, or nothing if there are
 /// none. It doesn't flush. After a fault a prefix of it went out.
 pub fn write_news<W: Write>(
     writer: &mut W,

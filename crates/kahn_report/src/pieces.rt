@@ -1,4 +1,4 @@
-//! The lines of streams, cut into pieces about as long as one another.
+//! The lines of streams, cut into pieces of about the same length.
 
 ghost use Rattle.std.specs.Prelude.{◌≡◌, ◌+◌, ◌<◌, ◌≤◌, ◌∷◌, ◌++◌, length, flat_map, All, IfOk, OnOk};
 ghost use Rattle.kahn_streams.specs.Written.{line_feed, Writes};
@@ -73,12 +73,12 @@ pub(crate) fn put_piece<W: Write, L: Ledger>(
     }
 }
 
-/// How long the line of a stream is: a value counts one, and what it begins with another.
+/// Returns the length of a stream's line: 1 for each value, and 1 for what it begins with.
 fn weight(stream: &Stream) -> usize {
     stream.tokens.len().saturating_add(1)
 }
 
-/// How long the lines of streams are together.
+/// Returns the length of the lines of streams together.
 pub(crate) fn weight_of(streams: &[Stream]) -> usize {
     let mut sum: usize = 0;
     for stream in streams {
@@ -87,7 +87,7 @@ pub(crate) fn weight_of(streams: &[Stream]) -> usize {
     sum
 }
 
-/// How many lines at the front are no longer together than that.
+/// Returns how many of the first lines are together no longer than `most`.
 fn together(streams: &[Stream], most: usize) -> usize
     ensures { result ≤ length streams.now }
 {
@@ -114,7 +114,7 @@ fn add<'a>(
     Ok(())
 }
 
-/// How many of the values of a line each of its parts has: as many as the others, and no more than that.
+/// Returns how many values each part of a line has: at most `most`, and as many as the others.
 fn part_size(values: usize, most: usize) -> usize
     requires { 0 < most }
     ensures { 0 < result }
@@ -122,7 +122,7 @@ fn part_size(values: usize, most: usize) -> usize
     values.div_ceil(values.div_ceil(most).max(1)).max(1)
 }
 
-/// Adds the pieces of one line, of so many values each at most.
+/// Adds the pieces of one line, each of at most `most` values.
 fn add_parts<'a>(
     network: &Network,
     pieces: &mut Vec<Piece<'a>>,
@@ -145,7 +145,7 @@ fn add_parts<'a>(
     add(network, pieces, Piece::Closing(rest))
 }
 
-/// Adds what comes first of lines: as many as are short together, or else the pieces of one. Gives the lines that are left.
+/// Adds the first of the lines: as many as are short together, or else the pieces of one. Returns the lines that are left.
 fn add_first<'a>(
     network: &Network,
     pieces: &mut Vec<Piece<'a>>,
@@ -168,7 +168,7 @@ fn add_first<'a>(
     Ok(rest)
 }
 
-/// The pieces of the lines of streams, each of about so many values.
+/// Cuts the lines of streams into pieces, each of about `most` values.
 pub(crate) fn pieces_of<'a>(
     alloc: Global,
     network: &Network,

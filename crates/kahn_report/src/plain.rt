@@ -26,8 +26,8 @@ fn plain_opened<W: Write, L: Ledger>(
     put_values::<Lined, _, _>(writer, tokens, &mut writes)
 }
 
-/// Writes the values of tokens, each on a line of its own, and nothing where there are none. It doesn't flush. After a fault a
-/// prefix of the text went out. It takes no memory.
+/// Writes the values of tokens, each on a line of its own, and nothing if there are none. It doesn't flush. After a fault a
+/// prefix of the text went out. Never allocates.
 pub fn write_plain<W: Write>(writer: &mut W, tokens: &[Carried]) -> Result<(), WriteFault>
     ensures { Writes (W.contents writer.old) (W.contents writer.new) result (plain_text (map token_value tokens.now)) }
 {

@@ -20,7 +20,7 @@ pub enum ReadFault {
     /// There are more bytes than the limit.
     #[error("text is too long")]
     TooLong,
-    /// The bytes are no text.
+    /// The bytes aren't UTF-8.
     #[error("is not UTF-8")]
     NotUtf8,
     /// Memory was refused.
@@ -57,7 +57,7 @@ pub fn read_counted<R: Read, L: Ledger>(
     Err(ReadFault::TooLong)
 }
 
-/// The text of bytes.
+/// Returns the text of bytes.
 fn text_of(bytes: Vec<u8>) -> Result<String, ReadFault>
     ensures { MatchResult result (λ text. string_bytes text ≡ bytes.items) (λ fault. (fault ≡ ReadFault.NotUtf8) × ¬ IsUtf8 bytes.items) }
 {

@@ -1,4 +1,4 @@
-//! The report text, put together by several threads.
+//! The report text, formatted by several threads.
 
 ghost use Rattle.std.specs.Prelude.{◌≡◌, ℕ, ◌+◌, ◌<◌, ◌≤◌, length, flat_map, All, IfOk, IfSome, slice_index_or};
 ghost use Rattle.kahn_streams.specs.Written.{Writes};
@@ -18,13 +18,17 @@ use std::sync::ledger::{Blank, Ledger};
 use std::thread;
 use std::thread::{Threads, available_parallelism};
 
-/// How many values a thread puts into text before they are written.
-const TOGETHER: usize = 65536;
+/// A report of no more values is short: one thread writes it.
+const SHORT: usize = 65536;
+
+/// How many values a thread formats before they are written. A thread is started anew for each piece, which takes as long as some
+/// thousand values, and each but the last line of a piece is whole.
+const TOGETHER: usize = 262144;
 
 /// Room for a piece of that many values, each of 20 bytes at most and a space.
 const ROOM: usize = 21 * TOGETHER;
 
-/// Opens a count, and puts a piece into text.
+/// Opens a count, and formats a piece.
 fn text_opened<L: Ledger>(
     alloc: Global,
     blank: Blank,
@@ -47,7 +51,7 @@ fn text_opened<L: Ledger>(
     }
 }
 
-/// The text of a piece, or nothing where memory was refused.
+/// Formats a piece; None if memory was refused.
 fn text_of(alloc: Global, network: &Network, piece: Piece<'_>) -> Option<Vec<u8>>
     requires { IsPiece network.now piece }
     ensures { IsPieceText network.now piece.entry result }
@@ -55,7 +59,7 @@ fn text_of(alloc: Global, network: &Network, piece: Piece<'_>) -> Option<Vec<u8>
     text_opened::<Brand>(alloc, Blank::new(1), network, piece)
 }
 
-/// The texts of pieces, each by a thread of its own where one can be had.
+/// Formats pieces, each in a thread of its own if one can be started.
 fn texts_of<R: Threads + Sync>(
     rt: &R,
     alloc: Global,
@@ -73,7 +77,7 @@ fn texts_of<R: Threads + Sync>(
     )
 }
 
-/// Writes a piece, of which the text is at hand or not.
+/// Writes a piece, whose text may be at hand.
 fn put_text<W: Write, L: Ledger>(
     writer: &mut W,
     network: &Network,
@@ -92,7 +96,7 @@ fn put_text<W: Write, L: Ledger>(
     }
 }
 
-/// Writes pieces, of which the first texts are at hand.
+/// Writes pieces; the texts of the first ones are at hand.
 fn put_texts<W: Write, L: Ledger>(
     writer: &mut W,
     network: &Network,
@@ -111,7 +115,7 @@ fn put_texts<W: Write, L: Ledger>(
     Ok(())
 }
 
-/// Writes pieces, put into text at the same time.
+/// Writes pieces, formatted at the same time.
 fn put_together<R: Threads + Sync, W: Write, L: Ledger>(
     rt: &R,
     alloc: Global,
@@ -130,7 +134,7 @@ fn put_together<R: Threads + Sync, W: Write, L: Ledger>(
     }
 }
 
-/// Writes pieces, so many at the same time.
+/// Writes pieces, `threads` of them formatted at the same time.
 fn put_pieces<R: Threads + Sync, W: Write, L: Ledger>(
     rt: &R,
     alloc: Global,
@@ -151,7 +155,7 @@ fn put_pieces<R: Threads + Sync, W: Write, L: Ledger>(
     Ok(())
 }
 
-/// The length of pieces of so much together: as many rounds as are needed, with all threads in each.
+/// Returns the length of each piece of lines of this length: as many rounds as are needed, with all threads in each.
 fn piece_weight(weight: usize, threads: usize) -> usize
     requires { 0 < threads }
     ensures { 0 < result }
@@ -160,7 +164,7 @@ fn piece_weight(weight: usize, threads: usize) -> usize
     weight.div_ceil(rounds).div_ceil(threads).max(1)
 }
 
-/// Writes the lines of streams by so many threads.
+/// Writes the lines of streams by `threads` threads.
 fn put_streams_by<R: Threads + Sync, W: Write, L: Ledger>(
     rt: &R,
     alloc: Global,
@@ -182,7 +186,7 @@ fn put_streams_by<R: Threads + Sync, W: Write, L: Ledger>(
     }
 }
 
-/// Writes the report text by so many threads and flushes, and counts both: at most one write for each byte, and one flush.
+/// Writes the report text by `threads` threads and flushes, and counts both: at most one write for each byte, and one flush.
 fn several_counted<R: Threads + Sync, W: Write, L: Ledger>(
     rt: &R,
     alloc: Global,
@@ -229,9 +233,9 @@ fn several_opened<R: Threads + Sync, W: Write, L: Ledger>(
     several_counted(rt, alloc, writer, network, answer, threads, &mut writes)
 }
 
-/// Writes what `write_report` writes, by so many threads, one at least: they put the values into text, and the caller's thread,
-/// which is one of them, writes. Where a thread can't be had the others do its part, and where memory is refused the values are
-/// written as they come, so neither is told.
+/// Writes what `write_report` writes, by `threads` threads, at least one: they format the values, and the caller's thread,
+/// which is one of them, writes. If a thread can't be started the others do its part, and if memory is refused the values are
+/// written as they come, so neither is reported.
 pub fn write_report_by<R: Threads + Sync, W: Write>(
     rt: &R,
     alloc: Global,
@@ -247,11 +251,12 @@ pub fn write_report_by<R: Threads + Sync, W: Write>(
     several_opened::<R, W, Brand>(rt, alloc, writer, Blank::new(1), network, answer, threads)
 }
 
-/// How many threads write the report of a run by so many workers: no more than run side by side, and one where it is short.
+/// Returns how many threads write the report of a run by `workers` workers: no more than run side by side, and one if it is
+/// short.
 fn threads_for<R: Threads>(rt: &R, workers: u64, answer: &Answer) -> usize
     ensures { 0 < result }
 {
-    if workers <= 1 || weight_of(&answer.streams) <= TOGETHER {
+    if workers <= 1 || weight_of(&answer.streams) <= SHORT {
         return 1;
     }
     match available_parallelism(rt) {
@@ -260,7 +265,7 @@ fn threads_for<R: Threads>(rt: &R, workers: u64, answer: &Answer) -> usize
     }
 }
 
-/// Writes the report of a run by so many workers, by as many threads where it is long.
+/// Writes the report of a run by `workers` workers, by as many threads if it is long.
 pub(crate) fn write_for<R: Threads + Sync, W: Write>(
     rt: &R,
     alloc: Global,

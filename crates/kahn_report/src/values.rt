@@ -18,7 +18,7 @@ pub(crate) enum ValuesFault {
     NoMemory,
 }
 
-/// The number that a word spells: an optional minus and digits, in the range of 64 bits.
+/// Returns the number that a word spells: an optional minus and digits, in the range of 64 bits.
 fn number_of(word: &str) -> Option<i64>
     ensures { MatchOption result ((number : ℤ) → IsValue word.now (Integer number) → ⊥) (λ number. IsValue word.now (Integer number)) }
 {
@@ -28,7 +28,7 @@ fn number_of(word: &str) -> Option<i64>
     word.parse::<i64>().ok()
 }
 
-/// The number that bytes spell.
+/// Returns the number that bytes spell.
 fn number_in(word: &[u8]) -> Option<i64>
     ensures { MatchOption result ((number : ℤ) → IsValue word.now (Integer number) → ⊥) (λ number. IsValue word.now (Integer number)) }
 {
@@ -38,7 +38,7 @@ fn number_in(word: &[u8]) -> Option<i64>
     }
 }
 
-/// The value that a word spells.
+/// Returns the value that a word spells.
 fn value_of(word: &[u8]) -> Option<Value>
     ensures { MatchOption result ((value : Value) → IsValue word.now value → ⊥) (λ value. IsValue word.now value) }
 {

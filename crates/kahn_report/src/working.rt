@@ -16,7 +16,7 @@ use std::sync::Wait;
 use std::thread::Threads;
 use thiserror::Error;
 
-/// Why no report was written, or not the whole of it. After each of them but `Write` nothing was written.
+/// Why no report was written, or not the whole of it. But for `Write`, nothing was written.
 #[derive(Clone, Copy, Debug, PartialEq, Eq, Drop, Error)]
 pub enum WorkFault {
     /// The program text isn't of the language.
@@ -25,7 +25,7 @@ pub enum WorkFault {
     /// The program isn't well wired.
     #[error("{0}")]
     Check(CheckFault),
-    /// The input text stands for no input of the network.
+    /// The input text describes no input of the network.
     #[error("{0}")]
     Text(TextFault),
     /// The run was refused.
@@ -58,8 +58,8 @@ impl From<TextFault> for WorkFault {
     }
 }
 
-/// The network of a program text, which is checked. It refuses with `Syntax` where the text isn't of the language, and then
-/// with `Check` where the program isn't well wired.
+/// Parses and checks a program text. Fails with `Syntax` if the text isn't of the language, and then with `Check` if the
+/// program isn't well wired.
 pub fn checked(alloc: Global, program: &str) -> Result<Network, WorkFault>
     ensures { MatchResult result (IsChecked program.now) (IsUnchecked program.now) }
 {
@@ -70,7 +70,7 @@ pub fn checked(alloc: Global, program: &str) -> Result<Network, WorkFault>
     }
 }
 
-// The answer of a network for an input text.
+// Runs a network on an input text.
 fn answered<R: Threads + Wait + Sync, G: Gate + Sync>(
     rt: &R,
     alloc: Global,
@@ -89,10 +89,10 @@ fn answered<R: Threads + Wait + Sync, G: Gate + Sync>(
 }
 
 /// Reads a program and an input, runs the program, and writes the report of its answer: from the bytes of the texts to
-/// the bytes of the report. Nothing is written before the answer stands; where a write fails a prefix of the report went
-/// out. As many threads as work put a long report into text.
+/// the bytes of the report. Nothing is written before the answer is complete; if a write fails, a prefix of the report
+/// went out. A long report is formatted by as many threads as work.
 ///
-/// The verdict, where it isn't `Memory`, is `Finished` exactly where the size of the solution is at most the bound.
+/// The verdict, if it isn't `Memory`, is `Finished` exactly if the size of the solution is at most the bound.
 ///
 /// Faults are found in this order: of the program text, of the network, of the input text, of the run, of the writer.
 pub fn work<R: Threads + Wait + Sync, G: Gate + Sync, W: Write>(

@@ -70,7 +70,7 @@ fn put_stream<W: Write, L: Ledger>(
     put_tokens(writer, network, stream.line, &stream.tokens, writes)
 }
 
-/// Says how an instance stood.
+/// Returns the word for an instance's state.
 fn outcome_word(outcome: Outcome) -> &'static str
     ensures { result.now ≡ outcome_word outcome }
 {
@@ -83,7 +83,7 @@ fn outcome_word(outcome: Outcome) -> &'static str
     }
 }
 
-/// The name of the channel on which an instance waits, or nothing.
+/// Returns the name of the channel on which an instance waits, or nothing.
 fn waited_name(network: &Network, outcome: Outcome) -> &str
     ensures { result.now ≡ waited_name network.now outcome }
 {
@@ -190,8 +190,9 @@ pub(crate) fn put_ends<W: Write, L: Ledger>(
     Ok(())
 }
 
-/// Writes the report text and flushes, and counts both: at most one write for each byte, and one flush.
-fn write_counted<W: Write, L: Ledger>(
+/// Writes the report text and flushes, and counts both: at most one write for each byte, and one flush. After a fault a prefix of it
+/// went out.
+pub fn write_counted<W: Write, L: Ledger>(
     writer: &mut W,
     network: &Network,
     answer: &Answer,

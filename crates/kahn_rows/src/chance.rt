@@ -1,4 +1,4 @@
-//! The rows once more, by workers, quanta and bounds that look like chance.
+//! The rows again, with pseudo-random workers, quanta and bounds.
 
 use crate::gates::Through;
 use crate::rows::{ROWS, Row, config, events_of, is_stopped, reported};
@@ -8,7 +8,7 @@ use std::sync::Wait;
 use std::test::Fail;
 use std::thread::Threads;
 
-// Whether a report is the whole one where the bound suffices for its events, and else one of a run that was stopped.
+// Whether a report is the whole one, if the bound suffices for its events, and else that of a stopped run.
 fn agrees(whole: &str, bound: u64, verdict: Verdict, report: &str) -> bool {
     if events_of(whole) <= bound {
         verdict == Verdict::Finished && report == whole
@@ -17,19 +17,20 @@ fn agrees(whole: &str, bound: u64, verdict: Verdict, report: &str) -> bool {
     }
 }
 
-/// The next of numbers that look like chance, and are the same whenever the test is run.
+/// Returns the next pseudo-random number, the same whenever the test is run.
 pub fn shuffled(number: u64) -> u64 {
     number
         .wrapping_mul(6364136223846793005)
         .wrapping_add(1442695040888963407)
 }
 
-/// A number below this one, or 0.
+/// Returns a number below `limit`, or 0.
 pub fn below(limit: u64, number: u64) -> u64 {
     (number >> 33).checked_rem(limit).unwrap_or(0)
 }
 
-// Runs a row by workers, a quantum and a bound that this number picks: whether its report is the whole one, or is stopped.
+// Runs a row with workers, a quantum and a bound that `number` picks. Returns whether its report is the whole one, or that
+// of a stopped run.
 fn agrees_at<R: Threads + Wait + Sync>(
     rt: &R,
     alloc: Global,
@@ -47,7 +48,7 @@ fn agrees_at<R: Threads + Wait + Sync>(
     Ok(agrees(whole, bound, verdict, report.as_str()))
 }
 
-// Whether a row agrees at 40 numbers, from the one behind this one on.
+// Whether a row agrees at 40 numbers, from the one after `number` on.
 fn agrees_at_random<R: Threads + Wait + Sync>(
     rt: &R,
     alloc: Global,

@@ -1,4 +1,4 @@
-//! What is told of each fault, and the status.
+//! What is reported of each fault, and the status.
 
 use kahn_check::CheckFault;
 use kahn_fault::{Fault, fault_line, status};
@@ -9,7 +9,7 @@ use kahn_syntax::{Span, SyntaxFault, What};
 use std::alloc::Global;
 use std::test::Fail;
 
-// Two lines of a program; the span below stands at the third byte of the second.
+// Two lines of a program; the span below is at the third byte of the second.
 const PROGRAM: &str = "begin\n  X end";
 
 const SPAN: Span = Span { from: 8, to: 9 };
@@ -240,14 +240,14 @@ static UNREAD: [(ReadFault, &str, &str, &str, u8); 4] = [
     ),
 ];
 
-// The line and the status of a fault.
+// Returns the line and the status of a fault.
 fn told(alloc: Global, fault: Fault) -> Result<(String, u8), Fail> {
     let mut written = Vec::new(alloc);
     fault_line(&fault, PROGRAM, &mut written)?;
     Ok((String::from_utf8(written)?, status(&Err(fault))))
 }
 
-// Whether the fault has this line and this status, and is shown in the words of the line behind its place in the program.
+// Whether the fault has this line and this status, and is shown in the words of the line after its place in the program.
 fn tells(alloc: Global, fault: Fault, line: &str, number: u8) -> Result<bool, Fail> {
     let shown = if line.starts_with("kahn: 2:3: ") {
         format!(in alloc; "kahn: 2:3: {fault}\n")?

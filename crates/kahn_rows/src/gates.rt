@@ -1,10 +1,11 @@
-//! Gates that hold one process until another has come to a quantum: so many workers run processes at the same time.
+//! Gates that hold one process until another has come to a quantum: so several workers run processes at the same time.
 
 use crate::held::{begun, network_of};
 use crate::programs::{HANDED_ON, TWO_COUNTS};
 use crate::rows::{AMPLE, config, reported};
 use crossbeam_utils::Backoff;
-use kahn_pool::{Gate, Verdict};
+use kahn_pool::{Flow, Gate, Verdict};
+use kahn_streams::Input;
 use std::alloc::{AllocError, Global};
 use std::sync::atomic::{AtomicU64, Ordering};
 use std::test::Fail;
@@ -20,7 +21,7 @@ impl Gate for Through {
 // How many turns a gate waits at most.
 const TURNS: u32 = 1_000_000;
 
-/// Waits until so many entries were counted. Whether that came before turns ran out.
+/// Waits until `wanted` entries were counted. Returns whether that came before turns ran out.
 pub(crate) fn wait_for(entries: &AtomicU64, wanted: u64) -> bool {
     let backoff = Backoff::new();
     for _ in 0..TURNS {
@@ -32,8 +33,8 @@ pub(crate) fn wait_for(entries: &AtomicU64, wanted: u64) -> bool {
     false
 }
 
-// A gate that counts how often each of two instances was entered, and how often one was let go since turns ran out. It
-// holds the first quantum of one instance until the other has come to the one of that number, or, where none is named, each
+// A gate that counts how often each of two instances was entered, and how often one was let go because turns ran out. It
+// holds the first quantum of one instance until the other has come to the one of that number, or, if none is named, each
 // quantum of each until the other has come to its own of that number.
 #[derive(Drop)]
 struct Holding {
@@ -53,14 +54,14 @@ impl Holding {
         }
     }
 
-    // Waits until an instance was entered so often, or turns run out.
+    // Waits until an instance was entered `wanted` times, or turns run out.
     fn wait_for(&self, entries: &AtomicU64, wanted: u64) {
         if !wait_for(entries, wanted) {
             self.late.fetch_add(1, Ordering::SeqCst);
         }
     }
 
-    // How often each was entered, and how often turns ran out.
+    // Returns how often each was entered, and how often turns ran out.
     fn told(&self) -> (u64, u64, u64) {
         (
             self.first.load(Ordering::SeqCst),
@@ -168,8 +169,24 @@ fn one_worker_takes_turns(rt: HostRuntime) -> Result<(), Fail> {
     Ok(())
 }
 
-// A gate that lets nobody go before so many have come, or turns ran out. It tells how often each of 16 instances came, as
-// digits to the base 16, how many were there at the same time, and how often turns ran out.
+// So does a run that is fed as it goes.
+#[test]
+fn a_flow_takes_turns(rt: HostRuntime) -> Result<(), Fail> {
+    let alloc = rt.alloc();
+    let network = network_of(alloc, TWO_COUNTS)?;
+    let input = Input::none(alloc, &network)?;
+    let config = config(alloc, 1, 2, AMPLE, None)?;
+    let mut flow = Flow::start(alloc, &network, input, config)?;
+    let gate = Ordered {
+        came: AtomicU64::new(0),
+    };
+    assert_eq!(rt; flow.resume(0, &gate), Ok(Verdict::Finished));
+    assert_eq!(rt; gate.came.load(Ordering::SeqCst), 0b01_10_01_10_01_10_01_10);
+    Ok(())
+}
+
+// A gate that lets nobody go before enough have come, or turns ran out. It reports how often each of 16 instances came,
+// as digits to the base 16, how many were there at the same time, and how often turns ran out.
 #[derive(Drop)]
 struct Meeting {
     wanted: u64,

@@ -17,12 +17,12 @@ use std::sync::Wait;
 use std::test::Fail;
 use std::thread::Threads;
 
-/// The network of a program text.
+/// Returns the network of a program text.
 pub fn network_of(alloc: Global, program: &str) -> Result<Network, Fail> {
     Ok(check(alloc, parse(alloc, program)?)?)
 }
 
-/// A run of a network that is held before its first event, with an input text.
+/// Holds a run of a network before its first event, with an input text.
 pub fn begun<'n>(
     alloc: Global,
     network: &'n Network,
@@ -53,7 +53,7 @@ fn has_its_lines(network: &Network, answer: &Answer) -> bool
         .all(|stream| is_line(network, stream.line))
 }
 
-/// The report of a held run of the network, or nothing where it isn't settled.
+/// Returns the report of a held run of the network, or nothing if it isn't settled.
 pub fn report_of(alloc: Global, network: &Network, held: &Held) -> Result<String, Fail> {
     let mut written = Vec::new(alloc);
     if held.settled() {
@@ -65,17 +65,17 @@ pub fn report_of(alloc: Global, network: &Network, held: &Held) -> Result<String
     Ok(String::from_utf8(written)?)
 }
 
-// What is asked of a held run, and what it says to it.
+// A call of a held run, and its result.
 #[derive(Clone, Copy)]
 enum Call {
-    // So many events more.
+    // Allows this many events more.
     Resume(u64, Result<Verdict, HeldFault>),
-    // These values for a channel, so often.
+    // Feeds these values to a channel, this many times.
     Feed(&'static str, &'static [Value], usize, Result<(), FeedFault>),
 }
 
 // What the row shows, its program, its input, the channel that is watched and the first bound. Then calls, each with the
-// report that stands after it, or nothing where none does.
+// report after it, or nothing if there is none.
 type Row = (
     &'static str,
     &'static str,
@@ -231,7 +231,7 @@ static ROWS: [Row; 5] = [
     ),
 ];
 
-// The values, so often.
+// Repeats the values.
 fn repeated(alloc: Global, values: &[Value], times: usize) -> Result<Vec<Value>, AllocError> {
     let mut list = Vec::new(alloc);
     for _ in 0..times {
@@ -240,7 +240,7 @@ fn repeated(alloc: Global, values: &[Value], times: usize) -> Result<Vec<Value>,
     Ok(list)
 }
 
-// Whether a held run says to a call what it should.
+// Whether a call of a held run has its result.
 fn says<R: Threads + Wait + Sync>(
     rt: &R,
     alloc: Global,
@@ -256,7 +256,7 @@ fn says<R: Threads + Wait + Sync>(
     }
 }
 
-// The first call of a row to which the run says something else, or after which it has another report.
+// Returns the first call of a row that has another result, or after which the report is another.
 fn first_other<R: Threads + Wait + Sync>(
     rt: &R,
     alloc: Global,
@@ -287,7 +287,7 @@ fn runs_in_parts(rt: HostRuntime) -> Result<(), Fail> {
     Ok(())
 }
 
-// The last values of a list that is turned round, at most so many, from the last one on.
+// Takes at most `most` values from the end of a reversed list, the last one first.
 fn piece(alloc: Global, left: &mut Vec<Value>, most: u64) -> Result<Vec<Value>, AllocError> {
     let mut values = Vec::new(alloc);
     for _ in 0..most {
@@ -299,7 +299,7 @@ fn piece(alloc: Global, left: &mut Vec<Value>, most: u64) -> Result<Vec<Value>, 
     Ok(values)
 }
 
-// Feeds a piece of each list, of at most so many values.
+// Feeds a piece of each list, of at most `most` values.
 fn feed_pieces(
     alloc: Global,
     held: &mut Held,
@@ -312,7 +312,7 @@ fn feed_pieces(
     Ok(())
 }
 
-// The entries of an input text for a network, each list turned round.
+// Returns the entries of an input text for a network, each list reversed.
 fn turned(
     alloc: Global,
     network: &Network,
@@ -328,7 +328,8 @@ fn turned(
 // A program, its input, and the channel that is watched.
 type Whole<'a> = (&'a str, &'a str, Option<&'a str>);
 
-// Feeds a piece of each list and runs a part, both as large as this number picks: whether the streams begin those of the whole report.
+// Feeds a piece of each list and runs a part, both as large as `number` picks. Returns whether the streams begin those of the whole
+// report.
 fn begins_whole<R: Threads + Wait + Sync>(
     rt: &R,
     alloc: Global,
@@ -343,7 +344,7 @@ fn begins_whole<R: Threads + Wait + Sync>(
     Ok(streams_begin(whole, report_of(alloc, network, held)?.as_str()))
 }
 
-// Feeds what is left and runs to the end: whether the report is the whole one.
+// Feeds what is left and runs to the end. Returns whether the report is the whole one.
 fn ends_whole<R: Threads + Wait + Sync>(
     rt: &R,
     alloc: Global,
@@ -358,8 +359,8 @@ fn ends_whole<R: Threads + Wait + Sync>(
     Ok(verdict == Verdict::Finished && report.as_str() == whole)
 }
 
-// Runs a program in parts, and feeds its input in pieces: this number picks where it is cut. Whether each answer has streams
-// that begin those of the whole report, and the last answer has that report.
+// Runs a program in parts, and feeds its input in pieces; `number` picks where it is cut. Returns whether each answer has
+// streams that begin those of the whole report, and the last answer has that report.
 fn agrees_in_parts<R: Threads + Wait + Sync>(
     rt: &R,
     alloc: Global,
@@ -383,7 +384,7 @@ fn agrees_in_parts<R: Threads + Wait + Sync>(
     ends_whole(rt, alloc, &network, &mut held, &mut entries, whole)
 }
 
-// An input text with the numbers below this one on a channel.
+// Makes an input text with the numbers below `number` on a channel.
 fn numbers(alloc: Global, number: u64) -> Result<String, AllocError> {
     let mut text = String::from_str(alloc, "A:")?;
     for value in 0..number {

@@ -1,4 +1,4 @@
-//! Tests of runs, from the workers up to the bytes of a report, and of what is told of faults.
+//! Tests of runs, from the workers up to the bytes of a report, and of what is reported of faults.
 #![tactic(auto)]
 
 #[cfg(test)]

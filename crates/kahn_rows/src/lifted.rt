@@ -1,4 +1,4 @@
-//! A token that was answered before its run was fed is lifted to the longer input.
+//! A token of an answer is lifted to the longer input, after the run was fed.
 
 ghost use Rattle.std.specs.Prelude.{◌≡◌, ℕ, Some, slice_get};
 ghost use Rattle.kahn_streams.specs.Answers.{HasStream};
@@ -14,7 +14,7 @@ use kahn_pool::{Answer, Held, Open};
 use kahn_streams::{Input, Line, Token, Value};
 use std::test::Fail;
 
-// The first token of the first stream, as a token of an input whose lists those of the token's begin.
+// Returns the first token of the first stream as a token of a longer input.
 fn first_lifted(answer: &Answer, longer: &Input) -> Option<Token>
     requires { (s : StreamOf) (k : ℕ) (t : TokenOf) → HasStream answer.now s → slice_get s.tokens.items k ≡ Some t → (t.line ≡ s.line) × (t.place ≡ k) × AreInputsExtended (inputs_of t.input.value) (inputs_of longer.now) }
 {

@@ -3,7 +3,7 @@
 use crate::programs::DOUBLE;
 use kahn_check::check;
 use kahn_pool::{Verdict, run_one};
-use kahn_report::{read_input, write_report};
+use kahn_report::{read_input, right_lines, write_report};
 use kahn_syntax::parse;
 use std::test::Fail;
 
@@ -14,6 +14,7 @@ fn doubling_by_one_thread(rt: HostRuntime) -> Result<(), Fail> {
     let input = read_input(alloc, "A: 1 2 3", &network)?;
     let answer = run_one(alloc, &network, input, 100)?;
     let mut written = Vec::new(alloc);
+    right_lines();
     write_report(&mut written, &network, &answer)?;
     assert_eq!(rt;
         written.as_slice(),

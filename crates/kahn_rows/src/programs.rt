@@ -58,7 +58,7 @@ Begin
 End;
 ";
 
-/// The same with `f` limited to four turns.
+/// The same network with `f` limited to four turns.
 pub const FOUR_TURNS: &str = "\
 Begin
   Integer channel X, Y, Z, T1, T2;
@@ -197,7 +197,7 @@ begin integer channel X; integer output channel W;
 end
 ";
 
-/// Turns logical values round.
+/// Negates logical values.
 pub const INVERT: &str = "\
 begin logical input channel A; logical output channel B;
   process inv(logical in U; logical out W);

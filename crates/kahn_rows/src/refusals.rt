@@ -1,4 +1,4 @@
-//! Work that is refused: the fault, what is told of it, and that nothing was written before.
+//! Work that is refused: the fault, what is reported of it, and that nothing was written before.
 
 use crate::programs::{
     COUNT, DOUBLE, INVERT, NO_LOGICAL_WRITER, NO_WRITER, TWO_READERS, TWO_WRITERS,
@@ -23,7 +23,7 @@ type Row = (
 );
 
 static ROWS: [Row; 9] = [
-    // what comes first is told: the text, the network, the input, and then the run
+    // the first fault is reported: of the text, the network, the input, and then the run
     (
         "",
         "Q: 1",

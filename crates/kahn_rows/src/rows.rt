@@ -12,10 +12,10 @@ use std::sync::Wait;
 use std::test::Fail;
 use std::thread::Threads;
 
-/// A bound that no run of the rows reaches which comes to an end.
+/// A bound that no run of the rows reaches if it comes to an end.
 pub const AMPLE: u64 = 1_000_000;
 
-/// How a run is set up.
+/// Makes a configuration of a run.
 pub fn config(
     alloc: Global,
     workers: u64,
@@ -35,7 +35,7 @@ pub fn config(
     })
 }
 
-/// The verdict and the report of a program.
+/// Returns the verdict and the report of a program.
 pub fn reported<R: Threads + Wait + Sync, G: Gate + Sync>(
     rt: &R,
     alloc: Global,
@@ -343,7 +343,7 @@ pub static ROWS: [Row; 30] = [
     ),
 ];
 
-// Whether a row has its verdict and its report by so many workers and this quantum.
+// Whether a row has its verdict and its report by `workers` workers and this quantum.
 fn reports_so<R: Threads + Wait + Sync>(
     rt: &R,
     alloc: Global,
@@ -378,7 +378,7 @@ fn reports(rt: HostRuntime) -> Result<(), Fail> {
     Ok(())
 }
 
-// The number at the end of a line.
+// Returns the number at the end of a line.
 fn last_number(line: &str) -> u64 {
     let mut words = line.rsplit(' ');
     match words.next() {
@@ -387,7 +387,7 @@ fn last_number(line: &str) -> u64 {
     }
 }
 
-/// The events of all instances.
+/// Returns the events of all instances.
 pub fn events_of(report: &str) -> u64 {
     let mut sum = 0u64;
     for line in report.lines() {
@@ -398,7 +398,7 @@ pub fn events_of(report: &str) -> u64 {
     sum
 }
 
-/// Whether each line before the first end begins the line that stands there in the whole report, up to the end of a value.
+/// Whether each line before the first end begins the same line of the whole report, up to the end of a value.
 pub fn streams_begin(whole: &str, report: &str) -> bool {
     for (all, line) in whole.lines().zip(report.lines()) {
         if line.starts_with("end ") {
@@ -412,7 +412,7 @@ pub fn streams_begin(whole: &str, report: &str) -> bool {
     false
 }
 
-/// Whether a report is of a run that did just as many events as its bound, and whose streams begin those of the whole.
+/// Whether a report is of a run that did exactly as many events as its bound, and whose streams begin those of the whole.
 pub fn is_stopped(whole: &str, bound: u64, verdict: Verdict, report: &str) -> bool {
     let last = report.lines().last().unwrap_or("");
     verdict == Verdict::Bound
@@ -422,7 +422,7 @@ pub fn is_stopped(whole: &str, bound: u64, verdict: Verdict, report: &str) -> bo
         && streams_begin(whole, report)
 }
 
-// What the sample without an end prints first.
+// Returns what the sample without an end prints first.
 fn alternating(alloc: Global) -> Result<String, AllocError> {
     let mut text = String::from_str(alloc, "print 1 f:")?;
     for _ in 0..500u64 {

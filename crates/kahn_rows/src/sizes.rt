@@ -8,7 +8,7 @@ use std::sync::atomic::{AtomicU64, Ordering};
 use std::test::Fail;
 use std::thread::available_parallelism;
 
-// A chain of so many copies after a count to this number, with channels X0 and so on between.
+// Makes a chain of `copies` copies after a count to `number`, with channels X0 and so on between.
 fn chain(alloc: Global, copies: u64, number: u64) -> Result<String, AllocError> {
     let mut text = String::from_str(alloc, "begin integer channel X0")?;
     for channel in 1..copies {
@@ -34,7 +34,7 @@ fn chain(alloc: Global, copies: u64, number: u64) -> Result<String, AllocError> 
     Ok(text)
 }
 
-// The numbers below this one, and the given ends.
+// Makes a report of the numbers below `number`, and the given ends.
 fn counted(alloc: Global, number: u64, ends: &str) -> Result<String, AllocError> {
     let mut text = String::from_str(alloc, "W:")?;
     for value in 0..number {
@@ -81,7 +81,7 @@ fn a_chain_of_copies(rt: HostRuntime) -> Result<(), Fail> {
     Ok(())
 }
 
-// Processes that count to 200,000 by themselves, and send that.
+// Makes processes that count to 200,000 by themselves, and send that.
 fn farm(alloc: Global, processes: u64) -> Result<String, AllocError> {
     let mut text = String::from_str(alloc, "begin integer output channel W0")?;
     for channel in 1..processes {
@@ -101,8 +101,8 @@ fn farm(alloc: Global, processes: u64) -> Result<String, AllocError> {
     Ok(text)
 }
 
-// A gate that says that it is open: only workers enter it, and not who runs all processes alone. It holds each until as many are in
-// it as are wanted, or turns run out, and counts how often that many were in it, or more.
+// A gate that says that it is open: only workers enter it, and not the thread that runs all processes alone. It holds each until as
+// many are in it as are wanted, or turns run out, and counts how often that many were in it, or more.
 #[derive(Drop)]
 struct Tally {
     wanted: u64,
@@ -121,7 +121,7 @@ impl Tally {
         }
     }
 
-    // Whether as many met as are wanted, and how often more did.
+    // Returns whether as many met as are wanted, and how often more did.
     fn told(&self) -> (bool, u64) {
         (
             self.met.load(Ordering::SeqCst) > 0,
@@ -148,7 +148,7 @@ impl Gate for Tally {
     }
 }
 
-// Copies, or if there are none, so many processes that count.
+// Makes copies, or if there are none, `number` processes that count.
 fn network(alloc: Global, copies: u64, number: u64) -> Result<String, AllocError> {
     if copies == 0 {
         farm(alloc, number)
@@ -192,7 +192,7 @@ fn as_many_come_as_have_work(rt: HostRuntime) -> Result<(), Fail> {
     Ok(())
 }
 
-// 256 instances of a process with no parameters and an empty body.
+// Makes 256 instances of a process with no parameters and an empty body.
 fn instances(alloc: Global) -> Result<String, AllocError> {
     let mut text = String::from_str(alloc, "begin process p(); begin end; p()")?;
     for _ in 1..256u64 {
@@ -202,7 +202,7 @@ fn instances(alloc: Global) -> Result<String, AllocError> {
     Ok(text)
 }
 
-// 1,024 channels, and 256 instances, each of which reads four of them and writes the same four.
+// Makes 1,024 channels, and 256 instances, each of which reads four of them and writes the same four.
 fn loops(alloc: Global) -> Result<String, AllocError> {
     let mut text = String::from_str(alloc, "begin integer channel X0")?;
     for channel in 1..1024u64 {
@@ -221,7 +221,7 @@ fn loops(alloc: Global) -> Result<String, AllocError> {
     Ok(text)
 }
 
-// The report of 256 instances of a process that end before their first event.
+// Makes the report of 256 instances of a process that end before their first event.
 fn all_ended(alloc: Global, process: &str) -> Result<String, AllocError> {
     let mut text = String::new(alloc);
     for instance in 1..257u64 {

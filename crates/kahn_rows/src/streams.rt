@@ -10,7 +10,8 @@ use kahn_check::CheckFault;
 use kahn_fault::{Fault, fault_line};
 use kahn_pool::{Answer, Open, Verdict, run_one};
 use kahn_report::{
-    ReadFault, WorkFault, WriteFault, read_text, work, write_closing, write_line, write_report_by,
+    ReadFault, WorkFault, WriteFault, read_text, right_lines, work, write_closing, write_line,
+    write_report_by,
 };
 use kahn_streams::{Input, Network};
 use kahn_syntax::Span;
@@ -21,7 +22,7 @@ use std::process::Abort;
 use std::test::Fail;
 use std::thread::Threads;
 
-// A writer that takes one byte a call, and at one call answers an error, or, where none is named, takes no byte.
+// A writer that takes one byte a call, and at one call returns an error, or, if none is named, takes no byte.
 #[derive(Drop)]
 struct Slow {
     taken: Vec<u8>,
@@ -175,10 +176,11 @@ fn several_threads_write_a_report(rt: HostRuntime) -> Result<(), Fail> {
     let alloc = rt.alloc();
     let network = network_of(alloc, COUNT)?;
     let answer = run_one(alloc, &network, Input::none(alloc, &network)?, 100)?;
+    right_lines();
     writes_by_several(&rt, alloc, &network, &answer)
 }
 
-// What a writer took whose calls count, where its flush fails or not, and what each call of a writer said of it.
+// What a counting writer took, if its flush fails and if not, and what each call of a writer said of it.
 #[test]
 fn the_flush_of_each_writer_fails(rt: HostRuntime) -> Result<(), Fail> {
     let alloc = rt.alloc();

@@ -74,7 +74,7 @@ abbrev pub IsDryOn : Network → Histories → ℕ → ℕ → ℕ → Type 0
 IsDryOn N T p e c =
     (q : ℕ) × (actual_at (instance_at N p) q ≡ Reads c) × ((exec_at N e p T).outcome ≡ Dry q) × ((exec_at N e p T).events ≡ e)
 
--- want of memory can leave values where a reader does not come to them
+-- if memory was refused, values may be left that their reader didn't come to
 abbrev pub IsWaiting : Verdict → Network → Histories → ℕ → ℕ → ℕ → Type 0
 IsWaiting Finished N A p e c = IsDryOn N A p e c
 IsWaiting Bound N A p e c = IsDryOn N A p e c
@@ -110,9 +110,9 @@ pub record AreRight (N : Network) (I : Inputs) (bound : ℕ) (v : Verdict) (ends
   -- `events` is the sum, and at most the bound
   pub total : events ≡ sum_by end_events ends
   pub within : events ≤ bound
-  -- where it has finished each end is that of its instance in the solution
+  -- if it has finished, each end is that of its instance in the solution
   pub ended : v ≡ Finished → (p : ℕ) (x : End) → slice_get ends p ≡ Some x → IsEnd N I p x.outcome x.events
-  -- where the bound stopped it, the bound is used up and some instance has a next event
+  -- if the bound stopped it, it is used up and some instance has a next event
   pub bounded : v ≡ Bound → (events ≡ bound) × ((p : ℕ) × (x : End) × (slice_get ends p ≡ Some x) × (x.outcome ≡ More))
 
 pub record IsRight (N : Network) (I : Inputs) (bound : ℕ) (watch : Option ℕ) (a : Answer) : Type 0 where
@@ -123,7 +123,7 @@ pub record IsRight (N : Network) (I : Inputs) (bound : ℕ) (watch : Option ℕ)
       (t.line ≡ s.line) × (t.place ≡ k) × Stands N I s.line k t.value
   -- each token is of this network, and of an input whose lists begin those of this one, so that `Input::lift` takes it
   pub own : (s : Stream) (k : ℕ) (t : Token) → HasStream a s → slice_get s.tokens.items k ≡ Some t → IsOwn N I t
-  -- the values of each stream are the tape of its line, and where the answer has finished the whole of it
+  -- the values of each stream are the tape of its line, and the whole of it if the answer has finished
   pub values : (s : Stream) → HasStream a s → values_of s ≡ run.tapes s.line
   pub whole : a.verdict ≡ Finished → (s : Stream) → HasStream a s → IsWhole N I s.line (values_of s)
 
@@ -140,11 +140,11 @@ pub record AreOne (a b : Answer) : Type 0 where
 abbrev pub IsWithinBound : Network → Inputs → ℕ → Type 0
 IsWithinBound N I bound = (size : ℕ) × HasSize N I size × (size ≤ bound)
 
--- want of memory apart, the verdict is that it finished exactly where the solution is within the bound
+-- unless memory was refused, the verdict is that it finished exactly if the solution is within the bound
 abbrev pub Settles : Network → Inputs → ℕ → Verdict → Type 0
 Settles N I bound v = (v ≡ Memory → ⊥) → ((v ≡ Finished) ↔ IsWithinBound N I bound)
 
--- where want of memory stopped it, the bound isn't used up and some instance has a next event: memory alone was wanting
+-- if refused memory stopped it, the bound isn't used up and some instance has a next event: only memory was lacking
 abbrev pub IsCutShort : ℕ → Answer → Type 0
 IsCutShort bound a = a.verdict ≡ Memory → (a.events < bound) × ((p : ℕ) × (x : End) × HasEndAt a p x × (x.outcome ≡ More))
 
@@ -165,7 +165,7 @@ IsAllowed config = IsInRange config.workers config.quantum config.bound
 abbrev pub IsNamed : Program → ℕ → String Global → Type 0
 IsNamed t c name = slice_get (channel_names t) c ≡ Some (string_bytes name)
 
--- the channel of the name that is to be watched, or none where none is named
+-- the channel of the name that is to be watched, or none if none is named
 abbrev pub IsWatched : Program → Option (String Global) → Option ℕ → Type 0
 IsWatched t None watch = watch ≡ None
 IsWatched t (Some name) None = ⊥
@@ -181,8 +181,8 @@ abbrev pub IsRightRun : Program → Lists → Config → Answer → Type 0
 IsRightRun t lists config a =
     IsAllowed config × ((watch : Option ℕ) × IsWatched t config.watch watch × IsRight (network_of t) (inputs_of lists) config.bound watch a)
 
--- why there is none: first the numbers, then the watched channel, then want of memory, or of a thread for one of several
--- workers; none stalls
+-- why there is none: first the numbers, then the watched channel, then refused memory, or a refused thread of several
+-- workers; no run stalls
 abbrev pub IsUnrun : Program → Config → RunFault → Type 0
 IsUnrun t config fault.BadConfig = IsAllowed config → ⊥
 IsUnrun t config fault.UnknownWatch = IsAllowed config × IsUndeclared t config.watch

@@ -1,4 +1,4 @@
--- Believed. The meaning of a whole by the meanings of its parts, told apart from the continuations.
+-- Believed. The meaning of a whole by the meanings of its parts, without their continuations.
 use Rattle.std.specs.Prelude.{◌≡◌, ℕ, ◌+◌, ◌-◌, ◌++◌, suc}
 use Rattle.kahn_streams.specs.Types.{Value}
 use Rattle.kahn_streams.specs.Syntax.{Expr, Stmt, While, If, Seq, Skip, Repeat}
@@ -18,7 +18,7 @@ go_on n (Dry q) r f = ended_by (Dry q) r
 go_on n (Fault k) r f = ended_by (Fault k) r
 go_on n Cut r f = ended_by Cut r
 
--- first r, and only where it is Got the rest
+-- first r, and the rest only if it is Got
 abbrev pub and_so : {A B : Type 0} → ℕ → Reached A → (A → Script B) → Reached B
 and_so n r f = go_on n r.outcome r f
 
@@ -34,7 +34,7 @@ StatementsCompose B =
     (n k : ℕ) (b : Stmt) (s : Store) (next : Store → Script B) (T : Tapes) →
     play n (script_of k b s next) T ≡ and_so n (play n (script_of k b s Give) T) next
 
--- a loop is a turn, the test, and where it is true the body and the loop again; it is cut where no event is left
+-- a loop is a turn, the test, and if it is true the body and the loop again; it is cut if no event is left
 pub record LoopsUnroll (t : Expr) (b : Stmt) : Type 0 where
   pub while_turn : (n : ℕ) (s : Store) (T : Tapes) →
       exec (suc n) (While t b) s T ≡ after_event (exec n (If t (Seq b (While t b)) Skip) s T)

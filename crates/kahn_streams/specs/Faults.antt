@@ -1,5 +1,5 @@
 -- Believed. What is wrong with a program, in the order in which it is looked for: with a body, with a whole program. Only the first
--- is answered: what is listed after it is of no import.
+-- is answered; those after it don't matter.
 use Rattle.kahn_streams.specs.Wiring.{Scope, is_closed, locals_of, scope_of, entries, Global, IsChannel, IsProcess, declared_channels, global, Handover, handed, handed_by, ends, writers, readers, side_at, takes, gives}
 use Rattle.std.specs.Prelude.{◌≡◌, ◌⊎◌, ℕ, Bool, true, false, List, [], ◌∷◌, ◌++◌, Option, None, Some, Result, Ok, Err, MatchResult, IsSome, if◌then◌else◌, suc, ◌+◌, map, length, nat_lt, nat_eq}
 use Rattle.std.proofs.Common.{bytes_eq}
@@ -42,15 +42,15 @@ abbrev pub verdict : {A : Type 0} → List CheckFault → A → Result A CheckFa
 verdict [] a = Ok a
 verdict (f ∷ fs) a = Err f
 
--- want of memory, which may come at any growth, or the first fault of the list
+-- refused memory, which is possible at any growth, or the first fault of the list
 abbrev pub IsMet : List CheckFault → CheckFault → Type 0
 IsMet fs f = (f ≡ NoMemory) ⊎ (verdict fs (tt {0}) ≡ Err f)
 
--- what is answered where the list has no fault, and want of memory or its first one else
+-- either the list has no fault and the result is `made`, or memory was refused, or the result is the list's first fault
 abbrev pub Checks : {A : Type 0} → List CheckFault → (A → Type 0) → Result A CheckFault → Type 0
 Checks fs made result = MatchResult result (λ x. made x × (fs ≡ [])) (λ f. IsMet fs f)
 
--- a name is declared behind those before, or stands for something already
+-- the name is declared after those before it, or it is declared already
 abbrev pub Declares : {A B : Type 0} → Name → A → List (List ℕ × A) → List (List ℕ × A) → Result B CheckFault → Type 0
 Declares name what before after result =
     MatchResult result (λ u. (lookup (bytes_eq (bytes_of name)) before ≡ None) × (after ≡ before ++ (bytes_of name, what) ∷ []))
@@ -62,7 +62,7 @@ same_kind Integer Logical = false
 same_kind Logical Integer = false
 same_kind Logical Logical = true
 
--- where kind `wanted` stands, kind `found` is wrong unless it is the same
+-- where kind `wanted` is expected, kind `found` is wrong unless it is the same
 abbrev pub wrong : Kind → Kind → Span → List CheckFault
 wrong wanted found at = if same_kind wanted found then [] else WrongKind at ∷ []
 
@@ -131,7 +131,7 @@ abbrev mutual
   faults_in s (Conditional' p at t q at' a r at'' b) =
       (faults_in s t ++ wrong Logical (kind_of s t) at) ++ (faults_in s a ++ (faults_in s b ++ wrong (kind_of s a) (kind_of s b) at''))
 
-  -- the same of the operands of a level after the first, where what stands before has kind k and span `done`
+  -- what is wrong with the operands of a level after the first; what is before has kind k and span `done`
   pub level_faults : {m : _} → Scope → Kind → Span → Row_of-Operand m → List CheckFault
   level_faults s k done end_of-Operand = []
   level_faults s k done (more_of-Operand o at e rest) =
@@ -174,12 +174,12 @@ most_instances = 256
 abbrev pub too_many : ℕ → ℕ → Span → List CheckFault
 too_many limit before at = if nat_lt before limit then [] else TooMany at ∷ []
 
--- a name that is declared where it already stands for something
+-- a name that is declared twice
 abbrev pub repeated : {A : Type 0} → Option A → Span → List CheckFault
 repeated None at = []
 repeated (Some x) at = DeclaredTwice at ∷ []
 
--- each name in turn, where `known` are declared before
+-- each name in turn, after those of `known`
 abbrev pub twice : {A : Type 0} → List (List ℕ × A) → List (Name × A) → List CheckFault
 twice known [] = []
 twice known (e ∷ es) = repeated (lookup (bytes_eq (bytes_of e.0)) known) e.0.span ++ twice (known ++ (bytes_of e.0, e.1) ∷ []) es
@@ -189,7 +189,7 @@ twice known (e ∷ es) = repeated (lookup (bytes_eq (bytes_of e.0)) known) e.0.s
 abbrev pub process_faults : Process → List CheckFault
 process_faults p = twice [] (locals_of p) ++ body_faults (scope_of p) p.statements.items
 
--- the names of a channel declaration, where n channels are declared before
+-- the names of a channel declaration, after n channels
 abbrev pub channel_faults : List (List ℕ × Global) → ℕ → Kind → Role → List Name → List CheckFault
 channel_faults known n kind role [] = []
 channel_faults known n kind role (x ∷ xs) =
@@ -208,7 +208,7 @@ abbrev pub second : Direction → Span → CheckFault
 second Out at = TwoWriters at
 second In at = TwoReaders at
 
--- a channel that is handed over where `taken` have it in that direction already
+-- a channel that is handed over in a closed direction, or that one of `taken` has already
 abbrev pub overtaken : Direction → Bool → List Side → Span → List CheckFault
 overtaken d true taken at = second d at ∷ []
 overtaken d false [] at = []

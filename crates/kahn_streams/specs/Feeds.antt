@@ -1,4 +1,4 @@
--- Believed. Values that are fed to an input which stands already (this project's profile).
+-- Believed. Values that are appended to an input (this project's profile).
 use Rattle.std.specs.Prelude.{◌≡◌, ℕ, ◌+◌, ◌<◌, ◌≤◌, ◌==◌, List, [], ◌∷◌, ◌++◌, length, if◌then◌else◌, MatchResult, Result}
 use Rattle.kahn_streams.specs.Types.{Program, Value, FeedFault}
 use Rattle.kahn_streams.specs.declared.tree.Role.TheVariants.{Input}
@@ -38,13 +38,13 @@ IsUnwelcome t lists entry fault = IsNotMeant t entry fault
 abbrev pub fed_to : Program → Entry → ℕ → List Value
 fed_to t entry c = if channel_of t entry == c then entry.1 else []
 
--- the values are welcome, and stand behind those of their channel; all other lists are as before
+-- the values are accepted, and come after those of their channel; all other lists are as before
 pub record IsEntryFed (t : Program) (before : Lists) (entry : Entry) (after : Lists) : Type 0 where
   pub meant : IsMeant t entry
   pub within : total_after t before entry ≤ most_values
   pub count : length after ≡ length before
   pub lists : (c : ℕ) → inputs_of after c ≡ inputs_of before c ++ fed_to t entry c
 
--- what a call leaves that feeds an entry: the values are fed, or why not, and then the lists are as before
+-- the result of a call that feeds an entry: the values are fed, or why not, and then the lists are as before
 abbrev pub LeavesFed : {X : Type 0} → Program → Entry → Lists → Lists → Result X FeedFault → Type 0
 LeavesFed t entry old new r = MatchResult r (λ _. IsEntryFed t old entry new) (λ fault. (new ≡ old) × IsUnwelcome t old entry fault)

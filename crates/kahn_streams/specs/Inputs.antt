@@ -65,7 +65,7 @@ IsNoName t name = length (channel_names t) ≤ place_of (channel_names t) name
 abbrev pub IsNameOf : Program → List ℕ → ℕ → Type 0
 IsNameOf t name c = (c ≡ place_of (channel_names t) name) × (c < length (channel_names t))
 
--- the number of the channel that an entry names, past the last where no channel has the name
+-- the number of the channel that an entry names, past the last if no channel has the name
 abbrev pub channel_of : Program → Entry → ℕ
 channel_of t entry = place_of (channel_names t) entry.0
 
@@ -74,12 +74,12 @@ abbrev pub is_given : Program → List Entry → ℕ → Bool
 is_given t [] c = false
 is_given t (entry ∷ entries) c = if channel_of t entry == c then true else is_given t entries c
 
--- the list of a channel: the values of the entry that names it, and none where no entry does
+-- the list of a channel: the values of the entry that names it, and none if no entry does
 abbrev pub list_for : Program → List Entry → ℕ → List Value
 list_for t [] c = []
 list_for t (entry ∷ entries) c = if channel_of t entry == c then entry.1 else list_for t entries c
 
--- all of these hold; each stands beside the fault of what it doesn't hold of
+-- all of these hold; beside each is the fault if it doesn't
 abbrev pub AllHold : {F : Type 0} → List (Type 0 × F) → Type 0
 AllHold [] = Unit {0}
 AllHold ((holds, told) ∷ rest) = holds × AllHold rest
@@ -89,7 +89,7 @@ abbrev pub FailsFirst : {F : Type 0} → List (Type 0 × F) → F → Type 0
 FailsFirst [] fault = ⊥
 FailsFirst ((holds, told) ∷ rest) fault = (¬ holds × (fault ≡ told)) ⊎ (holds × FailsFirst rest fault)
 
--- what entry n, counted from 1, has to be, in this order, where the test says whether one before it names the same channel
+-- what entry n, counted from 1, has to be, in this order; `given` says whether one before it names the same channel
 abbrev pub asked_of_entry : Program → Bool → ℕ → Entry → List (Type 0 × InputFault)
 asked_of_entry t given n entry = (channel_of t entry < length (channel_names t), UnknownName n)
     ∷ (role_at (network_of t) (channel_of t entry) ≡ Input, NotAnInput n)

@@ -36,7 +36,7 @@ IsBelow N I T = (n : ℕ) (c : Line) → (j : ℕ) × IsPrefix (iterate N I n c)
 abbrev pub AreSame : {A : Type 0} → Reached A → Reached A → Type 0
 AreSame a b = (a.outcome ≡ b.outcome) × (a.events ≡ b.events) × (a.sent ≡ b.sent)
 
--- where the outcome is dry, the tape of that parameter is the same
+-- if the outcome is dry, the tape of that parameter is the same
 abbrev pub KeepsTape : {A : Type 0} → Instance → Histories → Histories → Outcome A → Type 0
 KeepsTape i H G (Dry q) = tapes_of i G q ≡ tapes_of i H q
 KeepsTape i H G (Got a) = Unit {0}
@@ -81,7 +81,7 @@ pub record IsQuiet (N : Network) (I : Inputs) (A : Histories) (o : ℕ → Endin
 abbrev pub IsSettled : Network → Inputs → Histories → (ℕ → Ending) → (ℕ → ℕ) → Type 0
 IsSettled N I A o e = ((c : Line) → IsWhole N I c (A c)) × ((p : ℕ) → HasEnd N I p (o p) (e p))
 
--- at most n events are done, and just n where the outcome is cut
+-- at most n events are done, and exactly n if the outcome is cut
 pub record IsCounted (N : Network) (n p : ℕ) (H : Histories) : Type 0 where
   pub within : (exec_at N n p H).events ≤ n
   pub full : (exec_at N n p H).outcome ≡ Cut → (exec_at N n p H).events ≡ n

@@ -33,13 +33,13 @@ value_of (Binary o a b) s next = value_of a s (λ v. value_of b s (λ w. settle 
 value_of (Conditional t a b) s next =
     value_of t s (λ v. elim (truth v) [ true ↦ value_of a s next | false ↦ value_of b s next ])
 
--- a loop: the start of the turn, the test, and where it is true the body and the next turn
+-- a loop: the start of the turn, the test, and if it is true the body and the next turn
 abbrev pub turns_of : {A : Type 0} → ℕ → (Store → (Value → Script A) → Script A) → (Store → (Store → Script A) → Script A) → Store → (Store → Script A) → Script A
 turns_of zero test body s next = Turns Rest
 turns_of (suc k) test body s next =
     Turns (test s (λ v. elim (truth v) [ true ↦ body s (λ s'. turns_of k test body s' next) | false ↦ next s ]))
 
--- what a statement does, where each loop is unrolled to k turns
+-- what a statement does, with each loop unrolled to k turns
 abbrev pub script_of : {A : Type 0} → ℕ → Stmt → Store → (Store → Script A) → Script A
 script_of k Skip s next = next s
 script_of k (Assign x e) s next = value_of e s (λ v. next (slice_set s x v))

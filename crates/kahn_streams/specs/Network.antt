@@ -141,7 +141,7 @@ abbrev pub IsOnly : (Side → Type 0) → Option Side → Type 0
 IsOnly P None = (s : Side) → P s → ⊥
 IsOnly P (Some e) = P e × ((s : Side) → P s → s ≡ e)
 
--- where the values of a channel come from that has this writer: from outside where it has none
+-- where the values of a channel come from that has this writer: from outside if it has none
 abbrev pub source_of : Option Side → Source
 source_of None = Given
 source_of (Some s) = Written s.instance
@@ -150,7 +150,7 @@ source_of (Some s) = Written s.instance
 abbrev pub channel_names : Program → Scope
 channel_names t = map (λ c. c.0) (channels_of t.declarations.items)
 
--- what a parameter takes to which that is handed
+-- what the parameter takes to which this is handed
 abbrev pub taking_of : Network → Actual → Taking
 taking_of n (Reads c) = T.Channel In (kind_at n c)
 taking_of n (Writes c) = T.Channel Out (kind_at n c)

@@ -57,6 +57,6 @@ sample_network = record {
       (h_of 3 1 0 ∷ (h_of 4 2 1 ∷ [])));
 }
 
--- v stands at place k of X exactly where it is k mod 2
+-- v stands at place k of X exactly if it is k mod 2
 abbrev pub Sample : Type 0
 Sample = (k : ℕ) (v : Value) → Stands sample_network no_input (Channel 0) k v ↔ (v ≡ Integer (pos (k % 2)))

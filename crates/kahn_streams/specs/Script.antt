@@ -47,7 +47,7 @@ after_send p v r = record { outcome = r.outcome; left = r.left; events = suc r.e
 abbrev pub put : Tapes → ℕ → List Value → Tapes
 put T q vs r = if r == q then vs else T r
 
--- a wait: dry on an empty tape whatever n is; else cut where no event is left, else it takes the first value
+-- a wait: dry on an empty tape whatever n is; else cut if no event is left, else it takes the first value
 abbrev pub wait_at : {A : Type 0} → ℕ → ℕ → Tapes → List Value → (ℕ → Value → Tapes → Reached A) → Reached A
 wait_at n q T [] go = at_once (Dry q) T
 wait_at zero q T (v ∷ vs) go = at_once Cut T

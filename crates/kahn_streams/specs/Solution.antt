@@ -112,7 +112,7 @@ abbrev pub HasEnd : Network → Inputs → ℕ → Ending → ℕ → Type 0
 HasEnd N I p o e =
     (m : ℕ) × ((n : ℕ) → m ≤ n → (ending (exec_at N n p (iterate N I n)).outcome ≡ Some o) × ((exec_at N n p (iterate N I n)).events ≡ e))
 
--- the size of the solution: the events of all instances, where each has an end
+-- the size of the solution: the events of all instances, if each has an end
 pub data HasSizes : Network → Inputs → ℕ → List Instance → ℕ → Type 0 where
   none_left : {N : Network} {I : Inputs} {p : ℕ} → HasSizes N I p [] 0
   one_more : {N : Network} {I : Inputs} {p : ℕ} {i : Instance} {is : List Instance} {o : Ending} {e total : ℕ} →

@@ -35,12 +35,12 @@ sends_of (Took q v ∷ steps) = sends_of steps
 sends_of (Sent p v ∷ steps) = (p, v) ∷ sends_of steps
 sends_of (Turned ∷ steps) = sends_of steps
 
--- n events behind these steps
+-- n events after these steps
 abbrev pub and_then : List Step → ℕ → ℕ
 and_then [] n = n
 and_then (x ∷ steps) n = suc (and_then steps n)
 
--- what is reached, told from before these steps
+-- what is reached, counted from before these steps
 abbrev pub since : {A : Type 0} → List Step → Reached A → Reached A
 since steps r = record { outcome = r.outcome; left = r.left; events = and_then steps r.events; sent = sends_of steps ++ r.sent }
 

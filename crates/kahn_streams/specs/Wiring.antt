@@ -18,7 +18,7 @@ use Rattle.kahn_streams.specs.declared.tree.Declaration.TheVariants as D
 use Rattle.kahn_streams.specs.declared.tree.Argument.TheVariants as A
 use Rattle.kahn_streams.specs.View.{bytes_of, body_of}
 
--- the kind that an operator takes; nothing where it takes two operands of any one kind
+-- the kind that an operator takes; nothing if it takes two operands of any one kind
 abbrev pub takes : Operator → Option Kind
 takes Or = Some Logical
 takes And = Some Logical
@@ -58,7 +58,7 @@ abbrev pub IsTaken : Option Kind → Kind → Type 0
 IsTaken None k = Unit {0}
 IsTaken (Some j) k = k ≡ j
 
--- the expression has kind k, where w says what each number stands for
+-- the expression has kind k; w says what each number stands for
 abbrev pub HasKind : List Taking → Expr → Kind → Type 0
 HasKind w (S.Literal c) k = k ≡ constant_kind c
 HasKind w (S.Variable x) k = slice_get w x ≡ Some (Value k)

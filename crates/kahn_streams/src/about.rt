@@ -16,7 +16,7 @@ impl<T> Model for About<T> {
 }
 
 impl<T> About<T> {
-    /// The value that the caller names.
+    /// Returns the value that the caller names.
     pub fn named() -> About<T>
         ghost name: { T }
         ensures { result.value ≡ name }

@@ -11,7 +11,7 @@ pub enum Verdict {
     Memory,
 }
 
-/// Where an instance stands.
+/// The state of an instance when the run stopped.
 #[derive(Clone, Copy, Debug, PartialEq, Eq)]
 pub enum Outcome {
     Ended,

@@ -1,7 +1,7 @@
-//! Tokens on their way.
+//! Tokens in transit.
 //!
-//! In a segment, in a queue and in a list that is kept a token is its value alone: where it stands tells its line and its
-//! place. Contracts see the token, so the one that comes out has the fact that the one that went in had.
+//! In segments, queues and kept lists a token is stored as its value alone: where it is stored gives its line and its
+//! place. Contracts see the token, so the one that comes out has the same fact as the one that went in.
 
 ghost use Rattle.std.specs.Prelude.{◌≡◌, ◌<◌, ◌^◌};
 ghost use Rattle.kahn_streams.specs.Inputs.{Holds, Names};
@@ -13,7 +13,7 @@ use crate::value::{Line, Value};
 use crate::word::Word;
 use std::marker::Model;
 
-/// A token on its way: its value. Contracts see the token.
+/// A token in transit, stored as its value. Contracts see the token.
 #[derive(Drop)]
 pub struct Carried {
     value: Word,
@@ -36,7 +36,7 @@ impl Model for Carried {
     ghost invariant = { λ c. (c.token.value.value ≡ c.value) × (c.token.value.place < 2 ^ 64) };
 }
 
-// The value of the token that the caller names, which is that of something at hand.
+// Stores the value of the token that the caller names. `_named` is what the name is taken from.
 fn carried_of<X>(_named: &X, value: Word) -> Carried
     ghost token: { Token }
     requires { (token.value ≡ value) × (token.place < 2 ^ 64) }
@@ -48,7 +48,7 @@ fn carried_of<X>(_named: &X, value: Word) -> Carried
     }
 }
 
-// The token of a value that stands there, for the names of what is carried.
+// The token of a value that stands there. The caller takes its names from `_carried`.
 fn token_of(_carried: &Carried, line: Line, place: u64, value: Word) -> Token
     ghost names: { Names }
     requires { Holds names.network names.input line place value }
@@ -59,7 +59,7 @@ fn token_of(_carried: &Carried, line: Line, place: u64, value: Word) -> Token
 }
 
 impl Carried {
-    /// What goes on its way as this token.
+    /// Stores this token.
     pub fn of(token: Token) -> Carried
         ensures { result ≡ token }
     {
@@ -67,14 +67,14 @@ impl Carried {
         carried_of(&token, value)
     }
 
-    /// The same once more. It takes no memory.
+    /// Returns a copy. Never allocates.
     pub fn again(&self) -> Carried
         ensures { result ≡ self.now }
     {
         carried_of(self, self.value)
     }
 
-    /// The token, of which the lane tells the line and the place.
+    /// Returns the token. The lane knows its line and its place.
     pub fn token(&self, line: Line, place: u64) -> Token
         requires { (self.now.line ≡ line) × (self.now.place ≡ place) }
         ensures { result ≡ self.now }
@@ -82,14 +82,14 @@ impl Carried {
         token_of(self, line, place, self.value)
     }
 
-    /// Says that its place is below 2^64: its contract is what it does.
+    /// Says that its place is below 2^64. For the prover only.
     pub fn counted(&self)
         ensures { self.now.place < 2 ^ 64 }
     {
         let _value = self.value;
     }
 
-    /// The value of the token.
+    /// Returns the value of the token.
     pub fn value(&self) -> Value
         ensures { result ≡ self.now.value }
     {

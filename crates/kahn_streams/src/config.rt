@@ -21,7 +21,7 @@ pub struct Config {
     pub quantum: u64,
     /// How many events all processes together may do: 0 to 2^48 - 1.
     pub bound: u64,
-    /// The name of a channel whose values are answered too.
+    /// The name of a channel whose values are returned too.
     pub watch: Option<String>,
 }
 

@@ -15,8 +15,8 @@ use thiserror::Error;
 /// The most values of one channel.
 pub const MOST_VALUES: usize = 1048576;
 
-/// Why an input is refused. The number is that of the entry, counted from 1. An entry is refused by the first of these
-/// that holds of it.
+/// Why an input is refused. The number is that of the entry, counted from 1. An entry is refused for the first of these
+/// that holds.
 #[derive(Clone, Copy, Debug, PartialEq, Eq, Drop, Error)]
 pub enum InputFault {
     /// No channel has the name.
@@ -61,8 +61,8 @@ impl From<NoMemory> for InputFault {
     }
 }
 
-/// The number of the channel of that name, counted from 0 in order of declaration. None where no channel has the name.
-/// It takes no memory.
+/// Returns the number of the channel of that name, counted from 0 in order of declaration. None if no channel has it.
+/// Never allocates.
 #[tactic(auto, using(crate::proofs::Entered::place_found, crate::proofs::Entered::place_missed, crate::proofs::Entered::names_count))]
 pub fn channel_named(network: &Network, name: &str) -> Option<usize>
     ensures { MatchOption result (IsNoName network.now name.now) (IsNameOf network.now name.now) }
@@ -82,8 +82,7 @@ pub(crate) fn are_of_kind(values: &[Value], kind: Kind) -> bool
     values.iter().all(|value| value.kind() == kind)
 }
 
-// The channel of an entry, or why the entry with that number is refused. Given are the channels that an entry before it
-// names.
+// The channel of an entry, or why the entry with that number is refused. `given` marks the channels that entries before it name.
 pub(crate) fn channel_for(
     network: &Network,
     given: &[bool],

@@ -5,25 +5,25 @@ use crate::span::Span;
 use std::alloc::{AllocError, AllocFailed};
 use thiserror::Error;
 
-/// The first thing that is wrong with a program, and where it stands.
+/// The first thing that is wrong with a program, and where.
 #[derive(Clone, Copy, Debug, PartialEq, Eq, Drop, Error)]
 pub enum CheckFault {
-    /// A name is declared where the same name space has it already. The span is the later name's.
+    /// A name that its name space has already. The span is that of the later one.
     #[error("name is declared twice")]
     DeclaredTwice(Span),
-    /// A name that isn't declared, or an instance of what is no process.
+    /// A name that isn't declared, or an instance of something else than a process.
     #[error("name is not declared")]
     Unknown(Span),
-    /// An operand, an expression or an argument of another kind than is wanted.
+    /// An operand, an expression or an argument of another kind than expected.
     #[error("kind does not agree")]
     WrongKind(Span),
     /// More or fewer arguments than parameters. The span is the instance's name.
     #[error("number of arguments does not agree")]
     WrongCount(Span),
-    /// What isn't a channel, where a channel is wanted.
+    /// Something else where a channel is expected.
     #[error("a channel is expected")]
     ChannelExpected(Span),
-    /// A channel, where a value is wanted.
+    /// A channel where a value is expected.
     #[error("a value is expected")]
     ValueExpected(Span),
     /// A wait on a channel parameter that is written, or a send on one that is read.
@@ -32,13 +32,13 @@ pub enum CheckFault {
     /// A channel that isn't an input and that nobody writes. The span is its declared name.
     #[error("channel has no writer")]
     NoWriter(Span),
-    /// A channel that is handed over to be written, and is an input or has a writer. The span is the argument.
+    /// A channel that is handed over to be written, but is an input or has a writer. The span is the argument.
     #[error("channel has two writers")]
     TwoWriters(Span),
     /// A channel that isn't an output and that nobody reads. The span is its declared name.
     #[error("channel has no reader")]
     NoReader(Span),
-    /// A channel that is handed over to be read, and is an output or has a reader. The span is the argument.
+    /// A channel that is handed over to be read, but is an output or has a reader. The span is the argument.
     #[error("channel has two readers")]
     TwoReaders(Span),
     /// The 1,025th channel or the 257th instance. The span is its name.
@@ -86,7 +86,7 @@ pub enum RunFault {
     /// A thread couldn't be started. Those that were are halted and gathered.
     #[error("no thread")]
     NoThread,
-    /// The workers left and the run neither finished nor reached its bound nor wanted memory.
+    /// The workers left, but the run neither finished nor reached its bound nor was refused memory.
     #[error("workers stalled")]
     Stalled,
 }

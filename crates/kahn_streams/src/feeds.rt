@@ -1,4 +1,4 @@
-//! Values that are fed to an input which stands already.
+//! Values that are appended to an input.
 
 ghost use Rattle.std.specs.Prelude.{MatchResult};
 ghost use Rattle.kahn_streams.specs.Feeds.{IsMeantFor, IsNotMeant};
@@ -10,7 +10,7 @@ use crate::tree::Role;
 use crate::value::Value;
 use thiserror::Error;
 
-/// Why values aren't fed to an input, by the first of these that holds.
+/// Why values aren't fed to an input: the first of these that holds.
 #[derive(Clone, Copy, Debug, PartialEq, Eq, Drop, Error)]
 pub enum FeedFault {
     /// No channel has the name.
@@ -41,7 +41,7 @@ impl From<NoMemory> for FeedFault {
     }
 }
 
-/// The channel for which values are meant that are fed by its name, or why there is none.
+/// Returns the input channel that has that name and the kind of these values, or why there is none.
 pub fn channel_meant(network: &Network, name: &str, values: &[Value]) -> Result<usize, FeedFault>
     ensures { MatchResult result (IsMeantFor network.now (name.now, values.now)) (IsNotMeant network.now (name.now, values.now)) }
 {

@@ -38,7 +38,7 @@ impl Model for Input {
 }
 
 impl Input {
-    /// The input that gives each channel of the network the empty list.
+    /// Returns the input with an empty list for each channel of the network.
     #[tactic(auto, using(crate::proofs::Few::none_few))]
     pub fn none(alloc: Global, network: &Network) -> Result<Input, NoMemory>
         ensures { IfOk result (λ i. i ≡ replicate (length (network_of network.now).channels) []) }
@@ -50,9 +50,8 @@ impl Input {
         Ok(Input { lists })
     }
 
-    /// The input of these entries, each of which names an input channel and has its values; a channel that no entry names
-    /// has the empty list. The first entry with which something is wrong is refused, by its place from 1. It refuses with
-    /// `NoMemory` where memory was refused.
+    /// Makes an input of entries, each of which names an input channel and has its values; a channel that no entry names has
+    /// the empty list. Refuses the first entry that is wrong, by its place from 1. Fails with `NoMemory` if memory was refused.
     pub fn new(
         alloc: Global,
         network: &Network,
@@ -66,7 +65,7 @@ impl Input {
         filled(network, input, given, entries)
     }
 
-    // Gives a channel its list, which takes no copy.
+    // Gives a channel its list, without a copy.
     fn give(&mut self, channel: usize, values: Vec<Value>)
         requires here { channel < length self.old }
         requires few { length values.items ≤ most_values }
@@ -75,9 +74,9 @@ impl Input {
         self.lists[channel] = values;
     }
 
-    /// Appends values to the list of the input channel of that name. It refuses a name of no channel, then a channel that
-    /// is no input, then a value of another kind than the channel's, then what would make more than 1,048,576 values of
-    /// the channel, and then where memory was refused, which no empty list is. A refusal leaves the input as it was.
+    /// Appends values to the list of the input channel of that name. Fails if no channel has the name, then if the
+    /// channel isn't an input, then if a value isn't of its kind, then if it would have more than 1,048,576 values, and
+    /// then if memory was refused, which never happens for an empty list. A failure leaves the input as it was.
     #[tactic(auto, using(crate::proofs::Fed::unwelcome))]
     pub fn extend(
         &mut self,
@@ -100,7 +99,7 @@ impl Input {
         Ok(())
     }
 
-    // Whether that many values more aren't too many for a channel.
+    // Whether a channel has room for `count` more values.
     fn has_room(&self, channel: usize, count: usize) -> bool
         ensures { IsTrue result ↔ (length (inputs_of self.now channel) + count ≤ most_values) }
     {
@@ -121,8 +120,8 @@ impl Input {
         Ok(())
     }
 
-    /// A token of an input whose lists are prefixes of those of this one, as a token of this input: the same line, place
-    /// and value. It takes no memory.
+    /// Turns a token of an input whose lists are prefixes of this one's into a token of this input: the same line, place
+    /// and value. Never allocates.
     #[tactic(auto, using(crate::proofs::Fed::lifted))]
     pub fn lift(&self, token: Token) -> Token
         requires { AreInputsExtended (inputs_of token.input.value) (inputs_of self.now) }
@@ -132,8 +131,8 @@ impl Input {
         token.moved(self)
     }
 
-    /// Whether the input was made for a network with channels of these roles and kinds: it has a list for each channel, an
-    /// input channel's of the channel's kind, and no value for any other. It takes no memory.
+    /// Whether the input fits the network: it has a list for each channel, an input channel's of the channel's kind, and
+    /// no value for any other. Never allocates.
     pub fn fits(&self, network: &Network) -> bool
         ensures { IsTrue result ↔ IsInputFor (network_of network.now) self.now }
     {
@@ -148,8 +147,8 @@ impl Input {
         true
     }
 
-    /// The token at a place of the list of a channel. None past the list, and off the input channels, also where there is no
-    /// channel of that number. It takes no memory.
+    /// Returns the token at a place of the list of a channel. None past the list, if the channel isn't an input, or if there
+    /// is no channel of that number. Never allocates.
     #[tactic(auto, using(crate::proofs::Given_values::stands_given, crate::proofs::Given_values::no_channel))]
     pub fn token(&self, network: &Network, channel: usize, place: u64) -> Option<Token>
         ensures token { IfSome result (λ t. (t.line ≡ Channel channel) × (t.place ≡ place) × (slice_get (inputs_of self.now channel) place ≡ Some t.value)) }
@@ -165,7 +164,7 @@ impl Input {
         Some(Token::first(network, self, Line::Channel(channel), place, word))
     }
 
-    /// The number of values of a channel, at most 1,048,576. It takes no memory.
+    /// Returns the number of values of a channel, at most 1,048,576. Never allocates.
     pub fn count(&self, channel: usize) -> usize
         ensures count { result ≡ length (inputs_of self.now channel) }
         ensures few { result ≤ most_values }
@@ -185,8 +184,8 @@ impl Input {
     }
 }
 
-// The empty input with the lists of these entries. Given are the channels that an entry before names, at first none.
-// Nothing grows here, so memory isn't refused.
+// Fills an empty input with the lists of these entries. `given` marks the channels that earlier entries name, at first
+// none. Nothing grows here, so memory can't be refused.
 fn filled(
     network: &Network,
     mut input: Input,
@@ -208,7 +207,7 @@ fn filled(
     Ok(input)
 }
 
-// Adds values to a list. It refuses only where the list hasn't room for them.
+// Adds values to a list. Fails only if the list hasn't room for them.
 fn add_values(list: &mut Vec<Value>, mut values: Vec<Value>) -> Result<(), NoMemory>
     ensures items { list.new.items ≡ (if is_ok result then list.old.items ++ values.items else list.old.items) }
     ensures full { OnErr result (vec_capacity list.old < length list.old.items + length values.items) }

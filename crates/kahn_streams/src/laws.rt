@@ -35,7 +35,7 @@ pub fn solves()
     ensures { (N : Network) (I : Inputs) → IsSolved N I }
 {}
 
-/// It is below any solution, an infinite one too.
+/// The limit of the iterates is below any solution, an infinite one too.
 pub fn least()
     ensures { (N : Network) (I : Inputs) (T : ℕ → Histories) → IsSolution N I T → IsBelow N I T }
 {}
@@ -83,7 +83,7 @@ pub fn composes()
     ensures loops { (t : Expr) (b : Stmt) → LoopsUnroll t b }
 {}
 
-/// At most n events are done, and just n where the outcome is cut; how far loops are unrolled makes no difference.
+/// At most n events are done, and exactly n if the outcome is cut; how far loops are unrolled makes no difference.
 pub fn counts()
     ensures counted { (N : Network) (n p : ℕ) (H : Histories) → IsCounted N n p H }
     ensures unrolled { (b : Stmt) → IsUnrolled b }
@@ -94,12 +94,12 @@ pub fn determined()
     ensures { (N : Network) (I : Inputs) → IsDetermined N I }
 {}
 
-/// Where a value is known to stand somewhere in the solution there is an iterate that has it.
+/// If a value is known to stand in the solution, some iterate has it.
 pub fn found()
     ensures { (N : Network) (I : Inputs) (c : Line) (k : ℕ) (v : Value) → ∥ (Stands N I c k v) ∥₁ → Stands N I c k v }
 {}
 
-/// Every value of an iterate on a channel has the channel's kind, where the program is well wired and the input fits it.
+/// Every value of an iterate on a channel has the channel's kind, if the program is well wired and the input fits it.
 pub fn kinds()
     ensures { (t : Program) (lists : Lists) → IsWellWired t → IsInputFor (network_of t) lists → AreIteratesKinded (network_of t) (inputs_of lists) }
 {}

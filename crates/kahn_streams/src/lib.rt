@@ -1,6 +1,6 @@
 //! What a program means, and what must be believed of it: the tree of its text, its abstract syntax, the network, values, and the least
-//! solution of the network's equations, with its laws; tokens, inputs, configurations and answers. Want of memory and a counter of steps
-//! stand here too, since every crate above needs them.
+//! solution of the network's equations, with its laws; tokens, inputs, configurations and answers. Refused memory and a counter of steps
+//! are here too, since every crate above needs them.
 #![tactic(auto)]
 
 mod about;

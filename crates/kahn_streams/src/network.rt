@@ -58,7 +58,7 @@ pub struct NetworkInstance<'n> {
     pub arguments: &'n [Argument],
 }
 
-/// The network of a well wired program, with its tables.
+/// Makes the network of a well wired program, with its tables.
 pub fn kept(program: Program, wires: Vec<Wire>, processes: Vec<usize>) -> Network
     requires { IsKept program wires.items processes.items }
     ensures { result ≡ program }
@@ -71,7 +71,7 @@ pub fn kept(program: Program, wires: Vec<Wire>, processes: Vec<usize>) -> Networ
 }
 
 impl Network {
-    /// The program that was checked. It is well wired.
+    /// Returns the program that was checked. It is well wired.
     pub fn program(&self) -> &Program
         ensures same { result.now ≡ self.now }
         ensures wired { IsWellWired self.now }
@@ -79,21 +79,21 @@ impl Network {
         &self.program
     }
 
-    /// The number of channels.
+    /// Returns the number of channels.
     pub fn channels(&self) -> usize
         ensures { result ≡ length (network_of self.now).channels }
     {
         self.wires.len()
     }
 
-    /// The number of instances.
+    /// Returns the number of instances.
     pub fn instances(&self) -> usize
         ensures { result ≡ length (network_of self.now).instances }
     {
         self.program.instances.len()
     }
 
-    /// The channel with that number, counted from 0 in order of declaration.
+    /// Returns the channel with that number, counted from 0 in order of declaration.
     pub fn channel(&self, channel: usize) -> Channel<'_>
         requires { channel < length (network_of self.now).channels }
         ensures name { slice_get (channel_names self.now) channel ≡ Some result.name.now }
@@ -108,7 +108,7 @@ impl Network {
         }
     }
 
-    /// Who writes the channel with that number; nobody does where it is an input.
+    /// Returns the writer of the channel with that number; None if it is an input.
     pub fn writer(&self, channel: usize) -> Option<Side>
         requires { channel < length (network_of self.now).channels }
         ensures only { IsOnly (IsWriter (network_of self.now) channel) result }
@@ -117,7 +117,7 @@ impl Network {
         self.wires[channel].writer
     }
 
-    /// Who reads the channel with that number; nobody does where it is an output.
+    /// Returns the reader of the channel with that number; None if it is an output.
     pub fn reader(&self, channel: usize) -> Option<Side>
         requires { channel < length (network_of self.now).channels }
         ensures only { IsOnly (IsReader (network_of self.now) channel) result }
@@ -125,7 +125,7 @@ impl Network {
         self.wires[channel].reader
     }
 
-    /// The instance with that number, counted from 0 in text order.
+    /// Returns the instance with that number, counted from 0 in text order.
     pub fn instance(&self, instance: usize) -> NetworkInstance<'_>
         requires { instance < length (network_of self.now).instances }
         ensures number { process_at self.now.declarations.items result.declaration ≡ Some result.process.now }

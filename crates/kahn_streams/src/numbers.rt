@@ -1,4 +1,4 @@
-//! The numbers by which the abstract syntax speaks of the names of a process.
+//! The numbers of a process's names in the abstract syntax.
 
 ghost use Rattle.std.specs.Prelude.{◌≡◌, List, ℕ, IfOk, OnOk};
 ghost use Rattle.std.proofs.Common.{bytes_eq};
@@ -12,14 +12,14 @@ use std::alloc::{Allocator, Global};
 use std::collections::BTreeMap;
 use std::marker::Model;
 
-/// A process whose names are found by a look-up, and not by a walk over all of them. Contracts see the process.
+/// A process with a look-up table of its names. Contracts see the process.
 #[derive(Drop)]
 pub struct Numbered<'p, A: Allocator = Global> {
     process: &'p Process,
     numbers: Table<A>,
 }
 
-// In order: whoever chooses the names can't make a look-up slow, as he can with a hash whose seed is known.
+// Ordered, not hashed: if the seed of a hash is known, whoever chooses the names can make a look-up slow.
 type Table<A> = BTreeMap<String, usize, A>;
 
 impl<'p, A: Allocator> Model for Numbered<'p, A> {
@@ -56,7 +56,7 @@ fn note<A: Allocator + Clone>(
 }
 
 impl<'p, A: Allocator + Clone> Numbered<'p, A> {
-    /// The process. It refuses only where memory was refused.
+    /// Numbers the names of the process. Fails only if memory was refused.
     pub fn of(alloc: A, process: &'p Process) -> Result<Numbered<'p, A>, NoMemory>
         ensures { IfOk result (λ n. n ≡ process.now) }
     {
@@ -73,7 +73,7 @@ impl<'p, A: Allocator + Clone> Numbered<'p, A> {
 }
 
 impl<'p, A: Allocator> Numbered<'p, A> {
-    /// The number of a name: parameters first, then variables, from 0; one past the last where the process hasn't got it.
+    /// Returns the number of a name: parameters first, then variables, from 0; one past the last if the process doesn't have it.
     pub fn number(&self, name: &Name) -> usize
         ensures { result ≡ number_of (names_of self.now) name.now }
     {

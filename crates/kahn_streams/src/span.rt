@@ -4,7 +4,7 @@ ghost use Rattle.std.specs.Prelude.{◌≡◌, ◌-◌, ◌≤◌, ◌==◌, not
 ghost use Rattle.std.specs.List.{suffix_len};
 ghost use Rattle.kahn_streams.specs.Place.{line_of, column_of};
 
-/// A half-open range of bytes of the text: from `from`, up to and without `to`.
+/// A half-open range of bytes of the text: from `from`, up to but without `to`.
 #[derive(Clone, Copy, Debug, PartialEq, Eq)]
 pub struct Span {
     /// The first byte, counted from 0.
@@ -14,7 +14,7 @@ pub struct Span {
 }
 
 impl Span {
-    /// The line and the column of the span's first byte in its text, both from 1. The column counts bytes.
+    /// Returns the line and the column of the span's first byte in its text, both from 1. The column counts bytes.
     pub fn place(&self, text: &str) -> (usize, usize)
         requires { self.now.from ≤ length text.now }
         ensures line { result.0 ≡ line_of text.now self.now.from }
@@ -27,7 +27,7 @@ impl Span {
     }
 }
 
-/// Where the last line of a text begins.
+/// Returns where the last line of a text begins.
 fn line_start(text: &[u8]) -> usize
     ensures within { result ≤ length text.now }
     ensures line { length text.now - result ≡ suffix_len (λ b. not (b == 10)) text.now }

@@ -1,4 +1,4 @@
-//! A counter of steps that takes no bytes.
+//! A counter of steps that has no bytes.
 
 ghost use Rattle.std.specs.Prelude.{◌≡◌, ℕ, ◌+◌, ◌<◌};
 
@@ -21,7 +21,7 @@ impl<L: Ledger> Model for Steps<L> {
 }
 
 impl<L: Ledger> Steps<L> {
-    /// No step so far.
+    /// Starts at 0.
     pub fn open(blank: Blank) -> Steps<L>
         requires name { blank.name ≡ L.name }
         requires parts { blank.parts ≡ L.parts }
@@ -32,7 +32,7 @@ impl<L: Ledger> Steps<L> {
         Steps { book, share }
     }
 
-    /// One more step.
+    /// Counts one more step.
     pub fn tick(&mut self)
         ensures { self.new ≡ self.old + 1 }
     {

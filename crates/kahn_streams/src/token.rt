@@ -1,8 +1,8 @@
-//! Tokens: values that keep what they stand for.
+//! Tokens: values that are known to stand in the solution.
 //!
-//! A value passes between processes, and between threads, as a token alone. What a token is of, its network and its
-//! input, is named for contracts alone and takes no bytes; that its value stands at its place in the solution is a
-//! fact of its type, so nothing about a schedule is needed to know it.
+//! Values pass between processes and between threads only as tokens. The network and the input of a token are named for
+//! contracts alone and have no bytes; that its value stands at its place in the solution is a fact of its type, so it
+//! is known without any schedule.
 
 ghost use Rattle.std.specs.Prelude.{◌≡◌};
 ghost use Rattle.kahn_streams.specs.Inputs.{Holds, Names};
@@ -25,8 +25,8 @@ pub struct Token {
 }
 
 impl Token {
-    /// The token of a value that stands there, for the network and the input that the caller names for contracts
-    /// alone. It takes no memory.
+    /// Returns the token of a value that stands there, for the network and the input that the caller names for
+    /// contracts alone. Never allocates.
     pub fn of(line: Line, place: u64, value: Value) -> Token
         ghost names: { Names }
         requires { Holds names.network names.input line place value }
@@ -36,7 +36,7 @@ impl Token {
         Token::of_word(line, place, Word::of(value))
     }
 
-    /// The token of a value as a register holds it.
+    /// Returns the token of a value as a register holds it.
     pub fn of_word(line: Line, place: u64, value: Word) -> Token
         ghost names: { Names }
         requires { Holds names.network names.input line place value }
@@ -52,7 +52,7 @@ impl Token {
         }
     }
 
-    // `of`, where the names are those of something at hand.
+    // `of`, with the names of something at hand.
     pub(crate) fn named_by_two<X, Y>(_x: &X, _y: &Y, line: Line, place: u64, value: Word) -> Token
         ghost names: { Names }
         requires { Holds names.network names.input line place value }
@@ -77,7 +77,7 @@ impl Token {
         Token::named_by_two(network, input, line, place, value)
     }
 
-    // The token of the same place of another input, where the value stands too.
+    // The token of the same place for another input, in whose solution the value stands too.
     pub(crate) fn moved(&self, input: &Input) -> Token
         requires { Holds self.now.network.value input.now self.now.line self.now.place self.now.value }
         ensures here { (result.line ≡ self.now.line) × (result.place ≡ self.now.place) × (result.value ≡ self.now.value) }
@@ -86,7 +86,7 @@ impl Token {
         Token::named_by_two(self, input, self.line, self.place, self.value)
     }
 
-    /// The same token once more. It takes no memory.
+    /// Returns a copy of the token. Never allocates.
     pub fn again(&self) -> Token
         ensures here { (result.line ≡ self.now.line) × (result.place ≡ self.now.place) × (result.value ≡ self.now.value) }
         ensures names { (result.network.value ≡ self.now.network.value) × (result.input.value ≡ self.now.input.value) }
@@ -95,28 +95,28 @@ impl Token {
         Token::named_by_two(self, self, self.line, self.place, self.value)
     }
 
-    /// The line on which the value stands.
+    /// Returns the line on which the value stands.
     pub fn channel(&self) -> Line
         ensures { result ≡ self.now.line }
     {
         self.line
     }
 
-    /// The place on the line, counted from 0.
+    /// Returns the place on the line, counted from 0.
     pub fn place(&self) -> u64
         ensures { result ≡ self.now.place }
     {
         self.place
     }
 
-    /// The value.
+    /// Returns the value.
     pub fn value(&self) -> Value
         ensures { result ≡ self.now.value }
     {
         self.value.value()
     }
 
-    /// The value as a register holds it.
+    /// Returns the value as a register holds it.
     pub fn word(&self) -> Word
         ensures { result ≡ self.now.value }
     {

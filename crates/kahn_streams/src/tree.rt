@@ -1,11 +1,11 @@
-//! The source tree of a program: what the parser answers and all that follows reads.
+//! The source tree of a program: what the parser returns and all later steps read.
 //!
 //! Each name, statement and expression has the span of its lexemes, from the first to the last.
 //! Operators of one level form one node, with the first operand and a list of the further ones.
 
 use crate::span::Span;
 
-/// A name where it stands.
+/// A name and its span.
 #[derive(Drop)]
 pub struct Name {
     pub text: String,
@@ -37,7 +37,7 @@ pub enum Operator {
     Remainder,
 }
 
-/// An expression where it stands.
+/// An expression and its span.
 #[derive(Drop)]
 #[cycle(expression)]
 pub struct Expression {
@@ -68,7 +68,7 @@ pub struct Operand {
     pub expression: Expression,
 }
 
-/// A statement where it stands. An empty one stands nowhere.
+/// A statement and its span. An empty one has none.
 #[derive(Drop)]
 #[cycle(statement)]
 pub struct Statement {

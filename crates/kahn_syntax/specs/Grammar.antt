@@ -1,5 +1,5 @@
 -- Believed. The grammar (this project's profile of Kahn's language): terminals; trees of expressions, statements, declarations, instances
--- and programs, what each spells, which are of the grammar, and how deep they nest. What is said of a program is said of terminals as of
+-- and programs, what each spells, which are of the grammar, and how deep they nest. What is said of a program holds for terminals as for
 -- the lexemes of a text.
 use Rattle.std.specs.Prelude.{◌≡◌, ℕ, ℤ, Bool, true, false, List, ◌∷◌, ◌+◌, ◌≤◌, ◌<◌, max, [], ◌++◌, map, ◌⊎◌, neg_ℤ}
 use Rattle.kahn_syntax.specs.declared.lexeme.Keyword.TheVariants as keyword
@@ -161,7 +161,7 @@ abbrev pub AreSome : StatementTrees → Type 0
 AreSome no_statement = ⊥
 AreSome (statement s ss) = Unit {0}
 
--- The same for statements: a block has a statement, if an empty one, and a simple one stands after `then`.
+-- The same for statements: a block has a statement, be it an empty one, and a simple one stands after `then`.
 abbrev mutual
   pub FormedStatement : StatementTree → Type 0
   FormedStatement empty = Unit {0}
@@ -215,14 +215,14 @@ abbrev mutual
 abbrev pub May : {K : Type 0} → (List K → List K → Type 0) → List K → List K → Type 0
 May T ks r = T ks r ⊎ (ks ≡ r)
 
--- Parts P of a list, of which T takes what parts them.
+-- Parts P of a list, with separators T.
 module _ {K X : Type 0} (T : List K → List K → Type 0) (P : X → List K → List K → Type 0) where
-  -- none or more, each behind what T takes
+  -- none or more, each after a separator
   abbrev pub Further : List X → List K → List K → Type 0
   Further [] ks r = ks ≡ r
   Further (x ∷ xs) ks r = (a b : List K) × T ks a × P x a b × Further xs b r
 
-  -- none or more, with what T takes between
+  -- none or more, with separators between
   abbrev pub Between : List X → List K → List K → Type 0
   Between [] ks r = ks ≡ r
   Between (x ∷ xs) ks r = (a : List K) × P x ks a × Further xs a r
@@ -232,7 +232,7 @@ module _ {K X : Type 0} (T : List K → List K → Type 0) (P : X → List K →
   SomeBetween [] ks r = ⊥
   SomeBetween (x ∷ xs) ks r = Between (x ∷ xs) ks r
 
-  -- none or more, with what T takes after each
+  -- none or more, with a separator after each
   abbrev pub Ended : List X → List K → List K → Type 0
   Ended [] ks r = ks ≡ r
   Ended (x ∷ xs) ks r = (a b : List K) × P x ks a × T a b × Ended xs b r
@@ -282,7 +282,7 @@ taking_words (Value k) r = kind_terminal k ∷ r
 abbrev pub StandsFirst : Terminal → List Terminal → List Terminal → Type 0
 StandsFirst k ks r = ks ≡ k ∷ r
 
--- What is read, terminals or the lexemes of a text: what takes one terminal of it, and what takes a name.
+-- A kind of input, terminals or the lexemes of a text: how a terminal and how a name are taken from it.
 pub record Reading (K N : Type 0) : Type 1 where
   pub takes : Terminal → List K → List K → Type 0
   pub named : N → List K → List K → Type 0
@@ -321,11 +321,11 @@ module _ {K N : Type 0} (R : Reading K N) where
   abbrev pub ChannelGroup : Kind → Role → List N → List K → List K → Type 0
   ChannelGroup k role ns ks r = (a b c : List K) × R.takes (kind_terminal k) ks a × TakesAll (role_words role []) a b × R.takes (word keyword.Channel) b c × SomeNames ns c r
 
-  -- the parameters of a process in their brackets, and what stands between them and its body
+  -- the parameters of a process in their brackets, and what is between them and its body
   abbrev pub Head : {P : Type 0} → (Taking → N → P) → List P → List K → List K → Type 0
   Head make ps ks r = (a b : List K) × R.takes (sign mark.Open) ks a × Parameters make ps a b × TakesAll (sign mark.Close ∷ sign mark.Semicolon ∷ word keyword.Begin ∷ []) b r
 
-  -- a process, where B is its body
+  -- a process; B is its body
   abbrev pub OneProcess : {P V : Type 0} → (Taking → N → P) → (Kind → N → V) → N → List P → List V → (List K → List K → Type 0) → List K → List K → Type 0
   OneProcess make_parameter make_variable n ps vs B ks r = (a b c d e : List K) × R.takes (word keyword.Process) ks a × R.named n a b × Head make_parameter ps b c
       × Variables make_variable vs c d × B d e × R.takes (word keyword.End) e r
@@ -334,11 +334,11 @@ module _ {K N : Type 0} (R : Reading K N) where
   abbrev pub SignedNumber : ℤ → List K → List K → Type 0
   SignedNumber z ks r = R.takes (numeral z) ks r ⊎ ((n : ℤ) × (a : List K) × (z ≡ neg_ℤ n) × R.takes (sign mark.Minus) ks a × R.takes (numeral n) a r)
 
-  -- a process, and its arguments in brackets with commas between, where A is an argument
+  -- a process, and its arguments in brackets with commas between; A is an argument
   abbrev pub OneInstance : {X : Type 0} → (X → List K → List K → Type 0) → N → List X → List K → List K → Type 0
   OneInstance A n xs ks r = (a b c : List K) × R.named n ks a × R.takes (sign mark.Open) a b × Between (R.takes (sign mark.Comma)) A xs b c × R.takes (sign mark.Close) c r
 
-  -- declarations with a semicolon after each, one instance or more with `par` between, where D is a declaration and I an instance
+  -- declarations with a semicolon after each, one instance or more with `par` between; D is a declaration, I an instance
   abbrev pub OneProgram : {X Y : Type 0} → (X → List K → List K → Type 0) → (Y → List K → List K → Type 0) → List X → List Y → List K → Type 0
   OneProgram D I ds is ks = (a b c d e : List K) × R.takes (word keyword.Begin) ks a × Ended (R.takes (sign mark.Semicolon)) D ds a b
       × SomeBetween (R.takes (word keyword.Par)) I is b c × May (R.takes (sign mark.Semicolon)) c d × R.takes (word keyword.End) d e × May (R.takes (sign mark.Semicolon)) e []

@@ -131,7 +131,7 @@ module _ (text : List ℕ) where
   IsOfClass (class.Number n) a b = IsRun a b × (n ≡ pos (digits_value 10 (slice_range text a b))) × (digits_value 10 (slice_range text a b) ≤ largest_number)
   IsOfClass (class.Sign s) a b = IsSign s a b
 
-  -- a lexeme of the text, where it stands
+  -- x is a lexeme of the text
   pub record IsLexemeAt (x : Lexeme) : Type 0 where
     pub longest : IsLongest x.span.from x.span.to
     pub class : IsOfClass x.what x.span.from x.span.to
@@ -148,13 +148,13 @@ module _ (text : List ℕ) where
   abbrev pub IsComment : ℕ → ℕ → Type 0
   IsComment a b = (m : ℕ) × IsLongest a m × IsCommentWord a m × Closes m b
 
-  -- blanks and comments alone stand from a to b
+  -- only blanks and comments are from a to b
   pub data Gap (a : ℕ) : ℕ → Type 0 where
     no_gap : Gap a a
     then_blank : {b : ℕ} → Gap a b → IsBlank (slice_index text b) → Gap a (b + 1)
     then_comment : {b c : ℕ} → Gap a b → IsComment b c → Gap a c
 
-  -- these are the lexemes of the text from a to b: each stands there, and only blanks and comments stand between
+  -- these are the lexemes of the text from a to b: each stands there, with only blanks and comments between
   abbrev pub Lexed : ℕ → ℕ → List Lexeme → Type 0
   Lexed a b [] = Gap a b
   Lexed a b (x ∷ xs) = Gap a x.span.from × IsLexemeAt x × Lexed x.span.to b xs
@@ -163,12 +163,12 @@ module _ (text : List ℕ) where
   abbrev pub IsReached : ℕ → Type 0
   IsReached a = (length text ≤ most_bytes) × ((xs : List Lexeme) × Lexed 0 a xs)
 
-  -- one character of the text: it may be cut before and behind, and not within
+  -- one character of the text: it may be cut before and after, and not within
   abbrev pub IsCharacter : Span → Type 0
   IsCharacter at = (at.from < at.to) × IsCharBoundary text at.from × IsCharBoundary text at.to × ((i : ℕ) → at.from < i → i < at.to → ¬ (IsCharBoundary text i))
 
-  -- at this place is the fault of a lexeme, whatever stands before: a character that isn't blank and where no form begins, as a `:`
-  -- without `=` after it; a run of digits above the largest number; the word `comment` with no semicolon after it; a word of more than 64 bytes
+  -- at this place is a lexical fault, whatever comes before: a character that isn't blank and begins no form, such as a `:` without `=` after
+  -- it; a run of digits above the largest number; the word `comment` with no semicolon after it; a word of more than 64 bytes
   abbrev pub IsFaultAt : ℕ → SyntaxFault → Type 0
   IsFaultAt a (BadCharacter at) = (at.from ≡ a) × (IsCharacter at × ¬ (IsBlank (slice_index text at.from))
       × ((n : ℕ) → n ≤ length text → ¬ (HasForm at.from n)))
@@ -179,7 +179,7 @@ module _ (text : List ℕ) where
   IsFaultAt a (NameTooLong at) = (at.from ≡ a) × (IsLongest at.from at.to × IsWord at.from at.to × (at.from + 64 < at.to))
   IsFaultAt a _ = ⊥
 
-  -- the first fault of a text's lexemes: a text that is too long has no other, and memory may be wanted at any place
+  -- the first lexical fault of a text: a text that is too long has no other, and memory may be refused at any place
   abbrev pub IsLexFault : SyntaxFault → Type 0
   IsLexFault TooLong = most_bytes < length text
   IsLexFault NoMemory = length text ≤ most_bytes
@@ -194,7 +194,7 @@ abbrev pub sign_terminal : Sign → Terminal
 sign_terminal mark.Not = word keyword.Not
 sign_terminal s = sign s
 
--- the terminal that a lexeme of this class is, where it takes these bytes of the text
+-- the terminal of a lexeme of this class with this span
 abbrev pub terminal : List ℕ → Class → Span → Terminal
 terminal text (class.Word w) at = word w
 terminal text class.Name at = name (slice_range text at.from at.to)
@@ -210,7 +210,7 @@ abbrev pub IsUnsigned : Class → Type 0
 IsUnsigned (class.Number n) = (m : ℕ) × (n ≡ pos m) × (m ≤ largest_number)
 IsUnsigned _ = Unit {0}
 
--- as the lexer makes it, where a name's bytes may be cut out of the text
+-- as the lexer makes it: a name's bytes may be cut out of the text
 abbrev pub IsProper : List ℕ → Class → Span → Type 0
 IsProper text class.Name at = (at.from ≤ at.to) × (at.to ≤ length text) × IsCharBoundary text at.from × IsCharBoundary text at.to
 IsProper text c at = IsUnsigned c
@@ -302,7 +302,7 @@ program_tree p = whole.program (map declaration_tree p.declarations.items) (map 
 abbrev pub IsPast : List Lexeme → List Lexeme → Type 0
 IsPast xs r = (x : Lexeme) × (xs ≡ x ∷ r)
 
--- the lexeme with this span stands in the list, and so many are left from it on
+-- the list has the lexeme with this span, and this many from it on
 abbrev pub Placed : List Lexeme → Span → ℕ → Type 0
 Placed lexemes span left =
     (before : List Lexeme) × (x : Lexeme) × (after : List Lexeme) × (lexemes ≡ before ++ x ∷ after) × (span ≡ x.span) × (length after + 1 ≡ left)
@@ -437,7 +437,7 @@ BeginsWithin ks = (t : ProgramTree) × (after : List Terminal) × Spells t (ks +
 abbrev pub IsNothing : List Terminal → Terminal → Type 0
 IsNothing before k = IsWholeWithin before × ¬ (Begins (before ++ k ∷ []))
 
--- the terminals before begin a program and are none, and with this one they begin none
+-- the terminals before begin a program but aren't one, and with this one they begin none
 abbrev pub IsOther : List Terminal → Terminal → Type 0
 IsOther before k = BeginsWithin before × ¬ (IsSentence before) × ¬ (Begins (before ++ k ∷ []))
 
@@ -451,8 +451,8 @@ abbrev pub StandsAt : List ℕ → List Lexeme → Span → (List Terminal → T
 StandsAt text xs span P = (before : List Lexeme) × (x : Lexeme) × (after : List Lexeme) × (xs ≡ before ++ x ∷ after) × (span ≡ x.span)
     × P (terminals text before) (terminal text x.what x.span)
 
--- The fault of these lexemes of the text. What stands before it begins a program within the limit, so no fault stands before it.
--- Memory may be wanted at any place.
+-- The fault of these lexemes of the text. What comes before it begins a program within the limit, so no fault comes before it.
+-- Memory may be refused at any place.
 abbrev pub IsFault : List ℕ → List Lexeme → SyntaxFault → Type 0
 IsFault text xs (Expected span More) = (span.from ≡ length text) × (span.to ≡ length text)
     × BeginsWithin (terminals text xs) × ¬ (IsSentence (terminals text xs))

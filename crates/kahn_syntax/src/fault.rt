@@ -4,10 +4,10 @@ use kahn_streams::Span;
 use std::alloc::{AllocError, AllocFailed};
 use thiserror::Error;
 
-/// Why a lexeme can't stand where it stands.
+/// Why a lexeme is unexpected.
 #[derive(Clone, Copy, Debug, PartialEq, Eq, Drop, Error)]
 pub enum What {
-    /// The text ended: its lexemes begin a program and aren't one. The span is empty, at the text's end.
+    /// The text ended: its lexemes begin a program but aren't one. The span is empty, at the text's end.
     #[error("text ends too early")]
     More,
     /// The lexemes before are a whole program, and this one can't follow.
@@ -36,10 +36,10 @@ pub enum SyntaxFault {
     /// A name of more than 64 bytes.
     #[error("name is too long")]
     NameTooLong(Span),
-    /// A lexeme that can't stand where it stands, or the end of the text where more is wanted.
+    /// An unexpected lexeme, or the end of the text where more is expected.
     #[error("{1}")]
     Expected(Span, What),
-    /// A lexeme that may stand here and would open level 65.
+    /// A lexeme that is allowed here but would open level 65.
     #[error("nesting is too deep")]
     TooDeep(Span),
     /// Memory was refused.

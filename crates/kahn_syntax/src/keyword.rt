@@ -1,4 +1,4 @@
-//! The words of the language.
+//! The keywords of the language.
 
 ghost use Rattle.std.specs.Prelude.{◌≡◌, IfSome, IfNone};
 ghost use Rattle.kahn_syntax.specs.declared.lexeme.Keyword.{Keyword};
@@ -38,7 +38,7 @@ const KEYWORDS: [Keyword; 28] = [
 ];
 
 impl Keyword {
-    /// The keyword that a word is, in any letter case.
+    /// Returns the keyword that a word is, in any letter case.
     pub fn named(word: &[u8]) -> Option<Keyword>
         ensures some { IfSome result (λ k. IsSpelled (letters_of k) word.now) }
         ensures none { IfNone result ((k : Keyword) → ¬ (IsSpelled (letters_of k) word.now)) }
@@ -51,7 +51,7 @@ impl Keyword {
         None
     }
 
-    /// Its letters, in lower case.
+    /// Returns its letters, in lower case.
     pub fn letters(self) -> &'static str
         ensures { result.now ≡ letters_of self }
     {

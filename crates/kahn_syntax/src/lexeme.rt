@@ -83,7 +83,7 @@ pub enum Class {
     Sign(Sign),
 }
 
-/// A lexeme where it stands. Its text is its slice of the source.
+/// A lexeme and its span. Its text is that slice of the source.
 #[derive(Clone, Copy, Debug, PartialEq, Eq)]
 pub struct Lexeme {
     /// The bytes of the text that it takes.

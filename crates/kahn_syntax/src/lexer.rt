@@ -19,14 +19,14 @@ const MOST_BYTES: usize = 1_048_576;
 /// The most bytes that a name may have.
 const MOST_OF_NAME: usize = 64;
 
-/// What stands at a place: a lexeme, or a comment and the place after it.
+/// What is at a place: a lexeme, or a comment and the place after it.
 #[derive(Clone, Copy)]
 enum Item {
     Lexeme(Lexeme),
     Comment(usize),
 }
 
-/// A word's lexeme, or the comment that it begins.
+/// Reads the lexeme of a word, or the comment that it begins.
 fn word_item(text: &str, span: Span) -> Result<Item, SyntaxFault>
     requires longest { IsLongest text.now span.from span.to }
     requires word { IsWord text.now span.from span.to }
@@ -56,7 +56,7 @@ fn word_item(text: &str, span: Span) -> Result<Item, SyntaxFault>
     }))
 }
 
-/// A number's lexeme.
+/// Reads the lexeme of a number.
 fn number_item(text: &str, span: Span) -> Result<Item, SyntaxFault>
     requires longest { IsLongest text.now span.from span.to }
     requires run { IsRun text.now span.from span.to }
@@ -72,7 +72,7 @@ fn number_item(text: &str, span: Span) -> Result<Item, SyntaxFault>
     }
 }
 
-/// What stands at a place that isn't blank.
+/// Reads what is at a place that isn't blank.
 fn item_at(text: &str, from: usize) -> Result<Item, SyntaxFault>
     requires inside { from < length text.now }
     requires cut { IsCharBoundary text.now from }
@@ -97,16 +97,16 @@ fn item_at(text: &str, from: usize) -> Result<Item, SyntaxFault>
     }
 }
 
-/// The lexemes of a text, in order.
+/// Splits a text into its lexemes, in order.
 ///
-/// A text of more than 1,048,576 bytes is refused before all else. Then the first fault in the text is answered.
+/// A text of more than 1,048,576 bytes is refused before all else, and then the first fault in the text.
 pub fn lex(alloc: Global, text: &str) -> Result<Vec<Lexeme>, SyntaxFault>
     ensures lexed { IfOk result (λ v. (length text.now ≤ most_bytes) × Lexed text.now 0 (length text.now) v.items) }
     ensures slices { IfOk result (λ v. All (IsSlice text.now) v.items) }
 
     ensures fault { IfErr result (IsLexFault text.now) }
 
-    // A text that has lexemes is refused for want of memory alone.
+    // A text that has lexemes fails only if memory was refused.
     ensures only { IfErr result (λ e. (xs : List Lexeme) → length text.now ≤ most_bytes → Lexed text.now 0 (length text.now) xs → e ≡ SyntaxFault.NoMemory) }
 {
     if text.len() > MOST_BYTES {

@@ -24,12 +24,12 @@ use kahn_streams::Program;
 use program::parse_lexemes;
 use std::alloc::Global;
 
-/// The program that a text is. Faults of lexemes come before all others, over the whole text.
+/// Parses a text. Lexical faults come before all others, over the whole text.
 pub fn parse(alloc: Global, text: &str) -> Result<Program, SyntaxFault>
     // The lexemes spell it, and each name, statement and expression has the span from its first to its last lexeme.
     ensures spells { IfOk result (IsProgram text.now) }
     ensures nesting { IfOk result (λ p. nesting (program_tree p) ≤ 64) }
-    // A text that is a program within the limits is refused for want of memory alone.
+    // A text that is a program within the limits fails only if memory was refused.
     ensures found { IfErr result (λ e. (xs : List Lexeme) (t : ProgramTree) → AreLexemes text.now xs → Spells t (terminals text.now xs) → nesting t ≤ 64 → e ≡ NoMemory) }
     ensures fault { IfErr result (IsTextFault text.now) }
 {
@@ -39,7 +39,7 @@ pub fn parse(alloc: Global, text: &str) -> Result<Program, SyntaxFault>
     }
 }
 
-/// The law that a text has one fault, want of memory aside: no other is told in place of the first.
+/// The law that a text has one fault, refused memory aside: no other is reported in place of the first.
 pub fn one_fault()
     ensures { (text : List ℕ) (e f : SyntaxFault) → IsTextFault text e → IsTextFault text f → (e ≡ NoMemory) ⊎ (f ≡ NoMemory) ⊎ (e ≡ f) }
 {}

@@ -1,4 +1,4 @@
-//! Boards at which cells that tell nothing are worked on, by seats of one thread and of many.
+//! Boards whose cells report nothing, worked on by the seats of one thread and of many.
 
 ghost use Rattle.std.specs.Prelude.{◌≡◌, ◌+◌, ◌^◌, ◌<◌, ◌≤◌, ℕ, None, Some, true, false, IfOk, MatchOption, IfSome, length, replicate};
 ghost use Rattle.kahn_board.specs.Calls.{HoldsNothing};
@@ -18,7 +18,7 @@ mod crowd;
 mod passing;
 mod turns;
 
-// A cell that tells nothing of itself. It counts how often it was claimed, and how many tokens it took.
+// A cell that reports nothing of itself. It counts how often it was claimed, and how many tokens it took.
 #[derive(Drop)]
 struct Counter {
     claims: u64,
@@ -31,7 +31,7 @@ impl Told for Counter {
     ghost after = { λ _ _. Unit {0} };
 }
 
-// So many cells that nobody has claimed yet.
+// Makes `count` cells that nobody has claimed yet.
 fn counters(alloc: Global, count: usize) -> Result<Vec<Counter>, NoMemory>
     ensures { IfOk result (λ v. length v.items ≡ count) }
 {
@@ -45,7 +45,7 @@ fn counters(alloc: Global, count: usize) -> Result<Vec<Counter>, NoMemory>
     Ok(cells)
 }
 
-// For so many channels, that nothing is published.
+// Makes `count` published numbers, all 0.
 fn none_published(alloc: Global, count: usize) -> Result<Vec<u64>, NoMemory>
     ensures { IfOk result (λ v. v.items ≡ replicate count 0) }
 {
@@ -102,7 +102,7 @@ fn claim(board: &Board<Counter>, seat: &mut Seat<Counter>, p: usize) -> bool
     p < board.instances && seat.claim(board, p).is_some()
 }
 
-// Adds to what the cell counts, and answers its numbers.
+// Adds to what the cell counts, and returns its numbers.
 fn add(
     board: &Board<Counter>,
     seat: &mut Seat<Counter>,
@@ -177,7 +177,7 @@ fn publish(
     passing::pass_on(seat, board, channel, count)
 }
 
-// What a draw got: None where the budget was empty, and 0 where another step came between.
+// Returns what a draw got: None if the budget was empty, and 0 if another step came between.
 fn draw(board: &Board<Counter>, seat: &mut Seat<Counter>, quantum: u64) -> Option<u64>
     requires { IsSquare board.now.table.shared.table_id seat.old × (seat.old.seat.me.0.drawn ≡ 0) × (0 < quantum) }
     ensures square { IsSquare board.now.table.shared.table_id seat.new × (seat.new.seat.me.0.parts ≡ seat.old.seat.me.0.parts) }
@@ -191,7 +191,7 @@ fn draw(board: &Board<Counter>, seat: &mut Seat<Counter>, quantum: u64) -> Optio
     }
 }
 
-// Gives back so many events of the draw.
+// Gives back `n` events of the draw.
 fn give_back(board: &Board<Counter>, seat: &mut Seat<Counter>, n: u64)
     requires { IsSquare board.now.table.shared.table_id seat.old × (n ≤ seat.old.seat.me.0.drawn) }
     ensures square { IsSquare board.now.table.shared.table_id seat.new × (seat.new.seat.me.0.parts ≡ seat.old.seat.me.0.parts) }
@@ -219,7 +219,7 @@ fn halt(board: &Board<Counter>, seat: &mut Seat<Counter>)
     seat.halt(board);
 }
 
-// A second seat, with one part of the first.
+// Splits off a second seat, with one part of the first.
 fn split(
     alloc: Global,
     board: &Board<Counter>,
@@ -237,7 +237,7 @@ fn split(
     }
 }
 
-// One seat of the two, where the second has nothing in its hands.
+// Joins two seats, if the second has nothing in its hands.
 fn join(board: &Board<Counter>, seat: Seat<Counter>, other: Seat<Counter>) -> Option<Seat<Counter>>
     requires square { IsSquare board.now.table.shared.table_id seat × IsSquare board.now.table.shared.table_id other }
     requires share { other.seat.me.0.drawn ≡ 0 }

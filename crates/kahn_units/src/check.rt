@@ -58,7 +58,7 @@ static REFUSED: [(&str, CheckFault); 12] = [
     ),
 ];
 
-// Why a program is refused.
+// Returns why a program is refused.
 fn fault(text: &str, rt: &HostRuntime) -> Option<CheckFault> {
     match parse(rt.alloc(), text) {
         Ok(program) => check(rt.alloc(), program).err(),
@@ -73,7 +73,7 @@ fn programs_are_refused_with_their_first_fault(rt: HostRuntime) {
     }
 }
 
-// So many channels that nobody writes or reads.
+// Makes `count` channels that nobody writes or reads.
 fn channels(alloc: Global, count: usize) -> Result<String, AllocError> {
     let mut text = String::from_str(alloc, "begin integer channel X0")?;
     for number in 1..count {

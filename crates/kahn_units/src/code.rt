@@ -34,7 +34,7 @@ static STAGES: [Seen; 5] = [
     ((Pause::Dry(0), 10), (3, 3, Some(3))),
 ];
 
-// What is seen of it where a growth was refused: a send isn't done, and all is as before it.
+// What is seen of it if a growth was refused: a send isn't done, and all is as before it.
 static BEFORE_A_SEND: [Seen; 3] = [
     ((Pause::NoMemory, 2), (1, 0, Some(0))),
     ((Pause::NoMemory, 5), (2, 1, Some(1))),
@@ -44,7 +44,7 @@ static BEFORE_A_SEND: [Seen; 3] = [
 // What it sends.
 static EVEN: [i64; 3] = [2, 4, 6];
 
-// The cell of the first instance, for the input that is named.
+// The cell of the first instance, for the input that the caller names.
 fn named<A: Allocator + Copy + Drop>(
     alloc: A,
     network: &Network,
@@ -78,7 +78,7 @@ fn opening<A: Allocator + Copy + Drop>(
     Ok((code, cell, queues))
 }
 
-// Runs a cell for at most so many events.
+// Runs a cell for at most `quantum` events.
 fn run<A: Allocator + Copy + Drop, L: Ledger>(
     code: &Code<A>,
     cell: &mut Cell<A>,
@@ -97,7 +97,7 @@ fn run<A: Allocator + Copy + Drop, L: Ledger>(
     Some(cell.run(code, quantum, queues, steps))
 }
 
-// How many even numbers from 2 on a cell keeps of what it sent on its second parameter. None where it keeps something else.
+// Returns how many even numbers from 2 on a cell keeps of what it sent on its second parameter. None if it keeps something else.
 fn kept<A: Allocator + Copy + Drop>(cell: &Cell<A>) -> Option<usize>
     requires { 1 < length cell.now.kept }
 {
@@ -111,7 +111,7 @@ fn kept<A: Allocator + Copy + Drop>(cell: &Cell<A>) -> Option<usize>
     Some(tokens.len())
 }
 
-// What is seen of a cell after each of these runs: the growth that is refused, and for how many events at most.
+// What is seen of a cell after each of these runs, given by the growth that is refused and the most events.
 fn seen_in<A: Allocator + Copy + Drop, L: Ledger>(
     rt: &impl Abort,
     alloc: A,

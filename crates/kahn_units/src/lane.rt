@@ -51,7 +51,7 @@ fn a_refused_item_comes_back(rt: HostRuntime) -> Result<(), Fail> {
     Ok(())
 }
 
-// Gives the numbers below 1000, as far as memory goes.
+// Gives the numbers below 1000, until memory is refused.
 fn give_all(mut giver: Giver<u32>) -> Giver<u32>
     ensures { giver_relay result ≡ giver_relay giver }
 {
@@ -61,7 +61,7 @@ fn give_all(mut giver: Giver<u32>) -> Giver<u32>
     giver
 }
 
-// Takes numbers, and answers whether they came in order from 0 on.
+// Takes numbers, and returns whether they came in order from 0 on.
 fn take_some(mut taker: Taker<u32>) -> (Taker<u32>, u32, bool)
     ensures { taker_relay result.0 ≡ taker_relay taker }
 {
@@ -81,8 +81,8 @@ fn take_some(mut taker: Taker<u32>) -> (Taker<u32>, u32, bool)
     (taker, next, in_order)
 }
 
-// One thread gives and another takes, and then both ends meet: how many items were taken, in order, and how many are
-// left.
+// One thread gives and another takes, and then both ends meet. Returns how many items were taken, in order, and how
+// many are left.
 fn two_threads<R: Threads + Sync>(rt: &R, alloc: Global) -> Result<(u32, bool, u64), LaneFault> {
     let (giver, taker) = relay::<u32, _>(alloc)?;
     let (mut giver, (mut taker, taken, in_order)) = thread::join(

@@ -3,14 +3,14 @@
 use std::alloc::{AllocError, Allocator};
 use std::cell::Cell;
 
-/// An allocator that hands on what another one gives, but for the growth whose turn it is.
+/// An allocator that passes on what another one gives, but refuses one growth.
 pub struct Rationed<B: Allocator> {
     inner: B,
     left: Cell<u64>,
 }
 
 impl<B: Allocator> Rationed<B> {
-    /// Memory that refuses nothing yet.
+    /// Makes memory that refuses nothing yet.
     pub fn new(inner: B) -> Rationed<B> {
         Rationed {
             inner,
@@ -18,7 +18,7 @@ impl<B: Allocator> Rationed<B> {
         }
     }
 
-    /// From now on the growth of this number is refused, counted from 1. With 0 none is.
+    /// Refuses the growth of this number from now on, counted from 1; with 0 none.
     pub fn refuse(&self, number: u64) {
         self.left.set(number);
     }

@@ -11,6 +11,6 @@ use Rattle.kahn_streams.specs.Inputs.{Lists}
 abbrev pub alone : ℕ → Config
 alone bound = record { workers = 1; quantum = 1000; bound = bound; watch = None }
 
--- the answer of the run of a program on what an input text stands for
+-- the answer of the run of a program on what an input text describes
 abbrev pub IsRunAlone : Program → List ℕ → ℕ → Answer → Type 0
 IsRunAlone t text bound a = (lists : Lists) × StandsFor t text lists × IsRightRun t lists (alone bound) a

@@ -1,4 +1,4 @@
--- Believed. What the page is answered for its texts, which are bytes.
+-- Believed. What the page gets for its texts, which are bytes.
 use Rattle.std.specs.Prelude.{◌≡◌, ℕ, ◌≤◌, ◌<◌, List, [], Option, Some, Result, length, take}
 use Rattle.std.specs.declared.result.Result.TheVariants.{Ok, Err}
 use Rattle.std.specs.Str.{IsUtf8}
@@ -12,7 +12,7 @@ use Rattle.kahn_streams.specs.Written.{Writes}
 use Rattle.kahn_fault.specs.Telling.{told_text}
 use Rattle.kahn_web.specs.Alone.{alone}
 
--- what the work by one thread did, or which text is no UTF-8, after which nothing was written
+-- what the work by one thread did, or which text isn't UTF-8, after which nothing was written
 abbrev pub IsAnswerAlone : List ℕ → List ℕ → ℕ → Option (List ℕ) → Option (List ℕ) → Result Verdict Fault → Type 0
 IsAnswerAlone program input bound old new (Ok verdict) = IsWorked program input (alone bound) old new (Ok verdict)
 IsAnswerAlone program input bound old new (Err (Open path)) = ⊥
@@ -20,12 +20,12 @@ IsAnswerAlone program input bound old new (Err (Program path fault)) = (IsUtf8 p
 IsAnswerAlone program input bound old new (Err (InputText path fault)) = (IsUtf8 input → ⊥) × (new ≡ old)
 IsAnswerAlone program input bound old new (Err (Work fault)) = IsWorked program input (alone bound) old new (Err fault)
 
--- the same, with the line of the fault behind it, and the status
+-- the same, with the line of the fault after it, and the status
 abbrev pub IsSaidAlone : List ℕ → List ℕ → ℕ → Option (List ℕ) → Option (List ℕ) → ℕ → Type 0
 IsSaidAlone program input bound old new status =
     (answer : Result Verdict Fault) × (middle : Option (List ℕ)) × (line : Result (Unit {0}) WriteFault) × IsAnswerAlone program input bound old middle answer × (status ≡ status_of answer) × Writes middle new line (told_text program answer)
 
--- the bytes stand at the front of a room that has so many, and a smaller one keeps what it has
+-- the bytes are at the front of a room that is large enough, and a smaller one keeps what it has
 abbrev pub IsPut : List ℕ → List ℕ → List ℕ → ℕ → Type 0
 IsPut bytes old new size = (size ≡ length bytes) × (size ≤ length old → take size new ≡ bytes) × (length old < size → new ≡ old)
 

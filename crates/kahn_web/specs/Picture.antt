@@ -1,4 +1,4 @@
--- Believed. What the page is given as the picture of a network.
+-- Believed. What the page gets as the picture of a network.
 use Rattle.std.specs.Prelude.{◌≡◌, ℕ, ◌⊎◌, List}
 use Rattle.std.specs.Str.Lines.{lines}
 use Rattle.kahn_streams.specs.declared.tree.Program.{Program}

@@ -7,8 +7,8 @@ use kahn_graph::picture_text;
 use kahn_report::checked;
 use std::alloc::Global;
 
-/// The picture of a program's network, with what the report of a run says of it; the report may be empty. There is none where a text
-/// isn't UTF-8, where the program is refused, and where memory is.
+/// Draws a program's network, with what the report of a run says of it; the report may be empty. None if a text isn't UTF-8, if
+/// the program is refused, and if memory is.
 pub fn drawn(alloc: Global, program: &[u8], report: &[u8]) -> Option<String>
     ensures { IfSome result (λ picture. IsNetworkPicture program.now report.now (string_bytes picture)) }
 {

@@ -9,7 +9,7 @@ use kahn_streams::Network;
 use kahn_why::{explain_report, refuse_input};
 use std::alloc::Global;
 
-/// Why the input of a program is refused, as `kahn_explain program --input input` tells it.
+/// Returns why the input of a program is refused, as `kahn_explain program --input input` says it.
 fn refused(alloc: Global, program: &str, network: &Network, input: &str) -> Option<Vec<u8>>
     requires { IsChecked program.now network.now }
     ensures { IfSome result (λ text. IsInputRefused program.now input.now text.items) }
@@ -24,7 +24,7 @@ fn refused(alloc: Global, program: &str, network: &Network, input: &str) -> Opti
     }
 }
 
-/// Why a program is refused, or why the run of its report stopped, as `kahn_explain program --report report` tells it.
+/// Returns why a program is refused, or why the run of its report stopped, as `kahn_explain program --report report` says it.
 fn explained(alloc: Global, program: &str, report: &str) -> Option<Vec<u8>>
     ensures { IfSome result (λ text. IsReportExplained program.now report.now text.items) }
 {
@@ -35,8 +35,8 @@ fn explained(alloc: Global, program: &str, report: &str) -> Option<Vec<u8>>
     }
 }
 
-/// Why a program is refused, or else its input where there is no report, or else why the run of the report stopped. There is nothing
-/// where a text isn't UTF-8, where the fault has no place, and where memory is refused.
+/// Returns why a program is refused, or else its input if there is no report, or else why the run of the report stopped. None if a
+/// text isn't UTF-8, if the fault has no place, and if memory is refused.
 pub fn reason(alloc: Global, program: &[u8], input: &[u8], report: &[u8]) -> Option<Vec<u8>>
     ensures { IfSome result (λ text. IsReason program.now input.now report.now text.items) }
 {

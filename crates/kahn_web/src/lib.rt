@@ -16,17 +16,17 @@ use crate::explaining::reason;
 use crate::texts::run_texts;
 use std::alloc::Global;
 
-/// What a run told.
+/// The result of a run.
 #[repr(C)]
 #[derive(Drop)]
 pub struct Told {
     /// The status that the program `kahn` ends with for the same texts.
     pub status: u64,
-    /// How many bytes the report has, or the line of the fault where there is no report.
+    /// How many bytes the report has, or the line of the fault if there is no report.
     pub length: u64,
 }
 
-// Copies the bytes to the front of the room where it has so many, and gives how many there are.
+// Copies the bytes to the front of the room, if it is large enough, and returns how many there are.
 fn put(bytes: &[u8], room: &mut [u8]) -> u64
     ensures { IsPut bytes.now room.old room.new result }
 {
@@ -36,8 +36,8 @@ fn put(bytes: &[u8], room: &mut [u8]) -> u64
     bytes.len() as u64
 }
 
-/// Runs a program on an input for at most `bound` events on the caller's thread. The report, or the line of the fault where there is
-/// none, is copied to the front of the room where the room has so many bytes. Where it hasn't, the room keeps its bytes.
+/// Runs a program on an input for at most `bound` events on the caller's thread. The report, or the line of the fault if there is
+/// none, is copied to the front of the room, if it is large enough; else the room keeps its bytes.
 #[unsafe(no_mangle)]
 pub extern "C" fn kahn_web_run(
     alloc: Global,
@@ -58,7 +58,7 @@ pub extern "C" fn kahn_web_run(
 }
 
 /// Draws the network of a program, with what the report of a run says of it; the report may be empty. The picture, in the language of
-/// Graphviz, is copied as a report is, and its length is given, which is 0 where there is no picture.
+/// Graphviz, is copied as a report is, and its length is returned, which is 0 if there is no picture.
 #[unsafe(no_mangle)]
 pub extern "C" fn kahn_web_draw(
     alloc: Global,
@@ -74,8 +74,8 @@ pub extern "C" fn kahn_web_draw(
     }
 }
 
-/// Tells why a program is refused, or else its input where the report is empty, or else why the run of the report stopped. The text is
-/// copied as a report is, and its length is given, which is 0 where there is nothing to tell.
+/// Explains why a program is refused, or else its input if the report is empty, or else why the run of the report stopped. The text is
+/// copied as a report is, and its length is returned, which is 0 if there is nothing to explain.
 #[unsafe(no_mangle)]
 pub extern "C" fn kahn_web_explain(
     alloc: Global,

@@ -1,4 +1,4 @@
-//! Bytes that go out.
+//! Writing bytes.
 
 ghost use Rattle.std.specs.Prelude.{◌≡◌, ◌+◌, ◌<◌, ◌≤◌, IfSome, length, flat_map};
 ghost use Rattle.std.specs.Io.KnownBytes.{Keeps};
@@ -19,7 +19,7 @@ pub enum WriteFault {
     Zero,
 }
 
-/// How many bytes a pipe takes at once, or not at all: where several programs write to it, they stay together.
+/// How many bytes a pipe takes at once or not at all: if several programs write to it, they stay together.
 const ROOM: usize = 4096;
 
 /// Writes bytes, by as many writes as it takes.
@@ -60,7 +60,7 @@ pub fn put_all<W: Write, L: Ledger>(
     Ok(())
 }
 
-/// Joins pieces in the room, and gives their text, where they fit.
+/// Joins pieces in `room` and returns their text, if they fit.
 fn joined<'a>(pieces: &[&[u8]], room: &'a mut [u8]) -> Option<&'a [u8]>
     ensures { IfSome result (λ text. text.now ≡ flat_map (λ piece. piece.now) pieces.now) }
 {
@@ -75,7 +75,7 @@ fn joined<'a>(pieces: &[&[u8]], room: &'a mut [u8]) -> Option<&'a [u8]>
     Some(&room[..end])
 }
 
-/// Writes the pieces of a line: by one write, where no more than `ROOM` bytes stand in it and the writer takes them all.
+/// Writes the pieces of a line: by one write, if they have at most `ROOM` bytes and the writer takes them all.
 pub fn put_line<W: Write, L: Ledger>(
     writer: &mut W,
     pieces: &[&[u8]],
@@ -91,7 +91,7 @@ pub fn put_line<W: Write, L: Ledger>(
     }
 }
 
-/// Flushes a writer, which leaves what it holds, and counts that too.
+/// Flushes a writer, whose contents stay, and counts that too.
 pub fn flush<W: Write, L: Ledger>(writer: &mut W, writes: &mut Steps<L>) -> Result<(), WriteFault>
     ensures kept { Keeps (W.contents writer.old) (W.contents writer.new) }
     ensures once { writes.new ≡ writes.old + 1 }
@@ -128,7 +128,7 @@ fn write_line_opened<W: Write, L: Ledger>(
     write_line_counted(writer, pieces, &mut writes)
 }
 
-/// Writes the pieces of a line, and flushes. After a fault a prefix of them went out. It takes no memory.
+/// Writes the pieces of a line, and flushes. After a fault a prefix of them went out. Never allocates.
 pub fn write_line<W: Write>(writer: &mut W, pieces: &[&[u8]]) -> Result<(), WriteFault>
     ensures { Writes (W.contents writer.old) (W.contents writer.new) result (flat_map (λ piece. piece.now) pieces.now) }
 {

@@ -11,13 +11,13 @@ use kahn_streams::{Carried, Steps, Value};
 use std::io::Write;
 use std::sync::ledger::Ledger;
 
-/// How many values are put together for one write.
+/// How many values one write has.
 const TOGETHER: usize = 32;
 
-/// Room for so many, each of 20 bytes at most and a space.
+/// Room for these, each of 20 bytes at most and a space.
 const ROOM: usize = 21 * TOGETHER;
 
-/// Places a text so that it ends at `end`, and gives where it begins.
+/// Places a text so that it ends at `end`, and returns where it begins.
 #[inline(always)]
 fn place(text: &[u8], room: &mut [u8], end: usize) -> usize
     requires { (length text.now ≤ end) × (end ≤ length room.old) }
@@ -29,7 +29,7 @@ fn place(text: &[u8], room: &mut [u8], end: usize) -> usize
     start
 }
 
-/// Places a number so that it ends at `end`, and gives where it begins.
+/// Places a number so that it ends at `end`, and returns where it begins.
 #[inline(always)]
 #[tactic(auto, using(crate::proofs::Pieces::digits_within))]
 fn place_number(number: i64, room: &mut [u8], end: usize) -> usize
@@ -45,7 +45,7 @@ fn place_number(number: i64, room: &mut [u8], end: usize) -> usize
     }
 }
 
-/// Places a value so that it ends at `end`, and gives where it begins.
+/// Places a value so that it ends at `end`, and returns where it begins.
 #[inline(always)]
 fn place_value(value: Value, room: &mut [u8], end: usize) -> usize
     requires { (20 ≤ end) × (end ≤ length room.old) }
@@ -59,12 +59,12 @@ fn place_value(value: Value, room: &mut [u8], end: usize) -> usize
     }
 }
 
-/// How values stand one after another.
+/// How values are separated.
 pub trait Layout {
     // the bytes of one
     ghost text: { ValueView → List ℕ };
 
-    /// Places a value and what parts it from others so that they end at `end`, and gives where they begin.
+    /// Places a value and its separator so that they end at `end`, and returns where they begin.
     fn place(value: Value, room: &mut [u8], end: usize) -> usize
         requires { (21 ≤ end) × (end ≤ length room.old) }
         ensures near { (result ≤ end) × (end ≤ result + 21) }
@@ -101,7 +101,7 @@ impl Layout for Lined {
     }
 }
 
-/// Places the values of tokens at the end of the room, the last one first since digits come so, and gives their text.
+/// Places the values of tokens at the end of `room`, the last one first, as digits are made, and returns their text.
 fn place_values<'a, F: Layout>(tokens: &[Carried], room: &'a mut [u8]) -> &'a [u8]
     requires { 21 * length tokens.now ≤ length room.old }
     ensures { result.now ≡ flat_map (λ token. F.text token.value) tokens.now }
@@ -113,7 +113,7 @@ fn place_values<'a, F: Layout>(tokens: &[Carried], room: &'a mut [u8]) -> &'a [u
     &room[start..]
 }
 
-/// Writes the values of tokens, so many by one write.
+/// Writes the values of tokens, `TOGETHER` by one write.
 pub fn put_values<F: Layout, W: Write, L: Ledger>(
     writer: &mut W,
     tokens: &[Carried],

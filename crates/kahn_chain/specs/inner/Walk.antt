@@ -10,7 +10,7 @@ use Rattle.kahn_chain.specs.declared.walk.Step.{Step}
 use Rattle.kahn_chain.specs.declared.walk.Step.TheVariants.{On, Stop}
 use Rattle.kahn_chain.specs.declared.walk.Walked.{Walked}
 
--- where instance z itself goes no further
+-- the cause is at instance z itself
 abbrev pub IsHere : Network → List Standing → ℕ → Cause → Type 0
 IsHere N ss z (Input y c) = (y ≡ z) × IsCause N ss z (Input y c)
 IsHere N ss z (Stopped y s) = (y ≡ z) × IsCause N ss z (Stopped y s)

@@ -18,7 +18,7 @@ use Rattle.kahn_check.specs.inner.Tables.{Ends, handed_to, made_in, meant, side_
 
 -- ---- tables
 
--- each name stands for the same
+-- each name stands for the same in both
 abbrev pub StandAlike : {A : Type 0} → List (List ℕ × A) → List (List ℕ × A) → Type 0
 StandAlike a b = (x : List ℕ) → lookup (bytes_eq x) a ≡ lookup (bytes_eq x) b
 
@@ -30,7 +30,7 @@ kept_as (Some b) known x a = known
 abbrev pub kept_first : {A : Type 0} → List (List ℕ × A) → List ℕ → A → List (List ℕ × A)
 kept_first known x a = kept_as (lookup (bytes_eq x) known) known x a
 
--- what a table has got of what is handed over, if it keeps the first side of each channel
+-- what a table holds of what is handed over, if it keeps the first side of each channel
 abbrev pub got_first : Direction → Ends → List Handover → Ends
 got_first d s [] = s
 got_first d s (h ∷ hs) = if same_direction d h.direction then got_first d (kept_first s h.channel h.end) hs else got_first d s hs
@@ -54,19 +54,19 @@ abbrev pub first_then : Option CheckFault → List CheckFault → Option CheckFa
 first_then None fs = first_fault fs
 first_then (Some f) fs = Some f
 
--- the first fault of a part, if it has one, stands behind those before
+-- the first fault of a part, if it has one, comes after those before
 abbrev pub HasAddedFirst : List CheckFault → List CheckFault → List CheckFault → Type 0
 HasAddedFirst p before after = after ≡ before ++ first_alone p
 
--- that of each part stands behind those before
+-- that of each part comes after those before
 abbrev pub HasAdded : List (List CheckFault) → List CheckFault → List CheckFault → Type 0
 HasAdded ps before after = after ≡ before ++ firsts ps
 
--- the same number of channels, as far as the limit goes
+-- the same number of channels, up to the limit
 abbrev pub AreAsMany : ℕ → ℕ → Type 0
 AreAsMany n m = (n ≡ m) ⊎ ((most_channels ≤ n) × (most_channels ≤ m))
 
--- ---- what is told, where the table goes from g to g', the number of channels from n to n', and the list from fs to fs'
+-- ---- what is reported, as the table goes from g to g', the number of channels from n to n', the list from fs to fs'
 
 -- of a name that is declared for a channel
 abbrev pub name_faults : List (List ℕ × Global) → ℕ → Name → List CheckFault
@@ -80,7 +80,7 @@ pub record HaveToldNames (kind : Kind) (role : Role) (xs : List Name) (g : List 
   pub told : fs' ≡ fs ++ firsts (channel_parts g n kind role xs)
   pub alike : StandAlike g' (g ++ entries (map (λ x. (x, IsChannel kind role)) xs))
 
--- of one declaration, whichever come behind it
+-- of one declaration, whatever follows
 pub record HasTold (d : Declaration) (g : List (List ℕ × Global)) (n : ℕ) (fs : List CheckFault)
     (g' : List (List ℕ × Global)) (n' : ℕ) (fs' : List CheckFault) : Type 0 where
   pub limit : n' ≤ most_channels

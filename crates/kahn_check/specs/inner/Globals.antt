@@ -31,11 +31,11 @@ IsPlaced ds (E.Process k p) = process_at ds k ≡ Some p.now
 abbrev pub ArePlaced : List Declaration → Globals → Type 0
 ArePlaced ds g = AllByRecursion (λ e. IsPlaced ds e.1) g.names
 
--- the names of channels that are declared behind the known ones
+-- the names of channels that are declared after the known ones
 abbrev pub HaveJoined : Kind → Role → List Name → Globals → Globals → Type 0
 HaveJoined kind role names before after = known after ≡ known before ++ entries (map (λ x. (x, IsChannel kind role)) names)
 
--- the same where n of them are declared then, count before these
+-- the same; n channels are declared then, `count` before these
 abbrev pub HaveMore : ℕ → Kind → Role → List Name → Globals → Globals → ℕ → Type 0
 HaveMore count kind role names before after n = (n ≡ count + length names) × (n ≤ most_channels) × HaveJoined kind role names before after
 

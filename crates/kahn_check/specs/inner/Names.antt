@@ -1,4 +1,4 @@
--- Inner. Names that are looked up by their hash, and by their text where another name has that hash.
+-- Inner. Names that are looked up by their hash, and by their text if another name has that hash.
 use Rattle.std.specs.Prelude.{◌≡◌, ℕ, List, Option, None, Some, String, string_bytes, if◌then◌else◌}
 use Rattle.std.proofs.Common.{bytes_eq}
 use Rattle.std.specs.Hash.{str}

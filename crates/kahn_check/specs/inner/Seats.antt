@@ -1,4 +1,4 @@
--- Inner. What the instances of a program make of it.
+-- Inner. What the instances of a program hand over.
 use Rattle.std.specs.Prelude.{◌≡◌, ℕ, List, [], map}
 use Rattle.kahn_streams.specs.declared.tree.Direction.TheVariants.{In, Out}
 use Rattle.kahn_streams.specs.declared.tree.Program.{Program}

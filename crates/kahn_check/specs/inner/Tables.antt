@@ -34,7 +34,7 @@ abbrev pub taken : Direction → List Handover → Ends
 taken d [] = []
 taken d (h ∷ hs) = if same_direction d h.direction then (h.channel, h.end) ∷ taken d hs else taken d hs
 
--- both tables have got what is handed over
+-- both tables hold what is handed over
 abbrev pub HaveGot : List Handover → Ends → Ends → Ends → Ends → Type 0
 HaveGot hs w r w' r' = (w' ≡ w ++ taken Out hs) × (r' ≡ r ++ taken In hs)
 

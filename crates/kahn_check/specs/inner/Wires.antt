@@ -25,7 +25,7 @@ line_in w r c = ((bytes_of c.0, c.1), (lookup (bytes_eq (bytes_of c.0)) w, looku
 abbrev pub lines_in : Ends → Ends → List (Name × (Kind × Role)) → List Line
 lines_in w r cs = map (line_in w r) cs
 
--- the wires of these channels stand behind those before, or the faults of them
+-- the wires of these channels come after those before, or the faults of them
 abbrev pub HaveWires : {A : Type 0} → Ends → Ends → List (Name × (Kind × Role)) → List Wire → List Wire → Result A CheckFault → Type 0
 HaveWires w r cs before after result = Checks (sides_in w r cs) (λ _. map shown after ≡ map shown before ++ lines_in w r cs) result
 

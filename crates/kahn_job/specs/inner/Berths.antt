@@ -7,7 +7,7 @@ use Rattle.kahn_job.specs.inner.Ways.{no_end}
 abbrev pub end_at : List End → ℕ → End
 end_at ends q = slice_index_or ends q no_end
 
--- the end is that of the channel that is handed over, of which this is so; an input channel has no lane
+-- the end is that of the channel that is handed over, and `so` holds of them; an input channel has no lane
 abbrev pub ServesSo : (ℕ → End → Type 0) → Program → Actual → End → Type 0
 ServesSo so t (Reads d) e = (e.reads ≡ true) × so d e × (role_at (network_of t) d ≡ Input → e.lane ≡ None)
 ServesSo so t (Writes d) e = is_output (role_at (network_of t) d) ≡ false → (e.writes ≡ true) × so d e
@@ -46,21 +46,21 @@ pub record HaveAdvanced (old new : List End) : Type 0 where
   pub same : (q : ℕ) → IsSame (end_at old q) (end_at new q)
   pub flushed : (q : ℕ) → (end_at old q).flushed ≤ (end_at new q).flushed
 
--- it is the same end, where it stood, and at most knows more
+-- it is the same end at the same place, and at most knows more
 pub record HasStayed (old new : End) : Type 0 where
   pub same : IsSame old new
   pub next : new.next ≡ old.next
   pub flushed : new.flushed ≡ old.flushed
   pub ready : IsReady old → IsReady new
 
--- it is the same end, where it stood, and all that was put was flushed or as much is flushed as before
+-- it is the same end at the same place, and all that was put was flushed or as much is flushed as before
 pub record HasFlushed (old new : End) : Type 0 where
   pub same : IsSame old new
   pub next : new.next ≡ old.next
   pub flushed : (new.flushed ≡ old.flushed) ⊎ (new.flushed ≡ new.next)
   pub grows : old.flushed ≤ new.flushed
 
--- so for all ends
+-- the same for all ends
 pub record HaveFlushed (old new : List End) : Type 0 where
   pub count : length new ≡ length old
   pub each : (q : ℕ) → HasFlushed (end_at old q) (end_at new q)
@@ -68,12 +68,12 @@ pub record HaveFlushed (old new : List End) : Type 0 where
 abbrev pub end_in : List (List End) → ℕ → ℕ → End
 end_in rows p q = end_at (slice_index_or rows p []) q
 
--- the writer's and the reader's end of channel d are so
+-- `so` holds of the writer's and the reader's end of channel d
 abbrev pub AreSoOn : (End → End → Type 0) → Network → List (List End) → ℕ → Type 0
 AreSoOn so N rows d =
     (p r o q : ℕ) → actual_at (instance_at N p) o ≡ Writes d → actual_at (instance_at N r) q ≡ Reads d → so (end_in rows p o) (end_in rows r q)
 
--- they are the two of one lane: a channel from one instance to another, or to itself, is one
+-- they are the two ends of one lane, also on a channel from an instance to itself
 abbrev pub AreJoinedOn : Network → List (List End) → ℕ → Type 0
 AreJoinedOn = AreSoOn ShareLane
 
@@ -81,14 +81,14 @@ AreJoinedOn = AreSoOn ShareLane
 abbrev pub AreBehindOn : Network → List (List End) → ℕ → Type 0
 AreBehindOn = AreSoOn IsBehind
 
--- the instance and the parameter are there
+-- the instance and the parameter exist
 abbrev pub HasPlace : List (List End) → Side → Type 0
 HasPlace rows s = (s.instance < length rows) × (s.parameter < length (slice_index_or rows s.instance []))
 
 abbrev pub end_of_side : List (List End) → Side → End
 end_of_side rows s = end_in rows s.instance s.parameter
 
--- each end stands where it stood, and at most knows more
+-- each end is at the same place, and at most knows more
 pub record HaveStayed (old new : List (List End)) : Type 0 where
   pub count : length new ≡ length old
   pub sizes : (p : ℕ) → length (slice_index_or new p []) ≡ length (slice_index_or old p [])

@@ -7,10 +7,10 @@ abbrev pub Lane : Type 0
 Lane = (ℕ × ℕ) × Global
 
 pub record End : Type 0 where
-  -- tokens are taken here, or put here; neither where the parameter has no end
+  -- tokens are taken here, or put here; neither if the parameter has no end
   pub reads : Bool
   pub writes : Bool
-  -- the lane, where it is the end of one, and what its tokens are of
+  -- the lane, if it is the end of one, and what its tokens are of
   pub lane : Option Lane
   pub name : Named
   -- the place of the next token
@@ -50,7 +50,7 @@ pub record MayMeet (writer reader : End) : Type 0 where
   pub reads : reader.reads ≡ true
   pub lane : ShareLane writer reader
 
--- no more was taken than was flushed, and less where the next take gives a token
+-- no more was taken than was flushed, and less if the next take gives a token
 pub record IsBehind (writer reader : End) : Type 0 where
   pub within : reader.next ≤ writer.flushed
   pub more : 0 < reader.waiting → reader.next < writer.flushed
@@ -63,8 +63,8 @@ Advances old new = IsSame old new × (old.flushed ≤ new.flushed) × (new.flush
 abbrev pub IsReady : End → Type 0
 IsReady e = 0 < e.waiting
 
--- all tokens that it knew of were taken, or 64 steals met another step since it was last asked: so many segments have left
--- the lane meanwhile
+-- all tokens that it knew of were taken, or 64 steals met another step since it was last asked: 64 segments have left the
+-- lane meanwhile
 abbrev pub IsDry : End → Type 0
 IsDry e = (e.known ≤ e.next) ⊎ (e.asked + 64 ≤ e.left)
 

@@ -13,7 +13,7 @@ rows_of ws = map (λ w. w.ends) ws
 abbrev pub cells_of : List Work → List Told
 cells_of ws = map (λ w. w.cell) ws
 
--- the cells are the same, and each end stands where it stood
+-- the cells are the same, and each end is at the same place
 pub record HaveMet (old new : List Work) : Type 0 where
   pub cells : cells_of new ≡ cells_of old
   pub rows : HaveStayed (rows_of old) (rows_of new)
@@ -26,7 +26,7 @@ pub record IsIdle (t : Program) (lists : Lists) (p : ℕ) (w : Work) : Type 0 wh
   pub instance : w.cell.instance ≡ p
   pub at : IsAt w.cell (λ q. (end_at w.ends q).next)
 
--- so for all instances
+-- the same for all instances
 pub record AreIdle (t : Program) (lists : Lists) (ws : List Work) : Type 0 where
   pub count : length ws ≡ length (network_of t).instances
   pub each : (p : ℕ) (w : Work) → slice_get ws p ≡ Some w → IsIdle t lists p w
@@ -53,7 +53,7 @@ pub record AreEndsOf (t : Program) (lists : Lists) (c : ℕ) (writer reader : En
   pub takes : (role_at (network_of t) c ≡ Output → ⊥) → Serves t lists (Reads c) reader
   pub fresh : IsFresh writer × IsFresh reader
 
--- the two ends of a channel, of which this is so; of an inner channel they are those of one lane
+-- the two ends of a channel, and `so` holds of them; of an inner channel they are those of one lane
 pub record AreEndsSo (t : Program) (so : Actual → End → Type 0) (whole : End → Type 0) (c : ℕ) (writer reader : End) : Type 0 where
   pub puts : (role_at (network_of t) c ≡ Input → ⊥) → so (Writes c) writer
   pub takes : (role_at (network_of t) c ≡ Output → ⊥) → so (Reads c) reader
@@ -81,7 +81,7 @@ HaveFewTokens t queues = (d : ℕ) → role_at (network_of t) d ≡ Inner → gi
 abbrev pub AreEndsAt : Program → Lists → List Waiting → ℕ → End → End → Type 0
 AreEndsAt t lists queues c writer reader = AreEndsSo t (ServesAt t lists queues) IsAhead c writer reader
 
--- the end comes to that parameter of that instance
+-- that parameter of that instance gets the end
 abbrev pub placed : List (List End) → Option Side → End → List (List End)
 placed rows None e = rows
 placed rows (Some s) e = slice_set rows s.instance (slice_set (slice_index_or rows s.instance []) s.parameter e)
@@ -108,7 +108,7 @@ pub record AreOpening (t : Program) (lists : Lists) (watch : Option ℕ) (ws : L
 abbrev pub HasNoEnds : Program → Lists → Option ℕ → ℕ → Work → Type 0
 HasNoEnds t lists watch p w = IsOpening t lists watch p w.cell × (w.ends ≡ replicate (length (instance_at (network_of t) p).actuals) no_end)
 
--- so for all instances
+-- the same for all instances
 pub record HaveNoEnds (t : Program) (lists : Lists) (watch : Option ℕ) (ws : List Work) : Type 0 where
   pub count : length ws ≡ length (network_of t).instances
   pub each : (p : ℕ) (w : Work) → slice_get ws p ≡ Some w → HasNoEnds t lists watch p w

@@ -4,7 +4,7 @@ use Rattle.kahn_job.specs.inner.Words.{ℕ, true, false, List, [], length, None,
 use Rattle.kahn_job.specs.inner.Ends.{End, IsFlushed, MayMeet, ShareLane}
 use Rattle.kahn_job.specs.inner.Berths.{ServesSo, AreJoinedOn, end_in, end_of_side}
 
--- it has become an end of what the name says: it stands where it stood, and what was put is flushed
+-- it has become an end of what the name says, at the same place, and what was put is flushed
 pub record HasSettled (name : LaneName) (old new : End) : Type 0 where
   pub named : new.name ≡ Some name
   pub reads : new.reads ≡ old.reads
@@ -34,7 +34,7 @@ pub record AreResting (t : Program) (lists : Lists) (rows : List (List End)) : T
 abbrev pub IsCarried : Program → Actual → ℕ → Type 0
 IsCarried t a d = Joins a d × (is_output (role_at (network_of t) d) ≡ false)
 
--- the ends of the others are as they were
+-- the ends of all other sides are as they were
 pub record AreElsewhere (here : Side → Type 0) (old new : List (List End)) : Type 0 where
   pub count : length new ≡ length old
   pub sizes : (p : ℕ) → length (slice_index_or new p []) ≡ length (slice_index_or old p [])
@@ -46,13 +46,13 @@ pub record AreSettled (t : Program) (lists : Lists) (d : ℕ) (old new : List (L
   pub each : (p q : ℕ) → IsCarried t (actual_at (instance_at (network_of t) p) q) d → HasSettled (lane_name t lists d) (end_in old p q) (end_in new p q)
   pub joined : AreJoinedOn (network_of t) new d
 
--- the end stands where it stood, and nothing that was flushed there is taken back
+-- the end is at the same place, and nothing that was flushed there is taken back
 pub record HasStood (old new : End) : Type 0 where
   pub next : new.next ≡ old.next
   pub flushed : old.writes ≡ true → old.flushed ≤ new.flushed
   pub writes : new.writes ≡ old.writes
 
--- so for all ends
+-- the same for all ends
 abbrev pub HaveStood : List (List End) → List (List End) → Type 0
 HaveStood old new = (p q : ℕ) → HasStood (end_in old p q) (end_in new p q)
 
@@ -69,7 +69,7 @@ pub record CanFeed (lists : Lists) (reader : End) : Type 0 where
   pub bare : reader.lane ≡ None
   pub grown : (n : LaneName) × (reader.name ≡ Some n) × IsGrown n lists
 
--- both ends of a lane have
+-- both ends of a lane have settled
 abbrev pub BothSettle : LaneName → End → End → End → End → Type 0
 BothSettle name writer reader sender receiver = HasSettled name writer sender × HasSettled name reader receiver
 
@@ -85,6 +85,6 @@ pub record HasExchanged (lists : Lists) (reader : Side) (old new : List (List En
   pub elsewhere : AreElsewhere (λ s. s ≡ reader) old new
   pub reads : (n : LaneName) → (end_of_side old reader).name ≡ Some n → HasSettled (moved_to lists n) (end_of_side old reader) (end_of_side new reader)
 
--- it goes so, or where memory was refused all ends are as they were
+-- it is done so; or memory was refused, and all ends are as they were
 abbrev pub GoesOrStays : {A E : Type 0} → Result A E → (List (List End) → List (List End) → Type 0) → List (List End) → List (List End) → Type 0
 GoesOrStays result goes old new = MatchResult result (λ _. goes old new) (λ _. AreElsewhere (λ s. ⊥) old new)

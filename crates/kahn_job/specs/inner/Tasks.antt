@@ -1,4 +1,4 @@
--- Inner. What contracts see of a task: a job on its way, with what the workers have to know of it.
+-- Inner. What contracts see of a task: a job as workers pass it on, with what they have to know of it.
 use Rattle.std.specs.Prelude.{◌≡◌, ◌≤◌}
 use Rattle.kahn_job.specs.inner.Words.{ℕ, List, length, Some, network_of, Lists, inputs_of, Store, Outcome, Dry as IsDryAt, ending, Pause, Paused, told_view}
 use Rattle.kahn_streams.specs.Solution as end
@@ -21,7 +21,7 @@ standing_after pause.Ended = standing.Ended
 standing_after (pause.Fault k) = standing.Faulted k
 standing_after (pause.Dry q) = standing.Dry q
 
--- what a standing says of the outcome of the process on the values that it took
+-- what a standing means for the outcome of the process on the values that it took
 abbrev pub TellsOutcome : Standing → Outcome Store → Type 0
 TellsOutcome standing.Going o = Unit {0}
 TellsOutcome standing.Ended o = ending o ≡ Some end.Ended
@@ -32,24 +32,24 @@ abbrev pub HasStanding : Work → Standing → Type 0
 HasStanding w s =
     Paused (network_of w.cell.network) (inputs_of w.cell.input) w.cell.watch w.cell.instance (told_view w.cell) (TellsOutcome s)
 
--- where it has one, the standing is that of the process
+-- unless it is `Going`, the standing is that of the process
 abbrev pub IsTrueOf : Work → Standing → Type 0
 IsTrueOf w standing.Going = Unit {0}
 IsTrueOf w s = HasStanding w s
 
--- what is so of a task of instance p at all times
+-- what always holds for a task of instance p
 pub record IsTask (p : ℕ) (w : Work) (s : Standing) (published : List ℕ) : Type 0 where
   pub job : IsJob w
   pub instance : p ≡ w.cell.instance
   pub says : IsTrueOf w s
   pub each : length published ≡ width_of w
 
--- the task of an idle job that goes on with this input, of which all that it sent is published
+-- the task of an idle job that goes on with this input; all that it sent is published
 abbrev pub woken_task : Lists → Work → Tasked
 woken_task lists w = record { work = grown_work lists w; standing = standing.Going; published = w.cell.sent }
 
--- the second continues the first: of the same instance of the same network and input, with the same ends; and where it did
--- no event, its cell is as it was
+-- the second continues the first: of the same instance of the same network and input, with the same ends; and if it did no
+-- event, its cell is as it was
 pub record Continues (old new : Tasked) : Type 0 where
   pub network : new.work.cell.network ≡ old.work.cell.network
   pub input : new.work.cell.input ≡ old.work.cell.input

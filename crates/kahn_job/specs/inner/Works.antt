@@ -17,7 +17,7 @@ IsSamePlace c d = (d.network ≡ c.network) × (d.instance ≡ c.instance)
 abbrev pub width_of : Work → ℕ
 width_of w = length (instance_at (network_of w.cell.network) w.cell.instance).actuals
 
--- the same for this input
+-- the job with this input
 abbrev pub grown_work : Lists → Work → Work
 grown_work lists w = record w { cell = record w.cell { input = lists } }
 
@@ -32,7 +32,7 @@ abbrev pub IsDelivered : Work → Type 0
 IsDelivered w = (q d : ℕ) → actual_at (instance_at (network_of w.cell.network) w.cell.instance) q ≡ Writes d →
     is_output (role_at (network_of w.cell.network) d) ≡ false → (end_at w.ends q).flushed ≡ count w.cell.sent q
 
--- after a run for at most so many events: what the source says of the cell, and of the pause by the ends
+-- after a run for at most `quantum` events: what the source says of the cell, and of the pause by the ends
 abbrev pub HasPaused : Work → Work → ℕ → Pause → Type 0
 HasPaused old new quantum z =
     Paused (network_of new.cell.network) (inputs_of new.cell.input) new.cell.watch new.cell.instance (told_view new.cell)

@@ -18,7 +18,7 @@ abbrev pub ReadsLane : ℕ → Named → ℕ → ℕ → ℕ → Mark → Type 0
 ReadsLane reader name flushed stolen port v =
     v.reads ≡ true → (port ≡ reader) × (v.reads_on ≡ name) × (v.stolen ≡ stolen) × (v.known ≤ flushed)
 
--- what a pass knows is so
+-- what a pass knows is true
 abbrev pub FitsLane : ℕ → ℕ → Named → ℕ → ℕ → ℕ → Mark → Type 0
 FitsLane writer reader name flushed stolen port v =
     (v.stage ≡ stage.Running) × WritesLane writer name flushed port v × ReadsLane reader name flushed stolen port v
@@ -49,7 +49,7 @@ module _ {A : Type 0} where
   abbrev pub IsNewLane : List (Segment A) → List Mark → Type 0
   IsNewLane items views = (items ≡ []) × (views ≡ opening_mark ∷ [])
 
-  -- the one segment has no tokens, and tells what the lane's tokens are of, and the place of the first
+  -- the one segment has no tokens, and says what the lane's tokens are of, and the place of the first
   abbrev pub IsTelling : List (Segment A) → List Mark → Type 0
   IsTelling items views =
       (s : Segment A) × (items ≡ s ∷ []) × (first_place s.tag ≤ 2 ^ 48) × (views ≡ telling (told s.tag) (first_place s.tag) ∷ [])
@@ -66,13 +66,13 @@ module _ {A : Type 0} where
     pub limited : flushed ≤ 2 ^ 48
     -- the deque has those that were flushed and not stolen
     pub chain : Chain name stolen flushed items
-    -- what the passes know is so
+    -- what the passes know is true
     pub fits : (port : ℕ) (v : Mark) → get_elem? views port ≡ some v → FitsLane writer reader name flushed stolen port v
 
   abbrev pub Laned : List (Segment A) → List Mark → Type 0
   Laned items views = IsNewLane items views ⊎ (IsTelling items views ⊎ IsRunning items views)
 
-  -- the name and the first place are told
+  -- the first segment says the name and the first place
   abbrev pub TellsName : List (Segment A) → Mark → Type 0
   TellsName [] w = ⊥
   TellsName (s ∷ ss) w = w ≡ telling (told s.tag) (first_place s.tag)
@@ -89,7 +89,7 @@ module _ {A : Type 0} where
       Filled v.reads_on v.stolen s × (v.stolen + size s ≤ 2 ^ 48)
       × (w ≡ mark v.stage v.writes v.reads v.writes_on v.reads_on v.flushed (v.stolen + size s) v.known)
 
-  -- a segment is taken out where both ends are, whose tokens stand at the next places, up to those that were flushed
+  -- a segment is taken out with both rights, whose tokens stand at the next places, up to those that were flushed
   abbrev pub Empties : Mark → List (Segment A) → Mark → Type 0
   Empties v [] w = ⊥
   Empties v (s ∷ ss) w =

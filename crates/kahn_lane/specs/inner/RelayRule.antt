@@ -16,7 +16,7 @@ module _ {T : Type 0} where
   abbrev pub ReadsRelay : ℕ → List T → List T → ℕ → Log T → Type 0
   ReadsRelay reader given taken port v = v.pops ≡ true → (port ≡ reader) × (v.taken ≡ taken) × (v.known ≤ length given)
 
-  -- what a pass knows is so
+  -- what a pass knows is true
   abbrev pub FitsRelay : ℕ → ℕ → List T → List T → ℕ → Log T → Type 0
   FitsRelay writer reader given taken port v = WritesRelay writer given port v × ReadsRelay reader given taken port v
 
@@ -29,5 +29,5 @@ module _ {T : Type 0} where
     pub taken : List T
     -- what was given is what was taken, and then what the deque holds
     pub whole : given ≡ taken ++ items
-    -- what the passes know is so
+    -- what the passes know is true
     pub fits : (port : ℕ) (v : Log T) → get_elem? views port ≡ some v → FitsRelay writer reader given taken port v

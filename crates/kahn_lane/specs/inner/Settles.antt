@@ -16,7 +16,7 @@ IsGrown n input = AreInputsExtended (inputs_of n.input) (inputs_of input)
 abbrev pub HasBothRights : ℕ → Mark → Type 0
 HasBothRights flavor v = (flavor ≡ 0) × (v.stage ≡ Running) × (v.writes ≡ true) × (v.reads ≡ true)
 
--- so many tokens of this name were stolen
+-- k tokens of this name were stolen
 abbrev pub HasStolen : LaneName → ℕ → Mark → Type 0
 HasStolen n k v = (v.reads_on ≡ Some n) × (v.stolen ≡ k)
 

@@ -47,7 +47,7 @@ pub record HasEndIn (s : RunState) (p : ℕ) (x : End) : Type 0 where
   pub count : x.events ≡ (view_at s.cells p).events
   pub told : IsOutcomeOf s.network s.input s.cells p (exec_on s.network (view_at s.cells p).events p stood.tapes).outcome x.outcome
 
--- where memory was refused, so much is left of the bound and some instance stands where it paused for want of memory
+-- if memory was refused, so much is left of the bound and some instance stands where it paused for want of memory
 abbrev pub LacksMemory : RunState → ℕ → Bool → Type 0
 LacksMemory s left memory = memory ≡ true → (0 < left) × ((p : ℕ) × (p < length s.cells) × PausedAt s p pause.NoMemory)
 
@@ -60,7 +60,7 @@ view_events v = v.events
 abbrev pub all_events : RunState → ℕ
 all_events s = sum_by view_events s.cells
 
--- each end is that of its instance, which wants more only where it may not go on
+-- each end is that of its instance, which wants more only if it may not go on
 abbrev pub AreEnds : RunState → ℕ → Bool → List End → Type 0
 AreEnds s left memory ends =
     (p : ℕ) (x : End) → slice_get ends p ≡ Some x → HasEndIn s p x × (x.outcome ≡ More → (left ≡ 0) ⊎ (memory ≡ true))

@@ -76,7 +76,7 @@ HasEnded t lists watch workers bound r =
     MatchResult r.outcome (λ v. AreEnded (held_state t lists watch r.idles.items) bound r.budget r.ends.items (Some v)) (IsLack workers)
 
 -- a part of a run with so many events, of which the bound of all is the sum, has left these jobs: none has done fewer events;
--- with a verdict it and the ends are those of the jobs; and where memory was refused nothing was done
+-- with a verdict it and the ends are those of the jobs; and if memory was refused nothing was done
 pub record HasStopped (t : Program) (lists : Lists) (watch : Option ℕ) (workers bound : ℕ) (old : List Work) (more : ℕ) (r : Stopped) : Type 0 where
   pub held : AreHeld t lists watch bound r.idles.items r.budget
   pub risen : HaveRisen (cells_of old) (cells_of r.idles.items)

@@ -216,7 +216,7 @@ parameter_count k = length k.kept.items
 abbrev pub actual_count : Told → ℕ
 actual_count c = length (instance_at (network_of c.network) c.instance).actuals
 
--- these lists are there of what the tap kept, behind what it let go of
+-- these lists are there of what the tap kept, after what it let go of
 abbrev pub IsLeft : {A : Type 0} → Tapped → Kept A → Type 0
 IsLeft x k =
     (kept_behind x.gone.kept (kept_lists k) ≡ x.told.kept) × (x.gone.printed ++ printed_list k ≡ x.told.printed) × (parameter_count k ≡ actual_count x.told)

@@ -16,7 +16,7 @@ piece_text program (Opening line tokens) = line_head program line ++ flat_map to
 piece_text program (Middle tokens) = flat_map token_text tokens.now
 piece_text program (Closing tokens) = flat_map token_text tokens.now ++ line_feed
 
--- the lines of which it is are the network's
+-- its lines are the network's
 abbrev pub IsPiece : Program → Piece → Type 0
 IsPiece program (Lines streams) = All (λ stream. IsLine program stream.line) streams.now
 IsPiece program (Opening line tokens) = IsLine program line
@@ -38,11 +38,11 @@ IsMovedOn program old new streams rest = (length rest < length streams)
     × ((text : List ℕ) → ArePieces program old text → (more : List ℕ) × ArePieces program new more
     × (more ++ flat_map (stream_text program) rest ≡ text ++ flat_map (stream_text program) streams))
 
--- the text is the piece's, where there is one
+-- the text, if there is one, is the piece's
 abbrev pub IsPieceText : Program → Piece → Option (Vec ℕ Global) → Type 0
 IsPieceText program piece text = IfSome text (λ bytes. bytes.items ≡ piece_text program piece)
 
--- as many texts as there are are those of the first pieces
+-- the texts are those of the first pieces
 abbrev pub ArePieceTexts : Program → List Piece → List (Option (Vec ℕ Global)) → Type 0
 ArePieceTexts program pieces texts = (n : ℕ) (piece : Piece) (text : Option (Vec ℕ Global)) → n < length texts →
     IsPieceText program (slice_index_or pieces n piece) (slice_index_or texts n text)

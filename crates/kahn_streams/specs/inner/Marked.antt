@@ -1,4 +1,4 @@
--- Inner. An entry where those before it are known by marks: a list that has true at the number of each channel that they name.
+-- Inner. An entry after others, which are known by marks: a list that has true at the number of each channel that they name.
 use Rattle.std.specs.Prelude.{◌≡◌, ℕ, Bool, false, List, slice_index_or}
 use Rattle.kahn_streams.specs.Types.{Program, InputFault}
 use Rattle.kahn_streams.specs.Inputs.{AllHold, Entry, FailsFirst, asked_of_entry, channel_of}
@@ -7,7 +7,7 @@ use Rattle.kahn_streams.specs.Inputs.{AllHold, Entry, FailsFirst, asked_of_entry
 abbrev pub is_marked : Program → List Bool → Entry → Bool
 is_marked t marks entry = slice_index_or marks (channel_of t entry) false
 
--- nothing is wrong with an entry, where the test says whether one before it names the same channel
+-- nothing is wrong with an entry; `given` says whether one before it names the same channel
 abbrev pub IsFitHere : Program → Bool → Entry → Type 0
 IsFitHere t given entry = AllHold (asked_of_entry t given 0 entry)
 

@@ -2,7 +2,7 @@
 use Rattle.std.specs.Prelude.{◌≡◌, ℕ, Bool, true, false, List, Option, None, Some, length}
 use Rattle.kahn_streams.specs.View.{Scope, place_of}
 
--- the number that a table has for a name, n where it has none
+-- the number that a table has for a name, n if it has none
 abbrev pub number_in : ℕ → Option ℕ → ℕ
 number_in n None = n
 number_in n (Some k) = k

@@ -9,7 +9,7 @@ use Rattle.kahn_streams.specs.declared.tree.Operator.TheVariants as operator
 use Rattle.kahn_syntax.specs.Grammar.{Terminal, word, sign, name, numeral, rank}
 use Rattle.kahn_syntax.specs.Texts.{letters_of, bytes_of_sign}
 
--- the operator that a terminal is, where it is one
+-- the operator that a terminal is, if it is one
 abbrev pub operator_of : Terminal → Option Operator
 operator_of (word keyword.Or) = Some operator.Or
 operator_of (word keyword.And) = Some operator.And
@@ -84,7 +84,7 @@ abbrev pub leads : Token → List Terminal → Bool
 leads t [] = false
 leads t (k ∷ r) = accepts t k
 
--- the class of the lexemes that it is, where one class alone has its terminals
+-- the class of its lexemes, if one class alone has its terminals
 abbrev pub class_of : Token → Option Class
 class_of (a_word keyword.Not) = None
 class_of (a_word w) = Some (class.Word w)
@@ -93,7 +93,7 @@ class_of (a_sign s) = Some (class.Sign s)
 class_of a_name = Some class.Name
 class_of _ = None
 
--- what is open: a part that must be read, or one of which nothing may be there
+-- what is open: a part that must be read, or one that may be empty
 pub data Part : Type 0 where
   ProgramPart DeclarationsPart DeclarationPart ProcessPart RolePart GroupsPart GroupPart TakingPart VariablesPart : Part
   StatementPart SimplePart InstancePart ArgumentsPart ArgumentPart : Part
@@ -105,7 +105,7 @@ pub data Part : Type 0 where
   -- the end of a level of nesting: nothing
   LevelPart : Part
 
--- the parts that are open behind one token of a part
+-- the parts that are open after one token of a part
 abbrev pub Rule : Type 0
 Rule = Token × List Part
 
@@ -117,7 +117,7 @@ followed after ((t, ps) ∷ rest) = (t, ps ++ after) ∷ followed after rest
 abbrev pub a_kind : Token
 a_kind = either keyword.Integer keyword.Logical
 
--- the head of a process behind its name
+-- the head of a process after its name
 abbrev pub head_parts : List Part
 head_parts = TokenPart (a_sign mark.Open) ∷ GroupsPart ∷ TokenPart (a_sign mark.Close) ∷ TokenPart (a_sign mark.Semicolon) ∷ TokenPart (a_word keyword.Begin) ∷ []
 
@@ -195,7 +195,7 @@ operator_rules sums = (an_operator operator.Add, ExpressionPart terms ∷ Operat
 operator_rules terms = (an_operator operator.Multiply, ExpressionPart factors ∷ OperatorsPart terms ∷ []) ∷ []
 operator_rules _ = []
 
--- whether nothing of a part may be there, and its rules
+-- whether a part may be empty, and its rules
 abbrev pub rules_of : Part → Bool × List Rule
 rules_of ProgramPart = (false, (a_word keyword.Begin, DeclarationsPart ∷ InstancePart ∷ InstancesTail ∷ LastTail ∷ TokenPart (a_word keyword.End) ∷ LastTail ∷ []) ∷ [])
 rules_of DeclarationsPart = (true, followed (TokenPart (a_sign mark.Semicolon) ∷ DeclarationsPart ∷ []) declaration_rules)
@@ -233,12 +233,12 @@ abbrev pub starts : List Rule → List Terminal → Bool
 starts rs [] = false
 starts rs (k ∷ r) = is_some (enters rs k)
 
--- what is open where these parts were opened, or other where none were
+-- what is open if these parts were opened, or `other` if none were
 abbrev pub opened_by : List Part → Option (List Part) → Option (List Part) → Option (List Part)
 opened_by s other None = other
 opened_by s other (Some ps) = Some (ps ++ s)
 
--- what is open after the terminal, or None where it can't stand here
+-- what is open after the terminal, or None if it can't stand here
 abbrev pub step : List Part → Terminal → Option (List Part)
 step [] k = None
 step (p ∷ s) k = opened_by s (cond (rules_of p).0 (step s k) None) (enters (rules_of p).1 k)
@@ -257,7 +257,7 @@ may_end (p ∷ s) = cond (rules_of p).0 (may_end s) false
 -- How a list goes from here. A number says how many terminals are left at the fault, with the one at which it stands.
 pub data Fate : Type 0 where
   Whole : Fate
-  -- whether what stands before the fault is whole, and what is left
+  -- whether what comes before the fault is whole, and what is left
   Refuses : Bool → ℕ → Fate
   TooFar : ℕ → Fate
 

@@ -15,7 +15,7 @@ FitsLevel n e = (n ≤ binds e) × Formed e
 abbrev pub IsAbsent : Class → List Lexeme → Type 0
 IsAbsent wanted input = (t : Token) → class_of t ≡ Some wanted → (text : List ℕ) → leads t (terminals text input) ≡ false
 
--- Whatever is open below these parts, with so many levels: over what was read of the input, to the rest, the parts become those.
+-- Whatever is open below, with `depth` levels: what was read of the input, up to the rest, turns these parts into those.
 pub record Moves (text : List ℕ) (depth : ℕ) (parts those : List Part) (input rest : List Lexeme) : Type 0 where
   pub fates : (s : List Part) → levels s ≡ depth → fate 64 (parts ++ s) (terminals text input) ≡ fate 64 (those ++ s) (terminals text rest)
 
@@ -37,7 +37,7 @@ Stops text depth parts input e = (s : List Part) → levels s ≡ depth → Stop
 abbrev pub Halts : List Terminal → Stop → Type 0
 Halts ks e = StopsAs e (fate 64 (ProgramPart ∷ []) ks)
 
--- With so many levels open, parts are read from the input to the rest, at least so many lexemes: what S says of them, F of their tree.
+-- With `depth` levels open, parts are read from the input to the rest, at least `least` lexemes: S holds of them, and F of their tree.
 pub record TreeRead (text : List ℕ) (depth least : ℕ) (parts : List Part) (S : List Lexeme → List Lexeme → Type 0) (F : Type 0) (nests : ℕ) (input rest : List Lexeme) : Type 0 where
   pub spans : S input rest
   pub formed : F
@@ -68,7 +68,7 @@ BodyRead text depth ss input rest =
     TreeRead text depth 0 (StatementPart ∷ StatementsTail ∷ []) (StatementsSpan text ss) (AreSome (statement_trees ss) × FormedStatements (statement_trees ss))
     (statements_nesting (statement_trees ss)) input rest
 
--- Where no level is open, a part is read from the input to the rest, and its spans are over the lexemes between.
+-- With no level open, a part is read from the input to the rest, and its spans are over the lexemes between.
 pub record PartRead (text : List ℕ) (parts : List Part) (S : List Lexeme → List Lexeme → Type 0) (input rest : List Lexeme) : Type 0 where
   pub spans : S input rest
   pub shorter : length rest ≤ length input
@@ -83,7 +83,7 @@ IsShallow d = declaration_nesting d ≤ 64
 abbrev pub DeclarationsSpan : List ℕ → List Declaration → List Lexeme → List Lexeme → Type 0
 DeclarationsSpan text ds xs r = (declarations_nesting (map declaration_tree ds) ≤ 64) × Ended (Takes text (sign mark.Semicolon)) (DeclarationSpans text) ds xs r
 
--- arguments and the bracket behind them
+-- arguments and the bracket after them
 abbrev pub ClosedArgumentsSpan : List ℕ → List Argument → List Lexeme → List Lexeme → Type 0
 ClosedArgumentsSpan text arguments xs r = (a : List Lexeme) × Between (Takes text (sign mark.Comma)) (ArgumentSpans text) arguments xs a × Takes text (sign mark.Close) a r
 
@@ -96,9 +96,9 @@ SpansOperation left operator right f = (text : List ℕ) (xs a b r : List Lexeme
 abbrev pub IsStated : Statement → Action → List Lexeme → List Lexeme → Type 0
 IsStated s action input rest = (at : Span) × (s ≡ record { span = Some at; action = action }) × Covers at input rest
 
--- ---- what a call answers: what was read, with the rest, or why it isn't
+-- ---- what a call returns: what was read, with the rest, or why it isn't
 
--- parts, where no level is open, to what has such spans
+-- parts, with no level open, to what has such spans
 abbrev pub ParsesPart : {R : Type 0} → Result R Stop → List ℕ → List Part → (R → List Lexeme → List Lexeme → Type 0) → List Lexeme → (R → List Lexeme) → Type 0
 ParsesPart result text parts spans input rest =
     MatchResult result (λ r. PartRead text parts (spans r) input (rest r)) (λ e. Stops text 0 parts input e)

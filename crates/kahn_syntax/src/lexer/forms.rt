@@ -40,7 +40,7 @@ fn is_word_byte(b: u8) -> bool
     is_letter(b) || is_digit(b) || b == b'_'
 }
 
-/// Where the bytes of a word end.
+/// Returns where the bytes of a word end.
 fn word_end(text: &[u8], from: usize) -> usize
     requires { from ≤ length text.now }
     ensures low { from ≤ result }
@@ -58,7 +58,7 @@ fn word_end(text: &[u8], from: usize) -> usize
     at
 }
 
-/// Where the digits of a number end.
+/// Returns where the digits of a number end.
 fn run_end(text: &[u8], from: usize) -> usize
     requires { from ≤ length text.now }
     ensures low { from ≤ result }
@@ -76,7 +76,7 @@ fn run_end(text: &[u8], from: usize) -> usize
     at
 }
 
-/// The sign of these two bytes.
+/// Returns the sign of these two bytes.
 fn sign_of_two(first: u8, second: u8) -> Option<Sign>
     ensures some { IfSome result (λ s. bytes_of_sign s ≡ first ∷ second ∷ []) }
     ensures none { IfNone result ((s : Sign) → ¬ (bytes_of_sign s ≡ first ∷ second ∷ [])) }
@@ -91,7 +91,7 @@ fn sign_of_two(first: u8, second: u8) -> Option<Sign>
     }
 }
 
-/// The sign of this byte.
+/// Returns the sign of this byte.
 fn sign_of_one(byte: u8) -> Option<Sign>
     ensures some { IfSome result (λ s. bytes_of_sign s ≡ byte ∷ []) }
     ensures none { IfNone result ((s : Sign) → ¬ (bytes_of_sign s ≡ byte ∷ [])) }
@@ -111,7 +111,7 @@ fn sign_of_one(byte: u8) -> Option<Sign>
     }
 }
 
-/// The longest sign that begins here, if one does, with the place after it.
+/// Returns the longest sign that begins here, if one does, with the place after it.
 fn sign_at(text: &[u8], from: usize) -> Option<(Sign, usize)>
     requires { from < length text.now }
     ensures inside { IfSome result (λ r. (from < r.1) × (r.1 ≤ length text.now)) }
@@ -128,7 +128,7 @@ fn sign_at(text: &[u8], from: usize) -> Option<(Sign, usize)>
     Some((sign, from + 1))
 }
 
-/// The longest form that begins here, if one does.
+/// Returns the longest form that begins here, if one does.
 pub fn form_at(text: &[u8], from: usize) -> Option<Form>
     requires { from < length text.now }
     ensures some { IfSome result (λ f. IsLongest text.now from (form_end f) × IsOfForm text.now f from) }
@@ -145,7 +145,7 @@ pub fn form_at(text: &[u8], from: usize) -> Option<Form>
     Some(Form::Sign(sign, to))
 }
 
-/// Where a comment ends whose word ends here, if it does: after the next semicolon.
+/// Returns where the comment ends whose word ends here, if it does: after the next semicolon.
 pub fn comment_end(text: &[u8], from: usize) -> Option<usize>
     requires { from ≤ length text.now }
     ensures found { IfSome result (λ b. Closes text.now from b × (b ≤ length text.now)) }

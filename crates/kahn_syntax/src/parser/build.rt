@@ -11,7 +11,7 @@ use crate::parser::cursor::{Read, Stop, reach};
 use kahn_streams::{Action, Expression, Form, Operand, Operator, Statement};
 use std::alloc::Global;
 
-/// An expression of this form, from the first lexeme of the input to the last one before the rest.
+/// Makes an expression of this form, from the first lexeme of the input to the last one before the rest.
 pub fn made<'t>(
     alloc: Global,
     input: &[Lexeme],
@@ -26,7 +26,7 @@ pub fn made<'t>(
     Ok((expression, rest))
 }
 
-/// A statement that does this, from the first lexeme of the input to the last one before the rest.
+/// Makes a statement that does this, from the first lexeme of the input to the last one before the rest.
 pub fn stated<'t>(
     alloc: Global,
     input: &[Lexeme],
@@ -41,7 +41,7 @@ pub fn stated<'t>(
     Ok((statement, rest))
 }
 
-/// The form of two operands with an operator between.
+/// Makes the form of two operands with an operator between.
 pub fn compared(
     alloc: Global,
     left: Box<Expression>,

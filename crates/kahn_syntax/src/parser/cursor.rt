@@ -15,9 +15,9 @@ pub const DEEPEST: usize = 64;
 /// Why a part isn't read. The numbers count the lexemes that are left, from the one at fault on.
 #[derive(Clone, Copy, Drop)]
 pub enum Stop {
-    /// The lexeme can't stand here, or none is left. A whole program stands before it where the flag says so.
+    /// The lexeme can't stand here, or none is left. The flag says whether a whole program comes before it.
     Refused(bool, usize),
-    /// The lexeme may stand here, and it would open a level too many.
+    /// The lexeme is allowed here but would open a level too many.
     TooDeep(usize),
     /// Memory was refused.
     NoMemory,
@@ -42,7 +42,7 @@ impl<T: Drop> From<AllocFailed<T>> for Stop {
 /// A part of the tree, and the lexemes after it.
 pub type Read<'t, T> = Result<(T, &'t [Lexeme]), Stop>;
 
-/// What the first lexeme is, and the lexemes after it.
+/// Returns what the first lexeme is, and the lexemes after it.
 pub fn next(input: &[Lexeme]) -> Option<(Class, &[Lexeme])>
     ensures first { MatchOption result (input.now ≡ []) (λ r. First r.0 input.now r.1.now × (length input.now ≡ length r.1.now + 1)) }
     ensures passed { IfSome result (λ r. IsPast input.now r.1.now) }
@@ -55,7 +55,7 @@ pub fn next(input: &[Lexeme]) -> Option<(Class, &[Lexeme])>
     }
 }
 
-/// The lexemes after the first, where it is of this class.
+/// Returns the lexemes after the first, if it is of this class.
 pub fn past(input: &[Lexeme], wanted: Class) -> Option<&[Lexeme]>
     ensures first { IfSome result (λ r. First wanted input.now r.now) }
     ensures passed { IfSome result (λ r. IsPast input.now r.now) }
@@ -69,7 +69,7 @@ pub fn past(input: &[Lexeme], wanted: Class) -> Option<&[Lexeme]>
     }
 }
 
-/// The lexemes after the first, which must be of this class.
+/// Returns the lexemes after the first, which must be of this class.
 pub fn expect(input: &[Lexeme], wanted: Class) -> Result<&[Lexeme], Stop>
     ensures first { IfOk result (λ r. First wanted input.now r.now) }
     ensures passed { IfOk result (λ r. IsPast input.now r.now) }
@@ -83,7 +83,7 @@ pub fn expect(input: &[Lexeme], wanted: Class) -> Result<&[Lexeme], Stop>
     }
 }
 
-/// The nesting inside of the level that the first lexeme opens.
+/// Returns the nesting inside of the level that the first lexeme opens.
 pub fn deeper(input: &[Lexeme], depth: usize) -> Result<usize, Stop>
     requires { depth ≤ 64 }
     ensures deeper { IfOk result (λ inner. (inner ≡ depth + 1) × (inner ≤ 64)) }
@@ -95,7 +95,7 @@ pub fn deeper(input: &[Lexeme], depth: usize) -> Result<usize, Stop>
     Ok(depth + 1)
 }
 
-/// The span of what was read: from its first lexeme to the last one before the rest.
+/// Returns the span of what was read: from its first lexeme to the last one before the rest.
 pub fn reach(input: &[Lexeme], rest: &[Lexeme]) -> Span
     requires { length rest.now < length input.now }
     ensures { Covers result input.now rest.now }
@@ -108,7 +108,7 @@ pub fn reach(input: &[Lexeme], rest: &[Lexeme]) -> Span
     }
 }
 
-/// The span of the lexeme at which so many are left.
+/// Returns the span of the lexeme from which on `left` lexemes are left.
 pub fn span_at(lexemes: &[Lexeme], left: usize) -> Span
     requires some { 0 < left }
     requires in_range { left ≤ length lexemes.now }

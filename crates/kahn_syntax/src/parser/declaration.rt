@@ -18,7 +18,7 @@ use kahn_streams::{
 };
 use std::alloc::Global;
 
-// The kind that stands first, and the lexemes after it.
+// Reads the kind that comes first.
 fn next_kind(input: &[Lexeme]) -> Option<(Kind, &[Lexeme])>
     ensures first { IfSome result (λ r. (text : List ℕ) → terminals text input.now ≡ kind_terminal r.0 ∷ terminals text r.1.now) }
     ensures passed { IfSome result (λ r. IsPast input.now r.1.now) }
@@ -33,7 +33,7 @@ fn next_kind(input: &[Lexeme]) -> Option<(Kind, &[Lexeme])>
     }
 }
 
-/// The declarations that stand first, each with the semicolon after it: none or more.
+/// Reads the declarations that come first, each with the semicolon after it: none or more.
 pub fn read_declarations<'t>(
     alloc: Global,
     text: &str,
@@ -53,7 +53,7 @@ pub fn read_declarations<'t>(
     Ok((declarations, rest))
 }
 
-// Whether a declaration stands first: a name begins an instance.
+// Whether a declaration comes first: a name begins an instance.
 fn begins_declaration(input: &[Lexeme]) -> bool
     ensures { (text : List ℕ) → starts declaration_rules (terminals text input.now) ≡ result }
 {
@@ -66,7 +66,7 @@ fn begins_declaration(input: &[Lexeme]) -> bool
     )
 }
 
-// A declaration.
+// Reads a declaration.
 fn read_declaration<'t>(alloc: Global, text: &str, input: &'t [Lexeme]) -> Read<'t, Declaration>
     requires proper { AreProper text.now input.now }
     ensures { ParsesPart result text.now (DeclarationPart ∷ []) (λ r xs l. IsShallow (declaration_tree r.0) × DeclarationSpans text.now r.0 xs l) input.now (λ r. r.1.now) }
@@ -85,7 +85,7 @@ fn read_declaration<'t>(alloc: Global, text: &str, input: &'t [Lexeme]) -> Read<
     }
 }
 
-// The role that stands before `channel`, where one stands.
+// Reads the role before `channel`, if there is one.
 fn read_role(input: &[Lexeme]) -> (Role, &[Lexeme])
     ensures spans { (text : List ℕ) → TakesAll (lexemes text) (role_words result.0 []) input.now result.1.now }
     ensures proper { (text : List ℕ) → AreProper text input.now → AreProper text result.1.now }
@@ -99,7 +99,7 @@ fn read_role(input: &[Lexeme]) -> (Role, &[Lexeme])
     }
 }
 
-// A process with its body.
+// Reads a process with its body.
 fn read_process<'t>(alloc: Global, text: &str, input: &'t [Lexeme]) -> Read<'t, Process>
     requires proper { AreProper text.now input.now }
     ensures { ParsesPart result text.now (ProcessPart ∷ []) (λ r xs l. IsShallow (process_tree r.0) × ProcessSpans text.now r.0 xs l) input.now (λ r. r.1.now) }
@@ -119,7 +119,7 @@ fn read_process<'t>(alloc: Global, text: &str, input: &'t [Lexeme]) -> Read<'t, 
     Ok((process, rest))
 }
 
-// The parameters of a process in their brackets, and what stands between them and its body.
+// Reads the parameters of a process in their brackets, and what is between them and its body.
 fn read_head<'t>(alloc: Global, text: &str, input: &'t [Lexeme]) -> Read<'t, Vec<Parameter>>
     requires proper { AreProper text.now input.now }
     ensures { ParsesPart result text.now head_parts (λ r. Head (lexemes text.now) parameter_with r.0.items) input.now (λ r. r.1.now) }
@@ -132,7 +132,7 @@ fn read_head<'t>(alloc: Global, text: &str, input: &'t [Lexeme]) -> Read<'t, Vec
     Ok((parameters, rest))
 }
 
-// The groups of parameters, with semicolons between: none or more.
+// Reads the groups of parameters, with semicolons between: none or more.
 fn read_parameters<'t>(alloc: Global, text: &str, input: &'t [Lexeme]) -> Read<'t, Vec<Parameter>>
     requires proper { AreProper text.now input.now }
     ensures { ParsesPart result text.now (GroupsPart ∷ []) (λ r. Parameters (lexemes text.now) parameter_with r.0.items) input.now (λ r. r.1.now) }
@@ -159,7 +159,7 @@ struct Group {
     names: Vec<Name>,
 }
 
-// A group of parameters.
+// Reads a group of parameters.
 fn read_group<'t>(alloc: Global, text: &str, input: &'t [Lexeme]) -> Read<'t, Group>
     requires proper { AreProper text.now input.now }
     ensures { ParsesPart result text.now (GroupPart ∷ []) (λ r. ParameterGroup (lexemes text.now) (group r.0.taking r.0.names.items)) input.now (λ r. r.1.now) }
@@ -172,7 +172,7 @@ fn read_group<'t>(alloc: Global, text: &str, input: &'t [Lexeme]) -> Read<'t, Gr
     Ok((Group { taking, names }, rest))
 }
 
-// What the parameters of a group of this kind take.
+// Reads what the parameters of a group of this kind take.
 fn read_taking(kind: Kind, input: &[Lexeme]) -> (Taking, &[Lexeme])
     ensures spans { (text : List ℕ) (xs : _) → Takes text (kind_terminal kind) xs input.now → TakesAll (lexemes text) (taking_words result.0 []) xs result.1.now }
     ensures proper { (text : List ℕ) → AreProper text input.now → AreProper text result.1.now }
@@ -186,7 +186,7 @@ fn read_taking(kind: Kind, input: &[Lexeme]) -> (Taking, &[Lexeme])
     }
 }
 
-// Parameters of these names.
+// Adds parameters of these names.
 fn add_parameters(
     parameters: &mut Vec<Parameter>,
     taking: Taking,
@@ -201,7 +201,7 @@ fn add_parameters(
     Ok(())
 }
 
-// The variables of a body: none or more.
+// Reads the variables of a body: none or more.
 fn read_variables<'t>(alloc: Global, text: &str, input: &'t [Lexeme]) -> Read<'t, Vec<Variable>>
     requires proper { AreProper text.now input.now }
     ensures { ParsesPart result text.now (VariablesPart ∷ []) (λ r. Variables (lexemes text.now) variable_with r.0.items) input.now (λ r. r.1.now) }
@@ -217,7 +217,7 @@ fn read_variables<'t>(alloc: Global, text: &str, input: &'t [Lexeme]) -> Read<'t
     Ok((variables, rest))
 }
 
-// Variables of these names.
+// Adds variables of these names.
 fn add_variables(variables: &mut Vec<Variable>, kind: Kind, names: Vec<Name>) -> Result<(), Stop>
     ensures items { IfOk result (λ _. variables.new.items ≡ variables.old.items ++ map (variable_with kind) names.items) }
     ensures stop { IfErr result (λ e. e ≡ NoMemory) }

@@ -15,7 +15,7 @@ use crate::parser::operator::{Level, next_comparison, next_not, next_operator};
 use kahn_streams::{Expression, Form, Operand};
 use std::alloc::Global;
 
-/// An expression.
+/// Reads an expression.
 #[cycle(expression)]
 pub fn read_expression<'t>(
     alloc: Global,
@@ -37,7 +37,7 @@ pub fn read_expression<'t>(
     made(alloc, input, rest, Form::Conditional(test, yes, no))
 }
 
-/// An expression, and the keyword after it.
+/// Reads an expression, and the keyword after it.
 #[cycle(expression)]
 pub fn read_before<'t>(
     alloc: Global,
@@ -56,7 +56,7 @@ pub fn read_before<'t>(
     Ok((expression, rest))
 }
 
-// Operands with operators of this level between.
+// Reads operands with operators of this level between.
 #[cycle(expression)]
 fn read_level<'t>(
     alloc: Global,
@@ -85,7 +85,7 @@ fn read_level<'t>(
     made(alloc, input, rest, Form::Level(first, further))
 }
 
-// An operand of this level.
+// Reads an operand of this level.
 #[cycle(expression)]
 fn read_operand<'t>(
     alloc: Global,
@@ -106,7 +106,7 @@ fn read_operand<'t>(
     }
 }
 
-// A relation, with `not` before it or without.
+// Reads a relation, with `not` before it or without.
 #[cycle(expression)]
 fn read_denial<'t>(
     alloc: Global,
@@ -126,7 +126,7 @@ fn read_denial<'t>(
     made(alloc, input, rest, Form::Not(operand))
 }
 
-// A sum, or two with a comparison between.
+// Reads a sum, or two with a comparison between.
 #[cycle(expression)]
 fn read_relation<'t>(
     alloc: Global,
@@ -147,7 +147,7 @@ fn read_relation<'t>(
     made(alloc, input, rest, form)
 }
 
-// An operand that no operator parts.
+// Reads an operand that no operator splits.
 #[cycle(expression)]
 fn read_factor<'t>(
     alloc: Global,
@@ -183,7 +183,7 @@ fn read_factor<'t>(
     }
 }
 
-// A channel in brackets, after the `wait` that the input begins with.
+// Reads a channel in brackets, after the `wait` that the input begins with.
 fn read_wait<'t>(
     alloc: Global,
     text: &str,

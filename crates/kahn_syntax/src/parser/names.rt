@@ -1,4 +1,4 @@
-//! Names, one and in lists.
+//! Names and lists of names.
 
 ghost use Rattle.std.specs.Prelude.{◌≡◌, ◌+◌, ◌<◌, [], ◌∷◌, ◌⊎◌, false, length, IfOk, IfErr};
 ghost use Rattle.kahn_syntax.specs.declared.parser.cursor.Stop.TheVariants.{Refused, NoMemory};
@@ -12,7 +12,7 @@ use crate::parser::cursor::{Read, Stop, past};
 use kahn_streams::Name;
 use std::alloc::Global;
 
-/// The name that stands first.
+/// Reads the name that comes first.
 pub fn read_name<'t>(alloc: Global, text: &str, input: &'t [Lexeme]) -> Read<'t, Name>
     requires proper { AreProper text.now input.now }
     ensures words { IfOk result (λ r. terminals text.now input.now ≡ name (name_of r.0) ∷ terminals text.now r.1.now) }
@@ -42,7 +42,7 @@ pub fn read_name<'t>(alloc: Global, text: &str, input: &'t [Lexeme]) -> Read<'t,
     }
 }
 
-/// One name or more, with commas between.
+/// Reads one name or more, with commas between.
 pub fn read_names<'t>(alloc: Global, text: &str, input: &'t [Lexeme]) -> Read<'t, Vec<Name>>
     requires proper { AreProper text.now input.now }
     ensures { ParsesPart result text.now (TokenPart a_name ∷ NamesTail ∷ []) (λ r. SomeNames (lexemes text.now) r.0.items) input.now (λ r. r.1.now) }

@@ -1,4 +1,4 @@
-//! Operators of two operands, by their levels.
+//! Binary operators, by their levels.
 
 ghost use Rattle.std.specs.Prelude.{◌≡◌, ◌+◌, List, ℕ, ◌∷◌, false, length, IfSome, IfNone};
 ghost use Rattle.kahn_syntax.specs.declared.lexeme.Keyword.TheVariants as keyword;
@@ -10,7 +10,7 @@ use crate::lexeme::{Class, Keyword, Lexeme, Sign};
 use crate::parser::cursor::next;
 use kahn_streams::Operator;
 
-/// A level whose operators may follow one another. From `Or` to `Term` they bind tighter.
+/// A level whose operators may follow one another. From `Or` to `Term` they bind ever tighter.
 #[derive(Clone, Copy)]
 pub enum Level {
     Or,
@@ -19,7 +19,7 @@ pub enum Level {
     Term,
 }
 
-/// The comparison that stands first, and the lexemes after it.
+/// Returns the comparison that comes first, and the lexemes after it.
 pub fn next_comparison(input: &[Lexeme]) -> Option<(Operator, &[Lexeme])>
     ensures first { IfSome result (λ r. (text : List ℕ) → terminals text input.now ≡ operator_terminal r.0 ∷ terminals text r.1.now) }
     ensures passed { IfSome result (λ r. IsPast input.now r.1.now) }
@@ -41,7 +41,7 @@ pub fn next_comparison(input: &[Lexeme]) -> Option<(Operator, &[Lexeme])>
     Some((operator, rest))
 }
 
-/// The operator of this level that stands first, and the lexemes after it.
+/// Returns the operator of this level that comes first, and the lexemes after it.
 pub fn next_operator(input: &[Lexeme], level: Level) -> Option<(Operator, &[Lexeme])>
     ensures first { IfSome result (λ r. (text : List ℕ) → terminals text input.now ≡ operator_terminal r.0 ∷ terminals text r.1.now) }
     ensures passed { IfSome result (λ r. IsPast input.now r.1.now) }
@@ -64,7 +64,7 @@ pub fn next_operator(input: &[Lexeme], level: Level) -> Option<(Operator, &[Lexe
     Some((operator, rest))
 }
 
-/// The lexemes after `not`, where it stands first in one of its two forms.
+/// Returns the lexemes after `not`, if it comes first in one of its two forms.
 pub fn next_not(input: &[Lexeme]) -> Option<&[Lexeme]>
     ensures first { IfSome result (λ r. (text : List ℕ) → terminals text input.now ≡ word keyword.Not ∷ terminals text r.now) }
     ensures passed { IfSome result (λ r. IsPast input.now r.now) }

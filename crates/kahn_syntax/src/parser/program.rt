@@ -18,7 +18,7 @@ use crate::parser::names::read_name;
 use kahn_streams::{Argument, Instance, Program, Span};
 use std::alloc::Global;
 
-/// The program that the lexemes of a text are.
+/// Parses the lexemes of a text.
 pub fn parse_lexemes(alloc: Global, text: &str, lexemes: &[Lexeme]) -> Result<Program, SyntaxFault>
     requires proper { AreProper text.now lexemes.now }
     // The program is spelled by the lexemes, within the limit of nesting, and no other is.
@@ -27,9 +27,9 @@ pub fn parse_lexemes(alloc: Global, text: &str, lexemes: &[Lexeme]) -> Result<Pr
     ensures spans { IfOk result (λ p. ProgramSpans text.now p lexemes.now) }
     ensures nesting { IfOk result (λ p. nesting (program_tree p) ≤ 64) }
     ensures only { IfOk result (λ p. (t : ProgramTree) → Spells t (terminals text.now lexemes.now) → t ≡ program_tree p) }
-    // What a program within the limit spells is refused for want of memory alone.
+    // Lexemes that spell a program within the limit fail only if memory was refused.
     ensures found { IfErr result (λ e. (t : ProgramTree) → Spells t (terminals text.now lexemes.now) → nesting t ≤ 64 → e ≡ SyntaxFault.NoMemory) }
-    // A fault stands at the first lexeme of which it is true, or at the end of the text.
+    // A fault is at the first lexeme of which it is true, or at the end of the text.
     ensures fault { IfErr result (λ e. IsFault text.now lexemes.now e) }
 {
     match read_program(alloc, text, lexemes) {
@@ -38,7 +38,7 @@ pub fn parse_lexemes(alloc: Global, text: &str, lexemes: &[Lexeme]) -> Result<Pr
     }
 }
 
-/// Where the lexemes of a text are no program.
+/// Returns why the lexemes of a text are no program; None if they are one.
 pub fn lexemes_fault(alloc: Global, text: &str, lexemes: &[Lexeme]) -> Option<SyntaxFault>
     requires proper { AreProper text.now lexemes.now }
     ensures whole { IfNone result (IsWholeWithin (terminals text.now lexemes.now)) }
@@ -79,7 +79,7 @@ fn fault_of(text: &str, lexemes: &[Lexeme], stop: Stop) -> SyntaxFault
     }
 }
 
-// A whole program.
+// Reads a whole program.
 fn read_program(alloc: Global, text: &str, lexemes: &[Lexeme]) -> Result<Program, Stop>
     requires proper { AreProper text.now lexemes.now }
     ensures read { IfOk result (λ p. (nesting (program_tree p) ≤ 64) × ProgramSpans text.now p lexemes.now) }
@@ -100,7 +100,7 @@ fn read_program(alloc: Global, text: &str, lexemes: &[Lexeme]) -> Result<Program
     }
 }
 
-// The lexemes after a semicolon, where one stands first.
+// Passes a semicolon, if one comes first.
 fn past_semicolon(input: &[Lexeme]) -> &[Lexeme]
     ensures spans { (text : List ℕ) → May (Takes text (sign mark.Semicolon)) input.now result.now }
     ensures shorter { length result.now ≤ length input.now }
@@ -113,7 +113,7 @@ fn past_semicolon(input: &[Lexeme]) -> &[Lexeme]
     }
 }
 
-// One instance or more, with `par` between.
+// Reads one instance or more, with `par` between.
 fn read_instances<'t>(alloc: Global, text: &str, input: &'t [Lexeme]) -> Read<'t, Vec<Instance>>
     requires proper { AreProper text.now input.now }
     ensures { ParsesPart result text.now (InstancePart ∷ InstancesTail ∷ []) (λ r. InstancesSpan text.now r.0.items) input.now (λ r. r.1.now) }
@@ -130,7 +130,7 @@ fn read_instances<'t>(alloc: Global, text: &str, input: &'t [Lexeme]) -> Read<'t
     }
 }
 
-// An instance.
+// Reads an instance.
 fn read_instance<'t>(alloc: Global, text: &str, input: &'t [Lexeme]) -> Read<'t, Instance>
     requires proper { AreProper text.now input.now }
     ensures { ParsesPart result text.now (InstancePart ∷ []) (λ r. InstanceSpans text.now r.0) input.now (λ r. r.1.now) }
@@ -141,7 +141,7 @@ fn read_instance<'t>(alloc: Global, text: &str, input: &'t [Lexeme]) -> Read<'t,
     Ok((Instance { process, arguments }, rest))
 }
 
-// The arguments of an instance, with commas between, and the bracket after them: none or more.
+// Reads the arguments of an instance, with commas between, and the bracket after them: none or more.
 fn read_arguments<'t>(alloc: Global, text: &str, input: &'t [Lexeme]) -> Read<'t, Vec<Argument>>
     requires proper { AreProper text.now input.now }
     ensures { ParsesPart result text.now (ArgumentsPart ∷ []) (λ r. ClosedArgumentsSpan text.now r.0.items) input.now (λ r. r.1.now) }
@@ -162,7 +162,7 @@ fn read_arguments<'t>(alloc: Global, text: &str, input: &'t [Lexeme]) -> Read<'t
     }
 }
 
-// An argument.
+// Reads an argument.
 fn read_argument<'t>(alloc: Global, text: &str, input: &'t [Lexeme]) -> Read<'t, Argument>
     requires proper { AreProper text.now input.now }
     ensures { ParsesPart result text.now (ArgumentPart ∷ []) (λ r. ArgumentSpans text.now r.0) input.now (λ r. r.1.now) }
@@ -194,7 +194,7 @@ fn read_argument<'t>(alloc: Global, text: &str, input: &'t [Lexeme]) -> Read<'t,
     }
 }
 
-// The number that stands first, with the other sign, and the lexemes after it.
+// Reads the number that comes first, negated.
 #[tactic(auto, using(crate::proofs::Negative::negative_fits))]
 fn next_negative(input: &[Lexeme]) -> Option<(i64, &[Lexeme])>
     ensures number { IfSome result (λ r. (n : ℤ) × (r.0 ≡ neg_ℤ n) × ((text : List ℕ) → terminals text input.now ≡ numeral n ∷ terminals text r.1.now)) }

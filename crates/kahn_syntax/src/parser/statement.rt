@@ -15,7 +15,7 @@ use crate::parser::names::read_name;
 use kahn_streams::{Action, Statement};
 use std::alloc::Global;
 
-/// One statement or more, with semicolons between.
+/// Reads one statement or more, with semicolons between.
 #[cycle(statement)]
 pub fn read_statements<'t>(
     alloc: Global,
@@ -39,7 +39,7 @@ pub fn read_statements<'t>(
     }
 }
 
-// A statement.
+// Reads a statement.
 #[cycle(statement)]
 fn read_statement<'t>(
     alloc: Global,
@@ -73,7 +73,7 @@ fn read_statement<'t>(
     }
 }
 
-// A conditional statement, after the `if` that the input begins with.
+// Reads a conditional statement, after the `if` that the input begins with.
 #[cycle(statement)]
 fn read_if<'t>(
     alloc: Global,
@@ -109,7 +109,7 @@ fn read_if<'t>(
     )
 }
 
-// A statement that `else` may follow.
+// Reads a statement that `else` may follow.
 #[cycle(statement)]
 fn read_simple<'t>(
     alloc: Global,
@@ -145,7 +145,7 @@ fn read_simple<'t>(
     }
 }
 
-// An assignment.
+// Reads an assignment.
 fn read_assign<'t>(
     alloc: Global,
     text: &str,
@@ -168,7 +168,7 @@ fn read_assign<'t>(
     )
 }
 
-// A send, after the `send` that the input begins with.
+// Reads a send, after the `send` that the input begins with.
 fn read_send<'t>(
     alloc: Global,
     text: &str,

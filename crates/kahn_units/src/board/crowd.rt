@@ -31,7 +31,7 @@ fn sends(network: &Network, board: &Board<Counter>, seat: &mut Seat<Counter>)
     set_down(board, seat, 0, Rest::Ready);
 }
 
-// A turn at another instance, which is claimed: it waits where it took all that is published, and else takes a token and
+// A turn at another instance, which is claimed: it waits if it took all that is published, and else takes a token and
 // hands it on.
 fn copies(network: &Network, board: &Board<Counter>, seat: &mut Seat<Counter>, p: usize)
     requires has { IsSquare board.now.table.shared.table_id seat.old × HasCell seat.old p × (0 < p) }
@@ -47,7 +47,7 @@ fn copies(network: &Network, board: &Board<Counter>, seat: &mut Seat<Counter>, p
     set_down(board, seat, p, Rest::Ready);
 }
 
-// A turn at each instance, where the seat can claim it: how many it claimed.
+// Does a turn at each instance that the seat can claim, and returns how many it claimed.
 fn round(network: &Network, board: &Board<Counter>, seat: &mut Seat<Counter>) -> u64
     requires square { IsSquare board.now.table.shared.table_id seat.old }
     requires network { board.now.table.shared.key.network.value ≡ network.now }
@@ -67,7 +67,7 @@ fn round(network: &Network, board: &Board<Counter>, seat: &mut Seat<Counter>) ->
     claims
 }
 
-// So many rounds: how many claims the seat won.
+// Does `rounds` rounds, and returns how many claims the seat won.
 fn work(network: &Network, board: &Board<Counter>, seat: &mut Seat<Counter>, rounds: u64) -> u64
     requires square { IsSquare board.now.table.shared.table_id seat.old }
     requires network { board.now.table.shared.key.network.value ≡ network.now }
@@ -80,8 +80,8 @@ fn work(network: &Network, board: &Board<Counter>, seat: &mut Seat<Counter>, rou
     claims
 }
 
-// So many threads work, each with a seat: one seat again, and how many claims were won. None where a seat couldn't be
-// made, or came back with something in its hands.
+// Lets `threads` threads work, each with a seat. Returns one seat again, and how many claims were won. None if a seat
+// couldn't be made, or came back with something in its hands.
 fn crowd<R: Threads + Sync>(
     rt: &R,
     alloc: Global,
@@ -124,7 +124,7 @@ fn crowd<R: Threads + Sync>(
     Some((seat, claims.wrapping_add(more)))
 }
 
-// How many claims the closed cells hold, in all, and whether no instance took more than the one before it sent.
+// Returns how many claims the closed cells hold, in all, and whether no instance took more than the one before it sent.
 fn counted(cells: &Vec<Counter>) -> (u64, bool) {
     let mut claims = 0u64;
     let mut in_order = true;
@@ -138,8 +138,8 @@ fn counted(cells: &Vec<Counter>) -> (u64, bool) {
     (claims, in_order)
 }
 
-// So many threads work on the chain: the claims that they won, the claims that the closed cells hold, and whether these
-// are in order.
+// Lets `threads` threads work on the chain. Returns the claims that they won, the claims that the closed cells hold,
+// and whether these are in order.
 fn worked<R: Threads + Abort + Sync>(
     rt: &R,
     alloc: Global,

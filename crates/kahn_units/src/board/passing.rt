@@ -8,8 +8,8 @@ ghost use Rattle.kahn_board.specs.Plays.{IsIn};
 
 use kahn_board::{Board, Rest, Seat, Told};
 
-// Publishes, and where the reader was parked pays the count up for it, sets it down ready and answers which it was. The
-// seat has in its hands what it had before, with the same cells, and owes and drew the same.
+// Publishes, and if the reader was parked, pays the count up for it, sets it down ready and returns it. The seat has in
+// its hands what it had before, with the same cells, and owes and drew the same.
 pub(crate) fn pass_on<T: Told>(
     seat: &mut Seat<T>,
     board: &Board<T>,

@@ -108,7 +108,7 @@ fn the_third_sees(
     assert!(rt; matches!(look(board, c), Look::Halted));
 }
 
-// What a board hands out whose run was halted, with the whole budget.
+// A board returns the whole budget if its run was halted.
 fn closes_halted(rt: &impl Abort, board: Board<Counter>, seat: Seat<Counter>)
     requires square { IsSquare board.table.shared.table_id seat }
     requires whole { (seat.seat.me.0.parts ≡ all_parts) × (seat.seat.me.0.drawn ≡ 0) }

@@ -14,7 +14,7 @@ use std::alloc::{Allocator, Global};
 use std::process::Abort;
 use std::test::Fail;
 
-// A process that doubles what comes on its input channel, which is channel 0, and so many values for it.
+// A process that doubles what comes on its input channel, which is channel 0, and `count` values for it.
 fn doubling(alloc: Global, count: usize) -> Result<(Network, Input), Fail>
     ensures { IfOk result (λ r. 0 < length (network_of r.0).channels) }
 {
@@ -30,7 +30,7 @@ fn doubling(alloc: Global, count: usize) -> Result<(Network, Input), Fail>
     Ok((network, input))
 }
 
-// Makes room for a token, at the second call where memory is refused at the first: whether it was.
+// Makes room for a token, at the second call if memory is refused at the first. Returns whether it was.
 fn make_room<A: Allocator + Clone + Drop>(
     rt: &impl Abort,
     sender: &mut Sender<A>,
@@ -47,7 +47,7 @@ fn make_room<A: Allocator + Clone + Drop>(
     Ok(true)
 }
 
-// Puts the next token of the input channel, with room for it: whether memory was refused first.
+// Puts the next token of the input channel, with room for it. Returns whether memory was refused first.
 fn put_next<A: Allocator + Clone + Drop>(
     rt: &impl Abort,
     sender: &mut Sender<A>,
@@ -67,7 +67,7 @@ fn put_next<A: Allocator + Clone + Drop>(
     Ok(refused)
 }
 
-// Puts the next tokens of the input channel, so many: how often memory was refused.
+// Puts the next `count` tokens of the input channel. Returns how often memory was refused.
 fn put_some<A: Allocator + Clone + Drop>(
     rt: &impl Abort,
     sender: &mut Sender<A>,
@@ -87,7 +87,7 @@ fn put_some<A: Allocator + Clone + Drop>(
     Ok(refused)
 }
 
-// Flushes so many tokens, at the second call where memory is refused at the first: whether it was.
+// Flushes `count` tokens, at the second call if memory is refused at the first. Returns whether it was.
 fn flush<A: Allocator + Clone + Drop>(rt: &impl Abort, sender: &mut Sender<A>, count: u64) -> bool
     ensures { SameSender sender.old sender.new }
 {
@@ -99,7 +99,7 @@ fn flush<A: Allocator + Clone + Drop>(rt: &impl Abort, sender: &mut Sender<A>, c
     true
 }
 
-// The place of the next token that is taken.
+// Takes a token, and returns its place.
 fn take<A: Allocator + Drop>(receiver: &mut Receiver<A>) -> Option<u64>
     ensures { SameReceiver receiver.old receiver.new }
 {
@@ -133,8 +133,8 @@ fn a_full_segment_is_flushed_by_the_next_room(rt: HostRuntime) -> Result<(), Fai
     Ok(())
 }
 
-// 129 tokens pass through a lane. The growth of this number is refused, and the call that wanted it is made again: whether
-// there was one.
+// Lets 129 tokens pass through a lane. The growth of this number is refused, and the call that wanted it is made again.
+// Returns whether there was one.
 fn passed<A: Allocator + Clone + Drop>(
     rt: &impl Abort,
     alloc: A,

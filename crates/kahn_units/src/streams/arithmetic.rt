@@ -182,7 +182,7 @@ static RESULTS: [(Operator, Value, Value, Result<Value, Failure>); 29] = [
     ),
 ];
 
-// The result as a value.
+// Returns the result as a value.
 fn plain(applied: Result<Word, Failure>) -> Result<Value, Failure> {
     match applied {
         Ok(word) => Ok(word.value()),

@@ -43,7 +43,7 @@ static ENTRIES: [(&[(&str, Value, usize)], Option<InputFault>); 12] = [
     (&[], None),
 ];
 
-// What is fed to an input of three values, the answer, and how many values there are then.
+// What is fed to an input of three values, the result, and how many values there are then.
 static FEEDS: [(&str, Value, usize, Result<(), FeedFault>, usize); 8] = [
     ("Q", YES, 1, Err(FeedFault::UnknownName), 3),
     ("B", YES, 1, Err(FeedFault::NotAnInput), 3),
@@ -81,7 +81,7 @@ fn entries_are_accepted_or_refused(rt: HostRuntime) -> Result<(), Fail> {
     Ok(())
 }
 
-// The value at a place of the first channel.
+// Returns the value at a place of the first channel.
 fn value_at(input: &Input, network: &Network, place: u64) -> Option<Value> {
     if network.channels() == 0 {
         return None;

@@ -1,4 +1,4 @@
-//! Texts that are as long or as deep as they may be, and those that are more.
+//! Texts as long or as deep as is allowed, and beyond.
 
 use kahn_syntax::{Span, SyntaxFault, lex, parse};
 use std::test::Fail;
@@ -89,12 +89,12 @@ static LIMITS: [(&[(&str, usize)], Option<SyntaxFault>); 11] = [
     ),
 ];
 
-/// Why a text is refused.
+/// Returns why a text is refused.
 pub fn fault(text: &str, rt: &HostRuntime) -> Option<SyntaxFault> {
     parse(rt.alloc(), text).err()
 }
 
-/// A text of pieces, each so many times.
+/// Makes a text of pieces, each repeated.
 pub fn repeated(rt: &HostRuntime, pieces: &[(&str, usize)]) -> Result<String, Fail> {
     let mut text = String::new(rt.alloc());
     for (piece, count) in pieces {

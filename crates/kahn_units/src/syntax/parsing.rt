@@ -56,8 +56,8 @@ fn cut<'t>(text: &'t str, end: usize) -> &'t str {
     }
 }
 
-// Whether a text that was cut off is refused as it must be: at a colon alone, or for want of more, or at a last lexeme that
-// would have gone on.
+// Whether a text that was cut off is refused as it must be: at a colon alone, or since more is expected, or at a last
+// lexeme that would have gone on.
 fn is_cut_off(prefix: &str, found: Option<SyntaxFault>) -> bool {
     let end = prefix.len();
     match found {

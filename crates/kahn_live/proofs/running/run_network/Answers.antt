@@ -19,4 +19,4 @@ returns g c =
     let before = g.W.Write.contents c.new.result.writer in
     let out = ap (λ o. g.W.Write.contents o.writer) c.new.ensures in
     let served = served_as c.args.asked.strict (option_copied c.input_of.result) input at_end s text before (g.W.Write.contents c.args.output) old last c.work-ending.result c.input_of.ensures out c.work-ending.ensures in
-    inr (s, c.in-Ok.ensures, (last, c.work-ending.result, served, c.sent-ending.ensures.sent, c.sent-ending.ensures.kept, c.tell_stuck.ensures))
+    inr (s, c.in-Ok.ensures, (last, c.work-ending.result, served, c.sent-ending.ensures.sent, c.sent-ending.ensures.kept, refl))

@@ -1,10 +1,9 @@
-use Rattle.std.proofs.Common.{◌≡◌, ◌∙◌, inl, inr, Bool, Ok, Err, refl, rules, subst, true}
-use Rattle.std.specs.Prelude.{is_some}
+use Rattle.std.proofs.Common.{◌≡◌, inl, inr, refl, rules, true}
 use Rattle.std.proofs.lemmas.Result.{err_from_is_err_and}
 use Rattle.std.specs.Io.Buffered.{reader_remaining}
-use Rattle.kahn_live.specs.Course.{lines_given, point_of}
-use Rattle.kahn_live.specs.Running.{IsEnded}
-use Rattle.kahn_live.proofs.Whole.{all_there, copied_some}
+use Rattle.kahn_live.specs.Course.{point_of}
+use Rattle.kahn_live.specs.LinesMet.{lines_given}
+use Rattle.kahn_live.proofs.Whole.{all_there}
 use Rattle.kahn_live.proofs.serving.serve.Goals as goal
 
 pub returns-in_err-take_all : goal.returns-in_err-take_all
@@ -28,13 +27,10 @@ returns-in_err-verdict g c =
     let text = reader_remaining g.I.Read.remaining c.args.reader.now in
     let old = point_of g.W.Write.contents g.E.Write.contents c.args.stage.now in
     let last = point_of g.W.Write.contents g.E.Write.contents c.take_all.new.stage in
-    let new = point_of g.W.Write.contents g.E.Write.contents c.close.new.stage in
     let there : c.in_ok-take_all.field-0 ≡ true = search rules in
-    let plain : c.is_some.result ≡ is_some f.input = c.is_some.ensures ∙ copied_some c.args.fed.input in
     let amiss = c.in_ok-amiss.amiss in
-    let ended = subst (λ (b : Bool). IsEnded b amiss last new (Err c.in_err-verdict.field-0.0)) plain c.in_err-verdict.ensures in
     let p = err_from_is_err_and c.from_residual-in_err-verdict.result c.from_residual-in_err-verdict.ensures.1 in
-    rw (p.1, p.2) (inr (last, all_there f text old last c.in_ok-take_all.field-0 there c.in_ok-take_all.ensures.met, inr (amiss, (c.in_ok-amiss.ensures, ended))))
+    rw (p.1, p.2) (inr (last, all_there f text old last c.in_ok-take_all.field-0 there c.in_ok-take_all.ensures.met, inr (amiss, (c.in_ok-amiss.ensures, c.in_err-verdict.ensures))))
 
 pub returns : goal.returns
 returns g c =
@@ -42,9 +38,5 @@ returns g c =
     let text = reader_remaining g.I.Read.remaining c.args.reader.now in
     let old = point_of g.W.Write.contents g.E.Write.contents c.args.stage.now in
     let last = point_of g.W.Write.contents g.E.Write.contents c.take_all.new.stage in
-    let new = point_of g.W.Write.contents g.E.Write.contents c.close.new.stage in
     let there : c.in_ok-take_all.field-0 ≡ true = search rules in
-    let plain : c.is_some.result ≡ is_some f.input = c.is_some.ensures ∙ copied_some c.args.fed.input in
-    let amiss = c.in_ok-amiss.amiss in
-    let ended = subst (λ (b : Bool). IsEnded b amiss last new (Ok c.in_ok-verdict.verdict)) plain c.in_ok-verdict.ensures in
-    (last, all_there f text old last c.in_ok-take_all.field-0 there c.in_ok-take_all.ensures.met, (c.in_ok-amiss.ensures, ended))
+    (last, all_there f text old last c.in_ok-take_all.field-0 there c.in_ok-take_all.ensures.met, (c.in_ok-amiss.ensures, c.in_ok-verdict.ensures))

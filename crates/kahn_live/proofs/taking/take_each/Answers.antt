@@ -2,7 +2,8 @@ use Rattle.std.proofs.Common.{◌≡◌, inl, inr, rules, true}
 use Rattle.std.specs.Prelude.{option_copied}
 use Rattle.std.proofs.lemmas.Result.{err_from_is_err_and}
 use Rattle.std.specs.Io.Buffered.{reader_remaining}
-use Rattle.kahn_live.specs.Course.{lines_given, point_of}
+use Rattle.kahn_live.specs.Course.{point_of}
+use Rattle.kahn_live.specs.LinesMet.{lines_given}
 use Rattle.kahn_live.proofs.Begun.{histories}
 use Rattle.kahn_live.proofs.Feeding.{all_shown, begun_there}
 use Rattle.kahn_live.proofs.taking.take_each.Goals as goal

@@ -1,0 +1,276 @@
+-- Cells that stand where their queues stand.
+use Rattle.std.proofs.Common.{arith, ◌≡◌, ℕ, ◌+◌, ◌<◌, ◌≤◌, List, [], ◌∷◌, ◌++◌, length, replicate, refl, sym, ap, ◌∙◌, subst, Option, Some, slice_get, slice_set, slice_index_or, length-set}
+use Rattle.std.proofs.lemmas.Option.{slice_get_read}
+use Rattle.kahn_streams.proofs.Entered.{none_of}
+use Rattle.kahn_streams.proofs.Sourced.{writes}
+use Rattle.kahn_streams.specs.Answers.{is_output}
+use Rattle.kahn_streams.specs.Inputs.{Lists, inputs_of}
+use Rattle.kahn_streams.specs.Meaning.{Store}
+use Rattle.kahn_streams.specs.Network.{Network, Writes, actual_at, instance_at, network_of, role_at}
+use Rattle.kahn_streams.specs.Script.{Outcome, Tapes, Script, Give, Fail, Waits, Sends, Turns, Rest, play, wait_at}
+use Rattle.kahn_streams.specs.Steps.{empty}
+use Rattle.kahn_streams.specs.declared.value.Value.{Value}
+use Rattle.kahn_streams.specs.declared.value.Line.{Line}
+use Rattle.kahn_streams.specs.declared.token.Token.{Token}
+use Rattle.kahn_streams.proofs.Dry.{dry_reads}
+use Rattle.kahn_streams.specs.Solution.{Inputs, values_at, goes_to}
+use Rattle.kahn_streams.specs.Wiring.{IsWellWired}
+use Rattle.kahn_streams.specs.declared.tree.Program.{Program}
+use Rattle.kahn_streams.specs.declared.value.Line.TheVariants.{Channel, Print}
+use Rattle.kahn_streams.proofs.Proved.{script_at}
+use Rattle.kahn_code.proofs.Lists.{kept_none, one_first}
+use Rattle.kahn_code.proofs.Queued.{given_zero, set_each, taken_zero}
+use Rattle.kahn_code.specs.Cells.{AreKeptTokens, StoodBy, View, exec_on, sent_on}
+use Rattle.kahn_code.specs.Lines.{AreFirst, AreQueued, Lines, actual_here, next_at, place_at, queue_of, waiting_of}
+use Rattle.kahn_code.specs.Progress.{IsAt, IsPause, Paused, Told, site_of, told_view}
+use Rattle.kahn_code.specs.Standing.{LeavesOthers, Site, count}
+use Rattle.kahn_code.specs.declared.progress.Pause.{Pause}
+use Rattle.kahn_code.specs.declared.progress.Pause.TheVariants as pause
+use Rattle.kahn_code.specs.Progress as code
+use Rattle.kahn_needs.specs.inner.Bench.{AreUnmoved, HasActed, IsUnmoved, HaveSeats, HasItsSeat, IsStopped, Seats, seats_of}
+use Rattle.kahn_needs.proofs.Reaching.{left_zero, sent_zero}
+
+-- ---- a cell at its opening
+
+pub events_zero : {A : Type 0} (s : Script A) (T : Tapes) → (play 0 s T).events ≡ 0
+events_zero (Give a) T = refl
+events_zero (Fail f) T = refl
+events_zero (Waits q go) T = by (T q)
+  where
+    by : (vs : List Value) → (wait_at 0 q T vs (λ i w V. play i (go w) V)).events ≡ 0
+    by [] = refl
+    by (v ∷ vs) = refl
+events_zero (Sends p v s) T = refl
+events_zero (Turns s) T = refl
+events_zero Rest T = refl
+
+-- what is said of a cell that has done nothing is true
+pub stood_first : (N : Network) (I : Inputs) (watch : Option ℕ) (p : ℕ) (x : View) → x.events ≡ 0 → ((q : ℕ) → x.taken q ≡ 0) → ((q : ℕ) → x.sent q ≡ 0) →
+    ((q : ℕ) → x.kept q ≡ []) → x.printed ≡ [] → StoodBy N I watch p x
+stood_first N I watch p x e taken sent kept printed = record {
+  tapes = empty;
+  does = subst (λ n. (exec_on N n p empty).events ≡ n) (sym e) (events_zero (script_at N 0 p) empty);
+  all = subst (λ n. (exec_on N n p empty).left ≡ empty) (sym e) (left_zero (script_at N 0 p) empty);
+  stand = λ q d r k w h. absurd cc;
+  took = λ q. sym (taken q);
+  none = λ q n. refl;
+  gave = λ q d r. ap length (nothing (Channel d)) ∙ sym (sent q);
+  kept = λ q d r s. kept_by (Channel d) (x.kept q) (kept q);
+  bare = λ q n. kept q;
+  printed = kept_by (Print p) x.printed printed;
+}
+  where
+    nothing : (c : Line) → sent_on N x.events p empty c ≡ []
+    nothing c = subst (λ n. sent_on N n p empty c ≡ []) (sym e) (ap (values_at (goes_to N p c)) (sent_zero (script_at N 0 p) empty))
+
+    kept_by : (c : Line) (ts : List Token) → ts ≡ [] → AreKeptTokens N I c (sent_on N x.events p empty c) ts
+    kept_by c ts f = subst (λ l. AreKeptTokens N I c l ts) (sym (nothing c)) (subst (AreKeptTokens N I c []) (sym f) (kept_none N I c))
+
+-- the cell of the next instance
+pub fresh_more : (t : Program) (lists : Lists) (watch : Option ℕ) (cells all : List Told) (n : ℕ) (x : Told) → AreUnmoved t lists watch cells n →
+    IsUnmoved t lists watch n x → all ≡ cells ++ x ∷ [] → AreUnmoved t lists watch all (n + 1)
+fresh_more t lists watch cells all n x h f is =
+    let r = one_first (IsUnmoved t lists watch) cells all x n (record { count = h.count; each = h.each }) is f in
+    record { count = r.count; each = r.each }
+
+pub fresh_one : (t : Program) (lists : Lists) (watch : Option ℕ) (n k : ℕ) (x : Told) → (x.network ≡ t) × (x.input ≡ lists) × (x.instance ≡ n) × (x.watch ≡ watch) →
+    (x.events ≡ 0) × (x.printed ≡ []) → (x.taken ≡ replicate k 0) × (x.sent ≡ replicate k 0) × (x.kept ≡ replicate k []) → IsUnmoved t lists watch n x
+fresh_one t lists watch n k x names none lists' = record {
+  network = names.0;
+  input = names.1;
+  instance = names.2;
+  watched = names.3;
+  events = none.0;
+  taken = taken;
+  sent = sent;
+  stood = stood_first (network_of t) (inputs_of lists) watch n (told_view x) none.0 taken sent (λ q. ap (λ l. slice_index_or l q []) lists'.2 ∙ none_of k q []) none.1;
+}
+  where
+    taken : (q : ℕ) → count x.taken q ≡ 0
+    taken q = ap (λ l. count l q) lists'.0 ∙ none_of k q 0
+
+    sent : (q : ℕ) → count x.sent q ≡ 0
+    sent q = ap (λ l. count l q) lists'.1 ∙ none_of k q 0
+
+-- cells at their openings over queues from which nothing was taken
+pub laid_first : (t code : Program) (lists : Lists) (watch : Option ℕ) (cells : List Told) (q : Lines) → IsWellWired t → code ≡ t →
+    AreUnmoved t lists watch cells (length (network_of t).instances) → (q.network ≡ t) × (q.input ≡ lists) → AreFirst t lists q.queues → AreQueued q →
+    HaveSeats (seats_of t lists watch code cells q)
+laid_first t code lists watch cells q wired same fresh names first queued = record {
+  wired = wired;
+  code = same;
+  count = fresh.count;
+  each = each;
+  network = names.0;
+  input = names.1;
+  queued = queued;
+}
+  where
+    each : (p : ℕ) (x : Told) → slice_get cells p ≡ Some x → HasItsSeat (seats_of t lists watch code cells q) p x
+    each p x at =
+        let o : IsUnmoved t lists watch p x = fresh.each p x at in
+        record {
+          network = o.network;
+          input = o.input;
+          instance = o.instance;
+          watch = o.watched;
+          at = stands o;
+          stood = o.stood;
+        }
+      where
+        own : IsUnmoved t lists watch p x → (r : ℕ) → actual_at (instance_at (network_of q.network) p) r ≡ actual_at (instance_at (network_of x.network) x.instance) r
+        own o r =
+            ap (λ k. actual_at (instance_at (network_of k) p) r) (names.0 ∙ sym o.network) ∙
+            ap (λ k. actual_at (instance_at (network_of x.network) k) r) (sym o.instance)
+
+        stands : IsUnmoved t lists watch p x → IsAt x (place_at q p)
+        stands o = record {
+          reads = λ r d e. ap (next_at q.queues) (own o r ∙ e) ∙ taken_zero t lists q.queues first d _ refl ∙ sym (o.taken r);
+          writes = λ r d e inner.
+              let here : actual_at (instance_at (network_of t) p) r ≡ Writes d =
+              ap (λ k. actual_at (instance_at (network_of k) p) r) (sym names.0) ∙ own o r ∙ e in
+              ap (next_at q.queues) (own o r ∙ e) ∙
+              given_zero t lists q.queues first d _ (ap (λ k. is_output (role_at (network_of k) d)) (sym o.network) ∙ inner) (writes t wired p r d here).1 refl ∙
+              sym (o.sent r);
+        }
+
+-- ---- a cell runs
+
+-- the same program, input, instance and watched channel
+abbrev pub IsSame : Told → Told → Type 0
+IsSame old new = (new.network ≡ old.network) × (new.input ≡ old.input) × (new.instance ≡ old.instance) × (new.watch ≡ old.watch)
+
+abbrev pub ran : Seats → ℕ → Told → Lines → Seats
+ran b p x q = record { network = b.network; input = b.input; watch = b.watch; code = b.code; cells = slice_set b.cells p x; queues = q }
+
+-- the queues as the ports of instance p
+abbrev pub ports_of : Lines → Site
+ports_of q = record { network = q.network; input = q.input; instance = q.instance }
+
+pub found : {b n : Seats} → b ≡ n → HaveSeats b → (p : ℕ) {x : Told} → p < length (network_of n.network).instances → x ≡ slice_index_or b.cells p x → slice_get b.cells p ≡ Some x
+found {b} is laid p {x} l =
+    slice_get_read b.cells (length b.cells) p x refl (subst (λ k. p < k) (sym (laid.count ∙ ap (λ (y : Seats). length (network_of y.network).instances) is)) l)
+
+module _ {b : Seats} (laid : HaveSeats b) (p : ℕ) {x : Told} (at : slice_get b.cells p ≡ Some x) where
+  abbrev lent : Lines
+  lent = record { network = b.queues.network; input = b.queues.input; instance = p; queues = b.queues.queues }
+
+  seated : HasItsSeat b p x
+  seated = laid.each p x at
+
+  pub code_is : b.code ≡ x.network
+  code_is = laid.code ∙ sym seated.network
+
+  pub ports_are : (q : Lines) → q ≡ lent → ports_of q ≡ site_of x
+  ports_are q is =
+      ap ports_of is ∙
+      (λ i. record { network = (laid.network ∙ sym seated.network) i; input = (laid.input ∙ sym seated.input) i; instance = sym seated.instance i })
+
+  pub at_is : (q : Lines) → q ≡ lent → IsAt x (λ r. next_at q.queues (actual_here q r))
+  at_is q is = subst (λ (z : Lines). IsAt x (λ r. next_at z.queues (actual_here z r))) (sym is) seated.at
+
+  module _ (x' : Told) (q q' : Lines) (is : q ≡ lent) (same : IsSame x x') (site : ports_of q' ≡ site_of x')
+      (stands : IsAt x' (λ r. next_at q'.queues (actual_here q' r))) (leaves : LeavesOthers (ports_of q) (place_at q) (place_at q')) (queued : AreQueued q')
+      (quantum : ℕ) (z : Pause)
+      (paused : code.Paused (network_of x'.network) (inputs_of x'.input) x'.watch x'.instance (told_view x')
+      (IsPause (network_of x'.network) x'.instance
+      (λ r. waiting_of (queue_of q'.queues (actual_here q' r)) ≡ 0)
+      (λ r. 0 < waiting_of (queue_of q'.queues (actual_here q' r)))
+      (x'.events ≡ x.events + quantum) z)) where
+    abbrev now : Seats
+    now = ran b p x' q'
+
+    abbrev dry : ℕ → Type 0
+    dry r = waiting_of (queue_of q'.queues (actual_here q' r)) ≡ 0
+
+    abbrev ready : ℕ → Type 0
+    ready r = 0 < waiting_of (queue_of q'.queues (actual_here q' r))
+
+    network_is : x'.network ≡ b.network
+    network_is = same.0 ∙ seated.network
+
+    input_is : x'.input ≡ b.input
+    input_is = same.1 ∙ seated.input
+
+    instance_is : x'.instance ≡ p
+    instance_is = same.2 ∙ seated.instance
+
+    watch_is : x'.watch ≡ b.watch
+    watch_is = same.3 ∙ seated.watch
+
+    lent_to : q'.instance ≡ p
+    lent_to = ap (λ (s : Site). s.instance) site ∙ instance_is
+
+    paused_here : code.Paused (network_of b.network) (inputs_of b.input) b.watch p (told_view x')
+        (IsPause (network_of b.network) p dry ready (x'.events ≡ x.events + quantum) z)
+    paused_here =
+        subst (λ (k : Program × Lists × Option ℕ × ℕ). code.Paused (network_of k.0) (inputs_of k.1) k.2 k.3 (told_view x') (IsPause (network_of k.0) k.3 dry ready (x'.events ≡ x.events + quantum) z))
+        (λ i. (network_is i, input_is i, watch_is i, instance_is i)) paused
+
+    mine : HasItsSeat now p x'
+    mine = record {
+      network = network_is;
+      input = input_is;
+      instance = instance_is;
+      watch = watch_is;
+      at = subst (λ i. IsAt x' (λ r. next_at q'.queues (actual_at (instance_at (network_of q'.network) i) r))) lent_to stands;
+      stood = paused_here.stood;
+    }
+
+    leaves_here : LeavesOthers (record { network = b.queues.network; input = b.queues.input; instance = p }) (place_at b.queues) (place_at q')
+    leaves_here = subst (λ (y : Lines). LeavesOthers (ports_of y) (place_at y) (place_at q')) is leaves
+
+    others : (o : ℕ) (d : Told) → (o ≡ p → ⊥) → slice_get b.cells o ≡ Some d → HasItsSeat now o d
+    others o d n e =
+        let s : HasItsSeat b o d = laid.each o d e in
+        record {
+          network = s.network;
+          input = s.input;
+          instance = s.instance;
+          watch = s.watch;
+          at = record {
+            reads = λ r k h. leaves_here o r n ∙ s.at.reads r k h;
+            writes = λ r k h inner. leaves_here o r n ∙ s.at.writes r k h inner;
+          };
+          stood = s.stood;
+        }
+
+    pub laid_now : HaveSeats now
+    laid_now = record {
+      wired = laid.wired;
+      code = laid.code;
+      count = length-set b.cells p x' ∙ laid.count;
+      each = set_each (HasItsSeat now) b.cells p x' others mine;
+      network = ap (λ (s : Site). s.network) site ∙ network_is;
+      input = ap (λ (s : Site). s.input) site ∙ input_is;
+      queued = queued;
+    }
+
+    own_actual : (r : ℕ) → actual_here q' r ≡ actual_at (instance_at (network_of b.network) p) r
+    own_actual r =
+        ap (λ (s : Site). actual_at (instance_at (network_of s.network) s.instance) r) site ∙
+        ap (λ t. actual_at (instance_at (network_of t) x'.instance) r) network_is ∙
+        ap (λ i. actual_at (instance_at (network_of b.network) i) r) instance_is
+
+    abbrev o : Outcome Store
+    o = (exec_on (network_of b.network) x'.events p paused_here.stood.tapes).outcome
+
+    is_stopped : (z : Pause) → IsPause (network_of b.network) p dry ready (x'.events ≡ x.events + quantum) z o → IsStopped now p z o
+    is_stopped pause.Ended h = h
+    is_stopped (pause.Fault k) h = h
+    is_stopped pause.Spent h = tt
+    is_stopped pause.NoMemory h = tt
+    is_stopped (pause.Dry r) h =
+        let d = dry_reads b.network laid.wired x'.events p r paused_here.stood.tapes h.0 in
+        (d.0, d.1, h.0, subst (λ a. waiting_of (queue_of q'.queues a) ≡ 0) (own_actual r ∙ d.1) (h.1 d.0 d.1))
+
+    pub acted : (x.events ≤ x'.events) × (x'.events ≤ x.events + quantum) → quantum ≡ 1 → HasActed b now p z
+    acted events one = record {
+      same = (refl, refl, refl);
+      old = x;
+      was = at;
+      new = x';
+      cells = refl;
+      events = let a = events.0 in let c = events.1 in (a, omega (arith, c, one));
+      paused = record { stood = paused_here.stood; is = is_stopped z paused_here.is };
+    }

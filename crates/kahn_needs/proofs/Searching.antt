@@ -1,0 +1,226 @@
+-- One turn of a search: what is forced stays so, and what a process waits for is wanted.
+use Rattle.std.proofs.Common.{arith, ◌≡◌, inl, inr, ℕ, ◌+◌, ◌≤◌, ◌<◌, length, map, take, refl, sym, ap, ◌∙◌, subst, Option, Some, None, slice_get, slice_index_or}
+use Rattle.std.proofs.lemmas.List.{length-map}
+use Rattle.std.proofs.lemmas.Option.{same_Some}
+use Rattle.kahn_streams.proofs.By_number.{there, within}
+use Rattle.kahn_streams.proofs.Sourced.{reads, reads_listed}
+use Rattle.kahn_streams.specs.Inputs.{Lists, inputs_of}
+use Rattle.kahn_streams.specs.Meaning.{Store}
+use Rattle.kahn_streams.specs.Network.{IsWriter, Network, Reads, Writes, Given, Written, actual_at, channel_source, instance_at, network_of, role_at}
+use Rattle.kahn_streams.specs.Script.{Outcome, Dry, Cut as Unended}
+use Rattle.kahn_streams.specs.Solution.{Inputs, Ended, Faulted, Waiting as Waits_for, ending, input_list, source}
+use Rattle.kahn_streams.specs.Tokens.{token_value}
+use Rattle.kahn_streams.specs.declared.sides.Side.{Side}
+use Rattle.kahn_streams.specs.declared.tree.Program.{Program}
+use Rattle.kahn_streams.specs.declared.tree.Role.TheVariants.{Input}
+use Rattle.kahn_streams.specs.declared.value.Failure.{Failure}
+use Rattle.kahn_streams.specs.declared.value.Line.{Line}
+use Rattle.kahn_streams.specs.declared.value.Line.TheVariants.{Channel, Print}
+use Rattle.kahn_streams.specs.inner.Sources.{IsFed}
+use Rattle.kahn_code.proofs.Queued.{set_each, set_here}
+use Rattle.kahn_code.specs.Cells.{StoodBy, exec_on, sent_on}
+use Rattle.kahn_code.specs.Lines.{Waiting, next_at, taken_of, waiting_of}
+use Rattle.kahn_code.specs.Progress.{AreCounts, Told, told_view}
+use Rattle.kahn_code.specs.Standing.{count}
+use Rattle.kahn_code.specs.declared.progress.Pause.{Pause}
+use Rattle.kahn_code.specs.declared.progress.Pause.TheVariants as pause
+use Rattle.kahn_needs.specs.Needs.{Cut}
+use Rattle.kahn_needs.specs.Finding.{IsNetworkLine}
+use Rattle.kahn_needs.specs.inner.Bench.{HasActed, HaveSeats, AreSeatsOf, Stood, Seats}
+use Rattle.kahn_needs.specs.inner.Finding.{AreForced, HasSentSoMany, HoldsIn, HoldsAt, IsDemand, IsPausedAt}
+use Rattle.kahn_needs.proofs.Benched.{found}
+use Rattle.kahn_needs.proofs.Forcing.{goes_further, has_next, has_taken, stuck}
+use Rattle.kahn_needs.proofs.Needing.{held_given, prefix_length, take_below}
+
+-- of an input a cut has no more than its list
+pub given_within : (N : Network) (I : Inputs) (y : Cut) (d : Line) (j : ℕ) → source N d ≡ Given → HoldsAt N I y d j → j < length (input_list I d)
+given_within N I y (Channel d) j e h =
+    let f = ap length (held_given N I y h.0 (Channel d) e) in
+    let l = prefix_length (take (y.values d) (I d)) (I d) (take_below (y.values d) (I d)) in
+    let g = h.1 in
+    omega (arith, f, l, g)
+given_within N I y (Print p) j e h = absurd cc
+
+-- a cut has the events of a cell, and the values that it took
+abbrev Needs_all : Program → Lists → Cut → ℕ → Told → Type 0
+Needs_all t lists y o x =
+    (x.events ≤ y.events o)
+    × ((q e i : ℕ) → actual_at (instance_at (network_of t) o) q ≡ Reads e → i < count x.taken q → HoldsAt (network_of t) (inputs_of lists) y (Channel e) i)
+
+module _ (b : Seats) (laid : HaveSeats b) where
+  abbrev N : Network
+  N = network_of b.network
+
+  abbrev I : Inputs
+  I = inputs_of b.input
+
+  -- of the channel that it reads so many values were taken as the cell took
+  pub taken_there : (p q d : ℕ) (x : Told) → slice_get b.cells p ≡ Some x → actual_at (instance_at N p) q ≡ Reads d → taken_of (slice_get b.queues.queues d) ≡ count x.taken q
+  taken_there p q d x at e =
+      let s = laid.each p x at in
+      let own : actual_at (instance_at (network_of x.network) x.instance) q ≡ actual_at (instance_at N p) q =
+      ap (λ t. actual_at (instance_at (network_of t) x.instance) q) s.network ∙ ap (λ i. actual_at (instance_at N i) q) s.instance in
+      sym (ap (next_at b.queues.queues) e) ∙ sym (ap (λ t. next_at b.queues.queues (actual_at (instance_at (network_of t) p) q)) laid.network) ∙ s.at.reads q d (own ∙ e)
+
+  queue_there : (d : ℕ) → d < length N.channels → (w : Waiting) × (slice_get b.queues.queues d ≡ Some w)
+  queue_there d l = there b.queues.queues d (subst (λ n. d < n) (sym (laid.queued.count ∙ ap (λ t. length (network_of t).channels) laid.network)) l)
+
+  -- what was put on an input is its list
+  pub given_there : (d : ℕ) (w : Waiting) → slice_get b.queues.queues d ≡ Some w → role_at N d ≡ Input → w.taken + w.waiting ≡ length (I d)
+  given_there d w at role =
+      (laid.queued.each d w at).given (ap (λ t. role_at (network_of t) d) laid.network ∙ role) ∙ ap (λ (l : Lists). length (inputs_of l d)) laid.input
+
+  -- ---- what a pause tells
+
+  module _ (c : Line) (k : ℕ) (d : Line) (j : ℕ) (demand : IsDemand b c k d j) (p : ℕ) (src : source N d ≡ Written p) (n : ℕ) (sent : HasSentSoMany b d n) (few : n ≤ j) where
+    less : (x : Told) → slice_get b.cells p ≡ Some x → (s : Stood b p x) → length (sent_on N x.events p s.tapes d) ≤ j
+    less x at s = let e = sent p src x at s in omega (arith, e, few)
+
+    -- it waits for a value that is wanted
+    pub waits_for : (q e : ℕ) → IsPausedAt b p (pause.Dry q) → actual_at (instance_at N p) q ≡ Reads e → IsDemand b c k (Channel e) (taken_of (slice_get b.queues.queues e))
+    waits_for q e h r = record {
+      listed = listed;
+      wanted = λ y there. subst (HoldsAt N I y (Channel e)) (sym (taken_there p q e h.0 h.1 r))
+          (has_next N I b.watch p (told_view h.0) h.2.stood d src j (less h.0 h.1 h.2.stood) y (demand.wanted y there) q e r dry);
+      given = λ s. by (reads b.network laid.wired p q e r) s;
+    }
+      where
+        listed : e < length N.channels
+        listed = reads_listed b.network laid.wired p q e r
+
+        dry : (exec_on N h.0.events p h.2.stood.tapes).outcome ≡ Dry q
+        dry = h.2.is.2
+
+        same : {x y : ℕ} → Reads x ≡ Reads y → x ≡ y
+        same f = cc
+
+        empty_there : waiting_of (slice_get b.queues.queues e) ≡ 0
+        empty_there = subst (λ f. waiting_of (slice_get b.queues.queues f) ≡ 0) (same (sym h.2.is.1 ∙ r)) h.2.is.3
+
+        by : IsFed N e → source N (Channel e) ≡ Given → length (I e) ≤ taken_of (slice_get b.queues.queues e)
+        by (inl (f, role)) s =
+            let w = queue_there e listed in
+            let sum = given_there e w.0 w.1 role in
+            let a = ap taken_of w.1 in
+            let z = sym (ap waiting_of w.1) ∙ empty_there in
+            omega (arith, sum, a, z)
+        by (inr w) s = let f : Given ≡ Written w.0 = sym s ∙ w.2 in absurd cc
+
+    -- it is at an end, so there is none
+    over_by : (x : Told) → slice_get b.cells p ≡ Some x → (s : Stood b p x) → (o : Outcome Store) → (exec_on N x.events p s.tapes).outcome ≡ o → (o ≡ Unended → ⊥) →
+        ((q : ℕ) → o ≡ Dry q → ⊥) → (y : Cut) → HoldsIn b y c k → ⊥
+    over_by x at s o is ended dry y there =
+        stuck N I b.watch p (told_view x) s d src j (less x at s) y (demand.wanted y there) o is ended (λ q e. absurd (dry q e))
+
+    pub ended : IsPausedAt b p pause.Ended → (y : Cut) → HoldsIn b y c k → ⊥
+    ended h =
+        let is : ending (exec_on N h.0.events p h.2.stood.tapes).outcome ≡ Some Ended = h.2.is in
+        over_by h.0 h.1 h.2.stood (exec_on N h.0.events p h.2.stood.tapes).outcome refl (not_cut _ is) (not_dry _ is)
+      where
+        not_cut : (o : Outcome Store) → ending o ≡ Some Ended → o ≡ Unended → ⊥
+        not_cut o e f = let g : None ≡ Some Ended = sym (ap ending f) ∙ e in cc
+
+        not_dry : (o : Outcome Store) → ending o ≡ Some Ended → (q : ℕ) → o ≡ Dry q → ⊥
+        not_dry o e q f = let g : Some (Waits_for q) ≡ Some Ended = sym (ap ending f) ∙ e in cc
+
+    pub faulted : (z : Failure) → IsPausedAt b p (pause.Fault z) → (y : Cut) → HoldsIn b y c k → ⊥
+    faulted z h =
+        let is : ending (exec_on N h.0.events p h.2.stood.tapes).outcome ≡ Some (Faulted z) = h.2.is in
+        over_by h.0 h.1 h.2.stood (exec_on N h.0.events p h.2.stood.tapes).outcome refl (not_cut _ is) (not_dry _ is)
+      where
+        not_cut : (o : Outcome Store) → ending o ≡ Some (Faulted z) → o ≡ Unended → ⊥
+        not_cut o e f = let g : None ≡ Some (Faulted z) = sym (ap ending f) ∙ e in cc
+
+        not_dry : (o : Outcome Store) → ending o ≡ Some (Faulted z) → (q : ℕ) → o ≡ Dry q → ⊥
+        not_dry o e q f = let g : Some (Waits_for q) ≡ Some (Faulted z) = sym (ap ending f) ∙ e in cc
+
+    -- ---- an event
+
+    module _ (forced : AreForced b c k) (b' : Seats) (z : Pause) (a : HasActed b b' p z) where
+      before : Stood b p a.old
+      before = (laid.each p a.old a.was).stood
+
+      after : Stood b p a.new
+      after =
+          subst (λ (k' : Program × Lists × Option ℕ). StoodBy (network_of k'.0) (inputs_of k'.1) k'.2 p (told_view a.new)) (λ i. (a.same.0 i, a.same.1 i, a.same.2 i))
+          a.paused.stood
+
+      one : (y : Cut) → HoldsAt N I y c k → Needs_all b.network b.input y p a.new
+      one y there =
+          let h = demand.wanted y there in
+          let g = goes_further N I b.watch p (told_view a.old) before d src j (less a.old a.was before) y h in
+          let m = a.events.1 in (
+            omega (arith, g, m),
+            λ q e i r l. has_taken N I b.watch p (told_view a.old) before d src j (less a.old a.was before) y h (told_view a.new) after m q e r i l,
+          )
+
+      on : (y : Cut) → HoldsAt N I y c k → (o : ℕ) (x : Told) → slice_get b'.cells o ≡ Some x → Needs_all b.network b.input y o x
+      on y there o x at =
+          set_each (Needs_all b.network b.input y) b.cells p a.new (λ o' x' other at'. forced y there o' x' at') (one y there) o x (subst (λ l. slice_get l o ≡ Some x) a.cells at)
+
+      pub forced_on : AreForced b' c k
+      forced_on =
+          subst (λ (k' : Program × Lists). (y : Cut) → HoldsAt (network_of k'.0) (inputs_of k'.1) y c k → (o : ℕ) (x : Told) → slice_get b'.cells o ≡ Some x → Needs_all k'.0 k'.1 y o x)
+          (λ i. (sym a.same.0 i, sym a.same.1 i)) on
+
+-- ---- the same demand later
+
+pub demand_on : (b b' : Seats) → AreSeatsOf b.network b.input b.watch b' → (c : Line) (k : ℕ) (d : Line) (j : ℕ) → IsDemand b c k d j → IsDemand b' c k d j
+demand_on b b' names c k d j h = record {
+  listed = subst (λ t. IsNetworkLine (network_of t) d) (sym names.0) h.listed;
+  wanted = subst (λ (k' : Program × Lists). (y : Cut) → HoldsAt (network_of k'.0) (inputs_of k'.1) y c k → HoldsAt (network_of k'.0) (inputs_of k'.1) y d j) both h.wanted;
+  given = subst (λ (k' : Program × Lists). source (network_of k'.0) d ≡ Given → length (input_list (inputs_of k'.1) d) ≤ j) both h.given;
+}
+  where
+    both : ◌≡◌ {A = Program × Lists} (b.network, b.input) (b'.network, b'.input)
+    both i = (sym names.0 i, sym names.1 i)
+
+-- no cut has what an input hasn't
+pub none_given : (b : Seats) (c : Line) (k : ℕ) (d : Line) (j : ℕ) → IsDemand b c k d j → source (network_of b.network) d ≡ Given → (y : Cut) → HoldsIn b y c k → ⊥
+none_given b c k d j h s y there =
+    let l = given_within (network_of b.network) (inputs_of b.input) y d j s (h.wanted y there) in
+    let m = h.given s in
+    omega (arith, l, m)
+
+-- the pause after an event, or none
+pub paused_at : (b b' : Seats) (p : ℕ) (z : Pause) → HaveSeats b → HasActed b b' p z → IsPausedAt b' p z
+paused_at b b' p z laid a =
+    (a.new, subst (λ l. slice_get l p ≡ Some a.new) (sym a.cells) (set_here b.cells p a.new (within b.cells p a.old a.was)), a.paused)
+
+-- ---- how much was sent
+
+same_writer : {p r : ℕ} → Written p ≡ Written r → p ≡ r
+same_writer e = cc
+
+module _ {b n : Seats} (is : b ≡ n) (laid : HaveSeats b) (c : ℕ) (s : Side) (writer : IsWriter (network_of b.network) c s) {x : Told} (value : x ≡ slice_index_or b.cells s.instance x) where
+  cell_at : slice_get b.cells s.instance ≡ Some x
+  cell_at = found refl laid s.instance writer.0.0 value
+
+  pub parameter_there : AreCounts x → s.parameter < length x.sent
+  parameter_there counts =
+      let seat = laid.each s.instance x cell_at in
+      let a = counts.sent_size in
+      let e : length (instance_at (network_of x.network) x.instance).actuals ≡ length (instance_at (network_of b.network) s.instance).actuals =
+      ap (λ t. length (instance_at (network_of t) x.instance).actuals) seat.network ∙ ap (λ i. length (instance_at (network_of b.network) i).actuals) seat.instance in
+      let l = writer.0.1 in
+      omega (arith, a, e, l)
+
+  sent_here : channel_source (network_of b.network) c ≡ Written s.instance → HasSentSoMany b (Channel c) (count x.sent s.parameter)
+  sent_here source_is p src x' at stood =
+      let same : s.instance ≡ p = same_writer (sym source_is ∙ src) in
+      let e : x ≡ x' = same_Some x x' (sym cell_at ∙ subst (λ i. slice_get b.cells i ≡ Some x') (sym same) at) in
+      stood.gave s.parameter c (subst (λ i. actual_at (instance_at (network_of b.network) i) s.parameter ≡ Writes c) same writer.1) ∙ ap (λ (y : Told). count y.sent s.parameter) (sym e)
+
+  pub sent_there : channel_source (network_of b.network) c ≡ Written s.instance → HasSentSoMany n (Channel c) (count x.sent s.parameter)
+  sent_there source_is = subst (λ (y : Seats). HasSentSoMany y (Channel c) (count x.sent s.parameter)) is (sent_here source_is)
+
+pub printed_there : {b n : Seats} (is : b ≡ n) (laid : HaveSeats b) (p : ℕ) → p < length (network_of n.network).instances → {x : Told} → x ≡ slice_index_or b.cells p x →
+    HasSentSoMany n (Print p) (length x.printed)
+printed_there {b} {n} is laid p here {x} value r src x' at stood =
+    let same : p ≡ r = same_writer src in
+    let at' : slice_get n.cells r ≡ Some x =
+    subst (λ i. slice_get n.cells i ≡ Some x) same (subst (λ (y : Seats). slice_get y.cells p ≡ Some x) is (found is laid p here value)) in
+    let e : x ≡ x' = same_Some x x' (sym at' ∙ at) in
+    let line : sent_on (network_of n.network) x'.events r stood.tapes (Print p) ≡ map token_value x'.printed =
+    subst (λ i. sent_on (network_of n.network) x'.events r stood.tapes (Print i) ≡ map token_value x'.printed) (sym same) (sym stood.printed.values) in
+    ap length line ∙ length-map x'.printed token_value ∙ ap (λ (y : Told). length y.printed) (sym e)

@@ -1,0 +1,275 @@
+-- What all cells did for a value, and nothing more, is what it needs.
+use mathlib.Core.Path.{fun_ext}
+use Rattle.std.proofs.Common.{arith, ◌≡◌, ◌⊎◌, inl, inr, ℕ, zero, suc, ◌≤◌, ◌<◌, List, [], ◌∷◌, length, take, refl, sym, ap, ◌∙◌, subst, Option, Some, None, false, slice_get, slice_index_or, length-take}
+use Rattle.std.proofs.lemmas.Bool.{cases_lt}
+use Rattle.std.proofs.lemmas.List.{get_or_past}
+use Rattle.std.proofs.lemmas.Option.{get_or_from_slice_get, slice_get_within}
+use Rattle.kahn_streams.proofs.By_number.{there}
+use Rattle.kahn_streams.proofs.Proved.{prefix_refl, prefix_get, script_at}
+use Rattle.kahn_streams.proofs.Sided.{channel_served}
+use Rattle.kahn_streams.proofs.Sourced.{outputs, reads, reads_listed}
+use Rattle.kahn_streams.specs.Answers.{is_output}
+use Rattle.kahn_streams.specs.Inputs.{Lists, inputs_of}
+use Rattle.kahn_streams.specs.Network.{IsServed, Network, Reads, Writes, Given, Written, Nobody, Source, actual_at, instance_at, network_of, role_at}
+use Rattle.kahn_streams.specs.Script.{Tapes, play}
+use Rattle.kahn_streams.specs.Solution.{Histories, Inputs, fed, goes_to, input_list, IsPrefix, out, source, tape_of, tapes_of, values_at, exec_at, Stands}
+use Rattle.kahn_streams.specs.Steps.{empty}
+use Rattle.kahn_streams.specs.declared.tree.Program.{Program}
+use Rattle.kahn_streams.specs.declared.tree.Role.{Role}
+use Rattle.kahn_streams.specs.declared.tree.Role.TheVariants.{Inner, Input, Output}
+use Rattle.kahn_streams.specs.declared.value.Line.{Line}
+use Rattle.kahn_streams.specs.declared.value.Line.TheVariants.{Channel, Print}
+use Rattle.kahn_streams.specs.declared.value.Value.{Value}
+use Rattle.kahn_streams.specs.inner.Sources.{IsFed}
+use Rattle.kahn_code.proofs.Lists.{sent_stands, stand_in}
+use Rattle.kahn_code.proofs.Readers.{joins_within}
+use Rattle.kahn_code.specs.Cells.{AllStand, exec_on, sent_on}
+use Rattle.kahn_code.specs.Lines.{Waiting, given_of, next_at, taken_of}
+use Rattle.kahn_code.specs.Progress.{Told}
+use Rattle.kahn_code.specs.Standing.{count}
+use Rattle.kahn_needs.specs.Needs.{AreNeeds, Cut, Suffices, first_values, held_in}
+use Rattle.kahn_needs.specs.Laws.{IsMadeIn, of_input}
+use Rattle.kahn_needs.specs.Finding.{cut_told}
+use Rattle.kahn_needs.specs.inner.Bench.{AreCounted, HaveSeats, Seats, events_in, events_seen, taken_in}
+use Rattle.kahn_needs.specs.inner.Finding.{AreForced, HasCome, HasValue, HoldsIn, HoldsAt}
+use Rattle.kahn_needs.proofs.Celled.{sent_more}
+use Rattle.kahn_needs.proofs.Benched.{events_zero}
+use Rattle.kahn_needs.proofs.Reaching.{left_zero}
+use Rattle.kahn_needs.proofs.Forcing.{AreTapes, both_stand, reads_or}
+use Rattle.kahn_needs.proofs.Needing.{held_given, take_below, take_length}
+use Rattle.kahn_needs.proofs.Searching.{given_there, taken_there}
+use Rattle.kahn_needs.proofs.Told.{have_needs, runs}
+
+-- a number that was told, and none beyond the last
+pub counted_at : (f : ℕ → ℕ) (xs : List ℕ) (n : ℕ) → AreCounted f xs n → ((d : ℕ) → n ≤ d → f d ≡ 0) → (d : ℕ) → slice_index_or xs d 0 ≡ f d
+counted_at f xs n h none d = by (cases_lt d (length xs))
+  where
+    by : (d < length xs) ⊎ (length xs ≤ d) → slice_index_or xs d 0 ≡ f d
+    by (inl l) = let g = there xs d l in get_or_from_slice_get xs d g.0 0 g.1 ∙ h.each d g.0 g.1
+    by (inr l) = let e = h.count in get_or_past xs d 0 l ∙ sym (none d (omega (arith, l, e)))
+
+past_none : {X : Type 0} (xs : List X) (d : ℕ) → length xs ≤ d → slice_get xs d ≡ None
+past_none [] d l = refl
+past_none (x ∷ xs) zero l = absurd (omega (arith, l))
+past_none (x ∷ xs) (suc d) l = past_none xs d (omega (arith, l))
+
+-- ---- what each instance did
+
+-- so many events on these tapes, all of which it took
+record Did (b : Seats) (p : ℕ) : Type 0 where
+  e : ℕ
+  tapes : Tapes
+  does : (exec_on (network_of b.network) e p tapes).events ≡ e
+  all : (exec_on (network_of b.network) e p tapes).left ≡ empty
+  are : AreTapes (network_of b.network) (inputs_of b.input) p tapes
+  same : e ≡ events_in b p
+  took : (q d : ℕ) → actual_at (instance_at (network_of b.network) p) q ≡ Reads d → length (tapes q) ≡ taken_in b d
+  gave : (q d : ℕ) → actual_at (instance_at (network_of b.network) p) q ≡ Writes d → is_output (role_at (network_of b.network) d) ≡ false →
+      length (sent_on (network_of b.network) e p tapes (Channel d)) ≡ given_of (slice_get b.queues.queues d)
+
+module _ (b : Seats) (laid : HaveSeats b) where
+  abbrev N : Network
+  N = network_of b.network
+
+  abbrev I : Inputs
+  I = inputs_of b.input
+
+  sent_there : (p q d : ℕ) (x : Told) → slice_get b.cells p ≡ Some x → actual_at (instance_at N p) q ≡ Writes d → is_output (role_at N d) ≡ false →
+      given_of (slice_get b.queues.queues d) ≡ count x.sent q
+  sent_there p q d x at e inner =
+      let s = laid.each p x at in
+      let own : actual_at (instance_at (network_of x.network) x.instance) q ≡ actual_at (instance_at N p) q =
+      ap (λ t. actual_at (instance_at (network_of t) x.instance) q) s.network ∙ ap (λ i. actual_at (instance_at N i) q) s.instance in
+      sym (ap (next_at b.queues.queues) e) ∙ sym (ap (λ t. next_at b.queues.queues (actual_at (instance_at (network_of t) p) q)) laid.network) ∙
+      s.at.writes q d (own ∙ e) (ap (λ t. is_output (role_at (network_of t) d)) s.network ∙ inner)
+
+  no_cell : (p : ℕ) → slice_get b.cells p ≡ None → p < length N.instances → ⊥
+  no_cell p none l =
+      let g = there b.cells p (let n = laid.count in omega (arith, l, n)) in
+      let f : None ≡ Some g.0 = sym none ∙ g.1 in
+      cc
+
+  did_by : (p : ℕ) (o : Option Told) → slice_get b.cells p ≡ o → Did b p
+  did_by p (Some x) at =
+      let s = (laid.each p x at).stood in
+      record {
+        e = x.events;
+        tapes = s.tapes;
+        does = s.does;
+        all = s.all;
+        are = record { stand = s.stand; none = s.none };
+        same = sym (ap events_seen at);
+        took = λ q d r. s.took q ∙ sym (taken_there b laid p q d x at r);
+        gave = λ q d w inner. s.gave q d w ∙ sym (sent_there p q d x at w inner);
+      }
+  did_by p None at = record {
+    e = 0;
+    tapes = empty;
+    does = events_zero (script_at N 0 p) empty;
+    all = left_zero (script_at N 0 p) empty;
+    are = record { stand = λ q d r k v h. absurd cc; none = λ q n. refl };
+    same = sym (ap events_seen at);
+    took = λ q d r. absurd (no_cell p at (joins_within N p q d (rw r refl)));
+    gave = λ q d w inner. absurd (no_cell p at (joins_within N p q d (rw w refl)));
+  }
+
+  did : (p : ℕ) → Did b p
+  did p = did_by p (slice_get b.cells p) refl
+
+  module _ (values events : List ℕ) (of_values : AreCounted (taken_in b) values (length N.channels)) (of_events : AreCounted (events_in b) events (length N.instances)) where
+    abbrev x : Cut
+    x = cut_told N values events
+
+    value_is : (d : ℕ) → slice_index_or values d 0 ≡ taken_in b d
+    value_is = counted_at (taken_in b) values (length N.channels) of_values (λ d l. ap taken_of (past_none b.queues.queues d (let n = laid.queued.count ∙ ap (λ t. length (network_of t).channels) laid.network in omega (arith, l, n))))
+
+    event_is : (p : ℕ) → x.events p ≡ events_in b p
+    event_is = counted_at (events_in b) events (length N.instances) of_events (λ p l. ap events_seen (past_none b.cells p (let n = laid.count in omega (arith, l, n))))
+
+    given_is : (d : ℕ) → source N (Channel d) ≡ Given → x.values d ≡ taken_in b d
+    given_is d s = ap (λ o. of_input o (slice_index_or values d 0)) s ∙ value_is d
+
+    -- ---- the histories that it made
+
+    abbrev A : Histories
+    A c = fed (source N c) (first_values x.values I) (λ p. sent_on N (did p).e p (did p).tapes c) c
+
+    stands : (c : Line) → AllStand N I c (A c)
+    stands c = by (source N c) refl
+      where
+        given : (c : Line) → source N c ≡ Given → AllStand N I c (input_list (first_values x.values I) c)
+        given (Channel d) s k v h = (0, rw s (prefix_get (take (x.values d) (I d)) (I d) (take_below (x.values d) (I d)) k v h))
+        given (Print p) s k v h = absurd cc
+
+        by : (src : Source) → source N c ≡ src → AllStand N I c (fed src (first_values x.values I) (λ p. sent_on N (did p).e p (did p).tapes c) c)
+        by Given s = given c s
+        by (Written p) s = λ k v h. sent_stands N I p (did p).tapes (did p).are.stand (did p).are.none (did p).e k c v s h
+        by Nobody s = λ k v h. absurd cc
+
+    A_is : (c : Line) (src : Source) → source N c ≡ src → A c ≡ fed src (first_values x.values I) (λ p. sent_on N (did p).e p (did p).tapes c) c
+    A_is c src s = ap (λ o. fed o (first_values x.values I) (λ p. sent_on N (did p).e p (did p).tapes c) c) s
+
+    queue_of_channel : (d : ℕ) → d < length N.channels → (w : Waiting) × (slice_get b.queues.queues d ≡ Some w)
+    queue_of_channel d l = there b.queues.queues d (let n = laid.queued.count ∙ ap (λ t. length (network_of t).channels) laid.network in omega (arith, l, n))
+
+    long : (p q d : ℕ) → actual_at (instance_at N p) q ≡ Reads d → taken_in b d ≤ length (A (Channel d))
+    long p q d r = by (reads b.network laid.wired p q d r)
+      where
+        w : (w : Waiting) × (slice_get b.queues.queues d ≡ Some w)
+        w = queue_of_channel d (reads_listed b.network laid.wired p q d r)
+
+        by : IsFed N d → taken_in b d ≤ length (A (Channel d))
+        by (inl (s, role)) =
+            let f = ap length (A_is (Channel d) Given s) in
+            let g = length-take (x.values d) (I d) in
+            let e = given_is d s in
+            let sum = given_there b laid d w.0 w.1 role in
+            let t = ap taken_of w.1 in
+            omega (arith, f, g, e, sum, t)
+        by (inr (o, r', s, wr, role)) =
+            let f = ap length (A_is (Channel d) (Written o) s) in
+            let g = (did o).gave r' d wr (ap is_output role) in
+            let t = ap taken_of w.1 in
+            let u = ap given_of w.1 in
+            omega (arith, f, g, t, u)
+
+    begins : (p q : ℕ) → IsPrefix ((did p).tapes q) (tapes_of (instance_at N p) A q)
+    begins p q = by (reads_or (actual_at (instance_at N p) q))
+      where
+        by : ((d : ℕ) × (actual_at (instance_at N p) q ≡ Reads d)) ⊎ ((d : ℕ) → actual_at (instance_at N p) q ≡ Reads d → ⊥) → IsPrefix ((did p).tapes q) (tapes_of (instance_at N p) A q)
+        by (inl (d, r)) =
+            let t = (did p).took q d r in
+            let l = long p q d r in
+            subst (λ a. IsPrefix ((did p).tapes q) (tape_of A a)) (sym r)
+            (both_stand N I (Channel d) ((did p).tapes q) (A (Channel d)) ((did p).are.stand q d r) (stands (Channel d)) (omega (arith, t, l)))
+        by (inr n) = subst (λ l. IsPrefix l (tapes_of (instance_at N p) A q)) (sym ((did p).are.none q n)) (_, refl)
+
+    same_sent : (p : ℕ) → (exec_at N (did p).e p A).sent ≡ (exec_on N (did p).e p (did p).tapes).sent
+    same_sent p =
+        ap (λ T. (play (did p).e (script_at N (did p).e p) T).sent) (fun_ext (λ q. (begins p q).1)) ∙
+        sent_more (did p).e (script_at N (did p).e p) (did p).tapes (λ q. (begins p q).0) (did p).does (did p).all
+
+    events_same : (p : ℕ) → (did p).e ≡ x.events p
+    events_same p = (did p).same ∙ sym (event_is p)
+
+    made : IsMadeIn N I x A
+    made = record {
+      below = λ c. stand_in N I c (A c) (stands c);
+      given = λ d s. subst (λ l. length l ≤ x.values d) (sym (A_is (Channel d) Given s)) (take_length (x.values d) (I d));
+      written = λ c p s. subst (λ n. IsPrefix (A c) (out N n p A c)) (events_same p)
+          (subst (IsPrefix (A c)) (A_is c (Written p) s ∙ ap (values_at (goes_to N p c)) (sym (same_sent p))) (prefix_refl (A c)));
+    }
+
+    -- ---- it is enough, and the least
+
+    module _ (c : Line) (k : ℕ) (v : Value) (come : HasCome b c k) (value : HasValue b c k v) (forced : AreForced b c k) where
+      writer_there : (p : ℕ) → source N c ≡ Written p → (y : Told) × (slice_get b.cells p ≡ Some y) → slice_get (A c) k ≡ Some v
+      unfolding did_by did
+      writer_there p s (y, at) = subst (λ l. slice_get l k ≡ Some v) (sym (A_is c (Written p) s)) (by (slice_get b.cells p) refl)
+        where
+          by : (o : Option Told) (f : slice_get b.cells p ≡ o) → slice_get (sent_on N (did_by p o f).e p (did_by p o f).tapes c) k ≡ Some v
+          by (Some z) f = value p s z f (laid.each p z f).stood
+          by None f = let g : None ≡ Some y = sym f ∙ at in absurd cc
+
+      enough : (y : Told) → slice_get b.cells come.0 ≡ Some y → Suffices N I c k v x
+      enough y at = (runs N I x A made c k v (writer_there come.0 come.1 (y, at))).suffices
+
+      read_of : (d : ℕ) → source N (Channel d) ≡ Given → d < length N.channels → (p : ℕ) × (q : ℕ) × (actual_at (instance_at N p) q ≡ Reads d) × (p < length N.instances)
+      read_of d s l = by (role_at N d) refl (channel_served b.network laid.wired d l)
+        where
+          by : (role : Role) → role_at N d ≡ role → IsServed N d (role_at N d) → (p : ℕ) × (q : ℕ) × (actual_at (instance_at N p) q ≡ Reads d) × (p < length N.instances)
+          by Input e served = let o = (subst (IsServed N d) e served).1 in (o.0.instance, o.0.parameter, o.1.0.1, o.1.0.0.0)
+          by Inner e served = let o = (subst (IsServed N d) e served).1 in (o.0.instance, o.0.parameter, o.1.0.1, o.1.0.0.0)
+          by Output e served = let w = outputs b.network laid.wired d e l in let f : Given ≡ Written w.0 = sym s ∙ w.2 in absurd cc
+
+      within_values : (y : Cut) → HoldsAt N I y c k → (d : ℕ) → x.values d ≤ y.values d
+      within_values y h d = by (source N (Channel d)) refl
+        where
+          fewer : (t : ℕ) → taken_in b d ≡ t → source N (Channel d) ≡ Given → t ≤ y.values d
+          fewer zero e s = omega arith
+          fewer (suc j) e s = by' (cases_lt d (length N.channels))
+            where
+              by' : (d < length N.channels) ⊎ (length N.channels ≤ d) → suc j ≤ y.values d
+              by' (inl l) =
+                  let r = read_of d s l in
+                  let z = there b.cells r.0 (let n = laid.count in let m = r.3 in omega (arith, n, m)) in
+                  let t = taken_there b laid r.0 r.1 d z.0 z.1 r.2 in
+                  let held = (forced y h r.0 z.0 z.1).1 r.1 d j r.2 (omega (arith, t, e)) in
+                  let f = ap length (held_given N I y held.0 (Channel d) s) in
+                  let g = take_length (y.values d) (I d) in
+                  let m = held.1 in
+                  omega (arith, f, g, m)
+              by' (inr l) =
+                  let z = ap taken_of (past_none b.queues.queues d (let n = laid.queued.count ∙ ap (λ t. length (network_of t).channels) laid.network in omega (arith, l, n))) in
+                  absurd (omega (arith, z, e))
+
+          by : (src : Source) → source N (Channel d) ≡ src → x.values d ≤ y.values d
+          by Given s = let e = given_is d s in let f = fewer (taken_in b d) refl s in omega (arith, e, f)
+          by (Written p) s = subst (λ o. of_input o (slice_index_or values d 0) ≤ y.values d) (sym s) (omega arith)
+          by Nobody s = subst (λ o. of_input o (slice_index_or values d 0) ≤ y.values d) (sym s) (omega arith)
+
+      within_events : (y : Cut) → HoldsAt N I y c k → (p : ℕ) → x.events p ≤ y.events p
+      within_events y h p = by (slice_get b.cells p) refl
+        where
+          by : (o : Option Told) → slice_get b.cells p ≡ o → x.events p ≤ y.events p
+          by (Some z) at = let e = event_is p ∙ ap events_seen at in let f = (forced y h p z at).0 in omega (arith, e, f)
+          by None at = let e = event_is p ∙ ap events_seen at in omega (arith, e)
+
+      pub are_needs : AreNeeds N I c k v x
+      are_needs =
+          let y = there b.cells come.0 (let n = laid.count in let m = come.2 in omega (arith, n, m)) in
+          record {
+            enough = enough y.0 y.1;
+            least = λ z s. let h : HoldsAt N I z c k = (s.0, slice_get_within (held_in N I z s.0 c) k v s.1) in (within_values z h, within_events z h);
+          }
+
+-- ---- where no cut has a value, none stands
+
+pub never_stands : (b : Seats) (t : Program) (lists : Lists) → b.network ≡ t → b.input ≡ lists → (c : Line) (k : ℕ) → ((y : Cut) → HoldsIn b y c k → ⊥) →
+    (v : Value) → Stands (network_of t) (inputs_of lists) c k v → ⊥
+never_stands b t lists e f c k none v s =
+    let N = network_of t in
+    let I = inputs_of lists in
+    let x = have_needs N I c k v s in
+    let h : HoldsAt N I x.0 c k = (x.1.enough.0, slice_get_within (held_in N I x.0 x.1.enough.0 c) k v x.1.enough.1) in
+    none x.0 (subst (λ (z : Program × Lists). HoldsAt (network_of z.0) (inputs_of z.1) x.0 c k) (λ i. (sym e i, sym f i)) h)

@@ -1,0 +1,306 @@
+-- The laws of needs, proved.
+use mathlib.Core.Path.{fun_ext}
+use Rattle.std.proofs.Common.{arith, ◌≡◌, ◌⊎◌, inl, inr, ℕ, zero, suc, ◌≤◌, ◌<◌, List, [], ◌∷◌, ◌++◌, length, take, refl, sym, ap, ◌∙◌, subst, le_refl, eq-or-lt_of_le, le_trans, Option, Some, None, slice_get, slice_index_or, get_or}
+use Rattle.std.proofs.lemmas.Option.{slice_get_within, slice_get-get_or}
+use Rattle.kahn_streams.specs.declared.value.Value.{Value}
+use Rattle.kahn_streams.specs.declared.value.Line.{Line}
+use Rattle.kahn_streams.specs.declared.value.Line.TheVariants.{Channel}
+use Rattle.kahn_streams.specs.declared.answer.End.{End}
+use Rattle.kahn_streams.specs.declared.answer.Verdict.{Verdict}
+use Rattle.kahn_streams.specs.Network.{Network, Instance, idle, instance_at, Given, Written}
+use Rattle.kahn_streams.specs.Solution.{Histories, Inputs, out, source, iterate, IsPrefix, Stands, AreInputsExtended}
+use Rattle.kahn_streams.specs.Answers.{AreRight}
+use Rattle.kahn_streams.proofs.Proved.{prefix_refl, prefix_trans, prefix_get, feeds, out_grows, chain, one_value}
+use Rattle.kahn_streams.proofs.Finished.{inputs_grow}
+use Rattle.kahn_needs.specs.Needs.{Cut, first_values, held_in, Suffices, IsCutWithin, AreNeeds}
+use Rattle.kahn_needs.specs.Laws.{AreInOrder, AreParts, HaveNeeds, AreOneCut, AreEnough, AreExact, IsMadeIn, AreRunsNeeds, AreDone, AreSameNeeds, IsTight, AreTight}
+use Rattle.kahn_needs.proofs.Needing.{take_below, held_more, held_within, held_below, held_made, Found, found}
+
+pub parts : (N : Network) (I : Inputs) → AreParts N I
+parts N I = record { more = held_within N I; begin = λ x. held_below N I x I (λ d. take_below (x.values d) (I d)) }
+
+-- ---- a place that is filled has the value that stands there
+
+pub get_there : (xs : List Value) (k : ℕ) (v : Value) → k < length xs → (w : Value) × (slice_get xs k ≡ Some w)
+get_there xs k v h = (get_or xs k v, slice_get-get_or xs k v h)
+
+module _ (N : Network) (I : Inputs) (c : Line) (k : ℕ) (v : Value) where
+  stands_below : (x : Cut) → Suffices N I c k v x → Stands N I c k v
+  stands_below x s =
+      let b = held_below N I x I (λ d. take_below (x.values d) (I d)) s.0 c in
+      (b.0, prefix_get _ _ b.1 k v s.1)
+
+  pub suffices_there : Stands N I c k v → (x : Cut) (n : ℕ) → k < length (held_in N I x n c) → Suffices N I c k v x
+  suffices_there s x n h =
+      let g = get_there (held_in N I x n c) k v h in
+      (n, subst (λ w. slice_get (held_in N I x n c) k ≡ Some w) (one_value N I c k g.0 v (stands_of g.0 (n, g.1)) s) g.1)
+    where
+      stands_of : (w : Value) → ((m : ℕ) × (slice_get (held_in N I x m c) k ≡ Some w)) → Stands N I c k w
+      stands_of w t =
+          let b = held_below N I x I (λ d. take_below (x.values d) (I d)) t.0 c in
+          (b.0, prefix_get _ _ b.1 k w t.1)
+
+  -- the least cut, also among all that make histories which have the value
+  pub the_needs : Stands N I c k v → Found N I c k
+  the_needs s = found N I s.0 c k (slice_get_within (iterate N I s.0 c) k v s.1)
+
+  needs_of : (s : Stands N I c k v) → AreNeeds N I c k v (the_needs s).cut
+  needs_of s =
+      let f = the_needs s in
+      record {
+        enough = suffices_there s f.cut f.enough.0 f.enough.1;
+        least = λ y t. f.least y (held_in N I y t.0) (held_made N I y t.0) (slice_get_within (held_in N I y t.0 c) k v t.1);
+      }
+
+  -- so the least cut is within each that makes such histories
+  pub within_made : (x : Cut) → AreNeeds N I c k v x → (y : Cut) (A : Histories) → IsMadeIn N I y A → slice_get (A c) k ≡ Some v → IsCutWithin x y
+  within_made x h y A made e =
+      let s = stands_below x h.enough in
+      let f = the_needs s in
+      let a = h.least f.cut (needs_of s).enough in
+      let b = f.least y A made (slice_get_within (A c) k v e) in
+      (λ d. le_trans (a.0 d) (b.0 d), λ p. le_trans (a.1 p) (b.1 p))
+
+pub have_needs : (N : Network) (I : Inputs) → HaveNeeds N I
+have_needs N I c k v s = ((the_needs N I c k v s).cut, needs_of N I c k v s)
+
+-- ---- one cut
+
+both_ways : (a b : ℕ) → a ≤ b → b ≤ a → a ≡ b
+both_ways a b h g = omega (arith, h, g)
+
+same_cut : (x y : Cut) → IsCutWithin x y → IsCutWithin y x → x ≡ y
+same_cut x y h g =
+    let e : x.values ≡ y.values = fun_ext (λ d. both_ways (x.values d) (y.values d) (h.0 d) (g.0 d)) in
+    let f : x.events ≡ y.events = fun_ext (λ p. both_ways (x.events p) (y.events p) (h.1 p) (g.1 p)) in
+    λ j. record { values = e j; events = f j }
+
+pub one_cut : (N : Network) (I : Inputs) → AreOneCut N I
+one_cut N I c k v w x y h g =
+    let e : v ≡ w = one_value N I c k v w (stands_below N I c k v x h.enough) (stands_below N I c k w y g.enough) in
+    same_cut x y (h.least y (subst (λ u. Suffices N I c k u y) (sym e) g.enough)) (g.least x (subst (λ u. Suffices N I c k u x) e h.enough))
+
+-- ---- inputs
+
+pub enough : (N : Network) → AreEnough N
+enough N I J c k v x h longer =
+    let b = held_below N I x J longer h.enough.0 c in
+    (b.0, prefix_get _ _ b.1 k v h.enough.1)
+
+-- with so many events each, and so many values
+abbrev all_of : Inputs → ℕ → Cut
+all_of J n = record { values = λ d. length (J d); events = λ p. n }
+
+input_length : (N : Network) (J : Inputs) (n d : ℕ) → source N (Channel d) ≡ Given → length (iterate N J n (Channel d)) ≤ length (J d)
+input_length N J zero d e = rw e (le_refl (length (J d)))
+input_length N J (suc n) d e = rw e (le_refl (length (J d)))
+
+iterate_written : (N : Network) (J : Inputs) (n : ℕ) (c : Line) (p : ℕ) → source N c ≡ Written p → IsPrefix (iterate N J n c) (out N n p (iterate N J n) c)
+iterate_written N J zero c p e = rw e (_, refl)
+iterate_written N J (suc n) c p e =
+    rw e (out_grows N n (suc n) p (iterate N J n) (iterate N J (suc n)) c (omega arith) (feeds (instance_at N p) (iterate N J n) (iterate N J (suc n)) (chain N J n)))
+
+iterate_made : (N : Network) (I J : Inputs) → AreInputsExtended J I → (n : ℕ) → IsMadeIn N I (all_of J n) (iterate N J n)
+iterate_made N I J h n =
+    record {
+      below = λ c. (n, inputs_grow N J I h n c);
+      given = λ d e. input_length N J n d e;
+      written = λ c p e. iterate_written N J n c p e;
+    }
+
+long_enough : (a : ℕ) (xs ys : List Value) → IsPrefix xs ys → a ≤ length xs → IsPrefix (take a ys) xs
+long_enough zero xs ys h l = (xs, refl)
+long_enough (suc a) [] ys h l = absurd (omega (arith, l))
+long_enough (suc a) (x ∷ xs) [] h l = let e : [] ≡ x ∷ (xs ++ h.0) = h.1 in absurd cc
+long_enough (suc a) (x ∷ xs) (y ∷ ys) h l =
+    let r = long_enough a xs ys (h.0, tail h.1) (omega (arith, l)) in
+    (r.0, cons (head h.1) r.1)
+  where
+    head : y ∷ ys ≡ x ∷ (xs ++ h.0) → y ≡ x
+    head e = cc
+
+    tail : y ∷ ys ≡ x ∷ (xs ++ h.0) → ys ≡ xs ++ h.0
+    tail e = cc
+
+    cons : {zs ws : List Value} → y ≡ x → zs ≡ ws → x ∷ zs ≡ y ∷ ws
+    cons e f = cc
+
+pub exact : (N : Network) → AreExact N
+exact N I J c k v x h shorter = (needed, λ l. enough N I J c k v x h (λ d. long_enough (x.values d) (J d) (I d) (shorter d) (l d)))
+  where
+    needed : Stands N J c k v → (d : ℕ) → x.values d ≤ length (J d)
+    needed s = (within_made N I c k v x h (all_of J s.0) (iterate N J s.0) (iterate_made N I J shorter s.0) s.1).0
+
+-- ---- longer inputs
+
+kept : (N : Network) (I J : Inputs) (c : Line) (k : ℕ) (v : Value) (x : Cut) → AreInputsExtended I J → AreNeeds N I c k v x → AreNeeds N J c k v x
+kept N I J c k v x longer h =
+    let sI = stands_below N I c k v x h.enough in
+    let sJ = enough N I J c k v x h (λ d. prefix_trans _ _ _ (take_below (x.values d) (I d)) (longer d)) in
+    let y = (the_needs N J c k v sJ).cut in
+    let hy = needs_of N J c k v sJ in
+    let fits = (exact N J I c k v y hy longer).0 sI in
+    let in_I : Suffices N I c k v y = back y fits hy.enough in
+    let in_J : Suffices N J c k v x = forth x h.enough in
+    let e : y ≡ x = same_cut y x (hy.least x in_J) (h.least y in_I) in
+    subst (AreNeeds N J c k v) e hy
+  where
+    take_of : (a : ℕ) (xs ys : List Value) → IsPrefix xs ys → IsPrefix (take a xs) (take a ys)
+    take_of zero xs ys g = prefix_refl _
+    take_of (suc a) [] ys g = (take (suc a) ys, refl)
+    take_of (suc a) (x ∷ xs) [] g = let e : [] ≡ x ∷ (xs ++ g.0) = g.1 in absurd cc
+    take_of (suc a) (x ∷ xs) (y ∷ ys) g =
+        let r = take_of a xs ys (g.0, tail g.1) in
+        (r.0, cons (head g.1) r.1)
+      where
+        head : y ∷ ys ≡ x ∷ (xs ++ g.0) → y ≡ x
+        head e = cc
+
+        tail : y ∷ ys ≡ x ∷ (xs ++ g.0) → ys ≡ xs ++ g.0
+        tail e = cc
+
+        cons : {zs ws : List Value} → y ≡ x → zs ≡ ws → y ∷ zs ≡ x ∷ ws
+        cons e f = cc
+
+    take_same : (a : ℕ) (xs ys : List Value) → IsPrefix xs ys → a ≤ length xs → IsPrefix (take a ys) (take a xs)
+    take_same zero xs ys g l = prefix_refl _
+    take_same (suc a) [] ys g l = absurd (omega (arith, l))
+    take_same (suc a) (x ∷ xs) [] g l = let e : [] ≡ x ∷ (xs ++ g.0) = g.1 in absurd cc
+    take_same (suc a) (x ∷ xs) (y ∷ ys) g l =
+        let r = take_same a xs ys (g.0, tail g.1) (omega (arith, l)) in
+        (r.0, cons (head g.1) r.1)
+      where
+        head : y ∷ ys ≡ x ∷ (xs ++ g.0) → y ≡ x
+        head e = cc
+
+        tail : y ∷ ys ≡ x ∷ (xs ++ g.0) → ys ≡ xs ++ g.0
+        tail e = cc
+
+        cons : {zs ws : List Value} → y ≡ x → zs ≡ ws → x ∷ zs ≡ y ∷ ws
+        cons e f = cc
+
+    back : (y : Cut) → ((d : ℕ) → y.values d ≤ length (I d)) → Suffices N J c k v y → Suffices N I c k v y
+    back y l s = (s.0, prefix_get _ _ (held_more N J I y y (λ d. take_same (y.values d) (I d) (J d) (longer d) (l d)) (λ p. le_refl (y.events p)) s.0 c) k v s.1)
+
+    forth : (x : Cut) → Suffices N I c k v x → Suffices N J c k v x
+    forth x s = (s.0, prefix_get _ _ (held_more N I J x x (λ d. take_of (x.values d) (I d) (J d) (longer d)) (λ p. le_refl (x.events p)) s.0 c) k v s.1)
+
+pub same : (N : Network) → AreSameNeeds N
+same N I J c k v x h begins =
+    let O = first_values x.values I in
+    let s : Stands N O c k v = enough N I O c k v x h (λ d. prefix_refl (O d)) in
+    let y = (the_needs N O c k v s).cut in
+    let hy = needs_of N O c k v s in
+    let e : y ≡ x = one_cut N I c k v v y x (kept N O I c k v y (λ d. take_below (x.values d) (I d)) hy) h in
+    subst (AreNeeds N J c k v) e (kept N O J c k v y begins hy)
+
+-- ---- runs
+
+pub runs : (N : Network) (I : Inputs) → AreRunsNeeds N I
+runs N I y A made c k v e =
+    let b = made.below c in
+    let s : Stands N I c k v = (b.0, prefix_get _ _ b.1 k v e) in
+    let f = the_needs N I c k v s in
+    let w = f.least y A made (slice_get_within (A c) k v e) in
+    let h = (needs_of N I c k v s).enough in
+    record {
+      needed = λ x g. within_made N I c k v x g y A made e;
+      suffices = (h.0, prefix_get _ _ (held_within N I f.cut y w h.0 c) k v h.1);
+    }
+
+-- the cut of an answer
+events_in : Option End → ℕ
+events_in None = 0
+events_in (Some x) = x.events
+
+abbrev cut_of : Inputs → List End → Cut
+cut_of I ends = record { values = λ d. length (I d); events = λ p. events_in (slice_get ends p) }
+
+-- an instance that there isn't sends nothing
+module _ (N : Network) (I : Inputs) (c : Line) (p : ℕ) (src : source N c ≡ Written p) (out_of : instance_at N p ≡ idle) where
+  nothing_sent : (n : ℕ) (H : Histories) → out N n p H c ≡ []
+  nothing_sent n H = rw out_of refl
+
+  nothing_there : (n : ℕ) → iterate N I n c ≡ []
+  nothing_there zero = rw src refl
+  nothing_there (suc n) = rw src (nothing_sent n (iterate N I n))
+
+  nothing_below_it : (xs : List Value) → ((m : ℕ) × IsPrefix xs (iterate N I m c)) → (ys : List Value) → IsPrefix xs ys
+  nothing_below_it [] b ys = (ys, refl)
+  nothing_below_it (x ∷ xs) b ys = let e : [] ≡ x ∷ (xs ++ b.1.0) = sym (nothing_there b.0) ∙ b.1.1 in absurd cc
+
+module _ (N : Network) (I : Inputs) (bound : ℕ) (verdict : Verdict) (ends : List End) (events : ℕ) (run : AreRight N I bound verdict ends events) where
+  sends_all : (c : Line) (p : ℕ) → source N c ≡ Written p → (x : Option End) → slice_get ends p ≡ x → IsPrefix (run.tapes c) (out N (events_in x) p run.tapes c)
+  unfolding events_in
+  sends_all c p src (Some x) e = subst (λ l. IsPrefix (run.tapes c) l) (sym (run.sends p x e c src)) (prefix_refl (run.tapes c))
+  sends_all c p src None e =
+      nothing_below_it N I c p src (past_end N.instances p (past_ends ends p e)) (run.tapes c) (run.others c) (out N 0 p run.tapes c)
+    where
+      past_ends : (xs : List End) (k : ℕ) → slice_get xs k ≡ None → length xs ≤ k
+      past_ends [] k f = omega arith
+      past_ends (x ∷ xs) zero f = absurd cc
+      past_ends (x ∷ xs) (suc k) f = let l = past_ends xs k f in omega (arith, l)
+
+      past : (xs : List Instance) (k : ℕ) → length xs ≤ k → slice_index_or xs k idle ≡ idle
+      past [] k l = refl
+      past (x ∷ xs) zero l = absurd (omega (arith, l))
+      past (x ∷ xs) (suc k) l = past xs k (omega (arith, l))
+
+      past_end : (xs : List Instance) (k : ℕ) → length ends ≤ k → slice_index_or N.instances k idle ≡ idle
+      past_end xs k l = let e = run.instances in past N.instances k (omega (arith, l, e))
+
+  answer_made : IsMadeIn N I (cut_of I ends) run.tapes
+  answer_made =
+      record {
+        below = run.others;
+        given = λ d e. let f : length (run.tapes (Channel d)) ≡ length (I d) = ap length (run.inputs (Channel d) e) in omega (arith, f);
+        written = λ c p src. sends_all c p src (slice_get ends p) refl;
+      }
+
+pub done : (N : Network) (I : Inputs) → AreDone N I
+unfolding events_in
+done N I c k v x h bound verdict ends events run e p end at =
+    let w = within_made N I c k v x h (cut_of I ends) run.tapes (answer_made N I bound verdict ends events run) e in
+    subst (λ o. x.events p ≤ events_in o) at (w.1 p)
+
+-- ---- no event and no value fewer
+
+less_not : (a b : ℕ) → a < b → b ≤ a → ⊥
+less_not a b h g = omega (arith, h, g)
+
+no_less : (a b : ℕ) → a ≤ b → (a < b → ⊥) → b ≤ a
+no_less a b le h = by (eq-or-lt_of_le le)
+  where
+    by : (a ≡ b) ⊎ (a < b) → b ≤ a
+    by (inl e) = omega (arith, e)
+    by (inr l) = absurd (h l)
+
+pub tight : (N : Network) (I : Inputs) → AreTight N I
+tight N I c k v x = (there, back)
+  where
+    there : AreNeeds N I c k v x → IsTight N I c k v x
+    there h =
+        record {
+          enough = h.enough;
+          no_event = λ y w p l s. less_not (y.events p) (x.events p) l ((h.least y s).1 p);
+          no_value = λ y w d l s. less_not (y.values d) (x.values d) l ((h.least y s).0 d);
+        }
+
+    back : IsTight N I c k v x → AreNeeds N I c k v x
+    back t =
+        let s = stands_below N I c k v x t.enough in
+        let z = (the_needs N I c k v s).cut in
+        let hz = needs_of N I c k v s in
+        let w = hz.least x t.enough in
+        let e : z ≡ x = same_cut z x w (
+          λ d. no_less (z.values d) (x.values d) (w.0 d) (λ l. t.no_value z w d l hz.enough),
+          λ p. no_less (z.events p) (x.events p) (w.1 p) (λ l. t.no_event z w p l hz.enough),
+        ) in
+        subst (AreNeeds N I c k v) e hz
+
+-- ---- the values before it
+
+pub in_order : (N : Network) (I : Inputs) → AreInOrder N I
+in_order N I c j k v w x y le h g =
+    let l = slice_get_within (held_in N I y g.enough.0 c) k w g.enough.1 in
+    h.least y (suffices_there N I c j v (stands_below N I c j v x h.enough) y g.enough.0 (omega (arith, l, le)))

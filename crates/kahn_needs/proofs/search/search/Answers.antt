@@ -1,0 +1,24 @@
+use Rattle.std.proofs.Common.{refl, ◌∙◌}
+use Rattle.kahn_needs.proofs.Searching.{demand_on}
+use Rattle.kahn_needs.proofs.search.search.Goals as goal
+
+pub loop-init : goal.loop-init
+loop-init g c = record { same = (refl, refl, refl); forced = c.requires.forced; root = c.requires.root; demanded = c.requires.root }
+
+pub has_come-requires : goal.has_come-requires
+has_come-requires g c = c.loop.invariant.root.listed
+
+pub loop-preserved : goal.loop-preserved
+loop-preserved g c =
+    let i = c.loop.invariant in
+    let a = c.act-turn.ensures in
+    record {
+      same = (a.same.0 ∙ i.same.0, a.same.1 ∙ i.same.1, a.same.2 ∙ i.same.2);
+      forced = a.forced;
+      root = demand_on c.loop.bench c.act-turn.new.bench a.same c.args.root.line c.args.root.place c.args.root.line c.args.root.place i.root;
+      demanded = c.next_demand-demand.ensures;
+    }
+
+pub next_demand-demand-requires-clause-demanded : goal.next_demand-demand-requires-clause-demanded
+next_demand-demand-requires-clause-demanded g c =
+    demand_on c.loop.bench c.act-turn.new.bench c.act-turn.ensures.same c.args.root.line c.args.root.place c.loop.demand.line c.loop.demand.place c.loop.invariant.demanded

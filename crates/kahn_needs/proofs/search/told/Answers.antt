@@ -1,0 +1,25 @@
+use Rattle.std.proofs.Common.{subst}
+use Rattle.kahn_needs.specs.inner.Finding.{IsPausedAt}
+use Rattle.kahn_needs.proofs.Searching.{ended, faulted, waits_for}
+use Rattle.kahn_needs.proofs.search.told.Goals as goal
+
+pub returns-in-Dry : goal.returns-in-Dry
+returns-in-Dry c =
+    let b = c.args.bench.now in
+    let r = c.requires in
+    waits_for b c.laid.ensures c.args.root.line c.args.root.place c.args.demand.line c.args.demand.place r.demanded c.args.instance r.writer c.sent.result c.sent.ensures c.if-sent-demand.false
+    c.in-Dry.parameter c.channel.result (subst (IsPausedAt b c.args.instance) c.in-Dry.is r.paused) c.channel.ensures
+
+pub returns-in-Ended : goal.returns-in-Ended
+returns-in-Ended c =
+    let b = c.args.bench.now in
+    let r = c.requires in
+    ended b c.laid.ensures c.args.root.line c.args.root.place c.args.demand.line c.args.demand.place r.demanded c.args.instance r.writer c.sent.result c.sent.ensures c.if-sent-demand.false
+    (subst (IsPausedAt b c.args.instance) c.in-Ended.is r.paused)
+
+pub returns-in-Fault : goal.returns-in-Fault
+returns-in-Fault c =
+    let b = c.args.bench.now in
+    let r = c.requires in
+    faulted b c.laid.ensures c.args.root.line c.args.root.place c.args.demand.line c.args.demand.place r.demanded c.args.instance r.writer c.sent.result c.sent.ensures c.if-sent-demand.false
+    _ (subst (IsPausedAt b c.args.instance) c.in-Fault.is r.paused)

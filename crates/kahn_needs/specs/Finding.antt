@@ -1,0 +1,28 @@
+-- Believed. What is told of the needs of a value.
+use Rattle.std.specs.Prelude.{ℕ, ◌<◌, List, length, slice_index_or}
+use Rattle.kahn_streams.specs.Network.{Network}
+use Rattle.kahn_streams.specs.Solution.{Inputs, Stands, source}
+use Rattle.kahn_streams.specs.declared.value.Line.{Line}
+use Rattle.kahn_streams.specs.declared.value.Line.TheVariants.{Channel, Print}
+use Rattle.kahn_streams.specs.declared.value.Value.{Value}
+use Rattle.kahn_needs.specs.Laws.{of_input}
+use Rattle.kahn_needs.specs.Needs.{AreNeeds, Cut}
+use Rattle.kahn_needs.specs.declared.needs.Found.{Found}
+use Rattle.kahn_needs.specs.declared.needs.Found.TheVariants as found
+
+-- a channel of the network, or the print stream of one of its instances
+abbrev pub IsNetworkLine : Network → Line → Type 0
+IsNetworkLine N (Channel c) = c < length N.channels
+IsNetworkLine N (Print p) = p < length N.instances
+
+-- so many values of each input, and so many events of each instance
+abbrev pub cut_told : Network → List ℕ → List ℕ → Cut
+cut_told N values events = record { values = λ d. of_input (source N (Channel d)) (slice_index_or values d 0); events = λ p. slice_index_or events p 0 }
+
+-- at place k of line c is this value, and it needs just that; or no value ever stands there. Where a ring of processes wait on one another, or
+-- the bound is used up, nothing is said.
+abbrev pub AreNeedsFound : Network → Inputs → Line → ℕ → Found → Type 0
+AreNeedsFound N I c k (found.Needs x) = AreNeeds N I c k x.value (cut_told N x.values.items x.events.items)
+AreNeedsFound N I c k found.Never = (v : Value) → Stands N I c k v → ⊥
+AreNeedsFound N I c k found.Ring = Unit {0}
+AreNeedsFound N I c k found.Bound = Unit {0}

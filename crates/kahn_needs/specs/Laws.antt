@@ -1,0 +1,157 @@
+-- Believed. The laws of needs.
+use Rattle.std.specs.Prelude.{◌≡◌, ◌⊎◌, ◌↔◌, ℕ, ◌+◌, ◌≤◌, ◌<◌, List, length, slice_get, Some}
+use Rattle.kahn_streams.specs.declared.value.Value.{Value}
+use Rattle.kahn_streams.specs.declared.value.Line.{Line}
+use Rattle.kahn_streams.specs.declared.value.Line.TheVariants.{Channel}
+use Rattle.kahn_streams.specs.declared.answer.End.{End}
+use Rattle.kahn_streams.specs.declared.answer.Verdict.{Verdict}
+use Rattle.kahn_streams.specs.Network.{Network, Reads, instance_at, actual_at, Source, Given, Written, Nobody}
+use Rattle.kahn_streams.specs.Solution.{Histories, Inputs, source, out, opening, exec_at, tapes_of, IsPrefix, iterate, Stands, AreInputsExtended}
+use Rattle.kahn_streams.specs.Script.{Tapes}
+use Rattle.kahn_streams.specs.Meaning.{exec}
+use Rattle.kahn_streams.specs.Steps.{empty}
+use Rattle.kahn_streams.specs.Answers.{AreRight}
+use Rattle.kahn_needs.specs.Needs.{Cut, first_values, held_in, Suffices, IsCutWithin, AreNeeds}
+
+-- a larger cut holds longer histories, and each of them begins the solution's
+pub record AreParts (N : Network) (I : Inputs) : Type 0 where
+  pub more : (x y : Cut) → IsCutWithin x y → (n : ℕ) (c : Line) → IsPrefix (held_in N I x n c) (held_in N I y n c)
+  pub begin : (x : Cut) (n : ℕ) (c : Line) → (m : ℕ) × IsPrefix (held_in N I x n c) (iterate N I m c)
+
+-- what stands has needs
+abbrev pub HaveNeeds : Network → Inputs → Type 0
+HaveNeeds N I = (c : Line) (k : ℕ) (v : Value) → Stands N I c k v → (x : Cut) × AreNeeds N I c k v x
+
+-- and one cut alone
+abbrev pub AreOneCut : Network → Inputs → Type 0
+AreOneCut N I = (c : Line) (k : ℕ) (v w : Value) (x y : Cut) → AreNeeds N I c k v x → AreNeeds N I c k w y → x ≡ y
+
+-- with inputs that begin with the values told it stands, whatever else comes
+abbrev pub AreEnough : Network → Type 0
+AreEnough N =
+    (I J : Inputs) (c : Line) (k : ℕ) (v : Value) (x : Cut) → AreNeeds N I c k v x → ((d : ℕ) → IsPrefix (first_values x.values I d) (J d)) → Stands N J c k v
+
+-- on shorter inputs it stands just where each has the number of values told
+abbrev pub AreExact : Network → Type 0
+AreExact N =
+    (I J : Inputs) (c : Line) (k : ℕ) (v : Value) (x : Cut) → AreNeeds N I c k v x → AreInputsExtended J I →
+    Stands N J c k v ↔ ((d : ℕ) → x.values d ≤ length (J d))
+
+-- histories that begin the solution's, of the inputs no more than the cut's values, and of each other line no more than its writer sends on them
+-- with the cut's events: what any run may have made with so much
+pub record IsMadeIn (N : Network) (I : Inputs) (y : Cut) (A : Histories) : Type 0 where
+  pub below : (c : Line) → (m : ℕ) × IsPrefix (A c) (iterate N I m c)
+  pub given : (d : ℕ) → source N (Channel d) ≡ Given → length (A (Channel d)) ≤ y.values d
+  pub written : (c : Line) (p : ℕ) → source N c ≡ Written p → IsPrefix (A c) (out N (y.events p) p A c)
+
+-- who has the value has done its needs, and who has made histories with the value has enough for it
+pub record AreForRuns (N : Network) (I : Inputs) (y : Cut) (A : Histories) (c : Line) (k : ℕ) (v : Value) : Type 0 where
+  pub needed : (x : Cut) → AreNeeds N I c k v x → IsCutWithin x y
+  pub suffices : Suffices N I c k v y
+
+abbrev pub AreRunsNeeds : Network → Inputs → Type 0
+AreRunsNeeds N I = (y : Cut) (A : Histories) → IsMadeIn N I y A → (c : Line) (k : ℕ) (v : Value) → slice_get (A c) k ≡ Some v → AreForRuns N I y A c k v
+
+-- so in every right answer that has the value, whatever its bound and its verdict, each instance has done the events told
+abbrev pub AreDone : Network → Inputs → Type 0
+AreDone N I =
+    (c : Line) (k : ℕ) (v : Value) (x : Cut) → AreNeeds N I c k v x →
+    (bound : ℕ) (verdict : Verdict) (ends : List End) (events : ℕ) (run : AreRight N I bound verdict ends events) → slice_get (run.tapes c) k ≡ Some v →
+    (p : ℕ) (end : End) → slice_get ends p ≡ Some end → x.events p ≤ end.events
+
+-- inputs that begin with the values told have the same needs, whatever else comes
+abbrev pub AreSameNeeds : Network → Type 0
+AreSameNeeds N =
+    (I J : Inputs) (c : Line) (k : ℕ) (v : Value) (x : Cut) → AreNeeds N I c k v x → ((d : ℕ) → IsPrefix (first_values x.values I d) (J d)) → AreNeeds N J c k v x
+
+-- it suffices, and no cut within it does that has one event or one value fewer
+pub record IsTight (N : Network) (I : Inputs) (c : Line) (k : ℕ) (v : Value) (x : Cut) : Type 0 where
+  pub enough : Suffices N I c k v x
+  pub no_event : (y : Cut) → IsCutWithin y x → (p : ℕ) → y.events p < x.events p → Suffices N I c k v y → ⊥
+  pub no_value : (y : Cut) → IsCutWithin y x → (d : ℕ) → y.values d < x.values d → Suffices N I c k v y → ⊥
+
+-- then it is the least
+abbrev pub AreTight : Network → Inputs → Type 0
+AreTight N I = (c : Line) (k : ℕ) (v : Value) (x : Cut) → AreNeeds N I c k v x ↔ IsTight N I c k v x
+
+-- a value needs all that those before it on its line need
+abbrev pub AreInOrder : Network → Inputs → Type 0
+AreInOrder N I = (c : Line) (j k : ℕ) (v w : Value) (x y : Cut) → j ≤ k → AreNeeds N I c j v x → AreNeeds N I c k w y → IsCutWithin x y
+
+-- ---- how needs are found
+
+-- with e events on H instance p has sent more than k values on line c, and with fewer it hasn't
+pub record IsShortest (N : Network) (p : ℕ) (c : Line) (k e : ℕ) (H : Histories) : Type 0 where
+  pub there : k < length (out N e p H c)
+  pub sooner : (j : ℕ) → j < e → length (out N j p H c) ≤ k
+
+-- with them it has taken the value at place j at its parameter q
+abbrev pub IsTakenBy : Network → ℕ → ℕ → Histories → ℕ → ℕ → Type 0
+IsTakenBy N p e H q j = j + length ((exec_at N e p H).left q) < length (tapes_of (instance_at N p) H q)
+
+-- a value of an input wants so many values. A value that an instance sends wants the events of its shortest run to it, on any histories that
+-- have what this run takes, and what each value wants that this run takes.
+pub record GoBack (N : Network) (I : Inputs) : Type 0 where
+  pub given : (d k : ℕ) (v : Value) (y : Cut) → source N (Channel d) ≡ Given → slice_get (I d) k ≡ Some v → Suffices N I (Channel d) k v y ↔ (k < y.values d)
+  pub written : (c : Line) (p k e : ℕ) (v : Value) (H : Histories) (y : Cut) → source N c ≡ Written p → ((d : Line) → (m : ℕ) × IsPrefix (H d) (iterate N I m d)) →
+      IsShortest N p c k e H → Stands N I c k v →
+      Suffices N I c k v y
+      ↔ ((e ≤ y.events p)
+      × ((q d j : ℕ) (w : Value) → actual_at (instance_at N p) q ≡ Reads d → IsTakenBy N p e H q j → slice_get (H (Channel d)) j ≡ Some w → Suffices N I (Channel d) j w y))
+
+-- ---- what a program does that finds them
+
+-- how many values of each line and how many events of each instance are wanted so far
+pub record Wanted : Type 0 where
+  pub values : Line → ℕ
+  pub events : ℕ → ℕ
+
+-- each cut that suffices for the value has these events, and suffices for these values of H
+abbrev pub IsForced : Network → Inputs → Line → ℕ → Value → Histories → Wanted → Type 0
+IsForced N I c k v H s =
+    (y : Cut) → Suffices N I c k v y →
+    ((p : ℕ) → s.events p ≤ y.events p) × ((d : Line) (j : ℕ) (w : Value) → j < s.values d → slice_get (H d) j ≡ Some w → Suffices N I d j w y)
+
+-- at first the value itself and those before it are wanted
+pub record IsBegunWith (c : Line) (k : ℕ) (s : Wanted) : Type 0 where
+  pub values : (d : Line) (j : ℕ) → j < s.values d → (d ≡ c) × (j ≤ k)
+  pub events : (p : ℕ) → s.events p ≡ 0
+
+-- then also the e events of instance p, and what it takes with them
+pub record IsRaised (N : Network) (H : Histories) (p e : ℕ) (s t : Wanted) : Type 0 where
+  pub values : (d : Line) (j : ℕ) → j < t.values d →
+      (j < s.values d) ⊎ ((q : ℕ) × (x : ℕ) × (d ≡ Channel x) × (actual_at (instance_at N p) q ≡ Reads x) × IsTakenBy N p e H q j)
+  pub events : (r : ℕ) → (t.events r ≤ s.events r) ⊎ ((r ≡ p) × (t.events r ≤ e))
+
+-- until on H each instance sends with its events the values that are wanted, and takes none but these
+pub record IsEnough (N : Network) (H : Histories) (s : Wanted) : Type 0 where
+  pub there : (d : Line) → s.values d ≤ length (H d)
+  pub sent : (d : Line) (p : ℕ) → source N d ≡ Written p → s.values d ≤ length (out N (s.events p) p H d)
+  pub taken : (p q d j : ℕ) → actual_at (instance_at N p) q ≡ Reads d → IsTakenBy N p (s.events p) H q j → j < s.values (Channel d)
+
+-- the cut that is wanted
+abbrev pub of_input : Source → ℕ → ℕ
+of_input Given n = n
+of_input (Written p) n = 0
+of_input Nobody n = 0
+
+abbrev pub cut_of : Network → Wanted → Cut
+cut_of N s = record { values = λ d. of_input (source N (Channel d)) (s.values (Channel d)); events = s.events }
+
+-- that finds the needs, over any histories that begin the solution's and have the value
+pub record IsFoundBy (N : Network) (I : Inputs) (c : Line) (k : ℕ) (v : Value) (H : Histories) : Type 0 where
+  pub begins : (s : Wanted) → IsBegunWith c k s → IsForced N I c k v H s
+  pub raises : (s t : Wanted) (d : Line) (p j e : ℕ) → IsForced N I c k v H s → j < s.values d → j < length (H d) → source N d ≡ Written p →
+      IsShortest N p d j e H → IsRaised N H p e s t → IsForced N I c k v H t
+  pub ends : (s : Wanted) → IsForced N I c k v H s → IsEnough N H s → k < s.values c → AreNeeds N I c k v (cut_of N s)
+
+abbrev pub NeedsAreFound : Network → Inputs → Type 0
+NeedsAreFound N I =
+    (c : Line) (k : ℕ) (v : Value) (H : Histories) → ((d : Line) → (m : ℕ) × IsPrefix (H d) (iterate N I m d)) → slice_get (H c) k ≡ Some v → IsFoundBy N I c k v H
+
+-- what an instance did with just the values that it took (`StoodBy` of a cell), told on histories that begin with these
+abbrev pub IsToldByCells : Network → Type 0
+IsToldByCells N =
+    (p e : ℕ) (T : Tapes) (H : Histories) → (exec e (instance_at N p).body (opening (instance_at N p)) T).events ≡ e →
+    (exec e (instance_at N p).body (opening (instance_at N p)) T).left ≡ empty → ((q : ℕ) → IsPrefix (T q) (tapes_of (instance_at N p) H q)) →
+    ((exec_at N e p H).sent ≡ (exec e (instance_at N p).body (opening (instance_at N p)) T).sent) × ((q j : ℕ) → IsTakenBy N p e H q j ↔ (j < length (T q)))

@@ -1,0 +1,3 @@
+-- What only proofs and clauses below the surface read.
+pub mod Finding
+pub mod Bench

@@ -1,0 +1,94 @@
+-- Inner. What is known in a search for needs.
+use Rattle.std.specs.Prelude.{◌≡◌, ℕ, ◌≤◌, ◌<◌, length, Option, Some, None, slice_get}
+use Rattle.kahn_streams.specs.Inputs.{inputs_of}
+use Rattle.kahn_streams.specs.Network.{Network, Reads, Given, Written, actual_at, instance_at, network_of}
+use Rattle.kahn_streams.specs.Solution.{Inputs, input_list, source}
+use Rattle.kahn_streams.specs.declared.value.Line.{Line}
+use Rattle.kahn_streams.specs.declared.value.Line.TheVariants.{Channel, Print}
+use Rattle.kahn_streams.specs.declared.value.Value.{Value}
+use Rattle.kahn_code.specs.Cells.{sent_on}
+use Rattle.kahn_code.specs.Lines.{taken_of}
+use Rattle.kahn_code.specs.Progress.{Paused, Told, told_view}
+use Rattle.kahn_code.specs.Standing.{count}
+use Rattle.kahn_code.specs.declared.progress.Pause.{Pause}
+use Rattle.kahn_needs.specs.Needs.{Cut, held_in}
+use Rattle.kahn_needs.specs.Finding.{IsNetworkLine}
+use Rattle.kahn_needs.specs.inner.Bench.{IsStopped, AreSeatsOf, Stood, Seats}
+use Rattle.kahn_needs.specs.declared.search.Turn.{Turn}
+use Rattle.kahn_needs.specs.declared.search.Turn.TheVariants as turn
+use Rattle.kahn_needs.specs.declared.search.Sought.{Sought}
+use Rattle.kahn_needs.specs.declared.search.Sought.TheVariants as sought
+
+-- with that cut there is a value at place k of line c
+abbrev pub HoldsAt : Network → Inputs → Cut → Line → ℕ → Type 0
+HoldsAt N I y c k = (n : ℕ) × (k < length (held_in N I y n c))
+
+-- the same in the network of seats
+abbrev pub HoldsIn : Seats → Cut → Line → ℕ → Type 0
+HoldsIn b y c k = HoldsAt (network_of b.network) (inputs_of b.input) y c k
+
+-- each cut with a value at place k of line c has one at place j of line d
+abbrev pub IsWanted : Seats → Line → ℕ → Line → ℕ → Type 0
+IsWanted b c k d j = (y : Cut) → HoldsIn b y c k → HoldsIn b y d j
+
+-- each cut with a value at place k of line c has the events of each cell, and the values that these took
+abbrev pub AreForced : Seats → Line → ℕ → Type 0
+AreForced b c k =
+    (y : Cut) → HoldsIn b y c k → (p : ℕ) (x : Told) → slice_get b.cells p ≡ Some x →
+    (x.events ≤ y.events p)
+    × ((q d j : ℕ) → actual_at (instance_at (network_of b.network) p) q ≡ Reads d → j < count x.taken q → HoldsIn b y (Channel d) j)
+
+-- a value at place j of line d is wanted for the one at place k of line c; an input has none there
+pub record IsDemand (b : Seats) (c : Line) (k : ℕ) (d : Line) (j : ℕ) : Type 0 where
+  pub listed : IsNetworkLine (network_of b.network) d
+  pub wanted : IsWanted b c k d j
+  pub given : source (network_of b.network) d ≡ Given → length (input_list (inputs_of b.input) d) ≤ j
+
+-- n values were sent on the line
+abbrev pub HasSentSoMany : Seats → Line → ℕ → Type 0
+HasSentSoMany b c n =
+    (p : ℕ) → source (network_of b.network) c ≡ Written p → (x : Told) → slice_get b.cells p ≡ Some x → (s : Stood b p x) →
+    length (sent_on (network_of b.network) x.events p s.tapes c) ≡ n
+
+-- a value was sent at that place of a line that an instance writes
+abbrev pub HasCome : Seats → Line → ℕ → Type 0
+HasCome b c k =
+    (p : ℕ) × (source (network_of b.network) c ≡ Written p) × (p < length (network_of b.network).instances) × ((n : ℕ) × HasSentSoMany b c n × (k < n))
+
+-- it is v
+abbrev pub HasValue : Seats → Line → ℕ → Value → Type 0
+HasValue b c k v =
+    (p : ℕ) → source (network_of b.network) c ≡ Written p → (x : Told) → slice_get b.cells p ≡ Some x → (s : Stood b p x) →
+    slice_get (sent_on (network_of b.network) x.events p s.tapes c) k ≡ Some v
+
+-- an instance stopped so
+abbrev pub IsPausedAt : Seats → ℕ → Pause → Type 0
+IsPausedAt b p z =
+    (x : Told) × (slice_get b.cells p ≡ Some x) × Paused (network_of b.network) (inputs_of b.input) b.watch p (told_view x) (IsStopped b p z)
+
+-- what a turn for the value at place j of line d tells, where that at place k of line c is sought
+abbrev pub IsTurnTold : Seats → Line → ℕ → Line → ℕ → Turn → Type 0
+IsTurnTold b c k d j turn.Sent = HasCome b d j
+IsTurnTold b c k d j turn.Acted = Unit {0}
+IsTurnTold b c k d j (turn.Waits e) = IsDemand b c k (Channel e) (taken_of (slice_get b.queues.queues e))
+IsTurnTold b c k d j turn.Over = (y : Cut) → HoldsIn b y c k → ⊥
+IsTurnTold b c k d j turn.Bound = Unit {0}
+IsTurnTold b c k d j turn.NoMemory = Unit {0}
+
+pub record HasSearched (b e : Seats) (c : Line) (k : ℕ) (d : Line) (j : ℕ) (t : Turn) : Type 0 where
+  pub same : AreSeatsOf b.network b.input b.watch e
+  pub forced : AreForced e c k
+  pub told : IsTurnTold e c k d j t
+
+-- how the search for a value at place k of line c ended
+abbrev pub IsEndOfSearch : Seats → Line → ℕ → Sought → Type 0
+IsEndOfSearch b c k sought.Come = HasCome b c k
+IsEndOfSearch b c k sought.Never = (y : Cut) → HoldsIn b y c k → ⊥
+IsEndOfSearch b c k sought.Ring = Unit {0}
+IsEndOfSearch b c k sought.Bound = Unit {0}
+IsEndOfSearch b c k sought.NoMemory = Unit {0}
+
+-- what is kept of the line
+abbrev pub watch_of : Line → Option ℕ
+watch_of (Channel c) = Some c
+watch_of (Print p) = None

@@ -1,0 +1,195 @@
+//! The search for what a value needs, by demand: the writer of the value acts until it has sent it; where it waits for a value, the writer of
+//! that one acts. So nothing is done that isn't needed.
+
+ghost use Rattle.std.specs.Prelude.{◌≡◌, ◌<◌, true, IfSome, length};
+ghost use Rattle.kahn_streams.specs.Network.{Written, network_of};
+ghost use Rattle.kahn_streams.specs.Solution.{source};
+ghost use Rattle.kahn_needs.specs.Finding.{IsNetworkLine};
+ghost use Rattle.kahn_needs.specs.inner.Bench.{AreSeatsOf};
+ghost use Rattle.kahn_needs.specs.inner.Finding.{AreForced, HasCome, HasSearched, IsDemand, IsPausedAt, IsEndOfSearch, IsTurnTold};
+
+use crate::bench::Bench;
+use kahn_code::{Pause, Steps};
+use kahn_streams::{Line, MOST_BOUND};
+use std::sync::ledger::{Blank, Ledger};
+
+/// A value that is wanted, by its line and its place, and how many waits lead to it from the one that is sought.
+#[derive(Clone, Copy)]
+pub(crate) struct Demand {
+    pub(crate) line: Line,
+    pub(crate) place: u64,
+    pub(crate) waits: usize,
+}
+
+/// What a turn for a demand did.
+#[derive(Clone, Copy)]
+pub(crate) enum Turn {
+    /// The value was sent.
+    Sent,
+    /// One event was done.
+    Acted,
+    /// Its writer waits for a value of this channel.
+    Waits(usize),
+    /// It is never sent.
+    Over,
+    /// The bound is used up.
+    Bound,
+    /// Memory was refused.
+    NoMemory,
+}
+
+/// How a search ended.
+#[derive(Clone, Copy)]
+pub(crate) enum Sought {
+    /// The value was sent.
+    Come,
+    /// It is never sent.
+    Never,
+    /// Those that it waits for wait on one another.
+    Ring,
+    /// The bound is used up.
+    Bound,
+    /// Memory was refused.
+    NoMemory,
+}
+
+// What the pause of the writer of a demand tells, where it did no event.
+fn told(bench: &Bench<'_>, root: Demand, demand: Demand, instance: usize, pause: Pause) -> Turn
+    requires demanded { IsDemand bench.now root.line root.place demand.line demand.place }
+    requires writer { source (network_of bench.now.network) demand.line ≡ Written instance }
+    requires here { instance < length (network_of bench.now.network).instances }
+    requires paused { IsPausedAt bench.now instance pause }
+    ensures { IsTurnTold bench.now root.line root.place demand.line demand.place result }
+{
+    bench.laid();
+    if bench.sent(demand.line) > demand.place {
+        return Turn::Sent;
+    }
+    match pause {
+        Pause::Dry(parameter) => Turn::Waits(bench.channel(instance, parameter)),
+        Pause::Ended => Turn::Over,
+        Pause::Fault(_) => Turn::Over,
+        Pause::NoMemory => Turn::NoMemory,
+        Pause::Spent => Turn::Bound,
+    }
+}
+
+// The writer of a demand acts, unless it has sent the value.
+fn act<L: Ledger>(bench: &mut Bench<'_>, root: Demand, demand: Demand, steps: &mut Steps<L>) -> Turn
+    requires demanded { IsDemand bench.old root.line root.place demand.line demand.place }
+    requires forced { AreForced bench.old root.line root.place }
+    ensures { HasSearched bench.old bench.new root.line root.place demand.line demand.place result }
+{
+    bench.laid();
+    let Some(instance) = bench.writer(demand.line) else {
+        return Turn::Over;
+    };
+    if bench.sent(demand.line) > demand.place {
+        return Turn::Sent;
+    }
+    let before = bench.events(instance);
+    if before >= MOST_BOUND {
+        return Turn::Bound;
+    }
+    let pause = bench.act(instance, steps);
+    bench.laid();
+    if bench.events(instance) > before {
+        return Turn::Acted;
+    }
+    told(bench, root, demand, instance, pause)
+}
+
+// The demand after a turn: the one for which the writer waits, or the first one again, once a value was sent.
+fn next_demand(bench: &Bench<'_>, root: Demand, demand: Demand, turn: Turn) -> Demand
+    requires root { IsDemand bench.now root.line root.place root.line root.place }
+    requires demanded { IsDemand bench.now root.line root.place demand.line demand.place }
+    requires told { IsTurnTold bench.now root.line root.place demand.line demand.place turn }
+    ensures { IsDemand bench.now root.line root.place result.line result.place }
+{
+    match turn {
+        Turn::Sent => root,
+        Turn::Waits(channel) => Demand {
+            line: Line::Channel(channel),
+            place: bench.taken(channel),
+            waits: demand.waits.saturating_add(1),
+        },
+        Turn::Acted => demand,
+        Turn::Over => demand,
+        Turn::Bound => demand,
+        Turn::NoMemory => demand,
+    }
+}
+
+// Whether the search is over after a turn, and how.
+fn ended_by(bench: &Bench<'_>, root: Demand, demand: Demand, turn: Turn) -> Option<Sought>
+    requires told { IsTurnTold bench.now root.line root.place demand.line demand.place turn }
+    ensures { IfSome result (IsEndOfSearch bench.now root.line root.place) }
+{
+    match turn {
+        Turn::Sent => None,
+        Turn::Over => Some(Sought::Never),
+        Turn::Bound => Some(Sought::Bound),
+        Turn::NoMemory => Some(Sought::NoMemory),
+        Turn::Waits(_) => {
+            if demand.waits > bench.instances() {
+                return Some(Sought::Ring);
+            }
+            None
+        }
+        Turn::Acted => None,
+    }
+}
+
+// Whether the value of a demand was sent.
+fn has_come(bench: &Bench<'_>, demand: Demand) -> bool
+    requires { IsNetworkLine (network_of bench.now.network) demand.line }
+    ensures { result ≡ true → HasCome bench.now demand.line demand.place }
+{
+    match bench.writer(demand.line) {
+        Some(_) => bench.sent(demand.line) > demand.place,
+        None => false,
+    }
+}
+
+// What is left of the bound after a turn.
+fn left_after(turn: Turn, left: u64) -> u64 {
+    match turn {
+        Turn::Acted => left.saturating_sub(1),
+        _ => left,
+    }
+}
+
+/// Processes act until the value of a demand was sent, or it is known that it never is, for at most `bound` events. All that they do is
+/// needed.
+pub(crate) fn search<L: Ledger>(
+    blank: Blank,
+    bench: &mut Bench<'_>,
+    root: Demand,
+    bound: u64,
+) -> Sought
+    requires blank { (blank.name ≡ L.name) × (blank.parts ≡ L.parts) × (0 < blank.parts) }
+    requires root { IsDemand bench.old root.line root.place root.line root.place }
+    requires forced { AreForced bench.old root.line root.place }
+    ensures same { AreSeatsOf bench.old.network bench.old.input bench.old.watch bench.new }
+    ensures forced { AreForced bench.new root.line root.place }
+    ensures sought { IsEndOfSearch bench.new root.line root.place result }
+{
+    let mut steps = Steps::<L>::open(blank);
+    let mut demand = root;
+    let mut left = bound;
+    for _ in 0..u64::MAX {
+        if has_come(bench, root) {
+            return Sought::Come;
+        }
+        if left == 0 {
+            return Sought::Bound;
+        }
+        let turn = act(bench, root, demand, &mut steps);
+        if let Some(end) = ended_by(bench, root, demand, turn) {
+            return end;
+        }
+        left = left_after(turn, left);
+        demand = next_demand(bench, root, demand, turn);
+    }
+    Sought::Bound
+}
