@@ -1,11 +1,9 @@
 """The pictures of programs, compared with those that the checker of fuzz/ makes of the same texts, in Python.
 
     draw.py KAHN_DRAW      draws the examples, the rows of checks/rows, the rows of families.py and what is refused in them, each
-                           alone and with its report, and with reports that no run writes
+                           alone and as it ran by its report, and runs that end in rings of waits
 """
-import glob
 import os
-import re
 import subprocess
 import sys
 import tempfile
@@ -15,15 +13,12 @@ TOP = os.path.dirname(os.path.dirname(os.path.abspath(__file__)))
 sys.path += [f"{TOP}/fuzz", f"{TOP}/checks"]
 import families
 import reference
-
-
-MOST_REPORT = 16777216
+import rows
 
 
 def lines_of(report):
-    """The lines of a report, without the line feeds at their ends and one carriage return before each."""
-    *ended, last = report.decode().split("\n")
-    return [line.removesuffix("\r") for line in ended] + ([last] if last else [])
+    """The lines of a report."""
+    return report.decode().split("\n")[:-1]
 
 
 def behind(heading, lines):
@@ -40,7 +35,7 @@ def carried(name, lines):
 def ended(number, name, lines):
     """How an instance ended, as the line of a label."""
     words = behind(f"end {number + 1} {name}: ", lines)
-    return "" if words is None or not re.fullmatch("[A-Za-z0-9_ ]*", words) else f"\\n{words}"
+    return "" if words is None else f"\\n{words}"
 
 
 STARTS = {"ended ": "ended", "fault ": "fault", "wants more ": "more"}
@@ -89,13 +84,8 @@ def values(process, arguments):
     return "\\n" + ", ".join(told) if told else ""
 
 
-def is_told(checked, report):
-    """Whether a report tells how one of the instances ended."""
-    return any(behind(f"end {number + 1} {name[1]}: ", lines_of(report)) is not None for number, (name, _) in enumerate(checked.instances))
-
-
 def picture(program, report):
-    """The picture of a program's network, with what the bytes of a report say of it, and whether they say how an instance ended."""
+    """The picture of a program's network, with what the report of its run says of it."""
     checked = reference.Checker(reference.Parser(reference.lex(program), len(program)).program())
     said = lines_of(report)
     channels = [name for name, _, _, _ in checked.channels]
@@ -121,70 +111,30 @@ def picture(program, report):
         look += f', headlabel="{readers[number][1]}"' if number in readers else ""
         look += ", color=red, penwidth=2" if any(stands[it] == number for it in rings) else ""
         lines.append(f'  {ends} [label="{name}{carried(name, said)}", {look}];')
-    return "".join(line + "\n" for line in [*lines, "}"]).encode(), is_told(checked, report)
+    return "".join(line + "\n" for line in [*lines, "}"]).encode()
 
 
 def wanted_of(program, report):
     """Status, picture, and what is told."""
-    if report is not None and len(report) > MOST_REPORT:
-        return 1, b"", b"kahn: input text is too long\n"
     try:
-        drawn, told = picture(program, report or b"")
-        return 0, drawn, b"" if report is None or told else b"kahn: the report is not of this program\n"
+        return 0, picture(program, report or b""), b""
     except reference.Fault as fault:
         line, column = reference.place(program, fault.span[0])
         return 1, b"", f"kahn: {line}:{column}: {fault.text}\n".encode()
 
 
-def read(path):
-    with open(path, "rb") as it:
-        return it.read()
-
-
 def runs():
-    """Programs with the reports of their runs, where they have one: (name, program, report)."""
-    for path in sorted(glob.glob(f"{TOP}/examples/*.kahn")):
-        report = path.removesuffix(".kahn") + ".report"
-        yield os.path.relpath(path, TOP), read(path), read(report) if os.path.exists(report) else None
-    for path in sorted(glob.glob(f"{TOP}/checks/rows/*/program.kahn")):
-        report = f"{os.path.dirname(path)}/report"
-        yield os.path.relpath(path, TOP), read(path), read(report) if os.path.exists(report) else None
-    for family in (families.nesting, families.large_networks):
-        for name, files in family():
-            yield name, files["program.kahn"], files.get("report")
+    """Programs with their inputs, and the words and the reports of their runs, where they have one: (name, program, input, words, report)."""
+    families_rows = (row for family in (families.nesting, families.large_networks) for row in family())
+    for name, files in [*rows.kept_rows(), *families_rows]:
+        words, report = files.get("words", b"").decode().split(), files.get("report")
+        is_run = words[:1] in ([], ["--bound"]) and len(words) in (0, 2) and "limits" not in files and report and b"\nfinished " in report
+        yield name, files["program.kahn"], files.get("input", b""), words if is_run else [], report if is_run else None
 
 
-def odd_reports():
-    """A program with reports that no run writes: (name, program, report)."""
-    program = families.example("pipeline.kahn")
-    reports = {
-        "empty": "",
-        "of another program": "W: 1\nend 1 put: ended after 1\n",
-        "without its last line feed": "end 1 count: ended after 13\nRESULTS: 1 2",
-        "with carriage returns": "RESULTS: 1 2\r\nend 1 count: ended after 13\r\nend 2 square: ended after 1\r",
-        "whose first of two lines counts": "RESULTS: 1 2\nRESULTS: 1 2 3\nend 1 count: one\nend 1 count: two\n",
-        "whose headings are cut or go on": "RESULT: 1\nRESULTS2: 1\n RESULTS: 1\nend 1 count:\nend 1 counts: a\nend 11 count: b\n",
-        "without values and words": "RESULTS:\nend 1 count: \n",
-        "of other ends": "end 1 count: ended\nend 2 square: fault\nend 3 successor: wants moreover\n",
-        "of waits on no channel": "end 1 count: waits on VALUES\nend 2 square: waits on X after 1\nend 3 successor: waits on RESULT after 1\n",
-        "of each end": "end 1 count: wants more after 2\nend 2 square: fault a\nend 3 successor: ended ",
-        "of quotes in values": 'RESULTS: "\\" \\\nSQUARES: \u00e9 \u00e9\n',
-    }
-    for byte in '"\\<>&{}|;,:.-\t\u00e9\0\r':
-        reports[f"with {byte!r} among the words"] = f"end 1 count: ended{byte} after 1\nend 2 square: {byte}\nend 3 successor: ended\n"
-    for name, report in reports.items():
-        yield f"a report {name}", program, report.encode()
-    values = (MOST_REPORT - len("RESULTS:")) // 2
-    longest = b"RESULTS:" + b" 1" * values
-    yield "a report of as many bytes as there may be", program, longest
-    yield "a report of a byte more", program, longest + b"\n"
-    ends = "".join(f"end {i} q: waits on X{4 * i - 4} after 0\n" for i in range(256, 0, -1))
-    channels = "".join(f"X{i}:{' 1' * 100}\n" for i in range(1023, -1, -1))
-    yield "256 instances and 1024 channels with a line of each", families.loops().encode(), (ends + channels).encode()
-
-
-RINGS = b"""begin integer channel A, B, C, D, E, F; integer output channel W; integer input channel U;
+RINGS = """begin integer channel A, B, C, D, E, F; integer output channel W; integer input channel U;
   process one(integer in U; integer out W); begin repeat send wait(U) on W end;
+  process none(integer in U; integer out W); begin end;
   process two(integer in U; integer in V; integer out W; integer out X);
   begin repeat begin send wait(U) on W; send wait(V) on X end end;
   one(A, B) par two(B, C, A, C) par one(D, E) par two(E, F, D, W) par one(U, F)
@@ -192,22 +142,22 @@ end
 """
 
 
-def ring_reports():
-    """A program whose processes may wait in rings, of one, of two, and with others before them: (name, program, report)."""
-    waits = {1: "A", 2: "B", 3: "D", 4: "E", 5: "U"}
-    names = {1: "one", 2: "two", 3: "one", 4: "two", 5: "one"}
+def ring_runs():
+    """A program whose processes wait in rings, of one, of two, and with others before them: (name, program, input, words, report)."""
     changes = {
-        "two rings": {},
-        "a ring of one": {2: "C"},
-        "one ring and one that ended": {1: None},
-        "a chain into a ring": {4: "F", 5: "B"},
-        "a chain to an input": {4: "F"},
-        "waits of others": {1: "B", 2: "A", 3: "A", 5: "W"},
+        "two rings": [],
+        "a ring of one": [("two(B, C, A, C)", "two(C, B, A, C)")],
+        "one ring and one that ended": [("one(A, B)", "none(A, B)")],
+        "a chain to an input": [("two(E, F, D, W)", "two(F, E, D, W)")],
+        "a fault beside a ring": [("send wait(U) on W end;", "send 1 div 0 on W end;"), ("one(D, E)", "none(D, E)")],
     }
-    for name, change in changes.items():
-        told = waits | change
-        ends = [f"end {i} {names[i]}: " + (f"waits on {it} after {i}" if it else "ended after 1") for i, it in told.items()]
-        yield f"rings: {name}", RINGS, "".join(f"{line}\n" for line in ends).encode()
+    for name, pairs in changes.items():
+        program = RINGS
+        for old, new in pairs:
+            program = program.replace(old, new, 1)
+        for text in ("", "U: 1 2 3\n"):
+            ran = reference.run(program.encode(), text.encode(), 1000000, None)
+            yield f"rings: {name}, {text!r}", program.encode(), text.encode(), [], ran.out
 
 
 def processor_time():
@@ -217,26 +167,21 @@ def processor_time():
 
 
 def main(draw):
-    cases = [(name, program, None) for name, program, _ in runs()]
-    cases += [(f"{name} with its report", program, report) for name, program, report in runs() if report is not None]
-    cases += [*odd_reports(), *ring_reports()]
     passed = failed = 0
     with tempfile.TemporaryDirectory() as folder:
-        for name, program, report in cases:
-            words = []
-            if report is not None:
-                words = ["--report", f"{folder}/report"]
-                with open(words[1], "wb") as it:
-                    it.write(report)
-            before = processor_time()
-            ran = subprocess.run([draw, *words], input=program, capture_output=True, timeout=60)
-            seconds = processor_time() - before
-            status, out, err = wanted_of(program, report)
-            if (ran.returncode, ran.stdout, ran.stderr) == (status, out, err) and seconds < 1:
-                passed += 1
-            else:
-                failed += 1
-                print(f"FAILED {name}: status {ran.returncode} after {seconds:.2f} s, {ran.stdout[:300]!r} {ran.stderr[:200]!r}")
+        for name, program, text, words, report in [*runs(), *ring_runs()]:
+            with open(f"{folder}/input", "wb") as it:
+                it.write(text)
+            forms = [([], None)] if report is None else [([], None), (["--input", f"{folder}/input", *words], report)]
+            for given, wanted in forms:
+                before = processor_time()
+                ran = subprocess.run([draw, *given], input=program, capture_output=True, timeout=60)
+                seconds = processor_time() - before
+                if (ran.returncode, ran.stdout, ran.stderr) == wanted_of(program, wanted) and seconds < 1:
+                    passed += 1
+                else:
+                    failed += 1
+                    print(f"FAILED {name} {given}: status {ran.returncode} after {seconds:.2f} s, {ran.stdout[:300]!r} {ran.stderr[:200]!r}")
     print(f"{passed} passed, {failed} failed")
     return 1 if failed or not passed else 0
 

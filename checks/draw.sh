@@ -22,9 +22,11 @@ gives "a file that isn't there" 5 '' 'kahn: cannot read nothing' nothing
 printf 'begin \377' > bytes
 gives "a text that isn't UTF-8" 5 '' 'kahn: bytes is not UTF-8' bytes
 printf 'begin end' > program
-gives "a report that isn't there" 5 '' 'kahn: cannot read nothing' program --report nothing
-gives "a report that isn't UTF-8" 5 '' 'kahn: bytes is not UTF-8' program --report bytes
-gives "a program and a report that aren't there" 5 '' 'kahn: cannot read nothing' nothing --report bytes
+gives "an input that isn't there" 5 '' 'kahn: cannot read nothing' program --input nothing
+gives "an input that isn't UTF-8" 5 '' 'kahn: bytes is not UTF-8' program --input bytes
+gives "a program and an input that aren't there" 5 '' 'kahn: cannot read nothing' nothing --input bytes
+printf 'A: 1\nB: 2\n' > fed
+gives "an input that is refused" 1 '' 'kahn: input B: not an input channel' "$top/examples/double.kahn" --input fed
 gives "an empty text" 1 '' 'kahn: 1:1: text ends too early'
 printf 'begin x' > broken
 gives "a text that is no program" 1 '' $'kahn: 1:8: text ends too early\nkahn_explain broken says more' broken
@@ -37,13 +39,14 @@ ends() {
 
 "$draw" a b > output 2> error < /dev/null
 ends "two words" 2 $? test ! -s output
-"$draw" "$top/examples/count.kahn" --report > output 2> error < /dev/null
-ends "a report without a name" 2 $? test ! -s output
+"$draw" "$top/examples/count.kahn" --input > output 2> error < /dev/null
+ends "an input without a name" 2 $? test ! -s output
+"$draw" "$top/examples/count.kahn" --bound -1 > output 2> error < /dev/null
+ends "a bound out of its limit" 2 $? test ! -s output
 "$draw" --help > output 2> error < /dev/null
 ends "the help" 0 $? grep -q 'dot -Tsvg' output
-printf 'end 1 other: ended after 1\nfinished 1\n' > other
-"$draw" "$top/examples/count.kahn" --report other > output 2> error < /dev/null
-ends "a report of another program" 0 $? grep -qx "kahn: the report is not of this program" error
+"$draw" "$top/examples/count.kahn" --input /dev/null --bound 3 > output 2> error < /dev/null
+ends "a run that is stopped" 0 $? grep -q 'wants more after 3.*palegreen' output
 if [ -e /dev/full ]; then
   "$draw" "$top/examples/count.kahn" > /dev/full 2> error < /dev/null
   ends "a full disk" 5 $? grep -qx "kahn: report could not be written" error

@@ -182,41 +182,6 @@ gives "a table with an input that is refused" 1 '' 'values:1:1: error: not an in
  1 | W: 1
    | ^' "$top/examples/count.kahn" --input values --trace
 
-# from a report: the same words and status; a report that was cut off or changed, or is of another program, is refused
-"$explain" "$ring" > wanted
-ends=$'end 1 stage: waits on A after 0\nend 2 stage: waits on B after 0\nend 3 tap: waits on C after 0\nend 4 gen: ended after 15\n'
-ends+=$'end 5 sink: waits on RES after 1\n'
-printf 'LOG:\n%sfinished 16\n' "$ends" > report
-gives "the report of a ring" 7 "$(cat wanted)" '' "$ring" --report report
-printf '%sfinished 16' "$ends" > bare
-gives "the last lines of a report alone" 7 "$(cat wanted)" '' "$ring" --report bare --bound 0
-idle=$'kahn_explain: --trace does nothing with --report\nkahn_explain: --input does nothing with --report'
-gives "a report, and words that do nothing" 7 "$(cat wanted)" "$idle" "$ring" --report bare --trace --input values
-gives "a report without its last line" 1 "report doesn't tell how 1 stage stands" '' "$ring" --report <(head -n 6 report)
-gives "an empty report" 1 "report doesn't tell how 1 stage stands" '' "$ring" --report <(:)
-gives "a report with a line behind it" 1 "report doesn't tell how 1 stage stands" '' "$ring" --report <(cat report && echo)
-# changed SED OUTPUT: the report with a change.
-changed() { gives "a report with $1" 1 "report doesn't tell how $2" '' "$ring" --report <(sed "$1" report); }
-changed 's/end 3 tap/end 3 top/' '3 tap stands'
-changed 's/waits on C after/waits on D after/' '3 tap stands'
-changed 's/ended after 15/ended after +15/' '4 gen stands'
-changed 's/ended after 15/ended after/' '4 gen stands'
-changed 's/ended after 15/ended after 18446744073709551616/' '4 gen stands'
-changed 's/ended after 15/ended after 15 /' '4 gen stands'
-changed 's/RES after 1/RES after one/' '5 sink stands'
-changed 's/finished 16/finished/' 'the run ended'
-changed 's/finished 16/stopped by hand 16/' 'the run ended'
-gives "a report of another program" 1 "report doesn't tell how 1 count stands" '' "$top/examples/count.kahn" --report report
-missing=$'kahn: cannot read nothing\nkahn_explain: there is no such file'
-gives "a report that isn't there" 5 '' "$missing" "$ring" --report nothing
-network behind 'integer channel A, B; integer output channel W;' 'copy(A, W) par copy(B, A) par clock(B)'
-printf 'end 1 copy: waits on A after 2\nend 2 copy: waits on B after 3\nend 3 clock: wants more after 2\nstopped by bound 7\n' > report
-gives "the report of a run that was stopped" 3 "1 copy waits on A at 2:64 from 2 copy, as 3 clock wants more events
-2 copy waits on B at 2:64 from 3 clock, as 3 clock wants more events
-3 clock wants more, after 2 events
-$on
-stopped by bound 7" '' behind --report report
-
 for report in "$top"/examples/*.report; do
   name=$(basename "$report" .report)
   words=("$top/examples/$name.kahn")
@@ -232,13 +197,6 @@ for report in "$top"/examples/*.report; do
     pass
   else
     fail "examples/$name: status $status, $(tail -n 1 output), $(head -c 300 error)"
-  fi
-  "$explain" "$top/examples/$name.kahn" --report "$report" > other 2> error < /dev/null
-  # a report says of no input how many values it had
-  if [ $? = "$status" ] && { [ "$status" = 3 ] || sed -E 's/, (of which .* taken|to which nothing came: --input FILE brings values)$//' output | cmp -s - other; }; then
-    pass
-  else
-    fail "examples/$name from its report: $(head -c 600 other), $(head -c 300 error)"
   fi
 done
 
@@ -366,7 +324,7 @@ gives "an input of no channel" 1 'values:1:1: error: no such channel; there is n
    | ^^^^' '' "$ring" --input values
 head -c 16777217 /dev/zero | tr '\0' ' ' > long
 gives "an input that is too long" 1 '' $'kahn: input text is too long\nkahn_explain: it may have at most 16777216 bytes' "$ring" --input long
-for words in "a b" "--workers 0" "--watch A" "--report"; do
+for words in "a b" "--workers 0" "--watch A" "--report x"; do
   # shellcheck disable=SC2086
   "$explain" $words > output 2> error < /dev/null
   if [ $? = 2 ] && [ ! -s output ]; then pass; else fail "the words $words"; fi

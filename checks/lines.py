@@ -59,7 +59,7 @@ def by_lines():
         ("a fault in a text", [KAHN, "wrong"], ""),
         ("no such file", [KAHN, "nothing"], ""),
         ("a picture of a wrong text", [DRAW, "wrong"], ""),
-        ("a report of another program", [DRAW, "sum", "--report", "wrong"], ""),
+        ("a picture of a run on a wrong input", [DRAW, "sum", "--input", "wrong"], ""),
         ("a file that can't be explained", [EXPLAIN, "nothing"], ""),
         ("a live text that is wrong", [LIVE, "wrong"], ""),
         ("no such live file", [LIVE, "nothing"], ""),

@@ -106,7 +106,7 @@ is_whole() {
 # refuse_parts QUANTUM: each growth of a live run in turn. Its first part may take just as many events as the run has; a blank line
 # begins the next, and one more comes at the end, where that one waits.
 refuse_parts() {
-  local words=(copies.kahn --quantum "$1") name="parts of copies.kahn --quantum $1"
+  local words=(parts.kahn --quantum "$1") name="parts of copies.kahn --quantum $1"
   "$kahn" "${words[@]}" --workers 1 > whole
   begin
   while goes_on; do
@@ -114,7 +114,7 @@ refuse_parts() {
     # how it ended may be told
     said=$(grep -v -e '^end ' -e '^finished ' error | head -c 300)
     # a line for which memory was refused is passed over, and may be told by the status
-    [ "$status $said" != "1 copies.kahn: input line 1: no memory" ] || status=0
+    [ "$status $said" != "1 parts.kahn: input line 1: no memory" ] || status=0
     alike=$((alike + 1))
     if is_whole && [ -z "$said" ]; then
       pass
@@ -124,7 +124,7 @@ refuse_parts() {
     if wants_memory; then
       wanting=$((wanting + 1))
       pass
-    elif is_whole && [[ $said =~ ^copies\.kahn:\ input\ line\ [01]:\ (no\ memory|waits\ for\ memory)$ ]]; then
+    elif is_whole && [[ $said =~ ^parts\.kahn:\ input\ line\ [01]:\ (no\ memory|waits\ for\ memory)$ ]]; then
       stopped=$((stopped + 1))
       pass
     else
@@ -143,6 +143,9 @@ begin integer channel X0, X1, X2; integer output channel W;
   count(X0, 65) par copy(X0, X1) par copy(X1, X2) par copy(X2, W)
 end
 P
+# the same beside an input, so that lines come
+sed 's/^begin integer channel/begin integer input channel GO; integer channel/
+  s/^  count(X0/  process drain(integer in U); begin integer X; repeat X := wait(U) end;\n  drain(GO) par count(X0/' copies.kahn > parts.kahn
 cat > long.kahn <<'P'
 begin integer output channel X, Y, Z;
   process count(integer out W; integer N);

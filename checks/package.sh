@@ -49,7 +49,7 @@ try_package() {
   try_manual kahn 7 STATEMENTS
   same "an example" "$(PATH="$root/usr/bin" kahn "$root/usr/share/doc/kahn/examples/count.kahn")" "$(cat "$top/examples/count.report")"
   same "the page" "$(sha256sum < "$root/usr/share/doc/kahn/kahn.html")" "$(sha256sum < "$top/release/kahn.html")"
-  same "completions" "$(completed kahn --wor) $(completed kahn_live --plai) $(completed kahn_draw --rep)" "--workers --plain --report"
+  same "completions" "$(completed kahn --wor) $(completed kahn_live --plai) $(completed kahn_draw --inp)" "--workers --plain --input"
   same "no file is anybody's to write" "$(find "$root/usr" -perm /022 -not -type l | head -n 3)" ""
   in_root --purge kahn || return
   same "what is left" "$(find "$root" -mindepth 1 -not -path "$root/var*")" ""

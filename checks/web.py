@@ -27,10 +27,9 @@ ANSWERS = """(async () => {
     const answers = [];
     for (const [program, input, bound] of CASES) {
         const { status, report } = await checker.ask("run", { program, input, bound });
-        const kept = isReport(report) ? report : "";
-        const picture = await checker.ask("draw", { program, input, report: kept });
+        const picture = await checker.ask("draw", { program, input });
         const isShort = new TextEncoder().encode(program).length <= 32768 && status <= 4;
-        answers.push([status, report, picture, isShort ? await checker.ask("explain", { program, input, report: kept }) : ""]);
+        answers.push([status, report, picture, isShort ? await checker.ask("explain", { program, input, bound }) : ""]);
     }
     return answers;
 })()"""
@@ -67,13 +66,11 @@ def native(kahn, draw, explain, program, text, bound, folder):
             file.write(it)
     words = [kahn, "--workers", "1", "--bound", bound, "--input", f"{folder}/input", f"{folder}/program"]
     ran = subprocess.run(words, capture_output=True, timeout=60)
-    with open(f"{folder}/report", "wb") as file:
-        file.write(ran.stdout)
-    drawn = subprocess.run([draw, f"{folder}/program", "--report", f"{folder}/report"], capture_output=True, timeout=60)
+    drawn = subprocess.run([draw, f"{folder}/program"], capture_output=True, timeout=60)
     reasons = b""
     if ran.returncode in (0, 1, 3, 4) and len(program.encode()) <= 1 << 15:
-        about = ["--input", "input"] if ran.stderr.startswith(b"kahn: input ") else ["--report", "report"]
-        reasons = subprocess.run([explain, "program", *about], capture_output=True, timeout=60, cwd=folder).stdout
+        words = [explain, "--workers", "1", "--bound", bound, "--input", "input", "program"]
+        reasons = subprocess.run(words, capture_output=True, timeout=60, cwd=folder).stdout
     return ran.returncode, ran.stdout + ran.stderr, drawn.stdout, reasons
 
 

@@ -7,8 +7,8 @@ _kahn() {
   case ${1##*/} in
     kahn) options="--input --workers --quantum --bound --watch --help --version" ;;
     kahn_live) options="--quantum --step --watch --keep-going --strict --at-end --plain --help --version" ;;
-    kahn_draw) options="--report --help --version" ;;
-    kahn_explain) options="--input --report --workers --quantum --bound --strict --trace --help --version" ;;
+    kahn_draw) options="--input --bound --help --version" ;;
+    kahn_explain) options="--input --workers --quantum --bound --strict --trace --help --version" ;;
   esac
   mapfile -t COMPREPLY < <(compgen -W "$options" -- "$word")
 }

@@ -1,7 +1,6 @@
 # Completion of the words of kahn_explain in fish.
 
 complete -c kahn_explain -l input -r -d 'file of the input text'
-complete -c kahn_explain -l report -r -d 'file of the report to explain'
 complete -c kahn_explain -l workers -x -d 'number of threads'
 complete -c kahn_explain -l quantum -x -d 'events that a process does at a time'
 complete -c kahn_explain -l bound -x -d 'events after which the run is stopped'

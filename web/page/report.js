@@ -42,8 +42,3 @@ export function readReport(text) {
 
 // Whether a run came to a report; otherwise it has the line of a fault.
 export const isReport = (text) => /\n(?:finished|stopped by bound|stopped by memory) \d+\n$/.test(text.slice(-60));
-
-// The lines that tell how a run ended, without the values of its streams.
-export function endsOf(text) {
-  return `${text.split("\n").filter((it) => /^(?:end \d|finished|stopped)/.test(it)).join("\n")}\n`;
-}

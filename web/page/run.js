@@ -1,7 +1,7 @@
 // One run of texts: in growing parts, so that stopping it leaves the values so far; then why it ended, its network, and its steps.
 
 import { momentOf } from "./moment.js";
-import { endsOf, isReport, readReport } from "./report.js";
+import { isReport, readReport } from "./report.js";
 import { Timeline } from "./timeline.js";
 import { faultOf, readWhy } from "./why.js";
 import { wiringOf } from "./wiring.js";
@@ -21,28 +21,29 @@ function* parts(bound) {
 
 const isLong = (texts) => new TextEncoder().encode(texts.program).length > MOST_EXPLAINED;
 
-// Why a text is refused, what it is warned of, or why a run of it ended; and how its network is wired.
-async function explained(runner, texts, report) {
-  const isRefused = !isReport(report), ends = isRefused ? "" : endsOf(report);
-  const words = isLong(texts) ? "" : await runner.ask("explain", { ...texts, report: ends });
+// Why a text is refused, what it is warned of, or why a run of it with this bound and this report ended; and how its network is wired.
+async function explained(runner, texts, bound, report) {
+  const isRefused = !isReport(report);
+  const words = isLong(texts) ? "" : await runner.ask("explain", { ...texts, bound });
   const why = readWhy(words, texts);
   if (isRefused && !why.marks.some((it) => it.severity === "error")) why.marks.push(faultOf(report, texts));
-  const wiring = isRefused ? undefined : wiringOf(texts.program, await runner.ask("draw", { ...texts, report: ends }));
+  const wiring = isRefused ? undefined : wiringOf(texts.program, await runner.ask("draw", texts));
   return { texts, isRefused, why, wiring, isLong: isLong(texts) };
 }
 
 // A run of no events.
 export async function checked(runner, texts) {
-  return explained(runner, texts, (await runner.ask("run", { ...texts, bound: "0" })).report);
+  return explained(runner, texts, "0", (await runner.ask("run", { ...texts, bound: "0" })).report);
 }
 
 // told: what is known so far. Gives the run, or what refuses it.
 export async function ran(runner, texts, told) {
-  let last, isByHand = false;
+  let last, most, isByHand = false;
   const start = performance.now();
   try {
     for (const bound of parts(BigInt(texts.bound))) {
       last = await runner.ask("run", { ...texts, bound: String(bound) });
+      most = String(bound);
       if (last.status !== 3) break;
       told(Number(bound), performance.now() - start);
     }
@@ -50,7 +51,7 @@ export async function ran(runner, texts, told) {
     if (error.message !== STOPPED || !last) throw error;
     isByHand = true;
   }
-  const about = await explained(runner, texts, last.report);
+  const about = await explained(runner, texts, most, last.report);
   if (last.memory > MOST_MEMORY) runner.end(LET_GO);
   if (about.isRefused) return about;
   return new Run(runner, { ...about, text: last.report, isByHand, milliseconds: last.milliseconds }).begun();

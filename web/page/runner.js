@@ -34,16 +34,16 @@ function work() {
     places.forEach((it) => program.done(BigInt(it)));
     return { status, report, milliseconds, memory: memory.buffer.byteLength };
   };
-  const made = (call, ...texts) => {
+  const made = (call, texts, ...numbers) => {
     const places = texts.map(put), words = texts.flatMap((it, i) => [places[i], BigInt(it.length)]);
-    const text = filled((room, size) => call(...words, room, size));
+    const text = filled((room, size) => call(...words, ...numbers, room, size));
     places.forEach((it) => program.done(BigInt(it)));
     return text;
   };
   const calls = {
     run: (texts, { bound }) => run(texts, BigInt(bound)),
-    draw: ([text], { report }) => made(program.kahn_web_draw, text, bytesOf(report)),
-    explain: (texts, { report }) => made(program.kahn_web_explain, ...texts, bytesOf(report)),
+    draw: ([text]) => made(program.kahn_web_draw, [text]),
+    explain: (texts, { bound }) => made(program.kahn_web_explain, texts, BigInt(bound)),
   };
   const bytesOf = (text) => new TextEncoder().encode(text);
   onmessage = async ({ data }) => {

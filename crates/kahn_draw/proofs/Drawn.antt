@@ -1,19 +1,73 @@
--- A picture that was written as the one piece of a line.
-use Rattle.std.proofs.Common.{ℕ, List, [], ◌++◌, Option, subst, append-nil}
+-- A picture that was written as the one piece of a line, and why there is none.
+use Rattle.std.proofs.Common.{◌≡◌, ℕ, List, [], ◌++◌, map, Option, None, Result, Ok, Err, inl, inr, refl, subst, string_bytes, sym, append-nil}
 use Rattle.std.specs.Io.KnownBytes.{Appends}
-use Rattle.std.specs.Str.Lines.{lines}
-use Rattle.kahn_streams.specs.declared.tree.Program.{Program}
+use Rattle.std.specs.declared.alloc.Global.{Global}
+use Rattle.std.specs.declared.string.String.{String}
+use Rattle.kahn_chain.proofs.Standing_ends.{stand}
+use Rattle.kahn_chain.specs.Chain.{AreStandings, stands}
+use Rattle.kahn_streams.specs.declared.answer.Answer.{Answer}
+use Rattle.kahn_streams.specs.declared.answer.End.{End}
+use Rattle.kahn_streams.specs.declared.answer.Stream.{Stream}
 use Rattle.kahn_graph.specs.Graph.{IsPicture}
-use Rattle.kahn_report.specs.Work.{IsChecked}
+use Rattle.kahn_streams.specs.declared.fault.RunFault.{RunFault}
+use Rattle.kahn_streams.specs.declared.fault.RunFault.TheVariants as fault
+use Rattle.kahn_streams.specs.declared.tree.Program.{Program}
+use Rattle.kahn_streams.specs.Answers.{IsRight}
+use Rattle.kahn_streams.specs.Inputs.{Lists, inputs_of}
+use Rattle.kahn_streams.specs.Network.{network_of}
 use Rattle.kahn_streams.specs.Written.{AppendsFront}
-use Rattle.kahn_draw.specs.Drawing.{IsPictureOf}
+use Rattle.kahn_pool.specs.HeldRuns.{IsRefusedRun}
+use Rattle.kahn_report.specs.Work.{IsChecked, IsUnchecked}
+use Rattle.kahn_report.specs.declared.working.WorkFault.{WorkFault}
+use Rattle.kahn_report.specs.declared.working.WorkFault.TheVariants.{Syntax, Check, Text, Run as RunWork, Write}
+use Rattle.kahn_draw.specs.Drawing.{IsDrawn, IsDrawnFor, IsNotDrawn, IsPictured, IsPictureFor, IsPictureOf, IsRunOf, IsUnrunFor}
+use Rattle.kahn_draw.specs.declared.drawing.Drawn.{Drawn}
+use Rattle.kahn_draw.specs.declared.drawing.Drawn.TheVariants.{Network, Run}
 
-pub went_out : (program report : List ℕ) (t : Program) (picture : List ℕ) (old new : Option (List ℕ)) → IsChecked program t → IsPicture t program (lines report) picture
-    → Appends old new (picture ++ []) → (p : List ℕ) × IsPictureOf program report p × Appends old new p
-went_out program report t picture old new checked is gone =
-    (picture, (t, checked, is), subst (Appends old new) (append-nil picture) gone)
+pub went_out : (program input : List ℕ) (drawn : Drawn) (t : Program) (picture : List ℕ) (old new : Option (List ℕ)) → IsChecked program t
+    → IsPictureFor t program input drawn picture → Appends old new (picture ++ []) → (p : List ℕ) × IsPictureOf program input drawn p × Appends old new p
+went_out program input drawn t picture old new checked is gone = (picture, (t, checked, is), subst (Appends old new) (append-nil picture) gone)
 
-pub broke_off : (program report : List ℕ) (t : Program) (picture : List ℕ) (old new : Option (List ℕ)) → IsChecked program t → IsPicture t program (lines report) picture
-    → AppendsFront old new (picture ++ []) → (p : List ℕ) × IsPictureOf program report p × AppendsFront old new p
-broke_off program report t picture old new checked is gone =
-    (picture, (t, checked, is), subst (AppendsFront old new) (append-nil picture) gone)
+pub broke_off : (program input : List ℕ) (drawn : Drawn) (t : Program) (picture : List ℕ) (old new : Option (List ℕ)) → IsChecked program t
+    → IsPictureFor t program input drawn picture → AppendsFront old new (picture ++ []) → (p : List ℕ) × IsPictureOf program input drawn p × AppendsFront old new p
+broke_off program input drawn t picture old new checked is gone = (picture, (t, checked, is), subst (AppendsFront old new) (append-nil picture) gone)
+
+pub unchecked : (program input : List ℕ) (drawn : Drawn) (old : Option (List ℕ)) (f : WorkFault) → IsUnchecked program f
+    → IsDrawn program input drawn old old (Err f)
+unchecked program input drawn old (Syntax f) h = (inl h, refl)
+unchecked program input drawn old (Check f) h = (inl h, refl)
+unchecked program input drawn old (Text f) h = absurd h
+unchecked program input drawn old (RunWork f) h = absurd h
+unchecked program input drawn old (Write f) h = absurd h
+
+-- a picture without a run, and one of a right answer
+pub still : (t : Program) (program input : List ℕ) (r : Result (String Global) WorkFault) → IsPictured t program [] [] r
+    → IsDrawnFor t program input Network r
+still t program input (Ok picture) is = is
+still t program input (Err f) is = subst (IsNotDrawn t input Network) (sym is) refl
+
+pub moving : (t : Program) (program input : List ℕ) (bound : ℕ) (a : Answer) (streams : List Stream) (ends : List End) (r : Result (String Global) WorkFault)
+    → IsRunOf t input bound a → streams ≡ a.streams.items → ends ≡ a.ends.items → IsPictured t program streams ends r → IsDrawnFor t program input (Run bound) r
+moving t program input bound a streams ends (Ok picture) run s e is =
+    (a, run, subst (λ l. IsPicture t program l a.ends.items (string_bytes picture)) s (subst (λ l. IsPicture t program streams l (string_bytes picture)) e is))
+moving t program input bound a streams ends (Err f) run s e is = subst (IsNotDrawn t input (Run bound)) (sym is) (inl refl)
+
+pub undrawn : (program input : List ℕ) (drawn : Drawn) (t : Program) (old : Option (List ℕ)) (f : WorkFault) → IsChecked program t
+    → IsNotDrawn t input drawn f → IsDrawn program input drawn old old (Err f)
+undrawn program input drawn t old (Syntax f) checked h = absurd h
+undrawn program input drawn t old (Check f) checked h = absurd h
+undrawn program input drawn t old (Text f) checked h = (inr (t, checked, h), refl)
+undrawn program input drawn t old (RunWork f) checked h = (inr (t, checked, h), refl)
+undrawn program input drawn t old (Write f) checked h = absurd h
+
+-- the ends of a right answer wait on channels of the network
+pub standing : (program : List ℕ) (t : Program) (lists : Lists) (bound : ℕ) (a : Answer) → IsChecked program t → IsRight (network_of t) (inputs_of lists) bound None a
+    → AreStandings (network_of t) (map stands a.ends.items)
+standing program t lists bound a checked right = stand t checked.1 (inputs_of lists) bound a.verdict a.ends.items a.events right.run
+
+pub unrun : (bound : ℕ) (f : RunFault) → IsRefusedRun bound f → IsUnrunFor (Run bound) f
+unrun bound fault.BadConfig h = inr h
+unrun bound fault.NoMemory h = inl refl
+unrun bound fault.UnknownWatch h = absurd h
+unrun bound fault.NoThread h = absurd h
+unrun bound fault.Stalled h = absurd h

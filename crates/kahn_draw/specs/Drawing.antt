@@ -1,33 +1,66 @@
--- Believed. What drawing does, from the bytes of the program text and of a run's report to the bytes of the picture.
-use Rattle.std.specs.Prelude.{◌≡◌, ℕ, Bool, List, Option, Result, Ok, Err, codes}
+-- Believed. What drawing does, from the bytes of the program text and of the input text to the bytes of the picture.
+use Rattle.std.specs.Prelude.{◌≡◌, ◌⊎◌, ℕ, ◌^◌, ◌≤◌, List, [], Option, None, Result, Ok, Err, string_bytes}
+use Rattle.std.specs.declared.alloc.Global.{Global}
+use Rattle.std.specs.declared.string.String.{String}
 use Rattle.std.specs.Io.KnownBytes.{Appends}
-use Rattle.std.specs.Str.Lines.{lines}
+use Rattle.kahn_streams.specs.declared.answer.Answer.{Answer}
+use Rattle.kahn_streams.specs.declared.answer.End.{End}
+use Rattle.kahn_streams.specs.declared.answer.Stream.{Stream}
+use Rattle.kahn_streams.specs.declared.fault.RunFault.{RunFault}
+use Rattle.kahn_streams.specs.declared.fault.RunFault.TheVariants.{NoMemory}
 use Rattle.kahn_streams.specs.declared.tree.Program.{Program}
-use Rattle.kahn_graph.specs.Graph.{IsPicture}
-use Rattle.kahn_graph.specs.Stands.{is_told}
-use Rattle.kahn_report.specs.declared.working.WorkFault.{WorkFault}
-use Rattle.kahn_report.specs.declared.working.WorkFault.TheVariants.{Syntax, Check, Text, Run, Write}
-use Rattle.kahn_report.specs.Work.{IsChecked, IsUnchecked}
+use Rattle.kahn_streams.specs.Answers.{IsRight}
+use Rattle.kahn_streams.specs.Inputs.{Lists, inputs_of}
+use Rattle.kahn_streams.specs.Network.{network_of}
 use Rattle.kahn_streams.specs.Written.{AppendsFront}
+use Rattle.kahn_graph.specs.Graph.{IsPicture}
+use Rattle.kahn_report.specs.Formats.{IsInputTextFault, StandsFor}
+use Rattle.kahn_report.specs.declared.working.WorkFault.{WorkFault}
+use Rattle.kahn_report.specs.declared.working.WorkFault.TheVariants.{Syntax, Check, Text, Run as RunWork, Write}
+use Rattle.kahn_report.specs.Work.{IsChecked, IsUnchecked}
+use Rattle.kahn_draw.specs.declared.drawing.Drawn.{Drawn}
+use Rattle.kahn_draw.specs.declared.drawing.Drawn.TheVariants.{Network, Run}
 
--- a picture of the network of the text, with what the report says of it
-abbrev pub IsPictureOf : List ℕ → List ℕ → List ℕ → Type 0
-IsPictureOf program report picture = (t : Program) × IsChecked program t × IsPicture t program (lines report) picture
+-- a right answer for what the input text stands for, up to this bound
+abbrev pub IsRunOf : Program → List ℕ → ℕ → Answer → Type 0
+IsRunOf t input bound a = (lists : Lists) × StandsFor t input lists × IsRight (network_of t) (inputs_of lists) bound None a
 
--- whether the report tells how an instance of the text's network ended
-abbrev pub IsToldReport : List ℕ → List ℕ → Bool → Type 0
-IsToldReport program report told = (t : Program) × IsChecked program t × (told ≡ is_told t (lines report))
+-- a picture of the network of a program text, or of a run of it
+abbrev pub IsPictureFor : Program → List ℕ → List ℕ → Drawn → List ℕ → Type 0
+IsPictureFor t program input Network picture = IsPicture t program [] [] picture
+IsPictureFor t program input (Run bound) picture = (a : Answer) × IsRunOf t input bound a × IsPicture t program a.streams.items a.ends.items picture
 
--- what is told of a report where it doesn't
-abbrev pub stray_line : List ℕ
-stray_line = codes "kahn: the report is not of this program\n"
+-- memory was refused, or the bound is past its limit
+abbrev pub IsUnrunFor : Drawn → RunFault → Type 0
+IsUnrunFor Network f = f ≡ NoMemory
+IsUnrunFor (Run bound) f = (f ≡ NoMemory) ⊎ (2 ^ 48 ≤ bound)
 
--- a picture of the text's network went out, or why not: the text is at fault, or memory was refused, and nothing went out; or
--- a write failed after a prefix of the picture
-abbrev pub IsDrawn : {X : Type 0} → List ℕ → List ℕ → Option (List ℕ) → Option (List ℕ) → Result X WorkFault → Type 0
-IsDrawn program report old new (Ok x) = (picture : List ℕ) × IsPictureOf program report picture × Appends old new picture
-IsDrawn program report old new (Err (Syntax f)) = IsUnchecked program (Syntax f) × (new ≡ old)
-IsDrawn program report old new (Err (Check f)) = IsUnchecked program (Check f) × (new ≡ old)
-IsDrawn program report old new (Err (Text f)) = ⊥
-IsDrawn program report old new (Err (Run f)) = new ≡ old
-IsDrawn program report old new (Err (Write f)) = (picture : List ℕ) × IsPictureOf program report picture × AppendsFront old new picture
+-- why there is no picture: the input text of a run is at fault, or that
+abbrev pub IsNotDrawn : Program → List ℕ → Drawn → WorkFault → Type 0
+IsNotDrawn t input drawn (Syntax f) = ⊥
+IsNotDrawn t input drawn (Check f) = ⊥
+IsNotDrawn t input Network (Text f) = ⊥
+IsNotDrawn t input (Run bound) (Text f) = IsInputTextFault t input f
+IsNotDrawn t input drawn (RunWork f) = IsUnrunFor drawn f
+IsNotDrawn t input drawn (Write f) = ⊥
+
+-- a picture with these streams and these ends, or want of memory
+abbrev pub IsPictured : Program → List ℕ → List Stream → List End → Result (String Global) WorkFault → Type 0
+IsPictured t program streams ends (Ok picture) = IsPicture t program streams ends (string_bytes picture)
+IsPictured t program streams ends (Err f) = f ≡ RunWork NoMemory
+
+-- the picture of a network of a program text, or of a run of it, or why there is none
+abbrev pub IsDrawnFor : Program → List ℕ → List ℕ → Drawn → Result (String Global) WorkFault → Type 0
+IsDrawnFor t program input drawn (Ok picture) = IsPictureFor t program input drawn (string_bytes picture)
+IsDrawnFor t program input drawn (Err f) = IsNotDrawn t input drawn f
+
+-- one of the network of the text
+abbrev pub IsPictureOf : List ℕ → List ℕ → Drawn → List ℕ → Type 0
+IsPictureOf program input drawn picture = (t : Program) × IsChecked program t × IsPictureFor t program input drawn picture
+
+-- a picture went out, or why not: a text is at fault, or memory was refused, and nothing went out; or a write failed after a prefix of the picture
+abbrev pub IsDrawn : List ℕ → List ℕ → Drawn → Option (List ℕ) → Option (List ℕ) → Result (Unit {0}) WorkFault → Type 0
+IsDrawn program input drawn old new (Ok x) = (picture : List ℕ) × IsPictureOf program input drawn picture × Appends old new picture
+IsDrawn program input drawn old new (Err (Write f)) = (picture : List ℕ) × IsPictureOf program input drawn picture × AppendsFront old new picture
+IsDrawn program input drawn old new (Err f) =
+    (IsUnchecked program f ⊎ ((t : Program) × IsChecked program t × IsNotDrawn t input drawn f)) × (new ≡ old)

@@ -1,5 +1,5 @@
 -- Believed. A run of the program, from the bytes of the two texts to the bytes that go out and the exit status (this project's profile).
-use Rattle.std.specs.Prelude.{◌≡◌, ℕ, Bool, true, false, List, Option, Some, None, Result, Ok, Err, IfOk, string_bytes}
+use Rattle.std.specs.Prelude.{◌≡◌, ℕ, List, Option, Some, None, Result, Ok, Err, string_bytes}
 use Rattle.kahn_streams.specs.Written.{Writes}
 use Rattle.kahn_streams.specs.declared.answer.Verdict.{Verdict}
 use Rattle.kahn_streams.specs.declared.answer.Verdict.TheVariants.{Finished}
@@ -10,29 +10,24 @@ use Rattle.kahn_fault.specs.declared.fault.Fault.{Fault}
 use Rattle.kahn_fault.specs.declared.fault.Fault.TheVariants.{Work}
 use Rattle.kahn_fault.specs.declared.telling.Told.{Told}
 use Rattle.kahn_fault.specs.declared.texts.Texts.{Texts}
-use Rattle.kahn_draw.specs.Drawing.{IsDrawn, IsToldReport, stray_line}
+use Rattle.kahn_draw.specs.Drawing.{IsDrawn}
+use Rattle.kahn_draw.specs.declared.drawing.Drawn.{Drawn}
 
 -- what drawing came to, in the words of a run
-abbrev pub drawn_answer : Result Bool WorkFault → Result Verdict Fault
-drawn_answer (Ok told) = Ok Finished
+abbrev pub drawn_answer : Result (Unit {0}) WorkFault → Result Verdict Fault
+drawn_answer (Ok x) = Ok Finished
 drawn_answer (Err fault) = Err (Work fault)
-
--- of a report that was given it was told that it isn't of this program, if it isn't
-abbrev pub IsStrayTold : Bool → Result Bool WorkFault → Option (List ℕ) → Option (List ℕ) → Type 0
-IsStrayTold true (Ok false) old new = WasWritten stray_line old new
-IsStrayTold reported r old new = new ≡ old
 
 -- which program says more was told, if the program text has a path
 abbrev pub IsPointed : Option (List ℕ) → Result Verdict Fault → Option (List ℕ) → Option (List ℕ) → Type 0
 IsPointed (Some path) answer old new = WasWritten (pointer_text path answer) old new
 IsPointed None answer old new = new ≡ old
 
--- the picture was drawn; a stray report, a fault, as far as its line went out, and which program says more were told in this order; and the
--- status says how it ended
-abbrev pub HasDrawnAs : Texts → Option (List ℕ) → Bool → Option (List ℕ) → Option (List ℕ) → Option (List ℕ) → Option (List ℕ) → Told → Type 0
-HasDrawnAs texts path reported out made old new answer =
+-- the picture was drawn; a fault, as far as its line went out, and which program says more were told in this order; and the status says how it
+-- ended
+abbrev pub HasDrawnAs : Texts → Option (List ℕ) → Drawn → Option (List ℕ) → Option (List ℕ) → Option (List ℕ) → Option (List ℕ) → Told → Type 0
+HasDrawnAs texts path drawn out made old new answer =
     let program = string_bytes texts.program in
-    let report = string_bytes texts.input in
-    (r : Result Bool WorkFault) × (mid last : Option (List ℕ)) × IsDrawn program report out made r × IfOk r (IsToldReport program report)
-    × IsStrayTold reported r old mid × Writes mid last answer.line (told_text program (drawn_answer r)) × IsPointed path (drawn_answer r) last new
+    (r : Result (Unit {0}) WorkFault) × (last : Option (List ℕ)) × IsDrawn program (string_bytes texts.input) drawn out made r
+    × Writes old last answer.line (told_text program (drawn_answer r)) × IsPointed path (drawn_answer r) last new
     × (answer.status ≡ status_of (drawn_answer r))

@@ -4,6 +4,7 @@
 mod drawing;
 mod running;
 
+use drawing::Drawn;
 use kahn_fault::{read_texts, shown_path, tell_shown};
 use kahn_line::{DrawOptions, read_draw_line, tell_line, tell_no_memory, tell_words};
 use running::ran;
@@ -21,6 +22,14 @@ fn path_of(alloc: Global, program: &Option<String>) -> Result<Option<String>, Al
     }
 }
 
+/// What is drawn.
+fn drawn_of(options: &DrawOptions) -> Drawn {
+    match options.input {
+        Some(_) => Drawn::Run(options.bound),
+        None => Drawn::Network,
+    }
+}
+
 /// Draws what the command line asks for, and gives the status. Faults are told to the writer.
 fn answered<R: Runtime + AllocGlobal, W: Write>(
     rt: &R,
@@ -28,11 +37,11 @@ fn answered<R: Runtime + AllocGlobal, W: Write>(
     path: Option<String>,
     writer: &mut W,
 ) -> u8 {
-    let reported = options.report.is_some();
-    match read_texts(rt, options.program, options.report) {
+    let drawn = drawn_of(&options);
+    match read_texts(rt, options.program, options.input) {
         Ok(texts) => {
             let (path, out) = (path.as_deref(), &mut io::writer(rt));
-            ran(rt.alloc(), &texts, path, reported, out, writer).status
+            ran(rt.alloc(), &texts, path, drawn, out, writer).status
         }
         Err(fault) => tell_shown(rt.alloc(), fault, writer),
     }

@@ -1,4 +1,3 @@
-mod Right_ends
 mod Begun
 mod Cells
 mod Tables

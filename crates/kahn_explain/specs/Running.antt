@@ -1,14 +1,12 @@
 -- Believed. A run of the program, from the bytes of the two texts to the bytes that go out and the exit status (this project's profile).
-use Rattle.std.specs.Prelude.{◌≡◌, ℕ, Bool, true, false, List, Option, Result, Ok, Err, codes, string_bytes}
+use Rattle.std.specs.Prelude.{◌≡◌, ℕ, Bool, true, List, Option, Result, Ok, Err, string_bytes}
 use Rattle.kahn_streams.specs.declared.config.Config.{Config}
 use Rattle.kahn_report.specs.declared.working.WorkFault.{WorkFault}
 use Rattle.kahn_report.specs.declared.working.WorkFault.TheVariants.{Text, Write}
-use Rattle.kahn_fault.specs.Reasons.{reason_line}
 use Rattle.kahn_fault.specs.Status.{status_of}
 use Rattle.kahn_fault.specs.Telling.{WasWritten, told_text}
 use Rattle.kahn_fault.specs.declared.fault.Fault.TheVariants.{Work}
 use Rattle.kahn_fault.specs.declared.texts.Texts.{Texts}
-use Rattle.kahn_why.specs.Reporting.{HasReported}
 use Rattle.kahn_why.specs.Telling.{HasToldInput}
 use Rattle.kahn_why.specs.declared.explaining.Came.{Came}
 use Rattle.kahn_explain.specs.Explaining.{HasExplained, came_status}
@@ -18,7 +16,7 @@ use Rattle.kahn_explain.specs.declared.running.Paths.{Paths}
 use Rattle.kahn_explain.specs.declared.running.Task.{Task}
 use Rattle.kahn_explain.specs.declared.running.Task.TheVariants as task
 
--- the two texts, and what they are called; the second is an input text, or the report of a run
+-- the two texts, and what they are called
 pub record Sources : Type 0 where
   pub path : List ℕ
   pub program : List ℕ
@@ -33,9 +31,8 @@ abbrev pub IsOrRefused : Sources → Result Came WorkFault → Option (List ℕ)
 IsOrRefused s (Err (Text f)) old new r = HasToldInput s.input_path s.program s.input f old new r
 IsOrRefused s came old new r = (r ≡ came) × (new ≡ old)
 
--- a report was explained, or a run was, or its table was written and it was explained beside it if the status isn't 0
+-- a run was explained, or its table was written and it was explained beside it if the status isn't 0
 abbrev pub HasDone : Task → Sources → Config → Bool → Option (List ℕ) → Option (List ℕ) → Option (List ℕ) → Option (List ℕ) → Result Came WorkFault → Type 0
-HasDone task.Report s config strict out made old new r = HasReported s.path s.program s.input strict out made r × (new ≡ old)
 HasDone task.Trace s config strict out made old new r =
     (came : Result Came WorkFault) × (mid : Option (List ℕ)) × HasTraced s.path s.program s.input config strict out made old mid came × IsOrRefused s came mid new r
 HasDone task.Run s config strict out made old new r =
@@ -58,8 +55,3 @@ abbrev pub HasExplainedAs : {W : Type 0} → Task → Sources → Config → Boo
 HasExplainedAs t s config strict contents out made old new status =
     (r : Result Came WorkFault) × (mid : Option (List ℕ)) × HasDone t s config strict (contents out.writer) (contents made.writer) old mid r
     × IsFaultTold made.gone s.program r mid new × (status ≡ end_status r)
-
--- what of the command line does nothing was told, if there is such a thing
-abbrev pub IsToldIf : Bool → List ℕ → Option (List ℕ) → Option (List ℕ) → Type 0
-IsToldIf true words old new = WasWritten (reason_line (codes "kahn_explain") words) old new
-IsToldIf false words old new = new ≡ old

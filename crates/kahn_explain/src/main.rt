@@ -4,14 +4,13 @@
 
 ghost use Rattle.std.specs.Prelude.{◌≡◌, IfOk, string_bytes};
 ghost use Rattle.kahn_explain.specs.Explaining.{path_name};
-ghost use Rattle.kahn_explain.specs.Running.{IsToldIf};
 
 mod explaining;
 mod outlet;
 mod running;
 mod tracing;
 
-use kahn_fault::{read_texts, shown_path, tell_reason, tell_unread};
+use kahn_fault::{read_texts, shown_path, tell_unread};
 use kahn_line::{ExplainOptions, read_explain_line, tell_line, tell_no_memory, tell_words};
 use outlet::Outlet;
 use running::{Paths, Task, ran};
@@ -40,37 +39,9 @@ fn paths_of(alloc: Global, options: &ExplainOptions) -> Result<Paths, AllocError
     Ok(Paths { program, input })
 }
 
-/// Tells that an option does nothing, if it is so.
-fn tell_if<W: Write>(told: bool, words: &str, writer: &mut W)
-    ensures { IsToldIf told words.now (W.contents writer.old) (W.contents writer.new) }
-{
-    if told {
-        // What can't be written here changes no status.
-        let _told = tell_reason("kahn_explain", words, writer);
-    }
-}
-
-/// Tells what of a command line does nothing.
-fn tell_unused<W: Write>(options: &ExplainOptions, writer: &mut W) {
-    let reported = options.report.is_some();
-    let (traced, fed) = (options.trace, options.input.is_some());
-    tell_if(
-        reported && traced,
-        "--trace does nothing with --report",
-        writer,
-    );
-    tell_if(
-        reported && fed,
-        "--input does nothing with --report",
-        writer,
-    );
-}
-
 /// What the command line asks for.
 fn task_of(options: &ExplainOptions) -> Task {
-    if options.report.is_some() {
-        Task::Report
-    } else if options.trace {
+    if options.trace {
         Task::Trace
     } else {
         Task::Run
@@ -84,10 +55,9 @@ fn answered<R: Runtime + AllocGlobal + Threads + Wait + Sync, W: Write>(
     paths: &Paths,
     writer: &mut W,
 ) -> u8 {
-    tell_unused(&options, writer);
     let task = task_of(&options);
     let (config, strict) = (options.config, options.strict);
-    let texts = match read_texts(rt, options.program, options.report.or(options.input)) {
+    let texts = match read_texts(rt, options.program, options.input) {
         Ok(texts) => texts,
         Err(fault) => return tell_unread(rt, "kahn_explain", fault, writer),
     };

@@ -8,7 +8,7 @@ use crate::outlet::Outlet;
 use kahn_fault::{Fault, Texts, tell};
 use kahn_pool::Config;
 use kahn_report::WorkFault;
-use kahn_why::{Came, explain_report, refuse_input};
+use kahn_why::{Came, refuse_input};
 use std::alloc::Global;
 use std::io::Write;
 use std::rt::Runtime;
@@ -18,8 +18,6 @@ use std::thread::Threads;
 /// What is asked for.
 #[derive(Clone, Copy)]
 pub(crate) enum Task {
-    /// Why the run of a report stopped, which stands in the place of the input text.
-    Report,
     /// All that the channels carried, as a table.
     Trace,
     /// Why a run stopped.
@@ -52,8 +50,8 @@ fn or_refused<W: Write>(
     }
 }
 
-/// Explains the run of the program on the input, or that of a report, which stands in the place of the input; or writes what the
-/// channels carried as a table, and to the other writer what is warned of and why the run stopped, or why there is none.
+/// Explains the run of the program on the input; or writes what the channels carried as a table, and to the other writer what is warned
+/// of and why the run stopped, or why there is none.
 fn done<R: Runtime + AllocGlobal + Threads + Wait + Sync, W: Write, E: Write>(
     rt: &R,
     paths: &Paths,
@@ -69,7 +67,6 @@ fn done<R: Runtime + AllocGlobal + Threads + Wait + Sync, W: Write, E: Write>(
     let (alloc, path) = (rt.alloc(), paths.program.as_str());
     let (program, input) = (texts.program.as_str(), texts.input.as_str());
     match task {
-        Task::Report => explain_report(alloc, path, program, input, strict, out),
         Task::Trace => {
             let came = trace(rt, alloc, path, program, input, config, strict, out, log);
             or_refused(alloc, paths, texts, came, log)

@@ -1,7 +1,5 @@
-mod Headings
-mod Colons
 mod Marked
 mod Named
 mod Printed
 mod Texts
-mod Waits
+mod Front

@@ -1,5 +1,5 @@
 -- Values and ends of edges by the names of parameters.
-use Rattle.std.proofs.Common.{◌≡◌, ◌∙◌, ℕ, zero, suc, ◌+◌, ◌<◌, ◌≤◌, Bool, ◌⊎◌, inl, inr, ⊎_elim, IfSome, List, [], ◌∷◌, ◌++◌, Option, None, Some, ap, ap₂, append_assoc, arith, codes, decimal, drop, drop_of_length-le, length, min, not, ◌==◌, count_by, refl, slice_get, slice_index_or, sym, take, take_all}
+use Rattle.std.proofs.Common.{◌≡◌, ◌∙◌, ℕ, zero, suc, ◌+◌, ◌<◌, ◌≤◌, Bool, ◌⊎◌, inl, inr, ⊎_elim, IfSome, List, [], ◌∷◌, ◌++◌, Option, None, Some, ap, ap₂, append_assoc, arith, codes, decimal, drop, drop_of_length-le, length, map, min, not, ◌==◌, count_by, refl, slice_get, slice_index_or, subst, sym, take, take_all}
 use Rattle.std.proofs.lemmas.Bool.{cases_lt}
 use Rattle.std.proofs.lemmas.List.{length-map}
 use Rattle.std.specs.List.{suffix_len}
@@ -16,8 +16,12 @@ use Rattle.kahn_streams.specs.Place.{column_of, line_of}
 use Rattle.kahn_streams.specs.View.{Scope, bytes_of}
 use Rattle.kahn_streams.specs.Network.{Network, network_of, actuals_of, instance_at, instance_from, kind_at, process_of, role_at, IsOnly, IsReader, IsWithin, IsWriter, channel_names}
 use Rattle.kahn_graph.specs.Graph.{IsEdge, IsPortText, awaited_text, edge_text, mark_text, tip_text, values_text}
-use Rattle.kahn_graph.specs.Stands.{IsWaitMark, told_standings}
-use Rattle.kahn_graph.proofs.Waits.{front}
+use Rattle.kahn_graph.specs.Ran.{IsWaitMark}
+use Rattle.kahn_chain.specs.Chain.{stands}
+use Rattle.kahn_chain.specs.declared.standing.Standing.{Standing}
+use Rattle.kahn_streams.specs.declared.answer.End.{End}
+use Rattle.kahn_streams.specs.declared.answer.Stream.{Stream}
+use Rattle.kahn_graph.proofs.Front.{front}
 
 -- ---- values
 
@@ -82,12 +86,12 @@ five_grown a b c d e old one two three four new f g h i j =
     let second : new ≡ one ++ (b ++ (c ++ (d ++ e))) = third ∙ (ap (λ l. l ++ (c ++ (d ++ e))) g ∙ append_assoc one b (c ++ (d ++ e))) in
     second ∙ (ap (λ l. l ++ (b ++ (c ++ (d ++ e)))) f ∙ append_assoc old a (b ++ (c ++ (d ++ e))))
 
-pub edge_of : (t : Program) (report : List (List ℕ)) (c : ℕ) (name tail head : List ℕ) (kind : Kind) (role : Role) (writer reader : Option Side) (ring : Bool)
+pub edge_of : (t : Program) (streams : List Stream) (ends : List End) (ss : List Standing) (c : ℕ) (name tail head : List ℕ) (kind : Kind) (role : Role) (writer reader : Option Side) (ring : Bool)
     → slice_get (channel_names t) c ≡ Some name → kind ≡ kind_at (network_of t) c → role ≡ role_at (network_of t) c
     → IsOnly (IsWriter (network_of t) c) writer → IsOnly (IsReader (network_of t) c) reader
-    → IsPortText t (codes "taillabel") writer tail → IsPortText t (codes "headlabel") reader head → IsWaitMark (network_of t) (told_standings t report) c ring
-    → IsEdge t report c (mark_text c role ++ (edge_text report c name kind writer reader ++ (tail ++ (head ++ concat (awaited_text ring ∷ codes "];\n" ∷ [])))))
-edge_of t report c name tail head kind role writer reader ring e k r w d it ih m = (
+    → IsPortText t (codes "taillabel") writer tail → IsPortText t (codes "headlabel") reader head → ss ≡ map stands ends → IsWaitMark (network_of t) ss c ring
+    → IsEdge t streams ends c (mark_text c role ++ (edge_text streams c name kind writer reader ++ (tail ++ (head ++ concat (awaited_text ring ∷ codes "];\n" ∷ [])))))
+edge_of t streams ends ss c name tail head kind role writer reader ring e k r w d it ih same m = (
   name,
   writer,
   reader,
@@ -99,8 +103,8 @@ edge_of t report c name tail head kind role writer reader ring e k r w d it ih m
   d,
   it,
   ih,
-  m,
-  ap₂ (λ x y. mark_text c x ++ (edge_text report c name y writer reader ++ (tail ++ (head ++ concat (awaited_text ring ∷ codes "];\n" ∷ []))))) r k,
+  subst (λ l. IsWaitMark (network_of t) l c ring) same m,
+  ap₂ (λ x y. mark_text c x ++ (edge_text streams c name y writer reader ++ (tail ++ (head ++ concat (awaited_text ring ∷ codes "];\n" ∷ []))))) r k,
 )
 
 -- three pieces after what stands there

@@ -1,9 +1,10 @@
 -- Believed. The picture of a network: a text in the language of Graphviz with a node for each instance and an edge for each channel,
--- from its writer to its reader, with what the lines of a run's report say of them, where there is one. This project's own
--- choice of what a picture shows.
-use Rattle.std.specs.Prelude.{◌≡◌, ℕ, ◌+◌, List, [], ◌∷◌, ◌++◌, length, codes, decimal, Bool, true, false, Option, None, Some, slice_get}
+-- from its writer to its reader, with what came of a run, where there was one. This project's own choice of what a picture shows.
+use Rattle.std.specs.Prelude.{◌≡◌, ℕ, ◌+◌, List, [], ◌∷◌, ◌++◌, length, codes, decimal, map, Bool, true, false, Option, None, Some, option_map, slice_get}
 use Rattle.std.specs.Fmt.{signed_decimal}
 use Rattle.std.specs.List.{concat}
+use Rattle.kahn_streams.specs.declared.answer.End.{End}
+use Rattle.kahn_streams.specs.declared.answer.Stream.{Stream}
 use Rattle.kahn_streams.specs.declared.tree.Kind.{Kind}
 use Rattle.kahn_streams.specs.declared.tree.Role.{Role}
 use Rattle.kahn_streams.specs.declared.tree.Argument.{Argument}
@@ -23,9 +24,8 @@ use Rattle.kahn_streams.specs.Made.{IsMadeOf}
 use Rattle.kahn_streams.specs.Network.{network_of, kind_at, role_at, IsOnly, IsWriter, IsReader, channel_names}
 use Rattle.kahn_chain.specs.declared.standing.Standing.{Standing}
 use Rattle.kahn_chain.specs.declared.standing.Standing.TheVariants as Stands
-use Rattle.kahn_graph.specs.Report.{ended_text, carried_text}
-use Rattle.kahn_chain.specs.Chain.{IsRingMark}
-use Rattle.kahn_graph.specs.Stands.{told_standing, told_standings, IsWaitMark}
+use Rattle.kahn_chain.specs.Chain.{IsRingMark, stands}
+use Rattle.kahn_graph.specs.Ran.{ended_text, carried, count_text, IsWaitMark}
 
 -- ---- instances
 
@@ -50,7 +50,7 @@ abbrev pub border_text : Bool → List ℕ
 border_text true = codes ", peripheries=2"
 border_text false = []
 
--- the colour of a box by how its instance stands; it stays white where the instance waits, or where that isn't told
+-- the colour of a box by how its instance stands; it stays white where the instance waits, and without a run
 abbrev pub colour_text : Option Standing → List ℕ
 colour_text None = []
 colour_text (Some Stands.Ended) = codes ", style=filled, fillcolor=lightgrey"
@@ -69,19 +69,19 @@ tip_text source n =
     concat (codes ", tooltip=\"" ∷ bytes_of n ∷ codes " at " ∷ decimal (line_of source n.span.from) ∷ codes ":" ∷ decimal (column_of source n.span.from) ∷ codes "\"" ∷ [])
 
 -- the node of an instance of the program: its label has its number from 1, its process, the values below them, and how it ended
-abbrev pub node_text : Program → List (List ℕ) → ℕ → Process → List Argument → Bool → List ℕ
-node_text t report i p arguments ring =
+abbrev pub node_text : Program → Option End → ℕ → Process → List Argument → Bool → List ℕ
+node_text t end i p arguments ring =
     concat (codes "  p" ∷ decimal i ∷ codes " [label=\"" ∷ decimal (i + 1) ∷ codes " " ∷ bytes_of p.name ∷ [])
     ++ (values_text (codes "\\n") p.parameters.items arguments
-    ++ (ended_text report i (bytes_of p.name)
-    ++ concat (codes "\"" ∷ border_text (process_prints p) ∷ colour_text (told_standing t report i (bytes_of p.name)) ∷ ring_text ring ∷ [])))
+    ++ (ended_text t end
+    ++ concat (codes "\"" ∷ border_text (process_prints p) ∷ colour_text (option_map stands end) ∷ ring_text ring ∷ [])))
 
 -- the text is the node of instance i of the program
-abbrev pub IsNode : Program → List ℕ → List (List ℕ) → ℕ → List ℕ → Type 0
-IsNode t source report i text =
+abbrev pub IsNode : Program → List ℕ → List End → ℕ → List ℕ → Type 0
+IsNode t source ends i text =
     (p : Process) × (arguments : List Argument) × (x : Instance) × (ring : Bool)
-    × IsMadeOf t i p arguments × (slice_get t.instances.items i ≡ Some x) × IsRingMark (network_of t) (told_standings t report) i ring
-    × (text ≡ node_text t report i p arguments ring ++ (tip_text source x.process ++ codes "];\n"))
+    × IsMadeOf t i p arguments × (slice_get t.instances.items i ≡ Some x) × IsRingMark (network_of t) (map stands ends) i ring
+    × (text ≡ node_text t (slice_get ends i) i p arguments ring ++ (tip_text source x.process ++ codes "];\n"))
 
 -- ---- channels
 
@@ -119,18 +119,18 @@ IsPortText t attribute (Some s) text =
     (name : List ℕ) × IsPort t s name × (text ≡ concat (codes ", " ∷ attribute ∷ codes "=\"" ∷ name ∷ codes "\"" ∷ []))
 
 -- the edge of a channel with that name, from its writer to its reader; its label has the name, and how many values it carried
-abbrev pub edge_text : List (List ℕ) → ℕ → List ℕ → Kind → Option Side → Option Side → List ℕ
-edge_text report c name kind writer reader =
-    concat (codes "  " ∷ place_text c writer ∷ codes " -> " ∷ place_text c reader ∷ codes " [label=\"" ∷ name ∷ carried_text report name ∷ codes "\", style=" ∷ style_text kind ∷ [])
+abbrev pub edge_text : List Stream → ℕ → List ℕ → Kind → Option Side → Option Side → List ℕ
+edge_text streams c name kind writer reader =
+    concat (codes "  " ∷ place_text c writer ∷ codes " -> " ∷ place_text c reader ∷ codes " [label=\"" ∷ name ∷ count_text (carried streams c) ∷ codes "\", style=" ∷ style_text kind ∷ [])
 
 -- the text is the edge of channel c of the program, after its mark
-abbrev pub IsEdge : Program → List (List ℕ) → ℕ → List ℕ → Type 0
-IsEdge t report c text =
+abbrev pub IsEdge : Program → List Stream → List End → ℕ → List ℕ → Type 0
+IsEdge t streams ends c text =
     let n = network_of t in
     (name : List ℕ) × (writer : Option Side) × (reader : Option Side) × (tail : List ℕ) × (head : List ℕ) × (ring : Bool)
     × (slice_get (channel_names t) c ≡ Some name) × IsOnly (IsWriter n c) writer × IsOnly (IsReader n c) reader
-    × IsPortText t (codes "taillabel") writer tail × IsPortText t (codes "headlabel") reader head × IsWaitMark n (told_standings t report) c ring
-    × (text ≡ mark_text c (role_at n c) ++ (edge_text report c name (kind_at n c) writer reader ++ (tail ++ (head ++ concat (awaited_text ring ∷ codes "];\n" ∷ [])))))
+    × IsPortText t (codes "taillabel") writer tail × IsPortText t (codes "headlabel") reader head × IsWaitMark n (map stands ends) c ring
+    × (text ≡ mark_text c (role_at n c) ++ (edge_text streams c name (kind_at n c) writer reader ++ (tail ++ (head ++ concat (awaited_text ring ∷ codes "];\n" ∷ [])))))
 
 -- ---- the whole
 
@@ -149,14 +149,14 @@ opening_text = codes "digraph network {\n  rankdir=LR;\n  node [shape=box];\n  e
 abbrev pub picture_end : List ℕ
 picture_end = codes "}\n"
 
-abbrev pub AreNodes : Program → List ℕ → List (List ℕ) → List ℕ → Type 0
-AreNodes t source report = IsAll (IsNode t source report) (length (network_of t).instances)
+abbrev pub AreNodes : Program → List ℕ → List End → List ℕ → Type 0
+AreNodes t source ends = IsAll (IsNode t source ends) (length (network_of t).instances)
 
-abbrev pub AreEdges : Program → List (List ℕ) → List ℕ → Type 0
-AreEdges t report = IsAll (IsEdge t report) (length (network_of t).channels)
+abbrev pub AreEdges : Program → List Stream → List End → List ℕ → Type 0
+AreEdges t streams ends = IsAll (IsEdge t streams ends) (length (network_of t).channels)
 
--- the text is the picture of the network of a program text, with what the lines of a report say of it: the nodes of all instances, and then the
--- edges of all channels
-abbrev pub IsPicture : Program → List ℕ → List (List ℕ) → List ℕ → Type 0
-IsPicture t source report text =
-    (nodes : List ℕ) × (edges : List ℕ) × AreNodes t source report nodes × AreEdges t report edges × (text ≡ opening_text ++ (nodes ++ (edges ++ picture_end)))
+-- the text is the picture of the network of a program text, with these streams and these ends of a run, or none: the nodes of all instances, and
+-- then the edges of all channels
+abbrev pub IsPicture : Program → List ℕ → List Stream → List End → List ℕ → Type 0
+IsPicture t source streams ends text = (nodes : List ℕ) × (edges : List ℕ) × AreNodes t source ends nodes × AreEdges t streams ends edges
+    × (text ≡ opening_text ++ (nodes ++ (edges ++ picture_end)))

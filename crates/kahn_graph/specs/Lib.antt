@@ -1,4 +1,3 @@
 pub mod Graph
-pub mod Report
-pub mod Stands
+pub mod Ran
 pub mod inner

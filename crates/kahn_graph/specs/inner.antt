@@ -1,3 +1,2 @@
 -- What only proofs and clauses below the surface read.
 pub mod Adding
-pub mod Colons

@@ -1,17 +1,18 @@
 //! The edges of a picture.
 
-ghost use Rattle.std.specs.Prelude.{◌≡◌, ◌<◌, ◌++◌, Option, IfOk, length, string_bytes};
+ghost use Rattle.std.specs.Prelude.{◌≡◌, ◌<◌, ◌++◌, Option, IfOk, length, map, string_bytes};
 ghost use Rattle.kahn_streams.specs.Network.{network_of};
 ghost use Rattle.kahn_graph.specs.Graph.{place_text, mark_text, style_text, awaited_text, edge_text, IsEdge, AreEdges};
-ghost use Rattle.kahn_graph.specs.inner.Adding.{Adds, IsKnown};
+ghost use Rattle.kahn_chain.specs.Chain.{AreRings, stands};
+ghost use Rattle.kahn_graph.specs.inner.Adding.{Adds};
 
 use crate::pieces::add;
 use crate::ports::add_port;
-use crate::report::{Report, add_carried};
+use crate::ran::{add_count, carried};
 use crate::stands::is_ring_channel;
 use itoa::Buffer;
 use kahn_chain::Standing;
-use kahn_streams::{Kind, Network, Role, Side};
+use kahn_streams::{End, Kind, Network, Role, Side, Stream};
 use std::alloc::AllocError;
 
 // Adds where an edge of a channel begins or ends.
@@ -64,21 +65,21 @@ fn ring_line(ring: bool) -> &'static str
 // Adds the edge of a channel, from its writer to its reader, as far as the names at its ends.
 fn add_line(
     text: &mut String,
-    report: &Report,
+    streams: &[Stream],
     number: usize,
     name: &str,
     kind: Kind,
     writer: Option<Side>,
     reader: Option<Side>,
 ) -> Result<(), AllocError>
-    ensures { IfOk result (λ _. string_bytes text.new ≡ string_bytes text.old ++ edge_text report.now number name.now kind writer reader) }
+    ensures { IfOk result (λ _. string_bytes text.new ≡ string_bytes text.old ++ edge_text streams.now number name.now kind writer reader) }
 {
     add(text, &["  "])?;
     add_place(text, number, writer)?;
     add(text, &[" -> "])?;
     add_place(text, number, reader)?;
     add(text, &[" [label=\"", name])?;
-    add_carried(text, report, name)?;
+    add_count(text, carried(streams, number))?;
     add(text, &["\", style=", style(kind)])
 }
 
@@ -86,22 +87,24 @@ fn add_line(
 fn add_edge(
     text: &mut String,
     network: &Network,
-    report: &Report,
+    streams: &[Stream],
+    _ends: &[End],
     standings: &[Standing],
     rings: &[bool],
     channel: usize,
 ) -> Result<(), AllocError>
     requires here { channel < length (network_of network.now).channels }
-    requires known { IsKnown network.now report.now standings.now rings.now }
-    ensures { IfOk result (λ _. Adds (IsEdge network.now report.now channel) (string_bytes text.old) (string_bytes text.new)) }
+    requires standings { standings.now ≡ map stands _ends.now }
+    requires rings { AreRings (network_of network.now) standings.now rings.now }
+    ensures { IfOk result (λ _. Adds (IsEdge network.now streams.now _ends.now channel) (string_bytes text.old) (string_bytes text.new)) }
 {
     let found = network.channel(channel);
     let writer = network.writer(channel);
     let reader = network.reader(channel);
-    let ring = is_ring_channel(network, report, standings, rings, channel);
+    let ring = is_ring_channel(network, standings, rings, channel);
     add_mark(text, channel, found.role)?;
     add_line(
-        text, report, channel, found.name, found.kind, writer, reader,
+        text, streams, channel, found.name, found.kind, writer, reader,
     )?;
     add_port(text, network, "taillabel", writer)?;
     add_port(text, network, "headlabel", reader)?;
@@ -113,15 +116,17 @@ fn add_edge(
 pub(crate) fn add_edges(
     text: &mut String,
     network: &Network,
-    report: &Report,
+    streams: &[Stream],
+    _ends: &[End],
     standings: &[Standing],
     rings: &[bool],
 ) -> Result<(), AllocError>
-    requires { IsKnown network.now report.now standings.now rings.now }
-    ensures { IfOk result (λ _. Adds (AreEdges network.now report.now) (string_bytes text.old) (string_bytes text.new)) }
+    requires standings { standings.now ≡ map stands _ends.now }
+    requires rings { AreRings (network_of network.now) standings.now rings.now }
+    ensures { IfOk result (λ _. Adds (AreEdges network.now streams.now _ends.now) (string_bytes text.old) (string_bytes text.new)) }
 {
     for channel in 0..network.channels() {
-        add_edge(text, network, report, standings, rings, channel)?;
+        add_edge(text, network, streams, _ends, standings, rings, channel)?;
     }
     Ok(())
 }

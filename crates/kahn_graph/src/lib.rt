@@ -7,12 +7,8 @@ mod picture;
 mod pieces;
 mod ports;
 mod printing;
-mod report;
+mod ran;
 mod stands;
 mod tips;
 
 pub use picture::picture_text;
-pub use stands::is_told;
-
-// For the crates above.
-pub use report::{lines, without};

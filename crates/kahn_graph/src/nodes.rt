@@ -1,19 +1,20 @@
 //! The nodes of a picture.
 
-ghost use Rattle.std.specs.Prelude.{◌≡◌, ◌<◌, ◌++◌, IfOk, codes, length, map, string_bytes};
+ghost use Rattle.std.specs.Prelude.{◌≡◌, ◌<◌, ◌++◌, IfOk, codes, length, map, option_map, slice_get, string_bytes};
 ghost use Rattle.kahn_streams.specs.Network.{network_of};
 ghost use Rattle.kahn_streams.specs.Prints.{declaration_prints, process_prints};
 ghost use Rattle.kahn_graph.specs.Graph.{named_text, values_text, node_text, IsNode, AreNodes, border_text, colour_text, ring_text, truth_text};
-ghost use Rattle.kahn_graph.specs.inner.Adding.{Adds, AddsValue, IsKnown};
+ghost use Rattle.kahn_chain.specs.Chain.{AreRings, stands};
+ghost use Rattle.kahn_graph.specs.inner.Adding.{Adds, AddsValue};
 
 use crate::pieces::add;
 use crate::printing::is_printing;
-use crate::report::{Report, add_ended};
-use crate::stands::{is_ring_instance, standing};
+use crate::ran::add_ended;
+use crate::stands::is_ring_instance;
 use crate::tips::add_tip;
 use itoa::Buffer;
 use kahn_chain::Standing;
-use kahn_streams::{Argument, Network, Parameter, Process};
+use kahn_streams::{Argument, End, Network, Outcome, Parameter, Process};
 use std::alloc::AllocError;
 
 // A logical value as it is written.
@@ -84,15 +85,18 @@ fn border(prints: bool) -> &'static str
     if prints { ", peripheries=2" } else { "" }
 }
 
-// What gives its colour to the box of an instance that stands so.
-fn colour(standing: Option<Standing>) -> &'static str
-    ensures { result.now ≡ colour_text standing }
+// What gives its colour to the box of an instance with that end.
+fn colour(end: Option<End>) -> &'static str
+    ensures { result.now ≡ colour_text (option_map stands end) }
 {
-    match standing {
-        None | Some(Standing::Waits(_)) => "",
-        Some(Standing::Ended) => ", style=filled, fillcolor=lightgrey",
-        Some(Standing::Faulted) => ", style=filled, fillcolor=salmon",
-        Some(Standing::More) => ", style=filled, fillcolor=palegreen",
+    match end {
+        None => "",
+        Some(end) => match end.outcome {
+            Outcome::Waits(_) => "",
+            Outcome::Ended => ", style=filled, fillcolor=lightgrey",
+            Outcome::Faulted(_) => ", style=filled, fillcolor=salmon",
+            Outcome::More => ", style=filled, fillcolor=palegreen",
+        },
     }
 }
 
@@ -103,11 +107,21 @@ fn ring_border(ring: bool) -> &'static str
     if ring { ", color=red" } else { "" }
 }
 
+// How an instance ended, where that is known.
+fn end_of(ends: &[End], instance: usize) -> Option<End>
+    ensures { result ≡ slice_get ends.now instance }
+{
+    if instance >= ends.len() {
+        return None;
+    }
+    Some(ends[instance])
+}
+
 // Adds the node of an instance with that number, which runs that process, as far as its colours.
 fn add_made(
     text: &mut String,
     network: &Network,
-    report: &Report,
+    end: Option<End>,
     instance: usize,
     process: &Process,
     arguments: &[Argument],
@@ -116,7 +130,7 @@ fn add_made(
 ) -> Result<(), AllocError>
     requires here { instance < usize.MAX }
     requires prints { prints ≡ process_prints process.now }
-    ensures { IfOk result (λ _. string_bytes text.new ≡ string_bytes text.old ++ node_text network.now report.now instance process.now arguments.now ring) }
+    ensures { IfOk result (λ _. string_bytes text.new ≡ string_bytes text.old ++ node_text network.now end instance process.now arguments.now ring) }
 {
     let mut first = Buffer::new();
     let mut second = Buffer::new();
@@ -125,9 +139,8 @@ fn add_made(
     let name = process.name.text.as_str();
     add(text, &["  p", node, " [label=\"", number, " ", name])?;
     add_values(text, &process.parameters, arguments)?;
-    add_ended(text, report, instance, process.name.text.as_str())?;
-    let border = border(prints);
-    let colour = colour(standing(network, report, instance, process.name.text.as_str()));
+    add_ended(text, network, end)?;
+    let (border, colour) = (border(prints), colour(end));
     add(text, &["\"", border, colour, ring_border(ring)])
 }
 
@@ -136,7 +149,7 @@ fn add_node(
     text: &mut String,
     network: &Network,
     source: &str,
-    report: &Report,
+    ends: &[End],
     standings: &[Standing],
     rings: &[bool],
     printing: &[bool],
@@ -144,16 +157,18 @@ fn add_node(
 ) -> Result<(), AllocError>
     requires here { instance < length (network_of network.now).instances }
     requires printing { printing.now ≡ map declaration_prints network.now.declarations.items }
-    requires known { IsKnown network.now report.now standings.now rings.now }
-    ensures { IfOk result (λ _. Adds (IsNode network.now source.now report.now instance) (string_bytes text.old) (string_bytes text.new)) }
+    requires standings { standings.now ≡ map stands ends.now }
+    requires rings { AreRings (network_of network.now) standings.now rings.now }
+    ensures { IfOk result (λ _. Adds (IsNode network.now source.now ends.now instance) (string_bytes text.old) (string_bytes text.new)) }
 {
     let made = network.instance(instance);
     let prints = is_printing(network, printing, made.declaration, made.process);
-    let ring = is_ring_instance(network, report, standings, rings, instance);
+    let ring = is_ring_instance(network, standings, rings, instance);
+    let end = end_of(ends, instance);
     add_made(
         text,
         network,
-        report,
+        end,
         instance,
         made.process,
         made.arguments,
@@ -170,18 +185,19 @@ pub(crate) fn add_nodes(
     text: &mut String,
     network: &Network,
     source: &str,
-    report: &Report,
+    ends: &[End],
     standings: &[Standing],
     rings: &[bool],
     printing: &[bool],
 ) -> Result<(), AllocError>
     requires printing { printing.now ≡ map declaration_prints network.now.declarations.items }
-    requires known { IsKnown network.now report.now standings.now rings.now }
-    ensures { IfOk result (λ _. Adds (AreNodes network.now source.now report.now) (string_bytes text.old) (string_bytes text.new)) }
+    requires standings { standings.now ≡ map stands ends.now }
+    requires rings { AreRings (network_of network.now) standings.now rings.now }
+    ensures { IfOk result (λ _. Adds (AreNodes network.now source.now ends.now) (string_bytes text.old) (string_bytes text.new)) }
 {
     for instance in 0..network.instances() {
         add_node(
-            text, network, source, report, standings, rings, printing, instance,
+            text, network, source, ends, standings, rings, printing, instance,
         )?;
     }
     Ok(())

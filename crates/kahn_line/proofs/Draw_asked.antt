@@ -1,21 +1,38 @@
 -- What a parse of the words gives the options of the program that draws.
-use Rattle.std.proofs.Common.{◌≡◌, ◌∙◌, List, ap, codes}
+use Rattle.std.proofs.Common.{◌≡◌, ◌∙◌, List, refl, ap, arith, codes}
 use Rattle.std.specs.Prelude.{option_map, string_bytes}
-use Rattle.clap.specs.Matches.{found_of, first_value}
+use Rattle.clap.specs.Built.{IsParsedFrom}
+use Rattle.clap.specs.Matches.{found_of, first_value, one_text}
 use Rattle.clap.specs.Simple.{App, HasMatchesOf, app_of, is_simple, matches_of}
-use Rattle.clap.specs.Walk.{Text, first_of, rows_of}
+use Rattle.clap.specs.Walk.{Text, first_of, one_of, rows_of}
 use Rattle.clap.specs.declared.builder.command.Command.{Command}
+use Rattle.clap.specs.declared.builder.value_parser.ValueParser.TheVariants.{Unsigned}
 use Rattle.clap.specs.declared.parser.matches.ArgMatches.{ArgMatches}
-use Rattle.clap.proofs.WalkLemmas.{first_value-rows}
+use Rattle.clap.proofs.WalkLemmas.{first_value-rows, one_text-rows}
+use Rattle.kahn_line.specs.Line.{number_or, ReadsOr}
 use Rattle.kahn_line.specs.Draw.{draw_app, draw_text, IsDraw}
 use Rattle.kahn_line.specs.declared.draw.DrawOptions.{DrawOptions}
+use Rattle.kahn_line.proofs.Asked.{ParsedAs, apart, known, passed}
+
+bound_parsed : ParsedAs draw_app.top.rules (codes "bound") (Unsigned 0 281474976710655)
+bound_parsed = (apart, (apart, ((λ e. refl), tt)))
 
 -- the options that are made of what a parse found are those that the words ask for
-pub asked_draw : (cmd : Command) (m : ArgMatches) (words : List Text) → HasMatchesOf (app_of cmd) words m → app_of cmd ≡ draw_app
+pub asked_draw : (cmd : Command) (m : ArgMatches) (words : List Text) → IsParsedFrom cmd m → HasMatchesOf (app_of cmd) words m → app_of cmd ≡ draw_app
     → (o : DrawOptions) → option_map string_bytes o.program ≡ first_value (found_of m) (codes "PROGRAM")
-    → option_map string_bytes o.report ≡ first_value (found_of m) (codes "report") → IsDraw words o
-asked_draw cmd m words matches is o program report =
+    → option_map string_bytes o.input ≡ first_value (found_of m) (codes "input")
+    → ReadsOr 1000000 (one_text (found_of m) (codes "bound")) o.bound → IsDraw words o
+asked_draw cmd m words p matches is o program input reads =
     let f = found_of m in
     let rows : rows_of f ≡ matches_of draw_app words = (matches (ap is_simple is)).0 ∙ ap (λ (a : App). matches_of a words) is in
     let text : (id : Text) → first_value f id ≡ draw_text words id = λ id. first_value-rows f id ∙ ap (first_of id) rows in
-    record { program = program ∙ text (codes "PROGRAM"); report = report ∙ text (codes "report") }
+    let one : (id : Text) → one_text f id ≡ one_of id (matches_of draw_app words) = λ id. one_text-rows f id ∙ ap (one_of id) rows in
+    let bound = known 0 281474976710655 1000000 (one_text f (codes "bound")) o.bound reads
+    (passed draw_app refl refl cmd m p is (codes "bound") 0 281474976710655 bound_parsed 98 refl ((λ e. omega arith), (λ e. omega arith), (λ e. omega arith))) (omega arith) (omega arith) in
+    let most = bound.2 in
+    record {
+      program = program ∙ text (codes "PROGRAM");
+      input = input ∙ text (codes "input");
+      bound = bound.0 ∙ ap (number_or 1000000) (one (codes "bound"));
+      in_range = omega arith;
+    }

@@ -15,22 +15,22 @@ use Rattle.kahn_line.specs.declared.explain.ExplainOptions.{ExplainOptions}
 use Rattle.kahn_line.proofs.Asked.{ParsedAs, apart, known, passed}
 
 workers_parsed : ParsedAs explain_app.top.rules (codes "workers") (Unsigned 1 16)
-workers_parsed = (apart, (apart, (apart, ((λ e. refl), (apart, (apart, (apart, (apart, tt))))))))
+workers_parsed = (apart, (apart, ((λ e. refl), (apart, (apart, (apart, (apart, tt)))))))
 
 quantum_parsed : ParsedAs explain_app.top.rules (codes "quantum") (Unsigned 1 1000000)
-quantum_parsed = (apart, (apart, (apart, (apart, ((λ e. refl), (apart, (apart, (apart, tt))))))))
+quantum_parsed = (apart, (apart, (apart, ((λ e. refl), (apart, (apart, (apart, tt)))))))
 
 bound_parsed : ParsedAs explain_app.top.rules (codes "bound") (Unsigned 0 281474976710655)
-bound_parsed = (apart, (apart, (apart, (apart, (apart, ((λ e. refl), (apart, (apart, tt))))))))
+bound_parsed = (apart, (apart, (apart, (apart, ((λ e. refl), (apart, (apart, tt)))))))
 
 -- the options that are made of what a parse found are those that the words ask for
 pub asked_explain : (cmd : Command) (m : ArgMatches) (words : List Text) → IsParsedFrom cmd m → HasMatchesOf (app_of cmd) words m → app_of cmd ≡ explain_app
     → (o : ExplainOptions) → option_map string_bytes o.program ≡ first_value (found_of m) (codes "PROGRAM")
     → option_map string_bytes o.input ≡ first_value (found_of m) (codes "input")
-    → option_map string_bytes o.report ≡ first_value (found_of m) (codes "report") → IsSet (found_of m) 4 (codes "bound") o.config
+    → IsSet (found_of m) 4 (codes "bound") o.config
     → o.strict ≡ was_given (first_value (found_of m) (codes "strict")) → o.trace ≡ was_given (first_value (found_of m) (codes "trace"))
     → IsExplain words o
-asked_explain cmd m words p matches is o program input report set strict trace =
+asked_explain cmd m words p matches is o program input set strict trace =
     let f = found_of m in
     let rows : rows_of f ≡ matches_of explain_app words = (matches (ap is_simple is)).0 ∙ ap (λ (a : App). matches_of a words) is in
     let text : (id : Text) → first_value f id ≡ explain_text words id = λ id. first_value-rows f id ∙ ap (first_of id) rows in
@@ -45,7 +45,6 @@ asked_explain cmd m words p matches is o program input report set strict trace =
     record {
       program = program ∙ text (codes "PROGRAM");
       input = input ∙ text (codes "input");
-      report = report ∙ text (codes "report");
       watch = set.watch ∙ text (codes "watch");
       workers = workers.0 ∙ ap (number_or 4) (one (codes "workers"));
       quantum = quantum.0 ∙ ap (number_or 1000) (one (codes "quantum"));

@@ -8,13 +8,12 @@ use Rattle.kahn_line.specs.declared.line.LineFault.{LineFault}
 use Rattle.kahn_line.specs.declared.line.LineFault.TheVariants.{Refused, NoMemory}
 use Rattle.kahn_line.specs.declared.explain.ExplainOptions.{ExplainOptions}
 
--- the program text's path without a name, the report's, and the options
+-- the program text's path without a name, and the options
 abbrev pub explain_app : App
 explain_app =
-    with_rule (with_rule (with_rule (with_rule (with_rule (with_rule (with_rule (with_rule (bare_app (codes "kahn_explain"))
+    with_rule (with_rule (with_rule (with_rule (with_rule (with_rule (with_rule (bare_app (codes "kahn_explain"))
     (new_rule (codes "PROGRAM")))
     (text_rule (codes "input")))
-    (text_rule (codes "report")))
     (number_rule (codes "workers") 1 16 (codes "4")))
     (number_rule (codes "quantum") 1 1000000 (codes "1000")))
     (number_rule (codes "bound") 0 281474976710655 (codes "1000000")))
@@ -37,7 +36,6 @@ explain_flag words name = was_given (explain_text words name)
 pub record IsExplain (words : List Text) (o : ExplainOptions) : Type 0 where
   pub program : option_map string_bytes o.program ≡ explain_text words (codes "PROGRAM")
   pub input : option_map string_bytes o.input ≡ explain_text words (codes "input")
-  pub report : option_map string_bytes o.report ≡ explain_text words (codes "report")
   pub watch : option_map string_bytes o.config.watch ≡ explain_text words (codes "watch")
   pub workers : o.config.workers ≡ explain_number words (codes "workers") 4
   pub quantum : o.config.quantum ≡ explain_number words (codes "quantum") 1000

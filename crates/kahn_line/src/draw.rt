@@ -4,15 +4,15 @@ ghost use Rattle.std.specs.Prelude.{◌≡◌, IfOk, map};
 ghost use Rattle.clap.specs.Words.{app_of};
 ghost use Rattle.kahn_line.specs.Draw.{draw_app, IsDrawRead};
 
-use crate::line::{LineFault, bare, copied, program_arg, text_arg};
+use crate::line::{LineFault, bare, bound_arg, copied, input_arg, number_or, program_arg};
 use clap::Command;
 use std::alloc::{AllocError, Global};
 use std::convert::AsStr;
 
 static ABOUT: &str = "Draws the network of a program, in the language of Graphviz.";
 
-// The usage line.
-static USAGE: &str = "kahn_draw [PROGRAM] [--report FILE] [OPTIONS]";
+// How a line goes on behind the name of the program.
+static USAGE: &str = "kahn_draw [PROGRAM] [--input FILE] [OPTIONS]";
 
 // The text after the options in the help.
 static MORE: &str = "\
@@ -21,15 +21,15 @@ arrow is a channel, from its writer to its reader; a dashed one has logical valu
 
   kahn_draw program.kahn | dot -Tsvg > program.svg
 
-With a report, a box also shows the state of its instance. The arrow of an output channel, or of the watched one, shows
-how many values it carried.
+With `--input`, which may name an empty file such as /dev/null, the program is run. A box then shows how its process ended,
+and its colour too; the arrow of an output channel shows how many values were sent on it, and processes that wait on one
+another in a ring are red.
 
-  kahn program.kahn --watch X > report.txt
-  kahn_draw program.kahn --report report.txt | dot -Tsvg > program.svg
+  kahn_draw program.kahn --input data.txt | dot -Tsvg > program.svg
 
 Exit status:
   0  the picture was written
-  1  program refused, or the report is too long
+  1  program or input refused
   2  command line refused
   4  no memory
   5  a file can't be read or isn't UTF-8, or the picture can't be written";
@@ -39,8 +39,10 @@ Exit status:
 pub struct DrawOptions {
     /// The path of the program text, or nothing for standard input.
     pub program: Option<String>,
-    /// The path of the report of a run, or nothing for none.
-    pub report: Option<String>,
+    /// The path of the input text of a run, or nothing for no run.
+    pub input: Option<String>,
+    /// After how many events the run is stopped.
+    pub bound: u64,
 }
 
 /// Returns the rules of the command line.
@@ -49,12 +51,8 @@ fn draw_command<'a>(alloc: Global) -> Result<Command<'a>, AllocError>
 {
     bare(alloc, "kahn_draw", USAGE, ABOUT, MORE)?
         .arg(program_arg(alloc))?
-        .arg(text_arg(
-            alloc,
-            "report",
-            "FILE",
-            "File of a report of the program; the picture then shows that run",
-        ))
+        .arg(input_arg(alloc))?
+        .arg(bound_arg(alloc))
 }
 
 /// Reads the words of a command line, the first of which is the name of the program. Fails with `Refused` if clap
@@ -65,6 +63,7 @@ pub fn read_draw_line<'a, S: AsStr>(alloc: Global, words: &'a [S]) -> Result<Dra
     let matches = draw_command(alloc)?.try_get_matches_from(words)?;
     Ok(DrawOptions {
         program: copied(alloc, matches.get_str("PROGRAM"))?,
-        report: copied(alloc, matches.get_str("report"))?,
+        input: copied(alloc, matches.get_str("input"))?,
+        bound: number_or(&matches, "bound", 1_000_000),
     })
 }

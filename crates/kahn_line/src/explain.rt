@@ -6,7 +6,7 @@ ghost use Rattle.kahn_line.specs.Explain.{explain_app, IsExplainRead};
 
 use crate::line::{
     LineFault, bare, bound_arg, config_of, copied, flag_arg, input_arg, program_arg, quantum_arg,
-    text_arg, was_given, workers_arg,
+    was_given, workers_arg,
 };
 use clap::Command;
 use kahn_streams::Config;
@@ -34,12 +34,6 @@ With a program whose process 1 waits on 2, and 2 on 1:
 
 `for ever` means: whatever is added to the input, and however long the run is.
 
-With `--report` nothing is run: kahn_explain explains the end of a run from the report that `kahn` wrote for the same
-program. The options of a run then do nothing.
-
-  kahn ring.kahn > report.txt
-  kahn_explain ring.kahn --report report.txt
-
 If the program text is refused, kahn_explain shows the place, with its source line and carets below. If something can't
 be there, it names all that may be there.
 
@@ -60,7 +54,7 @@ was stopped, the columns are beginnings. With a program that doubles what comes 
 
 Exit status:
   0  the run finished, without a deadlock and without a fault
-  1  program, input or report refused; with `--strict`, also for a warning
+  1  program or input refused; with `--strict`, also for a warning
   2  command line refused
   3  the run was stopped by the bound
   4  no memory
@@ -76,8 +70,6 @@ pub struct ExplainOptions {
     pub program: Option<String>,
     /// The path of the input text, or nothing for the empty text.
     pub input: Option<String>,
-    /// The path of the report of a run, or nothing for a run of its own.
-    pub report: Option<String>,
     /// How the run is set up. No channel is watched.
     pub config: Config,
     /// Whether a program with a warning is refused.
@@ -93,12 +85,6 @@ fn explain_command<'a>(alloc: Global) -> Result<Command<'a>, AllocError>
     bare(alloc, "kahn_explain", USAGE, ABOUT, MORE)?
         .arg(program_arg(alloc))?
         .arg(input_arg(alloc))?
-        .arg(text_arg(
-            alloc,
-            "report",
-            "FILE",
-            "Explains the end of a run from its report; nothing is run",
-        ))?
         .arg(workers_arg(alloc, "4"))?
         .arg(quantum_arg(alloc))?
         .arg(bound_arg(alloc))?
@@ -122,7 +108,6 @@ pub fn read_explain_line<'a, S: AsStr>(
     Ok(ExplainOptions {
         program: copied(alloc, matches.get_str("PROGRAM"))?,
         input: copied(alloc, matches.get_str("input"))?,
-        report: copied(alloc, matches.get_str("report"))?,
         config: config_of(alloc, &matches, 4, "bound")?,
         strict: was_given(matches.get_str("strict")),
         trace: was_given(matches.get_str("trace")),

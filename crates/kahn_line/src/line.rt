@@ -269,8 +269,8 @@ pub(crate) fn copied(alloc: Global, text: Option<&str>) -> Result<Option<String>
     }
 }
 
-/// Returns the number that was found for a name, or `other` if none was.
-fn number_or(matches: &ArgMatches<'_>, name: &str, other: u64) -> u64
+/// The number that was found for a name, or another one where none was.
+pub(crate) fn number_or(matches: &ArgMatches<'_>, name: &str, other: u64) -> u64
     ensures { ReadsOr other (one_text (found_of matches.now) name.now) result }
 {
     matches.get_one::<u64>(name).unwrap_or(other)

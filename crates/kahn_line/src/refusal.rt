@@ -30,8 +30,8 @@ fn owners_of(text: &str) -> Option<&'static str> {
     match option {
         "--trace" => Some("kahn_explain"),
         "--strict" => Some("kahn_explain and kahn_live"),
-        "--report" => Some("kahn_explain and kahn_draw"),
-        "--input" | "--workers" | "--quantum" | "--bound" => Some("kahn and kahn_explain"),
+        "--input" | "--bound" => Some("kahn, kahn_explain and kahn_draw"),
+        "--workers" | "--quantum" => Some("kahn and kahn_explain"),
         "--watch" => Some("kahn and kahn_live"),
         "--plain" | "--at-end" | "--keep-going" | "--step" => Some("kahn_live"),
         _ => None,

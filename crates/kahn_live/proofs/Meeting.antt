@@ -73,10 +73,10 @@ next_none input number text rest old new true none met = absurd (true≢false no
 -- a blank line, where there is no input channel
 pub blank_next : (input : Option (List ℕ)) (number : ℕ) (text : Option (List ℕ)) (old new : Point) (r : Result Bool Fault) → IsSource old.session true
     → IsBlankMet input number old new r → IsNextMet input number r text text old new
-blank_next input number text old new (Ok true) source (ready, sent, any) = ([], ready, inr (source, refl, refl), sent, any)
-blank_next input number text old new (Ok false) source met = absurd met
-blank_next input number text old new (Err fault) source (inl (why, sent)) = inl (sent, inl why)
-blank_next input number text old new (Err fault) source (inr (ready, sent, broken)) = inr ([], text, ready, inr (source, refl, refl), sent, broken)
+blank_next input number text old new (Ok true) source (room, (ready, sent, any)) = ([], ready, inr (source, room, refl, refl), sent, any)
+blank_next input number text old new (Ok false) source (none, sent) = (inr (source, none), sent)
+blank_next input number text old new (Err fault) source (room, inl (why, sent)) = inl (sent, inl why)
+blank_next input number text old new (Err fault) source (room, inr (ready, sent, broken)) = inr ([], text, ready, inr (source, room, refl, refl), sent, broken)
 
 pub none_kept : (n : ℕ) → take {A = ℕ} n [] ≡ []
 none_kept zero = refl

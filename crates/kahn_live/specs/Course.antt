@@ -370,13 +370,19 @@ abbrev pub IsSource : Live → Bool → Type 0
 IsSource s true = IsFirstInput s.flow.run.network None
 IsSource s false = (name : List ℕ) × IsFirstInput s.flow.run.network (Some name)
 
+-- whether memory was refused for the last part
+abbrev pub lacks_memory : Option Verdict → Bool
+lacks_memory (Some Memory) = true
+lacks_memory v = false
+
 -- the line that comes next, behind which this is left
 abbrev pub IsNextCome : Live → List ℕ → Option (List ℕ) → Option (List ℕ) → Type 0
-IsNextCome s line text rest = (IsSource s false × CutsLine line text rest) ⊎ (IsSource s true × (line ≡ []) × (rest ≡ text))
+IsNextCome s line text rest = (IsSource s false × CutsLine line text rest)
+    ⊎ (IsSource s true × (lacks_memory s.flow.run.verdict ≡ false) × (line ≡ []) × (rest ≡ text))
 
--- none does
+-- none does: the input is at its end, or there is none and memory was refused
 abbrev pub IsNoneCome : Live → Option (List ℕ) → Type 0
-IsNoneCome s text = IsSource s false × IsAtEnd text
+IsNoneCome s text = (IsSource s false × IsAtEnd text) ⊎ (IsSource s true × (lacks_memory s.flow.run.verdict ≡ true))
 
 -- the line of this number came, behind which this is left, and was met
 abbrev pub IsStep : Option (List ℕ) → ℕ → Option (List ℕ) → Option (List ℕ) → Point → Point → Type 0
@@ -390,12 +396,13 @@ IsStoppedAt input number text old new fault =
     ⊎ ((line : List ℕ) × (rest : Option (List ℕ)) × (ready : Point) × IsNextCome old.session line text rest × HasSent old ready
     × IsBrokenOff (fed_line input number line) ready new fault)
 
--- what is new went out, and then a part was run by a blank line
+-- what is new went out, and then a part was run by a blank line; or memory was refused for the last one
 abbrev pub IsBlankMet : Option (List ℕ) → ℕ → Point → Point → Result Bool Fault → Type 0
-IsBlankMet input number old new (Ok true) = (ready : Point) × HasSent old ready × IsAnyMet number (fed_line input number []) ready new
-IsBlankMet input number old new (Ok false) = ⊥
-IsBlankMet input number old new (Err fault) =
-    (IsWriteFault fault × HasSent old new) ⊎ ((ready : Point) × HasSent old ready × IsBrokenOff (fed_line input number []) ready new fault)
+IsBlankMet input number old new (Ok true) =
+    (lacks_memory old.session.flow.run.verdict ≡ false) × ((ready : Point) × HasSent old ready × IsAnyMet number (fed_line input number []) ready new)
+IsBlankMet input number old new (Ok false) = (lacks_memory old.session.flow.run.verdict ≡ true) × HasSent old new
+IsBlankMet input number old new (Err fault) = (lacks_memory old.session.flow.run.verdict ≡ false) × ((IsWriteFault fault × HasSent old new)
+    ⊎ ((ready : Point) × HasSent old ready × IsBrokenOff (fed_line input number []) ready new fault))
 
 -- whether there was a line
 abbrev pub IsNextMet : Option (List ℕ) → ℕ → Result Bool Fault → Option (List ℕ) → Option (List ℕ) → Point → Point → Type 0

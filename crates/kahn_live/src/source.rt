@@ -1,11 +1,12 @@
 //! Whether lines can change a run, and the blank ones by which a program without an input channel goes on.
 
 ghost use Rattle.std.specs.Prelude.{◌≡◌, IfErr, IfOk, false, option_copied};
-ghost use Rattle.kahn_live.specs.Course.{AcrossStage, HasSent, IsBlankMet, IsDeafNow, IsSource, IsWriteFault, point_of};
+ghost use Rattle.kahn_live.specs.Course.{AcrossStage, HasSent, IsBlankMet, IsDeafNow, IsSource, IsWriteFault, lacks_memory, point_of};
 
 use crate::stage::Stage;
 use crate::taking::take_read;
 use kahn_fault::Fault;
+use kahn_pool::Verdict;
 use kahn_session::Session;
 use std::io::Write;
 
@@ -29,6 +30,16 @@ pub(crate) fn is_over(session: &Session<'_>) -> bool
     session.is_deaf()
 }
 
+/// Whether memory was refused for the last part.
+fn lacks_memory(session: &Session<'_>) -> bool
+    ensures { result ≡ lacks_memory session.now.flow.run.verdict }
+{
+    match session.verdict() {
+        Some(Verdict::Memory) => true,
+        _ => false,
+    }
+}
+
 /// Sends what is new.
 fn send_now<W: Write, E: Write>(stage: &mut Stage<'_, W, E>) -> Result<(), Fault>
     ensures sent { HasSent (point_of W.contents E.contents stage.old) (point_of W.contents E.contents stage.new) }
@@ -37,7 +48,7 @@ fn send_now<W: Write, E: Write>(stage: &mut Stage<'_, W, E>) -> Result<(), Fault
     stage.outlet.send()
 }
 
-/// Takes a blank line of that number, once what is new went out.
+/// Takes a blank line of that number, once what is new went out, and tells that it did: not where memory was refused for the last part.
 pub(crate) fn take_blank<W: Write, E: Write>(
     stage: &mut Stage<'_, W, E>,
     input: Option<&str>,
@@ -48,6 +59,9 @@ pub(crate) fn take_blank<W: Write, E: Write>(
     ensures broken { IfOk result (λ _. stage.new.session.broken ≡ false) }
     ensures met { AcrossStage W.contents E.contents stage.old stage.new (λ p q. IsBlankMet (option_copied input.entry) number p q result) }
 {
+    if lacks_memory(&stage.session) {
+        return Ok(false);
+    }
     send_now(stage)?;
     take_read(stage, input, b"", number, room)?;
     Ok(true)

@@ -4,7 +4,7 @@ pub mod Parts
 pub mod Words
 pub mod Scanned
 pub mod Lines
-pub mod Right_lines
+pub mod Answer_lines
 pub mod Kept
 pub mod Told
 pub mod Worked

@@ -1,28 +1,36 @@
--- Believed. What the page gets of why a run stopped, or a program or an input is refused.
-use Rattle.std.specs.Prelude.{◌≡◌, ℕ, ◌⊎◌, List, [], Some, Ok, codes, false}
+-- Believed. What the page is told of why a run stopped, or a program or an input is refused.
+use Rattle.std.specs.Prelude.{◌≡◌, ℕ, ◌⊎◌, ◌++◌, List, [], Some, Ok, codes, false, string_bytes}
 use Rattle.kahn_streams.specs.declared.tree.Program.{Program}
-use Rattle.kahn_report.specs.Formats.{IsInputTextFault}
+use Rattle.kahn_streams.specs.declared.answer.Answer.{Answer}
+use Rattle.kahn_streams.specs.Inputs.{Lists}
+use Rattle.kahn_report.specs.Formats.{IsInputTextFault, StandsFor}
 use Rattle.kahn_report.specs.Work.{IsChecked}
 use Rattle.kahn_report.specs.declared.input.TextFault.{TextFault}
-use Rattle.kahn_why.specs.declared.explaining.Came.{Came}
-use Rattle.kahn_why.specs.Reporting.{HasReported}
+use Rattle.kahn_why.specs.Refusing.{AreAllowed, IsRefusedFor}
 use Rattle.kahn_why.specs.Telling.{HasToldInput}
+use Rattle.kahn_why.specs.Words.{IsExplained}
+use Rattle.kahn_why.specs.declared.explaining.Came.{Came}
+use Rattle.kahn_why.specs.declared.why.told.Explanation.{Explanation}
+use Rattle.kahn_web.specs.Alone.{IsRunAlone}
 use Rattle.kahn_web.specs.Page.{IsPut}
 
--- what is reported of a program, and of its report if it isn't refused; it is called `program` in notes
-abbrev pub IsReportExplained : List ℕ → List ℕ → List ℕ → Type 0
-IsReportExplained program report text = (came : Came) × HasReported (codes "program") program report false (Some []) (Some text) (Ok came)
+-- why a run of a program stopped, which is called `program` in notes, behind the notes on what is warned of in it
+abbrev pub IsRunExplained : List ℕ → List ℕ → ℕ → List ℕ → Type 0
+IsRunExplained program input bound text = (t : Program) × (a : Answer) × (fed : Lists) × (notes : List ℕ) × (e : Explanation)
+    × IsChecked program t × IsRunAlone t input bound a × AreAllowed (codes "program") program false notes
+    × StandsFor t input fed × IsExplained (codes "program") program t (Some fed) a e × (text ≡ notes ++ string_bytes e.text)
 
 -- the note on the fault of the input of a program, which is called `input`
 abbrev pub IsInputRefused : List ℕ → List ℕ → List ℕ → Type 0
 IsInputRefused program input text = (t : Program) × (fault : TextFault) × (came : Came) × IsChecked program t × IsInputTextFault t input fault
     × HasToldInput (codes "input") program input fault (Some []) (Some text) (Ok came)
 
--- one of them: the input is looked at if there is no report
-abbrev pub IsReason : List ℕ → List ℕ → List ℕ → List ℕ → Type 0
-IsReason program input report text = IsReportExplained program report text ⊎ ((report ≡ []) × IsInputRefused program input text)
+-- one of them, or why the program is refused
+abbrev pub IsReason : List ℕ → List ℕ → ℕ → List ℕ → Type 0
+IsReason program input bound text =
+    IsRefusedFor (codes "program") program false text ⊎ (IsInputRefused program input text ⊎ IsRunExplained program input bound text)
 
 -- there is nothing, or what was put into the room
-abbrev pub IsReasonInto : List ℕ → List ℕ → List ℕ → List ℕ → List ℕ → ℕ → Type 0
-IsReasonInto program input report old new size =
-    ((size ≡ 0) × (new ≡ old)) ⊎ ((text : List ℕ) × IsReason program input report text × IsPut text old new size)
+abbrev pub IsReasonInto : List ℕ → List ℕ → ℕ → List ℕ → List ℕ → ℕ → Type 0
+IsReasonInto program input bound old new size =
+    ((size ≡ 0) × (new ≡ old)) ⊎ ((text : List ℕ) × IsReason program input bound text × IsPut text old new size)

@@ -1,4 +1,4 @@
-//! The picture of the network of texts that are bytes.
+//! The picture of the network of a text that is bytes.
 
 ghost use Rattle.std.specs.Prelude.{IfSome, string_bytes};
 ghost use Rattle.kahn_web.specs.Picture.{IsNetworkPicture};
@@ -7,21 +7,17 @@ use kahn_graph::picture_text;
 use kahn_report::checked;
 use std::alloc::Global;
 
-/// Draws a program's network, with what the report of a run says of it; the report may be empty. None if a text isn't UTF-8, if
-/// the program is refused, and if memory is.
-pub fn drawn(alloc: Global, program: &[u8], report: &[u8]) -> Option<String>
-    ensures { IfSome result (λ picture. IsNetworkPicture program.now report.now (string_bytes picture)) }
+/// The picture of a program's network. There is none where the text isn't UTF-8, where the program is refused, and where memory is.
+pub fn drawn(alloc: Global, program: &[u8]) -> Option<String>
+    ensures { IfSome result (λ picture. IsNetworkPicture program.now (string_bytes picture)) }
 {
     let Ok(program) = std::str::from_utf8(program) else {
-        return None;
-    };
-    let Ok(report) = std::str::from_utf8(report) else {
         return None;
     };
     let Ok(network) = checked(alloc, program) else {
         return None;
     };
-    match picture_text(alloc, &network, program, report) {
+    match picture_text(alloc, &network, program, &[], &[]) {
         Ok(picture) => Some(picture),
         Err(_) => None,
     }

@@ -1,22 +1,30 @@
 //! Why a run stopped, or a program or an input is refused, for texts that are bytes.
 
-ghost use Rattle.std.specs.Prelude.{◌≡◌, ◌≢◌, [], IfSome};
+ghost use Rattle.std.specs.Prelude.{IfSome, codes, false, string_bytes};
 ghost use Rattle.kahn_report.specs.Work.{IsChecked};
-ghost use Rattle.kahn_web.specs.Explained.{IsReportExplained, IsInputRefused, IsReason};
+ghost use Rattle.kahn_report.specs.Formats.{IsInputTextFault};
+ghost use Rattle.kahn_why.specs.Refusing.{AreAllowed};
+ghost use Rattle.kahn_web.specs.Alone.{IsRunAlone};
+ghost use Rattle.kahn_web.specs.Explained.{IsReason, IsInputRefused, IsRunExplained};
 
-use kahn_report::{checked, read_input};
-use kahn_streams::Network;
-use kahn_why::{explain_report, refuse_input};
+use crate::alone::answered;
+use kahn_pool::Answer;
+use kahn_report::{TextFault, WorkFault, read_input};
+use kahn_why::{Admitted, Came, admit, explained, refuse_input, write_both};
 use std::alloc::Global;
 
-/// Returns why the input of a program is refused, as `kahn_explain program --input input` says it.
-fn refused(alloc: Global, program: &str, network: &Network, input: &str) -> Option<Vec<u8>>
-    requires { IsChecked program.now network.now }
+/// Why the input of a program is refused, as `kahn_explain program --input input` tells it.
+fn refused(
+    alloc: Global,
+    program: &str,
+    it: &Admitted,
+    input: &str,
+    fault: TextFault,
+) -> Option<Vec<u8>>
+    requires checked { IsChecked program.now it.now.network }
+    requires fault { IsInputTextFault it.now.network input.now fault }
     ensures { IfSome result (λ text. IsInputRefused program.now input.now text.items) }
 {
-    let Err(fault) = read_input(alloc, input, network) else {
-        return None;
-    };
     let mut written = Vec::new(alloc);
     match refuse_input(alloc, "input", program, input, fault, &mut written) {
         Ok(_) => Some(written),
@@ -24,21 +32,64 @@ fn refused(alloc: Global, program: &str, network: &Network, input: &str) -> Opti
     }
 }
 
-/// Returns why a program is refused, or why the run of its report stopped, as `kahn_explain program --report report` says it.
-fn explained(alloc: Global, program: &str, report: &str) -> Option<Vec<u8>>
-    ensures { IfSome result (λ text. IsReportExplained program.now report.now text.items) }
+/// Why the run of an answer stopped, behind what is warned of in its program, as `kahn_explain program --input input` tells it.
+fn stopped(
+    alloc: Global,
+    program: &str,
+    it: &Admitted,
+    input: &str,
+    _bound: u64,
+    answer: &Answer,
+) -> Option<Vec<u8>>
+    requires checked { IsChecked program.now it.now.network }
+    requires allowed { AreAllowed (codes "program") program.now false (string_bytes it.now.notes) }
+    requires run { IsRunAlone it.now.network input.now _bound answer.now }
+    ensures { IfSome result (λ text. IsRunExplained program.now input.now _bound text.items) }
 {
+    let Ok(fed) = read_input(alloc, input, &it.network) else {
+        return None;
+    };
+    let Ok(words) = explained(alloc, "program", program, &it.network, Some(&fed), answer) else {
+        return None;
+    };
+    let (notes, came) = (it.notes.as_str(), Came::Stopped(words.told));
     let mut written = Vec::new(alloc);
-    match explain_report(alloc, "program", program, report, false, &mut written) {
+    match write_both(notes, words.text.as_str(), came, &mut written) {
         Ok(_) => Some(written),
         Err(_) => None,
     }
 }
 
-/// Returns why a program is refused, or else its input if there is no report, or else why the run of the report stopped. None if a
-/// text isn't UTF-8, if the fault has no place, and if memory is refused.
-pub fn reason(alloc: Global, program: &[u8], input: &[u8], report: &[u8]) -> Option<Vec<u8>>
-    ensures { IfSome result (λ text. IsReason program.now input.now report.now text.items) }
+/// Why the run of a program that isn't refused stopped, or why its input is refused.
+fn ran(alloc: Global, program: &str, it: &Admitted, input: &str, bound: u64) -> Option<Vec<u8>>
+    requires checked { IsChecked program.now it.now.network }
+    requires allowed { AreAllowed (codes "program") program.now false (string_bytes it.now.notes) }
+    ensures { IfSome result (λ text. IsReason program.now input.now bound text.items) }
+{
+    match answered(alloc, &it.network, input, bound) {
+        Ok(answer) => stopped(alloc, program, it, input, bound, &answer),
+        Err(WorkFault::Text(fault)) => refused(alloc, program, it, input, fault),
+        Err(_) => None,
+    }
+}
+
+/// Why a program is refused, or else its input, or else why its run for at most `bound` events stopped, with the warnings on the program
+/// before it.
+fn told(alloc: Global, program: &str, input: &str, bound: u64) -> Option<Vec<u8>>
+    ensures { IfSome result (λ text. IsReason program.now input.now bound text.items) }
+{
+    let mut written = Vec::new(alloc);
+    match admit(alloc, "program", program, false, &mut written) {
+        Ok(it) => ran(alloc, program, &it, input, bound),
+        Err(Ok(_)) => Some(written),
+        Err(Err(_)) => None,
+    }
+}
+
+/// The same for texts that are bytes. There is nothing where a text isn't UTF-8, where the fault has no place, where the bound is past
+/// its limit, and where memory is refused.
+pub fn reason(alloc: Global, program: &[u8], input: &[u8], bound: u64) -> Option<Vec<u8>>
+    ensures { IfSome result (λ text. IsReason program.now input.now bound text.items) }
 {
     let Ok(program) = std::str::from_utf8(program) else {
         return None;
@@ -46,13 +97,5 @@ pub fn reason(alloc: Global, program: &[u8], input: &[u8], report: &[u8]) -> Opt
     let Ok(input) = std::str::from_utf8(input) else {
         return None;
     };
-    let Ok(report) = std::str::from_utf8(report) else {
-        return None;
-    };
-    if report.is_empty() {
-        if let Ok(network) = checked(alloc, program) {
-            return refused(alloc, program, &network, input);
-        }
-    }
-    explained(alloc, program, report)
+    told(alloc, program, input, bound)
 }

@@ -1,5 +1,5 @@
 //! Runs, draws and explains texts for a host that calls in, as a page does: the bytes of a program and an input in, those of a report
-//! out; the bytes of a program and a report in, those of a picture out, or of why the run stopped.
+//! out, or of why the run stopped; the bytes of a program in, those of a picture out.
 #![tactic(auto)]
 
 ghost use Rattle.kahn_web.specs.Explained.{IsReasonInto};
@@ -57,36 +57,31 @@ pub extern "C" fn kahn_web_run(
     };
 }
 
-/// Draws the network of a program, with what the report of a run says of it; the report may be empty. The picture, in the language of
-/// Graphviz, is copied as a report is, and its length is returned, which is 0 if there is no picture.
+/// Draws the network of a program. The picture, in the language of Graphviz, is copied as a report is, and its length is given, which
+/// is 0 where there is no picture.
 #[unsafe(no_mangle)]
-pub extern "C" fn kahn_web_draw(
-    alloc: Global,
-    program: &[u8],
-    report: &[u8],
-    room: &mut [u8],
-) -> u64
-    ensures { IsDrawnInto program.now report.now room.old room.new result }
+pub extern "C" fn kahn_web_draw(alloc: Global, program: &[u8], room: &mut [u8]) -> u64
+    ensures { IsDrawnInto program.now room.old room.new result }
 {
-    match drawn(alloc, program, report) {
+    match drawn(alloc, program) {
         Some(picture) => put(picture.as_bytes(), room),
         None => 0,
     }
 }
 
-/// Explains why a program is refused, or else its input if the report is empty, or else why the run of the report stopped. The text is
-/// copied as a report is, and its length is returned, which is 0 if there is nothing to explain.
+/// Tells why a program is refused, or else its input, or else why its run for at most `bound` events stopped. The text is copied as a
+/// report is, and its length is given, which is 0 where there is nothing to tell.
 #[unsafe(no_mangle)]
 pub extern "C" fn kahn_web_explain(
     alloc: Global,
     program: &[u8],
     input: &[u8],
-    report: &[u8],
+    bound: u64,
     room: &mut [u8],
 ) -> u64
-    ensures { IsReasonInto program.now input.now report.now room.old room.new result }
+    ensures { IsReasonInto program.now input.now bound room.old room.new result }
 {
-    match reason(alloc, program, input, report) {
+    match reason(alloc, program, input, bound) {
         Some(text) => put(text.as_slice(), room),
         None => 0,
     }

@@ -1,9 +1,5 @@
-pub mod Back
 pub mod Noting
-pub mod Reading
 pub mod Refusing
-pub mod Reported
-pub mod Reporting
 pub mod Telling
 pub mod Waits
 pub mod Why

@@ -1,13 +1,12 @@
-//! From a program text and a report to why its run stopped, or to why a text is refused.
+//! What explaining comes to: from a program text to its network, or to why it is refused.
 
 ghost use Rattle.std.specs.Prelude.{◌≡◌, ◌++◌, Bool};
 ghost use Rattle.kahn_report.specs.Work.{IsUnchecked};
-ghost use Rattle.kahn_why.specs.Reporting.{HasReported, came_of};
-ghost use Rattle.kahn_why.specs.inner.Told.{HasAdmitted, HasToldReport, HasRefused, HasWritten, IsStrictAbout};
+ghost use Rattle.kahn_why.specs.inner.Told.{HasAdmitted, HasRefused, HasWritten, IsStrictAbout};
 
 use crate::noting::warned_lines;
 use crate::refusing::refusal_note;
-use crate::why::{Told, explained_report};
+use crate::why::Told;
 use kahn_report::{WorkFault, checked, write_line};
 use kahn_streams::{Network, NoMemory, RunFault};
 use std::alloc::Global;
@@ -91,52 +90,4 @@ pub fn admit<W: Write>(
         return Err(write_both("", notes.as_str(), Came::Refused, writer));
     }
     Ok(Admitted { network, notes })
-}
-
-/// What explaining a report came to.
-fn came_of(told: Option<Told>) -> Came
-    ensures { result ≡ came_of told }
-{
-    match told {
-        Some(told) => Came::Stopped(told),
-        None => Came::Refused,
-    }
-}
-
-/// Writes what is warned of in an allowed program and why the run of a report of it stopped.
-fn explain_read<W: Write>(
-    alloc: Global,
-    path: &str,
-    program: &str,
-    it: &Admitted,
-    report: &str,
-    writer: &mut W,
-) -> Result<Came, WorkFault>
-    ensures { HasToldReport path.now program.now it.now report.now (W.contents writer.old) (W.contents writer.new) result }
-{
-    let Ok(reported) = explained_report(alloc, path, program, &it.network, report) else {
-        return Err(WorkFault::Run(RunFault::NoMemory));
-    };
-    let came = came_of(reported.told);
-    write_both(it.notes.as_str(), reported.text.as_str(), came, writer)
-}
-
-/// Writes what is warned of in a program and why the run of a report of it stopped, or why the text is no such report; or why the
-/// program text is refused, where that has a place, and for a warning too where it is asked to be strict. Nothing is run, and
-/// nothing is written before all that is to be written stands. Faults are found in this order: of the program text, of the
-/// network, warnings, of the report, want of memory, of the writer.
-pub fn explain_report<W: Write>(
-    alloc: Global,
-    path: &str,
-    program: &str,
-    report: &str,
-    strict: bool,
-    writer: &mut W,
-) -> Result<Came, WorkFault>
-    ensures { HasReported path.now program.now report.now strict (W.contents writer.old) (W.contents writer.new) result }
-{
-    match admit(alloc, path, program, strict, writer) {
-        Ok(it) => explain_read(alloc, path, program, &it, report, writer),
-        Err(came) => came,
-    }
 }

@@ -1,4 +1,4 @@
-//! Why a program text or an input text is refused, and why a run, or that of a report, stopped, in words.
+//! Why a program text or an input text is refused, and why a run stopped, in words.
 #![tactic(auto)]
 
 mod explaining;
@@ -8,8 +8,8 @@ mod refusing;
 mod telling;
 mod why;
 
-pub use explaining::{Came, explain_report};
-pub use laws::{for_good, reports_are_read_back};
+pub use explaining::Came;
+pub use laws::for_good;
 pub use telling::refuse_input;
 
 // For the crates above.

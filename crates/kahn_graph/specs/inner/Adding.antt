@@ -1,16 +1,14 @@
 -- Inner. Texts that grow by the texts of items.
-use Rattle.std.specs.Prelude.{◌≡◌, ℕ, Bool, true, false, ◌==◌, List, ◌∷◌, ◌++◌, map, Some, slice_get}
-use Rattle.std.proofs.Common.{Bor}
+use Rattle.std.specs.Prelude.{◌≡◌, ℕ, Bool, true, false, ◌==◌, List, ◌∷◌, ◌++◌, Some, slice_get}
 use Rattle.kahn_streams.specs.declared.tree.Argument.{Argument}
 use Rattle.kahn_streams.specs.declared.tree.Instance.{Instance}
 use Rattle.kahn_streams.specs.declared.tree.Parameter.{Parameter}
 use Rattle.kahn_streams.specs.declared.tree.Program.{Program}
-use Rattle.kahn_streams.specs.Network.{Network, network_of}
+use Rattle.kahn_streams.specs.Network.{Network}
 use Rattle.kahn_chain.specs.declared.standing.Standing.{Standing}
 use Rattle.kahn_chain.specs.declared.standing.Standing.TheVariants.{Ended, Waits, Faulted, More}
-use Rattle.kahn_chain.specs.Chain.{AreRings, LeadsOn}
+use Rattle.kahn_chain.specs.Chain.{LeadsOn}
 use Rattle.kahn_graph.specs.Graph.{tip_text, values_text}
-use Rattle.kahn_graph.specs.Stands.{told_standings}
 
 -- behind the old text stands one of these
 abbrev pub Adds : (List ℕ → Type 0) → List ℕ → List ℕ → Type 0
@@ -24,11 +22,6 @@ AddsValue old before new next q x =
 -- the text tells where instance i stands in the program text
 abbrev pub IsTip : Program → List ℕ → ℕ → List ℕ → Type 0
 IsTip t source i text = (x : Instance) × (slice_get t.instances.items i ≡ Some x) × (text ≡ tip_text source x.process)
-
--- how the instances stand by a report, and which are on rings
-pub record IsKnown (t : Program) (report : List (List ℕ)) (ss : List Standing) (marks : List Bool) : Type 0 where
-  pub told : ss ≡ told_standings t report
-  pub rings : AreRings (network_of t) ss marks
 
 -- the answer tells whether instance p waits on channel c and is on a ring
 abbrev pub IsWaitAt : Network → List Standing → ℕ → ℕ → Bool → Type 0

@@ -9,7 +9,6 @@ use Rattle.kahn_report.specs.declared.working.WorkFault.{WorkFault}
 use Rattle.kahn_report.specs.declared.working.WorkFault.TheVariants.{Syntax, Check, Text, Run, Write}
 use Rattle.kahn_why.specs.Noting.{AreWarningLines}
 use Rattle.kahn_why.specs.Refusing.{IsRefusal, IsRefusedFor}
-use Rattle.kahn_why.specs.Reporting.{HasReported}
 use Rattle.kahn_why.specs.declared.explaining.Admitted.{Admitted}
 use Rattle.kahn_why.specs.declared.explaining.Came.{Came}
 use Rattle.kahn_why.specs.declared.explaining.Came.TheVariants.{Stopped, Refused}
@@ -43,7 +42,3 @@ HasRefused path program strict old new (Err (Write f)) = (text : List ℕ) × Is
 abbrev pub HasAdmitted : List ℕ → List ℕ → Bool → Option (List ℕ) → Option (List ℕ) → Result Admitted (Result Came WorkFault) → Type 0
 HasAdmitted path program strict old new (Ok x) = IsAdmitted path program strict x × (new ≡ old)
 HasAdmitted path program strict old new (Err r) = HasRefused path program strict old new r
-
--- what became of an admitted program and a report
-abbrev pub HasToldReport : List ℕ → List ℕ → Admitted → List ℕ → Option (List ℕ) → Option (List ℕ) → Result Came WorkFault → Type 0
-HasToldReport path program x report old new r = (strict : Bool) → IsAdmitted path program strict x → HasReported path program report strict old new r

@@ -1,7 +1,7 @@
 use Rattle.std.proofs.Common.{[], string_bytes}
 use Rattle.kahn_why.proofs.Parts.{broke_off, went_out}
 use Rattle.kahn_explain.proofs.Parts.{explained_out, unexplained, unread, unrun, unwarned}
-use Rattle.kahn_explain.proofs.Right_ends.{answered}
+use Rattle.kahn_why.proofs.Right_ends.{answered}
 use Rattle.kahn_explain.proofs.explaining.explain_run.Goals as goal
 
 pub returns-in-Err : goal.returns-in-Err

@@ -5,7 +5,7 @@ use Rattle.kahn_explain.specs.Table.{trace_text}
 use Rattle.kahn_explain.specs.Tracing.{beside}
 use Rattle.kahn_why.proofs.Parts.{broke_off, went_out}
 use Rattle.kahn_explain.proofs.Traced_texts.{are_traced, no_table, table_broke_off, table_out}
-use Rattle.kahn_explain.proofs.Right_ends.{answered}
+use Rattle.kahn_why.proofs.Right_ends.{answered}
 use Rattle.kahn_explain.proofs.explaining.trace_run.Goals as goal
 
 pub returns-in-Err : goal.returns-in-Err

@@ -4,4 +4,4 @@ use Rattle.kahn_graph.specs.Graph.{IsAll, IsEdge}
 use Rattle.kahn_graph.proofs.edges.add_edges.Given as goal
 
 abbrev pub invariant-loop-channel : goal.invariant-loop-channel
-invariant-loop-channel l = (edges : List ℕ) × IsAll (IsEdge l.network l.report) l.channel edges × (string_bytes l.text ≡ string_bytes l.initial.text ++ edges)
+invariant-loop-channel l = (edges : List ℕ) × IsAll (IsEdge l.network l.streams l._ends) l.channel edges × (string_bytes l.text ≡ string_bytes l.initial.text ++ edges)

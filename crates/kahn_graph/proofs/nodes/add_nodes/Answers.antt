@@ -7,4 +7,4 @@ pub loop-instance-preserved : goal.loop-instance-preserved
 loop-instance-preserved c =
     let (texts, all, before) = c.loop-instance.invariant in
     let (text, is, after) = c.in_ok-add_node.ensures in
-    (texts ++ text, one_more (IsNode c.args.network.now c.args.source.now c.args.report.now) c.loop-instance.instance texts text all is, grown _ _ _ texts text before after)
+    (texts ++ text, one_more (IsNode c.args.network.now c.args.source.now c.args.ends.now) c.loop-instance.instance texts text all is, grown _ _ _ texts text before after)

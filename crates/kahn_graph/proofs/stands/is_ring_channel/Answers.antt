@@ -1,6 +1,15 @@
-use Rattle.kahn_graph.proofs.Marked.{told_mark}
+use Rattle.std.proofs.Common.{subst}
+use Rattle.kahn_streams.specs.Network.{network_of}
+use Rattle.kahn_graph.specs.inner.Adding.{IsWaitAt}
+use Rattle.kahn_graph.proofs.Marked.{no_wait_more, some_wait}
 use Rattle.kahn_graph.proofs.stands.is_ring_channel.Goals as goal
 
-pub returns : goal.returns
-returns c =
-    told_mark c.args.network.now c.args._report.now c.args.standings.now c.args.rings.now c.requires c.args.channel c.is_any_wait.result c.is_any_wait.ensures
+pub returns-then-is_wait_at : goal.returns-then-is_wait_at
+returns-then-is_wait_at c =
+    some_wait (network_of c.args.network.now) c.args.standings.now c.args.channel c.loop-instance.instance
+    (subst (IsWaitAt (network_of c.args.network.now) c.args.standings.now c.args.channel c.loop-instance.instance) c.if-is_wait_at.true c.is_wait_at.ensures)
+
+pub loop-instance-preserved : goal.loop-instance-preserved
+loop-instance-preserved c =
+    no_wait_more (network_of c.args.network.now) c.args.standings.now c.args.channel c.loop-instance.instance c.loop-instance.invariant
+    (subst (IsWaitAt (network_of c.args.network.now) c.args.standings.now c.args.channel c.loop-instance.instance) c.if-is_wait_at.false c.is_wait_at.ensures)

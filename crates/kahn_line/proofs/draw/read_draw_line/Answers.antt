@@ -18,7 +18,7 @@ returns g c =
     let words = map g.S.AsStr.text c.args.words.now in
     let is = c.in_ok-draw_command.ensures in
     let faults = c.in_ok-matches.ensures.kinds (ap is_simple_and_free is) in (
-      asked_draw c.in_ok-draw_command.field-0 c.in_ok-matches.matches words c.in_ok-matches.ensures.matches is _ (c.in_ok-copied.ensures ∙ c.get_str.ensures)
-          (c.in_ok-copied-2.ensures ∙ c.get_str-2.ensures),
+      asked_draw c.in_ok-draw_command.field-0 c.in_ok-matches.matches words c.in_ok-matches.ensures.parsed c.in_ok-matches.ensures.matches is _
+          (c.in_ok-copied.ensures ∙ c.get_str.ensures) (c.in_ok-copied-2.ensures ∙ c.get_str-2.ensures) c.number_or.ensures,
       ap (λ (a : App). fault_of a words) (sym is) ∙ faults,
     )

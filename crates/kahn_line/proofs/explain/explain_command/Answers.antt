@@ -7,9 +7,8 @@ pub returns : goal.returns
 returns c =
     let one = c.in_ok-arg.ensures.shape c.program_arg.ensures.local ∙ ap₂ with_rule c.in_ok-bare.ensures c.program_arg.ensures.rule in
     let two = c.in_ok-arg-2.ensures.shape c.input_arg.ensures.local ∙ ap₂ with_rule one c.input_arg.ensures.rule in
-    let three = c.in_ok-arg-3.ensures.shape c.text_arg.ensures.local ∙ ap₂ with_rule two c.text_arg.ensures.rule in
-    let four = c.in_ok-arg-4.ensures.shape c.workers_arg.ensures.local ∙ ap₂ with_rule three c.workers_arg.ensures.rule in
-    let five = c.in_ok-arg-5.ensures.shape c.quantum_arg.ensures.local ∙ ap₂ with_rule four c.quantum_arg.ensures.rule in
-    let six = c.in_ok-arg-6.ensures.shape c.bound_arg.ensures.local ∙ ap₂ with_rule five c.bound_arg.ensures.rule in
-    let seven = c.in_ok-arg-7.ensures.shape c.flag_arg.ensures.local ∙ ap₂ with_rule six c.flag_arg.ensures.rule in
-    IfOk-weaker c.arg-8.result _ _ (λ r h. h.shape c.flag_arg-2.ensures.local ∙ ap₂ with_rule seven c.flag_arg-2.ensures.rule) c.arg-8.ensures
+    let three = c.in_ok-arg-3.ensures.shape c.workers_arg.ensures.local ∙ ap₂ with_rule two c.workers_arg.ensures.rule in
+    let four = c.in_ok-arg-4.ensures.shape c.quantum_arg.ensures.local ∙ ap₂ with_rule three c.quantum_arg.ensures.rule in
+    let five = c.in_ok-arg-5.ensures.shape c.bound_arg.ensures.local ∙ ap₂ with_rule four c.bound_arg.ensures.rule in
+    let six = c.in_ok-arg-6.ensures.shape c.flag_arg.ensures.local ∙ ap₂ with_rule five c.flag_arg.ensures.rule in
+    IfOk-weaker c.arg-7.result _ _ (λ r h. h.shape c.flag_arg-2.ensures.local ∙ ap₂ with_rule six c.flag_arg-2.ensures.rule) c.arg-7.ensures

@@ -20,8 +20,7 @@ returns g c =
     let is = c.in_ok-explain_command.ensures in
     let faults = c.in_ok-matches.ensures.kinds (ap is_simple_and_free is) in (
       asked_explain c.in_ok-explain_command.field-0 c.in_ok-matches.matches words c.in_ok-matches.ensures.parsed c.in_ok-matches.ensures.matches is _
-          (c.in_ok-copied.ensures ∙ c.get_str.ensures) (c.in_ok-copied-2.ensures ∙ c.get_str-2.ensures) (c.in_ok-copied-3.ensures ∙ c.get_str-3.ensures)
-          c.in_ok-config_of.ensures
-          (c.was_given.ensures ∙ ap was_given c.get_str-4.ensures) (c.was_given-2.ensures ∙ ap was_given c.get_str-5.ensures),
+          (c.in_ok-copied.ensures ∙ c.get_str.ensures) (c.in_ok-copied-2.ensures ∙ c.get_str-2.ensures) c.in_ok-config_of.ensures
+          (c.was_given.ensures ∙ ap was_given c.get_str-3.ensures) (c.was_given-2.ensures ∙ ap was_given c.get_str-4.ensures),
       ap (λ (a : App). fault_of a words) (sym is) ∙ faults,
     )

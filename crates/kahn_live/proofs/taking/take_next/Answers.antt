@@ -55,4 +55,4 @@ returns-then-is_source-clause-met g c =
 pub returns-in-End-clause-met : goal.returns-in-End-clause-met
 returns-in-End-clause-met g c =
     let source = subst (IsSource c.args.stage.now.session) c.if-is_source.false c.is_source.ensures in
-    ((source, c.in-End.ensures), c.in_ok-send_before.ensures.sent)
+    (inl (source, c.in-End.ensures), c.in_ok-send_before.ensures.sent)

@@ -1,7 +1,7 @@
 use Rattle.std.proofs.Common.{refl, rules}
 use Rattle.kahn_pool.proofs.Sizes.{settles}
 use Rattle.kahn_report.specs.Formats.{HasItsLines}
-use Rattle.kahn_report.proofs.Right_lines.{right_lines}
+use Rattle.kahn_report.proofs.Answer_lines.{right_lines}
 use Rattle.kahn_report.proofs.Worked.{unchecked, unanswered}
 use Rattle.kahn_report.proofs.working.work.Goals as goal
 

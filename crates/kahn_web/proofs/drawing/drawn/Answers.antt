@@ -1,5 +1,4 @@
-use Rattle.std.proofs.Common.{string_bytes, subst}
-use Rattle.std.specs.Str.Lines.{lines}
+use Rattle.std.proofs.Common.{[], string_bytes, subst}
 use Rattle.kahn_graph.specs.Graph.{IsPicture}
 use Rattle.kahn_report.specs.Work.{IsChecked}
 use Rattle.kahn_web.proofs.drawing.drawn.Goals as goal
@@ -9,6 +8,5 @@ returns-in-Ok-picture_text c =
     let network = c.in-Ok-checked.network in (
       network,
       subst (λ text. IsChecked text network) c.in-Ok.ensures.cases.0 c.in-Ok-checked.ensures,
-      subst (λ source. IsPicture network source (lines c.args.report.now) (string_bytes c.in-Ok-picture_text.picture)) c.in-Ok.ensures.cases.0
-          (subst (λ text. IsPicture network c.in-Ok.program.now (lines text) (string_bytes c.in-Ok-picture_text.picture)) c.in-Ok-from_utf8.ensures.cases.0 c.in-Ok-picture_text.ensures),
+      subst (λ source. IsPicture network source [] [] (string_bytes c.in-Ok-picture_text.picture)) c.in-Ok.ensures.cases.0 c.in-Ok-picture_text.ensures,
     )

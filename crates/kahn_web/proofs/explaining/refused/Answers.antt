@@ -4,11 +4,11 @@ use Rattle.kahn_web.proofs.explaining.refused.Goals as goal
 
 pub returns-in-Ok : goal.returns-in-Ok
 returns-in-Ok c =
-    let told = HasToldInput (codes "input") c.args.program.now c.args.input.now c.in-Err.fault in (
-      c.args.network.now,
-      c.in-Err.fault,
+    let told = HasToldInput (codes "input") c.args.program.now c.args.input.now c.args.fault in (
+      c.args.it.now.network,
+      c.args.fault,
       c.in-Ok.field-0,
-      c.requires,
-      c.in-Err.ensures.read,
+      c.requires.checked,
+      c.requires.fault,
       subst (λ none. told (Some none) (Some c.refuse_input.new.writer.items) (Ok c.in-Ok.field-0)) c.new-written.ensures.items c.in-Ok.ensures,
     )

@@ -1,0 +1,8 @@
+-- No instance so far is on a ring and waits on the channel.
+use Rattle.std.proofs.Common.{ℕ, ◌<◌, false}
+use Rattle.kahn_streams.specs.Network.{network_of}
+use Rattle.kahn_graph.specs.inner.Adding.{IsWaitAt}
+use Rattle.kahn_graph.proofs.stands.is_ring_channel.Given as goal
+
+abbrev pub invariant-loop-instance : goal.invariant-loop-instance
+invariant-loop-instance l = (p : ℕ) → p < l.instance → IsWaitAt (network_of l.network) l.standings l.channel p false

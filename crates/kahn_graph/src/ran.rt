@@ -1,0 +1,109 @@
+//! What came of a run, as a picture shows it.
+
+ghost use Rattle.std.specs.Prelude.{◌≡◌, ◌∷◌, ◌++◌, [], IfOk, codes, string_bytes};
+ghost use Rattle.std.specs.List.{concat};
+ghost use Rattle.kahn_streams.specs.declared.answer.Outcome.TheVariants.{Waits};
+ghost use Rattle.kahn_graph.specs.Ran.{carried, count_text, ended_text, is_line_of, outcome_text, waited_text};
+
+use crate::pieces::add;
+use itoa::Buffer;
+use kahn_streams::{End, Failure, Line, Network, Outcome, Stream};
+use std::alloc::AllocError;
+
+// How an instance stood.
+fn outcome_word(outcome: Outcome) -> &'static str
+    ensures { result.now ≡ outcome_text outcome }
+{
+    match outcome {
+        Outcome::Ended => "ended",
+        Outcome::Waits(_) => "waits on ",
+        Outcome::Faulted(Failure::Overflow) => "fault overflow",
+        Outcome::Faulted(Failure::Division) => "fault division",
+        Outcome::More => "wants more",
+    }
+}
+
+// The name of a channel, or nothing past the last.
+fn channel_name(network: &Network, channel: usize) -> &str
+    ensures { result.now ≡ waited_text network.now (Waits channel) }
+{
+    if channel >= network.channels() {
+        return "";
+    }
+    network.channel(channel).name
+}
+
+// The name of the channel on which an instance waited, or nothing.
+fn waited_name(network: &Network, outcome: Outcome) -> &str
+    ensures { result.now ≡ waited_text network.now outcome }
+{
+    match outcome {
+        Outcome::Waits(channel) => channel_name(network, channel),
+        _ => "",
+    }
+}
+
+// Adds how an instance ended by the words of that.
+fn add_words<'a>(
+    text: &mut String,
+    word: &'a str,
+    name: &'a str,
+    events: &'a str,
+) -> Result<(), AllocError>
+    ensures { IfOk result (λ _. string_bytes text.new ≡ string_bytes text.old ++ concat (codes "\\n" ∷ word.now ∷ name.now ∷ codes " after " ∷ events.now ∷ [])) }
+{
+    add(text, &["\\n", word, name, " after ", events])
+}
+
+/// Adds how an instance ended, where that is known.
+pub(crate) fn add_ended(
+    text: &mut String,
+    network: &Network,
+    end: Option<End>,
+) -> Result<(), AllocError>
+    ensures { IfOk result (λ _. string_bytes text.new ≡ string_bytes text.old ++ ended_text network.now end) }
+{
+    let Some(end) = end else {
+        return Ok(());
+    };
+    let mut buffer = Buffer::new();
+    let events = buffer.format(end.events);
+    let word = outcome_word(end.outcome);
+    let channel = waited_name(network, end.outcome);
+    add_words(text, word, channel, events)
+}
+
+// Whether a line is that of a channel.
+fn is_of(line: Line, channel: usize) -> bool
+    ensures { result ≡ is_line_of channel line }
+{
+    match line {
+        Line::Channel(number) => number == channel,
+        Line::Print(_) => false,
+    }
+}
+
+/// How many values the stream of a channel has, where it has one.
+pub(crate) fn carried(streams: &[Stream], channel: usize) -> Option<usize>
+    ensures { result ≡ carried streams.now channel }
+{
+    let mut rest = streams;
+    'streams: while let Some((stream, behind)) = rest.split_first() {
+        if is_of(stream.line, channel) {
+            return Some(stream.tokens.len());
+        }
+        rest = behind;
+    }
+    None
+}
+
+/// Adds how many values there are, where that is known.
+pub(crate) fn add_count(text: &mut String, count: Option<usize>) -> Result<(), AllocError>
+    ensures { IfOk result (λ _. string_bytes text.new ≡ string_bytes text.old ++ count_text count) }
+{
+    let Some(count) = count else {
+        return Ok(());
+    };
+    let mut buffer = Buffer::new();
+    add(text, &["\\n", buffer.format(count)])
+}

@@ -1,8 +1,0 @@
--- Those so far are digits.
-use Rattle.std.proofs.Common.{◌≡◌, drop}
-use Rattle.std.specs.Char.{is_ascii_digit}
-use Rattle.std.specs.List.{list_all}
-use Rattle.kahn_why.proofs.why.reading.all_digits.Given as goal
-
-abbrev pub invariant-loop-byte : goal.invariant-loop-byte
-invariant-loop-byte l = list_all is_ascii_digit (drop l.byte-index l.digits) ≡ list_all is_ascii_digit l.digits
