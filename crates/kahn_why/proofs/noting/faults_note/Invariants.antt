@@ -4,4 +4,4 @@ use Rattle.kahn_why.specs.Noting.{StandsIn}
 use Rattle.kahn_why.proofs.noting.faults_note.Given as goal
 
 abbrev pub invariant-loop-note : goal.invariant-loop-note
-invariant-loop-note l = All (StandsIn l.path l.text (string_bytes l.lines)) (take l.note-index l.told.notes.items)
+invariant-loop-note l = All (StandsIn l.path l.text (string_bytes l.lines)) (take l.note-index l.note-items)

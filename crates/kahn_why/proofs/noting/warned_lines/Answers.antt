@@ -15,7 +15,8 @@ loop-note-preserved c =
     let below : i < length notes = omega arith in
     let new = string_bytes c.add_note.new.lines in
     let shown = c.in_ok-add_note.ensures in
-    All-more (StandsIn path text new) notes i _ below (all_longer path text _ shown.0 new (take i notes) shown.1 c.loop-note.invariant) shown.2
+    let here = subst (StandsIn path text new) c.note-item.is shown.2 in
+    All-more (StandsIn path text new) notes i c.note-item.result below (all_longer path text _ shown.0 new (take i notes) shown.1 c.loop-note.invariant) here
 
 pub returns-then-is_empty : goal.returns-then-is_empty
 returns-then-is_empty c =
@@ -23,7 +24,7 @@ returns-then-is_empty c =
       notes,
       c.in_ok-notes.ensures,
       none_stand c.args.path.now c.args.text.now _ notes c.is_empty.result _ c.is_empty.ensures c.in_ok-notes.notes.ok.0 c.if-is_empty.true,
-      λ e. c.new.ensures,
+      λ e. c.new.ensures.bytes,
     )
 
 pub returns : goal.returns
