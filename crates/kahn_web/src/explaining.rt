@@ -81,7 +81,7 @@ fn told(alloc: Global, program: &str, input: &str, bound: u64) -> Option<Vec<u8>
     let mut written = Vec::new(alloc);
     match admit(alloc, "program", program, false, &mut written) {
         Ok(it) => ran(alloc, program, &it, input, bound),
-        Err(Ok(_)) => Some(written),
+        Err(Ok(_came)) => Some(written),
         Err(Err(_)) => None,
     }
 }

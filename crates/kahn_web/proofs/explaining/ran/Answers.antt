@@ -5,5 +5,5 @@ use Rattle.kahn_web.proofs.explaining.ran.Goals as goal
 pub returns-in-Ok : goal.returns-in-Ok
 returns-in-Ok c = some_of _ (λ text h. inr (inr h)) c.stopped.ensures
 
-pub returns-in-Text : goal.returns-in-Text
-returns-in-Text c = some_of _ (λ text h. inr (inl h)) c.refused.ensures
+pub returns-in-Err-Text : goal.returns-in-Err-Text
+returns-in-Err-Text c = some_of _ (λ text h. inr (inl h)) c.refused.ensures

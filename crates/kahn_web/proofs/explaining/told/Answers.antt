@@ -1,4 +1,4 @@
-use Rattle.std.proofs.Common.{Some, Ok, codes, false, inl, subst}
+use Rattle.std.proofs.Common.{◌≡◌, Some, Ok, List, ℕ, codes, false, inl, rules, subst}
 use Rattle.kahn_why.proofs.Parts.{are_allowed}
 use Rattle.kahn_why.specs.inner.Told.{HasRefused}
 use Rattle.kahn_web.proofs.Reasons.{refused}
@@ -12,5 +12,7 @@ ran-requires c =
 pub returns-in-Err-Ok : goal.returns-in-Err-Ok
 returns-in-Err-Ok c =
     let told = HasRefused (codes "program") c.args.program.now false in
-    inl (refused (codes "program") c.args.program.now c.admit.new.writer.items c.in-Err-Ok.field-0
-    (subst (λ none. told (Some none) (Some c.admit.new.writer.items) (Ok c.in-Err-Ok.field-0)) c.new-written.ensures.items c.in-Err-Ok.ensures))
+    let new = c.admit.new.writer.items in
+    let is : c.in-Err-Ok.field-0 ≡ Ok c.in-Err-Ok._came = search rules in
+    let was = subst (told (Some c.new-written.result.items) (Some new)) is c.in-Err-Ok.ensures in
+    inl (refused (codes "program") c.args.program.now new c.in-Err-Ok._came (subst (λ (none : List ℕ). told (Some none) (Some new) (Ok c.in-Err-Ok._came)) c.new-written.ensures.items was))
