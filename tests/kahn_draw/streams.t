@@ -22,7 +22,7 @@ A program and an input that aren't there.
   [5]
 An input that is refused.
   $ printf 'A: 1\nB: 2\n' > fed; kahn_draw examples/double.kahn --input fed
-  ! kahn: input B: not an input channel
+  ! kahn: input entry 2: not an input channel
   [1]
 An empty text.
   $ kahn_draw
