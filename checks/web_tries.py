@@ -196,7 +196,7 @@ def try_mistakes(page, tried):
     tried.same("a mistake behind letters of several bytes", seen(page, "#programInk .error"), ["1"])
     put(page, MISTAKE.replace("a(X)", "a(X)" + " " * 40000))
     page.wait("at('verdict').className === 'refused'")
-    tried.same("a mistake in a long program", seen(page, "#programInk .error"), ["1"])
+    tried.same("a mistake in a long program", seen(page, "#programInk .error"), ["send"])
 
 
 # For each text its first mistake's place, and the changes that are offered with what is said of the text behind each.
