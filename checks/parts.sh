@@ -94,7 +94,7 @@ try_programs() {
   beside "threads and growths of memory that are refused" python3 tests/run.py refusals
   beside "worst texts" timeout 600 python3 tests/run.py worst
   beside "machine instructions of the workloads" timeout 300 python3 bench/counts.py "$KAHN"
-  beside "examples with replaced words" timeout 300 python3 fuzz/parts.py "$KAHN_EXPLAIN" 600
+  beside "examples with replaced words" timeout 300 python3 fuzz/parts.py "$KAHN_EXPLAIN" 600 "$seed"
   beside "random programs" python3 fuzz/fuzz.py "$KAHN" 300 "$seed"
   beside "changes that mend random texts" timeout 300 python3 fuzz/mends.py "$KAHN_EXPLAIN" 200 "$seed"
   beside "mistakes with known repairs" timeout 300 python3 fuzz/mistakes.py "$KAHN_EXPLAIN" 600 "$seed"
