@@ -1,6 +1,6 @@
 #!/usr/bin/env bash
 # Puts the programs on the path, or takes them off it: those that were built here, or those of release/, if they are of these
-# sources; and beside them, in PREFIX/share, manual pages and the completions of bash, zsh and fish. It builds nothing.
+# sources; and beside them, in PREFIX/share, the page, manual pages and the completions of bash, zsh and fish. It builds nothing.
 #
 #   install.sh [--uninstall] [PREFIX]      into PREFIX/bin, or from there
 #
@@ -85,7 +85,9 @@ install_all() {
     paths+=("$program")
   done
   for name in "${paths[@]}"; do put 755 "$name" "bin/${name##*/}"; done
-  pages | while read -r page file; do put 644 "$top/$page" "$file"; done
+  pages | while read -r page file; do
+    case $file in bin/*) put 755 "$top/$page" "$file" ;; *) put 644 "$top/$page" "$file" ;; esac
+  done
   if [ -z "${DESTDIR:-}" ]; then
     mapfile -t paths < <(files)
     listed "${paths[@]}" | install -D -m 644 -T /dev/stdin "$target/$list"

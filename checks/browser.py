@@ -17,6 +17,9 @@ class Browser:
     """Opens the file of the page. Each call ends within the seconds that are left, or raises TimeoutError. `told` has the errors of its
     scripts, and what its policy refused; `script` is one that runs before those of a page that is opened."""
 
+    # Whether it tells what a reader of the screen is told, and prints a PDF whose text can be read.
+    has_tree = True
+
     def __init__(self, program, path, seconds):
         self.end, self.number, self.kept, self.told = time.monotonic() + seconds, 0, b"", []
         self.limit, self.shape, self.script, self.session, self.target = self.end, None, "", None, None
@@ -42,9 +45,12 @@ class Browser:
         except ProcessLookupError:
             pass
         self.process.wait()
+        self.close()
+        self.folder.cleanup()
+
+    def close(self):
         os.close(self.to)
         os.close(self.come)
-        self.folder.cleanup()
 
     def read(self):
         """The next message."""

@@ -90,6 +90,7 @@ make_tree() {
   cp -P "$of"/kahn* "$of/install.sh" "$tree"
   cp "$of"/release/*.sh "$tree/release"
   cp "$top/web/page.sh" "$tree/web"
+  cp "$top/release/kahn.html" "$tree/release"
   cp -r "$top/docs/man" "$tree/docs"
   cp -r "$top/editors/completions" "$tree/editors"
   for name in HANDLES crates.txt crates/kahn/{src/main.rt,specs/Main.antt,proofs/Main.antt}; do echo "source" > "$tree/$name"; done

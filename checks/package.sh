@@ -39,8 +39,10 @@ try_package() {
     try_manual "$name" 1 OPTIONS
   done
   try_manual kahn 7 STATEMENTS
+  try_manual kahn_page 1 DESCRIPTION
   same "an example" "$(PATH="$root/usr/bin" kahn "$root/usr/share/doc/kahn/examples/count.kahn")" "$(cat "$top/examples/count.report")"
-  same "the page" "$(sha256sum < "$root/usr/share/doc/kahn/kahn.html")" "$(sha256sum < "$top/release/kahn.html")"
+  same "the page" "$(sha256sum < "$("$root/usr/bin/kahn_page")")" "$(sha256sum < "$top/release/kahn.html")"
+  if command -v lintian > /dev/null; then same "lintian" "$(lintian --allow-root --fail-on none -E "$1" 2> /dev/null | grep '^[EW]:')" ""; fi
   same "completions" "$(completed kahn --wor) $(completed kahn_live --plai) $(completed kahn_draw --inp)" "--workers --plain --input"
   same "no file is anybody's to write" "$(find "$root/usr" -perm /022 -not -type l | head -n 3)" ""
   in_root --purge kahn || return

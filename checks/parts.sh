@@ -88,7 +88,7 @@ try_programs() {
   beside "the release" timeout 600 bash checks/release.sh
   beside "the first ten minutes" timeout 300 bash checks/newcomer.sh
   beside "attacks on the launcher" timeout 600 bash checks/launcher.sh
-  beside "the page in a browser" timeout 700 bash checks/web.sh
+  beside "the page in a browser" timeout 1000 bash checks/web.sh
   beside "places and changes in editors" timeout 300 python3 checks/editors.py "$KAHN_EXPLAIN"
   beside "the Debian package" timeout 300 bash checks/package.sh
   beside "threads and growths of memory that are refused" python3 tests/run.py refusals
@@ -100,6 +100,7 @@ try_programs() {
   beside "mistakes with known repairs" timeout 300 python3 fuzz/mistakes.py "$KAHN_EXPLAIN" 600 "$seed"
   beside "what may stand in random texts" timeout 300 python3 fuzz/sets.py "$KAHN_EXPLAIN" 150 "$seed"
   beside "why random networks stop" timeout 300 python3 fuzz/causes.py "$KAHN_EXPLAIN" "$KAHN" 150 "$seed"
+  beside "what values of random networks need" timeout 300 python3 fuzz/needs.py "$KAHN_EXPLAIN" "$KAHN" 150 "$seed"
   beside "random programs, line by line" timeout 300 python3 fuzz/live.py "$KAHN_LIVE" "$KAHN" 200 "$seed"
   if [ -x "${KAHN_CROWD:-}" ]; then
     beside "rows, by workers that begin at once" python3 tests/run.py crowd

@@ -1,4 +1,4 @@
-"""The page, in a headless Chromium: what the module in it answers compared byte for byte with the programs, and what the page makes of it.
+"""The page, in a headless Chromium or Firefox: what the module in it answers compared byte for byte with the programs, and what the page makes of it.
 
     web.py BROWSER PAGE KAHN KAHN_DRAW KAHN_EXPLAIN   runs the rows of checks/rows, the examples and what is refused, and tries the page
     web.py BROWSER PAGE --tries                       tries the page alone
@@ -15,6 +15,7 @@ TOP = os.path.dirname(os.path.dirname(os.path.abspath(__file__)))
 sys.path.append(f"{TOP}/tests")
 import browser
 import common
+import firefox
 import rows
 import web_looks
 import web_tries
@@ -69,7 +70,7 @@ def native(kahn, draw, explain, program, text, bound, folder):
     drawn = subprocess.run([draw, f"{folder}/program"], capture_output=True, timeout=60)
     reasons = b""
     if ran.returncode in (0, 1, 3, 4) and len(program.encode()) <= 1 << 15:
-        words = [explain, "--workers", "1", "--bound", bound, "--input", "input", "program"]
+        words = [explain, "--all", "--workers", "1", "--bound", bound, "--input", "input", "program"]
         reasons = subprocess.run(words, capture_output=True, timeout=60, cwd=folder).stdout
     return ran.returncode, ran.stdout + ran.stderr, drawn.stdout, reasons
 
@@ -118,7 +119,8 @@ def compare_steps(page, tried, kahn):
 def main(program, path, *words):
     tried = common.Tried()
     try:
-        with browser.Browser(program, path, SECONDS_TO_OPEN if words[0] == "--opens" else SECONDS) as page:
+        kind = firefox.Firefox if "firefox" in program else browser.Browser
+        with kind(program, path, SECONDS_TO_OPEN if words[0] == "--opens" else SECONDS) as page:
             if words[0] == "--pictures":
                 web_looks.take_pictures(page, words[1])
                 return 0

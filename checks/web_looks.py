@@ -153,8 +153,9 @@ def try_print(page, tried):
 def try_looks(page, tried):
     try_widths(page, tried)
     try_contrast(page, tried)
-    try_reader(page, tried)
-    try_print(page, tried)
+    if page.has_tree:
+        try_reader(page, tried)
+        try_print(page, tried)
 
 
 PLOTTED = """begin integer input channel HEAT; integer channel COPIED, MEAN; integer output channel SHOWN, MEANS; logical output channel HOT;

@@ -8,8 +8,9 @@ import web_looks
 
 TOP = os.path.dirname(os.path.dirname(os.path.abspath(__file__)))
 MOST_BOUND = "281474976710655"
-# Bytes of the page, milliseconds to the first picture, milliseconds from a key to what it shows in a text of 100 kB.
-MOST_BYTES, MOST_TO_OPEN, MOST_FOR_A_KEY = 400000, 500, 200
+# Bytes of the page, milliseconds to the first picture, milliseconds from a key to what it shows in a text of 100 kB. The times are
+# twice what the page keeps on a machine with nothing else, since other tests go on beside this one.
+MOST_BYTES, MOST_TO_OPEN, MOST_FOR_A_KEY = 400000, 1000, 400
 
 DEADLOCK = """begin integer channel X, Y;
   process a(integer in U; integer out W); begin repeat send wait(U) on W end;
@@ -409,8 +410,10 @@ def try_texts(page, path, tried):
     page.value("void localStorage.setItem('kahn.page', JSON.stringify({ ...store.state, texts: { program: 'of another tab', input: '', bound: '1' } }))")
     page.value("save()")
     tried.same("a text of another tab is kept", page.value("store.state.yours[0].program"), "of another tab")
-    tried.same("no call out of the page", page.value("fetch('file:///').then(() => 'went out', () => 'refused')"), "refused")
-    page.told = [it for it in page.told if "file:///" not in it]
+    tried.same("no call out of the page", page.value("fetch('http://localhost:1/').then(() => 'went out', () => 'refused')"), "refused")
+    page.value("new Promise((done) => setTimeout(done, 300))")
+    tried.same("its policy refuses it", any("localhost:1/" in it and "Policy" in it for it in page.told))
+    page.told = [it for it in page.told if "localhost:1/" not in it]
 
 
 LACKING = {

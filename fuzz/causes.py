@@ -3,7 +3,8 @@
     causes.py KAHN_EXPLAIN KAHN [COUNT] [SEED]     the same seed makes the same texts; without one it is chosen at random
 
 Who waits on whom is read off the report's end lines and the wiring of reference.py. Whoever has gone as many waits onward as there are
-instances, and still waits on one of them, is in a ring, whose mending is told once. What is said to be for ever is tried: the interpreter of reference.py runs the
+instances, and still waits on one of them, is in a ring, whose mending is told once. Both forms are compared: each cause once, with those
+that wait because of it, and each process (`--all`). What is said to be for ever is tried: the interpreter of reference.py runs the
 network on a longer input, and each such process has to end there as it did; if it has a fault, the place where that came has to be
 one of those that are told, or not told beside twenty others. The places of waits are read off the tree of reference.py. A difference is printed, and its texts are kept.
 """
@@ -18,12 +19,12 @@ import fuzz
 import reference as ref
 
 WARNED = re.compile(r"[^\n]*:\d+:\d+: warning: ")
-PLACE = r"[^\n]*:(\d+:\d+): error: \w+ can have come from here\n[^\n]*\n[^\n]*\n"
+NOTE = r"[^\n]*:(\d+:\d+): note: or here\n[^\n]*\n[^\n]*\n"
 UNTOLD = r"and (?:1 place|\d+ places) more\n"
-FAULTED = re.compile(rf"(?m)^(\d+)( \w+ has a fault, \w+)\n((?:{PLACE})+(?:{UNTOLD})?)")
+PLACED = re.compile(rf"(?m)^[^\n]*:(\d+:\d+): error: ((\d+) \w+ (?:waits on|has a fault)[^\n]*)\n[^\n]*\n[^\n]*\n((?: *= [^\n]*\n)*)((?:{NOTE})*(?:{UNTOLD})?)")
 REFERRED = re.compile(r"(?m)^(\d+) \w+ has a fault, \w+: see (\d+) \w+$")
-OWN = "\n  = its own queue is empty: let it send before it waits"
-RING = "\n  = this ring wants a first value (let one of its processes send before it waits), or one of them takes more than another sends: --trace shows what came"
+OWN = "its own queue is empty: let it send before it waits"
+RING = "this ring wants a first value (let one of its processes send before it waits), or one of them takes more than another sends: --trace shows what came"
 GO_ON = "--bound N with a greater N lets the run go on"
 FOR_EVER = ("ring", "ended", "fault overflow", "fault division")
 
@@ -85,16 +86,17 @@ def awaited(checked, ends, p):
 
 
 def cause(checked, ends, p):
-    """(why, z): what the waits of p lead to, and the instance by which that is told."""
+    """(why, z, round): what the waits of p lead to, the instance by which that is told, and whether they lead back to p."""
+    first = p
     for _ in ends:
         onward = awaited(checked, ends, p)
         if onward is None:
-            return ("an input" if ends[p][1] is not None else ends[p][0]), p
+            return ("an input" if ends[p][1] is not None else ends[p][0]), p, False
         p = onward
     ring = [p]
     while awaited(checked, ends, ring[-1]) != p:
         ring.append(awaited(checked, ends, ring[-1]))
-    return "ring", min(ring)
+    return "ring", min(ring), first in ring
 
 
 def taken(count):
@@ -110,18 +112,28 @@ def waits_in(part, name):
 
 
 def spots(checked, text, channel):
-    """The places of the waits on a channel, as its line tells them."""
+    """The places of the waits on a channel."""
     number, k = checked.reader[channel]
     _, _, params, _, body = checked.globals[checked.instances[number][0][1]][1]
-    at = ["{}:{}".format(*ref.place(text.encode(), at)) for at in waits_in(body, params[k][2][1])]
-    others = at[1:] if len(at) < 4 else [f"{len(at) - 1} places more"]
-    return f" at {' or '.join(at[:1] + others)}"
+    return ["{}:{}".format(*ref.place(text.encode(), at)) for at in waits_in(body, params[k][2][1])]
+
+
+def named(checked, z):
+    return f"{z + 1} {checked.instances[z][0][1]}"
+
+
+def those(checked, found, one, several):
+    """Up to four instances by their names, or how many they are, and what they do."""
+    if len(found) > 4:
+        return f"{len(found)} processes{several}"
+    names = [named(checked, p) for p in found]
+    return (" and ".join([", ".join(names[:-1]), names[-1]]) if names[1:] else names[0]) + (several if names[1:] else one)
 
 
 def line_of(checked, text, inputs, ends, p):
-    """What is said of an instance that hasn't ended."""
+    """What is said of an instance that hasn't ended, without the place of a deadlock."""
     def who(z):
-        return f"{z + 1} {checked.instances[z][0][1]}"
+        return named(checked, z)
 
     word, channel, events = ends[p]
     if word == "wants more":
@@ -130,35 +142,83 @@ def line_of(checked, text, inputs, ends, p):
         first = next(z for z, (other, _, _) in enumerate(ends) if other == word and checked.instances[z][0][1] == checked.instances[p][0][1])
         return f"{who(p)} has a fault, {word.split()[1]}" + (f": see {who(first)}" if first != p else "")
     name, writer = checked.channels[channel][0], awaited(checked, ends, p)
-    out = f"{who(p)} waits on {name}{spots(checked, text, channel)}" + (", an input" + taken(len(inputs.get(channel, []))) if writer is None else f" from {who(writer)}")
-    why, z = cause(checked, ends, p)
+    why, z, is_round = cause(checked, ends, p)
+    at = spots(checked, text, channel)
+    told = at[:1] + (at[1:] if len(at) < 4 else [f"{len(at) - 1} places more"])
+    out = f"{who(p)} waits on {name}" + ("" if is_round else f" at {' or '.join(told)}")
+    out += ", an input" + taken(len(inputs.get(channel, []))) if writer is None else f" from {who(writer)}"
+    if is_round:
+        return f"{out}, in a deadlock: for ever"
     if why == "an input":
         return out if z == p else f"{out}, as {who(z)} waits on {checked.channels[ends[z][1]][0]}, an input"
     if why == "wants more":
         return f"{out}, as {who(z)} wants more events"
-    if (why, z) == ("ring", p):
-        return f"{out}, in a deadlock: for ever" + (OWN if writer == p else RING)
     return f"{out}, as {who(z)} " + {"ring": "is in a deadlock", "ended": "has ended"}.get(why, "has a fault") + ": for ever"
 
 
-def wanted_of(checked, text, path, inputs, ends, last):
-    """The explanation, its status, and the causes."""
-    told = [p for p, (word, channel, _) in enumerate(ends) if channel is not None or word.startswith("fault")]
-    causes = {p: cause(checked, ends, p) for p in told}
-    lines = [line_of(checked, text, inputs, ends, p) for p, (word, _, _) in enumerate(ends) if word != "ended"]
-    told_text = "".join(line + "\n" for line in lines + [GO_ON] * last.startswith("stopped by bound") + [last])
-    whys = [why for why, _ in causes.values()]
-    status = 8 if any(ends[p][0].startswith("fault") for p in told) else 7 if "ring" in whys else 3 if last.startswith("stopped by bound") else 0
-    return told_text, status, causes
+def below(checked, ends, causes, p, waiting):
+    """The sentences below the line of an instance."""
+    is_first = p in causes and causes[p][:2] == ("ring", p)
+    out = ["  = " + (OWN if awaited(checked, ends, p) == p else RING)] if is_first else []
+    if waiting:
+        lasts = ": for ever" if causes[waiting[0]][0] in FOR_EVER else ""
+        out.append(f"  = {those(checked, waiting, ' waits', ' wait')} because of it{lasts}")
+    return out
+
+
+def verdict_of(checked, inputs, ends, causes, last):
+    """What came of the run, in one line."""
+    faults, more = (sum(word.startswith(kind) for word, _, _ in ends) for kind in ("fault", "wants more"))
+    out = [f"{faults} process{' has' if faults == 1 else 'es have'} a fault"] * (faults > 0)
+    firsts = sorted({z for why, z, _ in causes.values() if why == "ring"})
+    if firsts[1:]:
+        out.append(f"{len(firsts)} deadlocks")
+    elif firsts:
+        out.append("deadlock: " + those(checked, [p for p, (_, _, is_round) in causes.items() if is_round], " waits on itself", " wait on one another"))
+    if last.startswith("stopped by bound"):
+        out.append("stopped by the bound" + (f": {more} process{' wants' if more == 1 else 'es want'} more events" if more else ""))
+    fed = [c for c, values in inputs.items() if values]
+    is_taken = fed and all(any(channel == c for _, channel, _ in ends) for c in fed)
+    return "; ".join(out) or "no deadlock and no fault" + "; all input was taken" * bool(is_taken)
+
+
+def wanted_of(checked, text, inputs, ends, last):
+    """The explanation by its causes and of each process, its status, and the causes of those that wait or have a fault."""
+    open_ones = [p for p, (word, _, _) in enumerate(ends) if word != "ended"]
+    causes = {p: cause(checked, ends, p) for p in open_ones}
+    lines = {p: line_of(checked, text, inputs, ends, p) for p in open_ones}
+    each = [line for p in open_ones for line in [lines[p], *below(checked, ends, causes, p, [])]]
+    once = []
+    for z, (word, _, _) in enumerate(ends):
+        waiting = [p for p in open_ones if causes[p][1] == z and p != z and not causes[p][2]]
+        if word == "ended" and waiting:
+            once += [f"{named(checked, z)} has ended", *below(checked, ends, causes, z, waiting)]
+        elif word != "ended" and causes[z][1] == z:
+            members = [p for p in open_ones if causes[p][1] == z and causes[p][2]] or [z]
+            once += [line for p in members for line in [lines[p], *below(checked, ends, causes, p, waiting if p == z else [])]]
+    first, end = verdict_of(checked, inputs, ends, causes, last), [GO_ON] * last.startswith("stopped by bound") + [last]
+    told = tuple("".join(line + "\n" for line in [first, *lines, *end]) for lines in (once, each))
+    whys = [why for why, _, _ in causes.values()]
+    status = 8 if any(word.startswith("fault") for word, _, _ in ends) else 7 if "ring" in whys else 3 if last.startswith("stopped by bound") else 0
+    return told, status, {p: (why, z) for p, (why, z, _) in causes.items() if why != "wants more" or z != p}
 
 
 def without_places(told):
-    """The same without the places of faults, and these: the lines and columns by the number of the process, and whether these are all."""
-    found = {int(it.group(1)) - 1: it.group(3) for it in FAULTED.finditer(told)}
-    places = {p: (re.findall(PLACE, told), re.search(UNTOLD, told) is None) for p, told in found.items()}
+    """The same without the places of deadlocks and faults, and these: the lines and columns by the number of the process, and whether these are all."""
+    places = {int(it.group(3)) - 1: ([it.group(1), *re.findall(NOTE, it.group(5))], re.search(UNTOLD, it.group(5)) is None) for it in PLACED.finditer(told)}
     for it in REFERRED.finditer(told):
         places[int(it.group(1)) - 1] = places[int(it.group(2)) - 1]
-    return FAULTED.sub(r"\1\2\n", told), places
+    return PLACED.sub(lambda it: it.group(2) + "\n" + re.sub("(?m)^ *=", "  =", it.group(4)), told), places
+
+
+def differs(ran, wanted, status, placed):
+    """What is wrong with an explanation, or None, and the places that it tells."""
+    got, places = without_places(ran.stdout.decode())
+    before = got[:-len(wanted)]
+    known = all(places[p][0] == at[:20] for p, at in placed.items() if at and p in places)
+    if not got.endswith(wanted) or set(places) != set(placed) or not known or before and not WARNED.match(before) or ran.returncode != status or ran.stderr:
+        return f"status {ran.returncode}, not {status}, {got!r}, not {wanted!r}, {placed} {ran.stderr[:200]!r}", places
+    return None, places
 
 
 def lasts(checked, inputs, ends, causes, text, places, rng):
@@ -196,17 +256,18 @@ def one(explain, kahn, room, seed):
         words = [path, "--input", path + ".input", *words, "--workers"]
         ran = subprocess.run([kahn, *words, "1"], stdin=subprocess.DEVNULL, capture_output=True, timeout=60)
         ends, last = ends_of(checked, ran.stdout.decode())
-        wanted, status, causes = wanted_of(checked, text, path, inputs, ends, last)
+        wanted, status, causes = wanted_of(checked, text, inputs, ends, last)
         if causes:
             break
         number += 1
     workers = str(rng.choice((1, 4, 16))) if last.startswith("finished") else "1"
-    ran = subprocess.run([explain, *words, workers], stdin=subprocess.DEVNULL, capture_output=True, timeout=60)
-    got, places = without_places(ran.stdout.decode())
-    before = got[:-len(wanted)]
-    faulted = {p for p, (word, _, _) in enumerate(ends) if word.startswith("fault")}
-    if not got.endswith(wanted) or set(places) != faulted or before and not WARNED.match(before) or ran.returncode != status or ran.stderr:
-        return f"status {ran.returncode}, not {status}, {got!r}, not {wanted!r}, {ran.stderr[:200]!r}", " ".join(words)
+    faulted = {p: None for p, (word, _, _) in enumerate(ends) if word.startswith("fault")}
+    placed = faulted | {p: spots(checked, text, ends[p][1]) for p in causes if cause(checked, ends, p)[2]}
+    for told, more in zip(wanted, ([], ["--all"])):
+        ran = subprocess.run([explain, *words, workers, *more], stdin=subprocess.DEVNULL, capture_output=True, timeout=60)
+        wrong, places = differs(ran, told, status, placed)
+        if wrong:
+            return wrong, " ".join(words + more)
     tried = lasts(checked, inputs, ends, causes, text, places, rng)
     if isinstance(tried, str):
         return tried, " ".join(words)

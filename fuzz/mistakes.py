@@ -222,6 +222,10 @@ def is_right(text):
         return False
 
 
+# The first line of what a run tells.
+VERDICT = re.compile(r"(?m)^(?:no deadlock and no fault|deadlock: |\d+ deadlocks|\d+ process(?:es have| has) a fault|stopped (?:by the bound|for want))")
+
+
 def told(explain, text):
     """What is said of the text, but what a run tells."""
     with tempfile.NamedTemporaryFile("w", suffix=".kahn", delete=False) as it:
@@ -230,7 +234,7 @@ def told(explain, text):
         ran = subprocess.run([explain, it.name, "--bound", "1"], capture_output=True, text=True, stdin=subprocess.DEVNULL)
     finally:
         os.unlink(it.name)
-    return ran.stdout.replace(it.name, "p")
+    return VERDICT.split(ran.stdout.replace(it.name, "p"), maxsplit=1)[0]
 
 
 def judged(mistake, said):

@@ -21,7 +21,7 @@ HEADING = re.compile(r"(?m)^<stdin>:(\d+):(\d+): error: ([a-z ]*)")
 AS_PROCESS = " as a process"  # of a channel that is started, said beside
 MORE = re.compile(r"\nand (\d+) faults? more\n\Z")
 PLACE = re.compile(r"(?m)^<stdin>:(\d+):(\d+): ")
-FIX = re.compile(r"(?m)^ *= fix: replace `(\w+)` with `(\w+)`( at (\d+):(\d+))?$")
+FIX = re.compile(r"(?m)^ *= fix: (?:replace|remove) `(\w+)`(?: with `(\w+)`)?( at (\d+):(\d+))?$")
 MEANT = re.compile(r"did you mean `(\w+)`\?")
 SWAP = re.compile(r"are `([^`]+)` and `([^`]+)` interchanged\?")
 WORD = re.compile(rb"[A-Za-z_][A-Za-z_0-9]*|\d+")

@@ -1,5 +1,5 @@
 #!/usr/bin/env bash
-# Makes the Debian package of what install.sh installs, with the page, editors, examples and docs. Two calls make the same bytes. It
+# Makes the Debian package of what install.sh installs, with editors, examples and docs. Two calls make the same bytes. It
 # builds nothing.
 #
 #   deb.sh [FOLDER]      into FOLDER, or release/out: kahn_VERSION_amd64.deb
@@ -34,13 +34,31 @@ for name in vim vscode; do
   (cd "$top/editors" && find "$name" -type f) | while read -r file; do put "share/kahn/editors/$(dirname "$file")" "$top/editors/$file"; done
 done
 doc="share/doc/kahn"
-put "$doc" "$top/README.md" "$top/release/kahn.html"
+put "$doc" "$top/README.md"
 put "$doc/docs" "$top"/docs/*.md
+# as one calls what is installed
+sed -i 's,\./kahn,kahn,g; s,release/kahn\.html,/usr/share/kahn/kahn.html,g' "$root/usr/$doc/README.md" "$root/usr/$doc/docs"/*.md
 for kind in compiler ftdetect ftplugin syntax; do put "share/vim/vimfiles/$kind" "$top/editors/vim/$kind/kahn.vim"; done
 put "$doc/docs/pictures" "$top"/docs/pictures/*.{svg,png}
 put "$doc/examples" "$top"/examples/*
-gzip -9n < "$top/CHANGELOG.md" > "$root/usr/$doc/changelog.gz"
+gzip -9n < "$top/CHANGELOG.md" > "$root/usr/$doc/NEWS.gz"
 install -m 644 "$top/LICENSE" "$root/usr/$doc/copyright"
+maintainer="the maintainers of kahn <kahn@localhost>"
+gzip -9n > "$root/usr/$doc/changelog.gz" << END
+kahn ($version) unstable; urgency=medium
+
+  * Version $version: NEWS.gz tells what is new.
+
+ -- $maintainer  $(LC_ALL=C date -u -R -d "@$SOURCE_DATE_EPOCH")
+END
+mkdir -p "$root/usr/share/lintian/overrides"
+cat > "$root/usr/share/lintian/overrides/kahn" << 'END'
+# The programs are, byte for byte, those whose hashes stand beside the hash of the proved sources.
+kahn: unstripped-binary-or-object
+# There is no address of a maintainer.
+kahn: bogus-mail-host
+kahn: bogus-mail-host-in-debian-changelog
+END
 
 mkdir "$root/DEBIAN"
 (cd "$root" && find usr -type f | LC_ALL=C sort | xargs -d '\n' md5sum) > "$root/DEBIAN/md5sums"
@@ -53,7 +71,7 @@ Priority: optional
 Installed-Size: $(find "$root/usr" -type f -printf '%s\n' | awk '{ sum += $1 } END { print int((sum + 1023) / 1024) }')
 Depends: libc6 (>= 2.34)
 Suggests: graphviz
-Maintainer: the maintainers of kahn <kahn@localhost>
+Maintainer: $maintainer
 Description: proved parallel interpreter of Kahn's process networks
  Runs networks of processes that send one another values over channels, in
  the language of G. Kahn, on several threads. What a channel carries doesn't

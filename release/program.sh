@@ -22,7 +22,8 @@ is_program() {
   return 1
 }
 
-# pages: the manual pages and completions, one a line: its file here, and where it stands below a prefix.
+# pages: the manual pages, the completions, and the page with what tells its place, one a line: its file here, and where it stands below a
+# prefix.
 pages() {
   local name
   for name in "${programs[@]}"; do
@@ -31,6 +32,9 @@ pages() {
     echo "editors/completions/$name.fish share/fish/vendor_completions.d/$name.fish"
   done
   echo "docs/man/kahn.7 share/man/man7/kahn.7"
+  echo "docs/man/kahn_page.1 share/man/man1/kahn_page.1"
+  echo "kahn_page bin/kahn_page"
+  echo "release/kahn.html share/kahn/kahn.html"
   echo "editors/completions/_kahn share/zsh/site-functions/_kahn"
 }
 

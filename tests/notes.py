@@ -5,10 +5,14 @@ before the explanation of the run, and alone with --strict, which refuses the pr
 """
 import glob
 import os
+import re
 import subprocess
 
 from common import TOP, read, write
 
+ROW = re.compile(r'^    \("(.*)", "(.*)"\),$', re.M)
+FIX = re.compile(r"fix: (?:replace|remove) `(.*?)`(?: with `(.*)`)?(?: at \d+:\d+)?$", re.M)
+KINDS = {"int": "integer", "bool": "logical", "boolean": "logical"}
 MISTAKES, WARNINGS, ROWS = (f"{TOP}/checks/{name}" for name in ("mistakes", "warnings", "rows"))
 
 
@@ -63,8 +67,28 @@ def try_rows(program, words, tried):
     tried.same("warnings of the rows", b"".join(told), note_of(f"{WARNINGS}/rows.note", b"".join(told), words))
 
 
+def is_told(pattern, template, fixes):
+    """Whether one of some changes is made by a row of the table of patterns."""
+    pieces = (f"(?P<{it}>{'.+?' if it in 'EFGT' else '[A-Za-z0-9_]+'})" if re.fullmatch("[A-Z]", it) else re.escape(it) for it in pattern.split())
+    shape = re.compile(r"\s*".join(pieces), re.I)
+    for old, new in fixes:
+        found = shape.fullmatch(old)
+        if found and re.sub("[A-Z]", lambda it: KINDS.get(found[it[0]].lower(), found[it[0]]), template) == new:
+            return True
+    return False
+
+
+def try_patterns(tried):
+    """Each row of the table of patterns is told in a note of checks/mistakes."""
+    rows = ROW.findall(read(f"{TOP}/crates/kahn_notes/src/patterns.rt").decode())
+    fixes = FIX.findall("\n".join(read(path).decode() for path in glob.glob(f"{MISTAKES}/*.note")))
+    tried.same("patterns that no note tells", [row for row in rows if not is_told(*row, fixes)], [])
+
+
 def try_notes(program, words, tried):
     try_mistakes(program, words, tried)
     try_warnings(program, words, tried)
     if words.only in "rows":
         try_rows(program, words, tried)
+    if words.only in "patterns":
+        try_patterns(tried)

@@ -4,8 +4,8 @@ A session is a file tests/FOLDER/NAME.t. Lines with two spaces before them are t
 before a command names it:
 
     A channel to oneself.
-      $ kahn_explain one.kahn
-      1 copy waits on A at 2:64 from 1 copy, in a deadlock: for ever
+      $ kahn_explain one.kahn | head -n 1; exit ${PIPESTATUS[0]}
+      deadlock: 1 copy waits on itself
       ! a line of standard error
       [7]
 

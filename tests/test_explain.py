@@ -19,10 +19,10 @@ class Explained(Room):
         for path in sorted(glob.glob(f"{TOP}/examples/*.report")):
             name, report = os.path.relpath(path, TOP).removesuffix(".report"), read(path).decode()
             words = [f"{name}.kahn", *(["--input", f"{name}.input"] if os.path.exists(f"{TOP}/{name}.input") else [])]
-            out, err, status = self.ran(EXPLAIN, *words)
+            out, err, status = self.ran(EXPLAIN, *words, "--all")
             last = report.splitlines()[-1]
             self.same(f"{name}: status", (status, err), (3 if last.startswith("stopped by bound") else 8 if ": fault " in report else 0, ""))
-            told = re.findall(r"(?m)^\d+ \w+ (?:waits on|has a fault|wants more)", out)
+            told = re.findall(r"(?m)^(?:[^\n]*: error: )?\d+ (?!process(?:es)? )\w+ (?:waits on|has a fault|wants more)", out)
             self.same(f"{name}: instances that didn't end", len(told), len(re.findall(": (?:waits on|fault|wants more) ", report)))
             self.same(f"{name}: the last line", out.splitlines()[-1], last)
 

@@ -23,7 +23,9 @@ LIMITS = {
     "variables": (2, 1000, "each of 256 instances has 16 bytes for each of its 209,000 variables"),
     "straight_line": (2, 300, "a sum of half a million operators is one turn of a loop, and a bound counts turns"),
     "seven_inputs": (2, 450, "seven million values of inputs and as many of outputs have 16 bytes each"),
-    "trace": (6, 300, "--trace runs the network once for each channel that isn't an output"),
+    "waits_256": (2, 300, "the places of each of 256 instances are looked for anew"),
+    "faults_256": (2, 300, "about a second, and more on a slow host"),
+    "signs": (2, 300, "about a second, and more on a slow host"),
     "faulty_bodies": (4, 300, "each of the first twenty notes looks for its place in all bodies"),
 }
 

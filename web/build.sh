@@ -48,7 +48,7 @@ fi
 cd "$out"
 "$clang" --target=x86_64-unknown-linux-gnu -x ir "$crate.bc" -S -emit-llvm -Xclang -disable-llvm-passes -o "$crate.x86.ll"
 python3 "$here/retarget.py" "$crate.x86.ll" "$crate.ll"
-flags=(--target=wasm32-unknown-unknown --no-default-config -ffunction-sections -fdata-sections -O2 -mbulk-memory)
+flags=(--target=wasm32-unknown-unknown --no-default-config -ffunction-sections -fdata-sections -Os -mbulk-memory)
 "$clang" "${flags[@]}" -mllvm -expand-div-rem-bits=64 -x ir "$crate.ll" -c -o "$crate.o"
 "$clang" "${flags[@]}" -ffreestanding -nostdinc -Wall -Werror -x c "$here/support.c" -c -o support.o
 exports=$(sed -nE 's/^define [^"]*@([a-z_0-9]+)\(.*/--export=\1/p' "$crate.ll")

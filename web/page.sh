@@ -26,5 +26,5 @@ page_lines() {
 
 # is_page_released: whether the page in release/ is of the sources that stand here.
 is_page_released() {
-  [ -e "$top/release/kahn.html" ] && [ "$(page_lines "$top/release")" = "$(cat "$top/release/page.sha256")" ]
+  [ -e "$top/release/kahn.html" ] && [ -e "$top/release/page.sha256" ] && [ "$(page_lines "$top/release")" = "$(cat "$top/release/page.sha256")" ]
 }

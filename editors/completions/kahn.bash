@@ -6,9 +6,9 @@ _kahn() {
   [[ $word == -* ]] || return 0
   case ${1##*/} in
     kahn) options="--input --workers --quantum --bound --watch --help --version" ;;
-    kahn_live) options="--quantum --step --watch --keep-going --strict --at-end --plain --help --version" ;;
+    kahn_live) options="--quantum --step --watch --keep-going --strict --at-end --in --out --plain --help --version" ;;
     kahn_draw) options="--input --bound --help --version" ;;
-    kahn_explain) options="--input --workers --quantum --bound --strict --trace --help --version" ;;
+    kahn_explain) options="--input --workers --quantum --bound --all --strict --trace --check --needs --help --version" ;;
   esac
   mapfile -t COMPREPLY < <(compgen -W "$options" -- "$word")
 }

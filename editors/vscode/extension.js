@@ -34,7 +34,7 @@ function check(document, found) {
   const { version } = document, options = { cwd: path.dirname(document.fileName), timeout: MILLISECONDS, maxBuffer: MOST_OUTPUT };
   execFile(command, wordsOf(document.fileName), options, (error, output) => {
     if ((error && typeof error.code !== "number") || document.version !== version) return;
-    const told = read(output, document.fileName).filter((it) => it.file === document.fileName);
+    const told = read(output).filter((it) => it.file === document.fileName);
     found.set(document.uri, told.map((it) => diagnosticOf(document, it)));
   });
 }

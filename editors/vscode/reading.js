@@ -2,7 +2,6 @@
 "use strict";
 
 const HEADING = /^(.+):(\d+):(\d+): (error|warning|note): (.*)$/;
-const DEADLOCK = /^(\d+ \w+ waits on \w+) at (\d+:\d+(?: or \d+:\d+)*)(.* in a deadlock.*)$/;
 const HELP = /^ +\d* *= (.*)$/;
 const LEXEME = /comment(?![A-Za-z0-9_])[^;]*;?|\w+|:=|<>|<=|>=|\S/gi;
 
@@ -20,18 +19,13 @@ function lexemesOf(text) {
 }
 
 // What is said of each place, in the order of the output. The words below a line belong to it.
-function read(output, path) {
+function read(output) {
   const found = [];
   for (const line of output.split("\n")) {
-    const heading = HEADING.exec(line), deadlock = DEADLOCK.exec(line), help = HELP.exec(line);
+    const heading = HEADING.exec(line), help = HELP.exec(line);
     if (heading) {
       const [, file, row, column, severity, words] = heading;
       found.push({ file, line: Number(row), column: Number(column), severity, words: [words] });
-    } else if (deadlock) {
-      for (const it of deadlock[2].split(" or ")) {
-        const [row, column] = it.split(":").map(Number);
-        found.push({ file: path, line: row, column, severity: "error", words: [deadlock[1] + deadlock[3]] });
-      }
     } else if (help && found.length) found[found.length - 1].words.push(help[1]);
   }
   return found.map(({ words, ...it }) => ({ ...it, message: words.join("\n") }));

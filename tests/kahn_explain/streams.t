@@ -26,18 +26,21 @@ Changes are looked for in texts of up to 8,192 lexemes.
      = a statement that begins with a name assigns to it: `X := E`
 A block of 340,000 statements.
   $ echo "begin process p(); begin integer I; $(printf 'I:=I;%.0s;' $(seq 170000)) end; p() end" > long; kahn_explain long
+  no deadlock and no fault
   finished 0
 Of 100,000 names that are never used 20 are reported.
   $ echo "begin process p(); begin integer $(printf 'I%d, ' $(seq 99999)) I; end; p() end" > long; kahn_explain long > output
-  $ grep -c 'warning: name is never used' output; tail -n 2 output
+  $ grep -c 'warning: name is never used' output; tail -n 3 output
   20
   and 99980 warnings more
+  no deadlock and no fault
   finished 0
 Of 60,000 operations that can have failed 20 are reported.
   $ echo "begin process p(); begin integer A; $(printf 'A:=1 div 0;%.0s' $(seq 60000)) end; p() end" > long; kahn_explain long > output
   [8]
-  $ grep -c 'division can have come from here' output; tail -n 2 output
-  20
+  $ grep -c 'error: 1 p has a fault, division' output; grep -c 'note: or here' output; tail -n 2 output
+  1
+  19
   and 59980 places more
   finished 0
 A text that is too long.
@@ -54,11 +57,6 @@ An input that isn't there.
   $ kahn_explain input.kahn --input nothing
   ! kahn: cannot read nothing
   ! kahn_explain: there is no such file
-  [5]
-A dash.
-  $ kahn_explain -
-  ! kahn: cannot read -
-  ! kahn_explain: standard input is /dev/stdin
   [5]
 A folder.
   $ mkdir folder; kahn_explain folder
@@ -136,3 +134,16 @@ Arguments that are refused.
 The help.
   $ kahn_explain --help | grep -c 'for ever'
   3
+Standard input by its minus, as program and as input.
+  $ kahn_explain - < "$TOP/examples/squares.kahn" | tail -n 1 | sed 's/ .*//'
+  finished
+  $ printf 'A: 1\n' | kahn_explain "$TOP/examples/double.kahn" --input - | tail -n 1 | sed 's/ .*//'
+  finished
+Texts that are looked at, and not run.
+  $ kahn_explain "$TOP/examples/sieve.kahn" --check
+  $ ln -s "$TOP/checks/mistakes/a-sign-for-becomes.kahn" bad.kahn; kahn_explain bad.kahn --check | head -n 1
+  bad.kahn:8:9: error: expected `:=`, found `=`
+  $ kahn_explain bad.kahn --check > /dev/null
+  [1]
+  $ printf 'A: x\n' | kahn_explain "$TOP/examples/double.kahn" --check --input - > /dev/null
+  [1]

@@ -15,26 +15,33 @@ A table of the sample network, stopped.
   4,1,,,,,1
   5,0,,,,,0
   6,1,,,,,1
-  ! 1 f waits on Y at 7:22 from 3 h, as 3 h wants more events
-  ! 2 g waits on X at 17:12 from 1 f, as 3 h wants more events
+  ! stopped by the bound: 2 processes want more events
   ! 3 h wants more, after 8 events
+  !   = 1 f and 2 g wait because of it
   ! 4 h wants more, after 8 events
   ! --bound N with a greater N lets the run go on
   ! stopped by bound 60
   [3]
 A table beside a ring.
-  $ kahn_explain "$TOP/crates/kahn_explain/data/ring.kahn" --trace
+  $ ln -s "$TOP/crates/kahn_explain/data/ring.kahn" ring.kahn; kahn_explain ring.kahn --trace
   place,A,B,C,RES,TICK,LOG
   1,,,,,0,
   2,,,,,1,
   3,,,,,2,
   4,,,,,3,
   5,,,,,4,
-  ! 1 stage waits on A at 7:17 from 3 tap, in a deadlock: for ever
-  !   = this ring wants a first value (let one of its processes send before it waits), or one of them takes more than another sends: --trace shows what came
-  ! 2 stage waits on B at 7:17 from 1 stage, as 1 stage is in a deadlock: for ever
-  ! 3 tap waits on C at 12:23 from 2 stage, as 1 stage is in a deadlock: for ever
-  ! 5 sink waits on RES at 22:27 from 3 tap, as 1 stage is in a deadlock: for ever
+  ! deadlock: 1 stage, 2 stage and 3 tap wait on one another
+  ! ring.kahn:7:17: error: 1 stage waits on A from 3 tap, in a deadlock: for ever
+  !  7 |     repeat send wait(U) + 1 on W
+  !    |                 ^^^^^^^
+  !    = this ring wants a first value (let one of its processes send before it waits), or one of them takes more than another sends: --trace shows what came
+  !    = 5 sink waits because of it: for ever
+  ! ring.kahn:7:17: error: 2 stage waits on B from 1 stage, in a deadlock: for ever
+  !  7 |     repeat send wait(U) + 1 on W
+  !    |                 ^^^^^^^
+  ! ring.kahn:12:23: error: 3 tap waits on C from 2 stage, in a deadlock: for ever
+  !  12 |     repeat begin I := wait(U); send I on T; send I on W end
+  !     |                       ^^^^^^^
   ! finished 16
   [7]
 A table of logical values and prints.
@@ -43,9 +50,15 @@ A table of logical values and prints.
   1,3,true,3,true,true,true,0
   2,4,false,4,false,false,false,
   3,-5,false,-5,,,false,
+A table of a process that reads a channel that it writes.
+  $ kahn_explain examples/alarm.kahn --input examples/alarm.input --trace | head -n 3
+  place,TIME,HEAT,PAST,MEANS,HOT,COOL
+  1,10,213,213,213,14,18
+  2,11,219,219,216,,
 A table without a value.
   $ kahn_explain fault.kahn --bound 0 --trace
   place,A,B,W
+  ! stopped by the bound: 3 processes want more events
   ! 1 copy wants more, after 0 events
   ! 2 divide wants more, after 0 events
   ! 3 count wants more, after 0 events

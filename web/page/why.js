@@ -25,14 +25,8 @@ function spanOf(text, line, column, carets) {
 
 function markOf(heading, carets, texts) {
   const [, name, line, column, severity, words] = heading, where = name === "input" ? "input" : "program";
-  return { where, severity, words: plain(words), helps: [], notes: [], ...spanOf(texts[where], Number(line), Number(column), carets) };
-}
-
-// The places that a fault of arithmetic can have come from belong to the process before them, notes to the mistake or warning.
-function putMark(mark, { marks, reasons }) {
-  if (/ can have come from here$/.test(mark.words) && reasons.length) reasons.at(-1).places.push(mark);
-  else if (mark.severity !== "note") marks.push(mark);
-  else marks.at(-1)?.notes.push(mark);
+  const spot = `${line}:${column}`;
+  return { where, severity, words: plain(words), spot, helps: [], notes: [], ...spanOf(texts[where], Number(line), Number(column), carets) };
 }
 
 export function readWhy(words, texts) {
@@ -40,12 +34,15 @@ export function readWhy(words, texts) {
   let last;
   const lines = words.split("\n");
   lines.forEach((line, i) => {
-    const heading = HEADING.exec(line), reason = REASON.exec(line), help = /^ +\d* *= (.*)$/.exec(line);
-    if (heading) {
-      last = markOf(heading, (/\^+/.exec(lines[i + 2] ?? "") ?? [""])[0].length, texts);
-      putMark(last, told);
-    } else if (reason) {
-      told.reasons.push((last = reasonOf(reason, texts.program)));
+    const heading = HEADING.exec(line), reason = REASON.exec(heading ? heading[5] : line), help = /^ +\d* *= (.*)$/.exec(line);
+    const mark = heading && markOf(heading, (/\^+/.exec(lines[i + 2] ?? "") ?? [""])[0].length, texts);
+    if (reason) {
+      told.reasons.push((last = reasonOf(reason, mark, texts.program)));
+    } else if (mark && mark.severity === "note") {
+      if (last?.places) last.places.push(placeOf(mark, last.kind, texts.program));
+      else last?.notes.push(mark);
+    } else if (mark) {
+      told.marks.push((last = mark));
     } else if (help) {
       last?.helps.push(plain(help[1]));
     } else if (/^and \d+ \w+ more$/.test(line)) {
@@ -55,13 +52,18 @@ export function readWhy(words, texts) {
   return told;
 }
 
-function reasonOf([, number, name, , on, fault, rest], program) {
-  const said = /^ at ((?:\d+:\d+)(?: or \d+:\d+)*)/.exec(rest);
-  const places = (said?.[1].split(" or ") ?? []).map((it) => lexemeAt(program, ...it.split(":").map(Number)));
+// Of a wait the word alone is marked.
+const placeOf = (mark, kind, program) => (kind === "waits" ? lexemeAt(program, ...mark.spot.split(":").map(Number)) : mark);
+
+// Why a process stopped: its places stand in its line, or it stands at the first of them.
+function reasonOf([, number, name, , on, fault, rest], mark, program) {
+  const said = /^ at ((?:\d+:\d+)(?: or \d+:\d+)*)/.exec(rest), kind = on ? "waits" : fault ? "fault" : "ready";
+  const places = mark ? [placeOf(mark, kind, program)] : (said?.[1].split(" or ") ?? []).map((it) => lexemeAt(program, ...it.split(":").map(Number)));
   const from = /from (\d+) \w+/.exec(rest), cause = /, as (\d+) \w+ /.exec(rest);
   return {
-    number: Number(number), name, kind: on ? "waits" : fault ? "fault" : "ready", places, helps: [], from: from ? Number(from[1]) : undefined,
-    isRing: /, in a deadlock/.test(rest), isForEver: /: for ever$/.test(rest), cause: cause ? Number(cause[1]) : undefined, words: plain(rest),
+    number: Number(number), name, kind, places, helps: [], from: from ? Number(from[1]) : undefined,
+    isRing: /, in a deadlock/.test(rest), isForEver: /: for ever$/.test(rest), cause: cause ? Number(cause[1]) : undefined,
+    words: plain(`${mark && on ? ` at ${mark.spot}` : ""}${rest}`),
   };
 }
 

@@ -1,6 +1,6 @@
 //! A worker's turn: its calls on the board in their order, from the claim of an instance until it is set down.
 
-ghost use Rattle.std.specs.Prelude.{◌≡◌, ◌≢◌, ℕ, ◌+◌, ◌-◌, ◌*◌, ◌^◌, ◌<◌, ◌≤◌, slice_index, true, false, Option, Some, None, IfSome, IfNone};
+ghost use Rattle.std.specs.Prelude.{◌≡◌, ◌≢◌, ℕ, ◌+◌, ◌-◌, ◌*◌, ◌^◌, ◌<◌, ◌≤◌, slice_index, true, false, Option, Some};
 ghost use Rattle.kahn_board.specs.Rule.{wired};
 ghost use Rattle.kahn_board.specs.Wires.{TellsEnd, TellsWait};
 ghost use Rattle.kahn_board.specs.Calls.{IsAtBoard, Was, Looks};
@@ -51,28 +51,20 @@ pub fn draw_some<T: Told>(seat: &mut Seat<T>, board: &Board<T>, p: usize, quantu
     seat.draw(board, quantum)
 }
 
-/// Publishes `count` tokens of the channel. Returns the reader if it waited on the channel: it is ready again. `None`
-/// if that one step was all.
-pub fn publish<T: Told>(
-    seat: &mut Seat<T>,
-    board: &Board<T>,
-    p: usize,
-    channel: usize,
-    count: u64,
-) -> Option<usize>
+/// Publishes `count` tokens of the channel. If its reader waited on the channel, it is ready again.
+pub fn publish<T: Told>(seat: &mut Seat<T>, board: &Board<T>, p: usize, channel: usize, count: u64)
     requires board { IsAtBoard board.now seat.old }
     requires holds { (n : ℕ) × (l : ℕ) × (x : Option T) × HoldsInTurn p n l x seat.old }
     requires writes { (channel < board.now.channels) × ((wired board.now.table.shared.key).writer channel ≡ Some p) × (count < 2 ^ 48) }
     ensures same { IsSeatOf seat.old seat.new }
     ensures holds { (n l : ℕ) (x : Option T) → HoldsInTurn p n l x seat.old → HoldsInTurn p n l x seat.new }
     ensures tells { HasPublished (wired board.now.table.shared.key) p channel count seat.old.seat.me.0 seat.new.seat.me.0 }
-    ensures woken { IfSome result (λ r. (r < board.now.instances) × ((wired board.now.table.shared.key).reader channel ≡ Some r)) }
-    ensures alone { IfNone result (seat.new.seat.me.0.steps ≡ seat.old.seat.me.0.steps + 1) }
 {
-    let reader = seat.publish(board, channel, count)?;
+    let Some(reader) = seat.publish(board, channel, count) else {
+        return;
+    };
     seat.count_up(board);
     seat.set_down(board, reader, Rest::Ready);
-    Some(reader)
 }
 
 /// Sets the instance down, ready for another turn.

@@ -55,11 +55,6 @@ IsCause N ss p (Input z c) = Leads N ss p z × (slice_get ss z ≡ Some (Waits c
 IsCause N ss p (Stopped z s) = Leads N ss p z × (slice_get ss z ≡ Some s) × IsNoWait s
 IsCause N ss p (Ring z) = Leads N ss p z × IsLeastOfRing N ss z
 
--- one cause for each instance
-pub record AreCauses (N : Network) (ss : List Standing) (ys : List Cause) : Type 0 where
-  pub each : length ys ≡ length ss
-  pub causes : (p : ℕ) (y : Cause) → slice_get ys p ≡ Some y → IsCause N ss p y
-
 -- the mark says whether the waits of p lead back to it
 abbrev pub IsRingMark : Network → List Standing → ℕ → Bool → Type 0
 IsRingMark N ss p true = LeadsOn N ss p p

@@ -1,2 +1,3 @@
 -- What only proofs and clauses below the surface read.
+pub mod Reasoned
 pub mod Walk

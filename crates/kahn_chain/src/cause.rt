@@ -2,7 +2,7 @@
 
 ghost use Rattle.std.specs.Prelude.{◌<◌, IfOk, length};
 ghost use Rattle.kahn_streams.specs.Network.{network_of};
-ghost use Rattle.kahn_chain.specs.Chain.{AreCauses, AreStandings, IsCause};
+ghost use Rattle.kahn_chain.specs.Chain.{AreStandings, IsCause};
 
 use crate::standing::{Cause, Standing};
 use crate::walk::walk;
@@ -25,20 +25,4 @@ pub fn cause(
         Cause::Ring(one) => Ok(Cause::Ring(walk(alloc, network, standings, one)?.least)),
         stop => Ok(stop),
     }
-}
-
-/// Returns why each instance goes no further. Fails only if memory was refused.
-pub fn causes(
-    alloc: Global,
-    network: &Network,
-    standings: &[Standing],
-) -> Result<Vec<Cause>, AllocError>
-    requires { AreStandings (network_of network.now) standings.now }
-    ensures { IfOk result (λ list. AreCauses (network_of network.now) standings.now list.items) }
-{
-    let mut list = Vec::new(alloc);
-    for instance in 0..standings.len() {
-        list.push(cause(alloc, network, standings, instance)?)?;
-    }
-    Ok(list)
 }

@@ -1,13 +1,13 @@
 //! Which instances wait on one another in rings.
 
-ghost use Rattle.std.specs.Prelude.{◌<◌, IfOk, length};
+ghost use Rattle.std.specs.Prelude.{◌<◌, ℕ, IfOk, length, map};
 ghost use Rattle.kahn_streams.specs.Network.{network_of};
-ghost use Rattle.kahn_chain.specs.Chain.{AreRings, AreStandings, HasRing, IsRingMark};
-ghost use Rattle.kahn_chain.specs.inner.Walk.{AreOnChain};
+ghost use Rattle.kahn_chain.specs.Chain.{AreRings, AreStandings, Awaits, HasRing, IsRingMark, stands};
+ghost use Rattle.kahn_chain.specs.inner.Walk.{AreOnChain, IsNextAwaited};
 
-use crate::standing::Standing;
+use crate::standing::{Standing, standing_of};
 use crate::walk::{Step, next};
-use kahn_streams::Network;
+use kahn_streams::{End, Network};
 use std::alloc::{AllocError, Global};
 
 /// Marks an instance and all others to which its waits lead.
@@ -36,7 +36,7 @@ fn chain(
 }
 
 /// Whether the waits of an instance lead back to it.
-fn is_on_ring(
+pub(crate) fn is_on_ring(
     alloc: Global,
     network: &Network,
     standings: &[Standing],
@@ -71,19 +71,62 @@ pub fn rings(
     Ok(marks)
 }
 
-/// Whether instances wait on one another in a ring. Fails only if memory was refused.
-pub fn has_ring(
-    alloc: Global,
-    network: &Network,
-    standings: &[Standing],
-) -> Result<bool, AllocError>
-    requires { AreStandings (network_of network.now) standings.now }
-    ensures { IfOk result (HasRing (network_of network.now) standings.now) }
+/// The instance on which one with its end among these waits, if it waits on one.
+fn awaited(network: &Network, ends: &[End], instance: usize) -> Option<usize>
+    requires known { AreStandings (network_of network.now) (map stands ends.now) }
+    requires here { instance < length ends.now }
+    ensures { IsNextAwaited (network_of network.now) (map stands ends.now) instance result }
 {
-    for instance in 0..standings.len() {
-        if is_on_ring(alloc, network, standings, instance)? {
-            return Ok(true);
+    match standing_of(ends[instance].outcome) {
+        Standing::Waits(channel) => match network.writer(channel) {
+            Some(side) => Some(side.instance),
+            None => None,
+        },
+        _ => None,
+    }
+}
+
+/// Whether the waits of an instance lead from this one to it, by so many as there are instances.
+fn leads_back(network: &Network, ends: &[End], instance: usize, one: usize) -> bool
+    requires known { AreStandings (network_of network.now) (map stands ends.now) }
+    requires here { instance < length ends.now }
+    requires one { (one < length ends.now) × ((c : ℕ) × Awaits (network_of network.now) (map stands ends.now) instance c one) }
+    ensures { IsRingMark (network_of network.now) (map stands ends.now) instance result }
+{
+    let mut at = one;
+    for _ in 0..ends.len() {
+        if at == instance {
+            return true;
+        }
+        let Some(next) = awaited(network, ends, at) else {
+            return false;
+        };
+        at = next;
+    }
+    false
+}
+
+/// Whether the waits of an instance lead back to it.
+fn waits_on_itself(network: &Network, ends: &[End], instance: usize) -> bool
+    requires known { AreStandings (network_of network.now) (map stands ends.now) }
+    requires here { instance < length ends.now }
+    ensures { IsRingMark (network_of network.now) (map stands ends.now) instance result }
+{
+    match awaited(network, ends, instance) {
+        Some(one) => leads_back(network, ends, instance, one),
+        None => false,
+    }
+}
+
+/// Whether instances with these ends wait on one another in a ring. Never allocates.
+pub fn has_ring(network: &Network, ends: &[End]) -> bool
+    requires { AreStandings (network_of network.now) (map stands ends.now) }
+    ensures { HasRing (network_of network.now) (map stands ends.now) result }
+{
+    for instance in 0..ends.len() {
+        if waits_on_itself(network, ends, instance) {
+            return true;
         }
     }
-    Ok(false)
+    false
 }

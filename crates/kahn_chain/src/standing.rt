@@ -31,7 +31,7 @@ pub enum Cause {
 }
 
 /// Returns the standing of an instance with this outcome.
-fn standing_of(outcome: Outcome) -> Standing
+pub(crate) fn standing_of(outcome: Outcome) -> Standing
     ensures { result ≡ standing_of outcome }
 {
     match outcome {

@@ -128,7 +128,8 @@ fn spend<L: Ledger>(
 }
 
 // Runs one instance after another for the events that were drawn, as long as more than seven eighths of a quantum are left,
-// so that each has about as many as a draw of its own, and own hints name one that is ready. Returns how many are left.
+// so that each has about as many as a draw of its own, own hints name one that is ready, and no memory was refused to it. Returns how
+// many are left.
 fn spend_all<G: Gate, L: Ledger>(
     run: &Run<'_>,
     gate: &G,
@@ -147,7 +148,7 @@ fn spend_all<G: Gate, L: Ledger>(
         gate.enter(p);
         let done = spend(run, worker, p, left, steps);
         left -= done;
-        if done == 0 || left <= run.quantum / 8 * 7 {
+        if done == 0 || worker.hints.wanted || left <= run.quantum / 8 * 7 {
             return left;
         }
         let Some(next) = pick_hinted(run, worker, false) else {

@@ -9,6 +9,8 @@ use Rattle.kahn_streams.specs.declared.answer.Answer.{Answer}
 use Rattle.kahn_streams.specs.declared.answer.Stream.{Stream}
 use Rattle.kahn_streams.specs.declared.answer.Verdict.{Verdict}
 use Rattle.kahn_streams.specs.declared.answer.Verdict.TheVariants.{Finished}
+use Rattle.kahn_streams.specs.declared.value.Line.TheVariants.{Channel}
+use Rattle.kahn_pool.specs.Recordings.{IsHistoryIn}
 use Rattle.kahn_explain.specs.Histories.{IsHistory}
 use Rattle.kahn_explain.specs.inner.Columns.{HasValuesOf}
 use Rattle.kahn_explain.specs.declared.tracing.column.Column.{Column}
@@ -25,4 +27,12 @@ pub history : (N : Network) (I : Inputs) (bound : ℕ) (watch : Option ℕ) (a :
 history N I bound watch a v s x right done has is = record {
   begins = begun N I x.line s.line x.values.items (right.run.tapes s.line) is.line (is.values ∙ right.values s has) (right.run.others s.line);
   whole = λ e. whole N I x.line s.line x.values.items (values_of s) is.line is.values (right.whole (done e) s has);
+}
+
+-- and of a stream that was kept beside the answer
+pub kept_history : (N : Network) (I : Inputs) (bound : ℕ) (watch : Option ℕ) (a : Answer) (right : IsRight N I bound watch a) (c : ℕ) (s : Stream) (x : Column) → IsHistoryIn right.run c s
+    → HasValuesOf s x → IsHistory N I a.verdict x
+kept_history N I bound watch a right c s x kept is = record {
+  begins = begun N I x.line (Channel c) x.values.items (right.run.tapes (Channel c)) (is.line ∙ kept.line) (is.values ∙ kept.values) (right.run.others (Channel c));
+  whole = λ e. whole N I x.line (Channel c) x.values.items (values_of s) (is.line ∙ kept.line) is.values (kept.whole e);
 }

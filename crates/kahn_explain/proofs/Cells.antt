@@ -7,17 +7,12 @@ use Rattle.std.proofs.lemmas.List.Elements.{All-append}
 use Rattle.std.proofs.lemmas.List.Folds.{flat_map-map}
 use Rattle.std.proofs.lemmas.Option.{slice_get-get_or}
 use Rattle.kahn_streams.specs.declared.tree.Kind.{Kind}
-use Rattle.kahn_streams.specs.declared.tree.Program.{Program}
 use Rattle.kahn_streams.specs.declared.tree.Role.{Role}
 use Rattle.kahn_streams.specs.declared.value.Line.{Line}
 use Rattle.kahn_streams.specs.declared.tree.Kind.TheVariants.{Integer}
 use Rattle.kahn_streams.specs.declared.tree.Role.TheVariants.{Inner, Output}
 use Rattle.kahn_streams.specs.Syntax.{prints_in}
-use Rattle.kahn_streams.specs.View.{place_of}
-use Rattle.kahn_streams.specs.Network.{Instance, Network, role_at, channel_names}
-use Rattle.kahn_streams.specs.Wiring.{IsWellWired}
-use Rattle.kahn_streams.proofs.Handed.{bytes_self}
-use Rattle.kahn_streams.proofs.By_number.{distinct_channels, number_test}
+use Rattle.kahn_streams.specs.Network.{Instance, Network, role_at}
 use Rattle.kahn_streams.specs.declared.value.Line.TheVariants.{Channel, Print}
 use Rattle.kahn_code.specs.Cells.{is_streamed}
 use Rattle.kahn_streams.specs.Answers.{is_output, is_watched, HasStream, channel_lines, stream_line, print_lines, stream_lines}
@@ -27,7 +22,7 @@ use Rattle.kahn_explain.specs.Histories.{column_line}
 use Rattle.kahn_explain.specs.inner.Columns.{AddsPrint, AddsPrints, HasLine, HasValuesOf, print_line, print_part}
 use Rattle.kahn_explain.specs.declared.tracing.column.Column.{Column}
 
--- ---- an output has a stream, and so has the watched channel
+-- ---- an output has a stream
 
 first_of : (b : Bool) (x : Line) (rest : List Line) → b ≡ true → slice_get (if b then x ∷ rest else rest) 0 ≡ Some x
 first_of true x rest e = refl
@@ -70,18 +65,6 @@ has_line N watch a c named below is =
 
 pub output_streamed : (N : Network) (watch : Option ℕ) (c : ℕ) → role_at N c ≡ Output → is_streamed N watch c ≡ true
 output_streamed N watch c e = ap (λ r. is_output r || is_watched watch c) e
-
-either : (b : Bool) → (b || true) ≡ true
-either true = refl
-either false = refl
-
-pub watched_streamed : (N : Network) (watch : Option ℕ) (c d : ℕ) → watch ≡ Some d → (d == c) ≡ true → is_streamed N watch c ≡ true
-watched_streamed N watch c d e same =
-    ap (λ w. is_output (role_at N c) || is_watched w c) e ∙ ap (λ b. is_output (role_at N c) || b) same ∙ either (is_output (role_at N c))
-
--- a channel's name is that of no channel before it
-pub place_is : (t : Program) (c : ℕ) (name : List ℕ) → IsWellWired t → slice_get (channel_names t) c ≡ Some name → (place_of (channel_names t) name == c) ≡ true
-place_is t c name wired at = number_test (channel_names t) c name name (distinct_channels t.declarations.items wired.names) at ∙ bytes_self name
 
 -- ---- the lines of the prints are those that an answer has
 

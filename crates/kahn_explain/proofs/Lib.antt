@@ -2,5 +2,8 @@ mod Begun
 mod Cells
 mod Tables
 mod Parts
+mod Replies
+mod Rowed
 mod Traced_texts
-mod Watched_columns
+mod Worded
+mod Kept_columns

@@ -14,8 +14,11 @@ use Rattle.kahn_report.specs.Formats.{IsInputTextFault, StandsFor}
 use Rattle.kahn_report.specs.declared.input.TextFault.{TextFault}
 use Rattle.kahn_report.specs.declared.working.WorkFault.{WorkFault}
 use Rattle.kahn_report.specs.declared.working.WorkFault.TheVariants.{Syntax, Check, Text, Run, Write}
+use Rattle.kahn_streams.specs.declared.answer.Verdict.TheVariants.{Finished}
 use Rattle.kahn_why.specs.declared.why.told.Explanation.{Explanation}
-use Rattle.kahn_explain.specs.Explaining.{AreNotesBefore, IsExplainedFor, IsToldOf, HasExplained}
+use Rattle.kahn_why.specs.declared.why.told.Told.TheVariants.{Stop}
+use Rattle.kahn_explain.specs.Explaining.{AreNotesBefore, IsToldOf, HasExplained, HasLooked}
+use Rattle.kahn_why.specs.Why.{IsExplained}
 use Rattle.kahn_why.proofs.Parts.{are_allowed}
 use Rattle.kahn_why.specs.inner.Told.{HasRefused, HasWritten, IsAdmitted}
 use Rattle.kahn_why.specs.declared.explaining.Admitted.{Admitted}
@@ -32,6 +35,16 @@ refused path program input config strict old new (Err (Text f)) h = absurd h
 refused path program input config strict old new (Err (Run f)) h = inl h
 refused path program input config strict old new (Err (Write f)) h = (h.0, inr (inr h.1), h.2)
 
+pub refused_look : (path program input : List ℕ) (strict : Bool) (old new : Option (List ℕ)) (r : Result Came WorkFault) → HasRefused path program strict old new r
+    → HasLooked path program input strict old new r
+refused_look path program input strict old new (Ok (Stopped x)) h = absurd h
+refused_look path program input strict old new (Ok Refused) h = h
+refused_look path program input strict old new (Err (Syntax f)) h = h
+refused_look path program input strict old new (Err (Check f)) h = h
+refused_look path program input strict old new (Err (Text f)) h = absurd h
+refused_look path program input strict old new (Err (Run f)) h = h
+refused_look path program input strict old new (Err (Write f)) h = (h.0, inr h.1, h.2)
+
 -- ---- of an allowed program
 
 -- whose input text is refused
@@ -43,6 +56,20 @@ unread path program input config strict it old f on h = ((it.network, on.checked
 before : (path program input : List ℕ) (strict : Bool) (it : Admitted) (lists : Lists) → IsAdmitted path program strict it → StandsFor it.network input lists
     → AreNotesBefore path program input strict it.network lists (string_bytes it.notes)
 before path program input strict it lists on stands = (on.checked, stands, are_allowed path program strict it on)
+
+-- which was only looked at
+pub unread_look : (path program input : List ℕ) (strict : Bool) (it : Admitted) (old : Option (List ℕ)) (fault : TextFault)
+    → IsAdmitted path program strict it → IsInputTextFault it.network input fault → HasLooked path program input strict old old (Err (Text fault))
+unread_look path program input strict it old f on h = ((it.network, on.checked, h), (string_bytes it.notes, are_allowed path program strict it on), refl)
+
+pub looked_out : (path program input : List ℕ) (strict : Bool) (it : Admitted) (lists : Lists) (old new : Option (List ℕ)) (r : Result Came WorkFault)
+    → IsAdmitted path program strict it → StandsFor it.network input lists → HasWritten (string_bytes it.notes) (Stopped (Stop Finished)) old new r
+    → HasLooked path program input strict old new r
+looked_out path program input strict it lists old new r on stands (inl (is, out)) =
+    subst (HasLooked path program input strict old new) (sym is) (refl, (it.network, lists, string_bytes it.notes, before path program input strict it lists on stands, out))
+looked_out path program input strict it lists old new r on stands (inr (f, is, front)) =
+    subst (HasLooked path program input strict old new) (sym is)
+    (string_bytes it.notes, inl (it.network, lists, before path program input strict it lists on stands), front)
 
 -- before whose run the writer broke off
 pub unwarned : (path program input : List ℕ) (config : Config) (strict : Bool) (it : Admitted) (lists : Lists) (old new : Option (List ℕ)) (f : WriteFault)
@@ -76,7 +103,7 @@ told_out path program input config strict e notes text old mid new r told gone (
 
 pub explained_out : (path program input : List ℕ) (config : Config) (strict : Bool) (it : Admitted) (lists : Lists) (a : Answer) (e : Explanation) (old mid new : Option (List ℕ))
     (r : Result Came WorkFault) → IsAdmitted path program strict it → StandsFor it.network input lists → Appends old mid (string_bytes it.notes)
-    → IsRightRun it.network lists config a → IsExplainedFor path program it.network input a e → HasWritten (string_bytes e.text) (Stopped e.told) mid new r
+    → IsRightRun it.network lists config a → IsExplained it.network a e → HasWritten (string_bytes e.text) (Stopped e.told) mid new r
     → HasExplained path program input config strict old new r
 explained_out path program input config strict it lists a e old mid new r on stands gone right is out =
     told_out path program input config strict e (string_bytes it.notes) (string_bytes e.text) old mid new r

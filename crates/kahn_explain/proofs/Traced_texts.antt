@@ -10,7 +10,7 @@ use Rattle.kahn_report.specs.declared.working.WorkFault.TheVariants.{Syntax, Che
 use Rattle.kahn_explain.specs.Histories.{IsTraced, IsUntraced}
 use Rattle.kahn_explain.specs.Table.{trace_text}
 use Rattle.kahn_explain.specs.Tracing.{HasTraced, IsTracedOf, beside}
-use Rattle.kahn_explain.specs.Explaining.{IsExplainedFor}
+use Rattle.kahn_why.specs.Why.{IsExplained}
 use Rattle.kahn_explain.specs.declared.tracing.histories.Traced.{Traced}
 use Rattle.kahn_why.specs.declared.why.told.Explanation.{Explanation}
 use Rattle.kahn_why.specs.inner.Told.{HasRefused, HasWritten, IsAdmitted}
@@ -46,7 +46,7 @@ no_table path program input config strict it table old (Write f) on (inr h) = ab
 
 -- a table, and what is told beside it
 pub are_traced : (path program input : List ℕ) (config : Config) (strict : Bool) (it : Admitted) (x : Traced) (text : List ℕ) (e : Explanation) → IsAdmitted path program strict it
-    → IsTraced it.network input config x → IsExplainedFor path program it.network input x.answer e → text ≡ trace_text it.network x.columns.items
+    → IsTraced it.network input config x → IsExplained it.network x.answer e → text ≡ trace_text it.network x.columns.items
     → IsTracedOf path program input config strict text (string_bytes it.notes) e
 are_traced path program input config strict it x text e on traced is made =
     ((it.network, x, on.checked, traced, is, made), are_allowed path program strict it on)

@@ -19,24 +19,19 @@ use Rattle.kahn_marks.specs.Marks.{shown_text}
 use Rattle.kahn_why.specs.Refusing.{AreAllowed, IsRefusal, IsRefusedFor}
 use Rattle.kahn_why.specs.declared.explaining.Came.{Came}
 use Rattle.kahn_why.specs.declared.explaining.Came.TheVariants.{Stopped, Refused}
-use Rattle.kahn_why.specs.Words.{IsExplained}
+use Rattle.kahn_why.specs.Why.{IsExplained}
 use Rattle.kahn_why.specs.declared.why.told.Explanation.{Explanation}
 use Rattle.kahn_why.specs.declared.why.told.Told.{Told}
 use Rattle.kahn_why.specs.declared.why.told.Told.TheVariants as told
 
--- why the run of an answer for what an input text stands for stopped
-abbrev pub IsExplainedFor : List ℕ → List ℕ → Program → List ℕ → Answer → Explanation → Type 0
-IsExplainedFor path program t input a e = (lists : Lists) × StandsFor t input lists × IsExplained path program t (Some lists) a e
-
--- why that of a right answer of these texts stopped
-abbrev pub IsExplanationOf : List ℕ → List ℕ → List ℕ → Config → Explanation → Type 0
-IsExplanationOf path program input config e =
-    (t : Program) × (lists : Lists) × (a : Answer) × IsAnswered program input config t lists a × IsExplainedFor path program t input a e
+-- why the run of a right answer of these texts stopped
+abbrev pub IsExplanationOf : List ℕ → List ℕ → Config → Explanation → Type 0
+IsExplanationOf program input config e = (t : Program) × (lists : Lists) × (a : Answer) × IsAnswered program input config t lists a × IsExplained t a e
 
 -- the notes and the explanation
 abbrev pub IsToldOf : List ℕ → List ℕ → List ℕ → Config → Bool → Explanation → List ℕ → Type 0
 IsToldOf path program input config strict e text =
-    (notes : List ℕ) × AreAllowed path program strict notes × IsExplanationOf path program input config e × (text ≡ notes ++ string_bytes e.text)
+    (notes : List ℕ) × AreAllowed path program strict notes × IsExplanationOf program input config e × (text ≡ notes ++ string_bytes e.text)
 
 -- the notes on an allowed program whose input text stands for these lists: they go out before its run begins
 abbrev pub AreNotesBefore : List ℕ → List ℕ → List ℕ → Bool → Program → Lists → List ℕ → Type 0
@@ -59,6 +54,20 @@ HasExplained path program input config strict old new (Err (Run f)) = ((f ≡ No
 HasExplained path program input config strict old new (Err (Write f)) =
     (text : List ℕ) × (((e : Explanation) × IsToldOf path program input config strict e text)
     ⊎ (((t : Program) × (lists : Lists) × AreNotesBefore path program input strict t lists text) ⊎ IsRefusedFor path program strict text)) × AppendsFront old new text
+
+-- The texts were looked at: the notes on an allowed program whose input text stands for lists went out, or why the program text is refused;
+-- or why neither, as for an explanation.
+abbrev pub HasLooked : List ℕ → List ℕ → List ℕ → Bool → Option (List ℕ) → Option (List ℕ) → Result Came WorkFault → Type 0
+HasLooked path program input strict old new (Ok (Stopped x)) =
+    (x ≡ told.Stop Finished) × ((t : Program) × (lists : Lists) × (notes : List ℕ) × AreNotesBefore path program input strict t lists notes × Appends old new notes)
+HasLooked path program input strict old new (Ok Refused) = (text : List ℕ) × IsRefusedFor path program strict text × Appends old new text
+HasLooked path program input strict old new (Err (Syntax f)) = IsUnchecked program (Syntax f) × IsRefusal path program (Syntax f) None × (new ≡ old)
+HasLooked path program input strict old new (Err (Check f)) = IsUnchecked program (Check f) × IsRefusal path program (Check f) None × (new ≡ old)
+HasLooked path program input strict old new (Err (Text f)) =
+    ((t : Program) × IsChecked program t × IsInputTextFault t input f) × ((notes : List ℕ) × AreAllowed path program strict notes) × (new ≡ old)
+HasLooked path program input strict old new (Err (Run f)) = (f ≡ NoMemory) × (new ≡ old)
+HasLooked path program input strict old new (Err (Write f)) = (text : List ℕ)
+    × (((t : Program) × (lists : Lists) × AreNotesBefore path program input strict t lists text) ⊎ IsRefusedFor path program strict text) × AppendsFront old new text
 
 -- the status for how a run stopped
 abbrev pub told_status : Told → ℕ

@@ -1,5 +1,6 @@
 pub mod Explaining
 pub mod Histories
+pub mod Needing
 pub mod Running
 pub mod Table
 pub mod Tracing

@@ -9,7 +9,7 @@ use Rattle.kahn_fault.specs.declared.fault.Fault.TheVariants.{Work}
 use Rattle.kahn_fault.specs.declared.texts.Texts.{Texts}
 use Rattle.kahn_why.specs.Telling.{HasToldInput}
 use Rattle.kahn_why.specs.declared.explaining.Came.{Came}
-use Rattle.kahn_explain.specs.Explaining.{HasExplained, came_status}
+use Rattle.kahn_explain.specs.Explaining.{HasExplained, HasLooked, came_status}
 use Rattle.kahn_explain.specs.Tracing.{HasTraced}
 use Rattle.kahn_explain.specs.declared.outlet.Outlet.{Outlet}
 use Rattle.kahn_explain.specs.declared.running.Paths.{Paths}
@@ -31,13 +31,15 @@ abbrev pub IsOrRefused : Sources → Result Came WorkFault → Option (List ℕ)
 IsOrRefused s (Err (Text f)) old new r = HasToldInput s.input_path s.program s.input f old new r
 IsOrRefused s came old new r = (r ≡ came) × (new ≡ old)
 
--- a run was explained, or its table was written and it was explained beside it if the status isn't 0
+-- a run was explained, or its table was written and it was explained beside it if the status isn't 0; or the texts were looked at
 abbrev pub HasDone : Task → Sources → Config → Bool → Option (List ℕ) → Option (List ℕ) → Option (List ℕ) → Option (List ℕ) → Result Came WorkFault → Type 0
 HasDone task.Trace s config strict out made old new r =
     (came : Result Came WorkFault) × (mid : Option (List ℕ)) × HasTraced s.path s.program s.input config strict out made old mid came × IsOrRefused s came mid new r
 HasDone task.Run s config strict out made old new r =
     (came : Result Came WorkFault) × (mid : Option (List ℕ)) × HasExplained s.path s.program s.input config strict out mid came × IsOrRefused s came mid made r
     × (new ≡ old)
+HasDone task.Look s config strict out made old new r =
+    (came : Result Came WorkFault) × (mid : Option (List ℕ)) × HasLooked s.path s.program s.input strict out mid came × IsOrRefused s came mid made r × (new ≡ old)
 
 -- the fault in the end was told, unless it is that nobody reads any more
 abbrev pub IsFaultTold : Bool → List ℕ → Result Came WorkFault → Option (List ℕ) → Option (List ℕ) → Type 0

@@ -18,8 +18,8 @@ use Rattle.kahn_explain.specs.declared.tracing.histories.Traced.{Traced}
 use Rattle.kahn_why.specs.declared.why.told.Explanation.{Explanation}
 use Rattle.kahn_why.specs.declared.why.told.Told.{Told}
 use Rattle.kahn_why.specs.declared.why.told.Told.TheVariants as told
-use Rattle.kahn_explain.specs.Explaining.{IsExplainedFor}
 use Rattle.kahn_why.specs.Refusing.{AreAllowed, IsRefusal, IsRefusedFor}
+use Rattle.kahn_why.specs.Why.{IsExplained}
 use Rattle.kahn_why.specs.declared.explaining.Came.{Came}
 use Rattle.kahn_why.specs.declared.explaining.Came.TheVariants.{Stopped, Refused}
 
@@ -32,13 +32,13 @@ beside (told.Stop Bound) text = text
 beside (told.Stop Memory) text = text
 
 -- the table of the histories of these texts, and why the run stopped of which it is
-abbrev pub IsTableOf : List ℕ → List ℕ → List ℕ → Config → List ℕ → Explanation → Type 0
-IsTableOf path program input config text e = (t : Program) × (x : Traced) × IsChecked program t × IsTraced t input config x
-    × IsExplainedFor path program t input x.answer e × (text ≡ trace_text t x.columns.items)
+abbrev pub IsTableOf : List ℕ → List ℕ → Config → List ℕ → Explanation → Type 0
+IsTableOf program input config text e = (t : Program) × (x : Traced) × IsChecked program t × IsTraced t input config x
+    × IsExplained t x.answer e × (text ≡ trace_text t x.columns.items)
 
 -- and the notes on what is warned of in the program
 abbrev pub IsTracedOf : List ℕ → List ℕ → List ℕ → Config → Bool → List ℕ → List ℕ → Explanation → Type 0
-IsTracedOf path program input config strict text notes e = IsTableOf path program input config text e × AreAllowed path program strict notes
+IsTracedOf path program input config strict text notes e = IsTableOf program input config text e × AreAllowed path program strict notes
 
 -- The table went out, and to the other writer the notes and the explanation, or there why the program text is refused; or why neither:
 -- the first of the faults in this order, after which nothing was written, or that of a writer, after which a prefix was.

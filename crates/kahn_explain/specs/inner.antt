@@ -1,3 +1,4 @@
 -- What only proofs and clauses below the surface read.
 pub mod Columns
 pub mod Told
+pub mod Replied

@@ -4,22 +4,22 @@ ghost use Rattle.std.specs.Prelude.{◌≡◌, IfOk};
 ghost use Rattle.kahn_streams.specs.Network.{network_of};
 ghost use Rattle.kahn_report.specs.Work.{IsChecked};
 ghost use Rattle.kahn_chain.specs.Chain.{AreStandings};
-ghost use Rattle.kahn_why.specs.Why.{standings_of};
-ghost use Rattle.kahn_explain.specs.Explaining.{HasExplained, IsExplainedFor, came_status, told_status};
+ghost use Rattle.kahn_why.specs.Why.{IsExplained, standings_of};
+ghost use Rattle.kahn_explain.specs.Explaining.{HasExplained, HasLooked, came_status, told_status};
 ghost use Rattle.kahn_explain.specs.Tracing.{HasTraced, beside};
-ghost use Rattle.kahn_explain.specs.inner.Told.{HasTabled, HasToldRun};
+ghost use Rattle.kahn_explain.specs.inner.Told.{HasLookedOn, HasTabled, HasToldRun};
 
 use crate::tracing::{histories_of, trace_text};
 use kahn_pool::{Answer, Config, Open, RunFault, Verdict, run};
 use kahn_report::{WorkFault, read_input, write_line};
 use kahn_streams::{Network, NoMemory};
-use kahn_why::{Admitted, Came, Explanation, Told, admit, explained, write_both};
+use kahn_why::{Admitted, Came, Explanation, Told, admit, explained, explained_each, write_both};
 use std::alloc::Global;
 use std::io::Write;
 use std::sync::Wait;
 use std::thread::Threads;
 
-/// Why the run of an answer stopped, by the input text of the run.
+/// Why the run of an answer stopped, by the input text of the run: by its causes, or for each process.
 fn explain_answer(
     alloc: Global,
     path: &str,
@@ -27,13 +27,17 @@ fn explain_answer(
     network: &Network,
     input: &str,
     answer: &Answer,
+    all: bool,
 ) -> Result<Explanation, NoMemory>
     requires { AreStandings (network_of network.now) (standings_of answer.now) }
-    ensures { IfOk result (IsExplainedFor path.now program.now network.now input.now answer.now) }
+    ensures { IfOk result (IsExplained network.now answer.now) }
 {
     let Ok(input) = read_input(alloc, input, network) else {
         return Err(NoMemory);
     };
+    if all {
+        return Ok(explained_each(alloc, path, program, network, Some(&input), answer)?);
+    }
     Ok(explained(alloc, path, program, network, Some(&input), answer)?)
 }
 
@@ -47,6 +51,7 @@ fn explain_run<R: Threads + Wait + Sync, W: Write>(
     it: &Admitted,
     input: &str,
     config: Config,
+    all: bool,
     writer: &mut W,
 ) -> Result<Came, WorkFault>
     requires { IsChecked program.now it.now.network }
@@ -63,7 +68,8 @@ fn explain_run<R: Threads + Wait + Sync, W: Write>(
         Ok(answer) => answer,
         Err(fault) => return Err(WorkFault::Run(fault)),
     };
-    let Ok(explanation) = explain_answer(alloc, path, program, &it.network, input, &answer) else {
+    let Ok(explanation) = explain_answer(alloc, path, program, &it.network, input, &answer, all)
+    else {
         return Err(WorkFault::Run(RunFault::NoMemory));
     };
     let came = Came::Stopped(explanation.told);
@@ -83,12 +89,48 @@ pub fn explain<R: Threads + Wait + Sync, W: Write>(
     input: &str,
     config: Config,
     strict: bool,
+    all: bool,
     writer: &mut W,
 ) -> Result<Came, WorkFault>
     ensures { HasExplained path.now program.now input.now config strict (W.contents writer.old) (W.contents writer.new) result }
 {
     match admit(alloc, path, program, strict, writer) {
-        Ok(it) => explain_run(rt, alloc, path, program, &it, input, config, writer),
+        Ok(it) => explain_run(rt, alloc, path, program, &it, input, config, all, writer),
+        Err(came) => came,
+    }
+}
+
+/// Writes what is warned of in an allowed program, if its input text stands for an input.
+fn look_on<W: Write>(
+    alloc: Global,
+    it: &Admitted,
+    input: &str,
+    writer: &mut W,
+) -> Result<Came, WorkFault>
+    ensures { HasLookedOn it.now input.now (W.contents writer.old) (W.contents writer.new) result }
+{
+    let _lists = match read_input(alloc, input, &it.network) {
+        Ok(lists) => lists,
+        Err(fault) => return Err(WorkFault::Text(fault)),
+    };
+    let came = Came::Stopped(Told::Stop(Verdict::Finished));
+    write_both("", it.notes.as_str(), came, writer)
+}
+
+/// Looks at the texts, and runs nothing: writes what is warned of in the program, or why its text is refused, as `explain` does. Faults
+/// are found in the same order.
+pub fn look<W: Write>(
+    alloc: Global,
+    path: &str,
+    program: &str,
+    input: &str,
+    strict: bool,
+    writer: &mut W,
+) -> Result<Came, WorkFault>
+    ensures { HasLooked path.now program.now input.now strict (W.contents writer.old) (W.contents writer.new) result }
+{
+    match admit(alloc, path, program, strict, writer) {
+        Ok(it) => look_on(alloc, &it, input, writer),
         Err(came) => came,
     }
 }
@@ -105,29 +147,36 @@ fn beside(told: Told, text: &str) -> &str
 
 /// Runs an allowed program on an input, and writes a table of all histories, and then to another writer what is warned of in it, and
 /// why the run stopped where its status isn't 0.
-fn trace_run<R: Threads + Wait + Sync, T: Write, W: Write>(
-    rt: &R,
+fn trace_run<T: Write, W: Write>(
     alloc: Global,
     path: &str,
     program: &str,
     it: &Admitted,
     text: &str,
     config: &Config,
+    all: bool,
     csv: &mut T,
     log: &mut W,
 ) -> Result<Came, WorkFault>
     requires { IsChecked program.now it.now.network }
     ensures { HasTabled path.now program.now it.now text.now config.now (T.contents csv.old) (T.contents csv.new) (W.contents log.old) (W.contents log.new) result }
 {
-    let found = match histories_of(rt, alloc, &it.network, text, config) {
+    let found = match histories_of(alloc, &it.network, text, config) {
         Ok(found) => found,
         Err(fault) => return Err(fault),
     };
     let Ok(table) = trace_text(alloc, &it.network, &found.columns) else {
         return Err(WorkFault::Run(RunFault::NoMemory));
     };
-    let Ok(explanation) = explain_answer(alloc, path, program, &it.network, text, &found.answer)
-    else {
+    let Ok(explanation) = explain_answer(
+        alloc,
+        path,
+        program,
+        &it.network,
+        text,
+        &found.answer,
+        all,
+    ) else {
         return Err(WorkFault::Run(RunFault::NoMemory));
     };
     if let Err(fault) = write_line(csv, &[table.as_bytes()]) {
@@ -142,21 +191,21 @@ fn trace_run<R: Threads + Wait + Sync, T: Write, W: Write>(
 /// the run stopped where its status isn't 0; or to that writer why the program text is refused, where that has a place, and for a
 /// warning too where it is asked to be strict. Nothing is written before all that is to be written stands. Faults are found in
 /// this order: of the program text, of the network, warnings, of the input text, of the run, want of memory, of the writers.
-pub fn trace<R: Threads + Wait + Sync, T: Write, W: Write>(
-    rt: &R,
+pub fn trace<T: Write, W: Write>(
     alloc: Global,
     path: &str,
     program: &str,
     text: &str,
     config: Config,
     strict: bool,
+    all: bool,
     csv: &mut T,
     log: &mut W,
 ) -> Result<Came, WorkFault>
     ensures { HasTraced path.now program.now text.now config strict (T.contents csv.old) (T.contents csv.new) (W.contents log.old) (W.contents log.new) result }
 {
     match admit(alloc, path, program, strict, log) {
-        Ok(it) => trace_run(rt, alloc, path, program, &it, text, &config, csv, log),
+        Ok(it) => trace_run(alloc, path, program, &it, text, &config, all, csv, log),
         Err(came) => came,
     }
 }

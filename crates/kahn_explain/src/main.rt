@@ -6,12 +6,14 @@ ghost use Rattle.std.specs.Prelude.{◌≡◌, IfOk, string_bytes};
 ghost use Rattle.kahn_explain.specs.Explaining.{path_name};
 
 mod explaining;
+mod needing;
 mod outlet;
 mod running;
 mod tracing;
 
 use kahn_fault::{read_texts, shown_path, tell_unread};
 use kahn_line::{ExplainOptions, read_explain_line, tell_line, tell_no_memory, tell_words};
+use needing::ran_needs;
 use outlet::Outlet;
 use running::{Paths, Task, ran};
 use std::alloc::{AllocError, Global};
@@ -41,7 +43,9 @@ fn paths_of(alloc: Global, options: &ExplainOptions) -> Result<Paths, AllocError
 
 /// What the command line asks for.
 fn task_of(options: &ExplainOptions) -> Task {
-    if options.trace {
+    if options.check {
+        Task::Look
+    } else if options.trace {
         Task::Trace
     } else {
         Task::Run
@@ -56,7 +60,7 @@ fn answered<R: Runtime + AllocGlobal + Threads + Wait + Sync, W: Write>(
     writer: &mut W,
 ) -> u8 {
     let task = task_of(&options);
-    let (config, strict) = (options.config, options.strict);
+    let (config, strict, all) = (options.config, options.strict, options.all);
     let texts = match read_texts(rt, options.program, options.input) {
         Ok(texts) => texts,
         Err(fault) => return tell_unread(rt, "kahn_explain", fault, writer),
@@ -65,7 +69,15 @@ fn answered<R: Runtime + AllocGlobal + Threads + Wait + Sync, W: Write>(
         writer: io::writer(rt),
         gone: false,
     };
-    ran(rt, paths, &texts, task, config, strict, &mut out, writer)
+    match &options.needs {
+        Some(word) if !options.check => {
+            let word = word.as_str();
+            ran_needs(rt, paths, &texts, word, config, strict, &mut out, writer)
+        }
+        _ => ran(
+            rt, paths, &texts, task, config, strict, all, &mut out, writer,
+        ),
+    }
 }
 
 fn main(rt: HostRuntime) -> ExitCode {

@@ -3,7 +3,7 @@
 ghost use Rattle.std.specs.Prelude.{◌≡◌};
 ghost use Rattle.kahn_explain.specs.Running.{HasDone, HasExplainedAs, IsFaultTold, IsOrRefused, end_status, texts_of};
 
-use crate::explaining::{explain, status, trace};
+use crate::explaining::{explain, look, status, trace};
 use crate::outlet::Outlet;
 use kahn_fault::{Fault, Texts, tell};
 use kahn_pool::Config;
@@ -22,6 +22,8 @@ pub(crate) enum Task {
     Trace,
     /// Why a run stopped.
     Run,
+    /// What is wrong with the texts, without a run.
+    Look,
 }
 
 /// What the texts are called in notes.
@@ -32,7 +34,7 @@ pub(crate) struct Paths {
 }
 
 /// What running and explaining came to; why the input text is refused is told to the writer, if that has a place.
-fn or_refused<W: Write>(
+pub(crate) fn or_refused<W: Write>(
     alloc: Global,
     paths: &Paths,
     texts: &Texts,
@@ -51,7 +53,7 @@ fn or_refused<W: Write>(
 }
 
 /// Explains the run of the program on the input; or writes what the channels carried as a table, and to the other writer what is warned
-/// of and why the run stopped, or why there is none.
+/// of and why the run stopped, or why there is none; or looks at the texts alone.
 fn done<R: Runtime + AllocGlobal + Threads + Wait + Sync, W: Write, E: Write>(
     rt: &R,
     paths: &Paths,
@@ -59,6 +61,7 @@ fn done<R: Runtime + AllocGlobal + Threads + Wait + Sync, W: Write, E: Write>(
     task: Task,
     config: Config,
     strict: bool,
+    all: bool,
     out: &mut W,
     log: &mut E,
 ) -> Result<Came, WorkFault>
@@ -68,18 +71,27 @@ fn done<R: Runtime + AllocGlobal + Threads + Wait + Sync, W: Write, E: Write>(
     let (program, input) = (texts.program.as_str(), texts.input.as_str());
     match task {
         Task::Trace => {
-            let came = trace(rt, alloc, path, program, input, config, strict, out, log);
+            let came = trace(alloc, path, program, input, config, strict, all, out, log);
             or_refused(alloc, paths, texts, came, log)
         }
         Task::Run => {
-            let came = explain(rt, alloc, path, program, input, config, strict, out);
+            let came = explain(rt, alloc, path, program, input, config, strict, all, out);
+            or_refused(alloc, paths, texts, came, out)
+        }
+        Task::Look => {
+            let came = look(alloc, path, program, input, strict, out);
             or_refused(alloc, paths, texts, came, out)
         }
     }
 }
 
 /// The status for what the explaining came to. A fault is told to the writer, unless it is that nobody reads what is explained.
-fn ended<E: Write>(came: Result<Came, WorkFault>, program: &str, gone: bool, errors: &mut E) -> u8
+pub(crate) fn ended<E: Write>(
+    came: Result<Came, WorkFault>,
+    program: &str,
+    gone: bool,
+    errors: &mut E,
+) -> u8
     ensures told { IsFaultTold gone program.now came (E.contents errors.old) (E.contents errors.new) }
     ensures status { result ≡ end_status came }
 {
@@ -98,11 +110,12 @@ pub(crate) fn ran<R: Runtime + AllocGlobal + Threads + Wait + Sync, W: Write, E:
     task: Task,
     config: Config,
     strict: bool,
+    all: bool,
     out: &mut Outlet<W>,
     errors: &mut E,
 ) -> u8
     ensures { HasExplainedAs task (texts_of paths.now texts.now) config strict W.contents out.old out.new (E.contents errors.old) (E.contents errors.new) result }
 {
-    let came = done(rt, paths, texts, task, config, strict, out, errors);
+    let came = done(rt, paths, texts, task, config, strict, all, out, errors);
     ended(came, texts.program.as_str(), out.gone, errors)
 }

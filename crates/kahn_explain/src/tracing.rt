@@ -3,8 +3,8 @@
 mod column;
 mod histories;
 mod prints;
+mod recorded;
 mod table;
-mod watched;
 
-pub(crate) use histories::histories_of;
-pub(crate) use table::trace_text;
+pub(crate) use histories::{Traced, histories_of};
+pub(crate) use table::{add_value, trace_text};

@@ -4,7 +4,9 @@ use crate::mending::left_by;
 use crate::names::{Sort, names_seen};
 use crate::near::nearest;
 use crate::others::{argument_span, first_passed};
-use crate::place::{Place, asked_sort, class_of, instance_at, is_called, text_of, word_at};
+use crate::place::{
+    Place, asked_sort, class_of, instance_at, is_called, seen_in, text_of, word_at,
+};
 use crate::sides::hands;
 use kahn_marks::{Fix, add, part_of};
 use kahn_streams::{Argument, CheckFault, Direction, NoMemory, Span};
@@ -20,7 +22,7 @@ const MOST_READ: usize = 4_000_000;
 
 /// Which change it is.
 #[derive(Clone, Copy)]
-pub(crate) enum Way {
+pub(crate) enum EditKind {
     /// The nearest of the names in sight is put in the place of another.
     Near,
     /// Two neighbouring arguments are interchanged.
@@ -31,12 +33,14 @@ pub(crate) enum Way {
     Unused,
     /// Any other name in sight.
     Used,
+    /// A name that nothing uses is declared as the one that isn't declared.
+    Renamed,
 }
 
 /// A change that leaves fewer faults.
 #[derive(Drop)]
-pub(crate) struct Change {
-    pub(crate) way: Way,
+pub(crate) struct Edit {
+    pub(crate) way: EditKind,
     pub(crate) fix: Fix,
     /// Two parts that are interchanged.
     pub(crate) parts: (Span, Span),
@@ -58,20 +62,22 @@ pub(crate) fn tries_of(text: &str, lexemes: &[Lexeme]) -> usize {
 }
 
 /// Whether a change is told before another one that leaves as many faults: a name that nothing uses is.
-fn is_before(way: Way, other: Way) -> bool {
-    matches!((way, other), (Way::Unused, Way::Used))
+fn is_before(way: EditKind, other: EditKind) -> bool {
+    matches!((way, other), (EditKind::Unused, EditKind::Used))
 }
 
 /// Whether both changes put one of several names in.
-fn are_names(way: Way, other: Way) -> bool {
+fn are_names(way: EditKind, other: EditKind) -> bool {
     matches!(
         (way, other),
-        (Way::Unused, Way::Unused) | (Way::Used, Way::Used)
+        (EditKind::Unused, EditKind::Unused)
+            | (EditKind::Used, EditKind::Used)
+            | (EditKind::Renamed, EditKind::Renamed)
     )
 }
 
 /// The better of two changes: the one that leaves fewer faults, or else the first.
-fn better(best: Option<Change>, change: Change) -> Change {
+fn better(best: Option<Edit>, change: Edit) -> Edit {
     let Some(best) = best else {
         return change;
     };
@@ -81,7 +87,8 @@ fn better(best: Option<Change>, change: Change) -> Change {
     }
     let mut best = best;
     if is_equal && are_names(change.way, best.way) {
-        let is_another = change.fix.put.as_bytes() != best.fix.put.as_bytes();
+        let is_another = matches!(change.way, EditKind::Renamed)
+            || change.fix.put.as_bytes() != best.fix.put.as_bytes();
         best.is_one_of = best.is_one_of || is_another;
     }
     best
@@ -99,11 +106,11 @@ fn tried(
     alloc: Global,
     search: Search,
     tries: &mut usize,
-    best: Option<Change>,
-    way: Way,
+    best: Option<Edit>,
+    way: EditKind,
     parts: (Span, Span),
     put: String,
-) -> Result<Option<Change>, NoMemory> {
+) -> Result<Option<Edit>, NoMemory> {
     let Some(rest) = tries.checked_sub(1) else {
         return Ok(best);
     };
@@ -120,7 +127,7 @@ fn tried(
     };
     match left_by(alloc, search.place.text, search.faults, &fix)? {
         Some(left) => {
-            let change = Change {
+            let change = Edit {
                 way,
                 fix,
                 parts,
@@ -134,7 +141,7 @@ fn tried(
 }
 
 /// The nearest of the names that may stand at a place.
-fn with_near(alloc: Global, search: Search, tries: &mut usize) -> Result<Option<Change>, NoMemory> {
+fn with_near(alloc: Global, search: Search, tries: &mut usize) -> Result<Option<Edit>, NoMemory> {
     let place = search.place;
     let sort = asked_sort(place);
     let names = names_seen(alloc, place.program, place.process, Some(sort))?;
@@ -142,7 +149,7 @@ fn with_near(alloc: Global, search: Search, tries: &mut usize) -> Result<Option<
         Some(name) => {
             let put = String::from_str(alloc, name.text.as_str())?;
             let parts = (place.at, place.at);
-            tried(alloc, search, tries, None, Way::Near, parts, put)
+            tried(alloc, search, tries, None, EditKind::Near, parts, put)
         }
         None => Ok(None),
     }
@@ -153,9 +160,9 @@ fn with_swaps(
     alloc: Global,
     search: Search,
     tries: &mut usize,
-    best: Option<Change>,
+    best: Option<Edit>,
     arguments: &[Argument],
-) -> Result<Option<Change>, NoMemory> {
+) -> Result<Option<Edit>, NoMemory> {
     let text = search.place.text;
     let mut best = best;
     let mut before: Option<Span> = None;
@@ -173,25 +180,35 @@ fn with_swaps(
                 part_of(text, first),
             ];
             add(&mut put, &parts)?;
-            best = tried(alloc, search, tries, best, Way::Swap, (first, last), put)?;
+            best = tried(
+                alloc,
+                search,
+                tries,
+                best,
+                EditKind::Swap,
+                (first, last),
+                put,
+            )?;
         }
         before = Some(last);
     }
     Ok(best)
 }
 
-/// The other direction, or the other kind.
-fn flipped(class: Class) -> Option<&'static str> {
+/// The other direction, or the other kind; the other role, or none.
+fn flipped(class: Class) -> &'static [&'static str] {
     match class {
-        Class::Word(Keyword::In) => Some("out"),
-        Class::Word(Keyword::Out) => Some("in"),
-        Class::Word(Keyword::Integer) => Some("logical"),
-        Class::Word(Keyword::Logical) => Some("integer"),
-        _ => None,
+        Class::Word(Keyword::In) => &["out"],
+        Class::Word(Keyword::Out) => &["in"],
+        Class::Word(Keyword::Integer) => &["logical"],
+        Class::Word(Keyword::Logical) => &["integer"],
+        Class::Word(Keyword::Input) => &["output", ""],
+        Class::Word(Keyword::Output) => &["input", ""],
+        _ => &[],
     }
 }
 
-/// Whether a kind is that of the declaration of a channel which is one of some arguments.
+/// Whether a kind or a role is that of the declaration of a channel which is one of some arguments.
 fn declares_one(place: Place, number: usize, arguments: &[Argument]) -> bool {
     let next = class_of(place.lexemes, number.checked_add(1));
     let is_declaration = matches!(
@@ -243,38 +260,42 @@ fn flips_in(place: Place, called: &[u8]) -> Span {
     }
 }
 
-/// Other directions and kinds, in a part and of the channels that are arguments.
+/// Other directions, kinds and roles, in a part and of the channels that are arguments.
 fn with_flips(
     alloc: Global,
     search: Search,
     tries: &mut usize,
-    best: Option<Change>,
+    best: Option<Edit>,
     part: Span,
     arguments: &[Argument],
-) -> Result<Option<Change>, NoMemory> {
+) -> Result<Option<Edit>, NoMemory> {
     let place = search.place;
     let mut best = best;
     for (number, lexeme) in place.lexemes.iter().enumerate() {
         if *tries == 0 {
             return Ok(best);
         }
-        if let Some(put) = flipped(lexeme.what) {
-            let is_within = part.from <= lexeme.span.from && lexeme.span.from < part.to;
-            if is_within || declares_one(place, number, arguments) {
+        let is_within = part.from <= lexeme.span.from && lexeme.span.from < part.to;
+        let words = flipped(lexeme.what);
+        if !words.is_empty() && (is_within || declares_one(place, number, arguments)) {
+            for put in words {
                 let put = String::from_str(alloc, put)?;
                 let parts = (lexeme.span, lexeme.span);
-                best = tried(alloc, search, tries, best, Way::Flip, parts, put)?;
+                best = tried(alloc, search, tries, best, EditKind::Flip, parts, put)?;
             }
         }
     }
     Ok(best)
 }
 
-/// Whether a word stands more than once in a text.
+/// Whether a word stands more than once in the part of a text that sees the names at a place.
 fn is_used(place: Place, word: &[u8]) -> bool {
+    let part = seen_in(place);
     let mut is_there = false;
     for lexeme in place.lexemes {
-        if matches!(lexeme.what, Class::Name) && word_at(place.text, lexeme.span) == word {
+        let is_seen = part.from <= lexeme.span.from && lexeme.span.from < part.to;
+        let is_name = is_seen && matches!(lexeme.what, Class::Name);
+        if is_name && word_at(place.text, lexeme.span) == word {
             if is_there {
                 return true;
             }
@@ -284,14 +305,39 @@ fn is_used(place: Place, word: &[u8]) -> bool {
     false
 }
 
+/// Those for a name that isn't declared: a near one; or one that nothing uses, there or declared so.
+fn with_unknown(
+    alloc: Global,
+    search: Search,
+    tries: &mut usize,
+) -> Result<Option<Edit>, NoMemory> {
+    let place = search.place;
+    let word = word_at(place.text, place.at);
+    let mut best = with_near(alloc, search, tries)?;
+    let names = names_seen(alloc, place.program, place.process, Some(asked_sort(place)))?;
+    let near = nearest(word, &names).map(|name| name.span);
+    for name in &names {
+        let is_meant = near.is_none() || near == Some(name.span);
+        if is_meant && !is_called(word, name) && !is_used(place, name.text.as_bytes()) {
+            let put = String::from_str(alloc, name.text.as_str())?;
+            let here = (place.at, place.at);
+            best = tried(alloc, search, tries, best, EditKind::Unused, here, put)?;
+            let put = String::from_str(alloc, part_of(place.text, place.at))?;
+            let there = (name.span, name.span);
+            best = tried(alloc, search, tries, best, EditKind::Renamed, there, put)?;
+        }
+    }
+    Ok(best)
+}
+
 /// The other names in sight, put in the place of the one at a place, or where a channel is handed over first.
 fn with_names(
     alloc: Global,
     search: Search,
     tries: &mut usize,
-    best: Option<Change>,
+    best: Option<Edit>,
     first: Option<Span>,
-) -> Result<Option<Change>, NoMemory> {
+) -> Result<Option<Edit>, NoMemory> {
     let place = search.place;
     let names = names_seen(alloc, place.program, place.process, Some(asked_sort(place)))?;
     let word = word_at(place.text, place.at);
@@ -299,9 +345,9 @@ fn with_names(
     for name in &names {
         if *tries > 0 && !is_called(word, name) {
             let way = if is_used(place, name.text.as_bytes()) {
-                Way::Used
+                EditKind::Used
             } else {
-                Way::Unused
+                EditKind::Unused
             };
             let put = String::from_str(alloc, name.text.as_str())?;
             best = tried(alloc, search, tries, best, way, (place.at, place.at), put)?;
@@ -342,9 +388,9 @@ fn with_others(
     alloc: Global,
     search: Search,
     tries: &mut usize,
-    near: Option<Change>,
+    near: Option<Edit>,
     fault: CheckFault,
-) -> Result<Option<Change>, NoMemory> {
+) -> Result<Option<Edit>, NoMemory> {
     let place = search.place;
     let first = first_of(place, fault);
     let mut best = near;
@@ -380,12 +426,12 @@ pub(crate) fn change_for(
     search: Search,
     tries: &mut usize,
     fault: CheckFault,
-) -> Result<Option<Change>, NoMemory> {
+) -> Result<Option<Edit>, NoMemory> {
     if *tries == 0 {
         return Ok(None);
     }
     let best = match fault {
-        CheckFault::Unknown(_) => with_near(alloc, search, tries)?,
+        CheckFault::Unknown(_) => with_unknown(alloc, search, tries)?,
         CheckFault::WrongDirection(_) => {
             let near = with_near(alloc, search, tries)?;
             with_others(alloc, search, tries, near, fault)?
@@ -409,11 +455,11 @@ pub(crate) fn change_for(
 }
 
 /// Whether a change is told apart from the words of a fault at a place: it is made elsewhere.
-pub(crate) fn is_elsewhere(change: &Change, at: Span) -> bool {
+pub(crate) fn is_elsewhere(change: &Edit, at: Span) -> bool {
     match change.way {
-        Way::Flip => true,
-        Way::Unused | Way::Used => change.fix.span.from != at.from,
-        Way::Near | Way::Swap => false,
+        EditKind::Flip | EditKind::Renamed => true,
+        EditKind::Unused | EditKind::Used => change.fix.span.from != at.from,
+        EditKind::Near | EditKind::Swap => false,
     }
 }
 
@@ -421,23 +467,27 @@ pub(crate) fn is_elsewhere(change: &Change, at: Span) -> bool {
 pub(crate) fn add_change(
     words: &mut String,
     place: Place,
-    change: &Change,
+    change: &Edit,
 ) -> Result<(), AllocError> {
+    let (first, last) = change.parts;
+    if matches!(change.way, EditKind::Renamed) {
+        return add(
+            words,
+            &["; nothing uses `", part_of(place.text, first), "`"],
+        );
+    }
     if is_elsewhere(change, place.at) {
         return Ok(());
     }
-    let (first, last) = change.parts;
     match change.way {
-        Way::Swap => {
+        EditKind::Swap => {
             let (first, last) = (part_of(place.text, first), part_of(place.text, last));
             add(
                 words,
                 &["; are `", first, "` and `", last, "` interchanged?"],
             )
         }
-        Way::Near | Way::Unused | Way::Used | Way::Flip => add(
-            words,
-            &["; did you mean `", change.fix.put.as_str(), "`?"],
-        ),
+        EditKind::Near | EditKind::Unused | EditKind::Used | EditKind::Flip | EditKind::Renamed =>
+            add(words, &["; did you mean `", change.fix.put.as_str(), "`?"]),
     }
 }

@@ -19,4 +19,4 @@ pub use near::one_nearest;
 
 // For the crates above.
 pub use inputs::{add_inputs, add_unknown_channel, add_unknown_input};
-pub use notes::{Told, fault_notes};
+pub use notes::{FaultNotes, fault_notes};

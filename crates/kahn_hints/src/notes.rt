@@ -4,7 +4,7 @@ ghost use Rattle.std.specs.Prelude.{◌≡◌, ◌∷◌, [], All, Contains, IfO
 ghost use Rattle.kahn_fault.specs.Message.{check_span};
 ghost use Rattle.kahn_hints.specs.Hints.{HasOneMore, LessensFaults, TellsFault, TellsOne};
 
-use crate::changes::{Change, Search, add_change, change_for, is_elsewhere, tries_of};
+use crate::changes::{Edit, Search, add_change, change_for, is_elsewhere, tries_of};
 use crate::kept::kept;
 use crate::mending::left_by;
 use crate::others::others_of;
@@ -18,7 +18,7 @@ use std::alloc::{AllocError, Global};
 
 /// What is told of the faults of a network.
 #[derive(Drop)]
-pub struct Told {
+pub struct FaultNotes {
     /// The notes, of which each is on one fault.
     pub notes: Vec<Note>,
     /// How many more faults there are that don't seem to follow from others.
@@ -27,7 +27,7 @@ pub struct Told {
 
 /// What is told of a fault.
 #[derive(Drop)]
-struct Found {
+struct ToldFault {
     note: Note,
     /// Whether a change is told that leaves none.
     is_whole: bool,
@@ -48,7 +48,7 @@ fn words_of(
     alloc: Global,
     place: Place,
     fault: CheckFault,
-    change: &Option<Change>,
+    change: &Option<Edit>,
 ) -> Result<String, AllocError> {
     let mut words = String::from_str(alloc, check_words(fault))?;
     add_found(&mut words, place, fault)?;
@@ -80,7 +80,7 @@ fn fix_of(
     text: &str,
     at: Span,
     faults: &[CheckFault],
-    change: Option<Change>,
+    change: Option<Edit>,
 ) -> Result<Option<Fix>, NoMemory>
     ensures { IfOk result (λ fix. IfSome fix (LessensFaults text.now faults.now)) }
 {
@@ -101,7 +101,7 @@ fn found_at(
     faults: &[CheckFault],
     fault: CheckFault,
     tries: &mut usize,
-) -> Result<Found, NoMemory>
+) -> Result<ToldFault, NoMemory>
     ensures { IfOk result (λ found. Contains faults.now fault → TellsFault text.now faults.now found.note fault) }
 {
     let change = change_for(alloc, Search { place, faults }, tries, fault)?;
@@ -119,16 +119,16 @@ fn found_at(
         below: Vec::new(alloc),
         others,
     };
-    Ok(Found { note, is_whole })
+    Ok(ToldFault { note, is_whole })
 }
 
 /// One note alone, on a fault whose change leaves no other.
-fn alone(alloc: Global, note: Note) -> Result<Told, NoMemory>
+fn alone(alloc: Global, note: Note) -> Result<FaultNotes, NoMemory>
     ensures { IfOk result (λ told. told.notes.items ≡ note ∷ []) }
 {
     let mut notes = Vec::new(alloc);
     notes.push(note)?;
-    Ok(Told { notes, more: 0 })
+    Ok(FaultNotes { notes, more: 0 })
 }
 
 /// How many faults are told behind the first one: none behind one of a limit.
@@ -160,14 +160,14 @@ pub fn fault_notes(
     text: &str,
     program: &Program,
     faults: &[CheckFault],
-) -> Result<Told, NoMemory>
+) -> Result<FaultNotes, NoMemory>
     ensures told { IfOk result (λ told. All (TellsOne text.now faults.now) told.notes.items) }
     ensures some { IfOk result (λ told. told.notes.items ≡ [] → faults.now ≡ []) }
 {
     let told = kept(alloc, text, program, faults)?;
     let mut notes = Vec::new(alloc);
     let Some((first, rest)) = told.split_first() else {
-        return Ok(Told { notes, more: 0 });
+        return Ok(FaultNotes { notes, more: 0 });
     };
     let Ok(lexemes) = lex(alloc, text) else {
         return Err(NoMemory);
@@ -189,5 +189,5 @@ pub fn fault_notes(
         add_note(&mut notes, found.note)?;
     }
     let more = more.len();
-    Ok(Told { notes, more })
+    Ok(FaultNotes { notes, more })
 }

@@ -126,6 +126,18 @@ pub(crate) fn place_of<'p>(
     }
 }
 
+/// The part of a text that sees the names at a place: a process, or all of it.
+pub(crate) fn seen_in(place: Place) -> Span {
+    let all = Span {
+        from: 0,
+        to: place.text.len(),
+    };
+    match place.process {
+        Some(process) => text_of(place.program, process.name.text.as_bytes()).unwrap_or(all),
+        None => all,
+    }
+}
+
 /// What the lexeme of a number is.
 pub(crate) fn class_of(lexemes: &[Lexeme], number: Option<usize>) -> Option<Class> {
     match lexemes.get(number?) {
@@ -214,7 +226,7 @@ fn kind_given(class: Class) -> Option<Kind> {
 
 /// A walk over an expression.
 #[derive(Clone, Copy)]
-struct Walk {
+struct KindWalk {
     /// How many brackets are open.
     depth: usize,
     /// How many tests are open, between `if` and `then`.
@@ -226,7 +238,7 @@ struct Walk {
 }
 
 /// What decides behind an operator in so many brackets: the one in fewer brackets, or a logical one.
-fn decided(walk: Walk, kind: Kind) -> Option<(usize, Kind)> {
+fn decided(walk: KindWalk, kind: Kind) -> Option<(usize, Kind)> {
     match (walk.decides, kind) {
         (Some((depth, _)), Kind::Logical) if walk.depth <= depth => Some((walk.depth, kind)),
         (Some((depth, _)), Kind::Integer) if walk.depth < depth => Some((walk.depth, kind)),
@@ -236,7 +248,7 @@ fn decided(walk: Walk, kind: Kind) -> Option<(usize, Kind)> {
 }
 
 /// A walk behind one lexeme more.
-fn walked(place: Place, walk: Walk, lexeme: Lexeme) -> Walk {
+fn walked(place: Place, walk: KindWalk, lexeme: Lexeme) -> KindWalk {
     let (depth, tests) = match lexeme.what {
         Class::Sign(Sign::Open) => (walk.depth.saturating_add(1), walk.tests),
         Class::Sign(Sign::Close) => (walk.depth.saturating_sub(1), walk.tests),
@@ -245,7 +257,7 @@ fn walked(place: Place, walk: Walk, lexeme: Lexeme) -> Walk {
         _ => (walk.depth, walk.tests),
     };
     if walk.tests > 0 {
-        return Walk {
+        return KindWalk {
             depth,
             tests,
             ..walk
@@ -256,7 +268,7 @@ fn walked(place: Place, walk: Walk, lexeme: Lexeme) -> Walk {
         None => walk.decides,
     };
     let first = walk.first.or(kind_alone(place, lexeme));
-    Walk {
+    KindWalk {
         depth,
         tests,
         decides,
@@ -265,7 +277,7 @@ fn walked(place: Place, walk: Walk, lexeme: Lexeme) -> Walk {
 }
 
 /// The kind that the outermost operator of an expression gives, or that of its one value.
-fn kind_of(walk: Walk) -> Option<Kind> {
+fn kind_of(walk: KindWalk) -> Option<Kind> {
     match walk.decides {
         Some((_, kind)) => Some(kind),
         None => walk.first,
@@ -274,7 +286,7 @@ fn kind_of(walk: Walk) -> Option<Kind> {
 
 /// The kind of what stands at a place.
 pub(crate) fn found_kind(place: Place) -> Option<Kind> {
-    let mut walk = Walk {
+    let mut walk = KindWalk {
         depth: 0,
         tests: 0,
         decides: None,

@@ -68,8 +68,8 @@ module _ {A : Type 0} where
   abbrev pub HavePassed : ℕ → Sender A → Receiver A → Type 0
   HavePassed n s r = (sent s ≡ n) × (flushed s ≡ n) × (received r ≡ n) × (heard r ≡ n)
 
-  -- the deque was empty, so all that this end knows to have been flushed was taken; or 64 segments have left it that this end
-  -- didn't know to have left it
+  -- all that this end knows to have been flushed was taken, and before it meets the other end it knows of nothing; or 64 segments have
+  -- left the deque that this end didn't know to have left it
   abbrev pub WasDry : Receiver A → Receiver A → Type 0
   WasDry old new = (heard old ≤ received old) ⊎ (left old + 64 ≤ left new)
 

@@ -9,7 +9,7 @@ use Rattle.clap.specs.declared.builder.command.Command.{Command}
 use Rattle.clap.specs.declared.builder.value_parser.ValueParser.TheVariants.{Unsigned}
 use Rattle.clap.specs.declared.parser.matches.ArgMatches.{ArgMatches}
 use Rattle.clap.proofs.WalkLemmas.{first_value-rows, one_text-rows}
-use Rattle.kahn_line.specs.Line.{number_or, ReadsOr}
+use Rattle.kahn_line.specs.Line.{file_named, number_or, ReadsOr}
 use Rattle.kahn_line.specs.Draw.{draw_app, draw_text, IsDraw}
 use Rattle.kahn_line.specs.declared.draw.DrawOptions.{DrawOptions}
 use Rattle.kahn_line.proofs.Asked.{ParsedAs, apart, known, passed}
@@ -19,8 +19,8 @@ bound_parsed = (apart, (apart, ((λ e. refl), tt)))
 
 -- the options that are made of what a parse found are those that the words ask for
 pub asked_draw : (cmd : Command) (m : ArgMatches) (words : List Text) → IsParsedFrom cmd m → HasMatchesOf (app_of cmd) words m → app_of cmd ≡ draw_app
-    → (o : DrawOptions) → option_map string_bytes o.program ≡ first_value (found_of m) (codes "PROGRAM")
-    → option_map string_bytes o.input ≡ first_value (found_of m) (codes "input")
+    → (o : DrawOptions) → option_map string_bytes o.program ≡ option_map file_named (first_value (found_of m) (codes "PROGRAM"))
+    → option_map string_bytes o.input ≡ option_map file_named (first_value (found_of m) (codes "input"))
     → ReadsOr 1000000 (one_text (found_of m) (codes "bound")) o.bound → IsDraw words o
 asked_draw cmd m words p matches is o program input reads =
     let f = found_of m in
@@ -31,8 +31,8 @@ asked_draw cmd m words p matches is o program input reads =
     (passed draw_app refl refl cmd m p is (codes "bound") 0 281474976710655 bound_parsed 98 refl ((λ e. omega arith), (λ e. omega arith), (λ e. omega arith))) (omega arith) (omega arith) in
     let most = bound.2 in
     record {
-      program = program ∙ text (codes "PROGRAM");
-      input = input ∙ text (codes "input");
+      program = program ∙ ap (option_map file_named) (text (codes "PROGRAM"));
+      input = input ∙ ap (option_map file_named) (text (codes "input"));
       bound = bound.0 ∙ ap (number_or 1000000) (one (codes "bound"));
       in_range = omega arith;
     }

@@ -13,24 +13,27 @@ use Rattle.clap.specs.declared.parser.matches.Found.{Found}
 use Rattle.clap.proofs.WalkLemmas.{first_value-rows, one_text-rows, raw_values-rows}
 use Rattle.kahn_streams.specs.Answers.{IsInRange}
 use Rattle.kahn_streams.specs.declared.config.Config.{Config}
-use Rattle.kahn_line.specs.Line.{was_given, number_or, IsSet}
+use Rattle.kahn_line.specs.Line.{file_named, was_given, number_or, IsSet}
 use Rattle.kahn_line.specs.Live.{live_app, live_matches, live_text, IsLive}
-use Rattle.kahn_line.specs.Parts.{found_texts, input_named, joined_words, parted, plain_parts, row_texts, set_line}
+use Rattle.kahn_line.specs.Parts.{columns_given, found_texts, input_named, joined_words, plain_parts, row_texts, set_line}
 use Rattle.kahn_line.specs.declared.live.LiveOptions.{LiveOptions}
 use Rattle.kahn_line.proofs.Asked.{ParsedAs, apart, known, passed}
 
 quantum_parsed : ParsedAs live_app.top.rules (codes "quantum") (Unsigned 1 1000000)
-quantum_parsed = (apart, ((λ e. refl), (apart, (apart, (apart, (apart, (apart, (apart, tt))))))))
+quantum_parsed = (apart, ((λ e. refl), (apart, (apart, (apart, (apart, (apart, (apart, (apart, (apart, tt))))))))))
 
 step_parsed : ParsedAs live_app.top.rules (codes "step") (Unsigned 1 281474976710655)
-step_parsed = (apart, (apart, ((λ e. refl), (apart, (apart, (apart, (apart, (apart, tt))))))))
+step_parsed = (apart, (apart, ((λ e. refl), (apart, (apart, (apart, (apart, (apart, (apart, (apart, tt))))))))))
+
+pub given : {a b c d e f : Option Text} → a ≡ b → c ≡ d → e ≡ f → columns_given a c e ≡ columns_given b d f
+given p q r = rw (p, q, r) refl
 
 -- the options that are made of what a parse found are those that the words ask for
 pub asked_live : (cmd : Command) (m : ArgMatches) (words : List Text) → IsParsedFrom cmd m → HasMatchesOf (app_of cmd) (joined_words words) m → app_of cmd ≡ live_app
-    → (o : LiveOptions) → option_map string_bytes o.program ≡ first_value (found_of m) (codes "PROGRAM") → (c : Config) → IsSet (found_of m) 1 (codes "step") c → o.config ≡ record c { workers = 1 }
+    → (o : LiveOptions) → option_map string_bytes o.program ≡ option_map file_named (first_value (found_of m) (codes "PROGRAM")) → (c : Config) → IsSet (found_of m) 1 (codes "step") c → o.config ≡ record c { workers = 1 }
     → o.keep_going ≡ was_given (first_value (found_of m) (codes "keep-going")) → o.strict ≡ was_given (first_value (found_of m) (codes "strict"))
     → map string_bytes o.at_end.items ≡ map (set_line (input_named o.plain)) (found_texts (found_of m) (codes "at-end"))
-    → option_map plain_parts o.plain ≡ option_map (parted 44) (first_value (found_of m) (codes "plain"))
+    → option_map plain_parts o.plain ≡ columns_given (first_value (found_of m) (codes "in")) (first_value (found_of m) (codes "out")) (first_value (found_of m) (codes "plain"))
     → IsLive words o
 asked_live cmd m words p matches is o program c set e keep strict at_end plain =
     let f = found_of m in
@@ -43,7 +46,7 @@ asked_live cmd m words p matches is o program c set e keep strict at_end plain =
     (passed live_app refl refl cmd m p is (codes "step") 1 281474976710655 step_parsed 115 refl ((λ e. omega arith), (λ e. omega arith), (λ e. omega arith))) (omega arith) (omega arith) in
     let most = step.2 in
     record {
-      program = program ∙ text (codes "PROGRAM");
+      program = program ∙ ap (option_map file_named) (text (codes "PROGRAM"));
       watch = ap (λ (x : Config). option_map string_bytes x.watch) e ∙ set.watch ∙ text (codes "watch");
       workers = ap (λ (x : Config). x.workers) e;
       quantum = ap (λ (x : Config). x.quantum) e ∙ quantum.0 ∙ ap (number_or 1000) (one (codes "quantum"));
@@ -51,7 +54,7 @@ asked_live cmd m words p matches is o program c set e keep strict at_end plain =
       keep_going = keep ∙ ap was_given (text (codes "keep-going"));
       strict = strict ∙ ap was_given (text (codes "strict"));
       at_end = at_end ∙ ap (λ rs. map (set_line (input_named o.plain)) (row_texts (codes "at-end") rs)) rows;
-      plain = plain ∙ ap (option_map (parted 44)) (text (codes "plain"));
+      plain = plain ∙ given (text (codes "in")) (text (codes "out")) (text (codes "plain"));
       in_range = subst (λ (x : Config). IsInRange x.workers x.quantum x.bound) (sym e) (omega arith, omega arith, quantum.1, quantum.2, omega arith);
     }
 

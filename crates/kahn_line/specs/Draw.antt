@@ -2,7 +2,7 @@
 use Rattle.std.specs.Prelude.{◌≡◌, ◌<◌, ◌^◌, ⊤, ℕ, List, [], Option, Result, codes, option_map, string_bytes}
 use Rattle.std.specs.declared.result.Result.TheVariants.{Ok, Err}
 use Rattle.clap.specs.Words.{App, Text, IsAmong, fault_of, first_of, kind_of, matches_of, new_rule, one_of, with_rule}
-use Rattle.kahn_line.specs.Line.{bare_app, number_or, number_rule, text_rule}
+use Rattle.kahn_line.specs.Line.{bare_app, file_named, number_or, number_rule, text_rule}
 use Rattle.kahn_line.specs.declared.line.LineFault.{LineFault}
 use Rattle.kahn_line.specs.declared.line.LineFault.TheVariants.{Refused, NoMemory}
 use Rattle.kahn_line.specs.declared.draw.DrawOptions.{DrawOptions}
@@ -21,8 +21,8 @@ draw_text words name = first_of name (matches_of draw_app words)
 
 -- the paths are those that the words name, and the bound is within its limit
 pub record IsDraw (words : List Text) (o : DrawOptions) : Type 0 where
-  pub program : option_map string_bytes o.program ≡ draw_text words (codes "PROGRAM")
-  pub input : option_map string_bytes o.input ≡ draw_text words (codes "input")
+  pub program : option_map string_bytes o.program ≡ option_map file_named (draw_text words (codes "PROGRAM"))
+  pub input : option_map string_bytes o.input ≡ option_map file_named (draw_text words (codes "input"))
   pub bound : o.bound ≡ number_or 1000000 (one_of (codes "bound") (matches_of draw_app words))
   pub in_range : o.bound < 2 ^ 48
 

@@ -3,7 +3,7 @@ use Rattle.std.specs.Prelude.{◌≡◌, ⊤, ℕ, List, [], Bool, Option, Resul
 use Rattle.std.specs.declared.result.Result.TheVariants.{Ok, Err}
 use Rattle.clap.specs.Words.{App, Text, IsAmong, fault_of, first_of, kind_of, matches_of, new_rule, one_of, with_rule}
 use Rattle.kahn_streams.specs.Answers.{IsInRange}
-use Rattle.kahn_line.specs.Line.{bare_app, flag_rule, was_given, number_or, number_rule, text_rule}
+use Rattle.kahn_line.specs.Line.{bare_app, file_named, flag_rule, was_given, number_or, number_rule, text_rule}
 use Rattle.kahn_line.specs.declared.line.LineFault.{LineFault}
 use Rattle.kahn_line.specs.declared.line.LineFault.TheVariants.{Refused, NoMemory}
 use Rattle.kahn_line.specs.declared.explain.ExplainOptions.{ExplainOptions}
@@ -11,14 +11,17 @@ use Rattle.kahn_line.specs.declared.explain.ExplainOptions.{ExplainOptions}
 -- the program text's path without a name, and the options
 abbrev pub explain_app : App
 explain_app =
-    with_rule (with_rule (with_rule (with_rule (with_rule (with_rule (with_rule (bare_app (codes "kahn_explain"))
+    with_rule (with_rule (with_rule (with_rule (with_rule (with_rule (with_rule (with_rule (with_rule (with_rule (bare_app (codes "kahn_explain"))
     (new_rule (codes "PROGRAM")))
     (text_rule (codes "input")))
     (number_rule (codes "workers") 1 16 (codes "4")))
     (number_rule (codes "quantum") 1 1000000 (codes "1000")))
     (number_rule (codes "bound") 0 281474976710655 (codes "1000000")))
+    (flag_rule (codes "all")))
     (flag_rule (codes "strict")))
-    (flag_rule (codes "trace"))
+    (flag_rule (codes "trace")))
+    (flag_rule (codes "check")))
+    (text_rule (codes "needs"))
 
 -- the text that the words give for a name
 abbrev pub explain_text : List Text → Text → Option Text
@@ -34,14 +37,17 @@ explain_flag words name = was_given (explain_text words name)
 
 -- the options are those that the words name, and their numbers are within their limits; no option has the name `watch`
 pub record IsExplain (words : List Text) (o : ExplainOptions) : Type 0 where
-  pub program : option_map string_bytes o.program ≡ explain_text words (codes "PROGRAM")
-  pub input : option_map string_bytes o.input ≡ explain_text words (codes "input")
+  pub program : option_map string_bytes o.program ≡ option_map file_named (explain_text words (codes "PROGRAM"))
+  pub input : option_map string_bytes o.input ≡ option_map file_named (explain_text words (codes "input"))
   pub watch : option_map string_bytes o.config.watch ≡ explain_text words (codes "watch")
   pub workers : o.config.workers ≡ explain_number words (codes "workers") 4
   pub quantum : o.config.quantum ≡ explain_number words (codes "quantum") 1000
   pub bound : o.config.bound ≡ explain_number words (codes "bound") 1000000
+  pub all : o.all ≡ explain_flag words (codes "all")
   pub strict : o.strict ≡ explain_flag words (codes "strict")
   pub trace : o.trace ≡ explain_flag words (codes "trace")
+  pub check : o.check ≡ explain_flag words (codes "check")
+  pub needs : option_map string_bytes o.needs ≡ explain_text words (codes "needs")
   pub in_range : IsInRange o.config.workers o.config.quantum o.config.bound
 
 -- what the words ask for; or what is at fault in them, such as `--help` and `--version`; or refused memory

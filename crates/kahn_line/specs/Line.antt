@@ -1,5 +1,5 @@
 -- Believed. What the words of a command line ask for, in the words of the library that reads them.
-use Rattle.std.specs.Prelude.{◌≡◌, ◌≢◌, ◌⊎◌, ◌<◌, ◌^◌, ⊤, ℕ, List, [], ◌∷◌, Bool, false, true, Option, Some, None, Result, codes, option_map, string_bytes}
+use Rattle.std.specs.Prelude.{◌≡◌, ◌≢◌, ◌⊎◌, ◌<◌, ◌^◌, ⊤, ℕ, List, [], ◌∷◌, Bool, false, true, Option, Some, None, Result, codes, if◌then◌else◌, option_map, string_bytes}
 use Rattle.std.specs.declared.result.Result.TheVariants.{Ok, Err}
 use Rattle.std.specs.Str.{bytes_eq}
 use Rattle.std.specs.Str.Parse.{IsNumeral, digits_value, without_leading_plus}
@@ -36,6 +36,10 @@ number_rule name least most given =
 -- a program with `--help` and `--version`, before it has arguments
 abbrev pub bare_app : Text → App
 bare_app name = record (new_app name) { top = record (new_app name).top { has_version = true } }
+
+-- the file that a word names, for the programs beside `kahn`: a minus is standard input
+abbrev pub file_named : Text → Text
+file_named word = if bytes_eq word (codes "-") then codes "/dev/stdin" else word
 
 -- the options, and the program text's path without a name
 abbrev pub kahn_app : App

@@ -4,8 +4,8 @@ use Rattle.std.specs.declared.result.Result.TheVariants.{Ok, Err}
 use Rattle.clap.specs.Words.{App, Row, Rule, Text, IsAmong, fault_of, first_of, kind_of, matches_of, new_rule, one_of, with_rule}
 use Rattle.clap.specs.declared.builder.ArgAction.TheVariants.{Append}
 use Rattle.kahn_streams.specs.Answers.{IsInRange}
-use Rattle.kahn_line.specs.Line.{bare_app, flag_rule, was_given, number_or, number_rule, text_rule}
-use Rattle.kahn_line.specs.Parts.{input_named, joined_words, parted, plain_parts, row_texts, set_line}
+use Rattle.kahn_line.specs.Line.{bare_app, file_named, flag_rule, was_given, number_or, number_rule, text_rule}
+use Rattle.kahn_line.specs.Parts.{columns_given, input_named, joined_words, plain_parts, row_texts, set_line}
 use Rattle.kahn_line.specs.declared.line.LineFault.{LineFault}
 use Rattle.kahn_line.specs.declared.line.LineFault.TheVariants.{Refused, NoMemory}
 use Rattle.kahn_line.specs.declared.live.LiveOptions.{LiveOptions}
@@ -17,7 +17,7 @@ at_end_rule = record (text_rule (codes "at-end")) { action = Some Append }
 -- the program text's path without a name, which is required, and the options
 abbrev pub live_app : App
 live_app =
-    with_rule (with_rule (with_rule (with_rule (with_rule (with_rule (with_rule (with_rule (bare_app (codes "kahn_live"))
+    with_rule (with_rule (with_rule (with_rule (with_rule (with_rule (with_rule (with_rule (with_rule (with_rule (bare_app (codes "kahn_live"))
     (record (new_rule (codes "PROGRAM")) { required = true }))
     (number_rule (codes "quantum") 1 1000000 (codes "1000")))
     (number_rule (codes "step") 1 281474976710655 (codes "1000000")))
@@ -25,6 +25,8 @@ live_app =
     (flag_rule (codes "keep-going")))
     (flag_rule (codes "strict")))
     at_end_rule)
+    (text_rule (codes "in")))
+    (text_rule (codes "out")))
     (text_rule (codes "plain"))
 
 -- what the words give; a negative number after `--at-end` belongs to it
@@ -49,7 +51,7 @@ live_flag words name = was_given (live_text words name)
 
 -- the options are those that the words name, and their numbers are within their limits; the events of a part are the bound
 pub record IsLive (words : List Text) (o : LiveOptions) : Type 0 where
-  pub program : option_map string_bytes o.program ≡ live_text words (codes "PROGRAM")
+  pub program : option_map string_bytes o.program ≡ option_map file_named (live_text words (codes "PROGRAM"))
   pub watch : option_map string_bytes o.config.watch ≡ live_text words (codes "watch")
   pub workers : o.config.workers ≡ 1
   pub quantum : o.config.quantum ≡ live_number words (codes "quantum") 1000
@@ -57,8 +59,7 @@ pub record IsLive (words : List Text) (o : LiveOptions) : Type 0 where
   pub keep_going : o.keep_going ≡ live_flag words (codes "keep-going")
   pub strict : o.strict ≡ live_flag words (codes "strict")
   pub at_end : map string_bytes o.at_end.items ≡ map (set_line (input_named o.plain)) (live_texts words (codes "at-end"))
-  -- 44 is the comma
-  pub plain : option_map plain_parts o.plain ≡ option_map (parted 44) (live_text words (codes "plain"))
+  pub plain : option_map plain_parts o.plain ≡ columns_given (live_text words (codes "in")) (live_text words (codes "out")) (live_text words (codes "plain"))
   pub in_range : IsInRange o.config.workers o.config.quantum o.config.bound
 
 -- what the words ask for; or what is at fault in them, such as `--help` and `--version`; or refused memory

@@ -1,6 +1,7 @@
 -- Believed. What words of a command line mean that have two parts.
 use Rattle.std.specs.Prelude.{◌≡◌, ℕ, Bool, List, ◌∷◌, ◌++◌, ◌&&◌, Option, None, Some, ◌==◌, length, slice_index, codes, if◌then◌else◌, map, nat_lt, option_map, string_bytes, unwrap_or, []}
 use Rattle.std.specs.List.{after_first, before_first, position_or_len}
+use Rattle.std.specs.Borrow.{Bor}
 use Rattle.std.specs.Char.{is_ascii_digit}
 use Rattle.std.specs.Str.{bytes_eq}
 use Rattle.std.specs.declared.alloc.Global.{Global}
@@ -48,6 +49,17 @@ set_line input word = line_of_parts input (parted 61 word)
 -- the channel whose values stand alone in the lines of input
 abbrev pub input_named : Option Plain → Option Text
 input_named plain = option_map (λ p. string_bytes p.input) plain
+
+-- a text that is lent, if one is
+abbrev pub lent : Option (Bor Text) → Option Text
+lent word = option_map (λ t. t.now) word
+
+-- the names of the channels whose values stand alone: the words of `--in` and of `--out`, if one is there; `--plain` is their short form, with a
+-- comma (44) between both
+abbrev pub columns_given : Option Text → Option Text → Option Text → Option (Text × Option Text)
+columns_given None None plain = option_map (parted 44) plain
+columns_given (Some inputs) outputs plain = Some (inputs, outputs)
+columns_given None (Some outputs) plain = Some ([], Some outputs)
 
 -- the names of the channels whose values stand alone
 abbrev pub plain_parts : Plain → Text × Option Text

@@ -4,7 +4,7 @@ ghost use Rattle.std.specs.Prelude.{◌≡◌, IfOk, map};
 ghost use Rattle.clap.specs.Words.{app_of};
 ghost use Rattle.kahn_line.specs.Draw.{draw_app, IsDrawRead};
 
-use crate::line::{LineFault, bare, bound_arg, copied, input_arg, number_or, program_arg};
+use crate::line::{LineFault, bare, bound_arg, file_copied, input_arg, number_or, program_arg};
 use clap::Command;
 use std::alloc::{AllocError, Global};
 use std::convert::AsStr;
@@ -62,8 +62,8 @@ pub fn read_draw_line<'a, S: AsStr>(alloc: Global, words: &'a [S]) -> Result<Dra
 {
     let matches = draw_command(alloc)?.try_get_matches_from(words)?;
     Ok(DrawOptions {
-        program: copied(alloc, matches.get_str("PROGRAM"))?,
-        input: copied(alloc, matches.get_str("input"))?,
+        program: file_copied(alloc, matches.get_str("PROGRAM"))?,
+        input: file_copied(alloc, matches.get_str("input"))?,
         bound: number_or(&matches, "bound", 1_000_000),
     })
 }

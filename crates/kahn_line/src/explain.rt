@@ -5,8 +5,8 @@ ghost use Rattle.clap.specs.Words.{app_of};
 ghost use Rattle.kahn_line.specs.Explain.{explain_app, IsExplainRead};
 
 use crate::line::{
-    LineFault, bare, bound_arg, config_of, copied, flag_arg, input_arg, program_arg, quantum_arg,
-    was_given, workers_arg,
+    LineFault, bare, bound_arg, config_of, copied, file_copied, flag_arg, input_arg, program_arg,
+    quantum_arg, text_arg, was_given, workers_arg,
 };
 use clap::Command;
 use kahn_streams::Config;
@@ -20,16 +20,21 @@ static USAGE: &str = "kahn_explain [PROGRAM] [--input FILE] [OPTIONS]";
 
 // The text after the options in the help.
 static MORE: &str = "\
-kahn_explain writes a line for each process that hasn't ended. The process has a fault, wants more events, or waits. If it
-waits, the line says on what, and where its chain of waits leads: to an input, to a process that has ended, has a fault or
-wants more events, or to a deadlock, a ring of processes that wait on one another. The last line says how the run ended.
-With a program whose process 1 waits on 2, and 2 on 1:
+kahn_explain first says in one line what came of the run. Then it writes each cause once: a deadlock, which is a ring of
+processes that wait on one another; a process that has a fault, waits on an input, or wants more events; or one that has
+ended. Below it stands who waits because of it. With `--all` it writes each process that hasn't ended, and where its chain
+of waits leads. The last line says how the run ended. With a program whose process 1 waits on 2, and 2 on 1:
 
   kahn_explain ring.kahn
 
-  1 stage waits on A at 4:17 from 2 stage, in a deadlock: for ever
-    = this ring wants a first value (let one of its processes send before it waits), or one of them takes more than another sends: --trace shows what came
-  2 stage waits on B at 4:17 from 1 stage, as 1 stage is in a deadlock: for ever
+  deadlock: 1 stage and 2 stage wait on one another
+  ring.kahn:4:17: error: 1 stage waits on A from 2 stage, in a deadlock: for ever
+   4 |     repeat send wait(U) + 1 on W
+     |                 ^^^^^^^
+     = this ring wants a first value (let one of its processes send before it waits), or one of them takes more than another sends: --trace shows what came
+  ring.kahn:4:17: error: 2 stage waits on B from 1 stage, in a deadlock: for ever
+   4 |     repeat send wait(U) + 1 on W
+     |                 ^^^^^^^
   finished 2
 
 `for ever` means: whatever is added to the input, and however long the run is.
@@ -42,8 +47,8 @@ is never read, a process without an instance, a loop that does nothing, a statem
 a program with a warning isn't run.
 
 With `--trace` it writes all values of all channels as a CSV table, in place of the explanation: a column for each channel
-and each process that prints, a row for each place. Each channel that isn't an output takes one more run, and the table
-comes after the last. Warnings go to standard error then, and so does the explanation if the status isn't 0. If the run
+and each process that prints, a row for each place. The run has one thread then and keeps all values, and the table comes
+after it. Warnings go to standard error then, and so does the explanation if the status isn't 0. If the run
 was stopped, the columns are beginnings. With a program that doubles what comes on A, and the input `A: 1 2`:
 
   kahn_explain double.kahn --input data.txt --trace
@@ -52,9 +57,21 @@ was stopped, the columns are beginnings. With a program that doubles what comes 
   1,1,2
   2,2,4
 
+With `--check` nothing is run: it only says what is wrong with the program text and the network, and with the input text
+if there is one, and what it warns of.
+
+With `--needs OUT:PLACE` it writes what the value at that place of a channel needs, whatever the schedule: the least number
+of values of each channel, and of events of each process, of how many in the whole run. Places are counted from 1, and the
+prints of process 1 are `--needs 1:PLACE`. Without `:PLACE` it writes a CSV table, with a row for each value of OUT:
+
+  kahn_explain double.kahn --input data.txt --needs B:1
+
+  B:1 = 2 needs A: 1 of 2
+  events of 1 double: 3 of 7
+
 Exit status:
-  0  the run finished, without a deadlock and without a fault
-  1  program or input refused; with `--strict`, also for a warning
+  0  the run finished, without a deadlock and without a fault; or it is known what a value needs, or that it never comes
+  1  program, input or word of `--needs` refused; with `--strict`, also for a warning
   2  command line refused
   3  the run was stopped by the bound
   4  no memory
@@ -72,10 +89,16 @@ pub struct ExplainOptions {
     pub input: Option<String>,
     /// How the run is set up. No channel is watched.
     pub config: Config,
+    /// Whether each process is told that hasn't ended, and not only each cause.
+    pub all: bool,
     /// Whether a program with a warning is refused.
     pub strict: bool,
     /// Whether a table of all histories is written.
     pub trace: bool,
+    /// Whether the texts are only looked at, and no run is done.
+    pub check: bool,
+    /// The line or the place of a line whose needs are written, or nothing.
+    pub needs: Option<String>,
 }
 
 /// Returns the rules of the command line.
@@ -88,11 +111,23 @@ fn explain_command<'a>(alloc: Global) -> Result<Command<'a>, AllocError>
         .arg(workers_arg(alloc, "4"))?
         .arg(quantum_arg(alloc))?
         .arg(bound_arg(alloc))?
+        .arg(flag_arg(alloc, "all", "Tells each process that hasn't ended"))?
         .arg(flag_arg(alloc, "strict", "Refuses a program with a warning"))?
         .arg(flag_arg(
             alloc,
             "trace",
             "Writes all values of all channels, as a CSV table",
+        ))?
+        .arg(flag_arg(
+            alloc,
+            "check",
+            "Looks at the texts alone, for editors and repositories: nothing is run",
+        ))?
+        .arg(text_arg(
+            alloc,
+            "needs",
+            "OUT[:PLACE]",
+            "Writes what the value at a place of a channel needs; without a place, a CSV table of all",
         ))
 }
 
@@ -106,10 +141,13 @@ pub fn read_explain_line<'a, S: AsStr>(
 {
     let matches = explain_command(alloc)?.try_get_matches_from(words)?;
     Ok(ExplainOptions {
-        program: copied(alloc, matches.get_str("PROGRAM"))?,
-        input: copied(alloc, matches.get_str("input"))?,
+        program: file_copied(alloc, matches.get_str("PROGRAM"))?,
+        input: file_copied(alloc, matches.get_str("input"))?,
         config: config_of(alloc, &matches, 4, "bound")?,
+        all: was_given(matches.get_str("all")),
         strict: was_given(matches.get_str("strict")),
         trace: was_given(matches.get_str("trace")),
+        check: was_given(matches.get_str("check")),
+        needs: copied(alloc, matches.get_str("needs"))?,
     })
 }

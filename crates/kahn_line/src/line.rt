@@ -2,7 +2,7 @@
 
 ghost use Rattle.std.specs.Prelude.{◌≡◌, IfOk, codes, false, map, option_map, string_bytes};
 ghost use Rattle.clap.specs.Words.{app_of, first_value, found_of, new_rule, one_text, rule_of};
-ghost use Rattle.kahn_line.specs.Line.{bare_app, flag_rule, was_given, kahn_app, number_rule, text_rule, IsRead, IsSet, IsTold, ReadsOr};
+ghost use Rattle.kahn_line.specs.Line.{bare_app, file_named, flag_rule, was_given, kahn_app, number_rule, text_rule, IsRead, IsSet, IsTold, ReadsOr};
 ghost use Rattle.kahn_line.specs.declared.line.LineFault.TheVariants.{NoMemory};
 
 use clap::builder::ValueParser;
@@ -265,6 +265,23 @@ pub(crate) fn copied(alloc: Global, text: Option<&str>) -> Result<Option<String>
 {
     match text {
         Some(text) => Ok(Some(String::from_str(alloc, text)?)),
+        None => Ok(None),
+    }
+}
+
+/// The file that a word names: a minus is standard input.
+fn file_named(word: &str) -> &str
+    ensures { result.now ≡ file_named word.now }
+{
+    if word == "-" { "/dev/stdin" } else { word }
+}
+
+/// Copies the file that a word names, if there is one.
+pub(crate) fn file_copied(alloc: Global, word: Option<&str>) -> Result<Option<String>, AllocError>
+    ensures { IfOk result (λ copy. option_map string_bytes copy ≡ option_map file_named (option_map (λ t. t.now) word.entry)) }
+{
+    match word {
+        Some(word) => Ok(Some(String::from_str(alloc, file_named(word))?)),
         None => Ok(None),
     }
 }

@@ -7,8 +7,8 @@ ghost use Rattle.kahn_line.specs.Parts.{found_texts, input_named, set_line};
 ghost use Rattle.kahn_line.specs.Live.{at_end_rule, live_app, IsLiveRead};
 
 use crate::line::{
-    LineFault, bare, config_of, copied, flag_arg, number_arg, quantum_arg, text_arg, was_given,
-    watch_arg,
+    LineFault, bare, config_of, file_copied, flag_arg, number_arg, quantum_arg, text_arg,
+    was_given, watch_arg,
 };
 use crate::parts::{Plain, input_named, joined_words, plain_of, set_lines};
 use clap::{Arg, ArgAction, ArgMatches, Command};
@@ -20,7 +20,7 @@ static ABOUT: &str =
     "Runs a network of processes on the lines of its standard input, and shows after each line what is new.";
 
 // The usage line.
-static USAGE: &str = "kahn_live PROGRAM [--plain INPUT] [OPTIONS] < LINES";
+static USAGE: &str = "kahn_live PROGRAM [--in NAME] [--out NAME] [OPTIONS] < LINES";
 
 // The text after the options in the help.
 static MORE: &str = "\
@@ -42,11 +42,11 @@ mistake in a line of `--at-end` is said at the start, and no line is taken. If a
 standard error says so once, and if memory is refused after a line was taken, it says so too. In both cases the run goes on
 with the next line, even a blank one. The run uses one thread. It doesn't keep what it wrote, nor the input that was taken.
 
-With `--plain INPUT` a line has only values of that channel, separated by blanks, and kahn_live writes only the new values
-of one stream, one a line. If there are several input channels, use lines with names: with `--plain` the others get no
-values, and kahn_live says so. With `--plain ,OUTPUT` lines have names, and the values of OUTPUT alone are written.
+With `--in A` a line has only values of that channel, separated by blanks. If there are several input channels, use lines
+with names: the others get no values, and kahn_live says so. With `--out X` it writes only the new values of that channel,
+one a line; with `--in` alone those of the first stream. `--plain A,X` is short for `--in A --out X`.
 
-  printf '1\\n2 3\\n' | kahn_live double.kahn --plain A
+  printf '1\\n2 3\\n' | kahn_live double.kahn --in A --out B
 
   2
   4
@@ -96,6 +96,32 @@ fn at_end_arg<'a>(alloc: Global) -> Arg<'a>
     .action(ArgAction::Append)
 }
 
+/// Makes the option of the channel whose values stand alone in the lines of input.
+fn in_arg<'a>(alloc: Global) -> Arg<'a>
+    ensures rule { rule_of result ≡ text_rule (codes "in") }
+    ensures local { result.global ≡ false }
+{
+    text_arg(
+        alloc,
+        "in",
+        "NAME",
+        "Reads bare values of this input channel alone",
+    )
+}
+
+/// Makes the option of the channel whose values stand alone in the lines of output.
+fn out_arg<'a>(alloc: Global) -> Arg<'a>
+    ensures rule { rule_of result ≡ text_rule (codes "out") }
+    ensures local { result.global ≡ false }
+{
+    text_arg(
+        alloc,
+        "out",
+        "NAME",
+        "Writes bare values of this channel alone, one a line; with --in and without it, those of the first stream",
+    )
+}
+
 /// Makes the option of the channels whose values stand alone.
 fn plain_arg<'a>(alloc: Global) -> Arg<'a>
     ensures rule { rule_of result ≡ text_rule (codes "plain") }
@@ -105,7 +131,7 @@ fn plain_arg<'a>(alloc: Global) -> Arg<'a>
         alloc,
         "plain",
         "INPUT[,OUTPUT]",
-        "Reads bare values of one input channel, and writes bare values of one stream: OUTPUT (any channel), or else the first",
+        "Is short for --in INPUT --out OUTPUT",
     )
 }
 
@@ -143,6 +169,8 @@ fn live_command<'a>(alloc: Global) -> Result<Command<'a>, AllocError>
             "Ends with 8 if a process has a fault of arithmetic, and else with 7 if processes wait on one another",
         ))?
         .arg(at_end_arg(alloc))?
+        .arg(in_arg(alloc))?
+        .arg(out_arg(alloc))?
         .arg(plain_arg(alloc))
 }
 
@@ -168,9 +196,14 @@ pub fn read_live_line<'a, S: AsStr>(alloc: Global, words: &'a [S]) -> Result<Liv
 {
     let words = joined_words(alloc, words)?;
     let matches = live_command(alloc)?.try_get_matches_from(words.as_slice())?;
-    let plain = plain_of(alloc, matches.get_str("plain"))?;
+    let plain = plain_of(
+        alloc,
+        matches.get_str("in"),
+        matches.get_str("out"),
+        matches.get_str("plain"),
+    )?;
     Ok(LiveOptions {
-        program: copied(alloc, matches.get_str("PROGRAM"))?,
+        program: file_copied(alloc, matches.get_str("PROGRAM"))?,
         config: Config {
             workers: 1,
             ..config_of(alloc, &matches, 1, "step")?

@@ -1,7 +1,7 @@
 //! Words of the command line that have two parts.
 
-ghost use Rattle.std.specs.Prelude.{◌≡◌, ◌<◌, ◌≤◌, ◌∷◌, ◌++◌, IfOk, codes, length, map, option_copied, option_map, string_bytes};
-ghost use Rattle.kahn_line.specs.Parts.{IsJoinedBy, input_named, is_negative, joined_words, parted, plain_parts, set_line, takes_behind};
+ghost use Rattle.std.specs.Prelude.{◌≡◌, ◌<◌, ◌≤◌, ◌∷◌, ◌++◌, IfOk, Some, codes, length, map, option_copied, option_map, string_bytes};
+ghost use Rattle.kahn_line.specs.Parts.{IsJoinedBy, columns_given, input_named, is_negative, joined_words, lent, parted, plain_parts, set_line, takes_behind};
 
 use crate::line::copied;
 use std::alloc::{AllocError, Global};
@@ -10,7 +10,7 @@ use std::convert::AsStr;
 /// Channels whose values stand alone in the lines of input and output.
 #[derive(Debug, Drop)]
 pub struct Plain {
-    /// The name of the channel whose values are taken.
+    /// The name of the channel whose values are taken, or nothing where lines have names.
     pub input: String,
     /// The name of the channel whose values are shown, or nothing for the first stream of a report.
     pub output: Option<String>,
@@ -137,16 +137,39 @@ pub fn input_named(plain: &Option<Plain>) -> Option<&str>
     }
 }
 
+/// Makes the channels of these names.
+fn named(alloc: Global, input: &str, output: Option<&str>) -> Result<Option<Plain>, AllocError>
+    ensures { IfOk result (λ p. option_map plain_parts p ≡ Some (input.now, option_map (λ t. t.now) output.entry)) }
+{
+    Ok(Some(Plain {
+        input: String::from_str(alloc, input)?,
+        output: copied(alloc, output)?,
+    }))
+}
+
 /// Returns the channels that a word `IN,OUT` or `IN` names, if there is one.
-pub(crate) fn plain_of(alloc: Global, word: Option<&str>) -> Result<Option<Plain>, AllocError>
+fn short_plain(alloc: Global, word: Option<&str>) -> Result<Option<Plain>, AllocError>
     ensures { IfOk result (λ p. option_map plain_parts p ≡ option_map (parted 44) (option_map (λ t. t.now) word.entry)) }
 {
     let Some(word) = word else {
         return Ok(None);
     };
     let (input, output) = parted(word, ',');
-    Ok(Some(Plain {
-        input: String::from_str(alloc, input)?,
-        output: copied(alloc, output)?,
-    }))
+    named(alloc, input, output)
+}
+
+/// Returns the channels that the words of `--in` and `--out` name, if one of them is there, and else those of the short form.
+pub(crate) fn plain_of(
+    alloc: Global,
+    inputs: Option<&str>,
+    outputs: Option<&str>,
+    word: Option<&str>,
+) -> Result<Option<Plain>, AllocError>
+    ensures { IfOk result (λ p. option_map plain_parts p ≡ columns_given (lent inputs.entry) (lent outputs.entry) (lent word.entry)) }
+{
+    match (inputs, outputs) {
+        (None, None) => short_plain(alloc, word),
+        (Some(inputs), outputs) => named(alloc, inputs, outputs),
+        (None, Some(outputs)) => named(alloc, "", Some(outputs)),
+    }
 }

@@ -28,12 +28,14 @@ fn owners_of(text: &str) -> Option<&'static str> {
     let (_, behind) = text.split_once("unexpected argument '")?;
     let (option, _) = behind.split_once("'")?;
     match option {
-        "--trace" => Some("kahn_explain"),
+        "--trace" | "--check" => Some("kahn_explain"),
         "--strict" => Some("kahn_explain and kahn_live"),
         "--input" | "--bound" => Some("kahn, kahn_explain and kahn_draw"),
         "--workers" | "--quantum" => Some("kahn and kahn_explain"),
         "--watch" => Some("kahn and kahn_live"),
-        "--plain" | "--at-end" | "--keep-going" | "--step" => Some("kahn_live"),
+        "--in" | "--out" | "--plain" | "--at-end" | "--keep-going" | "--step" => {
+            Some("kahn_live")
+        }
         _ => None,
     }
 }

@@ -1,5 +1,5 @@
 -- Whether it is told how a run ended that has no fault and the status 0.
-use Rattle.std.proofs.Common.{◌≡◌, Bool, true, false, None, Some, Option, inr}
+use Rattle.std.proofs.Common.{◌≡◌, Bool, true, false, Option, inr}
 use Rattle.kahn_pool.specs.HeldRuns.{HeldRun}
 use Rattle.kahn_session.specs.Live.{IsFaulty, IsRinged}
 use Rattle.kahn_streams.specs.declared.answer.Verdict.{Verdict}
@@ -8,9 +8,5 @@ use Rattle.kahn_live.specs.declared.serving.Amiss.{Amiss}
 
 pub by_ring : (h : HeldRun) (amiss : Option Amiss) (refused : Bool) (v : Verdict) (ring : Bool) → reached_status amiss refused v ≡ 0 → IsFaulty h false → IsRinged h ring
     → IsEndWanted h amiss refused v ring
-by_ring h amiss refused v true zero none ringed = inr (inr (Some true, ringed, λ e. absurd cc))
+by_ring h amiss refused v true zero none ringed = inr (inr ringed)
 by_ring h amiss refused v false zero none ringed = (zero, none, ringed)
-
--- memory was refused for finding out
-pub unknown_ring : (h : HeldRun) (amiss : Option Amiss) (refused : Bool) (v : Verdict) → IsEndWanted h amiss refused v true
-unknown_ring h amiss refused v = inr (inr (None, tt, λ e. absurd cc))

@@ -1,5 +1,5 @@
 -- Believed. A run on lines, from the program text to the status (this project's profile).
-use Rattle.std.specs.Prelude.{◌≡◌, ◌⊎◌, ℕ, Bool, true, false, List, [], ◌∷◌, map, Option, None, Some, Result, Ok, Err, option_map, option_copied, codes, string_bytes, IfSome}
+use Rattle.std.specs.Prelude.{◌≡◌, ◌⊎◌, ℕ, Bool, true, false, List, [], ◌∷◌, map, Option, None, Some, Result, Ok, Err, option_map, option_copied, codes, string_bytes}
 use Rattle.std.specs.declared.alloc.Global.{Global}
 use Rattle.std.specs.declared.string.String.{String}
 use Rattle.std.specs.Io.KnownBytes.{Keeps}
@@ -63,14 +63,12 @@ IsSetUp plain t config (Err f) = IsUnopened t config f ⊎ ((first : Live) × Ha
 
 -- ---- the end
 
--- what is amiss with a run, where it is judged: a fault of a process, or else processes that wait on one another; or memory was
--- refused for that
-abbrev pub IsJudged : Bool → HeldRun → Result (Option Amiss) Fault → Type 0
-IsJudged false h r = r ≡ Ok None
-IsJudged true h (Ok (Some Faulted)) = IsFaulty h true
-IsJudged true h (Ok (Some Ringed)) = IsFaulty h false × IsRinged h true
-IsJudged true h (Ok None) = IsFaulty h false × IsRinged h false
-IsJudged true h (Err fault) = fault ≡ no_memory
+-- what is amiss with a run, where it is judged: a fault of a process, or else processes that wait on one another
+abbrev pub IsJudged : Bool → HeldRun → Option Amiss → Type 0
+IsJudged false h r = r ≡ None
+IsJudged true h (Some Faulted) = IsFaulty h true
+IsJudged true h (Some Ringed) = IsFaulty h false × IsRinged h true
+IsJudged true h None = IsFaulty h false × IsRinged h false
 
 -- the status of a run with this verdict of which that is amiss
 abbrev pub reached_status : Option Amiss → Bool → Verdict → ℕ
@@ -78,13 +76,9 @@ reached_status (Some Faulted) refused v = 8
 reached_status (Some Ringed) refused v = 7
 reached_status None refused v = live_status_of refused (Ok v)
 
--- processes wait on one another in a ring, or memory was refused for finding out
-abbrev pub IsPerhapsRinged : HeldRun → Type 0
-IsPerhapsRinged h = (ring : Option Bool) × IfSome ring (IsRinged h) × (ring ≡ Some false → ⊥)
-
 -- whether it is told how the run ended: where the status isn't 0, a process has a fault, or processes wait on one another
 abbrev pub IsEndWanted : HeldRun → Option Amiss → Bool → Verdict → Bool → Type 0
-IsEndWanted h amiss refused v true = (reached_status amiss refused v ≡ 0 → ⊥) ⊎ (IsFaulty h true ⊎ IsPerhapsRinged h)
+IsEndWanted h amiss refused v true = (reached_status amiss refused v ≡ 0 → ⊥) ⊎ (IsFaulty h true ⊎ IsRinged h true)
 IsEndWanted h amiss refused v false = (reached_status amiss refused v ≡ 0) × IsFaulty h false × IsRinged h false
 
 abbrev pub IsEndPut : HeldRun → Telling → Telling → Type 0
@@ -106,12 +100,7 @@ IsEnded amiss old new (Err fault) = IsWriteFault fault × HasSent old new
 
 -- the run was judged, and how it ended was told
 abbrev pub IsClosing : Bool → Option Amiss → Point → Point → Result Verdict Fault → Type 0
-IsClosing strict amiss old new r = IsJudged strict old.session.flow.run (Ok amiss) × IsEnded amiss old new r
-
--- or it stopped there
-abbrev pub IsUnclosed : Bool → Point → Point → Fault → Type 0
-IsUnclosed strict old new fault =
-    (IsJudged strict old.session.flow.run (Err fault) × (new ≡ old)) ⊎ ((amiss : Option Amiss) × IsClosing strict amiss old new (Err fault))
+IsClosing strict amiss old new r = IsJudged strict old.session.flow.run amiss × IsEnded amiss old new r
 
 -- all lines were met and then the end, or one of these stopped the run
 abbrev pub HasServedAll : Bool → LinesGiven → Result Ending Fault → Option (List ℕ) → Point → Point → Type 0
@@ -120,7 +109,7 @@ HasServedAll strict f (Ok (Reached v amiss)) text old new =
 HasServedAll strict f (Ok Refused) text old new = AreAllMet f (Ok false) text old new
 HasServedAll strict f (Ok Gone) text old new = ⊥
 HasServedAll strict f (Err fault) text old new = AreAllMet f (Err fault) text old new
-    ⊎ ((last : Point) × AreAllMet f (Ok true) text old last × IsUnclosed strict last new fault)
+    ⊎ ((last : Point) × (amiss : Option Amiss) × AreAllMet f (Ok true) text old last × IsClosing strict amiss last new (Err fault))
 
 -- nothing was done, since memory was refused
 abbrev pub IsLacking : {X P : Type 0} → Result X Fault → P → P → Type 0

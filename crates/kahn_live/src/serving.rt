@@ -40,21 +40,20 @@ pub(crate) enum Ending {
 }
 
 /// What is amiss with the run of a session, where it is to be judged.
-fn judged(session: &Session<'_>, strict: bool) -> Result<Option<Amiss>, Fault>
+fn judged(session: &Session<'_>, strict: bool) -> Option<Amiss>
     requires { HasVerdict session.now }
     ensures { IsJudged strict session.now.flow.run result }
 {
     if !strict {
-        return Ok(None);
+        return None;
     }
     if session.has_fault() {
-        return Ok(Some(Amiss::Faulted));
+        return Some(Amiss::Faulted);
     }
-    match session.has_ring() {
-        Ok(true) => Ok(Some(Amiss::Ringed)),
-        Ok(false) => Ok(None),
-        Err(_) => Err(wants_memory()),
+    if session.has_ring() {
+        return Some(Amiss::Ringed);
     }
+    None
 }
 
 /// The status of a run with this verdict of which that is amiss.
@@ -68,9 +67,8 @@ pub(crate) fn reached_status(amiss: Option<Amiss>, refused: bool, verdict: Verdi
     }
 }
 
-/// Whether it is told how a run with this verdict ended: the status isn't 0, a process has a fault, or processes wait on one another,
-/// where memory isn't refused for finding out.
-#[tactic(auto, using(crate::proofs::Ends::by_ring, crate::proofs::Ends::unknown_ring))]
+/// Whether it is told how a run with this verdict ended: the status isn't 0, a process has a fault, or processes wait on one another.
+#[tactic(auto, using(crate::proofs::Ends::by_ring))]
 fn is_end_wanted(
     session: &Session<'_>,
     amiss: Option<Amiss>,
@@ -86,10 +84,7 @@ fn is_end_wanted(
     if session.has_fault() {
         return true;
     }
-    match session.has_ring() {
-        Ok(ring) => ring,
-        Err(_) => true,
-    }
+    session.has_ring()
 }
 
 /// Tells how the run ended, where that is wanted.
@@ -136,7 +131,7 @@ fn serve<I: Read, W: Write, E: Write>(
     if !take_all(alloc, stage, reader, fed)? {
         return Ok(Ending::Refused);
     }
-    let amiss = judged(&stage.session, strict)?;
+    let amiss = judged(&stage.session, strict);
     let verdict = close(stage, amiss)?;
     Ok(Ending::Reached(verdict, amiss))
 }

@@ -166,8 +166,20 @@ module _ (N : Network) (I : Inputs) (watch : Option ℕ) (p : ℕ) (x : View) (s
       absurd (omega (arith, l))
   before (suc n) h = (n, subst (λ z. j < length z) (held_written N I y n d p src) h)
 
+  before_sooner : (n : ℕ) (h : j < length (held_in N I y n d)) → (before n h).0 < n
+  unfolding before
+  before_sooner zero h =
+      let none : held_in N I y 0 d ≡ [] = rw src refl in
+      let l : j < 0 = subst (λ z. j < length z) none h in
+      absurd (omega (arith, l))
+  before_sooner (suc n) h = omega arith
+
   pub at : ℕ
   at = (before there.0 there.1).0
+
+  at_sooner : at < there.0
+  unfolding at
+  at_sooner = before_sooner there.0 there.1
 
   abbrev G : Tapes
   G = tapes_of (instance_at N p) (held_in N I y at)
@@ -303,9 +315,10 @@ module _ (N : Network) (I : Inputs) (watch : Option ℕ) (p : ℕ) (x : View) (s
       let b = (needed V are_V (longer_right N I p T G)).0 in
       omega (arith, a, b)
 
-  -- what it waits for is there
-  pub has_next : (q c : ℕ) → actual_at (instance_at N p) q ≡ Reads c → (exec_on N x.events p T).outcome ≡ Dry q → HoldsAt N I y (Channel c) (x.taken q)
-  has_next q c reads is = (at, by (cases_lt (length (T q)) (length (G q))))
+  -- what it waits for is there, and came sooner
+  pub has_next : (q c : ℕ) → actual_at (instance_at N p) q ≡ Reads c → (exec_on N x.events p T).outcome ≡ Dry q →
+      (g : HoldsAt N I y (Channel c) (x.taken q)) × (g.0 < there.0)
+  has_next q c reads is = ((at, by (cases_lt (length (T q)) (length (G q)))), at_sooner)
     where
       same : (r : ℕ) → ◌≡◌ {A = Outcome Store} (Dry q) (Dry r) → q ≡ r
       same r e = cc

@@ -1,5 +1,5 @@
 -- One turn of a search: what is forced stays so, and what a process waits for is wanted.
-use Rattle.std.proofs.Common.{arith, ◌≡◌, inl, inr, ℕ, ◌+◌, ◌≤◌, ◌<◌, length, map, take, refl, sym, ap, ◌∙◌, subst, Option, Some, None, slice_get, slice_index_or}
+use Rattle.std.proofs.Common.{arith, ◌≡◌, inl, inr, ℕ, zero, suc, le_refl, ◌+◌, ◌≤◌, ◌<◌, length, map, take, refl, sym, ap, ◌∙◌, subst, Option, Some, None, slice_get, slice_index_or}
 use Rattle.std.proofs.lemmas.List.{length-map}
 use Rattle.std.proofs.lemmas.Option.{same_Some}
 use Rattle.kahn_streams.proofs.By_number.{there, within}
@@ -25,9 +25,10 @@ use Rattle.kahn_code.specs.Standing.{count}
 use Rattle.kahn_code.specs.declared.progress.Pause.{Pause}
 use Rattle.kahn_code.specs.declared.progress.Pause.TheVariants as pause
 use Rattle.kahn_needs.specs.Needs.{Cut}
+use Rattle.kahn_needs.specs.declared.search.Chain.{Chain}
 use Rattle.kahn_needs.specs.Finding.{IsNetworkLine}
 use Rattle.kahn_needs.specs.inner.Bench.{HasActed, HaveSeats, AreSeatsOf, Stood, Seats}
-use Rattle.kahn_needs.specs.inner.Finding.{AreForced, HasSentSoMany, HoldsIn, HoldsAt, IsDemand, IsPausedAt}
+use Rattle.kahn_needs.specs.inner.Finding.{AreForced, HasSentSoMany, HoldsIn, HoldsAt, IsWaitChain, IsDemand, IsNoLater, IsPausedAt, IsSooner, IsWanted}
 use Rattle.kahn_needs.proofs.Benched.{found}
 use Rattle.kahn_needs.proofs.Forcing.{goes_further, has_next, has_taken, stuck}
 use Rattle.kahn_needs.proofs.Needing.{held_given, prefix_length, take_below}
@@ -76,20 +77,27 @@ module _ (b : Seats) (laid : HaveSeats b) where
     less : (x : Told) → slice_get b.cells p ≡ Some x → (s : Stood b p x) → length (sent_on N x.events p s.tapes d) ≤ j
     less x at s = let e = sent p src x at s in omega (arith, e, few)
 
-    -- it waits for a value that is wanted
-    pub waits_for : (q e : ℕ) → IsPausedAt b p (pause.Dry q) → actual_at (instance_at N p) q ≡ Reads e → IsDemand b c k (Channel e) (taken_of (slice_get b.queues.queues e))
-    waits_for q e h r = record {
-      listed = listed;
-      wanted = λ y there. subst (HoldsAt N I y (Channel e)) (sym (taken_there p q e h.0 h.1 r))
-          (has_next N I b.watch p (told_view h.0) h.2.stood d src j (less h.0 h.1 h.2.stood) y (demand.wanted y there) q e r dry);
-      given = λ s. by (reads b.network laid.wired p q e r) s;
-    }
+    -- it waits for a value that is wanted, and comes sooner
+    pub waits_for : (q e : ℕ) → IsPausedAt b p (pause.Dry q) → actual_at (instance_at N p) q ≡ Reads e →
+        IsDemand b c k (Channel e) (taken_of (slice_get b.queues.queues e)) × IsSooner b d j (Channel e) (taken_of (slice_get b.queues.queues e))
+    waits_for q e h r = (
+      record {
+        listed = listed;
+        wanted = λ y there. (sooner y (demand.wanted y there)).0;
+        given = λ s. by (reads b.network laid.wired p q e r) s;
+      },
+      sooner,
+    )
       where
         listed : e < length N.channels
         listed = reads_listed b.network laid.wired p q e r
 
         dry : (exec_on N h.0.events p h.2.stood.tapes).outcome ≡ Dry q
         dry = h.2.is.2
+
+        sooner : IsSooner b d j (Channel e) (taken_of (slice_get b.queues.queues e))
+        sooner y there = subst (λ i. (g : HoldsAt N I y (Channel e) i) × (g.0 < there.0)) (sym (taken_there p q e h.0 h.1 r))
+            (has_next N I b.watch p (told_view h.0) h.2.stood d src j (less h.0 h.1 h.2.stood) y there q e r dry)
 
         same : {x y : ℕ} → Reads x ≡ Reads y → x ≡ y
         same f = cc
@@ -174,6 +182,46 @@ demand_on b b' names c k d j h = record {
   where
     both : ◌≡◌ {A = Program × Lists} (b.network, b.input) (b'.network, b'.input)
     both i = (sym names.0 i, sym names.1 i)
+
+-- and the same chain
+pub chain_on : (b b' : Seats) → AreSeatsOf b.network b.input b.watch b' → (c : Line) (k : ℕ) (x : Chain) → IsWaitChain b c k x → IsWaitChain b' c k x
+chain_on b b' names c k x h = record {
+  demanded = demand_on b b' names c k x.demand.line x.demand.place h.demanded;
+  marked = subst (λ (k' : Program × Lists). (y : Cut) → HoldsAt (network_of k'.0) (inputs_of k'.1) y c k → HoldsAt (network_of k'.0) (inputs_of k'.1) y x.mark.line x.mark.place) both h.marked;
+  later = subst (λ (k' : Program × Lists). (y : Cut) (h' : HoldsAt (network_of k'.0) (inputs_of k'.1) y x.mark.line x.mark.place) →
+      (g : HoldsAt (network_of k'.0) (inputs_of k'.1) y x.demand.line x.demand.place) × (g.0 ≤ h'.0)) both h.later;
+}
+  where
+    both : ◌≡◌ {A = Program × Lists} (b.network, b.input) (b'.network, b'.input)
+    both i = (sym names.0 i, sym names.1 i)
+
+-- one that begins with a demand
+pub chain_begun : (b : Seats) (c : Line) (k : ℕ) (d : Line) (j : ℕ) → IsDemand b c k d j → (y : Cut) (h : HoldsIn b y d j) → (g : HoldsIn b y d j) × (g.0 ≤ h.0)
+chain_begun b c k d j demand y h = (h, le_refl h.0)
+
+-- one with a wait more
+pub chain_longer : (b : Seats) (m : Line) (i : ℕ) (d : Line) (j : ℕ) (e : Line) (l : ℕ) → IsNoLater b m i d j → IsSooner b d j e l → IsSooner b m i e l
+chain_longer b m i d j e l later sooner y h =
+    let f = later y h in
+    let g = sooner y f.0 in
+    let a = f.1 in
+    let n = g.1 in
+    (g.0, omega (arith, a, n))
+
+pub no_later : (b : Seats) (m : Line) (i : ℕ) (e : Line) (l : ℕ) → IsSooner b m i e l → IsNoLater b m i e l
+no_later b m i e l sooner y h = let g = sooner y h in let n = g.1 in (g.0, omega (arith, n))
+
+-- a value that would come sooner than itself never comes
+ring_below : (b : Seats) (m : Line) (i : ℕ) → IsSooner b m i m i → (y : Cut) (n : ℕ) (h : HoldsIn b y m i) → h.0 < n → ⊥
+ring_below b m i sooner y zero h l = omega (arith, l)
+ring_below b m i sooner y (suc n) h l = let g = sooner y h in let a = g.1 in ring_below b m i sooner y n g.0 (omega (arith, a, l))
+
+-- so where a chain comes back to its mark, no value is ever there
+pub ring_never : (b : Seats) (c : Line) (k : ℕ) (m : Line) (i : ℕ) (d : Line) (j : ℕ) (e : Line) (l : ℕ) → IsWanted b c k m i → IsNoLater b m i d j → IsSooner b d j e l → m ≡ e → i ≡ l →
+    (y : Cut) → HoldsIn b y c k → ⊥
+ring_never b c k m i d j e l wanted later sooner same at y h =
+    let g = wanted y h in
+    ring_below b m i (subst (λ (z : Line × ℕ). IsSooner b m i z.0 z.1) (λ x. (sym same x, sym at x)) (chain_longer b m i d j e l later sooner)) y (suc g.0) g (omega arith)
 
 -- no cut has what an input hasn't
 pub none_given : (b : Seats) (c : Line) (k : ℕ) (d : Line) (j : ℕ) → IsDemand b c k d j → source (network_of b.network) d ≡ Given → (y : Cut) → HoldsIn b y c k → ⊥

@@ -1,7 +1,9 @@
 -- Believed. What is told of the needs of a value.
-use Rattle.std.specs.Prelude.{ℕ, ◌<◌, List, length, slice_index_or}
+use Rattle.std.specs.Prelude.{◌≡◌, ℕ, ◌<◌, List, length, slice_index_or}
+use Rattle.kahn_streams.specs.Inputs.{Lists}
 use Rattle.kahn_streams.specs.Network.{Network}
 use Rattle.kahn_streams.specs.Solution.{Inputs, Stands, source}
+use Rattle.kahn_streams.specs.declared.tree.Program.{Program}
 use Rattle.kahn_streams.specs.declared.value.Line.{Line}
 use Rattle.kahn_streams.specs.declared.value.Line.TheVariants.{Channel, Print}
 use Rattle.kahn_streams.specs.declared.value.Value.{Value}
@@ -19,10 +21,20 @@ IsNetworkLine N (Print p) = p < length N.instances
 abbrev pub cut_told : Network → List ℕ → List ℕ → Cut
 cut_told N values events = record { values = λ d. of_input (source N (Channel d)) (slice_index_or values d 0); events = λ p. slice_index_or events p 0 }
 
--- at place k of line c is this value, and it needs just that; or no value ever stands there. Where a ring of processes wait on one another, or
--- the bound is used up, nothing is said.
+-- at place k of line c is this value, and it needs just that; or no value ever stands there, in a ring too. Where the bound is used up, nothing
+-- is said.
 abbrev pub AreNeedsFound : Network → Inputs → Line → ℕ → Found → Type 0
 AreNeedsFound N I c k (found.Needs x) = AreNeeds N I c k x.value (cut_told N x.values.items x.events.items)
 AreNeedsFound N I c k found.Never = (v : Value) → Stands N I c k v → ⊥
-AreNeedsFound N I c k found.Ring = Unit {0}
+AreNeedsFound N I c k found.Ring = (v : Value) → Stands N I c k v → ⊥
 AreNeedsFound N I c k found.Bound = Unit {0}
+
+-- a search on a line of a network, for an input, that goes on from that place
+pub record Seeking : Type 0 where
+  pub network : Program
+  pub input : Lists
+  pub line : Line
+  pub next : ℕ
+
+abbrev pub IsSeeking : Program → Lists → Line → ℕ → Seeking → Type 0
+IsSeeking t lists c k s = (s.network ≡ t) × (s.input ≡ lists) × (s.line ≡ c) × (s.next ≡ k)

@@ -1,10 +1,10 @@
 //! What a value needs.
 
-ghost use Rattle.std.specs.Prelude.{◌≡◌, IfOk};
+ghost use Rattle.std.specs.Prelude.{◌≡◌, ◌≤◌, IfOk};
 ghost use Rattle.kahn_streams.specs.Inputs.{inputs_of};
 ghost use Rattle.kahn_streams.specs.Network.{Given, network_of};
 ghost use Rattle.kahn_streams.specs.Solution.{source};
-ghost use Rattle.kahn_needs.specs.Finding.{AreNeedsFound, IsNetworkLine};
+ghost use Rattle.kahn_needs.specs.Finding.{AreNeedsFound, IsNetworkLine, IsSeeking};
 ghost use Rattle.kahn_needs.specs.inner.Finding.{AreForced, HasCome, watch_of};
 
 use crate::bench::{Bench, all_events, all_taken};
@@ -13,7 +13,7 @@ use crate::search::{Demand, Sought, search};
 use kahn_code::CodeFault;
 use kahn_streams::{Input, Line, Network};
 use std::alloc::Global;
-use std::marker::Brand;
+use std::marker::{Brand, Model};
 use std::sync::ledger::Blank;
 
 // The line of which what is sent is kept, if it is a channel.
@@ -45,32 +45,70 @@ fn told(alloc: Global, bench: &Bench<'_>, line: Line, place: u64) -> Result<Foun
     }))
 }
 
-/// What the value at a place of a line needs, counted from 0, or that there is none. The line is one that an instance sends on. The search
-/// does at most `bound` events, and none that isn't needed. It refuses only if memory was refused.
-pub fn find(
-    alloc: Global,
-    network: &Network,
-    input: &Input,
+/// A search for what the values of a line need, from one place on to the next.
+#[derive(Drop)]
+pub struct Seeker<'n> {
+    bench: Bench<'n>,
     line: Line,
-    place: u64,
-    bound: u64,
-) -> Result<Found, CodeFault>
-    requires line { IsNetworkLine (network_of network.now) line }
-    requires written { source (network_of network.now) line ≡ Given → ⊥ }
-    ensures { IfOk result (AreNeedsFound (network_of network.now) (inputs_of input.now) line place) }
-{
-    let mut bench = Bench::new(alloc, network, input, kept_of(line))?;
-    let root = Demand {
-        line,
-        place,
-        waits: 0,
-    };
-    let blank = Blank::new(1);
-    match search::<Brand>(blank, &mut bench, root, bound) {
-        Sought::Come => told(alloc, &bench, line, place),
-        Sought::Never => Ok(Found::Never),
-        Sought::Ring => Ok(Found::Ring),
-        Sought::Bound => Ok(Found::Bound),
-        Sought::NoMemory => Err(CodeFault::NoMemory),
+    next: u64,
+    left: u64,
+}
+
+impl<'n> Model for Seeker<'n> {
+    ghost use Rattle.kahn_streams.specs.contracts.tree.Action as action;
+    ghost use Rattle.kahn_streams.specs.contracts.tree.Form as form;
+    ghost use Rattle.std.specs.Coded.{codes};
+    ghost use Rattle.kahn_needs.specs.Finding.{Seeking};
+    ghost use Rattle.kahn_needs.specs.inner.Finding.{IsSearchState, seeking_of};
+
+    ghost Value = { Seeking };
+
+    ghost coded = { Prim.hlevel (codes, action.the_row.coded, form.the_row.coded) };
+
+    ghost view = { λ s. seeking_of s.bench s.line s.next };
+
+    ghost invariant = { λ s. IsSearchState s.bench s.line s.next };
+}
+
+impl<'n> Seeker<'n> {
+    /// A search on a line that an instance sends on, which may do `bound` events. It refuses only if memory was refused.
+    pub fn new(
+        alloc: Global,
+        network: &'n Network,
+        input: &Input,
+        line: Line,
+        bound: u64,
+    ) -> Result<Seeker<'n>, CodeFault>
+        requires line { IsNetworkLine (network_of network.now) line }
+        requires written { source (network_of network.now) line ≡ Given → ⊥ }
+        ensures { IfOk result (IsSeeking network.now input.now line 0) }
+    {
+        let bench = Bench::new(alloc, network, input, kept_of(line))?;
+        Ok(Seeker {
+            bench,
+            line,
+            next: 0,
+            left: bound,
+        })
+    }
+
+    /// What the value at a place needs, counted from 0, or that there is none. No place comes before that of the last call. All calls together
+    /// do at most the events that the search may do, and none that isn't needed. It refuses only if memory was refused.
+    pub fn find(&mut self, alloc: Global, place: u64) -> Result<Found, CodeFault>
+        requires { self.old.next ≤ place }
+        ensures same { IsSeeking self.old.network self.old.input self.old.line place self.new }
+        ensures found { IfOk result (AreNeedsFound (network_of self.old.network) (inputs_of self.old.input) self.old.line place) }
+    {
+        self.next = place;
+        let line = self.line;
+        let root = Demand { line, place };
+        let blank = Blank::new(1);
+        match search::<Brand>(blank, &mut self.bench, root, &mut self.left) {
+            Sought::Come => told(alloc, &self.bench, line, place),
+            Sought::Never => Ok(Found::Never),
+            Sought::Ring => Ok(Found::Ring),
+            Sought::Bound => Ok(Found::Bound),
+            Sought::NoMemory => Err(CodeFault::NoMemory),
+        }
     }
 }

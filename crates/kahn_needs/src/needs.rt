@@ -20,7 +20,7 @@ pub enum Found {
     Needs(Needs),
     /// No value ever stands there.
     Never,
-    /// Processes that it waits for wait on one another.
+    /// No value ever stands there, since processes that it waits for wait on one another.
     Ring,
     /// The bound was used up before.
     Bound,

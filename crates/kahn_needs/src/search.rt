@@ -6,18 +6,27 @@ ghost use Rattle.kahn_streams.specs.Network.{Written, network_of};
 ghost use Rattle.kahn_streams.specs.Solution.{source};
 ghost use Rattle.kahn_needs.specs.Finding.{IsNetworkLine};
 ghost use Rattle.kahn_needs.specs.inner.Bench.{AreSeatsOf};
-ghost use Rattle.kahn_needs.specs.inner.Finding.{AreForced, HasCome, HasSearched, IsDemand, IsPausedAt, IsEndOfSearch, IsTurnTold};
+ghost use Rattle.kahn_needs.specs.inner.Finding.{AreForced, HasCome, HasSearched, IsAwaited, IsWaitChain, IsDemand, IsPausedAt, IsEndOfSearch, IsTurnTold};
+ghost use Rattle.kahn_needs.specs.declared.search.Turn.TheVariants.{Waits};
+ghost use Rattle.kahn_needs.specs.declared.search.Sought.TheVariants.{Ring};
 
 use crate::bench::Bench;
 use kahn_code::{Pause, Steps};
 use kahn_streams::{Line, MOST_BOUND};
 use std::sync::ledger::{Blank, Ledger};
 
-/// A value that is wanted, by its line and its place, and how many waits lead to it from the one that is sought.
-#[derive(Clone, Copy)]
+/// A value that is wanted, by its line and its place.
+#[derive(Clone, Copy, PartialEq, Eq)]
 pub(crate) struct Demand {
     pub(crate) line: Line,
     pub(crate) place: u64,
+}
+
+/// A value that is wanted, and one from which so many waits lead to it.
+#[derive(Clone, Copy)]
+pub(crate) struct Chain {
+    pub(crate) demand: Demand,
+    pub(crate) mark: Demand,
     pub(crate) waits: usize,
 }
 
@@ -99,30 +108,88 @@ fn act<L: Ledger>(bench: &mut Bench<'_>, root: Demand, demand: Demand, steps: &m
     told(bench, root, demand, instance, pause)
 }
 
-// The demand after a turn: the one for which the writer waits, or the first one again, once a value was sent.
-fn next_demand(bench: &Bench<'_>, root: Demand, demand: Demand, turn: Turn) -> Demand
-    requires root { IsDemand bench.now root.line root.place root.line root.place }
-    requires demanded { IsDemand bench.now root.line root.place demand.line demand.place }
-    requires told { IsTurnTold bench.now root.line root.place demand.line demand.place turn }
-    ensures { IsDemand bench.now root.line root.place result.line result.place }
+// A chain that begins with a demand.
+fn begun(bench: &Bench<'_>, root: Demand, demand: Demand) -> Chain
+    requires { IsDemand bench.now root.line root.place demand.line demand.place }
+    ensures { IsWaitChain bench.now root.line root.place result }
 {
-    match turn {
-        Turn::Sent => root,
-        Turn::Waits(channel) => Demand {
-            line: Line::Channel(channel),
-            place: bench.taken(channel),
-            waits: demand.waits.saturating_add(1),
-        },
-        Turn::Acted => demand,
-        Turn::Over => demand,
-        Turn::Bound => demand,
-        Turn::NoMemory => demand,
+    bench.laid();
+    Chain {
+        demand,
+        mark: demand,
+        waits: 0,
     }
 }
 
+// The value for which the writer of the last one of a chain waits.
+fn awaited(bench: &Bench<'_>, root: Demand, chain: Chain, channel: usize) -> Demand
+    requires { IsTurnTold bench.now root.line root.place chain.demand.line chain.demand.place (Waits channel) }
+    ensures { IsAwaited bench.now root.line root.place chain result }
+{
+    Demand {
+        line: Line::Channel(channel),
+        place: bench.taken(channel),
+    }
+}
+
+// The chain with the value for which the writer of its last one waits. After so many waits as there are instances it begins anew, so the mark
+// of a ring comes to be in it.
+fn longer(bench: &Bench<'_>, root: Demand, chain: Chain, demand: Demand) -> Chain
+    requires chain { IsWaitChain bench.now root.line root.place chain }
+    requires awaited { IsAwaited bench.now root.line root.place chain demand }
+    ensures { IsWaitChain bench.now root.line root.place result }
+{
+    if chain.waits >= bench.instances() {
+        return begun(bench, root, demand);
+    }
+    Chain {
+        demand,
+        mark: chain.mark,
+        waits: chain.waits + 1,
+    }
+}
+
+// The chain after a turn: with the value for which the writer waits, or anew, once a value was sent.
+fn next_chain(bench: &Bench<'_>, root: Demand, chain: Chain, turn: Turn) -> Chain
+    requires root { IsDemand bench.now root.line root.place root.line root.place }
+    requires chain { IsWaitChain bench.now root.line root.place chain }
+    requires told { IsTurnTold bench.now root.line root.place chain.demand.line chain.demand.place turn }
+    ensures { IsWaitChain bench.now root.line root.place result }
+{
+    match turn {
+        Turn::Sent => begun(bench, root, root),
+        Turn::Waits(channel) => {
+            let demand = awaited(bench, root, chain, channel);
+            longer(bench, root, chain, demand)
+        }
+        Turn::Acted => chain,
+        Turn::Over => chain,
+        Turn::Bound => chain,
+        Turn::NoMemory => chain,
+    }
+}
+
+// Whether two values are the same one.
+fn is_same(first: Demand, second: Demand) -> bool
+    ensures { result ≡ true → first ≡ second }
+{
+    first == second
+}
+
+// Whether the value at which a chain begins is waited for at its end.
+fn is_ring(bench: &Bench<'_>, root: Demand, chain: Chain, demand: Demand) -> bool
+    requires chain { IsWaitChain bench.now root.line root.place chain }
+    requires awaited { IsAwaited bench.now root.line root.place chain demand }
+    ensures { result ≡ true → IsEndOfSearch bench.now root.line root.place Ring }
+{
+    bench.laid();
+    is_same(chain.mark, demand)
+}
+
 // Whether the search is over after a turn, and how.
-fn ended_by(bench: &Bench<'_>, root: Demand, demand: Demand, turn: Turn) -> Option<Sought>
-    requires told { IsTurnTold bench.now root.line root.place demand.line demand.place turn }
+fn ended_by(bench: &Bench<'_>, root: Demand, chain: Chain, turn: Turn) -> Option<Sought>
+    requires chain { IsWaitChain bench.now root.line root.place chain }
+    requires told { IsTurnTold bench.now root.line root.place chain.demand.line chain.demand.place turn }
     ensures { IfSome result (IsEndOfSearch bench.now root.line root.place) }
 {
     match turn {
@@ -130,8 +197,9 @@ fn ended_by(bench: &Bench<'_>, root: Demand, demand: Demand, turn: Turn) -> Opti
         Turn::Over => Some(Sought::Never),
         Turn::Bound => Some(Sought::Bound),
         Turn::NoMemory => Some(Sought::NoMemory),
-        Turn::Waits(_) => {
-            if demand.waits > bench.instances() {
+        Turn::Waits(channel) => {
+            let demand = awaited(bench, root, chain, channel);
+            if is_ring(bench, root, chain, demand) {
                 return Some(Sought::Ring);
             }
             None
@@ -159,13 +227,13 @@ fn left_after(turn: Turn, left: u64) -> u64 {
     }
 }
 
-/// Processes act until the value of a demand was sent, or it is known that it never is, for at most `bound` events. All that they do is
+/// Processes act until the value of a demand was sent, or it is known that it never is, for as many events as are left. All that they do is
 /// needed.
 pub(crate) fn search<L: Ledger>(
     blank: Blank,
     bench: &mut Bench<'_>,
     root: Demand,
-    bound: u64,
+    left: &mut u64,
 ) -> Sought
     requires blank { (blank.name ≡ L.name) × (blank.parts ≡ L.parts) × (0 < blank.parts) }
     requires root { IsDemand bench.old root.line root.place root.line root.place }
@@ -175,21 +243,20 @@ pub(crate) fn search<L: Ledger>(
     ensures sought { IsEndOfSearch bench.new root.line root.place result }
 {
     let mut steps = Steps::<L>::open(blank);
-    let mut demand = root;
-    let mut left = bound;
+    let mut chain = begun(bench, root, root);
     for _ in 0..u64::MAX {
         if has_come(bench, root) {
             return Sought::Come;
         }
-        if left == 0 {
+        if *left == 0 {
             return Sought::Bound;
         }
-        let turn = act(bench, root, demand, &mut steps);
-        if let Some(end) = ended_by(bench, root, demand, turn) {
+        let turn = act(bench, root, chain.demand, &mut steps);
+        if let Some(end) = ended_by(bench, root, chain, turn) {
             return end;
         }
-        left = left_after(turn, left);
-        demand = next_demand(bench, root, demand, turn);
+        *left = left_after(turn, *left);
+        chain = next_chain(bench, root, chain, turn);
     }
     Sought::Bound
 }

@@ -4,7 +4,7 @@ ghost use Rattle.std.specs.Prelude.{Contains, IfSome};
 
 use crate::guards::guard_of;
 use crate::indent::{Misfit, first_misfit};
-use crate::layout::{Seat, seats};
+use crate::layout::{PlacedLexeme, seats};
 use crate::mending::mending;
 use crate::place::{Place, found, front};
 use crate::said::{Said, headed, insertion, replacement};
@@ -48,8 +48,8 @@ fn open_there(blocks: &[Block], span: Span) -> Option<Block>
 fn add_where(
     words: &mut String,
     text: &str,
-    begin: Seat,
-    seat: Option<Seat>,
+    begin: PlacedLexeme,
+    seat: Option<PlacedLexeme>,
 ) -> Result<(), AllocError> {
     match seat {
         Some(seat) if begin.line == seat.line => {
@@ -68,8 +68,8 @@ fn add_where(
 fn unclosed_said(
     alloc: Global,
     place: Place,
-    all: &[Seat],
-    begin: Seat,
+    all: &[PlacedLexeme],
+    begin: PlacedLexeme,
     number: usize,
 ) -> Result<Option<Said>, AllocError> {
     let blocks = open_behind(alloc, front(place.lexemes, number))?;
@@ -82,7 +82,7 @@ fn unclosed_said(
 }
 
 /// Whether the lexeme with a number is a `begin`.
-fn is_begin(all: &[Seat], number: Option<usize>) -> bool {
+fn is_begin(all: &[PlacedLexeme], number: Option<usize>) -> bool {
     match number {
         Some(number) => match all.get(number) {
             Some(seat) => seat.lexeme.what == BEGIN,
@@ -97,7 +97,7 @@ fn doubled(
     alloc: Global,
     place: Place,
     at: Span,
-    all: &[Seat],
+    all: &[PlacedLexeme],
     begin: usize,
     span: Span,
 ) -> Result<Option<Fix>, NoMemory> {
@@ -113,7 +113,7 @@ fn unclosed(
     alloc: Global,
     place: Place,
     at: Span,
-    all: &[Seat],
+    all: &[PlacedLexeme],
     begin: usize,
     number: usize,
 ) -> Result<Option<Said>, NoMemory> {
@@ -162,7 +162,7 @@ fn surplus_said(alloc: Global, end: Lexeme) -> Result<Said, AllocError> {
 fn surplus(
     alloc: Global,
     place: Place,
-    all: &[Seat],
+    all: &[PlacedLexeme],
     number: usize,
 ) -> Result<Option<Said>, AllocError> {
     let Some(seat) = all.get(number) else {

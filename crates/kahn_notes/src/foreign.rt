@@ -1,13 +1,14 @@
 //! Words of other languages, and what this one has in their place.
 
 use crate::advice::{advice, are_joined};
+use crate::habits::HABITS;
 use crate::place::{Place, ahead, back, before, found, is_declared, letters};
 use crate::wanting::{awaits, finds};
 use kahn_syntax::{Class, Keyword, Lexeme, Sign};
 use kahn_wanted::{Spot, Wanted};
 
 /// Whether a word is one of these, in any letter case.
-fn is_one_of(word: &[u8], others: &[&str]) -> bool {
+pub(crate) fn is_one_of(word: &[u8], others: &[&str]) -> bool {
     for other in others {
         if word.eq_ignore_ascii_case(other.as_bytes()) {
             return true;
@@ -17,10 +18,10 @@ fn is_one_of(word: &[u8], others: &[&str]) -> bool {
 }
 
 /// Words of other languages, the keyword in their place if the text goes on with it, and what is said of them.
-type Told = (&'static [&'static str], Option<Keyword>, &'static str);
+type WordRow = (&'static [&'static str], Option<Keyword>, &'static str);
 
 /// Those that are told of wherever they stand.
-const FOREIGN: [Told; 20] = [
+const FOREIGN: [WordRow; 22] = [
     (
         &["for", "until", "foreach"],
         None,
@@ -95,7 +96,7 @@ const FOREIGN: [Told; 20] = [
         "a process is `process P(integer in U; integer out W); begin .. end`",
     ),
     (
-        &["endif", "endwhile", "endfor", "fi", "od", "done"],
+        &["endif", "endwhile", "endfor", "fi", "od", "done", "tel"],
         Some(Keyword::End),
         "an `if`, a `while` or a `repeat` has no `end` of its own",
     ),
@@ -115,6 +116,16 @@ const FOREIGN: [Told; 20] = [
         "there is no shift: `X * 16`, `X div 16`",
     ),
     (
+        &["seq"],
+        None,
+        "statements stand one behind another, with `;` between: `begin S; T end`",
+    ),
+    (
+        &["pre", "fby"],
+        None,
+        "a variable keeps what came before: `J := I; I := wait(C)`",
+    ),
+    (
         &["inout"],
         None,
         "one process reads a channel, and another one writes it: `in U`, `out W`",
@@ -125,14 +136,14 @@ const FOREIGN: [Told; 20] = [
         "a value is sent by `send E on C`",
     ),
     (
-        &["go", "call", "spawn", "cobegin", "parbegin"],
+        &["go", "call", "spawn", "start", "run", "cobegin", "parbegin"],
         None,
         "nothing starts an instance: it is `p(A, B)`, and `par` stands between two",
     ),
 ];
 
 /// Those that are told of where they begin a statement.
-const ACTING: [Told; 6] = [
+const ACTING: [WordRow; 6] = [
     (
         &["select", "alt"],
         None,
@@ -166,7 +177,7 @@ const ACTING: [Told; 6] = [
 ];
 
 /// Those that are told of where a value may stand.
-const GIVING: [Told; 1] = [(
+const GIVING: [WordRow; 1] = [(
     &["recv", "receive", "read", "get", "take", "await"],
     Some(Keyword::Wait),
     "a value is taken by `wait(C)`",
@@ -184,7 +195,7 @@ pub(crate) struct Foreign {
 }
 
 /// The row of a word, where it is one of these.
-fn told_word(told: &'static [Told], word: &[u8]) -> Option<(Option<Keyword>, &'static str)> {
+fn told_word(told: &'static [WordRow], word: &[u8]) -> Option<(Option<Keyword>, &'static str)> {
     for row in told {
         if is_one_of(word, row.0) {
             return Some((row.1, row.2));
@@ -225,7 +236,7 @@ fn free_name<'p>(place: Place<'p>, count: usize) -> &'p [u8] {
 }
 
 /// One of these words so far before a place.
-fn foreign_in(told: &'static [Told], place: Place, count: usize) -> Option<Foreign> {
+fn foreign_in(told: &'static [WordRow], place: Place, count: usize) -> Option<Foreign> {
     let (put, words) = told_word(told, free_name(place, count))?;
     let spot = if count == 0 { Spot::Here } else { Spot::Before };
     Some(Foreign { spot, put, words })
@@ -274,6 +285,6 @@ pub(crate) fn habit_words(place: Place) -> Option<&'static str> {
     let (before, found) = (before(place), found(place));
     match joins(before, found, place.wanted) {
         Some(words) => Some(words),
-        None => advice(before, found, place.wanted),
+        None => advice(&HABITS, place),
     }
 }

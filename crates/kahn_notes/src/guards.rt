@@ -1,6 +1,6 @@
 //! Which `do`, `then`, `else` or `repeat` the statements before an `end` stand behind.
 
-use crate::layout::Seat;
+use crate::layout::PlacedLexeme;
 use crate::place::front;
 use kahn_syntax::{Class, Keyword};
 
@@ -9,9 +9,9 @@ const FAR: usize = 256;
 
 /// A walk back from an `end`.
 #[derive(Clone, Copy)]
-struct Back {
+struct GuardSearch {
     /// The `end`.
-    end: Seat,
+    end: PlacedLexeme,
     /// How many blocks are closed behind the lexeme.
     depth: usize,
     /// What stands behind it.
@@ -49,7 +49,7 @@ fn depth_before(depth: usize, class: Class) -> Option<usize> {
 }
 
 /// Whether a lexeme stands outside of the lines that belong to the `end`.
-fn is_outside(end: Seat, seat: Seat) -> bool {
+fn is_outside(end: PlacedLexeme, seat: PlacedLexeme) -> bool {
     if end.first {
         seat.deep < end.deep
     } else {
@@ -58,7 +58,7 @@ fn is_outside(end: Seat, seat: Seat) -> bool {
 }
 
 /// Whether statements without a block stand behind a lexeme, to the `end`.
-fn is_guard(back: Back, seat: Seat) -> bool {
+fn is_guard(back: GuardSearch, seat: PlacedLexeme) -> bool {
     let is_else_if = seat.lexeme.what == Class::Word(Keyword::Else)
         && is_word(back.next, Keyword::If);
     leads_on(seat.lexeme.what)
@@ -68,9 +68,9 @@ fn is_guard(back: Back, seat: Seat) -> bool {
 }
 
 /// A walk behind one lexeme more, which has this number.
-fn passed(back: Back, number: usize, seat: Seat) -> Back {
+fn passed(back: GuardSearch, number: usize, seat: PlacedLexeme) -> GuardSearch {
     let what = seat.lexeme.what;
-    let stop = Back { done: true, ..back };
+    let stop = GuardSearch { done: true, ..back };
     let Some(depth) = depth_before(back.depth, what) else {
         return stop;
     };
@@ -83,7 +83,7 @@ fn passed(back: Back, number: usize, seat: Seat) -> Back {
         back.found
     };
     let level = back.end.first && seat.deep == back.end.deep;
-    Back {
+    GuardSearch {
         depth,
         next: Some(what),
         found,
@@ -94,8 +94,8 @@ fn passed(back: Back, number: usize, seat: Seat) -> Back {
 
 /// The number of the lexeme to which the statements before an `end` belong, which has that number: on its line, or on the nearest line
 /// that is as deep.
-pub(crate) fn guard_of(seats: &[Seat], number: usize, end: Seat) -> Option<usize> {
-    let mut back = Back {
+pub(crate) fn guard_of(seats: &[PlacedLexeme], number: usize, end: PlacedLexeme) -> Option<usize> {
+    let mut back = GuardSearch {
         end,
         depth: 0,
         next: None,

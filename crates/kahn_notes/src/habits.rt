@@ -1,7 +1,7 @@
 //! The words for what stands as in another language, or without what belongs to it, and where each is said.
 
-use crate::advice::Test::{All, First, May, MayNot, NotAll, Number, Operator, Value};
-use crate::advice::{Habit, Pair};
+use crate::advice::Condition::{All, First, May, MayNot, NotAll, Number, Operator, Value};
+use crate::advice::Habit;
 use crate::classes::{ACTS, BEGINS, HANDS, OPERATES, STARTS, STOPS, WORDS};
 use kahn_syntax::Class::{Name, Sign, Word};
 use kahn_syntax::Keyword::{
@@ -41,87 +41,42 @@ pub(crate) const NESTED: [Habit; 4] = [
     ),
 ];
 
-/// Two signs that are one in other languages, or are told where they stand side by side.
-pub(crate) const SIGNS: [Pair; 10] = [
+/// Two signs that stand side by side, without a blank between.
+pub(crate) const SIGNS: [Habit; 5] = [
     (
-        "",
-        (
-            &[Sign(Open)],
-            &[Sign(Times)],
-            &[],
-            "a comment goes from `comment` to `;`",
-        ),
+        &[Sign(Open)],
+        &[Sign(Times)],
+        &[],
+        "a comment goes from `comment` to `;`",
     ),
     (
-        "",
-        (
-            &[Sign(Minus)],
-            &[Sign(Greater)],
-            &[],
-            "there is no arrow: `send E on C`, `X := wait(C)`",
-        ),
+        &[Sign(Minus)],
+        &[Sign(Greater)],
+        &[],
+        "there is no arrow: `send E on C`, `X := wait(C)`",
     ),
     (
-        "=",
-        (&[Sign(Equal)], &[Sign(Equal)], &[], "equal is one `=`"),
+        &[Sign(Less)],
+        &[Sign(Less)],
+        &[],
+        "there is no shift: `X * 16`, `X div 16`",
     ),
     (
-        "<=",
-        (&[Sign(Equal)], &[Sign(Less)], &[], "at most is `<=`"),
+        &[Sign(Greater)],
+        &[Sign(Greater)],
+        &[],
+        "there is no shift: `X * 16`, `X div 16`",
     ),
     (
-        ">=",
-        (&[Sign(Equal)], &[Sign(Greater)], &[], "at least is `>=`"),
-    ),
-    (
-        "",
-        (
-            &[Sign(Less)],
-            &[Sign(Less)],
-            &[],
-            "there is no shift: `X * 16`, `X div 16`",
-        ),
-    ),
-    (
-        "",
-        (
-            &[Sign(Greater)],
-            &[Sign(Greater)],
-            &[],
-            "there is no shift: `X * 16`, `X div 16`",
-        ),
-    ),
-    (
-        "",
-        (
-            &[Sign(Times)],
-            &[Sign(Times)],
-            &[],
-            "there is no power: `X * X`",
-        ),
-    ),
-    (
-        "",
-        (
-            &[Sign(Becomes)],
-            &[Sign(Less)],
-            &[],
-            "a value is taken by `wait(C)`",
-        ),
-    ),
-    (
-        "",
-        (
-            &[],
-            &[Sign(Plus), Sign(Minus)],
-            &[May(Sign(Becomes))],
-            "there is no `++` and no `+=`: `X := X + 1`",
-        ),
+        &[Sign(Times)],
+        &[Sign(Times)],
+        &[],
+        "there is no power: `X * X`",
     ),
 ];
 
 /// The first that holds is told.
-pub(crate) const HABITS: [Habit; 60] = [
+pub(crate) const HABITS: [Habit; 59] = [
     (
         &[Word(Then)],
         &[Word(Wait)],
@@ -435,12 +390,6 @@ pub(crate) const HABITS: [Habit; 60] = [
     ),
     (
         &[],
-        &[Sign(Becomes)],
-        &[MayNot(Sign(Comma))],
-        "equal is `=`; `:=` assigns to a name, in a statement of its own",
-    ),
-    (
-        &[],
         &[Sign(Comma)],
         &[May(Sign(Close))],
         "one value or one channel stands between these brackets; `print E` and `send E on C` have one value",
@@ -486,5 +435,33 @@ pub(crate) const HABITS: [Habit; 60] = [
         WORDS,
         &[May(Name), NotAll(Declaration)],
         "a keyword is no name, in any letter case: take another one",
+    ),
+];
+
+/// These are told where nothing else is.
+pub(crate) const LAST: [Habit; 4] = [
+    (
+        &[],
+        &[Word(Else)],
+        &[May(Word(End))],
+        "an `else` stands behind `if E then S`, where S is one statement; `begin` and `end` make one of several",
+    ),
+    (
+        &[],
+        &[Sign(Comma)],
+        &[May(Word(On))],
+        "`send` sends one value: `send E on C; send F on C`",
+    ),
+    (
+        &[],
+        &[Sign(Equal)],
+        &[May(Sign(Becomes))],
+        "a statement that begins with a name assigns to it: `X := E`",
+    ),
+    (
+        &[],
+        &[Sign(Close)],
+        &[],
+        "this `)` has no `(`: insert `(` before it, or leave it out",
     ),
 ];

@@ -1,13 +1,13 @@
 //! Which block has no `end`, and which `end` is one too many, by the indentation of their lines.
 
 use crate::guards::{guard_of, is_word};
-use crate::layout::Seat;
+use crate::layout::PlacedLexeme;
 use kahn_syntax::{Class, Keyword};
 use std::alloc::{AllocError, Global};
 
 /// An open block.
 #[derive(Clone, Copy)]
-struct Open {
+struct OpenBlock {
     /// The number of its `begin`.
     begin: usize,
     /// The line of that, and how deep it is indented.
@@ -30,19 +30,19 @@ pub(crate) enum Misfit {
 
 /// What is looked for, and what was found so far.
 #[derive(Drop)]
-struct Walk {
+struct BlockWalk {
     /// Whether `end`s are missing; else there are too many.
     missing: bool,
     /// How many lexemes stand before the place.
     number: usize,
     /// The open blocks, the outermost first.
-    open: Vec<Open>,
+    open: Vec<OpenBlock>,
     /// An `end` behind other lexemes of its line.
     doubt: Option<usize>,
 }
 
 /// Whether a lexeme stands on another line than the `begin` of a block.
-fn is_far(top: Option<Open>, seat: Seat) -> bool {
+fn is_far(top: Option<OpenBlock>, seat: PlacedLexeme) -> bool {
     match top {
         Some(top) => top.line != seat.line,
         None => false,
@@ -50,7 +50,7 @@ fn is_far(top: Option<Open>, seat: Seat) -> bool {
 }
 
 /// Whether an `end` is less indented than its block.
-fn is_shallow(top: Option<Open>, seat: Seat) -> bool {
+fn is_shallow(top: Option<OpenBlock>, seat: PlacedLexeme) -> bool {
     match top {
         Some(top) => is_far(Some(top), seat) && seat.first && seat.deep < top.deep,
         None => false,
@@ -58,7 +58,12 @@ fn is_shallow(top: Option<Open>, seat: Seat) -> bool {
 }
 
 /// Whether an `end` seems to be one too many: it is deeper than its block, or closes statements without one.
-fn is_deep(top: Option<Open>, seats: &[Seat], number: usize, seat: Seat) -> bool {
+fn is_deep(
+    top: Option<OpenBlock>,
+    seats: &[PlacedLexeme],
+    number: usize,
+    seat: PlacedLexeme,
+) -> bool {
     match top {
         Some(top) => {
             is_far(Some(top), seat)
@@ -73,7 +78,12 @@ fn is_deep(top: Option<Open>, seats: &[Seat], number: usize, seat: Seat) -> bool
 }
 
 /// What an `end` says where `end`s are missing.
-fn at_missing(walk: &Walk, top: Option<Open>, number: usize, seat: Seat) -> Option<Misfit> {
+fn at_missing(
+    walk: &BlockWalk,
+    top: Option<OpenBlock>,
+    number: usize,
+    seat: PlacedLexeme,
+) -> Option<Misfit> {
     match top {
         Some(block) if walk.missing && is_shallow(top, seat) => {
             Some(Misfit::Unclosed(block.begin, number))
@@ -84,11 +94,11 @@ fn at_missing(walk: &Walk, top: Option<Open>, number: usize, seat: Seat) -> Opti
 
 /// What an `end` says where there are too many.
 fn at_surplus(
-    walk: &Walk,
-    top: Option<Open>,
-    seats: &[Seat],
+    walk: &BlockWalk,
+    top: Option<OpenBlock>,
+    seats: &[PlacedLexeme],
     number: usize,
-    seat: Seat,
+    seat: PlacedLexeme,
 ) -> Option<Misfit> {
     if walk.missing || !(walk.open.len() < 2 || is_deep(top, seats, number, seat)) {
         return None;
@@ -104,7 +114,12 @@ fn at_surplus(
 }
 
 /// What an `end` says.
-fn at_end(walk: &mut Walk, seats: &[Seat], number: usize, seat: Seat) -> Option<Misfit> {
+fn at_end(
+    walk: &mut BlockWalk,
+    seats: &[PlacedLexeme],
+    number: usize,
+    seat: PlacedLexeme,
+) -> Option<Misfit> {
     let top = walk.open.last().copied();
     if let Some(found) = at_missing(walk, top, number, seat) {
         return Some(found);
@@ -122,7 +137,7 @@ fn at_end(walk: &mut Walk, seats: &[Seat], number: usize, seat: Seat) -> Option<
 
 /// Whether the lines of a block aren't deeper than its `begin`, so that indentation says nothing of it; or whether this is its first
 /// line, and deeper.
-fn is_inner(walk: &Walk, top: Open, number: usize, seat: Seat) -> bool {
+fn is_inner(walk: &BlockWalk, top: OpenBlock, number: usize, seat: PlacedLexeme) -> bool {
     let what = seat.lexeme.what;
     let is_body = match top.next {
         Some(class) => {
@@ -140,7 +155,7 @@ fn is_inner(walk: &Walk, top: Open, number: usize, seat: Seat) -> bool {
 }
 
 /// Whether a block had to end before a line.
-fn is_past(top: Open, seat: Seat) -> bool {
+fn is_past(top: OpenBlock, seat: PlacedLexeme) -> bool {
     let what = seat.lexeme.what;
     match top.inner {
         None => true,
@@ -153,7 +168,7 @@ fn is_past(top: Open, seat: Seat) -> bool {
 }
 
 /// What a lexeme says that begins a line and is no `end`.
-fn at_line(walk: &mut Walk, number: usize, seat: Seat) -> Option<Misfit> {
+fn at_line(walk: &mut BlockWalk, number: usize, seat: PlacedLexeme) -> Option<Misfit> {
     let Some(top) = walk.open.last().copied() else {
         return None;
     };
@@ -174,16 +189,16 @@ fn at_line(walk: &mut Walk, number: usize, seat: Seat) -> Option<Misfit> {
 
 /// What a lexeme says, and which blocks are open then.
 fn at_seat(
-    walk: &mut Walk,
-    seats: &[Seat],
+    walk: &mut BlockWalk,
+    seats: &[PlacedLexeme],
     number: usize,
-    seat: Seat,
+    seat: PlacedLexeme,
 ) -> Result<Option<Misfit>, AllocError> {
     match seat.lexeme.what {
         Class::Word(Keyword::End) => return Ok(at_end(walk, seats, number, seat)),
         Class::Word(Keyword::Begin) => {
             let next = seats.get(number.saturating_add(1));
-            walk.open.push(Open {
+            walk.open.push(OpenBlock {
                 begin: number,
                 line: seat.line,
                 deep: seat.deep,
@@ -205,7 +220,7 @@ fn at_seat(
 
 /// What is said where nothing was found: at what may not stand in a block, that the innermost one is open; at the end of the text that of
 /// the program may be.
-fn at_place(walk: &Walk, late: bool, count: usize) -> Option<Misfit> {
+fn at_place(walk: &BlockWalk, late: bool, count: usize) -> Option<Misfit> {
     let outer = if walk.number < count { 1 } else { 0 };
     match walk.open.last() {
         Some(top) if late && walk.missing && walk.open.len() > outer => {
@@ -219,12 +234,12 @@ fn at_place(walk: &Walk, late: bool, count: usize) -> Option<Misfit> {
 /// may not stand in a block.
 pub(crate) fn first_misfit(
     alloc: Global,
-    seats: &[Seat],
+    seats: &[PlacedLexeme],
     number: usize,
     missing: bool,
     late: bool,
 ) -> Result<Option<Misfit>, AllocError> {
-    let mut walk = Walk {
+    let mut walk = BlockWalk {
         missing,
         number,
         open: Vec::new(alloc),

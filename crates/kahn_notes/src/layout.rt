@@ -6,7 +6,7 @@ use std::alloc::{AllocError, Global};
 
 /// A line up to some byte.
 #[derive(Clone, Copy)]
-struct Line {
+struct Indentation {
     number: usize,
     /// How deep it is indented, in columns.
     deep: usize,
@@ -16,7 +16,7 @@ struct Line {
 
 /// A lexeme, with its line.
 #[derive(Clone, Copy)]
-pub(crate) struct Seat {
+pub(crate) struct PlacedLexeme {
     /// The lexeme.
     pub(crate) lexeme: Lexeme,
     /// The number of its line.
@@ -28,22 +28,22 @@ pub(crate) struct Seat {
 }
 
 /// A line behind one byte more; a tab goes to the next multiple of 8.
-fn passed(line: Line, byte: u8) -> Line {
+fn passed(line: Indentation, byte: u8) -> Indentation {
     match (byte, line.blank) {
-        (b'\n', _) => Line {
+        (b'\n', _) => Indentation {
             number: line.number.saturating_add(1),
             deep: 0,
             blank: true,
         },
-        (b' ', true) => Line {
+        (b' ', true) => Indentation {
             deep: line.deep.saturating_add(1),
             ..line
         },
-        (b'\t', true) => Line {
+        (b'\t', true) => Indentation {
             deep: (line.deep | 7).saturating_add(1),
             ..line
         },
-        (_, _) => Line {
+        (_, _) => Indentation {
             blank: false,
             ..line
         },
@@ -51,7 +51,7 @@ fn passed(line: Line, byte: u8) -> Line {
 }
 
 /// A line behind more bytes.
-fn walked(line: Line, bytes: &[u8]) -> Line {
+fn walked(line: Indentation, bytes: &[u8]) -> Indentation {
     let mut line = line;
     for byte in bytes {
         line = passed(line, *byte);
@@ -64,9 +64,9 @@ pub(crate) fn seats(
     alloc: Global,
     text: &str,
     lexemes: &[Lexeme],
-) -> Result<Vec<Seat>, AllocError> {
+) -> Result<Vec<PlacedLexeme>, AllocError> {
     let mut seats = Vec::new(alloc);
-    let mut line = Line {
+    let mut line = Indentation {
         number: 1,
         deep: 0,
         blank: true,
@@ -75,7 +75,7 @@ pub(crate) fn seats(
     for lexeme in lexemes {
         line = walked(line, bytes_between(text, at, lexeme.span.from));
         at = lexeme.span.from;
-        seats.push(Seat {
+        seats.push(PlacedLexeme {
             lexeme: *lexeme,
             line: line.number,
             deep: line.deep,

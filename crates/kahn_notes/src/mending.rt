@@ -81,19 +81,3 @@ pub(crate) fn mending(
     }
     Ok(None)
 }
-
-/// Whether a text with a change is a program.
-pub(crate) fn is_program(alloc: Global, text: &str, fix: &Fix) -> Result<bool, NoMemory> {
-    match applied(alloc, text, fix)? {
-        Some(new) => match parse(alloc, new.as_str()) {
-            Ok(_) => Ok(true),
-            Err(fault) => {
-                if fault == SyntaxFault::NoMemory {
-                    return Err(NoMemory);
-                }
-                Ok(false)
-            }
-        },
-        None => Ok(false),
-    }
-}

@@ -1,13 +1,16 @@
 //! What is said of a place where a text goes wrong, beside what was expected there: the first that answers.
 
-use crate::advice::{early_advice, sign_said};
+use crate::advice::{advice, early_advice};
 use crate::blocks::blocks_said;
 use crate::choice::{Offers, change, first_of, left_out, likely, slip_of, too_many};
 use crate::foreign::{Foreign, foreign_word, habit_words};
-use crate::mending::{is_program, mending};
-use crate::one::one_words;
+use crate::habits::LAST;
+use crate::mending::mending;
 use crate::place::{Place, before, found};
-use crate::said::{Said, change_said, fix_of, meant, quoted, replacement, sentence, text_of};
+use crate::rewriting::rewritten;
+use crate::said::{
+    Said, change_said, fix_of, meant, quoted, replacement, rewriting_said, sentence, text_of,
+};
 use crate::spelling::{remark_slip, slips};
 use crate::split::split_words;
 use crate::wanting::finds;
@@ -90,66 +93,6 @@ fn told(alloc: Global, words: Option<&str>) -> Result<Option<Said>, AllocError> 
     }
 }
 
-/// Whether it is a word of a declaration of channels or parameters.
-fn is_declaring(lexeme: Lexeme) -> bool {
-    matches!(
-        lexeme.what,
-        Class::Word(
-            Keyword::Integer
-                | Keyword::Logical
-                | Keyword::In
-                | Keyword::Out
-                | Keyword::Input
-                | Keyword::Output
-                | Keyword::Channel
-        )
-    )
-}
-
-/// Two such words interchanged, if that makes a program.
-fn turned(
-    alloc: Global,
-    text: &str,
-    first: Option<Lexeme>,
-    second: Option<Lexeme>,
-) -> Result<Option<Fix>, NoMemory> {
-    let (Some(first), Some(second)) = (first, second) else {
-        return Ok(None);
-    };
-    if !is_declaring(first) || !is_declaring(second) {
-        return Ok(None);
-    }
-    let both = Span {
-        from: first.span.from,
-        to: second.span.to,
-    };
-    let mut put = String::from_str(alloc, text_of(text, second))?;
-    put.push_str(" ")?;
-    put.push_str(text_of(text, first))?;
-    let fix = replacement(alloc, both, put.as_str())?;
-    if is_program(alloc, text, &fix)? {
-        return Ok(Some(fix));
-    }
-    Ok(None)
-}
-
-/// What is said of two words of a declaration that stand in the other order.
-fn turned_said(alloc: Global, place: Place) -> Result<Option<Said>, NoMemory> {
-    let next = place.lexemes.get(place.number.saturating_add(1)).copied();
-    let fix = match turned(alloc, place.text, found(place), next)? {
-        Some(fix) => Some(fix),
-        None => turned(alloc, place.text, before(place), found(place))?,
-    };
-    if fix.is_none() {
-        return Ok(None);
-    }
-    Ok(Some(Said {
-        head: None,
-        fix,
-        below: None,
-    }))
-}
-
 /// What is said of the changes that are most often meant.
 fn likely_said(
     alloc: Global,
@@ -159,9 +102,6 @@ fn likely_said(
 ) -> Result<Option<Said>, NoMemory> {
     let likely = likely(alloc, place)?;
     if let Some(said) = offered(alloc, place, span, offers, &likely)? {
-        return Ok(Some(said));
-    }
-    if let Some(said) = turned_said(alloc, place)? {
         return Ok(Some(said));
     }
     if let Some(words) = split_words(alloc, place)? {
@@ -188,7 +128,7 @@ fn last_said(
             return Ok(Some(said));
         }
     }
-    Ok(told(alloc, one_words(place))?)
+    Ok(told(alloc, advice(&LAST, place))?)
 }
 
 /// Whether a change puts a keyword in the place of a lexeme.
@@ -268,6 +208,9 @@ pub(crate) fn grammar_said(
     span: Span,
     offers: &Offers,
 ) -> Result<Option<Said>, NoMemory> {
+    if let Some(fix) = rewritten(alloc, place.text, span.from)? {
+        return Ok(Some(rewriting_said(alloc, place.text, span.from, fix)?));
+    }
     if let Some(said) = spelling_said(alloc, place, span, offers)? {
         return Ok(Some(said));
     }
@@ -277,10 +220,7 @@ pub(crate) fn grammar_said(
     if let Some(said) = blocks_said(alloc, place, span)? {
         return Ok(Some(said));
     }
-    if let Some(said) = sign_said(alloc, place)? {
-        return Ok(Some(said));
-    }
-    if let Some(words) = early_advice(before(place), found(place), place.wanted) {
+    if let Some(words) = early_advice(place) {
         return Ok(told(alloc, Some(words))?);
     }
     if let Some(said) = likely_said(alloc, place, span, offers)? {

@@ -2,7 +2,7 @@
 
 use crate::place::{Place, before, found, letters};
 use crate::words::put_text;
-use kahn_marks::{Fix, add};
+use kahn_marks::{Fix, add, part_of};
 use kahn_syntax::{Class, Lexeme, Span};
 use kahn_wanted::{Change, Spot};
 use std::alloc::{AllocError, Global};
@@ -154,6 +154,32 @@ fn changed_words(
         }
         None => quoted(alloc, "unexpected ", old, ""),
     }
+}
+
+/// What is said of several words and signs that a change replaces.
+pub(crate) fn rewriting_said(
+    alloc: Global,
+    text: &str,
+    at: usize,
+    fix: Fix,
+) -> Result<Said, AllocError> {
+    let (old, put) = (part_of(text, fix.span), fix.put.as_str());
+    let mut words = if put.is_empty() {
+        String::from_str(alloc, "unexpected ")?
+    } else {
+        quoted(alloc, "expected ", put, ", found ")?
+    };
+    add(&mut words, &["`", old, "`"])?;
+    let head = if fix.span.from == at {
+        None
+    } else {
+        Some((fix.span, words))
+    };
+    Ok(Said {
+        head,
+        fix: Some(fix),
+        below: None,
+    })
 }
 
 /// What is said of a change.

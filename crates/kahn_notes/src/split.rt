@@ -9,7 +9,7 @@ use std::alloc::{AllocError, Global};
 
 /// A walk back from an `else`, in its list of statements.
 #[derive(Clone, Copy)]
-struct Back {
+struct ThenSearch {
     /// How many blocks are closed behind the lexeme.
     depth: usize,
     /// How many `;` stand behind it, outside of these.
@@ -21,24 +21,24 @@ struct Back {
 }
 
 /// A walk behind one lexeme more.
-fn passed(back: Back, lexeme: Lexeme) -> Back {
+fn passed(back: ThenSearch, lexeme: Lexeme) -> ThenSearch {
     let depth = match lexeme.what {
         Class::Word(Keyword::End) => Some(back.depth.saturating_add(1)),
         Class::Word(Keyword::Begin) => back.depth.checked_sub(1),
         _ => Some(back.depth),
     };
     let Some(depth) = depth else {
-        return Back { done: true, ..back };
+        return ThenSearch { done: true, ..back };
     };
     if depth == 0 && is_word(Some(lexeme.what), Keyword::Then) {
-        return Back {
+        return ThenSearch {
             then: Some(lexeme),
             done: true,
             ..back
         };
     }
     let is_part = depth == 0 && lexeme.what == Class::Sign(Sign::Semicolon);
-    Back {
+    ThenSearch {
         depth,
         parts: back.parts.saturating_add(if is_part { 1 } else { 0 }),
         ..back
@@ -46,8 +46,8 @@ fn passed(back: Back, lexeme: Lexeme) -> Back {
 }
 
 /// The last `then` before a place, in its list of statements, and how many `;` stand behind it.
-fn last_then(place: Place) -> Back {
-    let mut back = Back {
+fn last_then(place: Place) -> ThenSearch {
+    let mut back = ThenSearch {
         depth: 0,
         parts: 0,
         then: None,

@@ -6,8 +6,11 @@ use Rattle.kahn_streams.specs.declared.answer.End.{End}
 use Rattle.kahn_streams.specs.declared.answer.Outcome.{Outcome}
 use Rattle.kahn_streams.specs.declared.answer.Outcome.TheVariants.{Waits}
 use Rattle.kahn_pool.proofs.Lists.{prefix_stands, both_stand, reads_or, nothing_more, same_writer}
-use Rattle.kahn_pool.proofs.Events.{more, same_sends, same_outcome, next_event}
+use Rattle.kahn_pool.proofs.Events.{more, same_left, same_sends, same_outcome, next_event}
 use Rattle.kahn_pool.proofs.Benched.{get_map}
+use Rattle.kahn_streams.proofs.Framed.{and_more}
+use Rattle.kahn_streams.specs.Solution.{tape_of}
+use Rattle.std.proofs.lemmas.List.{length-append}
 use Rattle.kahn_streams.specs.Script as script
 use Rattle.kahn_streams.specs.Solution as net
 
@@ -144,6 +147,18 @@ module _ {state : RunState} {bound left : ℕ} {halted : Bool} {said : Verdict} 
   same : (p : ℕ) → ((exec_at N (e p) p A).events ≡ (exec_on N (e p) p (T p)).events) × ((exec_at N (e p) p A).sent ≡ (exec_on N (e p) p (T p)).sent)
   same p = same_sends N p (e p) (T p) (tapes p) (extended p) (stood p).does
 
+  -- what a reader takes of the tape, and what it leaves
+  pub took_of : (p q c : ℕ) → actual_at (instance_at N p) q ≡ Reads c → (view_at state.cells p).taken q + length ((exec_at N (e p) p A).left q) ≡ length (A (Channel c))
+  took_of p q c r =
+      let left : (exec_at N (e p) p A).left q ≡ (extended p q).0 =
+      ap (λ t. t q) (same_left N p (e p) (T p) (tapes p) (extended p) (stood p).does ∙ ap (λ t. and_more t (λ k. (extended p k).0)) (stood p).all)
+      in
+      let rest = ap length left in
+      let long = ap length (extended p q).1 ∙ length-append (T p q) (extended p q).0 in
+      let tape : length (tapes p q) ≡ length (A (Channel c)) = ap (λ a. length (tape_of A a)) r in
+      let took = (stood p).took q in
+      omega (arith, rest, long, tape, took)
+
   does : (p : ℕ) → (exec_at N (e p) p A).events ≡ e p
   does p = (same p).0 ∙ (stood p).does
 
@@ -198,6 +213,9 @@ module _ {state : RunState} {bound left : ℕ} {halted : Bool} {said : Verdict} 
   ends_with p x h =
       subst (λ y. (y.events ≡ e p) × IsOutcome said N A p (e p) y.outcome) (rest_is p x h)
       ((rest p).1.count, outcome_by said p (rest p).0.outcome (rest p).1.told)
+
+  pub events_of : (p : ℕ) (x : End) → slice_get ends p ≡ Some x → x.events ≡ e p
+  events_of p x h = (ends_with p x h).0
 
   -- ---- a finished network is quiet
 
@@ -349,3 +367,20 @@ module _ {state : RunState} {bound left : ℕ} {halted : Bool} (a : Answer) (g :
         values = λ s h. (kept s h).values;
         whole = whole;
       }
+
+  -- its tapes have all that was given, and where it has finished they are whole
+  pub assembled_long : (c n : ℕ) → IsGiven state.network state.input state.cells c (source state.network (Channel c)) n → length (assembled.run.tapes (Channel c)) ≡ n
+  unfolding are_right assembled
+  assembled_long c n h = long a.events g count c n h
+
+  pub assembled_whole : a.verdict ≡ Finished → (c : Line) → IsWhole state.network state.input c (assembled.run.tapes c)
+  unfolding are_right assembled
+  assembled_whole f c = whole_tapes a.events g count f c
+
+  -- what readers take of them and leave
+  pub assembled_taken : (p q c : ℕ) (x : End) → actual_at (instance_at state.network p) q ≡ Reads c → slice_get a.ends.items p ≡ Some x →
+      (view_at state.cells p).taken q + length ((exec_at state.network x.events p assembled.run.tapes).left q) ≡ length (assembled.run.tapes (Channel c))
+  unfolding are_right assembled
+  assembled_taken p q c x r at =
+      subst (λ n. (view_at state.cells p).taken q + length ((exec_at state.network n p given).left q) ≡ length (given (Channel c))) (sym (events_of a.events g count p x at))
+      (took_of a.events g count p q c r)

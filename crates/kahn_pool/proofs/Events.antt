@@ -1,8 +1,9 @@
 -- What longer tapes and one more event bring.
 use mathlib.Core.Path.{fun_ext}
-use Rattle.std.proofs.Common.{arith, ◌≡◌, ◌⊎◌, inl, inr, ℕ, suc, ◌+◌, List, [], ◌∷◌, ◌++◌, length, refl, sym, ap, ◌∙◌, subst, append-nil, le_refl, ◌<◌}
-use Rattle.kahn_pool.proofs.Common.{Value, Tapes, Script, Give, Fail, Sends, Turns, Rest, Got, Dry, Fault, Cut, Reached, wait_at, play, Step, empty, values_taken, since, and_then, halted, RanBy, Store, Network, instance_at, opening, and_more, play_on, play_taken, ran, cut_is_full, script_at, exec_alike, unrolled, IsPrefix, Stays, exec_on, widened, frame_play, dry_play}
+use Rattle.std.proofs.Common.{arith, ◌≡◌, ◌⊎◌, inl, inr, ℕ, suc, ◌+◌, List, [], ◌∷◌, ◌++◌, length, refl, sym, ap, ◌∙◌, subst, append-nil, le_refl, ◌<◌, Option}
+use Rattle.kahn_pool.proofs.Common.{Channel, Inputs, StoodBy, View, Writes, actual_at, goes_to, sent_on, values_at, Value, Tapes, Script, Give, Fail, Sends, Turns, Rest, Got, Dry, Fault, Cut, Reached, wait_at, play, Step, empty, values_taken, since, and_then, halted, RanBy, Store, Network, instance_at, opening, and_more, play_on, play_taken, ran, cut_is_full, script_at, exec_alike, unrolled, IsPrefix, Stays, exec_on, widened, frame_play, dry_play}
 use Rattle.kahn_streams.specs.Script.{Waits, Outcome}
+use Rattle.kahn_streams.specs.Steps.{sends_of}
 use Rattle.std.proofs.lemmas.List.{length-append}
 
 -- ---- the same events and sends on longer tapes
@@ -25,20 +26,29 @@ module _ (N : Network) (p e : ℕ) (T U : Tapes) (x : (q : ℕ) → IsPrefix (T 
   same_outcome o d k = ap (λ r. r.outcome) (framed (subst (Stays more) (sym d) k)) ∙ d
 
   module _ (does : (exec_on N e p T).events ≡ e) where
-    sends_by : (o : Outcome Store) → (exec_on N e p T).outcome ≡ o → SameSends (exec_on N e p U) (exec_on N e p T)
+    abbrev Same : Type 0
+    Same = SameSends (exec_on N e p U) (exec_on N e p T) × ((exec_on N e p U).left ≡ and_more (exec_on N e p T).left more)
+
+    same_by : {r : Reached Store} → exec_on N e p U ≡ r → r.events ≡ (exec_on N e p T).events → r.sent ≡ (exec_on N e p T).sent → r.left ≡ and_more (exec_on N e p T).left more → Same
+    same_by s events sent left = ((ap (λ x. x.events) s ∙ events, ap (λ x. x.sent) s ∙ sent), ap (λ x. x.left) s ∙ left)
+
+    sends_by : (o : Outcome Store) → (exec_on N e p T).outcome ≡ o → Same
     sends_by (Dry q) d = by (more q) refl
       where
-        by : (zs : List Value) → more q ≡ zs → SameSends (exec_on N e p U) (exec_on N e p T)
-        by [] f = let s = framed (subst (Stays more) (sym d) f) in (ap (λ r. r.events) s, ap (λ r. r.sent) s)
+        by : (zs : List Value) → more q ≡ zs → Same
+        by [] f = same_by (framed (subst (Stays more) (sym d) f)) refl refl refl
         by (z ∷ zs) f =
-            let s = ap (λ V. play e (script_at N e p) V) longer ∙ dry_play e (script_at N e p) T more q (λ g. let h : z ∷ zs ≡ [] = sym f ∙ g in cc) d does in
-            (ap (λ r. r.events) s, ap (λ r. r.sent) s)
-    sends_by (Got a) d = let s = framed (subst (Stays more) (sym d) tt) in (ap (λ r. r.events) s, ap (λ r. r.sent) s)
-    sends_by (Fault k) d = let s = framed (subst (Stays more) (sym d) tt) in (ap (λ r. r.events) s, ap (λ r. r.sent) s)
-    sends_by Cut d = let s = framed (subst (Stays more) (sym d) tt) in (ap (λ r. r.events) s, ap (λ r. r.sent) s)
+            same_by (ap (λ V. play e (script_at N e p) V) longer ∙ dry_play e (script_at N e p) T more q (λ g. let h : z ∷ zs ≡ [] = sym f ∙ g in cc) d does) refl refl refl
+    sends_by (Got a) d = same_by (framed (subst (Stays more) (sym d) tt)) refl refl refl
+    sends_by (Fault k) d = same_by (framed (subst (Stays more) (sym d) tt)) refl refl refl
+    sends_by Cut d = same_by (framed (subst (Stays more) (sym d) tt)) refl refl refl
 
     pub same_sends : SameSends (exec_on N e p U) (exec_on N e p T)
-    same_sends = sends_by (exec_on N e p T).outcome refl
+    same_sends = (sends_by (exec_on N e p T).outcome refl).0
+
+    -- and what was behind is left
+    pub same_left : (exec_on N e p U).left ≡ and_more (exec_on N e p T).left more
+    same_left = (sends_by (exec_on N e p T).outcome refl).1
 
 -- ---- one more event
 
@@ -76,6 +86,36 @@ dry_moves {A = A} (Waits r go) U q v vs h e =
 dry_moves (Sends p w s) U q v vs h e = absurd cc
 dry_moves (Turns s) U q v vs h e = absurd cc
 dry_moves Rest U q v vs h e = absurd cc
+
+-- with no event nothing is taken, and nothing sent
+at_rest : {A : Type 0} (s : Script A) (U : Tapes) → ((play 0 s U).left ≡ U) × ((play 0 s U).sent ≡ [])
+at_rest (Give a) U = (refl, refl)
+at_rest (Fail k) U = (refl, refl)
+at_rest (Waits q go) U = by (U q)
+  where
+    by : (vs : List Value) → ((wait_at 0 q U vs (λ m v T. play m (go v) T)).left ≡ U) × ((wait_at 0 q U vs (λ m v T. play m (go v) T)).sent ≡ [])
+    by [] = (refl, refl)
+    by (v ∷ vs) = (refl, refl)
+at_rest (Sends p v s) U = (refl, refl)
+at_rest (Turns s) U = (refl, refl)
+at_rest Rest U = (refl, refl)
+
+pub none_sent : (N : Network) (I : Inputs) (watch : Option ℕ) (p : ℕ) (c : View) (s : StoodBy N I watch p c) → c.events ≡ 0 → (q e : ℕ) → actual_at (instance_at N p) q ≡ Writes e → c.sent q ≡ 0
+none_sent N I watch p c s none q e w =
+    sym (s.gave q e w) ∙ (ap (λ n. length (sent_on N n p s.tapes (Channel e))) none ∙ ap (λ l. length (values_at (goes_to N p (Channel e)) l)) (at_rest (script_at N 0 p) s.tapes).1)
+
+-- with one event nothing is taken, or nothing is sent
+takes_or_sends : {A : Type 0} (s : Script A) (U : Tapes) → ((play 1 s U).left ≡ U) ⊎ ((play 1 s U).sent ≡ [])
+takes_or_sends (Give a) U = inl refl
+takes_or_sends (Fail k) U = inl refl
+takes_or_sends (Waits q go) U = by (U q)
+  where
+    by : (vs : List Value) → ((wait_at 1 q U vs (λ m v T. play m (go v) T)).left ≡ U) ⊎ ((wait_at 1 q U vs (λ m v T. play m (go v) T)).sent ≡ [])
+    by [] = inl refl
+    by (v ∷ vs) = inr (at_rest (go v) _).1
+takes_or_sends (Sends p v s) U = inl (at_rest s U).0
+takes_or_sends (Turns s) U = inl (at_rest s U).0
+takes_or_sends Rest U = inl refl
 
 and_then_suc : (steps : List Step) (n : ℕ) → and_then steps n ≡ length steps + n
 and_then_suc [] n = omega arith
@@ -139,3 +179,12 @@ module _ (N : Network) (p e : ℕ) (T U : Tapes) (x : (q : ℕ) → IsPrefix (T 
       by : (zs : List Value) → V q ≡ zs → (exec_on N (suc e) p U).events ≡ suc e
       by [] f = let n = ap length (x q).1 ∙ length-append (T q) (V q) in let m = ap length f in absurd (omega (arith, l, n, m))
       by (z ∷ zs) f = counted (dry_moves ran_at.to V q z zs (halts ∙ d) f)
+
+  -- one event more takes nothing more, or sends nothing more
+  pub one_or_other : ((exec_on N (suc e) p U).left ≡ V) ⊎ ((exec_on N (suc e) p U).sent ≡ (exec_on N e p T).sent)
+  one_or_other = by (takes_or_sends ran_at.to V)
+    where
+      by : ((play 1 ran_at.to V).left ≡ V) ⊎ ((play 1 ran_at.to V).sent ≡ []) → ((exec_on N (suc e) p U).left ≡ V) ⊎ ((exec_on N (suc e) p U).sent ≡ (exec_on N e p T).sent)
+      by (inl h) = inl (ap (λ r. r.left) one_more ∙ h)
+      by (inr h) =
+          inr (ap (λ r. r.sent) one_more ∙ (ap (λ l. sends_of ran_at.steps ++ l) h ∙ (append-nil (sends_of ran_at.steps) ∙ (sym ran_at.sent ∙ ap (λ r. r.sent) same_play))))

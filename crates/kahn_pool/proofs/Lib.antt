@@ -32,3 +32,4 @@ pub mod Flowed
 pub mod Poured_in
 pub mod Watching
 pub mod Handing
+pub mod Recording

@@ -1,6 +1,7 @@
 -- Taps over plain queues, one of which runs.
 use Rattle.std.proofs.Common.{arith, ◌≡◌, ◌⊎◌, inl, inr, ℕ, ◌<◌, ◌≤◌, List, ◌++◌, length, map, replicate, refl, sym, ap, ◌∙◌, subst, Option, Some, slice_get, slice_set, slice_index_or}
-use Rattle.kahn_pool.proofs.Common.{map-set_same, get_or-set_other, length-map, map-set, cases_eq, slice_get_read, Program, network_of, Lists, Gone, kept_behind, nothing_gone, Tapped, View, Pause, Kept, HasRunCell, RunState, events_at, no_view, view_at, kept_lists, printed_list, AreKeptOf, HaveChanged, none_of, IsLaid, IsLeft, HasWorked, Table, actual_count, gone_in, parameter_count, sight_of, table_of, told_in}
+use Rattle.kahn_pool.specs.inner.Recording.{StoodIn}
+use Rattle.kahn_pool.proofs.Common.{StoodBy, count, inputs_of, told_view, map-set_same, get_or-set_other, length-map, map-set, cases_eq, slice_get_read, Program, network_of, Lists, Gone, kept_behind, nothing_gone, Tapped, View, Pause, Kept, HasRunCell, RunState, events_at, no_view, view_at, kept_lists, printed_list, AreKeptOf, HaveChanged, none_of, IsLaid, IsLeft, HasWorked, Table, actual_count, gone_in, parameter_count, sight_of, table_of, told_in}
 use Rattle.kahn_code.specs.Lines.{Lines as Queues}
 use Rattle.kahn_pool.proofs.Benched.{get_map, mapped, ran, viewed}
 use Rattle.kahn_pool.proofs.Lists.{map_changed, map_map}
@@ -44,6 +45,16 @@ module _ {t : Program} {lists : Lists} {watch : Option ℕ} {code : Program} (ta
 
   pub events_here : events_at (sight_of n) p ≡ x.told.events
   events_here = ap (λ (y : Table). events_at (sight_of y) p) (sym is) ∙ ap (λ (v : View). v.events) (viewed b laid p x.told found)
+
+  pub sent_here : (r : ℕ) → (view_at (sight_of n).cells p).sent r ≡ count x.told.sent r
+  sent_here r = ap (λ (y : Table). (view_at (sight_of y).cells p).sent r) (sym is) ∙ ap (λ (v : View). v.sent r) (viewed b laid p x.told found)
+
+  pub stood_here : StoodBy (network_of t) (inputs_of x.told.input) x.told.watch x.told.instance (told_view x.told) → StoodIn (sight_of n) p
+  stood_here h =
+      let s = laid.each p x.told found in
+      subst (λ (y : Table). StoodIn (sight_of y) p) is
+      (subst (λ v. StoodBy (network_of t) (inputs_of lists) watch p v) (sym (viewed b laid p x.told found))
+      (subst (λ (k : Lists × Option ℕ × ℕ). StoodBy (network_of t) (inputs_of k.0) k.1 k.2 (told_view x.told)) (λ i. (s.input i, s.watch i, s.instance i)) h))
 
   module _ (y : Tapped) (gone : y.gone ≡ x.gone) (q' : Queues) where
     gone_same : map gone_in (slice_set taps p y) ≡ map gone_in taps

@@ -3,6 +3,7 @@ pub mod Bench
 pub mod FlowBench
 pub mod Gathered
 pub mod Holding
+pub mod Recording
 pub mod Rested
 pub mod Streams
 pub mod Workbench

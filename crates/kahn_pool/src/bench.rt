@@ -1,8 +1,10 @@
 //! The processes of a network over its plain queues.
 
-ghost use Rattle.kahn_pool.specs.inner.Below.{AreCounts, AreJobsAt, AreQueued, HasForgotten, HaveSettled, cells_of, rows_of, Input as InputRole, IsPoured, Lists, Reads, Tapped, actual_at, inputs_of, instance_at, network_of, role_at, stream_lines};
+ghost use Rattle.kahn_pool.specs.inner.Below.{AreCounts, AreJobsAt, AreQueued, HasForgotten, HaveSettled, IsWithin, cells_of, rows_of, Input as InputRole, IsPoured, Lists, Reads, Tapped, actual_at, inputs_of, instance_at, network_of, role_at, stream_lines};
 ghost use Rattle.kahn_pool.specs.inner.Bench.{AreStreams, HasRunCell, all_events, events_at};
+ghost use Rattle.kahn_pool.specs.inner.Gathered.{view_at};
 ghost use Rattle.kahn_pool.specs.inner.Holding.{AreHeld};
+ghost use Rattle.kahn_pool.specs.inner.Recording.{StoodIn};
 ghost use Rattle.kahn_pool.specs.inner.Streams.{HaveChanged};
 ghost use Rattle.kahn_pool.specs.inner.Workbench.{AllStandBy, AreOpeningCells, AreStreamsReady, AreWhole, HasEmptied, HasFresh, HasFreshPrints, HasTakenIn, HasWorked, IsCrowded, IsLaid, IsLeft, IsNextPlace, StandsAsTold, gone_in, seated_with, sight_of, table_of, told_in, vacant_of};
 ghost use Rattle.std.specs.Prelude.{◌≡◌, ◌<◌, ◌≤◌, ◌+◌, ◌^◌, ℕ, [], Some, length, map, slice_get, vec_capacity, IfOk, IfErr, IfSome, MatchOption, SomeIff};
@@ -13,7 +15,9 @@ use crate::looks::{LONG_TURN, Looks};
 use crate::streams::fill;
 use kahn_code::{Code, CodeFault, Kept, Pause, Plain, Steps, Tap, compile, regrow_taps};
 use kahn_job::{Idle, jobs_at, seat, unseat};
-use kahn_streams::{About, Carried, Input, MOST_BOUND, Network, NoMemory, Outcome, Stream, Value};
+use kahn_streams::{
+    About, Carried, Input, MOST_BOUND, Network, NoMemory, Outcome, Side, Stream, Value,
+};
 use std::alloc::Global;
 use std::marker::Model;
 use std::sync::ledger::Ledger;
@@ -311,6 +315,32 @@ impl<'n> Bench<'n> {
     {
         self.queues.counted();
         all_stood(self.network, &self.taps);
+    }
+
+    /// Says how it is laid, and how one of its processes stands. For the prover only.
+    pub(crate) fn stood_at(&self, instance: usize)
+        requires { instance < length (sight_of self.now).network.instances }
+        ensures laid { IsLaid self.now }
+        ensures stood { StoodIn (sight_of self.now) instance }
+    {
+        self.taps[instance].stood(self.network);
+    }
+
+    /// Its queues.
+    pub(crate) fn queues(&self) -> &Plain<Global>
+        ensures { result.now ≡ self.now.queues }
+    {
+        &self.queues
+    }
+
+    /// How many tokens an instance sent on a parameter.
+    pub(crate) fn sent_by(&self, side: Side) -> u64
+        requires { IsWithin (sight_of self.now).network side }
+        ensures { result ≡ (view_at (sight_of self.now).cells side.instance).sent side.parameter }
+    {
+        let tap = &self.taps[side.instance];
+        let _count = tap.parameters();
+        tap.sent(side.parameter)
     }
 
     /// What an instance sent on a parameter since that was last let go of, if it is kept.

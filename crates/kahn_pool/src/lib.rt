@@ -3,6 +3,7 @@
 
 mod awake;
 mod bench;
+mod counted;
 mod ends;
 mod flow;
 mod held;
@@ -12,6 +13,7 @@ mod looks;
 mod one;
 mod part;
 mod plan;
+mod recorded;
 mod rounds;
 mod run_queue;
 mod running;
@@ -19,6 +21,7 @@ mod settle;
 mod streams;
 mod workers;
 
+pub use counted::Count;
 pub use held::Held;
 pub use held_fault::HeldFault;
 pub use kahn_crew::{Gate, Open};
@@ -30,6 +33,7 @@ pub use laws::{
     verdict_is_one,
 };
 pub use one::run_one;
+pub use recorded::{Recorded, run_recorded};
 pub use running::run;
 
 // For the crates above.

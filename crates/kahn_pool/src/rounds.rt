@@ -34,21 +34,21 @@ pub(crate) struct Round {
     quantum: u64,
     pub(crate) left: u64,
     // Whether memory was refused.
-    memory: bool,
-    progressed: bool,
+    pub(crate) memory: bool,
+    pub(crate) progressed: bool,
     // How many turns did nothing.
-    idle_turns: usize,
+    pub(crate) idle_turns: usize,
     // How each instance stood after its turn.
     pub(crate) ends: Vec<End>,
 }
 
-// What a run on one thread goes by: the count of its steps, the gate before each quantum, and whether it may be left to several
-// workers.
+/// What a run on one thread goes by: the count of its steps, the gate before each quantum, and whether it may be left to several
+/// workers.
 #[derive(Drop)]
-struct Driver<'g, L: Ledger, G: Gate> {
-    steps: Steps<L>,
-    gate: &'g G,
-    may_leave: bool,
+pub(crate) struct Driver<'g, L: Ledger, G: Gate> {
+    pub(crate) steps: Steps<L>,
+    pub(crate) gate: &'g G,
+    pub(crate) may_leave: bool,
 }
 
 /// How a part ended: its verdict, the end of each instance, and what is left of its bound.
@@ -78,8 +78,8 @@ fn end_of(bench: &Bench<'_>, instance: usize, stopped: Pause) -> End
 }
 
 impl Round {
-    // Before the first round of a run for so many events. The list of ends has room for each instance.
-    fn new(bench: &Bench<'_>, quantum: u64, bound: u64, ends: Vec<End>) -> Round
+    /// Before the first round of a run for so many events. The list of ends has room for each instance.
+    pub(crate) fn new(bench: &Bench<'_>, quantum: u64, bound: u64, ends: Vec<End>) -> Round
         requires quantum { 0 < quantum }
         requires bound { all_events (sight_of bench.now) + bound < 2 ^ 48 }
         requires room { length (sight_of bench.now).network.instances ≤ vec_capacity ends }
@@ -177,9 +177,9 @@ impl<'g, L: Ledger, G: Gate> Driver<'g, L, G> {
         stopped
     }
 
-    // The turn of an instance, and how it stands then.
+    /// The turn of an instance, and how it stands then.
     #[inline(always)]
-    fn visit(&mut self, bench: &mut Bench<'_>, round: &mut Round, instance: usize) -> End
+    pub(crate) fn visit(&mut self, bench: &mut Bench<'_>, round: &mut Round, instance: usize) -> End
         requires here { instance < length (sight_of bench.old).network.instances }
         requires may { MayRun (sight_of bench.old) round.old }
         ensures { HasVisited bench.old bench.new round.old round.new instance result }

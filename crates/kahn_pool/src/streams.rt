@@ -169,8 +169,8 @@ pub(crate) fn give_watched(
     give_list(network, input, channel, tokens)
 }
 
-// The stream of a line before any token was moved there: an input channel has its whole list.
-fn opening_stream(
+/// The stream of a line before any token was moved there: an input channel has its whole list. Fails only if memory was refused.
+pub(crate) fn opening_stream(
     alloc: Global,
     network: &Network,
     input: &Input,

@@ -13,3 +13,4 @@ pub mod Same_inputs
 pub mod Same_reports
 pub mod Sample_spelt
 pub mod Cut
+pub mod Placed

@@ -5,6 +5,7 @@ mod entries;
 mod heads;
 mod input;
 mod laws;
+mod made;
 mod names;
 mod news;
 mod pieces;

@@ -114,8 +114,8 @@ fn add<'a>(
     Ok(())
 }
 
-/// Returns how many values each part of a line has: at most `most`, and as many as the others.
-fn part_size(values: usize, most: usize) -> usize
+/// Returns how many values each part of so many has: at most `most`, and as many as the others.
+pub(crate) fn part_size(values: usize, most: usize) -> usize
     requires { 0 < most }
     ensures { 0 < result }
 {

@@ -3,10 +3,12 @@
 ghost use Rattle.std.specs.Prelude.{◌≡◌, ℕ, ◌+◌, ◌<◌, ◌≤◌, length, flat_map, All, IfOk, IfSome, slice_index_or};
 ghost use Rattle.kahn_streams.specs.Written.{Writes};
 ghost use Rattle.kahn_report.specs.Formats.{HasItsLines, IsLine, report_text, stream_text};
-ghost use Rattle.kahn_report.specs.inner.Pieces.{ArePieceTexts, IsPiece, IsPieceText, piece_text};
+ghost use denote.Param.Send.{IsSync};
+ghost use Rattle.kahn_report.specs.inner.Pieces.{AreAllMadeTexts, AreMadeTexts, ArePieceTexts, IsMadeText, IsPiece, IsPieceText, piece_text};
 
+use crate::made::{Made, placed, with_one};
 use crate::news::closing_counted;
-use crate::pieces::{Piece, pieces_of, put_piece, weight_of};
+use crate::pieces::{Piece, part_size, pieces_of, put_piece, weight_of};
 use crate::write::{put_streams, write_report};
 use kahn_pool::{Answer, Stream};
 use kahn_streams::{Network, Steps};
@@ -14,6 +16,7 @@ use kahn_write::{WriteFault, put};
 use std::alloc::{AllocError, Global};
 use std::io::Write;
 use std::marker::Brand;
+use std::sync::atomic::{AtomicUsize, Ordering};
 use std::sync::ledger::{Blank, Ledger};
 use std::thread;
 use std::thread::{Threads, available_parallelism};
@@ -21,11 +24,17 @@ use std::thread::{Threads, available_parallelism};
 /// A report of no more values is short: one thread writes it.
 const SHORT: usize = 65536;
 
-/// How many values a thread formats before they are written. A thread is started anew for each piece, which takes as long as some
-/// thousand values, and each but the last line of a piece is whole.
-const TOGETHER: usize = 262144;
+/// How many values a piece has at most. Its text has less than the 128 KiB from which on the C library asks the system for each block,
+/// and gives it back: then threads wait for one another.
+const TOGETHER: usize = 5000;
 
-/// Room for a piece of that many values, each of 20 bytes at most and a space.
+/// How many pieces of a short report there are for each thread: one that begins late leaves more of them to the others.
+const EACH: usize = 8;
+
+/// How many pieces are formatted at most before they are written. Threads are started anew then.
+const AT_ONCE: usize = 1024;
+
+/// Room for a piece, each value of 20 bytes at most and a space.
 const ROOM: usize = 21 * TOGETHER;
 
 /// Opens a count, and formats a piece.
@@ -59,22 +68,101 @@ fn text_of(alloc: Global, network: &Network, piece: Piece<'_>) -> Option<Vec<u8>
     text_opened::<Brand>(alloc, Blank::new(1), network, piece)
 }
 
-/// Formats pieces, each in a thread of its own if one can be started.
+/// Formats the next piece that no thread has taken.
+fn next_made(
+    alloc: Global,
+    network: &Network,
+    pieces: &[Piece<'_>],
+    next: &AtomicUsize,
+) -> Option<Made>
+    requires { All (IsPiece network.now) pieces.now }
+    ensures { IfSome result (IsMadeText network.now pieces.now) }
+{
+    let number = next.fetch_add(1, Ordering::SeqCst);
+    if number >= pieces.len() {
+        return None;
+    }
+    let text = text_of(alloc, network, pieces[number]);
+    Some(Made { number, text })
+}
+
+/// Adds a text.
+fn add_made(
+    network: &Network,
+    pieces: &[Piece<'_>],
+    made: &mut Vec<Made>,
+    one: Made,
+) -> Result<(), AllocError>
+    requires made { AreMadeTexts network.now pieces.now made.old.items }
+    requires one { IsMadeText network.now pieces.now one }
+    ensures { AreMadeTexts network.now pieces.now made.new.items }
+{
+    made.push(one)?;
+    Ok(())
+}
+
+/// Formats pieces that no thread has taken, until all were taken.
+fn all_made(alloc: Global, network: &Network, pieces: &[Piece<'_>], next: &AtomicUsize) -> Vec<Made>
+    requires { All (IsPiece network.now) pieces.now }
+    ensures { AreMadeTexts network.now pieces.now result.items }
+{
+    let mut made = Vec::new(alloc);
+    for _ in 0..pieces.len() {
+        let Some(one) = next_made(alloc, network, pieces, next) else {
+            return made;
+        };
+        if add_made(network, pieces, &mut made, one).is_err() {
+            return made;
+        }
+    }
+    made
+}
+
+/// What `threads` threads made of pieces, or as many as can be started. This thread starts them one after another, and is the last of
+/// them: two that start others at the same time may choose one processor.
+#[cycle(made)]
+fn made_by<R: Threads + Sync>(
+    rt: &R,
+    alloc: Global,
+    network: &Network,
+    pieces: &[Piece<'_>],
+    next: &AtomicUsize,
+    threads: usize,
+) -> Result<Vec<Vec<Made>>, AllocError>
+    requires { All (IsPiece network.now) pieces.now }
+    ensures { IfOk result (λ made. AreAllMadeTexts network.now pieces.now made.items) }
+{
+    if threads <= 1 {
+        let own = all_made(alloc, network, pieces, next);
+        return with_one(network, pieces, Vec::new(alloc), own);
+    }
+    let fewer = threads - 1;
+    let there = || -> Vec<Made>
+        requires { All (IsPiece network.now) pieces.now }
+        ensures { AreMadeTexts network.entry.now pieces.entry.now result.items }
+    { all_made(alloc, network, pieces, next) };
+    let here = || -> Result<Vec<Vec<Made>>, AllocError>
+        requires { IsSync R.row × All (IsPiece network.now) pieces.now }
+        ensures { IfOk result (λ made. AreAllMadeTexts network.entry.now pieces.entry.now made.items) }
+    { made_by(rt, alloc, network, pieces, next, fewer) };
+    let (one, others) = thread::join(rt, there, here);
+    with_one(network, pieces, others?, one)
+}
+
+/// Formats pieces by `threads` threads, or by as many as can be started. Each takes one after another.
 fn texts_of<R: Threads + Sync>(
     rt: &R,
     alloc: Global,
     network: &Network,
     pieces: &[Piece<'_>],
+    threads: usize,
 ) -> Result<Vec<Option<Vec<u8>>>, AllocError>
     requires { All (IsPiece network.now) pieces.now }
     ensures { IfOk result (λ texts. ArePieceTexts network.now pieces.now texts.items) }
 {
-    thread::map_indices(
-        rt,
-        alloc,
-        pieces.len(),
-        &|number| text_of(alloc, network, pieces[number]),
-    )
+    let next = AtomicUsize::new(0);
+    let made = made_by(rt, alloc, network, pieces, &next, threads)?;
+    placed(alloc, network, pieces, made)
 }
 
 /// Writes a piece, whose text may be at hand.
@@ -115,26 +203,27 @@ fn put_texts<W: Write, L: Ledger>(
     Ok(())
 }
 
-/// Writes pieces, formatted at the same time.
+/// Writes pieces, formatted by `threads` threads before.
 fn put_together<R: Threads + Sync, W: Write, L: Ledger>(
     rt: &R,
     alloc: Global,
     writer: &mut W,
     network: &Network,
     pieces: &[Piece<'_>],
+    threads: usize,
     writes: &mut Steps<L>,
 ) -> Result<(), WriteFault>
     requires { All (IsPiece network.now) pieces.now }
     ensures text { Writes (W.contents writer.old) (W.contents writer.new) result (flat_map (piece_text network.now) pieces.now) }
     ensures few { writes.new ≤ writes.old + length (flat_map (piece_text network.now) pieces.now) }
 {
-    match texts_of(rt, alloc, network, pieces) {
+    match texts_of(rt, alloc, network, pieces, threads) {
         Ok(texts) => put_texts(writer, network, pieces, &texts, writes),
         Err(_) => put_texts(writer, network, pieces, &[], writes),
     }
 }
 
-/// Writes pieces, `threads` of them formatted at the same time.
+/// Writes pieces, formatted by `threads` threads.
 fn put_pieces<R: Threads + Sync, W: Write, L: Ledger>(
     rt: &R,
     alloc: Global,
@@ -145,23 +234,22 @@ fn put_pieces<R: Threads + Sync, W: Write, L: Ledger>(
     writes: &mut Steps<L>,
 ) -> Result<(), WriteFault>
     requires pieces { All (IsPiece network.now) pieces.now }
-    requires some { 0 < threads }
     ensures text { Writes (W.contents writer.old) (W.contents writer.new) result (flat_map (piece_text network.now) pieces.now) }
     ensures few { writes.new ≤ writes.old + length (flat_map (piece_text network.now) pieces.now) }
 {
-    for together in pieces.chunks(threads) {
-        put_together(rt, alloc, writer, network, together, writes)?;
+    let size = part_size(pieces.len(), AT_ONCE);
+    for together in pieces.chunks(size) {
+        put_together(rt, alloc, writer, network, together, threads, writes)?;
     }
     Ok(())
 }
 
-/// Returns the length of each piece of lines of this length: as many rounds as are needed, with all threads in each.
+/// Returns how long a piece of lines of this length is at most.
 fn piece_weight(weight: usize, threads: usize) -> usize
-    requires { 0 < threads }
     ensures { 0 < result }
 {
-    let rounds = weight.div_ceil(TOGETHER).div_ceil(threads).max(1);
-    weight.div_ceil(rounds).div_ceil(threads).max(1)
+    let most = threads.saturating_mul(EACH).max(1);
+    weight.div_ceil(most).min(TOGETHER).max(1)
 }
 
 /// Writes the lines of streams by `threads` threads.

@@ -83,19 +83,19 @@ fn a_chain_of_copies(rt: HostRuntime) -> Result<(), Fail> {
 
 // Makes processes that count to 200,000 by themselves, and send that.
 fn farm(alloc: Global, processes: u64) -> Result<String, AllocError> {
-    let mut text = String::from_str(alloc, "begin integer output channel W0")?;
+    let mut text = String::from_str(alloc, "begin integer output channel SUM_0")?;
     for channel in 1..processes {
-        text.push_str(&format!(in alloc; ", W{channel}")?)?;
+        text.push_str(&format!(in alloc; ", SUM_{channel}")?)?;
     }
     text.push_str(
         "\
 ;
   process count(integer out W);
   begin integer I; while I < 200000 do I := I + 1; send I on W end;
-  count(W0)",
+  count(SUM_0)",
     )?;
     for channel in 1..processes {
-        text.push_str(&format!(in alloc; " par count(W{channel})")?)?;
+        text.push_str(&format!(in alloc; " par count(SUM_{channel})")?)?;
     }
     text.push_str("\nend\n")?;
     Ok(text)

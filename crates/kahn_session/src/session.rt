@@ -1,6 +1,6 @@
 //! Sessions: what a line of input makes of a run, and what goes out after it.
 
-ghost use Rattle.std.specs.Prelude.{◌≡◌, ◌↔◌, ◌&&◌, not, ℕ, IfOk, List, Some, false, slice_index_or, true, [], IsTrue, MatchOption, MatchResult, option_copied};
+ghost use Rattle.std.specs.Prelude.{◌≡◌, ◌↔◌, ◌&&◌, not, ℕ, List, Some, false, slice_index_or, true, [], IsTrue, MatchOption, MatchResult, option_copied};
 ghost use Rattle.std.specs.List.{list_any};
 ghost use Rattle.kahn_streams.specs.Network.{network_of};
 ghost use Rattle.kahn_pool.specs.Flows.{flow_lines};
@@ -9,16 +9,16 @@ ghost use Rattle.kahn_report.specs.News.{news_text, plain_text};
 ghost use Rattle.kahn_streams.specs.Written.{Writes};
 ghost use Rattle.kahn_session.specs.Live.{HasOpened, IsClosed, IsDeaf, IsFaulty, IsFirstFault, IsFirstInput, IsMeantLine, IsOtherInput, HasVerdict, IsNamedAt, IsNamedLine, IsRinged, IsStreamOf, IsStuck, IsTakenLine, IsUnfedBy, IsUnopened, breaks, first_faulted, form_text, is_finished, is_input, is_other_input, is_stuck, is_waiting, waits_on_input, wants_input};
 ghost use Rattle.kahn_session.specs.Pace.{MayBeSlow};
-ghost use Rattle.kahn_session.specs.inner.Shown.{OutBegins, news_of};
+ghost use Rattle.kahn_session.specs.inner.Shown.{IsFirstOf, OutBegins, news_of};
 
 use crate::fault::TakeFault;
 use crate::feeding::{feed_line, line_meant};
 use crate::pace::Paced;
-use kahn_chain::{has_ring, standings};
+use kahn_chain::has_ring;
 use kahn_pool::{Config, End, Gate, Outcome, RunFault, Verdict};
 use kahn_report::{WriteFault, channel_name, write_closing, write_news, write_plain};
 use kahn_streams::{Failure, Input, Line, Network, Role};
-use std::alloc::{AllocError, Global};
+use std::alloc::Global;
 use std::io::Write;
 use std::marker::Model;
 
@@ -29,6 +29,8 @@ pub struct Session<'n> {
     network: &'n Network,
     paced: Paced<'n>,
     lines: Vec<Line>,
+    // The number of the first input channel.
+    input: Option<usize>,
     // Whether a write failed, after which nothing tells what went out.
     broken: bool,
     // The number of the stream whose values alone are shown.
@@ -42,6 +44,7 @@ impl<'n> Model for Session<'n> {
     ghost use Rattle.std.specs.Prelude.{◌≡◌};
     ghost use Rattle.kahn_pool.specs.Flows.{flow_lines};
     ghost use Rattle.kahn_session.specs.Live.{Live};
+    ghost use Rattle.kahn_session.specs.inner.Shown.{IsFirstOf};
 
     ghost Value = { Live };
 
@@ -49,7 +52,7 @@ impl<'n> Model for Session<'n> {
 
     ghost view = { λ s. record { flow = s.paced.flow; step = s.paced.step; broken = s.broken; plain = s.plain } };
 
-    ghost invariant = { λ s. (s.paced.flow.run.network ≡ s.network.now) × (s.lines.items ≡ flow_lines s.paced.flow.run) };
+    ghost invariant = { λ s. (s.paced.flow.run.network ≡ s.network.now) × (s.lines.items ≡ flow_lines s.paced.flow.run) × IsFirstOf s.network.now s.input };
 }
 
 /// Whether the line is that of a channel of that name.
@@ -190,17 +193,28 @@ fn is_input(role: Role) -> bool
     matches!(role, Role::Input)
 }
 
-/// The name of the first input channel.
-fn first_input(network: &Network) -> Option<&str>
-    ensures { IsFirstInput network.now (option_copied result) }
+/// The number of the first input channel.
+fn first_input(network: &Network) -> Option<usize>
+    ensures { IsFirstOf network.now result }
 {
     for number in 0..network.channels() {
         let channel = network.channel(number);
         if is_input(channel.role) {
-            return Some(channel.name);
+            return Some(number);
         }
     }
     None
+}
+
+/// The name of the first input channel, which has this number.
+fn first_name(network: &Network, first: Option<usize>) -> Option<&str>
+    requires { IsFirstOf network.now first }
+    ensures { IsFirstInput network.now (option_copied result) }
+{
+    match first {
+        Some(number) => Some(network.channel(number).name),
+        None => None,
+    }
 }
 
 /// Whether a channel of that role and name is another input than the one of this name.
@@ -288,6 +302,7 @@ impl<'n> Session<'n> {
             network,
             paced,
             lines,
+            input: first_input(network),
             broken: false,
             plain: None,
         })
@@ -404,15 +419,13 @@ impl<'n> Session<'n> {
         is_stuck_by(self.network, verdict, self.paced.ends())
     }
 
-    /// Whether processes wait on one another in a ring. It is asked only where the session is settled, and refuses only where memory was
-    /// refused.
-    pub fn has_ring(&self) -> Result<bool, AllocError>
+    /// Whether processes wait on one another in a ring. It is asked only where the session is settled. It takes no memory.
+    pub fn has_ring(&self) -> bool
         requires { HasVerdict self.now }
-        ensures { IfOk result (IsRinged self.now.flow.run) }
+        ensures { IsRinged self.now.flow.run result }
     {
         let _program = self.network.program();
-        let standings = standings(self.alloc, self.paced.ends())?;
-        has_ring(self.alloc, self.network, &standings)
+        has_ring(self.network, self.paced.ends())
     }
 
     /// Whether the next part may take long: each may be of more than a million events, or the last one was of more than ten thousand.
@@ -426,7 +439,7 @@ impl<'n> Session<'n> {
     pub fn first_input(&self) -> Option<&str>
         ensures { IsFirstInput self.now.flow.run.network (option_copied result) }
     {
-        first_input(self.network)
+        first_name(self.network, self.input)
     }
 
     /// The name of the first input channel that hasn't this one, where there is one.

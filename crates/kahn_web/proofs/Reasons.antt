@@ -1,11 +1,9 @@
 -- What was written as the reason of a page.
 use Rattle.std.proofs.Common.{◌≡◌, ℕ, false, List, [], ◌++◌, Option, Some, None, Ok, IfSome, codes, inl, inr, string_bytes, subst, sym}
-use Rattle.kahn_streams.specs.Inputs.{Lists}
 use Rattle.kahn_streams.specs.declared.answer.Answer.{Answer}
-use Rattle.kahn_report.specs.Formats.{StandsFor}
 use Rattle.kahn_report.specs.Work.{IsChecked}
 use Rattle.kahn_why.specs.Refusing.{AreAllowed, IsRefusedFor}
-use Rattle.kahn_why.specs.Words.{IsExplained}
+use Rattle.kahn_why.specs.Why.{IsExplained}
 use Rattle.kahn_why.specs.inner.Told.{HasRefused, HasWritten}
 use Rattle.kahn_why.specs.declared.explaining.Admitted.{Admitted}
 use Rattle.kahn_why.specs.declared.explaining.Came.{Came}
@@ -23,12 +21,12 @@ written items text came x (inl (is, out)) = out
 written items text came x (inr (f, is, out)) = absurd cc
 
 -- why the run of an answer stopped
-pub stopped : (program input : List ℕ) (bound : ℕ) (it : Admitted) (a : Answer) (fed : Lists) (e : Explanation) (items text : List ℕ) (came x : Came)
-    → IsChecked program it.network → AreAllowed (codes "program") program false (string_bytes it.notes) → IsRunAlone it.network input bound a → StandsFor it.network input fed
-    → IsExplained (codes "program") program it.network (Some fed) a e → text ≡ string_bytes it.notes ++ string_bytes e.text
+pub stopped : (program input : List ℕ) (bound : ℕ) (it : Admitted) (a : Answer) (e : Explanation) (items text : List ℕ) (came x : Came)
+    → IsChecked program it.network → AreAllowed (codes "program") program false (string_bytes it.notes) → IsRunAlone it.network input bound a
+    → IsExplained it.network a e → text ≡ string_bytes it.notes ++ string_bytes e.text
     → HasWritten text came (Some []) (Some items) (Ok x) → IsRunExplained program input bound items
-stopped program input bound it a fed e items text came x checked allowed run stands is same out =
-    (it.network, a, fed, string_bytes it.notes, e, checked, run, allowed, stands, is, subst (λ l. items ≡ l) same (written items text came x out))
+stopped program input bound it a e items text came x checked allowed run is same out =
+    (it.network, a, string_bytes it.notes, e, checked, run, allowed, is, subst (λ l. items ≡ l) same (written items text came x out))
 
 -- why the program is refused
 pub refused : (path program items : List ℕ) (came : Came) → HasRefused path program false (Some []) (Some items) (Ok came) → IsRefusedFor path program false items

@@ -2,13 +2,12 @@
 use Rattle.std.specs.Prelude.{◌≡◌, ℕ, ◌⊎◌, ◌++◌, List, [], Some, Ok, codes, false, string_bytes}
 use Rattle.kahn_streams.specs.declared.tree.Program.{Program}
 use Rattle.kahn_streams.specs.declared.answer.Answer.{Answer}
-use Rattle.kahn_streams.specs.Inputs.{Lists}
-use Rattle.kahn_report.specs.Formats.{IsInputTextFault, StandsFor}
+use Rattle.kahn_report.specs.Formats.{IsInputTextFault}
 use Rattle.kahn_report.specs.Work.{IsChecked}
 use Rattle.kahn_report.specs.declared.input.TextFault.{TextFault}
 use Rattle.kahn_why.specs.Refusing.{AreAllowed, IsRefusedFor}
 use Rattle.kahn_why.specs.Telling.{HasToldInput}
-use Rattle.kahn_why.specs.Words.{IsExplained}
+use Rattle.kahn_why.specs.Why.{IsExplained}
 use Rattle.kahn_why.specs.declared.explaining.Came.{Came}
 use Rattle.kahn_why.specs.declared.why.told.Explanation.{Explanation}
 use Rattle.kahn_web.specs.Alone.{IsRunAlone}
@@ -16,9 +15,9 @@ use Rattle.kahn_web.specs.Page.{IsPut}
 
 -- why a run of a program stopped, which is called `program` in notes, behind the notes on what is warned of in it
 abbrev pub IsRunExplained : List ℕ → List ℕ → ℕ → List ℕ → Type 0
-IsRunExplained program input bound text = (t : Program) × (a : Answer) × (fed : Lists) × (notes : List ℕ) × (e : Explanation)
+IsRunExplained program input bound text = (t : Program) × (a : Answer) × (notes : List ℕ) × (e : Explanation)
     × IsChecked program t × IsRunAlone t input bound a × AreAllowed (codes "program") program false notes
-    × StandsFor t input fed × IsExplained (codes "program") program t (Some fed) a e × (text ≡ notes ++ string_bytes e.text)
+    × IsExplained t a e × (text ≡ notes ++ string_bytes e.text)
 
 -- the note on the fault of the input of a program, which is called `input`
 abbrev pub IsInputRefused : List ℕ → List ℕ → List ℕ → Type 0

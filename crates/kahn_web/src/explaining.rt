@@ -10,7 +10,7 @@ ghost use Rattle.kahn_web.specs.Explained.{IsReason, IsInputRefused, IsRunExplai
 use crate::alone::answered;
 use kahn_pool::Answer;
 use kahn_report::{TextFault, WorkFault, read_input};
-use kahn_why::{Admitted, Came, admit, explained, refuse_input, write_both};
+use kahn_why::{Admitted, Came, admit, explained_each, refuse_input, write_both};
 use std::alloc::Global;
 
 /// Why the input of a program is refused, as `kahn_explain program --input input` tells it.
@@ -32,7 +32,7 @@ fn refused(
     }
 }
 
-/// Why the run of an answer stopped, behind what is warned of in its program, as `kahn_explain program --input input` tells it.
+/// Why the run of an answer stopped, behind what is warned of in its program, as `kahn_explain program --input input --all` tells it.
 fn stopped(
     alloc: Global,
     program: &str,
@@ -49,7 +49,8 @@ fn stopped(
     let Ok(fed) = read_input(alloc, input, &it.network) else {
         return None;
     };
-    let Ok(words) = explained(alloc, "program", program, &it.network, Some(&fed), answer) else {
+    let fed = Some(&fed);
+    let Ok(words) = explained_each(alloc, "program", program, &it.network, fed, answer) else {
         return None;
     };
     let (notes, came) = (it.notes.as_str(), Came::Stopped(words.told));

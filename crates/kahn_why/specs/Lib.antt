@@ -1,7 +1,5 @@
 pub mod Noting
 pub mod Refusing
 pub mod Telling
-pub mod Waits
 pub mod Why
-pub mod Words
 pub mod inner

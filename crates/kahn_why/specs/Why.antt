@@ -1,6 +1,7 @@
 -- Believed. Why the instances of an answer go no further, and which of them never will.
-use Rattle.std.specs.Prelude.{ℕ, List, map}
-use Rattle.kahn_streams.specs.Network.{Network}
+use Rattle.std.specs.Prelude.{◌≡◌, ℕ, List, ◌++◌, Bool, true, false, if◌then◌else◌, map, string_bytes}
+use Rattle.std.specs.List.{list_any}
+use Rattle.kahn_streams.specs.Network.{Network, network_of}
 use Rattle.kahn_streams.specs.Solution.{Inputs, AreInputsExtended}
 use Rattle.kahn_chain.specs.Chain.{IsCause, stands}
 use Rattle.kahn_chain.specs.declared.standing.Standing.{Standing}
@@ -10,6 +11,16 @@ use Rattle.kahn_chain.specs.declared.standing.Cause.TheVariants.{Input, Stopped,
 use Rattle.kahn_streams.specs.Answers.{HasEndAt, IsEnd}
 use Rattle.kahn_streams.specs.declared.answer.Answer.{Answer}
 use Rattle.kahn_streams.specs.declared.answer.End.{End}
+use Rattle.kahn_streams.specs.declared.answer.Outcome.{Outcome}
+use Rattle.kahn_streams.specs.declared.answer.Outcome.TheVariants as outcome
+use Rattle.kahn_streams.specs.declared.answer.Verdict.{Verdict}
+use Rattle.kahn_streams.specs.declared.tree.Program.{Program}
+use Rattle.kahn_chain.specs.Reasons.{AreReasons, IsReasonFor}
+use Rattle.kahn_chain.specs.declared.reason.Reason.{Reason}
+use Rattle.kahn_report.specs.Formats.{last_text}
+use Rattle.kahn_why.specs.declared.why.told.Explanation.{Explanation}
+use Rattle.kahn_why.specs.declared.why.told.Told.{Told}
+use Rattle.kahn_why.specs.declared.why.told.Told.TheVariants.{Fault, Deadlock, Stop}
 
 -- how the instances of an answer stand
 abbrev pub standings_of : Answer → List Standing
@@ -34,3 +45,36 @@ IsForGood N I p x = (J : Inputs) → AreInputsExtended I J → IsEnd N J p x.out
 -- the end of each instance that has such a cause is for good
 abbrev pub StayForGood : Network → Inputs → Answer → Type 0
 StayForGood N I a = (p : ℕ) (x : End) (y : Cause) → HasEndAt a p x → IsCause N (standings_of a) p y → IsFinal y → IsForGood N I p x
+
+-- and so what is told to be for ever
+abbrev pub LastForGood : Network → Inputs → Answer → Type 0
+LastForGood N I a = (r : Reason) → IsReasonFor N a.verdict a.ends.items r → r.lasts ≡ true → IsForGood N I r.instance r.end
+
+-- ---- what the run came to
+
+abbrev pub is_ring : Cause → Bool
+is_ring (Input z c) = false
+is_ring (Stopped z s) = false
+is_ring (Ring z) = true
+
+abbrev pub is_fault : Outcome → Bool
+is_fault outcome.Ended = false
+is_fault (outcome.Waits c) = false
+is_fault (outcome.Faulted k) = true
+is_fault outcome.More = false
+
+abbrev pub has_fault : List Reason → Bool
+has_fault = list_any (λ r. is_fault r.end.outcome)
+
+abbrev pub has_ring : List Reason → Bool
+has_ring = list_any (λ r. is_ring r.cause)
+
+-- a fault goes before a ring, and a ring before how the run ended
+abbrev pub came_to : Verdict → List Reason → Told
+came_to v rs = if has_fault rs then Fault else if has_ring rs then Deadlock else Stop v
+
+-- the reasons are those of the answer's instances, the run came to that, and the last line is that of the report
+pub record IsExplained (t : Program) (a : Answer) (e : Explanation) : Type 0 where
+  pub reasons : AreReasons (network_of t) a.verdict a.ends.items e.reasons.items
+  pub told : e.told ≡ came_to a.verdict e.reasons.items
+  pub last : (before : List ℕ) × (string_bytes e.text ≡ before ++ last_text a)

@@ -1,4 +1,4 @@
 -- What only proofs and clauses below the surface read.
-pub mod Awaited
 pub mod Stuck
 pub mod Told
+pub mod Waits

@@ -6,11 +6,12 @@ ghost use Rattle.kahn_streams.specs.Answers.{IsRight};
 ghost use Rattle.kahn_streams.specs.declared.answer.Answer.{Answer};
 ghost use Rattle.kahn_streams.specs.declared.answer.Verdict.TheVariants.{Memory};
 ghost use Rattle.kahn_streams.specs.Solution.{Inputs};
-ghost use Rattle.kahn_why.specs.Why.{StayForGood};
+ghost use Rattle.kahn_why.specs.Why.{LastForGood, StayForGood};
 
 /// Whatever is added to the input, and whatever the bound is, an instance has the end that a right answer gives it, where its
 /// cause is a ring, or an instance that has ended or has a fault. Want of memory is no such answer: it can leave values where
-/// a reader doesn't come to them.
+/// a reader doesn't come to them. So a reason that is told to last does.
 pub fn for_good()
-    ensures { (N : Network) (I : Inputs) (bound : ℕ) (watch : Option ℕ) (a : Answer) → IsRight N I bound watch a → (a.verdict ≡ Memory → ⊥) → StayForGood N I a }
+    ensures ends { (N : Network) (I : Inputs) (b : ℕ) (w : Option ℕ) (a : Answer) → IsRight N I b w a → (a.verdict ≡ Memory → ⊥) → StayForGood N I a }
+    ensures told { (N : Network) (I : Inputs) (b : ℕ) (w : Option ℕ) (a : Answer) → IsRight N I b w a → LastForGood N I a }
 {}

@@ -1,13 +1,12 @@
 //! Why the run of an answer stopped.
 
-mod awaited;
 mod lines;
-mod pieces;
-mod places;
-mod spots;
+mod story;
 mod telling;
 mod told;
+mod verdict;
 mod waits;
+mod words;
 
-pub use telling::explained;
+pub use telling::{explained, explained_each};
 pub use told::{Explanation, Told};

@@ -2,5 +2,4 @@
 let current_compiler = "kahn"
 CompilerSet makeprg=kahn_explain\ %:S
 CompilerSet errorformat=%E%f:%l:%c:\ %trror:\ %m,%W%f:%l:%c:\ %tarning:\ %m,%N%f:%l:%c:\ %tote:\ %m
-CompilerSet errorformat+=%+E%.%#\ waits\ on\ %.%#\ at\ %l:%c%.%#in\ a\ deadlock%.%#
 CompilerSet errorformat+=%+C\ %#=\ %.%#,%-C\ %#%\\d%#\ \|%.%#,kahn:\ %m,%-G%.%#

@@ -1,5 +1,5 @@
 -- Inner. A walk along the waits of an instance.
-use Rattle.std.specs.Prelude.{◌≡◌, ℕ, ◌<◌, ◌≤◌, List, Bool, true, false, length}
+use Rattle.std.specs.Prelude.{◌≡◌, ℕ, ◌<◌, ◌≤◌, List, Bool, true, false, length, Option, None, Some}
 use Rattle.std.proofs.Common.{get_or}
 use Rattle.kahn_streams.specs.Network.{Network}
 use Rattle.kahn_chain.specs.Chain.{Awaits, Leads, LeadsOn, IsCause}
@@ -20,6 +20,11 @@ IsHere N ss z (Ring y) = ⊥
 abbrev pub IsStepFrom : Network → List Standing → ℕ → Step → Type 0
 IsStepFrom N ss z (On w) = (w < length ss) × ((c : ℕ) × Awaits N ss z c w)
 IsStepFrom N ss z (Stop x) = IsHere N ss z x
+
+-- the one that z waits on, or there is none
+abbrev pub IsNextAwaited : Network → List Standing → ℕ → Option ℕ → Type 0
+IsNextAwaited N ss z None = (c w : ℕ) → Awaits N ss z c w → ⊥
+IsNextAwaited N ss z (Some w) = (w < length ss) × ((c : ℕ) × Awaits N ss z c w)
 
 -- where the walk from p stopped; in a ring at any of its instances
 abbrev pub IsStop : Network → List Standing → ℕ → Cause → Type 0

@@ -1,18 +1,17 @@
 -- Inner. What the calls do that put columns together.
-use Rattle.std.specs.Prelude.{◌≡◌, ℕ, List, [], ◌∷◌, ◌++◌, All, Bool, true, false, Some, flat_map, length, map, string_bytes}
-use Rattle.std.specs.declared.alloc.Global.{Global}
-use Rattle.std.specs.declared.string.String.{String}
+use Rattle.std.specs.Prelude.{◌≡◌, ℕ, List, [], ◌∷◌, ◌++◌, All, flat_map, length, map}
 use Rattle.kahn_streams.specs.declared.config.Config.{Config}
 use Rattle.kahn_streams.specs.declared.tree.Program.{Program}
 use Rattle.kahn_streams.specs.declared.value.Line.{Line}
 use Rattle.kahn_streams.specs.Network.{network_of}
 use Rattle.kahn_streams.specs.declared.value.Line.TheVariants.{Channel, Print}
 use Rattle.kahn_streams.specs.Inputs.{Lists, inputs_of}
-use Rattle.kahn_streams.specs.Answers.{HasStream, values_of, IsRightRun}
+use Rattle.kahn_streams.specs.Answers.{HasStream, values_of}
 use Rattle.kahn_streams.specs.declared.answer.Answer.{Answer}
 use Rattle.kahn_streams.specs.declared.answer.Stream.{Stream}
 use Rattle.kahn_streams.specs.declared.answer.Verdict.{Verdict}
-use Rattle.kahn_streams.specs.declared.answer.Verdict.TheVariants.{Finished}
+use Rattle.kahn_pool.specs.Recordings.{IsRecordedRun}
+use Rattle.kahn_pool.specs.declared.recorded.Recorded.{Recorded}
 use Rattle.kahn_report.specs.Formats.{StandsFor}
 use Rattle.kahn_explain.specs.Histories.{IsHistory, all_channels, column_line}
 use Rattle.kahn_explain.specs.declared.tracing.column.Column.{Column}
@@ -30,18 +29,9 @@ pub record HasValuesOf (s : Stream) (x : Column) : Type 0 where
 abbrev pub IsColumnOf : Answer → Line → Column → Type 0
 IsColumnOf a c x = (s : Stream) × HasStream a s × (s.line ≡ c) × HasValuesOf s x
 
--- the right answer for what the text stands for
-abbrev pub IsTextRun : Program → List ℕ → Config → Answer → Type 0
-IsTextRun t text config a = (lists : Lists) × StandsFor t text lists × IsRightRun t lists config a
-
--- the channel of that name is watched, and else the configuration is the same
-abbrev pub IsWatching : Config → List ℕ → Config → Type 0
-IsWatching config name new = (word : String Global) × (string_bytes word ≡ name) × (new ≡ record config { watch = Some word })
-
--- where it is false, the other has finished if the first has
-abbrev pub IsLess : Verdict → Verdict → Bool → Type 0
-IsLess v w true = v ≡ Finished
-IsLess v w false = v ≡ Finished → w ≡ Finished
+-- the right answer for what the text stands for, with the histories of its channels
+abbrev pub IsTextRecorded : Program → List ℕ → Config → Recorded → Type 0
+IsTextRecorded t text config x = (lists : Lists) × StandsFor t text lists × IsRecordedRun t lists config x
 
 -- a history, whatever lists the text stands for
 abbrev pub IsAny : Program → List ℕ → Verdict → Column → Type 0

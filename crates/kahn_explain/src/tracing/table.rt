@@ -42,7 +42,7 @@ fn add_heads(text: &mut String, network: &Network, columns: &[Column]) -> Result
 }
 
 /// Adds a value as it is printed.
-fn add_value(text: &mut String, value: Value) -> Result<(), AllocError>
+pub(crate) fn add_value(text: &mut String, value: Value) -> Result<(), AllocError>
     ensures { IfOk result (λ _. string_bytes text.new ≡ string_bytes text.old ++ value_text value) }
 {
     let mut buffer = Buffer::new();

@@ -12,12 +12,19 @@ use Rattle.kahn_code.specs.Progress.{Paused, Told, told_view}
 use Rattle.kahn_code.specs.Standing.{count}
 use Rattle.kahn_code.specs.declared.progress.Pause.{Pause}
 use Rattle.kahn_needs.specs.Needs.{Cut, held_in}
-use Rattle.kahn_needs.specs.Finding.{IsNetworkLine}
+use Rattle.kahn_needs.specs.Finding.{IsNetworkLine, Seeking}
 use Rattle.kahn_needs.specs.inner.Bench.{IsStopped, AreSeatsOf, Stood, Seats}
+use Rattle.kahn_needs.specs.declared.search.Chain.{Chain}
+use Rattle.kahn_needs.specs.declared.search.Demand.{Demand}
 use Rattle.kahn_needs.specs.declared.search.Turn.{Turn}
 use Rattle.kahn_needs.specs.declared.search.Turn.TheVariants as turn
 use Rattle.kahn_needs.specs.declared.search.Sought.{Sought}
 use Rattle.kahn_needs.specs.declared.search.Sought.TheVariants as sought
+
+-- what is kept of the line
+abbrev pub watch_of : Line → Option ℕ
+watch_of (Channel c) = Some c
+watch_of (Print p) = None
 
 -- with that cut there is a value at place k of line c
 abbrev pub HoldsAt : Network → Inputs → Cut → Line → ℕ → Type 0
@@ -43,6 +50,34 @@ pub record IsDemand (b : Seats) (c : Line) (k : ℕ) (d : Line) (j : ℕ) : Type
   pub listed : IsNetworkLine (network_of b.network) d
   pub wanted : IsWanted b c k d j
   pub given : source (network_of b.network) d ≡ Given → length (input_list (inputs_of b.input) d) ≤ j
+
+-- in each cut in which a value at place j of line d comes, one at place i of line e came earlier, or at the latest with it
+abbrev pub IsSooner : Seats → Line → ℕ → Line → ℕ → Type 0
+IsSooner b d j e i = (y : Cut) (h : HoldsIn b y d j) → (g : HoldsIn b y e i) × (g.0 < h.0)
+
+abbrev pub IsNoLater : Seats → Line → ℕ → Line → ℕ → Type 0
+IsNoLater b d j e i = (y : Cut) (h : HoldsIn b y d j) → (g : HoldsIn b y e i) × (g.0 ≤ h.0)
+
+-- what is wanted for the value at place k of line c: by waits that lead from a value that is marked
+pub record IsWaitChain (b : Seats) (c : Line) (k : ℕ) (x : Chain) : Type 0 where
+  pub demanded : IsDemand b c k x.demand.line x.demand.place
+  pub marked : IsWanted b c k x.mark.line x.mark.place
+  pub later : IsNoLater b x.mark.line x.mark.place x.demand.line x.demand.place
+
+-- the value for which the last one of a chain waits
+abbrev pub IsAwaited : Seats → Line → ℕ → Chain → Demand → Type 0
+IsAwaited b c k x d = IsDemand b c k d.line d.place × IsSooner b x.demand.line x.demand.place d.line d.place
+
+-- what contracts see of a search
+abbrev pub seeking_of : Seats → Line → ℕ → Seeking
+seeking_of b c k = record { network = b.network; input = b.input; line = c; next = k }
+
+-- what is kept between the searches for the values of line c from place k on
+pub record IsSearchState (b : Seats) (c : Line) (k : ℕ) : Type 0 where
+  pub listed : IsNetworkLine (network_of b.network) c
+  pub written : source (network_of b.network) c ≡ Given → ⊥
+  pub watch : b.watch ≡ watch_of c
+  pub forced : AreForced b c k
 
 -- n values were sent on the line
 abbrev pub HasSentSoMany : Seats → Line → ℕ → Type 0
@@ -70,7 +105,8 @@ IsPausedAt b p z =
 abbrev pub IsTurnTold : Seats → Line → ℕ → Line → ℕ → Turn → Type 0
 IsTurnTold b c k d j turn.Sent = HasCome b d j
 IsTurnTold b c k d j turn.Acted = Unit {0}
-IsTurnTold b c k d j (turn.Waits e) = IsDemand b c k (Channel e) (taken_of (slice_get b.queues.queues e))
+IsTurnTold b c k d j (turn.Waits e) =
+    IsDemand b c k (Channel e) (taken_of (slice_get b.queues.queues e)) × IsSooner b d j (Channel e) (taken_of (slice_get b.queues.queues e))
 IsTurnTold b c k d j turn.Over = (y : Cut) → HoldsIn b y c k → ⊥
 IsTurnTold b c k d j turn.Bound = Unit {0}
 IsTurnTold b c k d j turn.NoMemory = Unit {0}
@@ -84,11 +120,6 @@ pub record HasSearched (b e : Seats) (c : Line) (k : ℕ) (d : Line) (j : ℕ) (
 abbrev pub IsEndOfSearch : Seats → Line → ℕ → Sought → Type 0
 IsEndOfSearch b c k sought.Come = HasCome b c k
 IsEndOfSearch b c k sought.Never = (y : Cut) → HoldsIn b y c k → ⊥
-IsEndOfSearch b c k sought.Ring = Unit {0}
+IsEndOfSearch b c k sought.Ring = (y : Cut) → HoldsIn b y c k → ⊥
 IsEndOfSearch b c k sought.Bound = Unit {0}
 IsEndOfSearch b c k sought.NoMemory = Unit {0}
-
--- what is kept of the line
-abbrev pub watch_of : Line → Option ℕ
-watch_of (Channel c) = Some c
-watch_of (Print p) = None

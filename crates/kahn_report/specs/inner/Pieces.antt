@@ -1,11 +1,12 @@
 -- Inner. The lines of streams, cut into pieces.
-use Rattle.std.specs.Prelude.{◌≡◌, ℕ, ◌<◌, List, ◌++◌, length, flat_map, All, Option, IfSome, slice_index_or}
+use Rattle.std.specs.Prelude.{◌≡◌, ℕ, ◌<◌, List, ◌++◌, length, flat_map, replicate, All, Option, None, IfSome, slice_index_or}
 use Rattle.std.specs.declared.alloc.Global.{Global}
 use Rattle.std.specs.declared.vec.Vec.{Vec}
 use Rattle.kahn_streams.specs.declared.answer.Stream.{Stream}
 use Rattle.kahn_streams.specs.declared.tree.Program.{Program}
 use Rattle.kahn_streams.specs.Written.{line_feed}
 use Rattle.kahn_report.specs.Formats.{IsLine, line_head, stream_text, token_text}
+use Rattle.kahn_report.specs.declared.made.Made.{Made}
 use Rattle.kahn_report.specs.declared.pieces.Piece.{Piece}
 use Rattle.kahn_report.specs.declared.pieces.Piece.TheVariants.{Lines, Opening, Middle, Closing}
 
@@ -46,3 +47,20 @@ IsPieceText program piece text = IfSome text (λ bytes. bytes.items ≡ piece_te
 abbrev pub ArePieceTexts : Program → List Piece → List (Option (Vec ℕ Global)) → Type 0
 ArePieceTexts program pieces texts = (n : ℕ) (piece : Piece) (text : Option (Vec ℕ Global)) → n < length texts →
     IsPieceText program (slice_index_or pieces n piece) (slice_index_or texts n text)
+
+-- none has a text
+abbrev pub AreNoTexts : ℕ → List (Option (Vec ℕ Global)) → Type 0
+AreNoTexts count texts = texts ≡ replicate count None
+
+-- the text is that of the piece of its number
+abbrev pub IsMadeText : Program → List Piece → Made → Type 0
+IsMadeText program pieces made = (made.number < length pieces)
+    × ((piece : Piece) → IsPieceText program (slice_index_or pieces made.number piece) made.text)
+
+-- each text is that of the piece of its number
+abbrev pub AreMadeTexts : Program → List Piece → List Made → Type 0
+AreMadeTexts program pieces made = All (IsMadeText program pieces) made
+
+-- so are all that each thread made
+abbrev pub AreAllMadeTexts : Program → List Piece → List (Vec Made Global) → Type 0
+AreAllMadeTexts program pieces by_thread = All (λ made. AreMadeTexts program pieces made.items) by_thread

@@ -1,9 +1,18 @@
--- Inner. What is new on the streams of a run.
-use Rattle.std.specs.Prelude.{◌≡◌, ℕ, List, [], ◌∷◌, ◌++◌, drop, length, map, Some, slice_get, slice_index_or}
+-- Inner. The first input channel, and what is new on the streams of a run.
+use Rattle.std.specs.Prelude.{◌≡◌, ◌<◌, ℕ, true, false, List, [], ◌∷◌, ◌++◌, drop, length, map, Option, None, Some, slice_get, slice_index_or}
+use Rattle.kahn_streams.specs.Network.{network_of, role_at}
+use Rattle.kahn_streams.specs.declared.tree.Program.{Program}
+use Rattle.kahn_session.specs.Live.{is_input}
 use Rattle.kahn_streams.specs.declared.value.Value.{Value}
 use Rattle.kahn_streams.specs.declared.value.Line.{Line}
 use Rattle.kahn_pool.specs.HeldRuns.{HeldRun, so_far}
 use Rattle.kahn_pool.specs.Flows.{Flowing, flow_lines}
+
+-- the first input channel has this number, or there is none
+abbrev pub IsFirstOf : Program → Option ℕ → Type 0
+IsFirstOf t None = (c : ℕ) → c < length (network_of t).channels → is_input (role_at (network_of t) c) ≡ false
+IsFirstOf t (Some c) = (c < length (network_of t).channels) × (is_input (role_at (network_of t) c) ≡ true)
+    × ((d : ℕ) → d < c → is_input (role_at (network_of t) d) ≡ false)
 
 -- of these lines the values of each stream behind so many; where nothing is said of a stream all of them
 abbrev pub values_behind : HeldRun → List Line → List ℕ → List (List Value)

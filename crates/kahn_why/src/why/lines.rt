@@ -1,218 +1,289 @@
-//! The lines of an explanation.
+//! The causes of a run, each with those that wait because of it, or each instance with its cause.
 
-ghost use Rattle.std.specs.Prelude.{◌≡◌, ◌<◌, ◌≤◌, ◌++◌, IfOk, length, string_bytes};
-ghost use Rattle.kahn_streams.specs.Network.{network_of};
-ghost use Rattle.kahn_why.specs.Waits.{instance_waits};
-ghost use Rattle.kahn_why.specs.inner.Awaited.{awaited_places};
-ghost use Rattle.kahn_why.specs.Words.{as_text, cause_text, faulted_text, ringed_text, line_text, lines_text, wants_text, spots_text, waits_text, ends_at, fed_lists, AreOfNetwork, GrowsBy, IsOfNetwork};
-
-use crate::why::awaited::awaited;
-use crate::why::pieces::{
-    add_source, add_who, advice, events_word, fault_word, for_ever, lasting, stopped_word,
-};
-use crate::why::places::{add_places, first_failed};
+use crate::why::story::{Story, led_to, reason_of, source_of};
+use crate::why::waits::channel_waits;
+use crate::why::words::{add_led, add_those, add_wait, add_who, advice, for_ever};
 use itoa::Buffer;
-use kahn_chain::Cause;
-use kahn_marks::add;
-use kahn_report::channel_name;
-use kahn_streams::{End, Failure, Input, Network, Outcome, Verdict};
+use kahn_chain::{Cause, Reason};
+use kahn_marks::{MOST_NOTES, Other, Sort, add, add_more, first_ones, render, simple};
+use kahn_report::process_name;
+use kahn_streams::{Failure, Outcome, Span};
+use kahn_warnings::fault_places;
 use std::alloc::{AllocError, Global};
 
-/// Adds an instance to which waits lead, and what is said of it.
-fn add_as<'a>(
-    text: &mut String,
-    network: &'a Network,
-    instance: usize,
-    first: &'a str,
-    second: &'a str,
-    third: &'a str,
-) -> Result<(), AllocError>
-    requires { instance < length network.now.instances.items }
-    ensures { IfOk result (λ _. string_bytes text.new ≡ string_bytes text.old ++ as_text network.now instance first.now second.now third.now) }
-{
-    add_who(text, ", as ", network, instance)?;
-    add(text, &[first, second, third])
-}
-
-/// Adds where the waits of an instance lead.
-fn add_cause(
-    text: &mut String,
-    network: &Network,
-    verdict: Verdict,
-    instance: usize,
-    cause: Cause,
-) -> Result<(), AllocError>
-    requires { ends_at cause < length network.now.instances.items }
-    ensures { IfOk result (λ _. string_bytes text.new ≡ string_bytes text.old ++ cause_text network.now verdict instance cause) }
-{
-    match cause {
-        Cause::Input(one, _) if one == instance => Ok(()),
-        Cause::Input(one, channel) => {
-            let name = channel_name(network, channel);
-            add_as(text, network, one, " waits on ", name, ", an input")
+/// Where an instance waits, or where its fault can have come from, in the order of the text.
+fn places_of(alloc: Global, story: &Story<'_>, reason: &Reason) -> Result<Vec<Span>, AllocError> {
+    let (network, instance) = (story.network, reason.instance);
+    if instance >= network.instances() {
+        return Ok(Vec::new(alloc));
+    }
+    match reason.end.outcome {
+        Outcome::Waits(channel) if channel < network.channels() => {
+            channel_waits(alloc, network, instance, channel)
         }
-        Cause::Stopped(one, standing) => {
-            let word = stopped_word(standing);
-            add_as(text, network, one, word, lasting(verdict, standing), "")
+        Outcome::Faulted(kind) => {
+            fault_places(alloc, kind, &network.instance(instance).process.statements)
         }
-        Cause::Ring(one) if one == instance => {
-            add(text, &[", in a deadlock", for_ever(verdict)])
-        }
-        Cause::Ring(one) => {
-            let word = " is in a deadlock";
-            add_as(text, network, one, word, for_ever(verdict), "")
-        }
+        _ => Ok(Vec::new(alloc)),
     }
 }
 
-/// Ends the line of an instance that waits on a channel, and adds what mends its ring.
-fn add_end(
-    text: &mut String,
-    network: &Network,
-    instance: usize,
-    channel: usize,
-    cause: Cause,
-) -> Result<(), AllocError>
-    requires { channel < length (network_of network.now).channels }
-    ensures { IfOk result (λ _. string_bytes text.new ≡ string_bytes text.old ++ ringed_text network.now instance channel cause) }
-{
-    text.push_str("\n")?;
-    text.push_str(advice(network, instance, channel, cause))
+/// What is said below the line of an instance: what mends its ring, where it has the least number in it, and who wait because of it.
+fn below(
+    alloc: Global,
+    story: &Story<'_>,
+    reason: &Reason,
+    waiting: &[Reason],
+) -> Result<Vec<String>, AllocError> {
+    let mut below = Vec::new(alloc);
+    if let (Cause::Ring(one), Outcome::Waits(channel)) = (reason.cause, reason.end.outcome) {
+        if one == reason.instance {
+            below.push(String::from_str(alloc, advice(story.network, one, channel))?)?;
+        }
+    }
+    if let Some(first) = waiting.first() {
+        let mut words = String::new(alloc);
+        add_those(&mut words, story.network, waiting, " waits", " wait")?;
+        add(&mut words, &[" because of it", for_ever(first)])?;
+        below.push(words)?;
+    }
+    Ok(below)
 }
 
-/// Adds the line of an instance that waits on a channel, and what mends its ring.
-fn add_waits(
-    text: &mut String,
-    _program: &str,
-    network: &Network,
-    verdict: Verdict,
-    fed: Option<&Input>,
-    awaited: &str,
-    instance: usize,
-    channel: usize,
-    cause: Cause,
-) -> Result<(), AllocError>
-    requires awaited { awaited.now ≡ spots_text _program.now (instance_waits network.now instance channel) }
-    requires here { instance < length network.now.instances.items }
-    requires there { ends_at cause < length network.now.instances.items }
-    requires channel { channel < length (network_of network.now).channels }
-    ensures { GrowsBy result text.old text.new (waits_text _program.now network.now verdict (fed_lists fed.entry) instance channel cause) }
-{
-    add_who(text, "", network, instance)?;
-    add(text, &[" waits on ", channel_name(network, channel)])?;
-    text.push_str(awaited)?;
-    add_source(text, network, verdict, fed, channel)?;
-    add_cause(text, network, verdict, instance, cause)?;
-    add_end(text, network, instance, channel, cause)
+/// Adds a line, and sentences below it.
+fn add_line(text: &mut String, words: &str, below: &[String]) -> Result<(), AllocError> {
+    add(text, &[words, "\n"])?;
+    for sentence in below {
+        add(text, &["  = ", sentence.as_str(), "\n"])?;
+    }
+    Ok(())
 }
 
-/// Adds the line of an instance that has a fault, and notes on the places that it can have come from, unless an instance of its process
-/// before it has them.
+/// Adds a note at the first of these places, with the others, and sentences below it; or a line, where there are no places.
+fn add_error(
+    text: &mut String,
+    alloc: Global,
+    story: &Story<'_>,
+    words: &str,
+    places: &[Span],
+    below: Vec<String>,
+) -> Result<(), AllocError> {
+    let Some((first, others)) = places.split_first() else {
+        return add_line(text, words, &below);
+    };
+    let (told, more) = first_ones(others, MOST_NOTES.saturating_sub(1));
+    let mut note = simple(alloc, Sort::Error, *first, words)?;
+    note.below = below;
+    for place in told {
+        let words = String::from_str(alloc, "or here")?;
+        note.others.push(Other {
+            span: *place,
+            words,
+        })?;
+    }
+    let lines = render(alloc, story.path, story.program, &note)?;
+    text.push_str(lines.as_str())?;
+    add_more(text, "", "place", more.len())
+}
+
+/// Adds an instance that waits on a channel.
+fn add_waiting(
+    text: &mut String,
+    alloc: Global,
+    story: &Story<'_>,
+    reason: &Reason,
+    channel: usize,
+    below: Vec<String>,
+) -> Result<(), AllocError> {
+    let places = places_of(alloc, story, reason)?;
+    let mut words = String::new(alloc);
+    if reason.is_on_ring {
+        add_wait(
+            &mut words,
+            story,
+            reason.instance,
+            channel,
+            first_ones(&places, 0).0,
+        )?;
+        add(&mut words, &[", in a deadlock", for_ever(reason)])?;
+        return add_error(text, alloc, story, words.as_str(), &places, below);
+    }
+    add_wait(&mut words, story, reason.instance, channel, &places)?;
+    add_led(&mut words, story.network, reason)?;
+    add_line(text, words.as_str(), &below)
+}
+
+/// Whether an instance has this fault.
+fn has_failed(reason: &Reason, kind: Failure) -> bool {
+    match (kind, reason.end.outcome) {
+        (Failure::Overflow, Outcome::Faulted(Failure::Overflow)) => true,
+        (Failure::Division, Outcome::Faulted(Failure::Division)) => true,
+        (_, _) => false,
+    }
+}
+
+/// The first instance of the process of an instance that has its fault, where that isn't itself.
+fn told_before(story: &Story<'_>, reason: &Reason, kind: Failure) -> Option<usize> {
+    let name = process_name(story.network, reason.instance);
+    for other in story.reasons {
+        if other.instance == reason.instance {
+            return None;
+        }
+        if has_failed(other, kind) && process_name(story.network, other.instance) == name {
+            return Some(other.instance);
+        }
+    }
+    None
+}
+
+/// Says that an instance has a fault.
+fn fault_word(kind: Failure) -> &'static str {
+    match kind {
+        Failure::Overflow => " has a fault, overflow",
+        Failure::Division => " has a fault, division",
+    }
+}
+
+/// Adds an instance that has a fault, with the places that it can have come from, unless they were told of an instance before it.
 fn add_faulted(
     text: &mut String,
     alloc: Global,
-    path: &str,
-    program: &str,
-    network: &Network,
-    ends: &[End],
-    instance: usize,
+    story: &Story<'_>,
+    reason: &Reason,
     kind: Failure,
-) -> Result<(), AllocError>
-    requires here { instance < length network.now.instances.items }
-    requires ends { length ends.now ≤ length network.now.instances.items }
-    ensures { IfOk result (λ _. string_bytes text.new ≡ string_bytes text.old ++ faulted_text path.now program.now network.now ends.now instance kind) }
-{
-    add_who(text, "", network, instance)?;
-    text.push_str(fault_word(kind))?;
-    let first = first_failed(network, ends, instance, kind);
-    if first == instance {
-        text.push_str("\n")?;
-        add_places(text, alloc, path, program, network, instance, kind)
-    } else {
-        add_who(text, ": see ", network, first)?;
-        text.push_str("\n")
+    below: Vec<String>,
+) -> Result<(), AllocError> {
+    let mut words = String::new(alloc);
+    add_who(&mut words, story.network, reason.instance)?;
+    words.push_str(fault_word(kind))?;
+    if let Some(before) = told_before(story, reason, kind) {
+        words.push_str(": see ")?;
+        add_who(&mut words, story.network, before)?;
+        return add_line(text, words.as_str(), &below);
     }
+    let places = places_of(alloc, story, reason)?;
+    add_error(text, alloc, story, words.as_str(), &places, below)
 }
 
-/// Adds the line of an instance that wants more events.
-fn add_more(
-    text: &mut String,
-    network: &Network,
-    instance: usize,
-    events: u64,
-) -> Result<(), AllocError>
-    requires { instance < length network.now.instances.items }
-    ensures { IfOk result (λ _. string_bytes text.new ≡ string_bytes text.old ++ wants_text network.now instance events) }
-{
-    add_who(text, "", network, instance)?;
+/// Adds that an instance wants more than so many events.
+fn add_events(words: &mut String, events: u64) -> Result<(), AllocError> {
     let mut buffer = Buffer::new();
-    let number = buffer.format(events);
-    add(text, &[" wants more, after ", number, events_word(events)])
+    words.push_str(" wants more, after ")?;
+    words.push_str(buffer.format(events))?;
+    words.push_str(if events == 1 { " event" } else { " events" })
 }
 
-/// Adds the lines of an instance, where it hasn't ended.
-fn add_line(
+/// Adds an instance that wants more events, or has ended.
+fn add_still(
     text: &mut String,
     alloc: Global,
-    path: &str,
-    program: &str,
-    network: &Network,
-    verdict: Verdict,
-    fed: Option<&Input>,
-    ends: &[End],
-    awaited: &str,
+    story: &Story<'_>,
     instance: usize,
-    end: End,
-    cause: Cause,
-) -> Result<(), AllocError>
-    requires awaited { awaited.now ≡ spots_text program.now (awaited_places network.now instance end.outcome) }
-    requires named { IsOfNetwork network.now instance end.outcome cause }
-    requires ends { length ends.now ≤ length network.now.instances.items }
-    ensures { GrowsBy result text.old text.new (line_text path.now program.now network.now verdict (fed_lists fed.entry) ends.now instance end cause) }
-{
-    match end.outcome {
+    events: Option<u64>,
+    below: &[String],
+) -> Result<(), AllocError> {
+    let mut words = String::new(alloc);
+    add_who(&mut words, story.network, instance)?;
+    match events {
+        Some(events) => add_events(&mut words, events)?,
+        None => words.push_str(" has ended")?,
+    }
+    add_line(text, words.as_str(), below)
+}
+
+/// Adds an instance that hasn't ended, with those that wait because of it.
+fn add_reason(
+    text: &mut String,
+    alloc: Global,
+    story: &Story<'_>,
+    reason: &Reason,
+    waiting: &[Reason],
+) -> Result<(), AllocError> {
+    let below = below(alloc, story, reason, waiting)?;
+    match reason.end.outcome {
         Outcome::Ended => Ok(()),
-        Outcome::Waits(channel) => add_waits(
-            text, program, network, verdict, fed, awaited, instance, channel, cause,
-        ),
-        Outcome::Faulted(kind) => {
-            add_faulted(text, alloc, path, program, network, ends, instance, kind)
+        Outcome::Waits(channel) => add_waiting(text, alloc, story, reason, channel, below),
+        Outcome::Faulted(kind) => add_faulted(text, alloc, story, reason, kind, below),
+        Outcome::More => {
+            let events = Some(reason.end.events);
+            add_still(text, alloc, story, reason.instance, events, &below)
         }
-        Outcome::More => add_more(text, network, instance, end.events),
     }
 }
 
-/// Adds the lines of the instances.
-pub(crate) fn add_lines(
+/// Adds the instances of a ring, with those that wait because of it below the first.
+fn add_ring(
     text: &mut String,
     alloc: Global,
-    path: &str,
-    program: &str,
-    network: &Network,
-    verdict: Verdict,
-    fed: Option<&Input>,
-    causes: &[Cause],
-    ends: &[End],
-) -> Result<(), AllocError>
-    requires { AreOfNetwork network.now ends.now causes.now }
-    ensures { GrowsBy result text.old text.new (lines_text path.now program.now network.now verdict (fed_lists fed.entry) ends.now causes.now 0 ends.now) }
-{
-    let awaited = awaited(alloc, program, network, ends)?;
-    for (instance, end) in ends.iter().enumerate() {
-        add_line(
-            text,
-            alloc,
-            path,
-            program,
-            network,
-            verdict,
-            fed,
-            ends,
-            awaited[instance].as_str(),
-            instance,
-            *end,
-            causes[instance],
-        )?;
+    story: &Story<'_>,
+    first: usize,
+    waiting: &[Reason],
+) -> Result<(), AllocError> {
+    let members = led_to(alloc, story.reasons, first, true)?;
+    let (told, more) = first_ones(&members, MOST_NOTES);
+    for reason in told {
+        let most = if reason.instance == first {
+            waiting.len()
+        } else {
+            0
+        };
+        add_reason(text, alloc, story, reason, first_ones(waiting, most).0)?;
+    }
+    add_more(text, "", "wait", more.len())
+}
+
+/// Adds the cause that is at an instance, if one is, with those that wait because of it.
+fn add_cause(
+    text: &mut String,
+    alloc: Global,
+    story: &Story<'_>,
+    instance: usize,
+) -> Result<(), AllocError> {
+    let waiting = led_to(alloc, story.reasons, instance, false)?;
+    match reason_of(story.reasons, instance) {
+        Some(reason) if source_of(reason.cause) != instance => Ok(()),
+        Some(reason) if reason.is_on_ring => add_ring(text, alloc, story, instance, &waiting),
+        Some(reason) => add_reason(text, alloc, story, &reason, &waiting),
+        None => add_ended(text, alloc, story, instance, &waiting),
+    }
+}
+
+/// Adds an instance that has ended, if others wait because of it.
+fn add_ended(
+    text: &mut String,
+    alloc: Global,
+    story: &Story<'_>,
+    instance: usize,
+    waiting: &[Reason],
+) -> Result<(), AllocError> {
+    let Some(first) = waiting.first() else {
+        return Ok(());
+    };
+    let below = below(alloc, story, first, waiting)?;
+    add_still(text, alloc, story, instance, None, &below)
+}
+
+/// Adds each cause once, with those that wait because of it.
+pub(crate) fn add_causes(
+    text: &mut String,
+    alloc: Global,
+    story: &Story<'_>,
+    instances: usize,
+) -> Result<(), AllocError> {
+    for instance in 0..instances {
+        add_cause(text, alloc, story, instance)?;
+    }
+    Ok(())
+}
+
+/// Adds each instance that hasn't ended, with where its waits lead.
+pub(crate) fn add_each(
+    text: &mut String,
+    alloc: Global,
+    story: &Story<'_>,
+) -> Result<(), AllocError> {
+    for reason in story.reasons {
+        add_reason(text, alloc, story, reason, first_ones(story.reasons, 0).0)?;
     }
     Ok(())
 }

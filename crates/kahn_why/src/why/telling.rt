@@ -4,26 +4,17 @@ ghost use Rattle.std.specs.Prelude.{◌≡◌, ◌++◌, IfOk, string_bytes};
 ghost use Rattle.kahn_report.specs.Formats.{last_text};
 ghost use Rattle.kahn_streams.specs.Network.{network_of};
 ghost use Rattle.kahn_chain.specs.Chain.{AreStandings};
-ghost use Rattle.kahn_why.specs.Why.{standings_of};
-ghost use Rattle.kahn_why.specs.Words.{IsExplained, bound_text, fed_lists};
+ghost use Rattle.kahn_why.specs.Why.{IsExplained, standings_of};
 
-use crate::why::lines::add_lines;
+use crate::why::lines::{add_causes, add_each};
+use crate::why::story::Story;
 use crate::why::told::{Explanation, came_to};
+use crate::why::verdict::add_verdict;
 use itoa::Buffer;
-use kahn_chain::{causes, standings};
+use kahn_chain::reasons;
 use kahn_marks::add;
 use kahn_streams::{Answer, Input, Network, Verdict};
 use std::alloc::{AllocError, Global};
-
-/// Says how a run can go on that was stopped so.
-fn go_on(verdict: Verdict) -> &'static str
-    ensures { result.now ≡ bound_text verdict }
-{
-    match verdict {
-        Verdict::Bound => "--bound N with a greater N lets the run go on\n",
-        Verdict::Finished | Verdict::Memory => "",
-    }
-}
 
 /// Adds the last line of the report of an answer.
 fn add_last(text: &mut String, answer: &Answer) -> Result<(), AllocError>
@@ -39,17 +30,61 @@ fn add_last(text: &mut String, answer: &Answer) -> Result<(), AllocError>
     add(text, &[word, events, "\n"])
 }
 
-/// Adds how the run can go on, and the last line of the report of an answer.
-fn add_end(text: &mut String, answer: &Answer) -> Result<(), AllocError>
-    ensures { IfOk result (λ _. string_bytes text.new ≡ string_bytes text.old ++ (bound_text answer.now.verdict ++ last_text answer.now)) }
-{
-    text.push_str(go_on(answer.verdict))?;
-    add_last(text, answer)
+/// What came of a run, and each cause once, or each instance, and how the run can go on.
+fn lines(
+    alloc: Global,
+    story: &Story<'_>,
+    instances: usize,
+    each: bool,
+) -> Result<String, AllocError> {
+    let mut text = String::new(alloc);
+    add_verdict(&mut text, alloc, story)?;
+    if each {
+        add_each(&mut text, alloc, story)?;
+    } else {
+        add_causes(&mut text, alloc, story, instances)?;
+    }
+    if let Verdict::Bound = story.verdict {
+        text.push_str("--bound N with a greater N lets the run go on\n")?;
+    }
+    Ok(text)
 }
 
-/// Why the run of an answer of the network of a program text stopped, by the input that it was fed, where that is known: a line for each instance that hasn't
-/// ended, with notes on all places in the text that a fault can have come from, and advice to each ring, and how the run ended. It refuses only
-/// where memory was refused.
+/// Why the run of an answer stopped, told by its causes or for each instance.
+fn told(
+    alloc: Global,
+    path: &str,
+    program: &str,
+    network: &Network,
+    fed: Option<&Input>,
+    answer: &Answer,
+    each: bool,
+) -> Result<Explanation, AllocError>
+    requires { AreStandings (network_of network.now) (standings_of answer.now) }
+    ensures { IfOk result (IsExplained network.now answer.now) }
+{
+    let reasons = reasons(alloc, network, answer.verdict, &answer.ends)?;
+    let story = Story {
+        path,
+        program,
+        network,
+        fed,
+        verdict: answer.verdict,
+        reasons: &reasons,
+    };
+    let mut text = lines(alloc, &story, answer.ends.len(), each)?;
+    add_last(&mut text, answer)?;
+    let told = came_to(answer.verdict, &reasons);
+    Ok(Explanation {
+        text,
+        reasons,
+        told,
+    })
+}
+
+/// Why the run of an answer of the network of a program text stopped, by the input that it was fed, where that is known: a line with
+/// what came of it, each cause once, with those that wait because of it, notes on the places where a ring waits and on all that a fault
+/// can have come from, and how the run ended. It refuses only where memory was refused.
 pub fn explained(
     alloc: Global,
     path: &str,
@@ -59,25 +94,22 @@ pub fn explained(
     answer: &Answer,
 ) -> Result<Explanation, AllocError>
     requires { AreStandings (network_of network.now) (standings_of answer.now) }
-    ensures { IfOk result (IsExplained path.now program.now network.now (fed_lists fed.entry) answer.now) }
+    ensures { IfOk result (IsExplained network.now answer.now) }
 {
-    let standings = standings(alloc, &answer.ends)?;
-    let causes = causes(alloc, network, &standings)?;
-    let mut text = String::new(alloc);
-    add_lines(
-        &mut text,
-        alloc,
-        path,
-        program,
-        network,
-        answer.verdict,
-        fed,
-        &causes,
-        &answer.ends,
-    )?;
-    add_end(&mut text, answer)?;
-    Ok(Explanation {
-        text,
-        told: came_to(answer, &causes),
-    })
+    told(alloc, path, program, network, fed, answer, false)
+}
+
+/// The same with each instance that hasn't ended, and where its waits lead.
+pub fn explained_each(
+    alloc: Global,
+    path: &str,
+    program: &str,
+    network: &Network,
+    fed: Option<&Input>,
+    answer: &Answer,
+) -> Result<Explanation, AllocError>
+    requires { AreStandings (network_of network.now) (standings_of answer.now) }
+    ensures { IfOk result (IsExplained network.now answer.now) }
+{
+    told(alloc, path, program, network, fed, answer, true)
 }

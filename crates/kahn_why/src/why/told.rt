@@ -1,10 +1,10 @@
 //! What is told of a run that stopped.
 
 ghost use Rattle.std.specs.Prelude.{◌≡◌};
-ghost use Rattle.kahn_why.specs.Words.{has_fault, has_ring, came_to, is_ring, is_fault};
+ghost use Rattle.kahn_why.specs.Why.{came_to, has_fault, has_ring, is_fault, is_ring};
 
-use kahn_chain::Cause;
-use kahn_streams::{Answer, End, Outcome, Verdict};
+use kahn_chain::{Cause, Reason};
+use kahn_streams::{Outcome, Verdict};
 
 /// What a run came to.
 #[derive(Clone, Copy)]
@@ -17,21 +17,23 @@ pub enum Told {
     Stop(Verdict),
 }
 
-/// Why a run stopped, in words.
+/// Why a run stopped.
 #[derive(Drop)]
 pub struct Explanation {
-    /// The lines.
+    /// In words.
     pub text: String,
+    /// Why each instance goes no further that hasn't ended.
+    pub reasons: Vec<Reason>,
     /// What it came to.
     pub told: Told,
 }
 
 /// Whether an instance has a fault.
-fn has_fault(ends: &[End]) -> bool
-    ensures { result ≡ has_fault ends.now }
+fn has_fault(reasons: &[Reason]) -> bool
+    ensures { result ≡ has_fault reasons.now }
 {
-    for end in ends {
-        if matches!(end.outcome, Outcome::Faulted(_)) {
+    for reason in reasons {
+        if matches!(reason.end.outcome, Outcome::Faulted(_)) {
             return true;
         }
     }
@@ -39,26 +41,26 @@ fn has_fault(ends: &[End]) -> bool
 }
 
 /// Whether there is a ring.
-fn has_ring(causes: &[Cause]) -> bool
-    ensures { result ≡ has_ring causes.now }
+fn has_ring(reasons: &[Reason]) -> bool
+    ensures { result ≡ has_ring reasons.now }
 {
-    for cause in causes {
-        if matches!(cause, Cause::Ring(_)) {
+    for reason in reasons {
+        if matches!(reason.cause, Cause::Ring(_)) {
             return true;
         }
     }
     false
 }
 
-/// What the run of an answer came to.
-pub(crate) fn came_to(answer: &Answer, causes: &[Cause]) -> Told
-    ensures { result ≡ came_to answer.now causes.now }
+/// What a run came to that ended so.
+pub(crate) fn came_to(verdict: Verdict, reasons: &[Reason]) -> Told
+    ensures { result ≡ came_to verdict reasons.now }
 {
-    if has_fault(&answer.ends) {
+    if has_fault(reasons) {
         Told::Fault
-    } else if has_ring(causes) {
+    } else if has_ring(reasons) {
         Told::Deadlock
     } else {
-        Told::Stop(answer.verdict)
+        Told::Stop(verdict)
     }
 }

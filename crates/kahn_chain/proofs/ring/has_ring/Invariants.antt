@@ -1,8 +1,8 @@
 -- None of the instances so far waits on itself.
-use Rattle.std.specs.Prelude.{ℕ, ◌<◌}
+use Rattle.std.specs.Prelude.{ℕ, ◌<◌, map}
 use Rattle.kahn_streams.specs.Network.{network_of}
-use Rattle.kahn_chain.specs.Chain.{LeadsOn}
+use Rattle.kahn_chain.specs.Chain.{LeadsOn, stands}
 use Rattle.kahn_chain.proofs.ring.has_ring.Given as goal
 
 abbrev pub invariant-loop-instance : goal.invariant-loop-instance
-invariant-loop-instance l = (p : ℕ) → p < l.instance → LeadsOn (network_of l.network) l.standings p p → ⊥
+invariant-loop-instance l = (p : ℕ) → p < l.instance → LeadsOn (network_of l.network) (map stands l.ends) p p → ⊥

@@ -1,5 +1,7 @@
 use Rattle.std.proofs.Common.{map, ap, subst, sym, ◌∙◌}
+use Rattle.std.specs.Prelude.{option_map}
 use Rattle.clap.specs.Words.{App, HasKind, fault_of, is_simple_and_free}
+use Rattle.kahn_line.specs.Line.{file_named}
 use Rattle.kahn_line.specs.Draw.{draw_app, IsDrawRead}
 use Rattle.kahn_line.proofs.Asked.{told}
 use Rattle.kahn_line.proofs.Draw_asked.{asked_draw}
@@ -19,6 +21,6 @@ returns g c =
     let is = c.in_ok-draw_command.ensures in
     let faults = c.in_ok-matches.ensures.kinds (ap is_simple_and_free is) in (
       asked_draw c.in_ok-draw_command.field-0 c.in_ok-matches.matches words c.in_ok-matches.ensures.parsed c.in_ok-matches.ensures.matches is _
-          (c.in_ok-copied.ensures ∙ c.get_str.ensures) (c.in_ok-copied-2.ensures ∙ c.get_str-2.ensures) c.number_or.ensures,
+          (c.in_ok-file_copied.ensures ∙ ap (option_map file_named) c.get_str.ensures) (c.in_ok-file_copied-2.ensures ∙ ap (option_map file_named) c.get_str-2.ensures) c.number_or.ensures,
       ap (λ (a : App). fault_of a words) (sym is) ∙ faults,
     )

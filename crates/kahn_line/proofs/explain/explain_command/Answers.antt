@@ -11,4 +11,7 @@ returns c =
     let four = c.in_ok-arg-4.ensures.shape c.quantum_arg.ensures.local ∙ ap₂ with_rule three c.quantum_arg.ensures.rule in
     let five = c.in_ok-arg-5.ensures.shape c.bound_arg.ensures.local ∙ ap₂ with_rule four c.bound_arg.ensures.rule in
     let six = c.in_ok-arg-6.ensures.shape c.flag_arg.ensures.local ∙ ap₂ with_rule five c.flag_arg.ensures.rule in
-    IfOk-weaker c.arg-7.result _ _ (λ r h. h.shape c.flag_arg-2.ensures.local ∙ ap₂ with_rule six c.flag_arg-2.ensures.rule) c.arg-7.ensures
+    let seven = c.in_ok-arg-7.ensures.shape c.flag_arg-2.ensures.local ∙ ap₂ with_rule six c.flag_arg-2.ensures.rule in
+    let eight = c.in_ok-arg-8.ensures.shape c.flag_arg-3.ensures.local ∙ ap₂ with_rule seven c.flag_arg-3.ensures.rule in
+    let nine = c.in_ok-arg-9.ensures.shape c.flag_arg-4.ensures.local ∙ ap₂ with_rule eight c.flag_arg-4.ensures.rule in
+    IfOk-weaker c.arg-10.result _ _ (λ r h. h.shape c.text_arg.ensures.local ∙ ap₂ with_rule nine c.text_arg.ensures.rule) c.arg-10.ensures

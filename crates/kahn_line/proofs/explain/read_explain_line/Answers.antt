@@ -1,6 +1,7 @@
 use Rattle.std.proofs.Common.{map, ap, subst, sym, ◌∙◌}
+use Rattle.std.specs.Prelude.{option_map}
 use Rattle.clap.specs.Words.{App, HasKind, fault_of, is_simple_and_free}
-use Rattle.kahn_line.specs.Line.{was_given}
+use Rattle.kahn_line.specs.Line.{file_named, was_given}
 use Rattle.kahn_line.specs.Explain.{explain_app, IsExplainRead}
 use Rattle.kahn_line.proofs.Asked.{told}
 use Rattle.kahn_line.proofs.Explain_asked.{asked_explain}
@@ -20,7 +21,9 @@ returns g c =
     let is = c.in_ok-explain_command.ensures in
     let faults = c.in_ok-matches.ensures.kinds (ap is_simple_and_free is) in (
       asked_explain c.in_ok-explain_command.field-0 c.in_ok-matches.matches words c.in_ok-matches.ensures.parsed c.in_ok-matches.ensures.matches is _
-          (c.in_ok-copied.ensures ∙ c.get_str.ensures) (c.in_ok-copied-2.ensures ∙ c.get_str-2.ensures) c.in_ok-config_of.ensures
-          (c.was_given.ensures ∙ ap was_given c.get_str-3.ensures) (c.was_given-2.ensures ∙ ap was_given c.get_str-4.ensures),
+          (c.in_ok-file_copied.ensures ∙ ap (option_map file_named) c.get_str.ensures) (c.in_ok-file_copied-2.ensures ∙ ap (option_map file_named) c.get_str-2.ensures) c.in_ok-config_of.ensures
+          (c.was_given.ensures ∙ ap was_given c.get_str-3.ensures) (c.was_given-2.ensures ∙ ap was_given c.get_str-4.ensures)
+          (c.was_given-3.ensures ∙ ap was_given c.get_str-5.ensures) (c.was_given-4.ensures ∙ ap was_given c.get_str-6.ensures)
+          (c.in_ok-copied.ensures ∙ c.get_str-7.ensures),
       ap (λ (a : App). fault_of a words) (sym is) ∙ faults,
     )

@@ -1,11 +1,11 @@
 use Rattle.std.proofs.Common.{map, ap, ap₂, refl, subst, sym, ◌≡◌, ◌∙◌}
 use Rattle.std.specs.Prelude.{option_map, string_bytes}
 use Rattle.clap.specs.Words.{HasKind, HasMatchesOf, app_of, fault_of, is_simple_and_free}
-use Rattle.kahn_line.specs.Line.{was_given}
+use Rattle.kahn_line.specs.Line.{file_named, was_given}
 use Rattle.kahn_line.specs.Live.{live_app, IsLiveRead}
-use Rattle.kahn_line.specs.Parts.{joined_words, parted}
+use Rattle.kahn_line.specs.Parts.{joined_words}
 use Rattle.kahn_line.proofs.Asked.{told}
-use Rattle.kahn_line.proofs.Live_asked.{asked_live}
+use Rattle.kahn_line.proofs.Live_asked.{asked_live, given}
 use Rattle.kahn_line.proofs.live.read_live_line.Goals as goal
 
 pub returns-in_err-matches : goal.returns-in_err-matches
@@ -25,7 +25,7 @@ returns g c =
     let faults = c.in_ok-matches.ensures.kinds (ap is_simple_and_free is) in
     let matches = subst (λ ws. HasMatchesOf (app_of c.in_ok-live_command.field-0) ws c.in_ok-matches.matches) same c.in_ok-matches.ensures.matches in (
       asked_live c.in_ok-live_command.field-0 c.in_ok-matches.matches words c.in_ok-matches.ensures.parsed matches is _
-          (c.in_ok-copied.ensures ∙ c.get_str-2.ensures) _ c.in_ok-config_of.ensures refl (c.was_given.ensures ∙ ap was_given c.get_str-3.ensures) (c.was_given-2.ensures ∙ ap was_given c.get_str-4.ensures)
-          c.in_ok-lines_at_end.ensures (c.in_ok-plain.ensures ∙ ap (option_map (parted 44)) c.get_str.ensures),
+          (c.in_ok-file_copied.ensures ∙ ap (option_map file_named) c.get_str-4.ensures) _ c.in_ok-config_of.ensures refl (c.was_given.ensures ∙ ap was_given c.get_str-5.ensures) (c.was_given-2.ensures ∙ ap was_given c.get_str-6.ensures)
+          c.in_ok-lines_at_end.ensures (c.in_ok-plain.ensures ∙ given c.get_str.ensures c.get_str-2.ensures c.get_str-3.ensures),
       ap₂ fault_of (sym is) (sym same) ∙ faults,
     )

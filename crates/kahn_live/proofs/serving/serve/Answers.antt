@@ -11,16 +11,6 @@ returns-in_err-take_all g c =
     let p = err_from_is_err_and c.from_residual.result c.from_residual.ensures.1 in
     rw (p.1, p.2) (inl c.in_err-take_all.ensures.met)
 
-pub returns-in_err-amiss : goal.returns-in_err-amiss
-returns-in_err-amiss g c =
-    let f = lines_given c.args.fed in
-    let text = reader_remaining g.I.Read.remaining c.args.reader.now in
-    let old = point_of g.W.Write.contents g.E.Write.contents c.args.stage.now in
-    let last = point_of g.W.Write.contents g.E.Write.contents c.take_all.new.stage in
-    let there : c.in_ok-take_all.field-0 ≡ true = search rules in
-    let p = err_from_is_err_and c.from_residual-in_err-amiss.result c.from_residual-in_err-amiss.ensures.1 in
-    rw (p.1, p.2) (inr (last, all_there f text old last c.in_ok-take_all.field-0 there c.in_ok-take_all.ensures.met, inl (c.in_err-amiss.ensures, refl)))
-
 pub returns-in_err-verdict : goal.returns-in_err-verdict
 returns-in_err-verdict g c =
     let f = lines_given c.args.fed in
@@ -28,9 +18,9 @@ returns-in_err-verdict g c =
     let old = point_of g.W.Write.contents g.E.Write.contents c.args.stage.now in
     let last = point_of g.W.Write.contents g.E.Write.contents c.take_all.new.stage in
     let there : c.in_ok-take_all.field-0 ≡ true = search rules in
-    let amiss = c.in_ok-amiss.amiss in
+    let amiss = c.judged-amiss.result in
     let p = err_from_is_err_and c.from_residual-in_err-verdict.result c.from_residual-in_err-verdict.ensures.1 in
-    rw (p.1, p.2) (inr (last, all_there f text old last c.in_ok-take_all.field-0 there c.in_ok-take_all.ensures.met, inr (amiss, (c.in_ok-amiss.ensures, c.in_err-verdict.ensures))))
+    rw (p.1, p.2) (inr (last, amiss, all_there f text old last c.in_ok-take_all.field-0 there c.in_ok-take_all.ensures.met, (c.judged-amiss.ensures, c.in_err-verdict.ensures)))
 
 pub returns : goal.returns
 returns g c =
@@ -39,4 +29,4 @@ returns g c =
     let old = point_of g.W.Write.contents g.E.Write.contents c.args.stage.now in
     let last = point_of g.W.Write.contents g.E.Write.contents c.take_all.new.stage in
     let there : c.in_ok-take_all.field-0 ≡ true = search rules in
-    (last, all_there f text old last c.in_ok-take_all.field-0 there c.in_ok-take_all.ensures.met, (c.in_ok-amiss.ensures, c.in_ok-verdict.ensures))
+    (last, all_there f text old last c.in_ok-take_all.field-0 there c.in_ok-take_all.ensures.met, (c.judged-amiss.ensures, c.in_ok-verdict.ensures))

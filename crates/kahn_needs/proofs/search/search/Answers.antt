@@ -1,9 +1,9 @@
 use Rattle.std.proofs.Common.{refl, ◌∙◌}
-use Rattle.kahn_needs.proofs.Searching.{demand_on}
+use Rattle.kahn_needs.proofs.Searching.{chain_on, demand_on}
 use Rattle.kahn_needs.proofs.search.search.Goals as goal
 
 pub loop-init : goal.loop-init
-loop-init g c = record { same = (refl, refl, refl); forced = c.requires.forced; root = c.requires.root; demanded = c.requires.root }
+loop-init g c = record { same = (refl, refl, refl); forced = c.requires.forced; root = c.requires.root; chain = c.begun-chain.ensures }
 
 pub has_come-requires : goal.has_come-requires
 has_come-requires g c = c.loop.invariant.root.listed
@@ -16,9 +16,13 @@ loop-preserved g c =
       same = (a.same.0 ∙ i.same.0, a.same.1 ∙ i.same.1, a.same.2 ∙ i.same.2);
       forced = a.forced;
       root = demand_on c.loop.bench c.act-turn.new.bench a.same c.args.root.line c.args.root.place c.args.root.line c.args.root.place i.root;
-      demanded = c.next_demand-demand.ensures;
+      chain = c.next_chain-chain.ensures;
     }
 
-pub next_demand-demand-requires-clause-demanded : goal.next_demand-demand-requires-clause-demanded
-next_demand-demand-requires-clause-demanded g c =
-    demand_on c.loop.bench c.act-turn.new.bench c.act-turn.ensures.same c.args.root.line c.args.root.place c.loop.demand.line c.loop.demand.place c.loop.invariant.demanded
+pub ended_by-requires-clause-chain : goal.ended_by-requires-clause-chain
+ended_by-requires-clause-chain g c =
+    chain_on c.loop.bench c.act-turn.new.bench c.act-turn.ensures.same c.args.root.line c.args.root.place c.loop.chain c.loop.invariant.chain
+
+pub next_chain-chain-requires-clause-chain : goal.next_chain-chain-requires-clause-chain
+next_chain-chain-requires-clause-chain g c =
+    chain_on c.loop.bench c.act-turn.new.bench c.act-turn.ensures.same c.args.root.line c.args.root.place c.loop.chain c.loop.invariant.chain

@@ -1,5 +1,5 @@
 use Rattle.kahn_needs.specs.inner.Bench.{AreSeatsOf}
-use Rattle.kahn_needs.specs.inner.Finding.{AreForced, IsDemand}
+use Rattle.kahn_needs.specs.inner.Finding.{AreForced, IsWaitChain, IsDemand}
 use Rattle.kahn_needs.proofs.search.search.Given as goal
 
 abbrev pub invariant-loop : goal.invariant-loop
@@ -7,5 +7,5 @@ invariant-loop g l = record {
   same : AreSeatsOf l.fn.bench.network l.fn.bench.input l.fn.bench.watch l.bench;
   forced : AreForced l.bench l.root.line l.root.place;
   root : IsDemand l.bench l.root.line l.root.place l.root.line l.root.place;
-  demanded : IsDemand l.bench l.root.line l.root.place l.demand.line l.demand.place;
+  chain : IsWaitChain l.bench l.root.line l.root.place l.chain;
 }

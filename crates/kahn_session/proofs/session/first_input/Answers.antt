@@ -1,4 +1,4 @@
-use Rattle.std.proofs.Common.{◌∙◌, arith, ap, sym}
+use Rattle.std.proofs.Common.{◌∙◌, arith, ap, rules, sym}
 use Rattle.kahn_streams.specs.Network.{network_of}
 use Rattle.kahn_session.specs.Live.{is_input}
 use Rattle.kahn_session.proofs.Named.{no_further}
@@ -6,7 +6,7 @@ use Rattle.kahn_session.proofs.session.first_input.Goals as goal
 
 pub returns-then-is_input : goal.returns-then-is_input
 returns-then-is_input c =
-    (c.loop-number.number, c.channel-channel.ensures.name, sym (ap is_input c.channel-channel.ensures.role) ∙ sym c.is_input.ensures ∙ c.if-is_input.true, c.loop-number.invariant)
+    (search rules, sym (ap is_input c.channel-channel.ensures.role) ∙ sym c.is_input.ensures ∙ c.if-is_input.true, c.loop-number.invariant)
 
 pub loop-number-preserved : goal.loop-number-preserved
 loop-number-preserved c =

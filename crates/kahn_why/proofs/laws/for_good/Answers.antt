@@ -1,5 +1,6 @@
+use Rattle.kahn_why.proofs.Lasting.{for_ever}
 use Rattle.kahn_why.proofs.Stands.{for_good}
 use Rattle.kahn_why.proofs.laws.for_good.Goals as goal
 
 pub returns : goal.returns
-returns c = for_good
+returns c = record { ends = for_good; told = for_ever }

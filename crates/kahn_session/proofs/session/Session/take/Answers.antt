@@ -14,7 +14,7 @@ invariant_of-self-in-Err-show g c =
     let i = c.self.inside in
     let h = i.paced.flow in
     let on = whole_on c.args.line.now h c.feed_line.new.paced c.part-verdict.new.self c.in_default.ensures.fed c.part-verdict.result c.part-verdict.ensures in
-    (on.network ∙ c.self.invariant.0, kept_lines h.run c.part-verdict.new.self.flow.run i.lines.items c.self.invariant.1 on)
+    (on.network ∙ c.self.invariant.0, kept_lines h.run c.part-verdict.new.self.flow.run i.lines.items c.self.invariant.1 on, c.self.invariant.2)
 
 pub returns-in-Err-show-clause-taken : goal.returns-in-Err-show-clause-taken
 returns-in-Err-show-clause-taken g c =

@@ -1,7 +1,7 @@
 use Rattle.std.proofs.Common.{rules, arith, ◌≡◌, ◌++◌, ◌∙◌, ap, sym, append_assoc, flat_map, take}
 use Rattle.std.proofs.lemmas.Grind.{common_steps}
 use Rattle.kahn_streams.specs.declared.tree.Form.TheViews.{the_lemmas}
-use Rattle.kahn_why.specs.Waits.{form_waits}
+use Rattle.kahn_why.specs.inner.Waits.{form_waits}
 use Rattle.kahn_why.proofs.Waiting.{in_operand, operands_waited}
 use Rattle.kahn_why.proofs.why.waits.+add_expression.Goals as goal
 

@@ -1,7 +1,7 @@
 use Rattle.std.proofs.Common.{rules, arith, ◌≡◌, ◌++◌, ◌∙◌, ap, sym, flat_map, take}
 use Rattle.std.proofs.lemmas.Grind.{common_steps}
 use Rattle.kahn_streams.specs.declared.tree.Action.TheViews.{the_lemmas}
-use Rattle.kahn_why.specs.Waits.{action_waits}
+use Rattle.kahn_why.specs.inner.Waits.{action_waits}
 use Rattle.kahn_why.proofs.Waiting.{in_statement, row_waited}
 use Rattle.kahn_why.proofs.why.waits.+add_statement.Goals as goal
 

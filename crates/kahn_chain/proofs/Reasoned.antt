@@ -1,0 +1,49 @@
+-- The reasons so far, one after another.
+use Rattle.std.proofs.Common.{◌≡◌, ◌∙◌, ℕ, ◌+◌, ◌<◌, List, [], ◌++◌, All, Bool, Some, ap, append_assoc, drop, get_or, length, map, refl, slice_get, subst, sym}
+use Rattle.std.proofs.lemmas.List.{at_drop_more, map-append}
+use Rattle.std.proofs.lemmas.List.Elements.{All-append, All-from_recursion}
+use Rattle.std.proofs.lemmas.Option.{slice_get-get_or}
+use Rattle.kahn_streams.specs.Network.{Network}
+use Rattle.kahn_streams.specs.declared.answer.End.{End}
+use Rattle.kahn_streams.specs.declared.answer.Outcome.{Outcome}
+use Rattle.kahn_streams.specs.declared.answer.Outcome.TheVariants.{Ended, Waits, Faulted, More}
+use Rattle.kahn_streams.specs.declared.answer.Verdict.{Verdict}
+use Rattle.kahn_chain.specs.Chain.{IsCause, IsRingMark, stands}
+use Rattle.kahn_chain.specs.Reasons.{IsReasonFor, not_ended, told_instance, unless_ended}
+use Rattle.kahn_chain.specs.inner.Reasoned.{AreSoFar, reasons_at, told_at}
+use Rattle.kahn_chain.specs.declared.standing.Cause.{Cause}
+use Rattle.kahn_chain.specs.declared.reason.Reason.{Reason}
+
+numbers : (v : Verdict) (p : ℕ) (x : End) (y : Cause) (mark : Bool) (o : Outcome) → map told_instance (told_at v p x y mark o) ≡ unless_ended p o
+numbers v p x y mark Ended = refl
+numbers v p x y mark (Waits c) = refl
+numbers v p x y mark (Faulted k) = refl
+numbers v p x y mark More = refl
+
+are_so : (N : Network) (v : Verdict) (es : List End) (p : ℕ) (x : End) (y : Cause) (mark : Bool) (o : Outcome) → slice_get es p ≡ Some x → IsCause N (map stands es) p y
+    → IsRingMark N (map stands es) p mark → All (IsReasonFor N v es) (told_at v p x y mark o)
+are_so N v es p x y mark Ended end cause ring = All-from_recursion (IsReasonFor N v es) [] tt
+are_so N v es p x y mark (Waits c) end cause ring = All-from_recursion (IsReasonFor N v es) (told_at v p x y mark (Waits c)) ((record { end = end; cause = cause; ring = ring; lasts = refl }), tt)
+are_so N v es p x y mark (Faulted k) end cause ring = All-from_recursion (IsReasonFor N v es) (told_at v p x y mark (Faulted k)) ((record { end = end; cause = cause; ring = ring; lasts = refl }), tt)
+are_so N v es p x y mark More end cause ring = All-from_recursion (IsReasonFor N v es) (told_at v p x y mark More) ((record { end = end; cause = cause; ring = ring; lasts = refl }), tt)
+
+-- the reason of one instance more
+pub one_more : (N : Network) (v : Verdict) (es : List End) (p : ℕ) (d : End) (y : Cause) (mark : Bool) (rs new : List Reason) → AreSoFar N v es p rs → p < length es
+    → IsCause N (map stands es) p y → IsRingMark N (map stands es) p mark → new ≡ rs ++ reasons_at v p (get_or es p d) y mark → AreSoFar N v es (p + 1) new
+one_more N v es p d y mark rs new h below cause ring more = subst (AreSoFar N v es (p + 1)) (sym more) (record {
+  once =
+      ap (λ l. l ++ rest) (map-append told_instance rs (reasons_at v p x y mark) ∙ ap (λ l. map told_instance rs ++ l) (numbers v p x y mark x.outcome))
+      ∙ append_assoc (map told_instance rs) (unless_ended p x.outcome) rest ∙ ap (λ l. map told_instance rs ++ l) (sym step) ∙ h.once;
+  each =
+      All-append (IsReasonFor N v es) rs (reasons_at v p x y mark) h.each
+      (are_so N v es p x y mark x.outcome (slice_get-get_or es p d below) cause ring);
+})
+  where
+    x : End
+    x = get_or es p d
+
+    rest : List ℕ
+    rest = not_ended (p + 1) (drop (p + 1) es)
+
+    step : not_ended p (drop p es) ≡ unless_ended p x.outcome ++ rest
+    step = at_drop_more (not_ended p) es p d below

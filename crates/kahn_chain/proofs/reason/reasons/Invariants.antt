@@ -1,0 +1,7 @@
+-- The reasons so far.
+use Rattle.kahn_streams.specs.Network.{network_of}
+use Rattle.kahn_chain.specs.inner.Reasoned.{AreSoFar}
+use Rattle.kahn_chain.proofs.reason.reasons.Given as goal
+
+abbrev pub invariant-loop-instance : goal.invariant-loop-instance
+invariant-loop-instance l = AreSoFar (network_of l.network) l.verdict l.ends l.instance l.reasons.items

@@ -1,0 +1,22 @@
+-- What words name.
+use Rattle.std.proofs.Common.{arith, ◌≡◌, ℕ, ◌<◌, List, length, Option, Some, None, subst}
+use Rattle.kahn_streams.proofs.Entered.{names_count}
+use Rattle.kahn_streams.specs.Inputs.{IsNoName}
+use Rattle.kahn_streams.specs.Network.{network_of}
+use Rattle.kahn_streams.specs.declared.tree.Program.{Program}
+use Rattle.kahn_streams.specs.declared.value.Line.{Line}
+use Rattle.kahn_streams.specs.declared.value.Line.TheVariants.{Channel, Print}
+use Rattle.kahn_needs.specs.Finding.{IsNetworkLine}
+use Rattle.kahn_explain.specs.Needing.{IsLineNamed, IsPlaceGiven, IsPlaceWord}
+
+pub line_listed : (t : Program) (word : List ℕ) (c : Line) → IsLineNamed t word c → IsNetworkLine (network_of t) c
+line_listed t word (Channel c) h = let l = h.1 in let e = names_count t in omega (arith, l, e)
+line_listed t word (Print p) h = h.2
+
+pub no_line : (t : Program) (word : List ℕ) → IsNoName t word → ((p : ℕ) → IsPlaceWord word p → ⊥) → (c : Line) → IsLineNamed t word c → ⊥
+no_line t word none unread (Channel c) h = let e = h.0 in let l = h.1 in omega (arith, e, l, none)
+no_line t word none unread (Print p) h = unread p h.1
+
+pub none_given : (w : Option (List ℕ)) (word : List ℕ) → w ≡ Some word → ((k : ℕ) → IsPlaceWord word k → ⊥) → (k : Option ℕ) → IsPlaceGiven w k → ⊥
+none_given w word is unread None h = subst (λ o. IsPlaceGiven o None) is h
+none_given w word is unread (Some k) h = unread k (subst (λ o. IsPlaceGiven o (Some k)) is h)

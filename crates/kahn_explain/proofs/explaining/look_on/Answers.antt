@@ -1,0 +1,9 @@
+use Rattle.kahn_explain.proofs.Parts.{looked_out, unread_look}
+use Rattle.kahn_explain.proofs.explaining.look_on.Goals as goal
+
+pub returns-in-Err : goal.returns-in-Err
+returns-in-Err g c path program strict on = unread_look path program c.args.input.now strict c.args.it.now _ c.in-Err.fault on c.in-Err.ensures.read
+
+pub returns : goal.returns
+returns g c path program strict on =
+    looked_out path program c.args.input.now strict c.args.it.now c.in-Ok.lists _ _ _ on c.in-Ok.ensures.read (rw c.as_str.ensures.value at c.write_both.ensures)

@@ -1,0 +1,14 @@
+-- Each place so far has its row.
+use Rattle.std.proofs.Common.{◌≡◌, ◌≤◌, string_bytes}
+use Rattle.kahn_streams.specs.Inputs.{inputs_of}
+use Rattle.kahn_explain.specs.Needing.{AreRows}
+use Rattle.kahn_explain.proofs.needing.rows.add_rows.Given as goal
+
+abbrev pub invariant-loop-place : goal.invariant-loop-place
+invariant-loop-place l = record {
+  network : l.seeker.network ≡ l.fn.seeker.network;
+  input : l.seeker.input ≡ l.fn.seeker.input;
+  line : l.seeker.line ≡ l.fn.seeker.line;
+  next : l.seeker.next ≤ l.place;
+  rows : AreRows l.fn.seeker.network (inputs_of l.fn.seeker.input) l.fn.seeker.line l.place (string_bytes l.text);
+}

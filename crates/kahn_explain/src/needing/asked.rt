@@ -1,0 +1,128 @@
+//! What a word of the command line asks for: a line of the network, or a place of it.
+
+ghost use Rattle.std.specs.Prelude.{◌≡◌, ◌↔◌, ◌<◌, ◌+◌, ◌^◌, ℕ, true, IfOk, IfSome, MatchOption, MatchResult, Option, option_map};
+ghost use Rattle.kahn_line.specs.Parts.{parted};
+ghost use Rattle.kahn_streams.specs.Inputs.{IsNoName};
+ghost use Rattle.kahn_streams.specs.Network.{Given, network_of};
+ghost use Rattle.kahn_streams.specs.Solution.{source};
+ghost use Rattle.kahn_streams.specs.declared.value.Line.{Line};
+ghost use Rattle.kahn_needs.specs.Finding.{IsNetworkLine};
+ghost use Rattle.kahn_explain.specs.inner.Replied.{IsGivenAs};
+ghost use Rattle.kahn_explain.specs.Needing.{IsWordFor, IsLineNamed, IsPlaceWord, IsQuestion, IsUnasked};
+
+use kahn_streams::{Line, Network, channel_named};
+
+/// A line of a network, and a place of it, counted from 0, or all of them.
+#[derive(Clone, Copy)]
+pub struct Asked {
+    pub line: Line,
+    pub place: Option<u64>,
+}
+
+/// Why a word asks for nothing.
+#[derive(Clone, Copy)]
+pub enum AskFault {
+    /// It names no line.
+    NoLine,
+    /// It names an input.
+    GivenLine,
+    /// What stands behind its colon is no place.
+    NoPlace,
+}
+
+/// Returns the parts of a word before and after its first colon; a word without it has one part.
+pub(crate) fn parted(word: &str) -> (&str, Option<&str>)
+    ensures first { result.0.now ≡ (parted 58 word.now).0 }
+    ensures second { option_map (λ t. t.now) result.1 ≡ (parted 58 word.now).1 }
+{
+    match word.split_once(':') {
+        Some((before, behind)) => (before, Some(behind)),
+        None => (word, None),
+    }
+}
+
+/// The place whose number from 1 a word is, counted from 0.
+fn place_of(word: &str) -> Option<u64>
+    ensures { MatchOption result ((k : ℕ) → IsPlaceWord word.now k → ⊥) (IsPlaceWord word.now) }
+{
+    match word.parse::<u64>() {
+        Ok(number) => {
+            if number == 0 {
+                return None;
+            }
+            Some(number - 1)
+        }
+        Err(_) => None,
+    }
+}
+
+/// The place that stands behind a colon, or none where there is no colon.
+fn place_given(word: Option<&str>) -> Option<Option<u64>>
+    ensures given { IsGivenAs (option_map (λ t. t.now) word.entry) result }
+    ensures small { IfSome result (λ o. IfSome o (λ k. k + 1 < 2 ^ 64)) }
+{
+    match word {
+        None => Some(None),
+        Some(word) => match place_of(word) {
+            Some(place) => Some(Some(place)),
+            None => None,
+        },
+    }
+}
+
+/// The print stream of the process whose number from 1 a word is.
+fn prints_of(network: &Network, word: &str) -> Option<Line>
+    requires { IsNoName network.now word.now }
+    ensures { MatchOption result ((c : Line) → IsLineNamed network.now word.now c → ⊥) (IsLineNamed network.now word.now) }
+{
+    match place_of(word) {
+        Some(instance) => {
+            if instance < network.instances() as u64 {
+                return Some(Line::Print(instance as usize));
+            }
+            None
+        }
+        None => None,
+    }
+}
+
+/// The line that a word names.
+fn line_named(network: &Network, word: &str) -> Option<Line>
+    ensures { MatchOption result ((c : Line) → IsLineNamed network.now word.now c → ⊥) (IsLineNamed network.now word.now) }
+{
+    match channel_named(network, word) {
+        Some(channel) => Some(Line::Channel(channel)),
+        None => prints_of(network, word),
+    }
+}
+
+/// Whether a line is an input.
+fn is_given(network: &Network, line: Line) -> bool
+    requires { IsNetworkLine (network_of network.now) line }
+    ensures { result ≡ true ↔ source (network_of network.now) line ≡ Given }
+{
+    match line {
+        Line::Channel(channel) => network.writer(channel).is_none(),
+        Line::Print(_) => false,
+    }
+}
+
+/// What a word asks for that an instance sends, or why not.
+#[tactic(auto, using(crate::proofs::Worded::line_listed))]
+pub(crate) fn sought(network: &Network, word: &str) -> Result<Asked, AskFault>
+    ensures sought { MatchResult result (IsQuestion network.now word.now) (IsUnasked network.now word.now) }
+    ensures listed { IfOk result (λ x. IsNetworkLine (network_of network.now) x.line) }
+    ensures small { IfOk result (λ x. IfSome x.place (λ k. k + 1 < 2 ^ 64)) }
+{
+    let (name, place) = parted(word);
+    let Some(line) = line_named(network, name) else {
+        return Err(AskFault::NoLine);
+    };
+    if is_given(network, line) {
+        return Err(AskFault::GivenLine);
+    }
+    match place_given(place) {
+        Some(place) => Ok(Asked { line, place }),
+        None => Err(AskFault::NoPlace),
+    }
+}

@@ -1,0 +1,84 @@
+//! The column of a channel, of a run that kept all channels.
+
+ghost use Rattle.std.specs.Prelude.{◌≡◌, ◌<◌, MatchResult, false, length};
+ghost use Rattle.kahn_streams.specs.Answers.{is_output};
+ghost use Rattle.kahn_streams.specs.Network.{network_of, role_at};
+ghost use Rattle.kahn_streams.specs.declared.value.Line.TheVariants.{Channel};
+ghost use Rattle.kahn_report.specs.Work.{IsUnanswered};
+ghost use Rattle.kahn_explain.specs.Histories.{IsUntraced, unwatched};
+ghost use Rattle.kahn_explain.specs.inner.Columns.{IsHistoryOf, IsTextRecorded};
+
+use crate::tracing::column::{Column, column_of, line_column};
+use kahn_pool::{Config, Recorded, RunFault, run_recorded};
+use kahn_report::{WorkFault, read_input};
+use kahn_streams::{Line, Network, Role};
+use std::alloc::Global;
+
+/// The same without a watched channel.
+pub(crate) fn unwatched(config: &Config) -> Config
+    ensures { result ≡ unwatched config.now }
+{
+    Config {
+        workers: config.workers,
+        quantum: config.quantum,
+        bound: config.bound,
+        watch: None,
+    }
+}
+
+/// The run of a network for an input text, with all that was sent. It refuses as `read_input` and `run_recorded` do.
+pub(crate) fn recorded(
+    alloc: Global,
+    network: &Network,
+    text: &str,
+    config: Config,
+) -> Result<Recorded, WorkFault>
+    ensures { MatchResult result (IsTextRecorded network.now text.now config) (IsUnanswered network.now text.now config) }
+{
+    let input = read_input(alloc, text, network)?;
+    match run_recorded(alloc, network, input, config) {
+        Ok(run) => Ok(run),
+        Err(fault) => Err(WorkFault::Run(fault)),
+    }
+}
+
+// The column of a channel that isn't an output.
+fn kept_column(
+    alloc: Global,
+    network: &Network,
+    text: &str,
+    config: &Config,
+    run: &Recorded,
+    channel: usize,
+) -> Result<Column, WorkFault>
+    requires here { channel < length (network_of network.now).channels }
+    requires kept { is_output (role_at (network_of network.now) channel) ≡ false }
+    requires run { IsTextRecorded network.now text.now (unwatched config.now) run.now }
+    ensures { MatchResult result (IsHistoryOf network.now text.now run.now.answer.verdict (Channel channel)) (IsUntraced network.now text.now config.now) }
+{
+    let stream = &run.channels[channel];
+    match column_of(alloc, stream) {
+        Ok(column) => Ok(column),
+        Err(_) => Err(WorkFault::Run(RunFault::NoMemory)),
+    }
+}
+
+/// The column of a channel: of the answer where it is an output, and else of what was kept.
+pub(crate) fn channel_column(
+    alloc: Global,
+    network: &Network,
+    text: &str,
+    config: &Config,
+    run: &Recorded,
+    channel: usize,
+) -> Result<Column, WorkFault>
+    requires here { channel < length (network_of network.now).channels }
+    requires run { IsTextRecorded network.now text.now (unwatched config.now) run.now }
+    ensures { MatchResult result (IsHistoryOf network.now text.now run.now.answer.verdict (Channel channel)) (IsUntraced network.now text.now config.now) }
+{
+    match network.channel(channel).role {
+        Role::Output => line_column(alloc, &run.answer, Line::Channel(channel)),
+        Role::Inner => kept_column(alloc, network, text, config, run, channel),
+        Role::Input => kept_column(alloc, network, text, config, run, channel),
+    }
+}

@@ -1,0 +1,36 @@
+-- What is told to be for ever is.
+use Rattle.std.proofs.Common.{◌≡◌, ℕ, Option, true}
+use Rattle.kahn_streams.specs.Network.{Network}
+use Rattle.kahn_streams.specs.Solution.{Inputs}
+use Rattle.kahn_streams.specs.Answers.{IsRight}
+use Rattle.kahn_streams.specs.declared.answer.Answer.{Answer}
+use Rattle.kahn_streams.specs.declared.answer.Verdict.{Verdict}
+use Rattle.kahn_streams.specs.declared.answer.Verdict.TheVariants.{Finished, Bound, Memory}
+use Rattle.kahn_chain.specs.Reasons.{is_final, is_stopped, lasts}
+use Rattle.kahn_chain.specs.declared.standing.Standing.{Standing}
+use Rattle.kahn_chain.specs.declared.standing.Standing.TheVariants as S
+use Rattle.kahn_chain.specs.declared.standing.Cause.{Cause}
+use Rattle.kahn_chain.specs.declared.standing.Cause.TheVariants.{Input, Stopped, Ring}
+use Rattle.kahn_why.specs.Why.{IsEndedOrFaulted, IsFinal, LastForGood}
+use Rattle.kahn_why.proofs.Stands.{for_good}
+
+over : (s : Standing) → is_stopped s ≡ true → IsEndedOrFaulted s
+over S.Ended h = tt
+over (S.Waits c) h = absurd cc
+over S.Faulted h = tt
+over S.More h = absurd cc
+
+final : (y : Cause) → is_final y ≡ true → IsFinal y
+final (Input z c) h = absurd cc
+final (Stopped z s) h = over s h
+final (Ring z) h = tt
+
+last : (v : Verdict) (y : Cause) → lasts v y ≡ true → (v ≡ Memory → ⊥) × IsFinal y
+last Finished y h = (λ e. absurd cc, final y h)
+last Bound y h = (λ e. absurd cc, final y h)
+last Memory y h = absurd cc
+
+pub for_ever : (N : Network) (I : Inputs) (bound : ℕ) (watch : Option ℕ) (a : Answer) → IsRight N I bound watch a → LastForGood N I a
+for_ever N I bound watch a right r is h =
+    let (clear, final) = last a.verdict r.cause (rw is.lasts at h) in
+    for_good N I bound watch a right clear r.instance r.end r.cause is.end is.cause final

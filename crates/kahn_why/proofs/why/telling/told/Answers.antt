@@ -1,0 +1,16 @@
+use Rattle.std.proofs.Common.{◌∙◌, ap, map, string_bytes, subst, sym}
+use Rattle.kahn_streams.specs.Network.{network_of}
+use Rattle.kahn_chain.specs.Chain.{AreStandings, stands}
+use Rattle.kahn_chain.specs.Reasons.{AreReasons}
+use Rattle.kahn_why.specs.Why.{came_to}
+use Rattle.kahn_why.proofs.why.telling.told.Goals as goal
+
+pub reasons-requires : goal.reasons-requires
+reasons-requires c = subst (λ l. AreStandings (network_of c.args.network.now) (map stands l)) (sym c.deref.ensures.value) c.requires
+
+pub returns : goal.returns
+returns c = record {
+  reasons = subst (λ l. AreReasons (network_of c.args.network.now) c.args.answer.now.verdict l c.in_ok-reasons.reasons.items) c.deref.ensures.value c.in_ok-reasons.ensures;
+  told = c.came_to-told.ensures ∙ ap (came_to c.args.answer.now.verdict) c.deref-3.ensures.value;
+  last = (string_bytes c.in_ok-text.text, c.in_ok-add_last.ensures);
+}

@@ -1,0 +1,142 @@
+//! What came of a run, in one line.
+
+use crate::why::story::{Story, led_to, source_of};
+use crate::why::words::{add_count, add_those};
+use kahn_chain::{Cause, Reason};
+use kahn_streams::{Outcome, Verdict};
+use std::alloc::{AllocError, Global};
+
+/// Ends what was said before, if anything was.
+fn go_on(text: &mut String) -> Result<(), AllocError> {
+    text.push_str(if text.is_empty() { "" } else { "; " })
+}
+
+/// Adds how many instances have a fault, if any has.
+fn add_faults(text: &mut String, reasons: &[Reason]) -> Result<(), AllocError> {
+    let mut count: usize = 0;
+    for reason in reasons {
+        if matches!(reason.end.outcome, Outcome::Faulted(_)) {
+            count = count.saturating_add(1);
+        }
+    }
+    if count == 0 {
+        return Ok(());
+    }
+    add_count(
+        text,
+        count,
+        " process has a fault",
+        " processes have a fault",
+    )
+}
+
+/// The instances that have the least number of a ring.
+fn first_of_rings(alloc: Global, reasons: &[Reason]) -> Result<Vec<usize>, AllocError> {
+    let mut firsts = Vec::new(alloc);
+    for reason in reasons {
+        if matches!(reason.cause, Cause::Ring(one) if one == reason.instance) {
+            firsts.push(reason.instance)?;
+        }
+    }
+    Ok(firsts)
+}
+
+/// Adds who wait on one another in a ring, if there is one, or how many rings there are.
+fn add_rings(text: &mut String, alloc: Global, story: &Story<'_>) -> Result<(), AllocError> {
+    let firsts = first_of_rings(alloc, story.reasons)?;
+    let Some(first) = firsts.first() else {
+        return Ok(());
+    };
+    go_on(text)?;
+    if firsts.len() > 1 {
+        return add_count(text, firsts.len(), "", " deadlocks");
+    }
+    text.push_str("deadlock: ")?;
+    let those = led_to(alloc, story.reasons, *first, true)?;
+    add_those(
+        text,
+        story.network,
+        &those,
+        " waits on itself",
+        " wait on one another",
+    )
+}
+
+/// Adds how many instances want more events, if any does.
+fn add_wanting(text: &mut String, reasons: &[Reason]) -> Result<(), AllocError> {
+    let mut count: usize = 0;
+    for reason in reasons {
+        if matches!(reason.end.outcome, Outcome::More) {
+            count = count.saturating_add(1);
+        }
+    }
+    if count == 0 {
+        return Ok(());
+    }
+    text.push_str(": ")?;
+    add_count(
+        text,
+        count,
+        " process wants more events",
+        " processes want more events",
+    )
+}
+
+/// Adds what stopped the run, if anything did.
+fn add_stop(text: &mut String, story: &Story<'_>) -> Result<(), AllocError> {
+    let word = match story.verdict {
+        Verdict::Finished => return Ok(()),
+        Verdict::Bound => "stopped by the bound",
+        Verdict::Memory => "stopped for want of memory",
+    };
+    go_on(text)?;
+    text.push_str(word)?;
+    add_wanting(text, story.reasons)
+}
+
+/// Whether an instance waits on a channel.
+fn is_awaited(reasons: &[Reason], channel: usize) -> bool {
+    for reason in reasons {
+        if matches!(reason.end.outcome, Outcome::Waits(one) if one == channel) {
+            return true;
+        }
+    }
+    false
+}
+
+/// Whether it is known that there was input, and that all was taken.
+fn is_all_taken(story: &Story<'_>) -> bool {
+    let Some(input) = story.fed else {
+        return false;
+    };
+    let mut is_some = false;
+    for channel in 0..story.network.channels() {
+        if input.count(channel) > 0 {
+            if !is_awaited(story.reasons, channel) {
+                return false;
+            }
+            is_some = true;
+        }
+    }
+    is_some
+}
+
+/// Adds what came of a run, as the first line.
+pub(crate) fn add_verdict(
+    text: &mut String,
+    alloc: Global,
+    story: &Story<'_>,
+) -> Result<(), AllocError> {
+    add_faults(text, story.reasons)?;
+    add_rings(text, alloc, story)?;
+    add_stop(text, story)?;
+    if text.is_empty() {
+        text.push_str("no deadlock and no fault")?;
+        text.push_str(if is_all_taken(story) {
+            "; all input was taken"
+        } else {
+            ""
+        })?;
+    }
+    text.push_str("\n")
+}
