@@ -3,8 +3,8 @@ use Rattle.std.specs.Prelude.{◌≡◌, ℕ, List, Option, Result, Ok, Err, IfO
 use Rattle.kahn_streams.specs.declared.config.Config.{Config}
 use Rattle.kahn_streams.specs.Written.{Writes}
 use Rattle.kahn_streams.specs.declared.answer.Verdict.{Verdict}
-use Rattle.kahn_report.specs.Work.{FinishesWithin, IsWorked}
-use Rattle.kahn_report.specs.declared.working.WorkFault.{WorkFault}
+use Rattle.kahn_fault.specs.Work.{FinishesWithin, IsWorked}
+use Rattle.kahn_fault.specs.declared.work.WorkFault.{WorkFault}
 use Rattle.kahn_fault.specs.Status.{status_of}
 use Rattle.kahn_fault.specs.Telling.{told_text}
 use Rattle.kahn_fault.specs.declared.fault.Fault.{Fault}

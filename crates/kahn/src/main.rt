@@ -5,8 +5,8 @@ mod running;
 
 use kahn_fault::{Fault, read_texts, tell};
 use kahn_line::{Options, read_line, tell_line, tell_no_memory, tell_words};
-use kahn_pool::RunFault;
 use kahn_report::WorkFault;
+use kahn_streams::RunFault;
 use running::ran;
 use std::io::{BufWriter, Write};
 use std::process::ExitCode;

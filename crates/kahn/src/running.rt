@@ -4,8 +4,8 @@ ghost use Rattle.std.specs.Prelude.{◌≡◌};
 ghost use Rattle.kahn.specs.Running.{HasRunTexts, run_answer};
 
 use kahn_fault::{Fault, Texts, Told, tell};
-use kahn_pool::{Config, Open, Verdict};
 use kahn_report::{WorkFault, work};
+use kahn_streams::{Config, Open, Verdict};
 use std::io::Write;
 use std::rt::Runtime;
 use std::sync::Wait;

@@ -1,3 +1,4 @@
 pub mod Gone
 pub mod Tapped
 pub mod Forms
+pub mod Opening

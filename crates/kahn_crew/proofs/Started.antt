@@ -12,6 +12,7 @@ use Rattle.kahn_crew.proofs.Publishing.{handed_is}
 use Rattle.kahn_crew.proofs.Resting.{flushed_all, continues_here, published_is}
 use Rattle.kahn_crew.proofs.Wirings.{channels_are, instances_are}
 use Rattle.kahn_streams.proofs.Sourced
+pub use Rattle.kahn_streams.proofs.By_number.{mapped_at}
 
 -- ---- lists
 
@@ -24,12 +25,6 @@ pub both_at : {A : Type 0} (xs : List A) (p : ℕ) (x : A) → slice_get xs p �
 both_at [] p x e = absurd (none_some e)
 both_at (y ∷ ys) zero x e = ap some (some_same e)
 both_at (y ∷ ys) (suc p) x e = both_at ys p x e
-
--- what stands in the image is the image of what stands there
-pub mapped_at : {A B : Type 0} (f : A → B) (xs : List A) (p : ℕ) (y : B) → slice_get (map f xs) p ≡ Some y → (x : A) × (slice_get xs p ≡ Some x) × (y ≡ f x)
-mapped_at f [] p y e = absurd (none_some e)
-mapped_at f (x ∷ xs) zero y e = (x, refl, sym (some_same e))
-mapped_at f (x ∷ xs) (suc p) y e = mapped_at f xs p y e
 
 pub at_mapped : {A B : Type 0} (f : A → B) (xs : List A) (p : ℕ) (x : A) → slice_get xs p ≡ Some x → slice_get (map f xs) p ≡ Some (f x)
 at_mapped f xs p x e = slice_get-map f xs p ∙ ap (option_map f) e

@@ -17,5 +17,5 @@ mod worker;
 // For the crates above.
 pub use closing::{CrewFault, Left, rest_all};
 pub use crew::run_tasks;
+pub use kahn_streams::{Gate, Open, Plan};
 pub use opening::{first_tasks, wake_all};
-pub use run::{Gate, Open, Plan};

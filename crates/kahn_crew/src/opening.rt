@@ -7,11 +7,10 @@ ghost use Rattle.kahn_crew.specs.inner.Tasks.{AreReadyTasks, HasBegun, IsNumber,
 
 use crate::boxes::{Boxed, box_all, unbox_all};
 use crate::hints::{Hints, first_hints};
-use crate::run::Plan;
 use kahn_board::{Board, Seat};
 use kahn_code::Code;
 use kahn_job::{Idle, Task, jobs};
-use kahn_streams::{Input, Network, NoMemory, Role};
+use kahn_streams::{Input, Network, NoMemory, Plan, Role};
 use std::alloc::Global;
 
 /// The tasks of idle jobs that go on with an input for which their ends have settled. The list that is given has room for all. Never allocates.

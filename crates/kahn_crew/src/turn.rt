@@ -8,12 +8,12 @@ ghost use Rattle.kahn_crew.specs.inner.Tasks.{IsPublished};
 use crate::hints::Order;
 use crate::pick::pick_hinted;
 use crate::publish::{hint, publish_all};
-use crate::run::{Gate, Run};
+use crate::run::Run;
 use crate::worker::Worker;
 use kahn_board::{Draw, draw_some, rest_dry, rest_over, rest_ready};
 use kahn_code::{Pause, Steps};
 use kahn_job::{Standing, Task};
-use kahn_streams::NoMemory;
+use kahn_streams::{Gate, NoMemory};
 use std::sync::ledger::Ledger;
 
 /// How an instance is to be set down.

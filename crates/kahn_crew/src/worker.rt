@@ -8,10 +8,11 @@ use crate::boxes::Boxed;
 use crate::hints::Hints;
 use crate::pick::{pick_any, pick_hinted};
 use crate::rest::Rest;
-use crate::run::{Gate, Run};
+use crate::run::Run;
 use crate::turn::turn;
 use kahn_board::{Seat, go_on};
 use kahn_code::Steps;
+use kahn_streams::Gate;
 use std::sync::Wait;
 use std::sync::ledger::{Blank, Ledger};
 

@@ -1,7 +1,7 @@
 //! A run that is held between its parts: after refused memory or a refused thread a further call goes on.
 
 ghost use Rattle.std.specs.Prelude.{IsTrue};
-ghost use Rattle.kahn_report.specs.Formats.{HasItsLines, IsLine};
+ghost use Rattle.kahn_texts.specs.Formats.{HasItsLines, IsLine};
 
 use kahn_pool::{Answer, Config, Gate, Held, HeldFault, RunFault, Verdict};
 use kahn_report::{WorkFault, checked, read_input, write_report};

@@ -16,10 +16,10 @@ use Rattle.kahn_streams.specs.Answers.{IsRight}
 use Rattle.kahn_streams.specs.Inputs.{Lists, inputs_of}
 use Rattle.kahn_streams.specs.Network.{network_of}
 use Rattle.kahn_streams.specs.Written.{AppendsFront}
-use Rattle.kahn_pool.specs.HeldRuns.{IsRefusedRun}
-use Rattle.kahn_report.specs.Work.{IsChecked, IsUnchecked}
-use Rattle.kahn_report.specs.declared.working.WorkFault.{WorkFault}
-use Rattle.kahn_report.specs.declared.working.WorkFault.TheVariants.{Syntax, Check, Text, Run as RunWork, Write}
+use Rattle.kahn_sequential.specs.HeldRuns.{IsRefusedRun}
+use Rattle.kahn_fault.specs.Work.{IsChecked, IsUnchecked}
+use Rattle.kahn_fault.specs.declared.work.WorkFault.{WorkFault}
+use Rattle.kahn_fault.specs.declared.work.WorkFault.TheVariants.{Syntax, Check, Text, Run as RunWork, Write}
 use Rattle.kahn_draw.specs.Drawing.{IsDrawn, IsDrawnFor, IsNotDrawn, IsPictured, IsPictureFor, IsPictureOf, IsRunOf, IsUnrunFor}
 use Rattle.kahn_draw.specs.declared.drawing.Drawn.{Drawn}
 use Rattle.kahn_draw.specs.declared.drawing.Drawn.TheVariants.{Network, Run}

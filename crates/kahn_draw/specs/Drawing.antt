@@ -14,10 +14,10 @@ use Rattle.kahn_streams.specs.Inputs.{Lists, inputs_of}
 use Rattle.kahn_streams.specs.Network.{network_of}
 use Rattle.kahn_streams.specs.Written.{AppendsFront}
 use Rattle.kahn_graph.specs.Graph.{IsPicture}
-use Rattle.kahn_report.specs.Formats.{IsInputTextFault, StandsFor}
-use Rattle.kahn_report.specs.declared.working.WorkFault.{WorkFault}
-use Rattle.kahn_report.specs.declared.working.WorkFault.TheVariants.{Syntax, Check, Text, Run as RunWork, Write}
-use Rattle.kahn_report.specs.Work.{IsChecked, IsUnchecked}
+use Rattle.kahn_texts.specs.Formats.{IsInputTextFault, StandsFor}
+use Rattle.kahn_fault.specs.declared.work.WorkFault.{WorkFault}
+use Rattle.kahn_fault.specs.declared.work.WorkFault.TheVariants.{Syntax, Check, Text, Run as RunWork, Write}
+use Rattle.kahn_fault.specs.Work.{IsChecked, IsUnchecked}
 use Rattle.kahn_draw.specs.declared.drawing.Drawn.{Drawn}
 use Rattle.kahn_draw.specs.declared.drawing.Drawn.TheVariants.{Network, Run}
 

@@ -3,7 +3,7 @@ use Rattle.std.specs.Prelude.{◌≡◌, ℕ, List, Option, Some, None, Result, 
 use Rattle.kahn_streams.specs.Written.{Writes}
 use Rattle.kahn_streams.specs.declared.answer.Verdict.{Verdict}
 use Rattle.kahn_streams.specs.declared.answer.Verdict.TheVariants.{Finished}
-use Rattle.kahn_report.specs.declared.working.WorkFault.{WorkFault}
+use Rattle.kahn_fault.specs.declared.work.WorkFault.{WorkFault}
 use Rattle.kahn_fault.specs.Status.{status_of}
 use Rattle.kahn_fault.specs.Telling.{WasWritten, pointer_text, told_text}
 use Rattle.kahn_fault.specs.declared.fault.Fault.{Fault}

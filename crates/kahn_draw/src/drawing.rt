@@ -2,15 +2,16 @@
 
 ghost use Rattle.std.specs.Prelude.{◌≡◌, ◌⊎◌, [], map};
 ghost use Rattle.kahn_streams.specs.Network.{network_of};
-ghost use Rattle.kahn_report.specs.Work.{IsChecked};
+ghost use Rattle.kahn_fault.specs.Work.{IsChecked};
 ghost use Rattle.kahn_chain.specs.Chain.{AreStandings, stands};
 ghost use Rattle.kahn_draw.specs.Drawing.{IsDrawn, IsDrawnFor, IsPictured};
 ghost use Rattle.kahn_draw.specs.declared.drawing.Drawn.TheVariants.{Run};
 
+use kahn_fault::{WorkFault, checked};
 use kahn_graph::picture_text;
-use kahn_pool::{End, RunFault, Stream, run_one};
-use kahn_report::{WorkFault, checked, read_input, write_line};
-use kahn_streams::Network;
+use kahn_sequential::run_one;
+use kahn_streams::{End, Network, RunFault, Stream};
+use kahn_texts::{read_input, write_line};
 use std::alloc::Global;
 use std::io::Write;
 

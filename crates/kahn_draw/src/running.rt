@@ -4,9 +4,8 @@ ghost use Rattle.std.specs.Prelude.{◌≡◌, option_copied};
 ghost use Rattle.kahn_draw.specs.Running.{HasDrawnAs, IsPointed, drawn_answer};
 
 use crate::drawing::{Drawn, draw};
-use kahn_fault::{Fault, Texts, Told, tell, tell_explain};
-use kahn_pool::Verdict;
-use kahn_report::WorkFault;
+use kahn_fault::{Fault, Texts, Told, WorkFault, tell, tell_explain};
+use kahn_streams::Verdict;
 use std::alloc::Global;
 use std::io::Write;
 

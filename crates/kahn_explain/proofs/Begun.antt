@@ -10,7 +10,7 @@ use Rattle.kahn_streams.specs.declared.answer.Stream.{Stream}
 use Rattle.kahn_streams.specs.declared.answer.Verdict.{Verdict}
 use Rattle.kahn_streams.specs.declared.answer.Verdict.TheVariants.{Finished}
 use Rattle.kahn_streams.specs.declared.value.Line.TheVariants.{Channel}
-use Rattle.kahn_pool.specs.Recordings.{IsHistoryIn}
+use Rattle.kahn_sequential.specs.Recordings.{IsHistoryIn}
 use Rattle.kahn_explain.specs.Histories.{IsHistory}
 use Rattle.kahn_explain.specs.inner.Columns.{HasValuesOf}
 use Rattle.kahn_explain.specs.declared.tracing.column.Column.{Column}

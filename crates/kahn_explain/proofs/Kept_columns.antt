@@ -11,16 +11,16 @@ use Rattle.kahn_streams.specs.Inputs.{Lists, inputs_of}
 use Rattle.kahn_streams.specs.declared.value.Line.TheVariants.{Channel}
 use Rattle.kahn_streams.specs.Answers.{IsRightRun, is_output}
 use Rattle.kahn_streams.specs.declared.answer.Stream.{Stream}
-use Rattle.kahn_pool.specs.Recordings.{IsRecordedRun}
-use Rattle.kahn_pool.specs.declared.recorded.Recorded.{Recorded}
+use Rattle.kahn_sequential.specs.Recordings.{IsRecordedRun}
+use Rattle.kahn_sequential.specs.declared.recorded.Recorded.{Recorded}
 use Rattle.kahn_streams.specs.declared.answer.Answer.{Answer}
 use Rattle.kahn_streams.specs.declared.answer.Verdict.{Verdict}
 use Rattle.kahn_streams.specs.declared.answer.Verdict.TheVariants.{Finished}
 use Rattle.kahn_streams.specs.declared.fault.RunFault.TheVariants as fault
-use Rattle.kahn_report.specs.Formats.{text_lines, StandsFor}
-use Rattle.kahn_report.specs.declared.working.WorkFault.{WorkFault}
-use Rattle.kahn_report.specs.declared.working.WorkFault.TheVariants.{Run}
-use Rattle.kahn_report.proofs.Same_inputs.{one_input, one_list}
+use Rattle.kahn_texts.specs.Formats.{text_lines, StandsFor}
+use Rattle.kahn_fault.specs.declared.work.WorkFault.{WorkFault}
+use Rattle.kahn_fault.specs.declared.work.WorkFault.TheVariants.{Run}
+use Rattle.kahn_texts.proofs.Same_inputs.{one_input, one_list}
 use Rattle.kahn_explain.specs.Histories.{IsHistory, IsUntraced}
 use Rattle.kahn_explain.specs.inner.Columns.{HasLine, HasValuesOf, IsColumnOf, IsHistoryOf}
 use Rattle.kahn_explain.specs.declared.tracing.column.Column.{Column}

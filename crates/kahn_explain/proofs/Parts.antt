@@ -9,11 +9,11 @@ use Rattle.kahn_streams.specs.Inputs.{Lists}
 use Rattle.kahn_streams.specs.Answers.{IsRightRun, IsUnrun}
 use Rattle.kahn_streams.specs.Written.{AppendsFront}
 use Rattle.kahn_streams.specs.declared.answer.Answer.{Answer}
-use Rattle.kahn_write.specs.declared.bytes.WriteFault.{WriteFault}
-use Rattle.kahn_report.specs.Formats.{IsInputTextFault, StandsFor}
-use Rattle.kahn_report.specs.declared.input.TextFault.{TextFault}
-use Rattle.kahn_report.specs.declared.working.WorkFault.{WorkFault}
-use Rattle.kahn_report.specs.declared.working.WorkFault.TheVariants.{Syntax, Check, Text, Run, Write}
+use Rattle.kahn_texts.specs.declared.bytes.WriteFault.{WriteFault}
+use Rattle.kahn_texts.specs.Formats.{IsInputTextFault, StandsFor}
+use Rattle.kahn_texts.specs.declared.input.TextFault.{TextFault}
+use Rattle.kahn_fault.specs.declared.work.WorkFault.{WorkFault}
+use Rattle.kahn_fault.specs.declared.work.WorkFault.TheVariants.{Syntax, Check, Text, Run, Write}
 use Rattle.kahn_streams.specs.declared.answer.Verdict.TheVariants.{Finished}
 use Rattle.kahn_why.specs.declared.why.told.Explanation.{Explanation}
 use Rattle.kahn_why.specs.declared.why.told.Told.TheVariants.{Stop}

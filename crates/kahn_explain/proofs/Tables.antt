@@ -18,8 +18,8 @@ use Rattle.kahn_streams.specs.declared.value.Line.TheVariants.{Channel}
 use Rattle.kahn_streams.specs.Answers.{channel_lines, print_lines, IsRightRun}
 use Rattle.kahn_streams.specs.declared.answer.Answer.{Answer}
 use Rattle.kahn_streams.specs.declared.answer.Verdict.{Verdict}
-use Rattle.kahn_report.specs.Formats.{StandsFor, channel_count, IsLine}
-use Rattle.kahn_report.proofs.Answer_lines.{streamed_lines}
+use Rattle.kahn_texts.specs.Formats.{StandsFor, channel_count, IsLine}
+use Rattle.kahn_texts.proofs.Answer_lines.{streamed_lines}
 use Rattle.kahn_explain.specs.Histories.{AreHistories, IsHistory, all_channels, column_line}
 use Rattle.kahn_explain.specs.inner.Columns.{AddsPrints, AreColumns, IsAny, IsHistoryOf}
 use Rattle.kahn_explain.specs.declared.tracing.column.Column.{Column}

@@ -4,9 +4,9 @@ use Rattle.kahn_streams.specs.declared.config.Config.{Config}
 use Rattle.std.specs.Io.KnownBytes.{Appends}
 use Rattle.kahn_streams.specs.declared.fault.RunFault.TheVariants.{NoMemory}
 use Rattle.kahn_streams.specs.Written.{AppendsFront}
-use Rattle.kahn_write.specs.declared.bytes.WriteFault.{WriteFault}
-use Rattle.kahn_report.specs.declared.working.WorkFault.{WorkFault}
-use Rattle.kahn_report.specs.declared.working.WorkFault.TheVariants.{Syntax, Check, Text, Run, Write}
+use Rattle.kahn_texts.specs.declared.bytes.WriteFault.{WriteFault}
+use Rattle.kahn_fault.specs.declared.work.WorkFault.{WorkFault}
+use Rattle.kahn_fault.specs.declared.work.WorkFault.TheVariants.{Syntax, Check, Text, Run, Write}
 use Rattle.kahn_explain.specs.Histories.{IsTraced, IsUntraced}
 use Rattle.kahn_explain.specs.Table.{trace_text}
 use Rattle.kahn_explain.specs.Tracing.{HasTraced, IsTracedOf, beside}

@@ -8,11 +8,11 @@ use Rattle.kahn_streams.specs.Answers.{IsUnrun}
 use Rattle.kahn_streams.specs.declared.answer.Answer.{Answer}
 use Rattle.kahn_streams.specs.declared.answer.Verdict.TheVariants.{Finished, Bound, Memory}
 use Rattle.kahn_streams.specs.declared.fault.RunFault.TheVariants.{NoMemory}
-use Rattle.kahn_report.specs.Formats.{StandsFor, IsInputTextFault}
-use Rattle.kahn_report.specs.Work.{IsAnswered, IsChecked, IsUnchecked}
+use Rattle.kahn_texts.specs.Formats.{StandsFor, IsInputTextFault}
+use Rattle.kahn_fault.specs.Work.{IsAnswered, IsChecked, IsUnchecked}
 use Rattle.kahn_streams.specs.Written.{AppendsFront}
-use Rattle.kahn_report.specs.declared.working.WorkFault.{WorkFault}
-use Rattle.kahn_report.specs.declared.working.WorkFault.TheVariants.{Syntax, Check, Text, Run, Write}
+use Rattle.kahn_fault.specs.declared.work.WorkFault.{WorkFault}
+use Rattle.kahn_fault.specs.declared.work.WorkFault.TheVariants.{Syntax, Check, Text, Run, Write}
 use Rattle.std.specs.declared.alloc.Global.{Global}
 use Rattle.std.specs.declared.string.String.{String}
 use Rattle.kahn_marks.specs.Marks.{shown_text}

@@ -11,10 +11,10 @@ use Rattle.kahn_streams.specs.Answers.{print_lines, IsRightRun}
 use Rattle.kahn_streams.specs.declared.answer.Verdict.{Verdict}
 use Rattle.kahn_streams.specs.declared.answer.Verdict.TheVariants.{Finished}
 use Rattle.kahn_streams.specs.declared.fault.RunFault.TheVariants.{NoMemory}
-use Rattle.kahn_report.specs.Formats.{StandsFor}
-use Rattle.kahn_report.specs.Work.{IsUnanswered}
-use Rattle.kahn_report.specs.declared.working.WorkFault.{WorkFault}
-use Rattle.kahn_report.specs.declared.working.WorkFault.TheVariants.{Run}
+use Rattle.kahn_texts.specs.Formats.{StandsFor}
+use Rattle.kahn_fault.specs.Work.{IsUnanswered}
+use Rattle.kahn_fault.specs.declared.work.WorkFault.{WorkFault}
+use Rattle.kahn_fault.specs.declared.work.WorkFault.TheVariants.{Run}
 use Rattle.kahn_explain.specs.declared.tracing.column.Column.{Column}
 use Rattle.kahn_explain.specs.declared.tracing.histories.Traced.{Traced}
 

@@ -20,10 +20,10 @@ use Rattle.kahn_needs.specs.Finding.{AreNeedsFound}
 use Rattle.kahn_needs.specs.declared.needs.Found.{Found}
 use Rattle.kahn_needs.specs.declared.needs.Found.TheVariants as found
 use Rattle.kahn_needs.specs.declared.needs.Needs.{Needs}
-use Rattle.kahn_report.specs.Formats.{StandsFor, IsInputTextFault, channel_name, process_name}
-use Rattle.kahn_report.specs.Work.{IsChecked, IsUnchecked}
-use Rattle.kahn_report.specs.declared.working.WorkFault.{WorkFault}
-use Rattle.kahn_report.specs.declared.working.WorkFault.TheVariants.{Syntax, Check, Text, Run, Write}
+use Rattle.kahn_texts.specs.Formats.{StandsFor, IsInputTextFault, channel_name, process_name}
+use Rattle.kahn_fault.specs.Work.{IsChecked, IsUnchecked}
+use Rattle.kahn_fault.specs.declared.work.WorkFault.{WorkFault}
+use Rattle.kahn_fault.specs.declared.work.WorkFault.TheVariants.{Syntax, Check, Text, Run, Write}
 use Rattle.kahn_why.specs.Refusing.{AreAllowed, IsRefusal, IsRefusedFor}
 use Rattle.kahn_why.specs.declared.explaining.Came.{Came}
 use Rattle.kahn_why.specs.declared.explaining.Came.TheVariants.{Stopped, Refused}

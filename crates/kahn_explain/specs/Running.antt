@@ -1,8 +1,8 @@
 -- Believed. A run of the program, from the bytes of the two texts to the bytes that go out and the exit status (this project's profile).
 use Rattle.std.specs.Prelude.{◌≡◌, ℕ, Bool, true, List, Option, Result, Ok, Err, string_bytes}
 use Rattle.kahn_streams.specs.declared.config.Config.{Config}
-use Rattle.kahn_report.specs.declared.working.WorkFault.{WorkFault}
-use Rattle.kahn_report.specs.declared.working.WorkFault.TheVariants.{Text, Write}
+use Rattle.kahn_fault.specs.declared.work.WorkFault.{WorkFault}
+use Rattle.kahn_fault.specs.declared.work.WorkFault.TheVariants.{Text, Write}
 use Rattle.kahn_fault.specs.Status.{status_of}
 use Rattle.kahn_fault.specs.Telling.{WasWritten, told_text}
 use Rattle.kahn_fault.specs.declared.fault.Fault.TheVariants.{Work}

@@ -5,7 +5,7 @@ use Rattle.kahn_streams.specs.declared.tree.Program.{Program}
 use Rattle.kahn_streams.specs.declared.value.Line.{Line}
 use Rattle.kahn_streams.specs.declared.value.Value.{Value}
 use Rattle.kahn_streams.specs.declared.value.Line.TheVariants.{Channel, Print}
-use Rattle.kahn_report.specs.Formats.{channel_name, process_name}
+use Rattle.kahn_texts.specs.Formats.{channel_name, process_name}
 use Rattle.kahn_streams.specs.Written.{line_feed, value_text}
 use Rattle.kahn_explain.specs.declared.tracing.column.Column.{Column}
 

@@ -7,11 +7,11 @@ use Rattle.kahn_streams.specs.Inputs.{Lists}
 use Rattle.kahn_streams.specs.Answers.{IsUnrun}
 use Rattle.kahn_streams.specs.declared.answer.Verdict.TheVariants.{Finished, Bound, Memory}
 use Rattle.kahn_streams.specs.declared.fault.RunFault.TheVariants.{NoMemory}
-use Rattle.kahn_report.specs.Formats.{StandsFor, IsInputTextFault}
-use Rattle.kahn_report.specs.Work.{IsChecked, IsUnchecked}
+use Rattle.kahn_texts.specs.Formats.{StandsFor, IsInputTextFault}
+use Rattle.kahn_fault.specs.Work.{IsChecked, IsUnchecked}
 use Rattle.kahn_streams.specs.Written.{AppendsFront}
-use Rattle.kahn_report.specs.declared.working.WorkFault.{WorkFault}
-use Rattle.kahn_report.specs.declared.working.WorkFault.TheVariants.{Syntax, Check, Text, Run, Write}
+use Rattle.kahn_fault.specs.declared.work.WorkFault.{WorkFault}
+use Rattle.kahn_fault.specs.declared.work.WorkFault.TheVariants.{Syntax, Check, Text, Run, Write}
 use Rattle.kahn_explain.specs.Histories.{IsTraced, unwatched}
 use Rattle.kahn_explain.specs.Table.{trace_text}
 use Rattle.kahn_explain.specs.declared.tracing.histories.Traced.{Traced}

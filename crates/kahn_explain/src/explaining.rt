@@ -2,7 +2,7 @@
 
 ghost use Rattle.std.specs.Prelude.{◌≡◌, IfOk};
 ghost use Rattle.kahn_streams.specs.Network.{network_of};
-ghost use Rattle.kahn_report.specs.Work.{IsChecked};
+ghost use Rattle.kahn_fault.specs.Work.{IsChecked};
 ghost use Rattle.kahn_chain.specs.Chain.{AreStandings};
 ghost use Rattle.kahn_why.specs.Why.{IsExplained, standings_of};
 ghost use Rattle.kahn_explain.specs.Explaining.{HasExplained, HasLooked, came_status, told_status};
@@ -10,9 +10,10 @@ ghost use Rattle.kahn_explain.specs.Tracing.{HasTraced, beside};
 ghost use Rattle.kahn_explain.specs.inner.Told.{HasLookedOn, HasTabled, HasToldRun};
 
 use crate::tracing::{histories_of, trace_text};
+use kahn_fault::WorkFault;
 use kahn_pool::{Answer, Config, Open, RunFault, Verdict, run};
-use kahn_report::{WorkFault, read_input, write_line};
 use kahn_streams::{Network, NoMemory};
+use kahn_texts::{read_input, write_line};
 use kahn_why::{Admitted, Came, Explanation, Told, admit, explained, explained_each, write_both};
 use std::alloc::Global;
 use std::io::Write;

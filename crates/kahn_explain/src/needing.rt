@@ -11,12 +11,12 @@ mod texts;
 
 use crate::needing::asked::{AskFault, parted, sought};
 use crate::needing::replying::replied;
-use kahn_fault::shown_path;
+use kahn_fault::{WorkFault, shown_path};
 use kahn_hints::add_unknown_channel;
 use kahn_marks::add;
 use kahn_pool::{Config, RunFault};
-use kahn_report::{WorkFault, write_line};
 use kahn_streams::Network;
+use kahn_texts::write_line;
 use kahn_why::{Admitted, Came, Told, admit, write_both};
 pub(crate) use ran::ran_needs;
 use std::alloc::{AllocError, Global};

@@ -5,9 +5,8 @@ ghost use Rattle.kahn_explain.specs.Running.{HasDone, HasExplainedAs, IsFaultTol
 
 use crate::explaining::{explain, look, status, trace};
 use crate::outlet::Outlet;
-use kahn_fault::{Fault, Texts, tell};
+use kahn_fault::{Fault, Texts, WorkFault, tell};
 use kahn_pool::Config;
-use kahn_report::WorkFault;
 use kahn_why::{Came, refuse_input};
 use std::alloc::Global;
 use std::io::Write;

@@ -2,3 +2,4 @@ mod Refused
 mod Renamed
 mod Bodies
 mod Places
+pub mod Worked

@@ -36,9 +36,9 @@ use Rattle.kahn_syntax.specs.declared.lexeme.Sign.TheVariants as mark
 use Rattle.kahn_streams.specs.declared.fault.CheckFault.{CheckFault}
 use Rattle.kahn_streams.specs.declared.fault.CheckFault.TheVariants as checked
 use Rattle.kahn_streams.specs.Faults.{wrong, too_many, repeated, twice, process_faults, channel_faults, declaration_faults, overtaken, misplaced, argument_faults, arguments_faults, miscounted, made_faults, instance_faults, missing, side_faults, sides_faults, faults, most_channels, most_instances, verdict}
-use Rattle.kahn_report.specs.declared.working.WorkFault.{WorkFault}
-use Rattle.kahn_report.specs.declared.working.WorkFault.TheVariants as work
-use Rattle.kahn_report.specs.Work.{IsUnchecked}
+use Rattle.kahn_fault.specs.declared.work.WorkFault.{WorkFault}
+use Rattle.kahn_fault.specs.declared.work.WorkFault.TheVariants as work
+use Rattle.kahn_fault.specs.Work.{IsUnchecked}
 use Rattle.kahn_fault.specs.Places.{LiesIn, fault_span}
 use Rattle.kahn_fault.proofs.Bodies.{IsPlace, IsSyntaxPlace, ArePlaces, AllIn, form_on, lexed_in, past, among, covers, named, both, wrong_in, unless, body_in}
 

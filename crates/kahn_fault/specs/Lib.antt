@@ -4,3 +4,4 @@ pub mod Reasons
 pub mod Status
 pub mod Telling
 pub mod Texts
+pub mod Work

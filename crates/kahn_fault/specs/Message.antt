@@ -16,12 +16,12 @@ use Rattle.kahn_streams.specs.declared.fault.CheckFault.TheVariants as checked
 use Rattle.kahn_streams.specs.declared.entries.InputFault.TheVariants as input
 use Rattle.kahn_streams.specs.declared.fault.RunFault.{RunFault}
 use Rattle.kahn_streams.specs.declared.fault.RunFault.TheVariants as run
-use Rattle.kahn_report.specs.declared.input.TextFault.{TextFault}
-use Rattle.kahn_report.specs.declared.input.TextFault.TheVariants as text
-use Rattle.kahn_report.specs.declared.read.ReadFault.{ReadFault}
-use Rattle.kahn_report.specs.declared.read.ReadFault.TheVariants as read
-use Rattle.kahn_report.specs.declared.working.WorkFault.{WorkFault}
-use Rattle.kahn_report.specs.declared.working.WorkFault.TheVariants as work
+use Rattle.kahn_texts.specs.declared.input.TextFault.{TextFault}
+use Rattle.kahn_texts.specs.declared.input.TextFault.TheVariants as text
+use Rattle.kahn_texts.specs.declared.read.ReadFault.{ReadFault}
+use Rattle.kahn_texts.specs.declared.read.ReadFault.TheVariants as read
+use Rattle.kahn_fault.specs.declared.work.WorkFault.{WorkFault}
+use Rattle.kahn_fault.specs.declared.work.WorkFault.TheVariants as work
 use Rattle.kahn_fault.specs.declared.fault.Fault.{Fault}
 use Rattle.kahn_fault.specs.declared.fault.Fault.TheVariants.{Open, Program, InputText, Work}
 

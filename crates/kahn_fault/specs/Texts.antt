@@ -2,8 +2,8 @@
 use Rattle.std.specs.Prelude.{◌≡◌, ◌≤◌, ◌⊎◌, ℕ, List, [], Option, Some, None, length, string_bytes}
 use Rattle.std.specs.declared.alloc.Global.{Global}
 use Rattle.std.specs.declared.string.String.{String}
-use Rattle.kahn_report.specs.Formats.{most_input_bytes}
-use Rattle.kahn_report.specs.Reading.{IsReadFault}
+use Rattle.kahn_texts.specs.Formats.{most_input_bytes}
+use Rattle.kahn_texts.specs.Reading.{IsReadFault}
 use Rattle.kahn_fault.specs.declared.fault.Fault.{Fault}
 use Rattle.kahn_fault.specs.declared.fault.Fault.TheVariants.{Open, Program, InputText, Work}
 use Rattle.kahn_fault.specs.declared.texts.Texts.{Texts}

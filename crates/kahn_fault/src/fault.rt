@@ -4,11 +4,11 @@ ghost use Rattle.std.specs.Prelude.{◌≡◌};
 ghost use Rattle.kahn_fault.specs.Status.{live_status_of, read_status, work_status, status_of};
 
 use crate::message::path_words;
+use crate::work::WorkFault;
 use kahn_check::CheckFault;
-use kahn_pool::{RunFault, Verdict};
-use kahn_report::{ReadFault, TextFault, WorkFault};
-use kahn_streams::InputFault;
+use kahn_streams::{InputFault, RunFault, Verdict};
 use kahn_syntax::SyntaxFault;
+use kahn_texts::{ReadFault, TextFault};
 use std::fmt;
 use std::fmt::{Display, Formatter, Write};
 use thiserror::Error;

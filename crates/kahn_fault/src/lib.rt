@@ -8,6 +8,7 @@ mod message;
 mod reasons;
 mod telling;
 mod texts;
+mod work;
 
 pub use fault::{Fault, live_status, status};
 pub use laws::fault_lies;
@@ -15,6 +16,8 @@ pub use message::{fault_line, line_counted};
 pub use reasons::{shown_path, tell_reason, tell_shown, tell_unread};
 pub use telling::{Told, tell, tell_explain};
 pub use texts::{MOST_INPUT_BYTES, MOST_PROGRAM_BYTES, Texts, input_of, program_of, read_texts};
+pub use work::WorkFault;
 
 // For the crates above.
 pub use message::{check_span, check_words, syntax_span, syntax_words};
+pub use work::checked;

@@ -5,12 +5,12 @@ ghost use Rattle.kahn_streams.specs.Written.{Writes};
 ghost use Rattle.kahn_fault.specs.Message.{WritesCounted, numbered_line, words_line, two_line, between_line, place_line, placed_line, memory_line, what_words, syntax_span, syntax_words, check_span, check_words, entry_line, text_line, run_line, work_line, read_line, path_words, fault_text};
 
 use crate::fault::Fault;
+use crate::work::WorkFault;
 use itoa::Buffer;
 use kahn_check::CheckFault;
-use kahn_pool::RunFault;
-use kahn_report::{ReadFault, TextFault, WorkFault, WriteFault, write_line_counted};
-use kahn_streams::{InputFault, Span, Steps};
+use kahn_streams::{InputFault, RunFault, Span, Steps};
 use kahn_syntax::{SyntaxFault, What};
+use kahn_texts::{ReadFault, TextFault, WriteFault, write_line_counted};
 use std::io::Write;
 use std::marker::Brand;
 use std::sync::ledger::{Blank, Ledger};

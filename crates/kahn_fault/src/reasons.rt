@@ -9,7 +9,7 @@ ghost use Rattle.kahn_fault.specs.Status.{status_of};
 use crate::fault::Fault;
 use crate::telling::tell;
 use kahn_marks::add_shown_text;
-use kahn_report::{ReadFault, WriteFault, write_line};
+use kahn_texts::{ReadFault, WriteFault, write_line};
 use std::alloc::{AllocError, Global};
 use std::fs;
 use std::io::{ErrorKind, Read, Write};

@@ -8,9 +8,9 @@ ghost use Rattle.kahn_fault.specs.Telling.{explain_line, pointer_text, has_place
 
 use crate::fault::{Fault, status};
 use crate::message::{check_span, fault_line, syntax_span};
-use kahn_pool::Verdict;
-use kahn_report::{WorkFault, WriteFault, write_line};
-use kahn_streams::Span;
+use crate::work::WorkFault;
+use kahn_streams::{Span, Verdict};
+use kahn_texts::{WriteFault, write_line};
 use std::io::Write;
 
 /// What was reported.

@@ -4,10 +4,10 @@ use Rattle.std.specs.Prelude.{MatchOption}
 use Rattle.kahn_streams.specs.declared.tree.Program.{Program}
 use Rattle.kahn_streams.specs.declared.entries.InputFault.{InputFault}
 use Rattle.kahn_streams.specs.Inputs.{Entry, FailsFirst, asked_of_entry}
-use Rattle.kahn_report.specs.Formats.{AreBlanks, AreEntries, HasHead, HasNoHead, HasNoValues, IsEntry, IsGood, content, text_lines, IsInputTextFault}
-use Rattle.kahn_report.specs.declared.input.TextFault.{TextFault}
-use Rattle.kahn_report.specs.declared.input.TextFault.TheVariants.{BadLine, BadValue, Input, TooLong, NoMemory}
-use Rattle.kahn_report.proofs.Same_inputs.{one_list}
+use Rattle.kahn_texts.specs.Formats.{AreBlanks, AreEntries, HasHead, HasNoHead, HasNoValues, IsEntry, IsGood, content, text_lines, IsInputTextFault}
+use Rattle.kahn_texts.specs.declared.input.TextFault.{TextFault}
+use Rattle.kahn_texts.specs.declared.input.TextFault.TheVariants.{BadLine, BadValue, Input, TooLong, NoMemory}
+use Rattle.kahn_texts.proofs.Same_inputs.{one_list}
 use Rattle.kahn_marks.specs.declared.rendering.Note.{Note}
 use Rattle.kahn_inputs.specs.Feeding.{IsInputNote, IsLineNote, IsNumberedNote, refused_number}
 use Rattle.kahn_inputs.specs.Fitting.{parts_length}

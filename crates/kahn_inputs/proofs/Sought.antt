@@ -2,7 +2,7 @@
 use Rattle.std.proofs.Common.{◌≡◌, inl, inr, ℕ, ◌+◌, ◌≤◌, List, [], ◌∷◌, ◌++◌, length, take, arith, subst, sym}
 use Rattle.std.proofs.lemmas.List.{length_push}
 use Rattle.kahn_streams.specs.Inputs.{Entry}
-use Rattle.kahn_report.specs.Formats.{AreBlanks, AreEntries, IsEntry, content}
+use Rattle.kahn_texts.specs.Formats.{AreBlanks, AreEntries, IsEntry, content}
 use Rattle.kahn_inputs.specs.Seeking.{IsNotSought, IsSort, entries_in}
 use Rattle.kahn_inputs.specs.declared.seeking.Sort.{Sort}
 use Rattle.kahn_inputs.specs.declared.seeking.Sort.TheVariants.{Blank, NoHead, NoValues}

@@ -8,8 +8,8 @@ use Rattle.kahn_streams.specs.declared.entries.InputFault.{InputFault}
 use Rattle.kahn_streams.specs.Network.{kind_at, network_of}
 use Rattle.kahn_streams.specs.Inputs.{IsNameOf, IsNoName}
 use Rattle.kahn_streams.specs.declared.entries.InputFault.TheVariants as input_fault
-use Rattle.kahn_report.specs.declared.input.TextFault.{TextFault}
-use Rattle.kahn_report.specs.declared.input.TextFault.TheVariants as text_fault
+use Rattle.kahn_texts.specs.declared.input.TextFault.{TextFault}
+use Rattle.kahn_texts.specs.declared.input.TextFault.TheVariants as text_fault
 use Rattle.kahn_marks.specs.declared.rendering.Note.{Note}
 use Rattle.kahn_marks.specs.declared.rendering.Other.{Other}
 use Rattle.kahn_marks.specs.declared.rendering.Sort.TheVariants.{Error}

@@ -6,7 +6,7 @@ use Rattle.kahn_streams.specs.declared.span.Span.{Span}
 use Rattle.kahn_streams.specs.declared.tree.Kind.{Kind}
 use Rattle.kahn_streams.specs.declared.value.Value.{Value}
 use Rattle.kahn_streams.specs.Inputs.{kind_of_value}
-use Rattle.kahn_report.specs.Formats.{IsValue, is_blank, is_word_byte, most_name_bytes}
+use Rattle.kahn_texts.specs.Formats.{IsValue, is_blank, is_word_byte, most_name_bytes}
 use Rattle.kahn_inputs.specs.declared.fitting.Class.{Class}
 use Rattle.kahn_inputs.specs.declared.fitting.Class.TheVariants.{Blank, Named, Dark}
 use Rattle.kahn_inputs.specs.declared.fitting.Lack.{Lack}

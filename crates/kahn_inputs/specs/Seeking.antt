@@ -2,7 +2,7 @@
 use Rattle.std.specs.Prelude.{◌≡◌, ◌+◌, ◌≤◌, ℕ, Bool, true, false, List, ◌∷◌, ◌++◌, All, bytes_eq, length}
 use Rattle.kahn_streams.specs.declared.span.Span.{Span}
 use Rattle.kahn_streams.specs.Inputs.{Entry}
-use Rattle.kahn_report.specs.Formats.{AreBlanks, AreEntries, HasNoHead, HasNoValues, IsEntry, content, text_lines}
+use Rattle.kahn_texts.specs.Formats.{AreBlanks, AreEntries, HasNoHead, HasNoValues, IsEntry, content, text_lines}
 use Rattle.kahn_inputs.specs.Fitting.{moved_by, line_name, name_span, parts_length}
 use Rattle.kahn_inputs.specs.declared.seeking.Sort.{Sort}
 use Rattle.kahn_inputs.specs.declared.seeking.Sort.TheVariants.{Blank, NoHead, NoValues}

@@ -11,8 +11,8 @@ use crate::seeking::{Found, Sort, find_line, first_named};
 use crate::strange::{no_comment_words, numeral_words, strange_words};
 use kahn_hints::{add_inputs, add_unknown_input};
 use kahn_marks::{Note, Other, Sort as NoteSort, add, simple};
-use kahn_report::TextFault;
 use kahn_streams::{InputFault, Kind, Network, NoMemory, Span, channel_named};
+use kahn_texts::TextFault;
 use std::alloc::{AllocError, Global};
 use std::str;
 

@@ -1,7 +1,7 @@
 //! The part of a line that isn't taken which is at fault, and what is wanted there, where lines come one at a time.
 
 ghost use Rattle.std.specs.Prelude.{◌≡◌, IfOk, string_bytes};
-ghost use Rattle.kahn_report.specs.Formats.{content as content_of};
+ghost use Rattle.kahn_texts.specs.Formats.{content as content_of};
 ghost use Rattle.kahn_hints.specs.Inputs.{input_names, inputs_words, unknown_input};
 ghost use Rattle.kahn_inputs.specs.Fitting.{line_name};
 ghost use Rattle.kahn_inputs.specs.Refused.{IsHeadPart, IsKindPart, IsValuePart, kind_wanted, lack_wanted, value_wanted, words_or};

@@ -1,13 +1,13 @@
 //! Which line of an input text is at fault.
 
 ghost use Rattle.std.specs.Prelude.{◌≡◌, ◌+◌, ◌≤◌, IfOk, IsFalse, IsTrue, MatchOption, length};
-ghost use Rattle.kahn_report.specs.Formats.{content as content_of};
+ghost use Rattle.kahn_texts.specs.Formats.{content as content_of};
 ghost use Rattle.kahn_inputs.specs.Fitting.{moved_by, name_span};
 ghost use Rattle.kahn_inputs.specs.Seeking.{IsFirstNamed, IsFound, IsNamedNowhere, IsNotSought, IsSort, IsSought, IsUnfound, entries_in, has_line_name};
 
 use crate::fitting::{line_name, moved_by, name_span};
-use kahn_report::{LineFault, read_line};
 use kahn_streams::{NoMemory, Span};
+use kahn_texts::{LineFault, read_line};
 use std::alloc::Global;
 
 /// What a line is.

@@ -2,7 +2,8 @@
 
 ghost use Rattle.std.specs.Prelude.{◌≡◌, ◌<◌};
 ghost use Rattle.kahn_job.specs.inner.Words.{length, replicate, IfOk, instance_at, network_of, Lists};
-ghost use Rattle.kahn_job.specs.inner.Idles.{HaveFewTokens, AreJobsAt, AreOpening, HaveNoEnds, IsOpening};
+ghost use Rattle.kahn_job.specs.inner.Idles.{HaveFewTokens, AreJobsAt, AreOpening, HaveNoEnds};
+ghost use Rattle.kahn_code.specs.inner.Opening.{IsOpening};
 ghost use Rattle.kahn_job.specs.inner.Ways.{no_end};
 
 use crate::handing::{ends_at, ends_of, place};

@@ -6,8 +6,8 @@ use Rattle.kahn_streams.specs.declared.value.Line.{Line}
 use Rattle.kahn_streams.specs.Network.{network_of}
 use Rattle.kahn_streams.specs.Solution.{IsPrefix, IsWhole, iterate}
 use Rattle.kahn_streams.specs.Inputs.{inputs_of}
-use Rattle.kahn_pool.specs.Flows.{flow_lines}
-use Rattle.kahn_pool.specs.HeldRuns.{HeldRun, IsRightSoFar, so_far}
+use Rattle.kahn_sequential.specs.Flows.{flow_lines}
+use Rattle.kahn_sequential.specs.HeldRuns.{HeldRun, IsRightSoFar, so_far}
 use Rattle.kahn_streams.specs.declared.answer.End.{End}
 use Rattle.kahn_streams.specs.declared.answer.Verdict.{Verdict}
 use Rattle.kahn_streams.specs.declared.answer.Verdict.TheVariants.{Finished}

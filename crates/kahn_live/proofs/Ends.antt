@@ -1,6 +1,6 @@
 -- Whether it is told how a run ended that has no fault and the status 0.
 use Rattle.std.proofs.Common.{◌≡◌, Bool, true, false, Option, inr}
-use Rattle.kahn_pool.specs.HeldRuns.{HeldRun}
+use Rattle.kahn_sequential.specs.HeldRuns.{HeldRun}
 use Rattle.kahn_session.specs.Live.{IsFaulty, IsRinged}
 use Rattle.kahn_streams.specs.declared.answer.Verdict.{Verdict}
 use Rattle.kahn_live.specs.Running.{IsEndWanted, reached_status}

@@ -8,7 +8,7 @@ use Rattle.std.specs.declared.alloc.Global.{Global}
 use Rattle.std.specs.declared.string.String.{String}
 use Rattle.kahn_streams.specs.declared.config.Config.{Config}
 use Rattle.kahn_streams.specs.declared.tree.Program.{Program}
-use Rattle.kahn_pool.specs.HeldRuns.{HeldRun}
+use Rattle.kahn_sequential.specs.HeldRuns.{HeldRun}
 use Rattle.kahn_streams.specs.declared.fault.RunFault.{RunFault}
 use Rattle.kahn_fault.specs.declared.fault.Fault.{Fault}
 use Rattle.kahn_line.specs.declared.parts.Plain.{Plain}

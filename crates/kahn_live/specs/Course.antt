@@ -5,19 +5,19 @@ use Rattle.kahn_streams.specs.declared.answer.Verdict.{Verdict}
 use Rattle.kahn_streams.specs.declared.answer.Verdict.TheVariants.{Finished, Bound, Memory}
 use Rattle.kahn_streams.specs.declared.fault.RunFault.TheVariants.{NoMemory as NoMemoryRun}
 use Rattle.kahn_streams.specs.Written.{AppendsFront}
-use Rattle.kahn_write.specs.declared.bytes.WriteFault.{WriteFault}
+use Rattle.kahn_texts.specs.declared.bytes.WriteFault.{WriteFault}
 use Rattle.kahn_streams.specs.declared.feeds.FeedFault.{FeedFault}
 use Rattle.kahn_streams.specs.declared.feeds.FeedFault.TheVariants as feed
 use Rattle.kahn_streams.specs.declared.tree.Program.{Program as Tree}
 use Rattle.kahn_streams.specs.declared.value.Failure.{Failure}
-use Rattle.kahn_pool.specs.HeldRuns.{HeldRun}
-use Rattle.kahn_report.specs.Formats.{content}
+use Rattle.kahn_sequential.specs.HeldRuns.{HeldRun}
+use Rattle.kahn_texts.specs.Formats.{content}
 use Rattle.kahn_inputs.specs.declared.refused.Part.{Part}
 use Rattle.kahn_hints.specs.Inputs.{input_names, inputs_words, unknown_input}
 use Rattle.kahn_inputs.specs.Fitting.{line_name}
 use Rattle.kahn_inputs.specs.Refused.{IsHeadPart, IsKindPart, IsValuePart}
-use Rattle.kahn_report.specs.declared.read.ReadFault.TheVariants.{Failed as FailedRead}
-use Rattle.kahn_report.specs.declared.working.WorkFault.TheVariants.{Run as RunWork, Write as WriteWork}
+use Rattle.kahn_texts.specs.declared.read.ReadFault.TheVariants.{Failed as FailedRead}
+use Rattle.kahn_fault.specs.declared.work.WorkFault.TheVariants.{Run as RunWork, Write as WriteWork}
 use Rattle.kahn_fault.specs.declared.fault.Fault.{Fault}
 use Rattle.kahn_fault.specs.declared.fault.Fault.TheVariants.{Program, Work}
 use Rattle.std.specs.Option.{is_none}

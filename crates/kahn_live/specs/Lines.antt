@@ -3,7 +3,7 @@ use Rattle.std.specs.Prelude.{◌≡◌, ◌≢◌, ◌⊎◌, ◌==◌, ◌&&�
 use Rattle.std.specs.Char.{is_ascii_digit}
 use Rattle.std.specs.Io.KnownBytes.{IsAtEnd}
 use Rattle.std.specs.Cmp.Lexicographic.{pointwise}
-use Rattle.kahn_report.specs.Formats.{most_input_bytes}
+use Rattle.kahn_texts.specs.Formats.{most_input_bytes}
 use Rattle.kahn_live.specs.declared.lines.Next.{Next}
 use Rattle.kahn_live.specs.declared.lines.Next.TheVariants.{Line, End, Failed, NoMemory}
 use Rattle.kahn_live.specs.declared.outlet.Outlet.{Outlet}

@@ -5,14 +5,14 @@ use Rattle.std.specs.declared.string.String.{String}
 use Rattle.std.specs.Io.KnownBytes.{Keeps}
 use Rattle.kahn_streams.specs.declared.config.Config.{Config}
 use Rattle.kahn_streams.specs.declared.tree.Program.{Program}
-use Rattle.kahn_pool.specs.HeldRuns.{HeldRun}
+use Rattle.kahn_sequential.specs.HeldRuns.{HeldRun}
 use Rattle.kahn_streams.specs.declared.answer.Verdict.{Verdict}
 use Rattle.kahn_streams.specs.declared.answer.Verdict.TheVariants.{Finished}
 use Rattle.kahn_streams.specs.declared.fault.RunFault.{RunFault}
 use Rattle.kahn_streams.specs.declared.fault.RunFault.TheVariants.{UnknownWatch}
-use Rattle.kahn_report.specs.Work.{IsChecked, IsUnchecked}
-use Rattle.kahn_report.specs.declared.working.WorkFault.{WorkFault}
-use Rattle.kahn_report.specs.declared.working.WorkFault.TheVariants.{Run as RunWork, Write as WriteWork}
+use Rattle.kahn_fault.specs.Work.{IsChecked, IsUnchecked}
+use Rattle.kahn_fault.specs.declared.work.WorkFault.{WorkFault}
+use Rattle.kahn_fault.specs.declared.work.WorkFault.TheVariants.{Run as RunWork, Write as WriteWork}
 use Rattle.kahn_fault.specs.Status.{live_status_of}
 use Rattle.kahn_fault.specs.Reasons.{reason_line}
 use Rattle.kahn_fault.specs.Telling.{WasWritten, pointer_text, told_text}

@@ -7,7 +7,7 @@ ghost use Rattle.kahn_live.specs.Lines.{IsNextLine, IsReadyToRead, fed_text, is_
 ghost use Rattle.kahn_live.specs.inner.Parts.{IsLastRead, IsLinePart, IsPassed};
 
 use crate::outlet::Outlet;
-use kahn_report::MOST_BYTES;
+use kahn_texts::MOST_BYTES;
 use std::alloc::AllocError;
 use std::io::{BufRead, BufReader, ErrorKind, Read, Write};
 

@@ -5,8 +5,8 @@ ghost use Rattle.std.specs.Io.{WritesAtMost};
 ghost use Rattle.std.specs.Io.KnownBytes.{Keeps, WriteAppends};
 ghost use Rattle.kahn_live.specs.Course.{IsGone, IsWriteFault};
 
-use kahn_fault::Fault;
-use kahn_report::{WorkFault, WriteFault};
+use kahn_fault::{Fault, WorkFault};
+use kahn_texts::WriteFault;
 use std::io;
 use std::io::{ErrorKind, Write};
 

@@ -10,13 +10,11 @@ use crate::serving::{Ending, reached_status, sent, work};
 use crate::stage::Stage;
 use crate::taking::{Fed, wants_memory};
 use crate::telling::Teller;
-use kahn_fault::Fault;
+use kahn_fault::{Fault, WorkFault, checked};
 use kahn_hints::add_unknown_channel;
 use kahn_line::{LiveOptions, Plain};
-use kahn_pool::{Config, RunFault, Verdict};
-use kahn_report::{WorkFault, checked};
 use kahn_session::Session;
-use kahn_streams::Network;
+use kahn_streams::{Config, Network, RunFault, Verdict};
 use std::alloc::{AllocError, Global};
 use std::io::{Read, Write};
 

@@ -11,10 +11,9 @@ use crate::outlet::Outlet;
 use crate::stage::Stage;
 use crate::taking::{Fed, take_all, wants_memory};
 use crate::telling::Teller;
-use kahn_fault::{Fault, live_status};
-use kahn_pool::Verdict;
-use kahn_report::WorkFault;
+use kahn_fault::{Fault, WorkFault, live_status};
 use kahn_session::Session;
+use kahn_streams::Verdict;
 use std::alloc::Global;
 use std::io::{BufReader, Read, Write};
 

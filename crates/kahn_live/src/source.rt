@@ -6,8 +6,8 @@ ghost use Rattle.kahn_live.specs.Course.{AcrossStage, HasSent, IsBlankMet, IsDea
 use crate::stage::Stage;
 use crate::taking::take_read;
 use kahn_fault::Fault;
-use kahn_pool::Verdict;
 use kahn_session::Session;
+use kahn_streams::Verdict;
 use std::io::Write;
 
 /// Whether the program has no input channel.

@@ -2,13 +2,12 @@
 
 ghost use Rattle.std.specs.Prelude.{◌≡◌, ◌&&◌, not, IfErr, IfOk, IsTrue, None, false, map, option_copied, string_bytes, true};
 ghost use Rattle.std.specs.Io.Buffered.{reader_buffer};
-ghost use Rattle.kahn_report.specs.Formats.{content};
+ghost use Rattle.kahn_texts.specs.Formats.{content};
 ghost use Rattle.kahn_inputs.specs.Fitting.{line_name};
 ghost use Rattle.kahn_session.specs.Live.{HasVerdict, breaks};
 ghost use Rattle.kahn_session.specs.Pace.{MayBeSlow};
 ghost use Rattle.kahn_session.specs.declared.fault.TakeFault.TheVariants.{Feed};
-ghost use Rattle.kahn_live.specs.Course.{Across, AreLastMet, AreLastTried, AcrossStage, HasSent, IsAnswerTold, IsComplaint, IsFedPart, IsFirstPart, IsInputMet, IsLastRefused, IsLineMet, IsNameWords, channel_tail};
-ghost use Rattle.kahn_live.specs.Course.{IsAloneTold, IsHintBy, IsNextMet, IsReadMet, IsRefusalTold, IsRefused, IsRefusedPart, IsPartMet, IsWriteFault, is_bad_line, no_memory, point_of, telling_of, wants_hint};
+ghost use Rattle.kahn_live.specs.Course.{Across, AreLastMet, AreLastTried, AcrossStage, HasSent, IsAnswerTold, IsComplaint, IsFedPart, IsFirstPart, IsInputMet, IsLastRefused, IsLineMet, IsNameWords, channel_tail, IsAloneTold, IsHintBy, IsNextMet, IsReadMet, IsRefusalTold, IsRefused, IsRefusedPart, IsPartMet, IsWriteFault, is_bad_line, no_memory, point_of, telling_of, wants_hint};
 ghost use Rattle.kahn_live.specs.LinesMet.{AreAllMet, AreEachMet, lines_given};
 ghost use Rattle.kahn_live.specs.Histories.{HasHistories};
 ghost use Rattle.kahn_live.specs.Lines.{IsReadyToRead};
@@ -17,12 +16,11 @@ use crate::lines::{Next, fed_line, has_line, is_bare_line, next_line};
 use crate::source::{is_over, is_source, take_blank};
 use crate::stage::Stage;
 use crate::telling::Teller;
-use kahn_fault::Fault;
+use kahn_fault::{Fault, WorkFault};
 use kahn_inputs::{Part, head_part, inputs_words, kind_part, name_part, unknown_words, value_part};
-use kahn_pool::{Open, RunFault, Verdict};
-use kahn_report::{ReadFault, WorkFault};
 use kahn_session::{AT_END, Session, TakeFault, is_want};
-use kahn_streams::{Failure, FeedFault, Network};
+use kahn_streams::{Failure, FeedFault, Network, Open, RunFault, Verdict};
+use kahn_texts::ReadFault;
 use std::alloc::{AllocError, Global};
 use std::io::{BufReader, Read, Write};
 

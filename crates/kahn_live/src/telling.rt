@@ -11,12 +11,11 @@ ghost use Rattle.kahn_live.specs.Running.{IsEndPut, IsEndTold, IsLastTold, untol
 
 use kahn_fault::{Fault, live_status, tell, tell_explain};
 use kahn_inputs::Part;
-use kahn_pool::Verdict;
 use kahn_session::{
     Session, TakeFault, is_want, take_words, write_alone, write_fault, write_more, write_refusal,
     write_stopped, write_unknown, write_waiting,
 };
-use kahn_streams::{Failure, Network};
+use kahn_streams::{Failure, Network, Verdict};
 use std::alloc::Global;
 use std::io::Write;
 

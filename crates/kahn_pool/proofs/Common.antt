@@ -1,81 +1,56 @@
 -- The names of the crates below and of this crate's definitions that proofs cite, passed on from one place.
 pub use Rattle.kahn_board.specs.Rule.{events_told}
-pub use Rattle.kahn_code.proofs.Lists.{at_last, one_first, own_of, sent_stands, stand_in}
-pub use Rattle.kahn_code.proofs.Poured.{poured_grown, poured_length, poured_rest}
-pub use Rattle.kahn_code.proofs.Queued.{given_zero, set_each, set_here, taken_zero}
+pub use Rattle.kahn_code.proofs.Lists.{at_last, stand_in}
 pub use Rattle.kahn_code.proofs.Readers.{driven, joins_parameter, joins_within}
-pub use Rattle.kahn_code.specs.Cells.{AllStand, AreKeptTokens, StoodBy, View, exec_on, is_streamed, sent_on}
-pub use Rattle.kahn_code.specs.Lines.{AreFirst, AreQueued, HasPoured, IsPoured, Joins, actual_here, given_of, next_at, place_at, queue_of, route_of, taken_of, waiting_of}
-pub use Rattle.kahn_code.specs.Progress.{IsPause, Paused}
-pub use Rattle.kahn_code.specs.Lines.{Waiting}
-pub use Rattle.kahn_code.specs.Standing.{LeavesOthers, Site}
-pub use Rattle.kahn_code.specs.Standing.{count, tokens}
-pub use Rattle.kahn_code.specs.Progress.{AreCounts, IsAt, IsStill, Told, site_of, told_view}
+pub use Rattle.kahn_code.specs.Cells.{AllStand, StoodBy, View, exec_on, is_streamed}
+pub use Rattle.kahn_code.specs.Lines.{AreQueued, Joins, given_of}
+pub use Rattle.kahn_code.specs.Progress.{IsPause, Paused, AreCounts, Told, told_view}
+pub use Rattle.kahn_code.specs.Standing.{count}
 pub use Rattle.kahn_code.specs.declared.{cell.Kept.Kept, progress.Pause.Pause}
-pub use Rattle.kahn_code.specs.inner.Gone.{Gone, kept_behind, nothing_gone}
-pub use Rattle.kahn_code.specs.inner.Tapped.{HasForgotten, Tapped, regrown_tap}
+pub use Rattle.kahn_code.specs.inner.Gone.{Gone, nothing_gone}
+pub use Rattle.kahn_code.specs.inner.Tapped.{Tapped}
 pub use Rattle.kahn_crew.proofs.Ended.{all_told, untouched_gone}
-pub use Rattle.kahn_crew.proofs.Started.{at_mapped, at_most_all, mapped_at, woken_ready}
-pub use Rattle.kahn_crew.specs.declared.{closing.CrewFault.CrewFault, closing.CrewFault.TheVariants.NoMemory, closing.CrewFault.TheVariants.NoThread, run.Plan.Plan}
+pub use Rattle.kahn_crew.proofs.Started.{at_mapped, at_most_all, woken_ready}
+pub use Rattle.kahn_streams.proofs.By_number.{mapped_at}
+pub use Rattle.kahn_crew.specs.declared.{closing.CrewFault.CrewFault, closing.CrewFault.TheVariants.NoMemory, closing.CrewFault.TheVariants.NoThread}
+pub use Rattle.kahn_streams.specs.declared.plan.Plan.{Plan}
 pub use Rattle.kahn_crew.specs.inner.Left.{AreAll, AreUntouched, HaveGone, IsLack, IsOver, IsQuietTask, task_events}
 pub use Rattle.kahn_crew.specs.inner.Tasks.{AreReadyTasks, handed_to_task, is_over, task_rows, told_tale, work_of}
 pub use Rattle.kahn_job.proofs.Berthed.{past_none}
-pub use Rattle.kahn_job.proofs.Idles.{all_idle, idle_grown, idle_met, idle_still, row_there, settled_rest}
+pub use Rattle.kahn_job.proofs.Idles.{all_idle, idle_grown, idle_met, idle_still, row_there, settled_rest, AreJoinedJobs}
 pub use Rattle.kahn_job.proofs.Settles.{same_lanes}
 pub use Rattle.kahn_job.specs.declared.{standing.Standing.Standing}
-pub use Rattle.kahn_job.specs.inner.Berths.{IsWithinInput, Serves, end_at}
+pub use Rattle.kahn_job.specs.inner.Berths.{IsWithinInput, Serves, end_at, AreBehindOn, AreJoinedOn, end_in}
 pub use Rattle.kahn_job.specs.inner.Ends.{IsBehind, IsReady}
-pub use Rattle.kahn_job.specs.inner.Idles.{HaveFewTokens, AreIdle, AreJobsAt, HaveSettled, IsIdle, AreSamePlaces, HaveMet, StandsByQueue, cells_of, rows_of, tolds_of}
-pub use Rattle.kahn_job.proofs.Idles.{AreJoinedJobs}
-pub use Rattle.kahn_job.specs.inner.Berths.{AreBehindOn, AreJoinedOn, end_in}
-pub use Rattle.kahn_job.specs.inner.Idles.{IsOpening}
+pub use Rattle.kahn_job.specs.inner.Idles.{HaveFewTokens, AreIdle, AreJobsAt, HaveSettled, IsIdle, AreSamePlaces, HaveMet, StandsByQueue, cells_of, rows_of}
 pub use Rattle.kahn_job.specs.inner.Tasks.{Continues, IsTrueOf, Tasked, standing_after, woken_task}
 pub use Rattle.kahn_job.specs.inner.Ways.{no_end}
 pub use Rattle.kahn_job.specs.inner.Works.{IsJob, Work, width_of}
-pub use Rattle.kahn_pool.specs.Flows.{AreNew, Flowing, HasLetGo, HasPouredIn, IsRunOn}
-pub use Rattle.kahn_pool.specs.HeldRuns.{AreCalls, GoesOn, HasFed, HasResumed, HeldRun, IsAnswerOf, IsCall, IsLineOf, IsResumed, IsRightSoFar, IsUnfed, IsUnresumed, SaysNoLess, Seen, given_so_far, last_of, seen_at, seen_events, seen_of, so_far, unseen, writing}
-pub use Rattle.kahn_pool.specs.declared.{held_fault.HeldFault.HeldFault, part.Stopped.Stopped, plan.Part.Part, rounds.Round.Round}
-pub use Rattle.kahn_pool.specs.inner.Bench.{AreEnds, AreStreams, HasEndIn, HasRunCell, IsConcluded, IsLast, IsPaused, IsVerdict, LacksMemory, PausedAt, RunState, all_events, events_at, view_events}
-pub use Rattle.kahn_pool.specs.inner.FlowBench.{AreLent, IsFlowOf, flow_of, let_go_by, let_go_of, run_of_bench}
-pub use Rattle.kahn_pool.specs.inner.Gathered.{IsFrom, IsGiven, IsOutcomeOf, TookAll, TookNoMore, no_view, view_at}
-pub use Rattle.kahn_pool.specs.inner.Holding.{AreEnded, AreHeld, AreHeldBy, HasEnded, HasRisen, HasStopped, HasStoppedPart, HaveRisen, IsHandRoomFor, IsHolding, cell_alone, cell_for, held_state, run_of, run_with}
-pub use Rattle.kahn_pool.specs.inner.Rested.{AreEndsOfTasks, AreTold, IsDryOf, IsEndOf, IsLentTo, IsSaid, IsSettledTask, IsToldAs, SettlesTo, cell_of}
-pub use Rattle.kahn_pool.specs.inner.Streams.{AreAllGiven, AreGiven, AreLists, AreNamed, HaveChanged, IsBegun, IsDeclared, IsFilled, IsFilledStream, IsOpenStream, KeepsOtherLines, OpensWith, kept_in, kept_lists, printed_in, printed_list}
-pub use Rattle.kahn_pool.specs.inner.Workbench.{AllStandBy, AreKeptOf, AreOpen, AreOpeningCells, AreStreamsReady, AreWhole, HasAdvanced, HasEmptied, HasComeToRest, HasTakenIn, HasTakenTurn, HasWorked, IsInRound, IsLaid, IsLeft, IsRightAlone, IsSeated, IsBenchOf, IsWide, Marked, MayGoOn, MayRun, StandsAsTold, Table, actual_count, all_of, gone_in, parameter_count, seated_with, sight_of, table_of, told_in, turn_of, vacant_of, weight}
-pub use Rattle.kahn_streams.proofs.By_number.{there}
+pub use Rattle.kahn_sequential.specs.HeldRuns.{GoesOn, HasFed, HasResumed, HeldRun, IsAnswerOf, IsLineOf, IsResumed, IsRightSoFar, IsUnfed, Seen, given_so_far, seen_at, seen_events, seen_of, so_far, unseen}
+pub use Rattle.kahn_sequential.specs.declared.{rounds.Round.Round}
+pub use Rattle.kahn_pool.specs.declared.{part.Stopped.Stopped, plan.Part.Part}
+pub use Rattle.kahn_sequential.specs.inner.Bench.{AreStreams, HasEndIn, IsConcluded, IsVerdict, RunState, all_events, events_at, view_events}
+pub use Rattle.kahn_sequential.specs.inner.Gathered.{IsFrom, IsGiven, IsOutcomeOf, TookNoMore, no_view, view_at}
+pub use Rattle.kahn_sequential.specs.inner.Parts.{AreEnded, HasRisen, HaveRisen}
+pub use Rattle.kahn_pool.specs.inner.Holding.{AreHeld, AreHeldBy, HasEnded, HasStopped, HasStoppedPart, IsHolding, cell_alone, cell_for, held_state, run_of}
+pub use Rattle.kahn_pool.specs.inner.Rested.{AreEndsOfTasks, AreTold, IsDryOf, IsEndOf, IsSaid, IsSettledTask, IsToldAs, SettlesTo, cell_of}
+pub use Rattle.kahn_sequential.specs.inner.Streams.{AreAllGiven, AreGiven, AreLists, HaveChanged}
+pub use Rattle.kahn_sequential.specs.inner.Workbench.{AllStandBy, AreKeptOf, AreWhole, IsLaid, IsWide, MayRun, Table, gone_in, seated_with, sight_of, told_in, vacant_of}
 pub use Rattle.kahn_streams.proofs.Dry.{dry_reads}
 pub use Rattle.kahn_streams.proofs.Entered.{none_of}
-pub use Rattle.kahn_streams.proofs.Fed.{meant_input}
-pub use Rattle.kahn_streams.proofs.Finished.{determined, inputs_grow, settled, unrolled}
-pub use Rattle.kahn_streams.proofs.Framed.{Begins, Stays, and_more, begins_nil, dry_play, frame_play, grows_play, put_more, widened}
-pub use Rattle.kahn_streams.proofs.Fuel.{play_alike}
-pub use Rattle.kahn_streams.proofs.Handed.{bytes_self, bytes_true}
-pub use Rattle.kahn_streams.proofs.Proved.{Feeds, chain, exec_alike, feeds, fits_all, iterates_rise, one_value, prefix_get, prefix_refl, prefix_trans, script_at, values_append}
-pub use Rattle.kahn_streams.proofs.Runs.{cut_is_full, play_on, play_taken, ran}
+pub use Rattle.kahn_streams.proofs.Proved.{prefix_refl, prefix_trans}
 pub use Rattle.kahn_streams.proofs.Sourced.{handed_within, reads, reads_listed, writes}
-pub use Rattle.kahn_streams.specs.Answers.{AreBegun, AreOne, AreRight, HasStream, IsCutShort, IsDryOn, IsEnd, IsInRange, IsOutcome, IsRight, IsUndeclared, IsWaiting, IsWatched, IsWithinBound, Settles, channel_lines, end_events, is_output, is_watched, print_lines, stream_line, stream_lines, values_of}
-pub use Rattle.kahn_streams.specs.Feeds.{IsMeant}
-pub use Rattle.kahn_streams.specs.Inputs.{Entry, Lists, channel_of, inputs_of, most_values}
-pub use Rattle.kahn_streams.specs.Laws.{IsQuiet, IsSettled}
+pub use Rattle.kahn_streams.specs.Answers.{IsRight, is_output, stream_lines}
+pub use Rattle.kahn_streams.specs.Inputs.{Lists, inputs_of}
 pub use Rattle.kahn_streams.specs.Meaning.{Store}
-pub use Rattle.kahn_streams.specs.Network.{Actual, Given, Hands, Instance, IsOnly, IsWriter, Network, Nobody, Reads, Source, Writes, Written, actual_at, any_written, channel_names, channel_source, first_writer, idle, instance_at, is_written, network_of, role_at, source_by}
-pub use Rattle.kahn_streams.specs.Prints.{declaration_prints, process_prints}
-pub use Rattle.kahn_streams.specs.Script.{Cut, Dry, Fail, Fault, Give, Got, Reached, Rest, Script, Sends, Tapes, Turns, play, wait_at}
-pub use Rattle.kahn_streams.specs.Solution.{AreInputsExtended, Ending, HasEnd, HasSize, HasSizes, Histories, Inputs, IsPrefix, IsWhole, Stands, ending, exec_at, fed, goes_to, input_list, iterate, none_left, one_more, opening, out, source, tapes_of, values_at}
-pub use Rattle.kahn_streams.specs.Steps.{RanBy, Step, and_then, empty, halted, since, values_taken}
-pub use Rattle.kahn_streams.specs.Syntax.{Number, prints_in}
-pub use Rattle.kahn_streams.specs.Tokens.{IsOwn, token_value}
-pub use Rattle.kahn_streams.specs.View.{Scope, place_of}
-pub use Rattle.kahn_streams.specs.Wires.{process_at}
+pub use Rattle.kahn_streams.specs.Network.{Actual, Given, IsOnly, IsWriter, Network, Nobody, Reads, Source, Writes, Written, actual_at, channel_source, idle, instance_at, network_of, role_at}
+pub use Rattle.kahn_streams.specs.Solution.{AreInputsExtended, Inputs, fed, iterate, out, source}
+pub use Rattle.kahn_streams.specs.Tokens.{token_value}
 pub use Rattle.kahn_streams.specs.Wiring.{IsWellWired, side_at}
-pub use Rattle.kahn_streams.specs.declared.{answer.Answer.Answer, answer.Outcome.TheVariants.Ended, answer.Outcome.TheVariants.Faulted, answer.Outcome.TheVariants.More, answer.Stream.Stream, answer.Verdict.Verdict, answer.Verdict.TheVariants.Bound, answer.Verdict.TheVariants.Finished, answer.Verdict.TheVariants.Memory, sides.Side.Side, token.Token.Token, tree.Declaration.Declaration, tree.Kind.TheVariants.Integer, tree.Process.Process, tree.Program.Program, tree.Role.Role, tree.Role.TheVariants.Inner, tree.Role.TheVariants.Input, tree.Role.TheVariants.Output, value.Line.Line, value.Line.TheVariants.Channel, value.Line.TheVariants.Print, value.Value.Value}
+pub use Rattle.kahn_streams.specs.declared.{answer.Answer.Answer, answer.Verdict.Verdict, sides.Side.Side, token.Token.Token, tree.Program.Program, tree.Role.Role, tree.Role.TheVariants.Inner, tree.Role.TheVariants.Input, value.Line.Line, value.Line.TheVariants.Channel, value.Line.TheVariants.Print, value.Value.Value}
 pub use Rattle.kahn_streams.specs.inner.Sources.{IsFed}
-pub use Rattle.std.proofs.Math.Nat.{le-max_left, le-max_right}
-pub use Rattle.std.proofs.Math.Seq.{map-set_same}
-pub use Rattle.std.proofs.lemmas.Bool.{cases_eq, cases_lt}
-pub use Rattle.std.proofs.lemmas.List.Folds.{fold-map}
-pub use Rattle.std.proofs.lemmas.List.Sums.{get_or-le-sum_by, sum_by-cons, sum_by-set}
-pub use Rattle.std.proofs.lemmas.List.{get_or-map, get_or-set_other, get_or_past, length-map, map-append, map-set, replicate-append-replicate, take_all, take_at}
-pub use Rattle.std.proofs.lemmas.Option.{get_or_from_slice_get, none-some, same_Some, slice_get-get_or, slice_get_read, slice_get_within}
+pub use Rattle.std.proofs.lemmas.Bool.{cases_lt}
+pub use Rattle.std.proofs.lemmas.List.Sums.{get_or-le-sum_by}
+pub use Rattle.std.proofs.lemmas.List.{get_or_past, length-map}
+pub use Rattle.std.proofs.lemmas.Option.{get_or_from_slice_get, same_Some, slice_get_read}
 pub use Rattle.std.proofs.lemmas.Result.{err_from_is_err_and}
-pub use Rattle.std.specs.Option.{SomeIff}

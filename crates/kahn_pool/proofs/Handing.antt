@@ -1,9 +1,9 @@
 -- Jobs that go on from where the cells of a bench stand.
 use Rattle.std.proofs.Common.{arith, false, zero, suc, refl, [], ◌∷◌, ◌⊎◌, inl, inr, ◌<◌, ◌≤◌, ◌^◌, ◌≡◌, ℕ, ◌+◌, List, length, map, sym, ap, ◌∙◌, subst, Some, slice_get, slice_index_or, replicate, sum_by}
-use Rattle.kahn_pool.proofs.Common.{AreCounts, AreWhole, Lists, cell_for, seated_with, vacant_of, HaveFewTokens, AreQueued, MayRun, Round, RunState, View, cases_eq, cases_lt, get_or_from_slice_get, events_at, given_of, length-map, prefix_refl, none_of, network_of, instance_at, actual_at, role_at, Actual, Reads, Writes, is_output, AreInputsExtended, inputs_of, Told, Gone, nothing_gone, Tapped, IsIdle, AreJobsAt, AreSamePlaces, StandsByQueue, cells_of, rows_of, row_there, settled_rest, end_at, end_in, Work, AllStandBy, AreHeld, HaveSettled, view_events, told_view, IsLaid, Table, all_events, gone_in, sight_of}
-use Rattle.kahn_pool.proofs.Benched.{get_map, mapped, actual_same, seated_at, sent_there, taken_there, viewed}
-use Rattle.kahn_pool.proofs.Righted.{events_seen}
-use Rattle.kahn_pool.proofs.Turns.{turn_bound}
+use Rattle.kahn_pool.proofs.Common.{AreCounts, AreWhole, Lists, cell_for, seated_with, vacant_of, HaveFewTokens, AreQueued, MayRun, Round, RunState, View, cases_lt, events_at, given_of, length-map, prefix_refl, none_of, network_of, instance_at, actual_at, role_at, Actual, Reads, Writes, is_output, AreInputsExtended, inputs_of, Told, Gone, nothing_gone, Tapped, IsIdle, AreJobsAt, AreSamePlaces, StandsByQueue, cells_of, rows_of, row_there, settled_rest, end_at, end_in, Work, AllStandBy, AreHeld, HaveSettled, view_events, told_view, IsLaid, Table, all_events, gone_in, sight_of}
+use Rattle.kahn_sequential.proofs.Benched.{get_map, mapped, actual_same, seated_at, sent_there, taken_there, viewed}
+use Rattle.kahn_sequential.proofs.Righted.{events_seen}
+use Rattle.kahn_sequential.proofs.Turns.{turn_bound}
 use Rattle.kahn_streams.proofs.Sided.{channel_served}
 use Rattle.kahn_streams.specs.Network.{IsServed}
 use Rattle.std.proofs.lemmas.Option.{slice_get_past}
@@ -58,15 +58,6 @@ module _ (b : Table) (laid : IsLaid b) (ws : List Work) (jobs : AreJobsAt b.netw
       stood = subst (AllStandBy b.network b.watch) (sym cells) stood;
       events = ap (λ n. left + n) (events_seen (cells_of us) ∙ ap (λ cs. sum_by view_events (map told_view cs)) cells);
     }
-
--- what is so of each before n, and of that one, is so of each up to it
-pub each_more : {X : Type 0} (P : X → Type 0) (xs : List X) (n : ℕ) (y : X) → ((p : ℕ) → p < n → (x : X) → slice_get xs p ≡ Some x → P x) → y ≡ slice_index_or xs n y → P y →
-    (p : ℕ) → p < n + 1 → (x : X) → slice_get xs p ≡ Some x → P x
-each_more P xs n y h is here p lt x at = by (cases_eq p n)
-  where
-    by : (p ≡ n) ⊎ (p ≡ n → ⊥) → P x
-    by (inl e) = subst P (is ∙ get_or_from_slice_get xs n x y (ap (slice_get xs) (sym e) ∙ at)) here
-    by (inr other) = h p (omega (arith, lt, other)) x at
 
 -- what an instance wrote it sent, by an event each
 module _ (b : Table) (laid : IsLaid b) (counted : AreQueued b.queues) (counts : (p : ℕ) (c : Told) → slice_get b.cells p ≡ Some c → AreCounts c) (few : (p : ℕ) → events_at (sight_of b) p < 2 ^ 48) where

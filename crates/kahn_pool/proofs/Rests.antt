@@ -4,9 +4,9 @@ use Rattle.kahn_pool.proofs.Common.{same_Some, Program, Role, Value, Inner, Inpu
 use Rattle.kahn_streams.specs.inner.Sources.{IsFed as IsFedBy}
 use Rattle.kahn_streams.specs.declared.answer.End.{End}
 use Rattle.kahn_streams.specs.declared.answer.Outcome.{Outcome}
-use Rattle.kahn_pool.proofs.Benched.{get_map, got, mapped}
+use Rattle.kahn_sequential.proofs.Benched.{get_map, got, mapped}
 use Rattle.kahn_pool.proofs.Ended.{handed_to, one_number}
-use Rattle.kahn_pool.proofs.Lists.{same_writer}
+use Rattle.kahn_sequential.proofs.Lists.{same_writer}
 use Rattle.kahn_streams.specs.Script as script
 use Rattle.kahn_code.specs.Progress as code
 use Rattle.kahn_job.specs.declared.standing.Standing.TheVariants as standing

@@ -1,4 +1,1 @@
-pub mod HeldRuns
-pub mod Flows
-pub mod Recordings
 pub mod inner

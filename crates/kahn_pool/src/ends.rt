@@ -1,24 +1,13 @@
 //! The ends of all instances, from where their tasks stand.
 
-ghost use Rattle.std.specs.Prelude.{◌≡◌, ℕ, ◌<◌, ◌≤◌, length, Some, slice_get, vec_capacity};
-ghost use Rattle.kahn_pool.specs.inner.Below.{AreAll, Reads, Tasked, actual_at, instance_at, network_of};
+ghost use Rattle.std.specs.Prelude.{◌≡◌, ◌<◌, ◌≤◌, length, Some, slice_get, vec_capacity};
+ghost use Rattle.kahn_pool.specs.inner.Below.{AreAll, Tasked, network_of};
 ghost use Rattle.kahn_pool.specs.inner.Rested.{AreEndsOfTasks, AreTold, IsDryOf, IsDryTold, IsEndOf};
 
 use crate::plan::Part;
-use kahn_code::Code;
 use kahn_job::{Standing, Task};
+use kahn_sequential::channel_read;
 use kahn_streams::{End, Outcome};
-
-/// The channel that a parameter reads.
-pub(crate) fn channel_read(code: &Code, instance: usize, parameter: usize) -> usize
-    requires { (c : ℕ) × (actual_at (instance_at (network_of code.now.network.value) instance) parameter ≡ Reads c) }
-    ensures { actual_at (instance_at (network_of code.now.network.value) instance) parameter ≡ Reads result }
-{
-    match code.channel(instance, parameter) {
-        Some(channel) => channel,
-        None => unreachable!(),
-    }
-}
 
 // How many tokens were given to a channel: its writer sent them, or the input has them.
 fn given(part: &Part<'_>, tasks: &[Task], channel: usize) -> u64

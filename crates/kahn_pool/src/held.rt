@@ -2,19 +2,18 @@
 
 ghost use Rattle.std.specs.Prelude.{◌≡◌, ◌↔◌, ◌+◌, Some, length, map, sum_by, IfOk, IsTrue, MatchResult};
 ghost use Rattle.kahn_pool.specs.inner.Below.{Verdict as VerdictOf, cells_of, network_of, stream_lines, token_value};
-ghost use Rattle.kahn_pool.specs.HeldRuns.{HasFed, HasStarted, IsAnswerOf, IsLineOf, IsResumed, IsRightSoFar, IsUnfed, IsUnresumed, IsUnstarted, seen_events, so_far};
-ghost use Rattle.kahn_pool.specs.inner.Workbench.{AreKeptOf};
+ghost use Rattle.kahn_sequential.specs.HeldRuns.{HasFed, HasStarted, IsAnswerOf, IsLineOf, IsResumed, IsRightSoFar, IsUnfed, IsUnresumed, IsUnstarted, seen_events, so_far};
+ghost use Rattle.kahn_sequential.specs.inner.Workbench.{AreKeptOf};
 
-use crate::held_fault::HeldFault;
 use crate::part::{PartRoom, first_idles, run_part};
-use crate::plan::{Part, plan_of};
-use crate::streams::{fill, give_watched, lines_of, opening_streams};
+use crate::plan::Part;
 use kahn_code::{Code, Kept, compile};
-use kahn_crew::{CrewFault, Gate, Plan};
+use kahn_crew::CrewFault;
 use kahn_job::Idle;
+use kahn_sequential::{HeldFault, fill, give_watched, lines_of, opening_streams, plan_of};
 use kahn_streams::{
-    Answer, Carried, Config, End, FeedFault, Input, Line, MOST_BOUND, Network, NoMemory, RunFault,
-    Value, Verdict,
+    Answer, Carried, Config, End, FeedFault, Gate, Input, Line, MOST_BOUND, Network, NoMemory,
+    Plan, RunFault, Value, Verdict,
 };
 use std::alloc::Global;
 use std::marker::Model;
@@ -45,7 +44,7 @@ impl<'n> Model for Held<'n> {
     ghost use Rattle.kahn_streams.specs.contracts.tree.Action as action;
     ghost use Rattle.kahn_streams.specs.contracts.tree.Form as form;
     ghost use Rattle.std.specs.Coded.{codes};
-    ghost use Rattle.kahn_pool.specs.HeldRuns.{HeldRun};
+    ghost use Rattle.kahn_sequential.specs.HeldRuns.{HeldRun};
     ghost use Rattle.kahn_pool.specs.inner.Holding.{IsHolding, run_of};
 
     ghost Value = { HeldRun };

@@ -1,18 +1,18 @@
 //! A part of a held run: idle jobs go on, and come to rest again.
 
-ghost use Rattle.std.specs.Prelude.{◌≡◌, ◌↔◌, ℕ, ◌≤◌, ◌<◌, [], Err, Ok, length, map, true, vec_capacity, IfOk, IsOk, OnOk};
-ghost use Rattle.kahn_pool.specs.inner.Below.{NoMemory as Refused, AreResting, HaveSettled, HaveStood, IsOver, cells_of, network_of, rows_of};
-ghost use Rattle.kahn_pool.specs.inner.Holding.{AreHeld, AreHeldBy, HasEnded, HasStoppedPart, HaveAllLeft, IsHeldPart, IsRoomFor, cell_for};
+ghost use Rattle.std.specs.Prelude.{◌≡◌, ◌↔◌, ◌≤◌, ◌<◌, [], Err, Ok, length, map, true, vec_capacity, IfOk, IsOk};
+ghost use Rattle.kahn_pool.specs.inner.Below.{NoMemory as Refused, HaveSettled, IsOver, cells_of, network_of, rows_of};
+ghost use Rattle.kahn_pool.specs.inner.Holding.{AreHeldBy, HasEnded, HasStoppedPart, HaveAllLeft, IsHeldPart, IsRoomFor, cell_for};
 ghost use Rattle.kahn_pool.specs.inner.Rested.{cell_of};
 ghost use Rattle.kahn_streams.specs.declared.answer.Verdict.TheVariants as verdict;
 
 use crate::ends::ends_of;
 use crate::plan::Part;
-use crate::rounds::verdict_of;
 use crate::settle::settle_all;
-use kahn_crew::{CrewFault, Gate, Left, Plan, first_tasks, rest_all, run_tasks, wake_all};
+use kahn_crew::{CrewFault, Left, first_tasks, rest_all, run_tasks, wake_all};
 use kahn_job::{Idle, Task, meet, settle};
-use kahn_streams::{End, NoMemory, Verdict};
+use kahn_sequential::verdict_of;
+use kahn_streams::{End, Gate, NoMemory, Plan, Verdict};
 use std::alloc::Global;
 use std::sync::Wait;
 use std::thread::Threads;

@@ -1,22 +1,21 @@
 //! Runs of a network.
 
 ghost use Rattle.kahn_pool.specs.inner.Below.{IsCutShort, IsInRange, IsRight, IsRightRun, IsUnrun, Settles, inputs_of, network_of};
-ghost use Rattle.kahn_pool.specs.HeldRuns.{IsWant};
-ghost use Rattle.kahn_pool.specs.inner.Workbench.{MayRun, sight_of};
+ghost use Rattle.kahn_sequential.specs.HeldRuns.{IsWant};
+ghost use Rattle.kahn_sequential.specs.inner.Workbench.{MayRun, sight_of};
 ghost use Rattle.kahn_pool.specs.inner.Holding.{IsHandRoomFor};
-ghost use Rattle.kahn_pool.specs.declared.rounds.Round.{Round as RoundOf};
+ghost use Rattle.kahn_sequential.specs.declared.rounds.Round.{Round as RoundOf};
 ghost use Rattle.std.specs.Prelude.{◌≡◌, length, IfOk, MatchResult};
 
-use crate::bench::Bench;
-use crate::laws;
-use crate::one::{QUANTUM, answered, run_on_alone, run_watched};
+use crate::handover::lanes;
 use crate::part::PartRoom;
-use crate::plan::{crew_plan, plan_of};
-use crate::rounds::run_until_wide;
-use crate::streams::room_for_answer;
+use crate::plan::crew_plan;
 use crate::workers::{HandRoom, run_on_workers, run_workers};
-use kahn_crew::{Gate, Plan};
-use kahn_streams::{Answer, Config, Input, Network, NoMemory, RunFault};
+use kahn_sequential::{
+    Bench, QUANTUM, answered, finished_exactly, plan_of, room_for_answer, run_on_alone,
+    run_until_wide, run_watched,
+};
+use kahn_streams::{Answer, Config, Gate, Input, Network, NoMemory, Plan, RunFault};
 use std::alloc::Global;
 use std::marker::Brand;
 use std::sync::Wait;
@@ -45,7 +44,7 @@ fn hand_room(
     let part = PartRoom::new(alloc, network.instances())?;
     let taps = Vec::with_capacity(alloc, network.instances())?;
     Ok(HandRoom {
-        idles: bench.lanes(alloc, input)?,
+        idles: lanes(bench, alloc, input)?,
         part,
         taps,
     })
@@ -137,7 +136,7 @@ pub fn run<R: Threads + Wait + Sync, G: Gate + Sync>(
     ensures short { IfOk result (λ a. config.workers ≡ 1 → IsCutShort config.bound a) }
 {
     let plan = plan_of(network, &config)?;
-    laws::finished_exactly();
+    finished_exactly();
     if plan.workers == 1 {
         return Ok(run_watched(alloc, gate, network, &input, plan)?);
     }

@@ -2,7 +2,7 @@
 
 ghost use Rattle.std.specs.Prelude.{◌≡◌, ◌<◌, ℕ, Some, slice_get};
 ghost use Rattle.kahn_pool.specs.inner.Below.{IsWithinInput, Tasked, end_at};
-ghost use Rattle.kahn_pool.specs.inner.Streams.{HaveChanged};
+ghost use Rattle.kahn_sequential.specs.inner.Streams.{HaveChanged};
 ghost use Rattle.kahn_pool.specs.inner.Rested.{IsLentTo, IsSettledTask, SettlesTo};
 ghost use Rattle.kahn_job.specs.declared.standing.Standing.TheVariants as standing;
 

@@ -2,20 +2,18 @@
 
 ghost use Rattle.std.specs.Prelude.{◌≡◌, ◌<◌, ◌≤◌, [], length, vec_capacity, IfErr, IfOk, MatchResult};
 ghost use Rattle.kahn_pool.specs.inner.Below.{IsInRange, IsLack, IsRight, cells_of, inputs_of, network_of};
-ghost use Rattle.kahn_pool.specs.HeldRuns.{IsWant};
+ghost use Rattle.kahn_sequential.specs.HeldRuns.{IsWant};
 ghost use Rattle.kahn_pool.specs.inner.Holding.{AreHeldBy, HasEnded, IsHandRoomFor};
-ghost use Rattle.kahn_pool.specs.inner.Workbench.{AreKeptOf, AreStreamsReady, IsBenchOf, IsWide};
+ghost use Rattle.kahn_sequential.specs.inner.Workbench.{AreKeptOf, AreStreamsReady, IsBenchOf, IsWide};
 
-use crate::bench::Bench;
-use crate::one::run_on_alone;
+use crate::handover::{hand_over, taken_back};
 use crate::part::{PartRoom, Stopped, first_idles, run_part, run_settled};
 use crate::plan::Part;
-use crate::rounds::Round;
-use crate::streams::{fill, room_for_answer};
 use kahn_code::{Kept, Tap, compile};
-use kahn_crew::{CrewFault, Gate, Plan};
+use kahn_crew::CrewFault;
 use kahn_job::Idle;
-use kahn_streams::{Answer, Input, Network, RunFault, Stream};
+use kahn_sequential::{Bench, Round, fill, room_for_answer, run_on_alone};
+use kahn_streams::{Answer, Gate, Input, Network, Plan, RunFault, Stream};
 use std::alloc::Global;
 use std::sync::Wait;
 use std::thread::Threads;
@@ -120,7 +118,7 @@ pub(crate) fn run_on_workers<R: Threads + Wait + Sync, G: Gate + Sync>(
     requires ready { AreStreamsReady network.now input.now plan.watch streams.items kept.items (vec_capacity kept) }
     ensures { MatchResult result (IsRight (network_of network.now) (inputs_of input.now) plan.bound plan.watch) (IsWant plan.workers) }
 {
-    let (vacant, idles) = bench.hand_over(room.idles);
+    let (vacant, idles) = hand_over(bench, room.idles);
     let part = Part {
         network,
         input,
@@ -130,7 +128,7 @@ pub(crate) fn run_on_workers<R: Threads + Wait + Sync, G: Gate + Sync>(
     };
     let stopped = run_settled(rt, alloc, &part, idles, room.part, gate);
     if let Err(CrewFault::NoMemory) = stopped.outcome {
-        let bench = vacant.taken_back(stopped.idles, room.taps);
+        let bench = taken_back(vacant, stopped.idles, room.taps);
         return Ok(run_on_alone(gate, bench, round, streams, kept, plan));
     }
     Ok(answered(&part, stopped, streams, kept)?)

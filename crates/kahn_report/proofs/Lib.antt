@@ -1,16 +1,3 @@
-pub mod Ends
-pub mod Fresh
-pub mod Parts
-pub mod Words
-pub mod Scanned
-pub mod Lines
-pub mod Answer_lines
-pub mod Kept
-pub mod Told
-pub mod Worked
 pub mod Same_programs
-pub mod Same_inputs
 pub mod Same_reports
 pub mod Sample_spelt
-pub mod Cut
-pub mod Placed

@@ -32,13 +32,13 @@ use Rattle.kahn_streams.specs.declared.answer.Outcome.TheVariants.{Ended, Waits,
 use Rattle.kahn_streams.specs.declared.answer.Stream.{Stream}
 use Rattle.kahn_streams.specs.declared.answer.Verdict.TheVariants.{Finished}
 use Rattle.kahn_streams.specs.Answers.{AreOne, IsRight, stream_line, values_of, IsWatched}
-use Rattle.kahn_pool.proofs.Unique.{finished_is_one}
-use Rattle.kahn_report.specs.Formats as name
-use Rattle.kahn_report.specs.Formats.{text_lines, line_head, stream_text, outcome_word, waited_name, end_words, end_text, ends_text, verdict_text, last_text, report_text}
+use Rattle.kahn_sequential.proofs.Unique.{finished_is_one}
+use Rattle.kahn_texts.specs.Formats as name
+use Rattle.kahn_texts.specs.Formats.{text_lines, line_head, stream_text, outcome_word, waited_name, end_words, end_text, ends_text, verdict_text, last_text, report_text}
 use Rattle.kahn_streams.specs.Written.{line_feed, spaced_text}
-use Rattle.kahn_report.specs.Work.{IsOneReport, watched_name}
+use Rattle.kahn_fault.specs.Work.{IsOneReport, watched_name}
 use Rattle.kahn_report.proofs.Same_programs.{one_network, one_channels, one_processes}
-use Rattle.kahn_report.proofs.Same_inputs.{one_list, one_input}
+use Rattle.kahn_texts.proofs.Same_inputs.{one_list, one_input}
 
 -- ---- one text is one program
 

@@ -1,7 +1,7 @@
 //! Laws of reports. Each function does nothing: its contract is the law.
 
-ghost use Rattle.kahn_report.specs.Formats.{HasItsLines};
-ghost use Rattle.kahn_report.specs.Work.{IsOneReport};
+ghost use Rattle.kahn_texts.specs.Formats.{HasItsLines};
+ghost use Rattle.kahn_fault.specs.Work.{IsOneReport};
 ghost use Rattle.kahn_streams.specs.Answers.{IsRight};
 ghost use Rattle.kahn_streams.specs.Solution.{Inputs};
 ghost use Rattle.kahn_streams.specs.declared.answer.Answer.{Answer};

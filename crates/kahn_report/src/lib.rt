@@ -1,33 +1,20 @@
-//! Texts in and out of a run: the input text, the report text, and reading and writing them.
+//! The whole work: from a program text and an input text to a report, and its laws.
 #![tactic(auto)]
 
-mod entries;
-mod heads;
-mod input;
 mod laws;
-mod made;
-mod names;
-mod news;
-mod pieces;
-mod plain;
-mod read;
-mod several;
-mod values;
 mod working;
-mod write;
 
-pub use input::{TextFault, read_input};
-pub use kahn_write::WriteFault;
+pub use kahn_fault::WorkFault;
+pub use kahn_texts::{
+    ReadFault, TextFault, WriteFault, read_counted, read_input, read_text, write_counted,
+    write_report, write_report_by,
+};
 pub use laws::{one_report, right_lines, sample_text};
-pub use read::{ReadFault, read_counted, read_text};
-pub use several::write_report_by;
-pub use working::{WorkFault, work};
-pub use write::{write_counted, write_report};
+pub use working::work;
 
 // For the crates above.
-pub use entries::{LineFault, MOST_BYTES, read_entries, read_line};
-pub use kahn_write::{write_line, write_line_counted};
-pub use names::{channel_name, process_name};
-pub use news::{write_closing, write_news};
-pub use plain::write_plain;
-pub use working::checked;
+pub use kahn_fault::checked;
+pub use kahn_texts::{
+    LineFault, MOST_BYTES, channel_name, process_name, read_entries, read_line, write_closing,
+    write_line, write_line_counted, write_news, write_plain,
+};

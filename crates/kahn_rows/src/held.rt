@@ -1,7 +1,7 @@
 //! Runs that are cut into parts, with the reports that an independent reading of the language gives them.
 
 ghost use Rattle.std.specs.Prelude.{IsTrue};
-ghost use Rattle.kahn_report.specs.Formats.{HasItsLines, IsLine};
+ghost use Rattle.kahn_texts.specs.Formats.{HasItsLines, IsLine};
 
 use crate::chance::{below, shuffled};
 use crate::gates::Through;

@@ -1,7 +1,7 @@
 //! Texts in and out over readers and writers that fail.
 
 ghost use Rattle.std.specs.Prelude.{Some};
-ghost use Rattle.kahn_report.specs.Formats.{HasItsLines};
+ghost use Rattle.kahn_texts.specs.Formats.{HasItsLines};
 
 use crate::held::network_of;
 use crate::programs::COUNT;

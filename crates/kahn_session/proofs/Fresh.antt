@@ -7,11 +7,11 @@ use Rattle.kahn_streams.specs.declared.value.Line.{Line}
 use Rattle.kahn_streams.specs.declared.value.Value.{Value}
 use Rattle.kahn_streams.specs.declared.token.Token.{Token}
 use Rattle.kahn_streams.specs.Tokens.{token_value}
-use Rattle.kahn_pool.specs.HeldRuns.{HeldRun, so_far}
-use Rattle.kahn_pool.specs.Flows.{AreNew, Flowing, flow_lines}
-use Rattle.kahn_report.specs.News.{more_text, news_text}
-use Rattle.kahn_report.specs.Formats.{IsLine}
-use Rattle.kahn_report.proofs.Answer_lines.{streamed_lines}
+use Rattle.kahn_sequential.specs.HeldRuns.{HeldRun, so_far}
+use Rattle.kahn_sequential.specs.Flows.{AreNew, Flowing, flow_lines}
+use Rattle.kahn_texts.specs.News.{more_text, news_text}
+use Rattle.kahn_texts.specs.Formats.{IsLine}
+use Rattle.kahn_texts.proofs.Answer_lines.{streamed_lines}
 use Rattle.kahn_session.specs.inner.Shown.{values_behind}
 
 -- what is new on one stream

@@ -6,12 +6,12 @@ use Rattle.kahn_streams.specs.Network.{network_of}
 use Rattle.kahn_streams.specs.declared.value.Value.{Value}
 use Rattle.kahn_streams.specs.declared.value.Line.{Line}
 use Rattle.kahn_streams.specs.declared.tree.Program.{Program}
-use Rattle.kahn_pool.specs.HeldRuns.{GoesOn, HeldRun, so_far}
-use Rattle.kahn_pool.specs.Flows.{AreNew, Flowing, flow_lines}
+use Rattle.kahn_sequential.specs.HeldRuns.{GoesOn, HeldRun, so_far}
+use Rattle.kahn_sequential.specs.Flows.{AreNew, Flowing, flow_lines}
 use Rattle.kahn_streams.specs.Tokens.{token_value}
 use Rattle.kahn_streams.specs.declared.token.Token.{Token}
 use Rattle.kahn_streams.specs.Answers.{stream_lines}
-use Rattle.kahn_report.specs.News.{joined}
+use Rattle.kahn_texts.specs.News.{joined}
 use Rattle.kahn_session.specs.Live.{form_text}
 use Rattle.kahn_session.specs.inner.Shown.{OutBegins, news_of, values_behind}
 

@@ -2,8 +2,8 @@
 use Rattle.std.proofs.Common.{arith, ◌≡◌, ◌∙◌, ℕ, zero, suc, ◌+◌, ◌≤◌, List, [], ◌∷◌, MatchResult, Result, Ok, Err, sum_by, refl, sym, ap, subst}
 use Rattle.std.proofs.lemmas.List.Sums.{sum_by-cons}
 use Rattle.std.proofs.Math.Nat.{min-le_left, min-le_right}
-use Rattle.kahn_pool.specs.HeldRuns.{HasResumed, HeldRun, Seen, seen_at, seen_events}
-use Rattle.kahn_pool.specs.Flows.{Flowing, IsUnpoured}
+use Rattle.kahn_sequential.specs.HeldRuns.{HasResumed, HeldRun, Seen, seen_at, seen_events}
+use Rattle.kahn_sequential.specs.Flows.{Flowing, IsUnpoured}
 use Rattle.kahn_streams.proofs.Fed.{not_many, not_memory}
 use Rattle.kahn_streams.specs.Feeds.{IsNotMeant}
 use Rattle.kahn_streams.specs.Inputs.{Entry}

@@ -2,12 +2,12 @@
 use Rattle.std.proofs.Common.{◌≡◌, ◌∙◌, inl, inr, ℕ, ◌+◌, Bool, List, sum_by, Option, refl, sym, ap, subst}
 use Rattle.std.specs.Prelude.{min}
 use Rattle.kahn_streams.specs.declared.value.Value.{Value}
-use Rattle.kahn_pool.specs.HeldRuns.{GoesOn, HeldRun, IsRightSoFar, Seen, seen_events}
-use Rattle.kahn_pool.specs.Flows.{Flowing, flow_lines}
+use Rattle.kahn_sequential.specs.HeldRuns.{GoesOn, HeldRun, IsRightSoFar, Seen, seen_events}
+use Rattle.kahn_sequential.specs.Flows.{Flowing, flow_lines}
 use Rattle.kahn_streams.specs.declared.answer.End.{End}
 use Rattle.kahn_streams.specs.declared.answer.Verdict.{Verdict}
-use Rattle.kahn_pool.proofs.Held_calls.{goes_on_same, goes_on_then}
-use Rattle.kahn_report.specs.News.{joined}
+use Rattle.kahn_sequential.proofs.Held_calls.{goes_on_same, goes_on_then}
+use Rattle.kahn_texts.specs.News.{joined}
 use Rattle.kahn_session.specs.Live.{HasAnswered, IsFedBy}
 use Rattle.kahn_session.specs.Pace.{IsPart, Pace, most_bound, part_bound}
 use Rattle.kahn_session.specs.inner.Shown.{OutBegins, news_of}

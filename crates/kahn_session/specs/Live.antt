@@ -16,8 +16,8 @@ use Rattle.kahn_streams.specs.Feeds.{IsMeant}
 use Rattle.kahn_streams.specs.Inputs.{Entry, inputs_of}
 use Rattle.kahn_streams.specs.Answers.{Settles}
 use Rattle.kahn_chain.specs.Chain.{HasRing, stands}
-use Rattle.kahn_pool.specs.HeldRuns.{GoesOn, HeldRun, IsRightSoFar, IsUnstarted, so_far}
-use Rattle.kahn_pool.specs.Flows.{Flowing, HasFlowed, HasPouredIn, IsUnpoured, flow_lines}
+use Rattle.kahn_sequential.specs.HeldRuns.{GoesOn, HeldRun, IsRightSoFar, IsUnstarted, so_far}
+use Rattle.kahn_sequential.specs.Flows.{Flowing, HasFlowed, HasPouredIn, IsUnpoured, flow_lines}
 use Rattle.kahn_streams.specs.declared.answer.End.{End}
 use Rattle.kahn_streams.specs.declared.answer.Outcome.{Outcome}
 use Rattle.kahn_streams.specs.declared.answer.Outcome.TheVariants.{Faulted, Waits}
@@ -25,10 +25,10 @@ use Rattle.kahn_streams.specs.declared.answer.Verdict.{Verdict}
 use Rattle.kahn_streams.specs.declared.answer.Verdict.TheVariants.{Finished}
 use Rattle.kahn_streams.specs.declared.fault.RunFault.{RunFault}
 use Rattle.kahn_streams.specs.declared.fault.RunFault.TheVariants as fault
-use Rattle.kahn_report.specs.Formats.{AreBlanks, IsEntry, HasNoHead, HasNoValues, content, most_input_bytes, channel_name}
-use Rattle.kahn_report.specs.News.{closing_text, joined, news_text, plain_text}
+use Rattle.kahn_texts.specs.Formats.{AreBlanks, IsEntry, HasNoHead, HasNoValues, content, most_input_bytes, channel_name}
+use Rattle.kahn_texts.specs.News.{closing_text, joined, news_text, plain_text}
 use Rattle.kahn_streams.specs.Written.{AppendsFront}
-use Rattle.kahn_write.specs.declared.bytes.WriteFault.{WriteFault}
+use Rattle.kahn_texts.specs.declared.bytes.WriteFault.{WriteFault}
 use Rattle.kahn_session.specs.Pace.{events_of, part_bound}
 use Rattle.kahn_session.specs.declared.fault.TakeFault.{TakeFault}
 use Rattle.kahn_session.specs.declared.fault.TakeFault.TheVariants.{TooLong, NotUtf8, BadLine, BadValue, Feed, NoMemory, Write}

@@ -3,8 +3,8 @@ use Rattle.std.specs.Prelude.{◌≡◌, ◌⊎◌, ◌<◌, ℕ, ◌+◌, ◌-�
 use Rattle.kahn_streams.specs.Network.{network_of}
 use Rattle.kahn_streams.specs.Inputs.{inputs_of}
 use Rattle.kahn_streams.specs.Answers.{Settles}
-use Rattle.kahn_pool.specs.HeldRuns.{GoesOn, HeldRun, seen_events}
-use Rattle.kahn_pool.specs.Flows.{Flowing}
+use Rattle.kahn_sequential.specs.HeldRuns.{GoesOn, HeldRun, seen_events}
+use Rattle.kahn_sequential.specs.Flows.{Flowing}
 use Rattle.kahn_streams.specs.declared.answer.Verdict.{Verdict}
 
 pub record Pace : Type 0 where

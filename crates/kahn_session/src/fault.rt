@@ -3,8 +3,8 @@
 ghost use Rattle.std.specs.Prelude.{◌≡◌};
 ghost use Rattle.kahn_session.specs.Live.{breaks};
 
-use kahn_report::WriteFault;
 use kahn_streams::FeedFault;
+use kahn_texts::WriteFault;
 use thiserror::Error;
 
 /// Why a line of input isn't taken. After each but `Write` the session goes on with the next line.

@@ -1,14 +1,14 @@
 //! What a line of input feeds.
 
 ghost use Rattle.std.specs.Prelude.{◌≡◌, MatchResult};
-ghost use Rattle.kahn_pool.specs.Flows.{Flowing};
-ghost use Rattle.kahn_report.specs.Formats.{IsReadLine, content};
+ghost use Rattle.kahn_sequential.specs.Flows.{Flowing};
+ghost use Rattle.kahn_texts.specs.Formats.{IsReadLine, content};
 ghost use Rattle.kahn_session.specs.Live.{IsFedBy, IsMeantLine, IsText, IsUnfedBy};
 
 use crate::fault::TakeFault;
 use crate::pace::Paced;
-use kahn_report::{LineFault, MOST_BYTES, read_line};
 use kahn_streams::{Network, Value, channel_meant};
+use kahn_texts::{LineFault, MOST_BYTES, read_line};
 use std::alloc::Global;
 use std::str;
 

@@ -1,13 +1,16 @@
 //! A run that is fed as it goes, each part of which may take so many events.
 
 ghost use Rattle.std.specs.Prelude.{◌≡◌, ◌↔◌, ℕ, ◌+◌, Some, IfErr, IfOk, IsTrue, MatchResult};
-ghost use Rattle.kahn_pool.specs.HeldRuns.{IsLineOf, IsRightSoFar, IsUnstarted};
+ghost use Rattle.kahn_sequential.specs.HeldRuns.{IsLineOf, IsRightSoFar, IsUnstarted};
 ghost use Rattle.kahn_streams.specs.declared.answer.Verdict.{Verdict as VerdictOf};
-ghost use Rattle.kahn_pool.specs.Flows.{AreNew, HasFlowed, HasLetGo, HasPouredIn, IsUnpoured, flow_lines};
+ghost use Rattle.kahn_sequential.specs.Flows.{AreNew, HasFlowed, HasLetGo, HasPouredIn, IsUnpoured, flow_lines};
 ghost use Rattle.kahn_session.specs.Pace.{IsPart, MayBeSlow, events_of, part_bound};
 
-use kahn_pool::{Config, End, Flow, Gate, MOST_BOUND, RunFault, Verdict};
-use kahn_streams::{Carried, FeedFault, Input, Line, Network, NoMemory, Value};
+use kahn_sequential::Flow;
+use kahn_streams::{
+    Carried, Config, End, FeedFault, Gate, Input, Line, MOST_BOUND, Network, NoMemory, RunFault,
+    Value, Verdict,
+};
 use std::alloc::Global;
 use std::marker::Model;
 

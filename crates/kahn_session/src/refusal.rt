@@ -8,8 +8,8 @@ ghost use Rattle.kahn_session.specs.Refusals.{alike_text, alone_line, alone_text
 use crate::fault::TakeFault;
 use itoa::Buffer;
 use kahn_marks::shown_part;
-use kahn_report::{WriteFault, process_name, write_line};
 use kahn_streams::{Failure, FeedFault, Network};
+use kahn_texts::{WriteFault, process_name, write_line};
 use std::io::Write;
 
 /// The number of each line of `--at-end`. No line of the input has it.

@@ -3,9 +3,9 @@
 ghost use Rattle.std.specs.Prelude.{◌≡◌, ◌↔◌, ◌&&◌, not, ℕ, List, Some, false, slice_index_or, true, [], IsTrue, MatchOption, MatchResult, option_copied};
 ghost use Rattle.std.specs.List.{list_any};
 ghost use Rattle.kahn_streams.specs.Network.{network_of};
-ghost use Rattle.kahn_pool.specs.Flows.{flow_lines};
-ghost use Rattle.kahn_report.specs.Formats.{channel_name};
-ghost use Rattle.kahn_report.specs.News.{news_text, plain_text};
+ghost use Rattle.kahn_sequential.specs.Flows.{flow_lines};
+ghost use Rattle.kahn_texts.specs.Formats.{channel_name};
+ghost use Rattle.kahn_texts.specs.News.{news_text, plain_text};
 ghost use Rattle.kahn_streams.specs.Written.{Writes};
 ghost use Rattle.kahn_session.specs.Live.{HasOpened, IsClosed, IsDeaf, IsFaulty, IsFirstFault, IsFirstInput, IsMeantLine, IsOtherInput, HasVerdict, IsNamedAt, IsNamedLine, IsRinged, IsStreamOf, IsStuck, IsTakenLine, IsUnfedBy, IsUnopened, breaks, first_faulted, form_text, is_finished, is_input, is_other_input, is_stuck, is_waiting, waits_on_input, wants_input};
 ghost use Rattle.kahn_session.specs.Pace.{MayBeSlow};
@@ -15,9 +15,10 @@ use crate::fault::TakeFault;
 use crate::feeding::{feed_line, line_meant};
 use crate::pace::Paced;
 use kahn_chain::has_ring;
-use kahn_pool::{Config, End, Gate, Outcome, RunFault, Verdict};
-use kahn_report::{WriteFault, channel_name, write_closing, write_news, write_plain};
-use kahn_streams::{Failure, Input, Line, Network, Role};
+use kahn_streams::{
+    Config, End, Failure, Gate, Input, Line, Network, Outcome, Role, RunFault, Verdict,
+};
+use kahn_texts::{WriteFault, channel_name, write_closing, write_news, write_plain};
 use std::alloc::Global;
 use std::io::Write;
 use std::marker::Model;
@@ -42,7 +43,7 @@ impl<'n> Model for Session<'n> {
     ghost use Rattle.kahn_streams.specs.contracts.tree.Form as form;
     ghost use Rattle.std.specs.Coded.{codes};
     ghost use Rattle.std.specs.Prelude.{◌≡◌};
-    ghost use Rattle.kahn_pool.specs.Flows.{flow_lines};
+    ghost use Rattle.kahn_sequential.specs.Flows.{flow_lines};
     ghost use Rattle.kahn_session.specs.Live.{Live};
     ghost use Rattle.kahn_session.specs.inner.Shown.{IsFirstOf};
 

@@ -42,6 +42,13 @@ mapped f [] (suc c) x h = cc
 mapped f (y ∷ ys) zero x h = let same : y ≡ x = cc in ap (λ z. Some (f z)) same
 mapped f (y ∷ ys) (suc c) x h = mapped f ys c x h
 
+-- what stands in the image is the image of what stands there
+pub mapped_at : {A B : Type 0} (f : A → B) (xs : List A) (c : ℕ) (y : B) → slice_get (map f xs) c ≡ Some y → (x : A) × (slice_get xs c ≡ Some x) × (y ≡ f x)
+mapped_at f [] zero y h = cc
+mapped_at f [] (suc c) y h = cc
+mapped_at f (x ∷ xs) zero y h = let same : f x ≡ y = cc in (x, refl, sym same)
+mapped_at f (x ∷ xs) (suc c) y h = mapped_at f xs c y h
+
 -- ---- a process by its name
 
 skip_names : (x : List ℕ) (kind : Kind) (role : Role) (p : Process) (xs : List Name) (rest : Table) → lookup (bytes_eq x) (entries (as_channels kind role xs) ++ rest) ≡ Some (IsProcess p) →

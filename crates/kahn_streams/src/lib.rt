@@ -1,5 +1,5 @@
 //! What a program means, and what must be believed of it: the tree of its text, its abstract syntax, the network, values, and the least
-//! solution of the network's equations, with its laws; tokens, inputs, configurations and answers. Refused memory and a counter of steps
+//! solution of the network's equations, with its laws; tokens, inputs, configurations, gates and answers. Refused memory and a counter of steps
 //! are here too, since every crate above needs them.
 #![tactic(auto)]
 
@@ -10,11 +10,13 @@ mod config;
 mod entries;
 mod fault;
 mod feeds;
+mod gate;
 mod input;
 mod laws;
 mod memory;
 mod network;
 mod numbers;
+mod plan;
 mod prints;
 mod sides;
 mod span;
@@ -44,9 +46,11 @@ pub use answer::{Answer, End, Outcome, Stream, Verdict};
 pub use config::{Config, MOST_BOUND, MOST_QUANTUM, MOST_WORKERS};
 pub use entries::channel_named;
 pub use feeds::channel_meant;
+pub use gate::{Gate, Open};
 pub use laws::{fit, served, sources};
 pub use network::{Channel, Network, NetworkInstance, kept};
 pub use numbers::Numbered;
+pub use plan::Plan;
 pub use prints::{declaration_prints, process_prints};
 pub use sides::Side;
 pub use span::Span;

@@ -1,7 +1,7 @@
 -- What was written as the reason of a page.
 use Rattle.std.proofs.Common.{◌≡◌, ℕ, false, List, [], ◌++◌, Option, Some, None, Ok, IfSome, codes, inl, inr, string_bytes, subst, sym}
 use Rattle.kahn_streams.specs.declared.answer.Answer.{Answer}
-use Rattle.kahn_report.specs.Work.{IsChecked}
+use Rattle.kahn_fault.specs.Work.{IsChecked}
 use Rattle.kahn_why.specs.Refusing.{AreAllowed, IsRefusedFor}
 use Rattle.kahn_why.specs.Why.{IsExplained}
 use Rattle.kahn_why.specs.inner.Told.{HasRefused, HasWritten}

@@ -4,7 +4,7 @@ use Rattle.kahn_streams.specs.declared.tree.Program.{Program}
 use Rattle.kahn_streams.specs.declared.config.Config.{Config}
 use Rattle.kahn_streams.specs.declared.answer.Answer.{Answer}
 use Rattle.kahn_streams.specs.Answers.{IsRightRun}
-use Rattle.kahn_report.specs.Formats.{StandsFor}
+use Rattle.kahn_texts.specs.Formats.{StandsFor}
 use Rattle.kahn_streams.specs.Inputs.{Lists}
 
 -- one worker with a quantum of a thousand events, which watches no channel

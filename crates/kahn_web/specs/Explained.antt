@@ -2,9 +2,9 @@
 use Rattle.std.specs.Prelude.{◌≡◌, ℕ, ◌⊎◌, ◌++◌, List, [], Some, Ok, codes, false, string_bytes}
 use Rattle.kahn_streams.specs.declared.tree.Program.{Program}
 use Rattle.kahn_streams.specs.declared.answer.Answer.{Answer}
-use Rattle.kahn_report.specs.Formats.{IsInputTextFault}
-use Rattle.kahn_report.specs.Work.{IsChecked}
-use Rattle.kahn_report.specs.declared.input.TextFault.{TextFault}
+use Rattle.kahn_texts.specs.Formats.{IsInputTextFault}
+use Rattle.kahn_fault.specs.Work.{IsChecked}
+use Rattle.kahn_texts.specs.declared.input.TextFault.{TextFault}
 use Rattle.kahn_why.specs.Refusing.{AreAllowed, IsRefusedFor}
 use Rattle.kahn_why.specs.Telling.{HasToldInput}
 use Rattle.kahn_why.specs.Why.{IsExplained}

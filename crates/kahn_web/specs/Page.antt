@@ -6,8 +6,8 @@ use Rattle.kahn_streams.specs.declared.answer.Verdict.{Verdict}
 use Rattle.kahn_fault.specs.declared.fault.Fault.{Fault}
 use Rattle.kahn_fault.specs.declared.fault.Fault.TheVariants.{Open, Program, InputText, Work}
 use Rattle.kahn_fault.specs.Status.{status_of}
-use Rattle.kahn_write.specs.declared.bytes.WriteFault.{WriteFault}
-use Rattle.kahn_report.specs.Work.{IsWorked}
+use Rattle.kahn_texts.specs.declared.bytes.WriteFault.{WriteFault}
+use Rattle.kahn_fault.specs.Work.{IsWorked}
 use Rattle.kahn_streams.specs.Written.{Writes}
 use Rattle.kahn_fault.specs.Telling.{told_text}
 use Rattle.kahn_web.specs.Alone.{alone}

@@ -2,7 +2,7 @@
 use Rattle.std.specs.Prelude.{◌≡◌, ℕ, ◌⊎◌, List, []}
 use Rattle.kahn_streams.specs.declared.tree.Program.{Program}
 use Rattle.kahn_graph.specs.Graph.{IsPicture}
-use Rattle.kahn_report.specs.Work.{IsChecked}
+use Rattle.kahn_fault.specs.Work.{IsChecked}
 use Rattle.kahn_web.specs.Page.{IsPut}
 
 -- a picture of the network of the text

@@ -3,8 +3,8 @@
 ghost use Rattle.std.specs.Prelude.{IfSome, string_bytes};
 ghost use Rattle.kahn_web.specs.Picture.{IsNetworkPicture};
 
+use kahn_fault::checked;
 use kahn_graph::picture_text;
-use kahn_report::checked;
 use std::alloc::Global;
 
 /// The picture of a program's network. There is none where the text isn't UTF-8, where the program is refused, and where memory is.

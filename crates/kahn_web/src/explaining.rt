@@ -1,15 +1,16 @@
 //! Why a run stopped, or a program or an input is refused, for texts that are bytes.
 
 ghost use Rattle.std.specs.Prelude.{IfSome, codes, false, string_bytes};
-ghost use Rattle.kahn_report.specs.Work.{IsChecked};
-ghost use Rattle.kahn_report.specs.Formats.{IsInputTextFault};
+ghost use Rattle.kahn_fault.specs.Work.{IsChecked};
+ghost use Rattle.kahn_texts.specs.Formats.{IsInputTextFault};
 ghost use Rattle.kahn_why.specs.Refusing.{AreAllowed};
 ghost use Rattle.kahn_web.specs.Alone.{IsRunAlone};
 ghost use Rattle.kahn_web.specs.Explained.{IsReason, IsInputRefused, IsRunExplained};
 
 use crate::alone::answered;
-use kahn_pool::Answer;
-use kahn_report::{TextFault, WorkFault, read_input};
+use kahn_fault::WorkFault;
+use kahn_streams::Answer;
+use kahn_texts::{TextFault, read_input};
 use kahn_why::{Admitted, Came, admit, explained_each, refuse_input, write_both};
 use std::alloc::Global;
 

@@ -15,8 +15,8 @@ use Rattle.kahn_syntax.specs.Texts.{IsTextFault}
 use Rattle.kahn_fault.specs.Message.{syntax_span}
 use Rattle.kahn_marks.specs.declared.rendering.Note.{Note}
 use Rattle.kahn_notes.specs.Notes.{IsNoteAt, Mends}
-use Rattle.kahn_report.specs.Work.{IsParsed}
-use Rattle.kahn_report.specs.declared.working.WorkFault.TheVariants.{Check, Syntax}
+use Rattle.kahn_fault.specs.Work.{IsParsed}
+use Rattle.kahn_fault.specs.declared.work.WorkFault.TheVariants.{Check, Syntax}
 use Rattle.kahn_why.specs.Refusing.{IsNoteOn, IsPlacedNote, IsRefusal, IsRefusedWords, IsSyntaxNote, IsSyntaxRefusal, expected_of}
 use Rattle.kahn_why.specs.Noting.{AreFaultLines}
 

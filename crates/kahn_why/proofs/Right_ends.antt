@@ -3,7 +3,7 @@ use Rattle.std.proofs.Common.{List, ℕ}
 use Rattle.kahn_streams.specs.declared.config.Config.{Config}
 use Rattle.kahn_streams.specs.declared.tree.Program.{Program}
 use Rattle.kahn_streams.specs.Inputs.{Lists, inputs_of}
-use Rattle.kahn_report.specs.Work.{IsChecked}
+use Rattle.kahn_fault.specs.Work.{IsChecked}
 use Rattle.kahn_streams.specs.Network.{network_of}
 use Rattle.kahn_chain.specs.Chain.{AreStandings}
 use Rattle.kahn_chain.proofs.Standing_ends.{stand}

@@ -2,10 +2,10 @@
 use Rattle.std.proofs.Common.{ℕ, List, Option, Some, Result, Err, inl, inr, refl, string_bytes, subst, sym}
 use Rattle.std.specs.declared.alloc.Global.{Global}
 use Rattle.std.specs.declared.string.String.{String}
-use Rattle.kahn_report.specs.Work.{IsUnchecked}
-use Rattle.kahn_report.specs.declared.input.TextFault.{TextFault}
-use Rattle.kahn_report.specs.declared.working.WorkFault.{WorkFault}
-use Rattle.kahn_report.specs.declared.working.WorkFault.TheVariants.{Syntax, Check, Text, Run, Write}
+use Rattle.kahn_fault.specs.Work.{IsUnchecked}
+use Rattle.kahn_texts.specs.declared.input.TextFault.{TextFault}
+use Rattle.kahn_fault.specs.declared.work.WorkFault.{WorkFault}
+use Rattle.kahn_fault.specs.declared.work.WorkFault.TheVariants.{Syntax, Check, Text, Run, Write}
 use Rattle.kahn_why.specs.Telling.{HasToldInput, IsNoteFor}
 use Rattle.kahn_why.specs.inner.Told.{HasWritten}
 use Rattle.kahn_why.specs.declared.explaining.Came.{Came}

@@ -22,7 +22,7 @@ use Rattle.kahn_streams.specs.declared.tree.Program.{Program}
 use Rattle.kahn_streams.specs.Syntax.{Number}
 use Rattle.kahn_streams.specs.View.{Scope, bytes_of}
 use Rattle.kahn_streams.specs.Network.{Actual, Reads, Writes, Hands, IsOnly, IsReader, IsWithin, actuals_of, channel_names, instance_at, instance_from, network_of, process_of}
-use Rattle.kahn_report.specs.Formats.{process_name}
+use Rattle.kahn_texts.specs.Formats.{process_name}
 use Rattle.kahn_why.specs.inner.Waits.{action_waits, body_waits, form_waits, handed_waits, instance_waits, is_reading, operand_waits, row_waits, process_waits}
 
 abbrev pub in_operand : List ℕ → Operand → List Span

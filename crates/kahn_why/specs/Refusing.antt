@@ -10,13 +10,13 @@ use Rattle.kahn_check.specs.Parts.{faults_by_part}
 use Rattle.kahn_syntax.specs.declared.fault.What.{What}
 use Rattle.kahn_syntax.specs.declared.fault.SyntaxFault.{SyntaxFault}
 use Rattle.kahn_syntax.specs.declared.fault.SyntaxFault.TheVariants.{Expected}
-use Rattle.kahn_report.specs.declared.working.WorkFault.{WorkFault}
-use Rattle.kahn_report.specs.declared.working.WorkFault.TheVariants.{Syntax, Check, Text, Run, Write}
+use Rattle.kahn_fault.specs.declared.work.WorkFault.{WorkFault}
+use Rattle.kahn_fault.specs.declared.work.WorkFault.TheVariants.{Syntax, Check, Text, Run, Write}
 use Rattle.kahn_fault.specs.Message.{check_span, syntax_span, syntax_words}
 use Rattle.kahn_marks.specs.Notes.{IsRendered}
 use Rattle.kahn_marks.specs.declared.rendering.Note.{Note}
 use Rattle.kahn_notes.specs.Notes.{IsNoteAt, Mends}
-use Rattle.kahn_report.specs.Work.{IsChecked, IsParsed, IsUnchecked}
+use Rattle.kahn_fault.specs.Work.{IsChecked, IsParsed, IsUnchecked}
 use Rattle.kahn_why.specs.Noting.{AreFaultLines, AreWarningLines}
 
 -- the place and the reason, where a lexeme can't stand or the text ends too early

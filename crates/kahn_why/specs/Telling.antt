@@ -5,11 +5,11 @@ use Rattle.std.specs.declared.string.String.{String}
 use Rattle.std.specs.Io.KnownBytes.{Appends}
 use Rattle.kahn_streams.specs.declared.tree.Program.{Program}
 use Rattle.kahn_streams.specs.declared.fault.RunFault.TheVariants.{NoMemory}
-use Rattle.kahn_report.specs.Work.{IsChecked, IsUnchecked}
+use Rattle.kahn_fault.specs.Work.{IsChecked, IsUnchecked}
 use Rattle.kahn_streams.specs.Written.{AppendsFront}
-use Rattle.kahn_report.specs.declared.input.TextFault.{TextFault}
-use Rattle.kahn_report.specs.declared.working.WorkFault.{WorkFault}
-use Rattle.kahn_report.specs.declared.working.WorkFault.TheVariants.{Syntax, Check, Text, Run, Write}
+use Rattle.kahn_texts.specs.declared.input.TextFault.{TextFault}
+use Rattle.kahn_fault.specs.declared.work.WorkFault.{WorkFault}
+use Rattle.kahn_fault.specs.declared.work.WorkFault.TheVariants.{Syntax, Check, Text, Run, Write}
 use Rattle.kahn_inputs.specs.Feeding.{IsInputNote}
 use Rattle.kahn_marks.specs.declared.rendering.Note.{Note}
 use Rattle.kahn_why.specs.Refusing.{IsRenderedAs}

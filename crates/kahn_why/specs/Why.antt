@@ -17,7 +17,7 @@ use Rattle.kahn_streams.specs.declared.answer.Verdict.{Verdict}
 use Rattle.kahn_streams.specs.declared.tree.Program.{Program}
 use Rattle.kahn_chain.specs.Reasons.{AreReasons, IsReasonFor}
 use Rattle.kahn_chain.specs.declared.reason.Reason.{Reason}
-use Rattle.kahn_report.specs.Formats.{last_text}
+use Rattle.kahn_texts.specs.Formats.{last_text}
 use Rattle.kahn_why.specs.declared.why.told.Explanation.{Explanation}
 use Rattle.kahn_why.specs.declared.why.told.Told.{Told}
 use Rattle.kahn_why.specs.declared.why.told.Told.TheVariants.{Fault, Deadlock, Stop}

@@ -1,14 +1,15 @@
 //! What explaining comes to: from a program text to its network, or to why it is refused.
 
 ghost use Rattle.std.specs.Prelude.{◌≡◌, ◌++◌, Bool};
-ghost use Rattle.kahn_report.specs.Work.{IsUnchecked};
+ghost use Rattle.kahn_fault.specs.Work.{IsUnchecked};
 ghost use Rattle.kahn_why.specs.inner.Told.{HasAdmitted, HasRefused, HasWritten, IsStrictAbout};
 
 use crate::noting::warned_lines;
 use crate::refusing::refusal_note;
 use crate::why::Told;
-use kahn_report::{WorkFault, checked, write_line};
+use kahn_fault::{WorkFault, checked};
 use kahn_streams::{Network, NoMemory, RunFault};
+use kahn_texts::write_line;
 use std::alloc::Global;
 use std::io::Write;
 

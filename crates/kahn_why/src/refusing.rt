@@ -1,17 +1,16 @@
 //! Why a program text is refused, as a note on the place.
 
 ghost use Rattle.std.specs.Prelude.{◌≡◌, IfOk, MatchOption, None, string_bytes};
-ghost use Rattle.kahn_report.specs.Work.{IsUnchecked};
+ghost use Rattle.kahn_fault.specs.Work.{IsUnchecked};
 ghost use Rattle.kahn_syntax.specs.Texts.{IsTextFault as IsSyntaxFault};
 ghost use Rattle.kahn_fault.specs.Message.{check_span};
 ghost use Rattle.kahn_why.specs.Refusing.{IsNoteOn, IsPlacedNote, IsRefusal, IsRefusedWords, IsRenderedAs, IsSyntaxNote, IsSyntaxRefusal, expected_of};
 
 use crate::noting::faults_note;
 use kahn_check::{CheckFault, every, part_by_part};
-use kahn_fault::{check_span, syntax_span, syntax_words};
+use kahn_fault::{WorkFault, check_span, syntax_span, syntax_words};
 use kahn_marks::{Note, render};
 use kahn_notes::{character_help, commented_note, unexpected_note};
-use kahn_report::WorkFault;
 use kahn_streams::{NoMemory, Span};
 use kahn_syntax::{SyntaxFault, What, parse};
 use kahn_wanted::comments_of;

@@ -5,9 +5,10 @@ ghost use Rattle.kahn_why.specs.Telling.{AreInputLines, HasToldInput};
 
 use crate::explaining::{Came, write_both};
 use crate::refusing::rendered;
+use kahn_fault::{WorkFault, checked};
 use kahn_inputs::input_note;
-use kahn_report::{TextFault, WorkFault, checked};
 use kahn_streams::{Network, NoMemory, RunFault};
+use kahn_texts::TextFault;
 use std::alloc::Global;
 use std::io::Write;
 

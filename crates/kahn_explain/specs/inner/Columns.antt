@@ -10,9 +10,9 @@ use Rattle.kahn_streams.specs.Answers.{HasStream, values_of}
 use Rattle.kahn_streams.specs.declared.answer.Answer.{Answer}
 use Rattle.kahn_streams.specs.declared.answer.Stream.{Stream}
 use Rattle.kahn_streams.specs.declared.answer.Verdict.{Verdict}
-use Rattle.kahn_pool.specs.Recordings.{IsRecordedRun}
-use Rattle.kahn_pool.specs.declared.recorded.Recorded.{Recorded}
-use Rattle.kahn_report.specs.Formats.{StandsFor}
+use Rattle.kahn_sequential.specs.Recordings.{IsRecordedRun}
+use Rattle.kahn_sequential.specs.declared.recorded.Recorded.{Recorded}
+use Rattle.kahn_texts.specs.Formats.{StandsFor}
 use Rattle.kahn_explain.specs.Histories.{IsHistory, all_channels, column_line}
 use Rattle.kahn_explain.specs.declared.tracing.column.Column.{Column}
 

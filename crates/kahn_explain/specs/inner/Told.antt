@@ -1,6 +1,6 @@
 -- Inner. What the parts of explaining and tracing do.
 use Rattle.std.specs.Prelude.{ℕ, Bool, List, Option, Result}
-use Rattle.kahn_report.specs.declared.working.WorkFault.{WorkFault}
+use Rattle.kahn_fault.specs.declared.work.WorkFault.{WorkFault}
 use Rattle.kahn_streams.specs.declared.config.Config.{Config}
 use Rattle.kahn_why.specs.inner.Told.{IsAdmitted}
 use Rattle.kahn_why.specs.declared.explaining.Admitted.{Admitted}

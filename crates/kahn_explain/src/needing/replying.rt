@@ -13,10 +13,11 @@ use crate::needing::asked::Asked;
 use crate::needing::rows::table_of;
 use crate::needing::texts::{found_end, found_text};
 use crate::tracing::histories_of;
+use kahn_fault::WorkFault;
 use kahn_needs::{Found, Seeker};
 use kahn_pool::{Config, RunFault, Verdict};
-use kahn_report::{WorkFault, read_input};
 use kahn_streams::{Input, Line, Network, NoMemory};
+use kahn_texts::read_input;
 use std::alloc::Global;
 
 /// What is told, and how the search for it ended.

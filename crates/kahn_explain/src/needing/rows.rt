@@ -13,8 +13,8 @@ use crate::tracing::add_value;
 use itoa::Buffer;
 use kahn_marks::add;
 use kahn_needs::{Found, Needs, Seeker};
-use kahn_report::channel_name;
 use kahn_streams::{Input, Line, Network, NoMemory};
+use kahn_texts::channel_name;
 use std::alloc::{AllocError, Global};
 
 /// Adds a number behind a comma.

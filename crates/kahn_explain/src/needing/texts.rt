@@ -4,15 +4,15 @@ ghost use Rattle.std.specs.Prelude.{◌≡◌, ◌<◌, ◌+◌, ◌++◌, ◌^�
 ghost use Rattle.kahn_explain.specs.Needing.{behind, column_length, needed_count, event_count, end_count, needed_events, found_end, found_words, name_of_line, of_all, or_none, place_name, cell_separator, value_count, needed_values};
 ghost use Rattle.kahn_streams.specs.declared.value.Line.TheVariants.{Print};
 ghost use Rattle.kahn_needs.specs.declared.needs.Found.TheVariants.{Needs as FoundNeeds};
-ghost use Rattle.kahn_report.specs.Formats.{IsLine};
+ghost use Rattle.kahn_texts.specs.Formats.{IsLine};
 
 use crate::tracing::{Traced, add_value};
 use itoa::Buffer;
 use kahn_marks::add;
 use kahn_needs::{Found, Needs};
 use kahn_pool::{Answer, Verdict};
-use kahn_report::{channel_name, process_name};
 use kahn_streams::{Line, Network};
+use kahn_texts::{channel_name, process_name};
 use std::alloc::{AllocError, Global};
 
 /// Adds the number and the name of a process.

@@ -3,11 +3,11 @@
 ghost use Rattle.std.specs.Prelude.{◌≡◌, IfOk, MatchOption, MatchResult};
 ghost use Rattle.kahn_streams.specs.Answers.{HasStream};
 ghost use Rattle.kahn_streams.specs.declared.fault.RunFault.TheVariants.{NoMemory as Wants};
-ghost use Rattle.kahn_report.specs.declared.working.WorkFault.TheVariants.{Run};
+ghost use Rattle.kahn_fault.specs.declared.work.WorkFault.TheVariants.{Run};
 ghost use Rattle.kahn_explain.specs.inner.Columns.{HasLine, IsColumnOf, HasValuesOf};
 
+use kahn_fault::WorkFault;
 use kahn_pool::{Answer, RunFault, Stream};
-use kahn_report::WorkFault;
 use kahn_streams::{Line, NoMemory, Value};
 use std::alloc::Global;
 

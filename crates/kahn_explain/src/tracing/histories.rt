@@ -1,15 +1,15 @@
 //! The histories of all channels.
 
 ghost use Rattle.std.specs.Prelude.{All, IfOk, MatchResult};
-ghost use Rattle.kahn_report.specs.Formats.{IsLine};
+ghost use Rattle.kahn_texts.specs.Formats.{IsLine};
 ghost use Rattle.kahn_explain.specs.Histories.{IsTraced, IsUntraced, unwatched};
 ghost use Rattle.kahn_explain.specs.inner.Columns.{AreOfChannels, IsTextRecorded};
 
 use crate::tracing::column::Column;
 use crate::tracing::prints::add_prints;
 use crate::tracing::recorded::{channel_column, recorded, unwatched};
+use kahn_fault::WorkFault;
 use kahn_pool::{Answer, Config, Recorded, RunFault};
-use kahn_report::WorkFault;
 use kahn_streams::Network;
 use std::alloc::Global;
 

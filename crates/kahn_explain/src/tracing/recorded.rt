@@ -4,14 +4,15 @@ ghost use Rattle.std.specs.Prelude.{◌≡◌, ◌<◌, MatchResult, false, leng
 ghost use Rattle.kahn_streams.specs.Answers.{is_output};
 ghost use Rattle.kahn_streams.specs.Network.{network_of, role_at};
 ghost use Rattle.kahn_streams.specs.declared.value.Line.TheVariants.{Channel};
-ghost use Rattle.kahn_report.specs.Work.{IsUnanswered};
+ghost use Rattle.kahn_fault.specs.Work.{IsUnanswered};
 ghost use Rattle.kahn_explain.specs.Histories.{IsUntraced, unwatched};
 ghost use Rattle.kahn_explain.specs.inner.Columns.{IsHistoryOf, IsTextRecorded};
 
 use crate::tracing::column::{Column, column_of, line_column};
+use kahn_fault::WorkFault;
 use kahn_pool::{Config, Recorded, RunFault, run_recorded};
-use kahn_report::{WorkFault, read_input};
 use kahn_streams::{Line, Network, Role};
+use kahn_texts::read_input;
 use std::alloc::Global;
 
 /// The same without a watched channel.

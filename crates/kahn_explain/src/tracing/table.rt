@@ -1,15 +1,15 @@
 //! The text of a table: a column for each line, and a row for each place.
 
 ghost use Rattle.std.specs.Prelude.{◌≡◌, ◌<◌, ◌++◌, All, IfOk, codes, flat_map, length, string_bytes};
-ghost use Rattle.kahn_report.specs.Formats.{IsLine};
+ghost use Rattle.kahn_texts.specs.Formats.{IsLine};
 ghost use Rattle.kahn_streams.specs.Written.{value_text};
 ghost use Rattle.kahn_explain.specs.Table.{cell_text, cells_text, head_row, head_text, heads_text, longest, row_text, place_rows, trace_text};
 
 use crate::tracing::column::Column;
 use itoa::Buffer;
 use kahn_marks::add;
-use kahn_report::{channel_name, process_name};
 use kahn_streams::{Line, Network, Value};
+use kahn_texts::{channel_name, process_name};
 use std::alloc::{AllocError, Global};
 
 /// Adds what heads the column of a line.

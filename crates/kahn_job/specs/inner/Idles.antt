@@ -1,6 +1,6 @@
 -- Inner. Jobs on which nobody works, and jobs before their first event.
 use Rattle.std.specs.Prelude.{◌≡◌, ◌≤◌, ◌^◌}
-use Rattle.kahn_job.specs.inner.Words.{ℕ, Tapped, true, false, List, [], length, map, replicate, Option, None, Some, slice_get, slice_set, slice_index_or, Program, Side, Inner, Input, Output, Actual, Hands, Reads, Waiting, Writes, given_of, taken_of, network_of, instance_at, actual_at, role_at, AreInputsExtended, Lists, inputs_of, is_output, lane_name, Told, IsAt}
+use Rattle.kahn_job.specs.inner.Words.{ℕ, Tapped, true, false, List, [], length, map, replicate, Option, None, Some, slice_get, slice_set, slice_index_or, Program, Side, Inner, Input, Output, Actual, Hands, Reads, Waiting, Writes, given_of, taken_of, network_of, instance_at, actual_at, role_at, AreInputsExtended, Lists, inputs_of, is_output, lane_name, Told, IsAt, IsOpening}
 use Rattle.kahn_job.specs.inner.Ends.{End, IsFlushed, ShareLane}
 use Rattle.kahn_job.specs.inner.Berths.{AreServed, AreJoinedOn, HaveStayed, Serves, end_at, end_in}
 use Rattle.kahn_job.specs.inner.Settling.{AreResting}
@@ -85,18 +85,6 @@ AreEndsAt t lists queues c writer reader = AreEndsSo t (ServesAt t lists queues)
 abbrev pub placed : List (List End) → Option Side → End → List (List End)
 placed rows None e = rows
 placed rows (Some s) e = slice_set rows s.instance (slice_set (slice_index_or rows s.instance []) s.parameter e)
-
--- the cell of instance p before its first event
-pub record IsOpening (t : Program) (lists : Lists) (watch : Option ℕ) (p : ℕ) (c : Told) : Type 0 where
-  pub network : c.network ≡ t
-  pub input : c.input ≡ lists
-  pub instance : c.instance ≡ p
-  pub watched : c.watch ≡ watch
-  pub events : c.events ≡ 0
-  pub taken : c.taken ≡ replicate (length (instance_at (network_of t) p).actuals) 0
-  pub sent : c.sent ≡ replicate (length (instance_at (network_of t) p).actuals) 0
-  pub kept : c.kept ≡ replicate (length (instance_at (network_of t) p).actuals) []
-  pub printed : c.printed ≡ []
 
 -- the jobs of all instances before their first events
 pub record AreOpening (t : Program) (lists : Lists) (watch : Option ℕ) (ws : List Work) : Type 0 where

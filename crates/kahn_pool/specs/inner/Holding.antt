@@ -1,8 +1,9 @@
 -- Inner. The jobs of a held run.
-use Rattle.std.specs.Prelude.{◌≡◌, ℕ, ◌+◌, ◌<◌, ◌≤◌, ◌^◌, Bool, List, [], length, map, sum_by, Option, Some, None, Err, MatchResult, slice_get, vec_capacity}
-use Rattle.kahn_pool.specs.inner.Below.{AreIdle, AreInputsExtended, AreJobsAt, End, HaveGone, IsInRange, IsLack, Left, Lists, NoMemory, Plan, Program, Tasked, Token, Told, Verdict, Work, cells_of, inputs_of, network_of, told_view}
-use Rattle.kahn_pool.specs.HeldRuns.{HeldRun, seen_events, seen_of}
-use Rattle.kahn_pool.specs.{declared.part.PartRoom.PartRoom, declared.part.Stopped.Stopped, declared.plan.Part.Part, declared.workers.HandRoom.HandRoom, inner.Bench.IsConcluded, inner.Bench.RunState, inner.Streams.AreAllGiven, inner.Streams.AreGiven, inner.Workbench.AllStandBy, inner.Workbench.Table}
+use Rattle.std.specs.Prelude.{◌≡◌, ℕ, ◌+◌, ◌<◌, ◌≤◌, ◌^◌, List, [], length, map, sum_by, Option, Some, Err, MatchResult, slice_get, vec_capacity}
+use Rattle.kahn_pool.specs.inner.Below.{AreIdle, AreJobsAt, End, HaveGone, IsInRange, IsLack, Left, Lists, NoMemory, Plan, Program, Tasked, Token, Told, Verdict, Work, cells_of, inputs_of, network_of, told_view}
+use Rattle.kahn_sequential.specs.HeldRuns.{HeldRun, seen_events, seen_of}
+use Rattle.kahn_pool.specs.{declared.part.PartRoom.PartRoom, declared.part.Stopped.Stopped, declared.plan.Part.Part, declared.workers.HandRoom.HandRoom}
+use Rattle.kahn_sequential.specs.{inner.Bench.RunState, inner.Streams.AreAllGiven, inner.Streams.AreGiven, inner.Workbench.AllStandBy, inner.Workbench.Table}
 
 -- the cell without its input
 abbrev pub cell_alone : Told → Told
@@ -23,16 +24,6 @@ pub record AreHeld (t : Program) (lists : Lists) (watch : Option ℕ) (bound : �
   pub stood : AllStandBy t watch (cells_of ws)
   pub events : budget + sum_by seen_events (map seen_of (cells_of ws)) ≡ bound
 
--- where there is a verdict, it and the ends are those of the last part
-abbrev pub AreEnded : RunState → ℕ → ℕ → List End → Option Verdict → Type 0
-AreEnded s bound budget ends None = Unit {0}
-AreEnded s bound budget ends (Some v) = (halted : Bool) × IsConcluded s bound budget halted v ends
-
--- what contracts see of a run with these cells
-abbrev pub run_with : Program → Lists → Option ℕ → Plan → List Told → Option Verdict → HeldRun
-run_with t lists watch plan cells verdict =
-    record { network = t; input = lists; watch = watch; workers = plan.workers; quantum = plan.quantum; bound = plan.bound; cells = map seen_of cells; verdict = verdict }
-
 -- of a held run with these jobs
 abbrev pub run_of : Program → Lists → Plan → List Work → Option Verdict → HeldRun
 run_of t lists plan ws verdict = run_with t lists plan.watch plan (cells_of ws) verdict
@@ -46,14 +37,6 @@ pub record IsHolding (t compiled : Program) (lists : Lists) (plan : Plan) (ws : 
   pub ended : AreEnded (held_state t lists plan.watch ws) plan.bound budget ends verdict
   pub begun : AreGiven (network_of t) (inputs_of lists) plan.watch given
   pub all : (v : Verdict) → verdict ≡ Some v → AreAllGiven (network_of t) (inputs_of lists) plan.watch given
-
--- the cell has done no fewer events, and its input has grown
-pub record HasRisen (c d : Told) : Type 0 where
-  pub events : c.events ≤ d.events
-  pub input : AreInputsExtended (inputs_of c.input) (inputs_of d.input)
-
-abbrev pub HaveRisen : List Told → List Told → Type 0
-HaveRisen old new = (p : ℕ) (c d : Told) → slice_get old p ≡ Some c → slice_get new p ≡ Some d → HasRisen c d
 
 -- the jobs of a part at rest, with so much left of the bound of all
 abbrev pub AreHeldBy : Part → List Work → ℕ → Type 0

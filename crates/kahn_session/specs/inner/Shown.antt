@@ -5,8 +5,8 @@ use Rattle.kahn_streams.specs.declared.tree.Program.{Program}
 use Rattle.kahn_session.specs.Live.{is_input}
 use Rattle.kahn_streams.specs.declared.value.Value.{Value}
 use Rattle.kahn_streams.specs.declared.value.Line.{Line}
-use Rattle.kahn_pool.specs.HeldRuns.{HeldRun, so_far}
-use Rattle.kahn_pool.specs.Flows.{Flowing, flow_lines}
+use Rattle.kahn_sequential.specs.HeldRuns.{HeldRun, so_far}
+use Rattle.kahn_sequential.specs.Flows.{Flowing, flow_lines}
 
 -- the first input channel has this number, or there is none
 abbrev pub IsFirstOf : Program → Option ℕ → Type 0

@@ -11,7 +11,7 @@ use Rattle.kahn_streams.specs.declared.tree.Action.{Action, Empty, Assign, Send,
 use Rattle.kahn_streams.specs.Network.{Actual, Reads, Writes, Hands, instance_at, network_of, process_of}
 use Rattle.kahn_streams.specs.View.{bytes_of}
 use Rattle.kahn_warnings.specs.Faults.{place_where}
-use Rattle.kahn_report.specs.Formats.{process_name}
+use Rattle.kahn_texts.specs.Formats.{process_name}
 
 -- the waits on a parameter of that name in an expression that stands there, in the order of the text
 abbrev mutual

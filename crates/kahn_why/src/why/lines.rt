@@ -6,8 +6,8 @@ use crate::why::words::{add_led, add_those, add_wait, add_who, advice, for_ever}
 use itoa::Buffer;
 use kahn_chain::{Cause, Reason};
 use kahn_marks::{MOST_NOTES, Other, Sort, add, add_more, first_ones, render, simple};
-use kahn_report::process_name;
 use kahn_streams::{Failure, Outcome, Span};
+use kahn_texts::process_name;
 use kahn_warnings::fault_places;
 use std::alloc::{AllocError, Global};
 

@@ -1,7 +1,7 @@
 //! Why the run of an answer stopped.
 
 ghost use Rattle.std.specs.Prelude.{◌≡◌, ◌++◌, IfOk, string_bytes};
-ghost use Rattle.kahn_report.specs.Formats.{last_text};
+ghost use Rattle.kahn_texts.specs.Formats.{last_text};
 ghost use Rattle.kahn_streams.specs.Network.{network_of};
 ghost use Rattle.kahn_chain.specs.Chain.{AreStandings};
 ghost use Rattle.kahn_why.specs.Why.{IsExplained, standings_of};

@@ -4,8 +4,8 @@ use crate::why::story::{Story, source_of};
 use itoa::Buffer;
 use kahn_chain::{Cause, Reason, Standing};
 use kahn_marks::{add, add_spot};
-use kahn_report::{channel_name, process_name};
 use kahn_streams::{Network, Span, Verdict};
+use kahn_texts::{channel_name, process_name};
 use std::alloc::AllocError;
 
 // Of so many instances all are named.

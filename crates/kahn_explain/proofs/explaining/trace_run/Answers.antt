@@ -1,5 +1,5 @@
 use Rattle.std.proofs.Common.{◌≡◌, ◌∙◌, [], All, ap, string_bytes, subst, sym}
-use Rattle.kahn_report.specs.Formats.{IsLine}
+use Rattle.kahn_texts.specs.Formats.{IsLine}
 use Rattle.kahn_explain.specs.Histories.{unwatched}
 use Rattle.kahn_explain.specs.Table.{trace_text}
 use Rattle.kahn_explain.specs.Tracing.{beside}

@@ -1,6 +1,6 @@
 use Rattle.std.proofs.Common.{◌∙◌, ap, length}
 use Rattle.std.specs.Option.{unwrap_or}
-use Rattle.kahn_report.proofs.Scanned.{stop_of}
+use Rattle.kahn_texts.proofs.Scanned.{stop_of}
 use Rattle.kahn_inputs.proofs.fitting.class_bytes.Goals as goal
 
 pub returns-clause-stop : goal.returns-clause-stop

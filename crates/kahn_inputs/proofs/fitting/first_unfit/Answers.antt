@@ -4,7 +4,7 @@ use Rattle.std.proofs.lemmas.List.{length_push}
 use Rattle.std.proofs.lemmas.Iterator.Splits.{YieldsList-from_slice_split}
 use Rattle.std.proofs.lemmas.Iterator.Consumers.{YieldsList-turn, YieldsList-end}
 use Rattle.std.specs.List.{slice_split}
-use Rattle.kahn_report.specs.Formats.{is_blank}
+use Rattle.kahn_texts.specs.Formats.{is_blank}
 use Rattle.kahn_inputs.specs.Fitting.{IsFitPart, IsUnfitWord}
 use Rattle.kahn_inputs.proofs.Fitted.{all_more, cut_here, from_part, length_more, length_within, parts_whole, take_all}
 use Rattle.kahn_inputs.proofs.fitting.first_unfit.Goals as goal

@@ -1,4 +1,4 @@
-use Rattle.kahn_report.proofs.Words.{number_utf8}
+use Rattle.kahn_texts.proofs.Words.{number_utf8}
 use Rattle.kahn_inputs.proofs.fitting.number_in.Goals as goal
 
 pub returns-in-Err : goal.returns-in-Err

@@ -3,7 +3,7 @@ use Rattle.std.proofs.Math.Facts.{Fits-le}
 use Rattle.std.proofs.lemmas.List.{length_push}
 use Rattle.std.proofs.lemmas.Iterator.Splits.{YieldsList-from_slice_split}
 use Rattle.std.proofs.lemmas.Iterator.Consumers.{YieldsList-turn, YieldsList-end}
-use Rattle.kahn_report.specs.Formats.{AreEntries, text_lines}
+use Rattle.kahn_texts.specs.Formats.{AreEntries, text_lines}
 use Rattle.kahn_inputs.specs.Seeking.{IsNotSought, IsSought}
 use Rattle.kahn_inputs.proofs.Fitted.{cut_here, from_part, length_more, length_within, one_more, parts_whole, take_all}
 use Rattle.kahn_inputs.proofs.Sought.{one_on, still}

@@ -3,7 +3,7 @@ use Rattle.std.proofs.Math.Facts.{Fits-le}
 use Rattle.std.proofs.lemmas.List.{length_push}
 use Rattle.std.proofs.lemmas.Iterator.Splits.{YieldsList-from_slice_split}
 use Rattle.std.proofs.lemmas.Iterator.Consumers.{YieldsList-turn, YieldsList-end}
-use Rattle.kahn_report.specs.Formats.{text_lines}
+use Rattle.kahn_texts.specs.Formats.{text_lines}
 use Rattle.kahn_inputs.specs.Fitting.{moved_by, name_span, parts_length}
 use Rattle.kahn_inputs.specs.Seeking.{has_line_name}
 use Rattle.kahn_inputs.proofs.Fitted.{all_more, cut_here, from_part, length_more, length_within, parts_whole, take_all}

@@ -1,4 +1,4 @@
-use Rattle.kahn_report.proofs.Answer_lines
+use Rattle.kahn_texts.proofs.Answer_lines
 use Rattle.kahn_report.proofs.laws.right_lines.Goals as goal
 
 pub returns : goal.returns

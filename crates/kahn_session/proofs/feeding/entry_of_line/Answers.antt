@@ -1,5 +1,5 @@
 use Rattle.std.proofs.Common.{rules}
-use Rattle.kahn_report.specs.Formats.{HasNoHead, HasNoValues, content}
+use Rattle.kahn_texts.specs.Formats.{HasNoHead, HasNoValues, content}
 use Rattle.kahn_session.specs.Live.{IsText}
 use Rattle.kahn_session.proofs.feeding.entry_of_line.Goals as goal
 

@@ -1,6 +1,6 @@
 use Rattle.std.proofs.Common.{string_bytes}
 use Rattle.kahn_streams.specs.Inputs.{Entry}
-use Rattle.kahn_report.specs.Formats.{IsEntry, content}
+use Rattle.kahn_texts.specs.Formats.{IsEntry, content}
 use Rattle.kahn_session.specs.Live.{IsText}
 use Rattle.kahn_session.proofs.Steps.{one_pace, unpoured}
 use Rattle.kahn_session.proofs.feeding.feed_line.Goals as goal

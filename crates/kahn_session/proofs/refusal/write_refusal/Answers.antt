@@ -1,5 +1,5 @@
 use Rattle.std.specs.Prelude.{option_copied}
-use Rattle.kahn_write.proofs.Pieces.{fails, goes_on, stops}
+use Rattle.kahn_texts.proofs.Writing.{fails, goes_on, stops}
 use Rattle.kahn_session.specs.Refusals.{hint_text, refusal_line}
 use Rattle.kahn_session.proofs.refusal.write_refusal.Goals as goal
 

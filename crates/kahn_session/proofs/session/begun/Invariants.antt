@@ -3,7 +3,7 @@ use Rattle.std.proofs.Common.{◌≡◌, ◌<◌, ◌++◌, ℕ, List, [], Some}
 use Rattle.std.specs.Prelude.{slice_get, slice_index_or}
 use Rattle.kahn_streams.specs.declared.value.Line.{Line}
 use Rattle.kahn_streams.specs.declared.value.Value.{Value}
-use Rattle.kahn_pool.specs.HeldRuns.{so_far}
+use Rattle.kahn_sequential.specs.HeldRuns.{so_far}
 use Rattle.kahn_session.proofs.session.begun.Given as goal
 
 abbrev pub invariant-loop-line : goal.invariant-loop-line

@@ -6,7 +6,7 @@ use Rattle.std.proofs.lemmas.Option.{slice_get-get_or}
 use Rattle.kahn_streams.specs.declared.value.Line.{Line}
 use Rattle.kahn_streams.specs.declared.value.Line.TheVariants.{Channel}
 use Rattle.kahn_streams.specs.Written.{AppendsFront}
-use Rattle.kahn_write.proofs.Pieces.{fails, goes_on_front, stops}
+use Rattle.kahn_texts.proofs.Writing.{fails, goes_on_front, stops}
 use Rattle.kahn_session.proofs.Fresh.{is_line, news_line, news_moved, news_split, tokens_new}
 use Rattle.kahn_session.proofs.session.put_news.Goals as goal
 

@@ -1,7 +1,7 @@
 -- What isn't of the streams that are left went out.
 use Rattle.std.proofs.Common.{◌≡◌, ℕ, List, ◌++◌, length, map}
 use Rattle.std.specs.Io.KnownBytes.{Appends}
-use Rattle.kahn_report.specs.News.{news_text}
+use Rattle.kahn_texts.specs.News.{news_text}
 use Rattle.kahn_session.specs.inner.Shown.{news_of}
 use Rattle.kahn_session.proofs.Fresh.{rest_text}
 use Rattle.kahn_session.proofs.session.put_news.Given as goal

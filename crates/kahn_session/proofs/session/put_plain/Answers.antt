@@ -5,7 +5,7 @@ use Rattle.std.proofs.KnownBytes.{Appends-nil}
 use Rattle.std.specs.Io.KnownBytes.{Appends}
 use Rattle.kahn_streams.specs.declared.value.Line.{Line}
 use Rattle.kahn_streams.specs.declared.value.Line.TheVariants.{Channel}
-use Rattle.kahn_report.specs.News.{plain_text}
+use Rattle.kahn_texts.specs.News.{plain_text}
 use Rattle.kahn_streams.specs.Written.{Writes}
 use Rattle.kahn_session.proofs.Fresh.{news_at, news_past, values_new}
 use Rattle.kahn_session.proofs.session.put_plain.Goals as goal

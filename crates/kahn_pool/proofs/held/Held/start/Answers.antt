@@ -1,7 +1,7 @@
 use Rattle.std.proofs.Common.{arith, rules, refl}
 use Rattle.kahn_pool.proofs.Common.{network_of, inputs_of, cells_of}
-use Rattle.kahn_pool.proofs.Giving.{begun_none}
-use Rattle.kahn_pool.proofs.Righted.{none_done}
+use Rattle.kahn_sequential.proofs.Giving.{begun_none}
+use Rattle.kahn_sequential.proofs.Righted.{none_done}
 use Rattle.kahn_pool.proofs.held.Held.start.Goals as goal
 
 pub invariant_of-result : goal.invariant_of-result

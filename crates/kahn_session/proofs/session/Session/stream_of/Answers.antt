@@ -1,5 +1,5 @@
 use Rattle.std.proofs.Common.{sym, ap, ◌∙◌}
-use Rattle.kahn_pool.specs.Flows.{flow_lines}
+use Rattle.kahn_sequential.specs.Flows.{flow_lines}
 use Rattle.kahn_session.proofs.Named.{same_found}
 use Rattle.kahn_session.proofs.session.Session.stream_of.Goals as goal
 

@@ -1,7 +1,7 @@
 use Rattle.std.proofs.Common.{◌∙◌, ℕ, map, true, sym, subst, refl}
 use Rattle.std.specs.Io.KnownBytes.{Appends}
-use Rattle.kahn_pool.specs.HeldRuns.{so_far}
-use Rattle.kahn_pool.specs.Flows.{Flowing, flow_lines}
+use Rattle.kahn_sequential.specs.HeldRuns.{so_far}
+use Rattle.kahn_sequential.specs.Flows.{Flowing, flow_lines}
 use Rattle.kahn_streams.specs.Written.{AppendsFront}
 use Rattle.kahn_session.specs.inner.Shown.{news_of}
 use Rattle.kahn_session.specs.Live.{HasBroken, HasTaken, Live}

@@ -1,6 +1,0 @@
-use Rattle.kahn_pool.proofs.Common.{HasForgotten}
-use Rattle.kahn_pool.proofs.Lists.{ChangedTo}
-use Rattle.kahn_pool.proofs.bench.forget_all.Given as goal
-
-abbrev pub invariant-loop-instance : goal.invariant-loop-instance
-invariant-loop-instance l = ChangedTo HasForgotten l.fn.taps.items l.taps.items l.instance

@@ -1,5 +1,0 @@
-use Rattle.kahn_pool.proofs.Poured_in.{poured_lists}
-use Rattle.kahn_pool.proofs.flow.Flow.feed.Given as goal
-
-abbrev pub ghost-pour : goal.ghost-pour
-ghost-pour a = poured_lists a.channel a.values.now a.self.now.input

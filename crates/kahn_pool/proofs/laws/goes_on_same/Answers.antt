@@ -1,5 +1,0 @@
-use Rattle.kahn_pool.proofs.Held_calls
-use Rattle.kahn_pool.proofs.laws.goes_on_same.Goals as goal
-
-pub returns : goal.returns
-returns c = Held_calls.goes_on_same

@@ -1,5 +1,0 @@
-use Rattle.kahn_pool.proofs.Sizes
-use Rattle.kahn_pool.proofs.laws.verdict_is_one.Goals as goal
-
-pub returns : goal.returns
-returns c = Sizes.verdict_is_one

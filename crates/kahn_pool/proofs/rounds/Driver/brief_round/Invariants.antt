@@ -1,9 +1,0 @@
-use Rattle.std.proofs.Common.{◌≡◌, length}
-use Rattle.kahn_pool.proofs.Common.{HasAdvanced, sight_of}
-use Rattle.kahn_pool.proofs.rounds.Driver.brief_round.Given as goal
-
-abbrev pub invariant-loop-instance : goal.invariant-loop-instance
-invariant-loop-instance g l = record {
-  moved : HasAdvanced l.fn.bench l.bench l.fn.round l.round;
-  count : l.count ≡ length (sight_of l.bench).network.instances;
-}

@@ -1,9 +1,0 @@
-use Rattle.std.proofs.Common.{rules, refl}
-use Rattle.kahn_pool.proofs.Turns.{advanced_none, moved_on}
-use Rattle.kahn_pool.proofs.rounds.Driver.brief_rounds.Goals as goal
-
-pub loop-preserved : goal.loop-preserved
-loop-preserved g c = moved_on c.loop.invariant c.brief_round.ensures
-
-pub loop-init : goal.loop-init
-loop-init g c = advanced_none c.args.last c.requires (search rules) refl

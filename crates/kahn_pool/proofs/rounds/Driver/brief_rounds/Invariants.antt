@@ -1,5 +1,0 @@
-use Rattle.kahn_pool.proofs.Common.{HasAdvanced}
-use Rattle.kahn_pool.proofs.rounds.Driver.brief_rounds.Given as goal
-
-abbrev pub invariant-loop : goal.invariant-loop
-invariant-loop g l = HasAdvanced l.fn.bench l.bench l.fn.last l.round

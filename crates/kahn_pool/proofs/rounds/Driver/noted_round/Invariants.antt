@@ -1,5 +1,0 @@
-use Rattle.kahn_pool.proofs.Common.{IsInRound}
-use Rattle.kahn_pool.proofs.rounds.Driver.noted_round.Given as goal
-
-abbrev pub invariant-loop-instance : goal.invariant-loop-instance
-invariant-loop-instance g l = IsInRound l.fn.bench l.fn.round l.bench l.round l.instance

@@ -1,7 +1,0 @@
-use Rattle.std.proofs.Common.{◌≡◌, ℕ, false, slice_get, Some, ◌<◌}
-use Rattle.kahn_pool.proofs.Common.{More}
-use Rattle.kahn_streams.specs.declared.answer.End.{End}
-use Rattle.kahn_pool.proofs.rounds.verdict_of.Given as goal
-
-abbrev pub invariant-loop-end : goal.invariant-loop-end
-invariant-loop-end l = (l.memory ≡ false) × ((p : ℕ) (x : End) → p < l.end-index → slice_get l.ends p ≡ Some x → x.outcome ≡ More → ⊥)

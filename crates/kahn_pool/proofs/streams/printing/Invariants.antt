@@ -1,7 +1,0 @@
-use Rattle.std.proofs.Common.{◌≡◌, ◌++◌, drop, map}
-use Rattle.kahn_pool.proofs.Common.{declaration_prints}
-use Rattle.kahn_pool.proofs.streams.printing.Given as goal
-
-abbrev pub invariant-loop-declaration : goal.invariant-loop-declaration
-invariant-loop-declaration l =
-    l.printing.items ++ map declaration_prints (drop l.declaration-index l.declaration-items) ≡ map declaration_prints l.network.declarations.items

@@ -1,0 +1,59 @@
+//! A run on one thread is handed over to several workers, or taken back from them.
+
+ghost use Rattle.kahn_pool.specs.inner.Below.{AreJobsAt, HaveSettled, cells_of, rows_of, network_of};
+ghost use Rattle.kahn_sequential.specs.inner.Bench.{all_events, events_at};
+ghost use Rattle.kahn_pool.specs.inner.Holding.{AreHeld};
+ghost use Rattle.kahn_sequential.specs.inner.Workbench.{AreWhole, IsLaid, seated_with, sight_of, vacant_of};
+ghost use Rattle.std.specs.Prelude.{◌≡◌, ◌<◌, ◌≤◌, ◌+◌, ◌^◌, ℕ, [], length, vec_capacity, IfOk};
+
+use kahn_code::Tap;
+use kahn_job::{Idle, jobs_at, seat, unseat};
+use kahn_sequential::{Bench, Vacant};
+use kahn_streams::{Input, NoMemory};
+use std::alloc::Global;
+
+/// Jobs that stand where the queues of a bench stand, with copies of the tokens that wait there, for `hand_over`. The bench stays as it is.
+/// Fails only if memory was refused.
+pub(crate) fn lanes(bench: &Bench<'_>, alloc: Global, input: &Input) -> Result<Vec<Idle>, NoMemory>
+    requires input { bench.now.input ≡ input.now }
+    requires few { (p : ℕ) → events_at (sight_of bench.now) p < 2 ^ 48 }
+    ensures { IfOk result (λ idles. AreJobsAt bench.now.network bench.now.input bench.now.queues.queues idles.items) }
+{
+    bench.stood();
+    bench.sized();
+    jobs_at(
+        alloc,
+        bench.network(),
+        input,
+        bench.code(),
+        bench.watch(),
+        bench.queues(),
+    )
+}
+
+/// The bench without its processes, and jobs that go on from where these stand, which have let go of nothing: the jobs that are
+/// given get their cells. Never allocates.
+pub(crate) fn hand_over<'n>(bench: Bench<'n>, mut idles: Vec<Idle>) -> (Vacant<'n>, Vec<Idle>)
+    requires whole { AreWhole (length (network_of bench.network).instances) bench.gone }
+    requires jobs { AreJobsAt bench.network bench.input bench.queues.queues idles.items }
+    ensures laid { IsLaid bench.entry }
+    ensures vacant { result.0 ≡ vacant_of bench.entry }
+    ensures cells { cells_of result.1.items ≡ bench.entry.cells }
+    ensures held { (left : ℕ) → AreHeld bench.entry.network bench.entry.input bench.entry.watch (left + all_events (sight_of bench.entry)) result.1.items left }
+    ensures settled { HaveSettled bench.entry.network bench.entry.input (rows_of result.1.items) }
+{
+    bench.stood();
+    let (vacant, taps) = bench.into_taps();
+    seat(&mut idles, taps);
+    (vacant, idles)
+}
+
+/// The bench with the cells of jobs that stand where its queues stand. The list that is given has room for all. Never allocates.
+pub(crate) fn taken_back<'n>(vacant: Vacant<'n>, idles: Vec<Idle>, taps: Vec<Tap>) -> Bench<'n>
+    requires laid { IsLaid (seated_with vacant (cells_of idles.items)) }
+    requires room { (taps.items ≡ []) × (length idles.items ≤ vec_capacity taps) }
+    ensures { result ≡ seated_with vacant.entry (cells_of idles.items) }
+{
+    let taps = unseat(idles, taps);
+    vacant.with_taps(taps)
+}

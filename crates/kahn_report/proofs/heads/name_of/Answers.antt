@@ -1,9 +1,0 @@
-use Rattle.std.proofs.Common.{rules}
-use Rattle.kahn_report.specs.Formats.{IsName}
-use Rattle.kahn_report.proofs.Words.{named}
-use Rattle.kahn_report.proofs.heads.name_of.Goals as goal
-
-pub returns-then-is_name : goal.returns-then-is_name
-returns-then-is_name c =
-    let name : IsName c.args.word.now = search rules in
-    named c.text_of.result c.args.word.now name c.text_of.ensures

@@ -1,0 +1,224 @@
+-- Rounds over cells.
+use Rattle.std.proofs.Common.{true≢false, arith, ◌≡◌, ◌⊎◌, inl, inr, ℕ, suc, ◌+◌, ◌^◌, ◌<◌, ◌≤◌, [], ◌∷◌, ◌++◌, length, sum_by, refl, sym, ap, ◌∙◌, subst, Some, slice_get, slice_set, length-append, Bool, true, false, cond, min, vec_capacity}
+use Rattle.kahn_sequential.proofs.Common.{Store, at_last, Pause, More, Reads, actual_at, instance_at, view_at, IsOutcomeOf, TookAll, Round, RunState, IsPaused, HasEndIn, events_at, view_events, all_events, weight, AreEnds, HasAdvanced, HasTakenTurn, HasRunCell, IsInRound, LacksMemory, Marked, MayRun, PausedAt, no_view, Table, sight_of, sum_by-set, HasWorked, turn_of}
+use Rattle.std.proofs.lemmas.List.{length-set}
+use Rattle.kahn_streams.specs.declared.answer.End.{End}
+use Rattle.kahn_streams.specs.declared.answer.Outcome.{Outcome}
+use Rattle.kahn_streams.specs.declared.answer.Outcome.TheVariants.{Waits}
+use Rattle.kahn_sequential.proofs.Tapping.{worked_on}
+use Rattle.kahn_sequential.proofs.Lists.{one_of_sum}
+use Rattle.kahn_streams.specs.Script as script
+use Rattle.kahn_code.specs.declared.progress.Pause.TheVariants as pause
+
+-- a pause and an outcome that say the same
+pub told_as : (s : RunState) (p : ℕ) (o : script.Outcome Store) (z z' : Pause) (x x' : Outcome) → z ≡ z' → x ≡ x' →
+    IsPaused s p z o → (IsPaused s p z' o → IsOutcomeOf s.network s.input s.cells p o x') → IsOutcomeOf s.network s.input s.cells p o x
+told_as s p o z z' x x' e f h go = subst (IsOutcomeOf s.network s.input s.cells p o) (sym f) (go (subst (λ y. IsPaused s p y o) e h))
+
+pub told_dry : (s : RunState) (p : ℕ) (o : script.Outcome Store) (q c : ℕ) → actual_at (instance_at s.network p) q ≡ Reads c →
+    IsPaused s p (pause.Dry q) o → IsOutcomeOf s.network s.input s.cells p o (Waits c)
+told_dry s p o q c r h = let same : h.0 ≡ c = cc (h.1, r) in (q, r, h.2, subst (TookAll s.network s.input s.cells p q) same h.3)
+
+-- ---- turns, and then more
+
+pub moved_on : {a b d : Table} {q r r' : Round} → HasAdvanced a b q r → HasAdvanced b d r r' → HasAdvanced a d q r'
+moved_on h k = record {
+  worked = worked_on h.worked k.worked;
+  may = k.may;
+  total = k.total ∙ h.total;
+  lighter = let f = h.lighter in let g = k.lighter in omega (arith, f, g);
+  quantum = k.quantum ∙ h.quantum;
+  room = k.room ∙ h.room;
+}
+
+-- rounds with the same to do, and as much room for ends
+pub record IsOtherwise (r q : Round) : Type 0 where
+  pub quantum : q.quantum ≡ r.quantum
+  pub left : q.left ≡ r.left
+  pub memory : q.memory ≡ r.memory
+  pub room : vec_capacity q.ends ≡ vec_capacity r.ends
+
+pub as_well : {b d : Table} {r r' q : Round} → IsOtherwise r' q → HasAdvanced b d r r' → HasAdvanced b d r q
+as_well {b} {d} {r} {r'} {q} o h = record {
+  worked = h.worked;
+  may = record {
+    known = h.may.known;
+    some = rw o.quantum h.may.some;
+    bound = rw o.left h.may.bound;
+    room = rw o.room h.may.room;
+    lacks = rw (o.left, o.memory) h.may.lacks;
+  };
+  total = rw o.left h.total;
+  lighter = rw (o.left, o.memory) h.lighter;
+  quantum = o.quantum ∙ h.quantum;
+  room = o.room ∙ h.room;
+}
+
+-- ---- one turn
+
+turn_most : (r : Round) → turn_of r ≤ r.left
+turn_most r = by r.memory
+  where
+    by : (m : Bool) → cond m 0 (min r.quantum r.left) ≤ r.left
+    by true = omega arith
+    by false = omega arith
+
+-- a turn of no event comes only where nothing more may be done
+turn_none : (r : Round) → 0 < r.quantum → turn_of r ≡ 0 → (r.left ≡ 0) ⊎ (r.memory ≡ true)
+turn_none r some = by r.memory
+  where
+    by : (m : Bool) → cond m 0 (min r.quantum r.left) ≡ 0 → (r.left ≡ 0) ⊎ (m ≡ true)
+    by true e = inr refl
+    by false e = inl (omega (arith, e, some))
+
+pub turn_bound : (s : RunState) (r : Round) (p : ℕ) → MayRun s r → events_at s p + turn_of r < 2 ^ 48
+turn_bound s r p may =
+    let h = may.bound in
+    let m = turn_most r in
+    let e = one_of_sum view_events s.cells p no_view refl in
+    omega (arith, h, m, e)
+
+module _ {b d : Table} {r r' : Round} {p : ℕ} {z : Pause} (may : MayRun (sight_of b) r) (within : p < length (sight_of b).network.instances) (v : HasTakenTurn b d r r' p z) where
+  abbrev s : RunState
+  s = sight_of b
+
+  abbrev s' : RunState
+  s' = sight_of d
+
+  here : p < length s.cells
+  here = let k = may.known in omega (arith, k, within)
+
+  total_on : all_events s' + r'.left ≡ all_events s + r.left
+  total_on =
+      let a : all_events s' ≡ sum_by view_events (slice_set s.cells p (view_at s'.cells p)) = ap (λ l. sum_by view_events l) v.ran.only in
+      let b = sum_by-set view_events s.cells p (view_at s'.cells p) no_view here in
+      let c = v.counts in
+      let l = v.marked.left in
+      omega (arith, a, b, c, l)
+
+  lighter_on : weight r' ≤ weight r
+  lighter_on = by v.marked.marks
+    where
+      by : Marked v.done z r r' → weight r' ≤ weight r
+      by (inl h) = rw h.1 (let l = v.marked.left in omega (arith, l))
+      by (inr h) = rw h.1 (let l = v.marked.left in omega (arith, l))
+
+  -- a turn that did nothing leaves all as it is
+  still_on : v.done ≡ 0 → s' ≡ s
+  still_on e = v.ran.still (let c = v.counts in omega (arith, c, e))
+
+  -- memory that was refused before or now: some instance is paused for it
+  lacks_on : LacksMemory s' r'.left r'.memory
+  lacks_on m = by v.marked.marks
+    where
+      by : Marked v.done z r r' → (0 < r'.left) × ((k : ℕ) × (k < length s'.cells) × PausedAt s' k pause.NoMemory)
+      by (inl h) =
+          let w = v.ran.wanted h.0 in
+          let q = turn_most r in
+          let c = v.counts in
+          let l = v.marked.left in
+          let m = ap length v.ran.only ∙ length-set s.cells p (view_at s'.cells p) in
+          let k = here in
+          (omega (arith, w, q, c, l), (p, omega (arith, k, m), subst (PausedAt s' p) h.0 v.ran.paused))
+      by (inr h) =
+          let was : r.memory ≡ true = sym h.1 ∙ m in
+          let none : turn_of r ≡ 0 = ap (λ b. cond b 0 (min r.quantum r.left)) was in
+          let u = v.ran.events.1 in
+          let c = v.counts in
+          let l = v.marked.left in
+          let idle : v.done ≡ 0 = omega (arith, u, none, c) in
+          let old = may.lacks was in
+          (let some = old.0 in omega (arith, some, l, idle), subst (λ z. (k : ℕ) × (k < length z.cells) × PausedAt z k pause.NoMemory) (sym (still_on idle)) old.1)
+
+  pub turned : HasAdvanced b d r r'
+  turned = record {
+    worked = v.worked;
+    may = record {
+      known = v.ran.known;
+      some = subst (λ n. 0 < n) (sym v.marked.quantum) may.some;
+      bound = let t = total_on in let h = may.bound in omega (arith, t, h);
+      room = let a = ap (λ n. length n.instances) v.ran.same.0 in let c = ap vec_capacity v.marked.ends in let m = may.room in omega (arith, a, c, m);
+      lacks = lacks_on;
+    };
+    total = total_on;
+    lighter = lighter_on;
+    quantum = v.marked.quantum;
+    room = ap vec_capacity v.marked.ends;
+  }
+
+  -- its end is noted, in a round
+  module _ {x : End} (rests : HasEndIn s' p x) (more : x.outcome ≡ More → (z ≡ pause.Spent) ⊎ (z ≡ pause.NoMemory)) {b0 : Table} {r0 q : Round} (go : IsInRound b0 r0 b r p)
+      (same : IsOtherwise r' q) (progressed : q.progressed ≡ r'.progressed) (items : q.ends.items ≡ r.ends.items ++ x ∷ []) where
+    size : length q.ends.items ≡ suc p
+    size = ap length items ∙ length-append r.ends.items (x ∷ []) ∙ (let a = go.size in omega (arith, a))
+
+    -- where all turns so far did nothing each end stands
+    still : v.done ≡ 0 → (z ≡ pause.NoMemory → ⊥) → r'.memory ≡ r.memory → r.progressed ≡ false → AreEnds s' r'.left r'.memory (r.ends.items ++ x ∷ [])
+    still d never m f k y h = by (at_last r.ends.items x k y h)
+      where
+        same_left : r'.left ≡ r.left
+        same_left = let l = v.marked.left in omega (arith, l, d)
+
+        out_of : (r.left ≡ 0) ⊎ (r.memory ≡ true) → (r'.left ≡ 0) ⊎ (r'.memory ≡ true)
+        out_of (inl a) = inl (same_left ∙ a)
+        out_of (inr a) = inr (m ∙ a)
+
+        one : x.outcome ≡ More → (r'.left ≡ 0) ⊎ (r'.memory ≡ true)
+        one f = by (more f)
+          where
+            by : (z ≡ pause.Spent) ⊎ (z ≡ pause.NoMemory) → (r'.left ≡ 0) ⊎ (r'.memory ≡ true)
+            by (inl a) = out_of (turn_none r may.some (let u = v.ran.spent a in let c = v.counts in omega (arith, u, c, d)))
+            by (inr a) = absurd (never a)
+
+        by : (slice_get r.ends.items k ≡ Some y) ⊎ ((k ≡ length r.ends.items) × (x ≡ y)) → HasEndIn s' k y × (y.outcome ≡ More → (r'.left ≡ 0) ⊎ (r'.memory ≡ true))
+        by (inl e) = let old = go.still f k y e in (subst (λ u. HasEndIn u k y) (sym (still_on d)) old.0, λ o. out_of (old.1 o))
+        by (inr e) =
+            subst (λ u. HasEndIn s' k u × (u.outcome ≡ More → (r'.left ≡ 0) ⊎ (r'.memory ≡ true))) e.1
+            (subst (λ j. HasEndIn s' j x × (x.outcome ≡ More → (r'.left ≡ 0) ⊎ (r'.memory ≡ true))) (sym (e.0 ∙ go.size)) (rests, one))
+
+    still_by : Marked v.done z r r' → r'.progressed ≡ false → AreEnds s' r'.left r'.memory (r.ends.items ++ x ∷ [])
+    still_by (inl h) f = absurd (true≢false (sym h.2 ∙ f))
+    still_by (inr (never, m, inl h)) f = absurd (true≢false (sym h.1 ∙ f))
+    still_by (inr (never, m, inr h)) f = still h.0 never m (sym h.1 ∙ f)
+
+    -- memory is refused only in a turn of some event
+    lighter : (m : Bool) → r.memory ≡ m → r'.memory ≡ true → events_at s' p < events_at s p + turn_of r → weight r' < weight r
+    lighter true e h f =
+        let u = v.ran.events.0 in
+        let none : turn_of r ≡ 0 = ap (λ b. cond b 0 (min r.quantum r.left)) e in
+        absurd (omega (arith, u, none, f))
+    lighter false e h f = rw (h, e) (let l = v.marked.left in omega (arith, l))
+
+    falls_by : Marked v.done z r r' → r'.progressed ≡ true → weight r' < weight r0
+    falls_by (inl h) f = let a = lighter r.memory refl h.1 (v.ran.wanted h.0) in let w = go.advanced.lighter in omega (arith, a, w)
+    falls_by (inr (never, m, inl h)) f =
+        let a : weight r' < weight r = rw m (let d = h.0 in let l = v.marked.left in omega (arith, l, d)) in
+        let w = go.advanced.lighter in
+        omega (arith, a, w)
+    falls_by (inr (never, m, inr h)) f = let a = lighter_on in let w = go.falls (sym h.1 ∙ f) in omega (arith, a, w)
+
+    pub noted : IsInRound b0 r0 d q (suc p)
+    noted = record {
+      advanced = moved_on go.advanced (as_well same turned);
+      size = size;
+      still = λ f. rw (same.left, same.memory, items) (still_by v.marked.marks (sym progressed ∙ f));
+      falls = λ f. rw (same.left, same.memory) (falls_by v.marked.marks (sym progressed ∙ f));
+    }
+
+pub advanced_none : {b d : Table} (r : Round) → MayRun (sight_of b) r → HasWorked b d → sight_of d ≡ sight_of b → HasAdvanced b d r r
+advanced_none r may w e = record {
+  worked = w;
+  may = subst (λ s. MayRun s r) (sym e) may;
+  total = ap (λ s. all_events s + r.left) e;
+  lighter = omega arith;
+  quantum = refl;
+  room = refl;
+}
+
+-- before a round
+pub begun : {b : Table} {r q : Round} → MayRun (sight_of b) r → HasWorked b b → IsOtherwise r q → HasAdvanced b b r q
+begun {b} {r} may w o = as_well o (advanced_none r may w refl)
+
+-- an instance that was asked how it stands
+pub asked : (s t : RunState) (p : ℕ) (z : Pause) → HasRunCell s t p 0 z → t ≡ s
+asked s t p z h = h.still (let a = h.events.0 in let b = h.events.1 in omega (arith, a, b))

@@ -1,0 +1,11 @@
+-- The counts of the channels so far.
+use Rattle.std.proofs.Common.{◌≤◌, length, vec_capacity}
+use Rattle.kahn_sequential.proofs.Common.{network_of, sight_of}
+use Rattle.kahn_sequential.specs.inner.Recording.{AreCountsOf}
+use Rattle.kahn_sequential.proofs.counted.counts_of.Given as goal
+
+abbrev pub invariant-loop-channel : goal.invariant-loop-channel
+invariant-loop-channel l = record {
+  are : AreCountsOf (sight_of l.bench) l.counts.items l.channel;
+  room : length (network_of l.network).channels ≤ vec_capacity l.counts;
+}

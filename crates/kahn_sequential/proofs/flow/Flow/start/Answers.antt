@@ -1,0 +1,55 @@
+use Rattle.std.proofs.Common.{ℕ, Option, arith, rules, ◌≤◌, length, vec_capacity, refl, sym, ◌∙◌, subst}
+use Rattle.kahn_sequential.proofs.Common.{Program, Lists, IsInRange, IsWatched, network_of, inputs_of, AreAllGiven}
+use Rattle.kahn_sequential.proofs.Flowed.{all_lent, none_let_go}
+use Rattle.kahn_sequential.proofs.Righted.{events_seen, none_done}
+use Rattle.kahn_sequential.proofs.Giving.{begun_none}
+use Rattle.kahn_sequential.proofs.flow.Flow.start.Goals as goal
+
+pub give_watched-requires : goal.give_watched-requires
+give_watched-requires c =
+    let I = inputs_of c.args.input in
+    record { begun = λ channel e. begun_none (network_of c.args.network.now) I channel (I channel) c.new-given.result.items (search rules) }
+
+pub invariant_of-result : goal.invariant_of-result
+invariant_of-result c =
+    let p = c.in_ok-plan.ensures in
+    let plan = c.in_ok-plan.plan in
+    let r : IsInRange plan.workers plan.quantum plan.bound = rw (p.workers, p.rest.0, p.rest.1) p.allowed in
+    let b = c.in_ok-bench.bench in
+    let e = c.in_ok-bench.ensures in
+    let fresh = e.fresh in
+    let ts = c.give_watched.new.tokens.items in
+    let all = subst (λ (x : Program × Lists × Option ℕ). AreAllGiven (network_of x.0) (inputs_of x.1) x.2 ts) (λ i. (sym e.names.0 i, sym e.names.1 i, sym e.names.2 i))
+    c.in_ok-give_watched.ensures.all in record {
+      network = e.names.0;
+      watch = e.names.2;
+      some = let q = r.2 in omega (arith, q);
+      left = let s = events_seen b.cells in omega (arith, fresh, s);
+      few = r.4;
+      enough = subst (λ t. length (network_of t).instances ≤ vec_capacity c.in_ok-ends.ends) (sym e.names.0) c.in_ok-ends.ensures;
+      ended = tt;
+      lent = all_lent b (length (network_of c.args.network.now).instances) e.whole ts all;
+    }
+
+pub returns : goal.returns
+returns c =
+    let p = c.in_ok-plan.ensures in
+    let b = c.in_ok-bench.bench in
+    let e = c.in_ok-bench.ensures in
+    let ts = c.give_watched.new.tokens.items in
+    let all = subst (λ (x : Program × Lists × Option ℕ). AreAllGiven (network_of x.0) (inputs_of x.1) x.2 ts) (λ i. (sym e.names.0 i, sym e.names.1 i, sym e.names.2 i))
+    c.in_ok-give_watched.ensures.all in
+    record {
+      run = record {
+        allowed = p.allowed;
+        watched = subst (IsWatched c.args.network.now c.args.config.watch) (sym e.names.2) p.watched;
+        network = e.names.0;
+        input = e.names.1;
+        workers = p.workers;
+        quantum = p.rest.0;
+        bound = p.rest.1;
+        none = none_done b.cells (events_seen b.cells ∙ e.fresh);
+        unsettled = refl;
+      };
+      out = none_let_go b (length (network_of c.args.network.now).instances) e.whole ts all;
+    }

@@ -1,0 +1,9 @@
+use Rattle.std.proofs.Common.{◌≡◌, ◌++◌, map, take, vec_capacity}
+use Rattle.kahn_sequential.proofs.Common.{token_value}
+use Rattle.kahn_sequential.proofs.flow.lend.Given as goal
+
+abbrev pub invariant-loop-number : goal.invariant-loop-number
+invariant-loop-number l = record {
+  values : map token_value l.tokens.items ≡ map token_value l.fn.tokens.items ++ take l.number l.values;
+  room : vec_capacity l.tokens ≡ vec_capacity l.fn.tokens;
+}

@@ -1,0 +1,5 @@
+-- The count is opened on the blank's own ledger.
+use Rattle.kahn_sequential.proofs.one.run_watched.Given as goal
+
+abbrev pub ghosts-run_part_alone : goal.ghosts-run_part_alone
+ghosts-run_part_alone g a = record { name = a.blank.name; parts = a.blank.parts }

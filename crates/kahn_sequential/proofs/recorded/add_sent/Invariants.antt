@@ -1,0 +1,12 @@
+-- The channels so far.
+use Rattle.std.proofs.Common.{◌≡◌, length}
+use Rattle.kahn_sequential.proofs.Common.{network_of}
+use Rattle.kahn_sequential.proofs.Lists.{ChangedTo}
+use Rattle.kahn_sequential.proofs.Recording.{Adds}
+use Rattle.kahn_sequential.proofs.recorded.add_sent.Given as goal
+
+abbrev pub invariant-loop-channel : goal.invariant-loop-channel
+invariant-loop-channel l = record {
+  changed : ChangedTo (Adds l.network l.queues l.instance) l.fn.streams.items l.streams.items l.channel;
+  size : length l.streams.items ≡ length (network_of l.network).channels;
+}

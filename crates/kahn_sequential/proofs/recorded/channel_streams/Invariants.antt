@@ -1,0 +1,11 @@
+-- The streams of the channels so far.
+use Rattle.std.proofs.Common.{◌≤◌, length, vec_capacity}
+use Rattle.kahn_sequential.proofs.Common.{network_of}
+use Rattle.kahn_sequential.specs.inner.Recording.{AreOpenChannels}
+use Rattle.kahn_sequential.proofs.recorded.channel_streams.Given as goal
+
+abbrev pub invariant-loop-channel : goal.invariant-loop-channel
+invariant-loop-channel l = record {
+  are : AreOpenChannels l.network l.input l.streams.items l.channel;
+  room : length (network_of l.network).channels ≤ vec_capacity l.streams;
+}

@@ -1,0 +1,8 @@
+-- No process reads its own of the channels so far.
+use Rattle.std.proofs.Common.{ℕ, ◌<◌}
+use Rattle.kahn_sequential.proofs.Common.{network_of}
+use Rattle.kahn_sequential.specs.inner.Recording.{HasOthers}
+use Rattle.kahn_sequential.proofs.recorded.reads_own.Given as goal
+
+abbrev pub invariant-loop-channel : goal.invariant-loop-channel
+invariant-loop-channel l = (d : ℕ) → d < l.channel → HasOthers (network_of l.network) d

@@ -1,0 +1,11 @@
+use Rattle.std.proofs.Common.{◌<◌, length, subst, sym}
+use Rattle.kahn_sequential.proofs.Common.{HasAdvanced, MayRun, Table, sight_of}
+use Rattle.kahn_sequential.proofs.Turns.{turned}
+use Rattle.kahn_sequential.proofs.rounds.Driver.visit_brief.Goals as goal
+
+pub returns : goal.returns
+returns g c =
+    let e = c.passes_over.ensures in
+    let may = subst (λ (b : Table). MayRun (sight_of b) c.args.round.now) (sym e) c.requires.may in
+    let here = subst (λ (b : Table). c.args.instance < length (sight_of b).network.instances) (sym e) c.requires.here in
+    subst (λ (b : Table). HasAdvanced b c.take_turn.new.bench c.args.round.now c.take_turn.new.round) e (turned may here c.take_turn.ensures)

@@ -1,0 +1,31 @@
+use Rattle.std.proofs.Common.{inl, subst}
+use Rattle.kahn_sequential.proofs.Common.{IsPaused, events_at, sight_of, exec_on}
+use Rattle.kahn_sequential.proofs.Turns.{told_as, told_dry}
+use Rattle.kahn_sequential.proofs.rounds.end_of.Goals as goal
+use Rattle.kahn_sequential.proofs.rounds.end_of.Goals.{in-Spent, in-NoMemory, in-Ended, in-Fault, in-Dry}
+
+pub returns-clause-rests : goal.returns-clause-rests
+returns-clause-rests c =
+    let s = sight_of c.args.bench.now in
+    let p = c.args.instance in
+    let h = c.requires.paused in
+    let o = (exec_on s.network (events_at s p) p h.stood.tapes).outcome in
+    record {
+      stood = h.stood;
+      count = c.events-events.ensures;
+      told = elim c.match-stopped.branch [
+        | in-Spent w ↦ told_as s p o _ _ _ _ w.in-Spent.is w.outcome-is h.is (λ y. y)
+        | in-NoMemory w ↦ told_as s p o _ _ _ _ w.in-NoMemory.is w.outcome-is h.is (λ y. inl y)
+        | in-Ended w ↦ told_as s p o _ _ _ _ w.in-Ended.is w.outcome-is h.is (λ y. y)
+        | in-Fault w ↦ told_as s p o _ _ _ _ w.in-Fault.is w.outcome-is h.is (λ y. y)
+        | in-Dry w ↦ told_as s p o _ _ _ _ w.in-Dry.is w.outcome-is h.is (λ y. told_dry s p o w.in-Dry.parameter w.channel.result w.channel.ensures y)
+      ];
+    }
+
+pub channel-requires : goal.channel-requires
+channel-requires c =
+    let s = sight_of c.args.bench.now in
+    let p = c.args.instance in
+    let h = c.requires.paused in
+    let told = subst (λ z. IsPaused s p z (exec_on s.network (events_at s p) p h.stood.tapes).outcome) c.in-Dry.is h.is in
+    (told.0, told.1)

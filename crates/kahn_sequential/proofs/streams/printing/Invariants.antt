@@ -1,0 +1,7 @@
+use Rattle.std.proofs.Common.{◌≡◌, ◌++◌, drop, map}
+use Rattle.kahn_sequential.proofs.Common.{declaration_prints}
+use Rattle.kahn_sequential.proofs.streams.printing.Given as goal
+
+abbrev pub invariant-loop-declaration : goal.invariant-loop-declaration
+invariant-loop-declaration l =
+    l.printing.items ++ map declaration_prints (drop l.declaration-index l.declaration-items) ≡ map declaration_prints l.network.declarations.items

@@ -1,0 +1,6 @@
+use Rattle.std.proofs.Common.{◌≡◌, ℕ, ◌<◌, Some, slice_get}
+use Rattle.kahn_sequential.proofs.Common.{Tapped, StandsAsTold}
+use Rattle.kahn_sequential.proofs.taps.all_stood.Given as goal
+
+abbrev pub invariant-loop-instance : goal.invariant-loop-instance
+invariant-loop-instance l = (p : ℕ) → p < l.instance → (x : Tapped) → slice_get l.taps p ≡ Some x → StandsAsTold l.network x

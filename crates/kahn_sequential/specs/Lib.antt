@@ -1,0 +1,4 @@
+pub mod HeldRuns
+pub mod Flows
+pub mod Recordings
+pub mod inner

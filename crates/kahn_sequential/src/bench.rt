@@ -1,0 +1,441 @@
+//! The processes of a network over its plain queues.
+
+ghost use Rattle.kahn_sequential.specs.inner.Below.{AreCounts, AreQueued, IsWithin, Input as InputRole, IsPoured, Lists, Reads, actual_at, inputs_of, instance_at, network_of, role_at, stream_lines, Told};
+ghost use Rattle.kahn_sequential.specs.inner.Bench.{AreStreams, HasRunCell, all_events, events_at};
+ghost use Rattle.kahn_sequential.specs.inner.Gathered.{view_at};
+ghost use Rattle.kahn_sequential.specs.inner.Recording.{StoodIn};
+ghost use Rattle.kahn_sequential.specs.inner.Workbench.{AllStandBy, AreStreamsReady, AreWhole, HasEmptied, HasFresh, HasFreshPrints, HasTakenIn, HasWorked, IsCrowded, IsLaid, IsNextPlace, gone_in, seated_with, sight_of, table_of, told_in, vacant_of};
+ghost use Rattle.std.specs.Prelude.{◌≡◌, ◌<◌, ◌+◌, ◌^◌, ℕ, [], Some, length, map, slice_get, vec_capacity, IfOk, IfErr, IfSome, MatchOption, SomeIff};
+
+use crate::awake::Awake;
+use crate::channel::channel_read;
+use crate::looks::{LONG_TURN, Looks};
+use crate::streams::fill;
+use crate::taps::{all_kept, all_sized, all_stood, forget_all, named_taps};
+use kahn_code::{Code, CodeFault, Kept, Pause, Plain, Steps, Tap, compile, regrow_taps};
+use kahn_streams::{
+    About, Carried, Input, MOST_BOUND, Network, NoMemory, Outcome, Side, Stream, Value,
+};
+use std::alloc::Global;
+use std::marker::Model;
+use std::sync::ledger::Ledger;
+
+// The most values that wait on an input channel.
+const MOST_WAITING: usize = 1_048_576;
+
+/// The processes of a network over its plain queues. What they keep they let go of when they are told to.
+#[derive(Drop)]
+pub struct Bench<'n> {
+    network: &'n Network,
+    input: About<Input>,
+    watch: Option<usize>,
+    code: Code,
+    taps: Vec<Tap>,
+    queues: Plain<Global>,
+    awake: Awake,
+    looks: Looks,
+}
+
+impl<'n> Model for Bench<'n> {
+    ghost use Rattle.kahn_streams.specs.contracts.tree.Action as action;
+    ghost use Rattle.kahn_streams.specs.contracts.tree.Form as form;
+    ghost use Rattle.std.specs.Coded.{codes};
+    ghost use Rattle.kahn_sequential.specs.inner.Workbench.{Table, IsLaid, table_of};
+
+    ghost Value = { Table };
+
+    ghost coded = { Prim.hlevel (codes, action.the_row.coded, form.the_row.coded) };
+
+    ghost view = { λ b. table_of b.network.now b.input.value b.watch b.code.network.value b.taps.items b.queues };
+
+    ghost invariant = { λ b. IsLaid (table_of b.network.now b.input.value b.watch b.code.network.value b.taps.items b.queues) };
+}
+
+impl<'n> Bench<'n> {
+    /// All processes at their openings. Fails only if memory was refused.
+    pub fn new(
+        alloc: Global,
+        network: &'n Network,
+        input: &Input,
+        watch: Option<usize>,
+    ) -> Result<Bench<'n>, CodeFault>
+        ensures names { IfOk result (λ b. (b.network ≡ network.now) × (b.input ≡ input.now) × (b.watch ≡ watch)) }
+        ensures fresh { IfOk result (λ b. all_events (sight_of b) ≡ 0) }
+        ensures whole { IfOk result (λ b. AreWhole (length (network_of network.now).instances) b.gone) }
+    {
+        let code = compile(alloc, network)?;
+        let taps = named_taps(alloc, network, &code, input, watch)?;
+        let queues = Plain::new(alloc, network, input)?;
+        let awake = Awake::new(alloc, network)?;
+        let looks = Looks::new(alloc, network, &code)?;
+        let _program = network.program();
+        Ok(Bench::named(network, input, watch, code, taps, queues, awake, looks))
+    }
+
+    // The bench for the input that is named.
+    fn named(
+        network: &'n Network,
+        _input: &Input,
+        watch: Option<usize>,
+        code: Code,
+        taps: Vec<Tap>,
+        queues: Plain<Global>,
+        awake: Awake,
+        looks: Looks,
+    ) -> Bench<'n>
+        ghost input: { Lists }
+        requires { IsLaid (table_of network.now input watch code.network.value taps.items queues) }
+        ensures { result ≡ table_of network.now input watch code.network.value taps.items queues }
+    {
+        Bench {
+            network,
+            input: About::named(),
+            watch,
+            code,
+            taps,
+            queues,
+            awake,
+            looks,
+        }
+    }
+
+    /// How many instances the network has, each with a tap.
+    pub fn instance_count(&self) -> usize
+        ensures count { result ≡ length (sight_of self.now).network.instances }
+        ensures known { length (sight_of self.now).cells ≡ length (sight_of self.now).network.instances }
+    {
+        self.network.instances()
+    }
+
+    /// Runs a process for at most `quantum` events.
+    #[inline(always)]
+    pub fn run<L: Ledger>(&mut self, instance: usize, quantum: u64, steps: &mut Steps<L>) -> Pause
+        requires here { instance < length (sight_of self.old).network.instances }
+        requires bound { events_at (sight_of self.old) instance + quantum < 2 ^ 48 }
+        ensures { HasRunCell (sight_of self.old) (sight_of self.new) instance quantum result × HasWorked self.old self.new }
+    {
+        self.queues.at(instance);
+        let pause = self.taps[instance].run(&self.code, quantum, &mut self.queues, steps);
+        self.queues.counted();
+        pause
+    }
+
+    /// How many events an instance has done.
+    pub fn events(&self, instance: usize) -> u64
+        requires { instance < length (sight_of self.now).network.instances }
+        ensures { result ≡ events_at (sight_of self.now) instance }
+    {
+        self.taps[instance].events()
+    }
+
+    /// The channel that a parameter reads.
+    pub fn channel(&self, instance: usize, parameter: usize) -> usize
+        requires { (c : ℕ) × (actual_at (instance_at (sight_of self.now).network instance) parameter ≡ Reads c) }
+        ensures { actual_at (instance_at (sight_of self.now).network instance) parameter ≡ Reads result }
+    {
+        channel_read(&self.code, instance, parameter)
+    }
+
+    /// Notes a turn of `done` events, for `wide`, `passes_over` and `note_left`.
+    #[inline(always)]
+    pub fn note_visit(&mut self, instance: usize, done: u64)
+        ensures { self.new ≡ self.old }
+    {
+        self.awake.note_done(done);
+        if self.looks.note_brief(done) {
+            return;
+        }
+        self.note_turn(instance, done);
+    }
+
+    // Notes a turn that isn't brief, and begins the next look for work for several workers, if one is over.
+    fn note_turn(&mut self, instance: usize, done: u64)
+        ensures { self.new ≡ self.old }
+    {
+        if self.looks.note_turn(instance, done) && self.looks.is_over() {
+            let sent = self.sent();
+            self.looks.turn(sent);
+        }
+        if done < LONG_TURN {
+            return;
+        }
+        self.awake.note_ahead(instance, &self.queues);
+    }
+
+    /// Whether an instance is passed over in this round, since it was far ahead of its readers.
+    #[inline(always)]
+    pub fn passes_over(&mut self, instance: usize) -> bool
+        ensures { self.new ≡ self.old }
+    {
+        self.awake.passes_over(instance)
+    }
+
+    /// Notes how an instance stands, for `next`.
+    pub fn note_status(&mut self, instance: usize, outcome: Outcome)
+        ensures { self.new ≡ self.old }
+    {
+        self.awake.note_status(instance, outcome, &self.queues);
+    }
+
+    /// Notes how an instance stands after a turn, and that what it sent has come, for `next`.
+    pub fn note_left(&mut self, instance: usize, outcome: Outcome)
+        ensures { self.new ≡ self.old }
+    {
+        self.awake.note_status(instance, outcome, &self.queues);
+        self.awake.wake_readers(instance, &self.queues);
+    }
+
+    /// An instance that may go on, as far as is known.
+    pub fn next(&mut self) -> Option<usize>
+        ensures same { self.new ≡ self.old }
+        ensures here { IfSome result (λ p. p < length (sight_of self.new).network.instances) }
+    {
+        match self.awake.next(&self.queues) {
+            Some(instance) if instance < self.network.instances() => Some(instance),
+            _ => None,
+        }
+    }
+
+    /// How many instances have work, if there is work for several workers, as far as is known; else 0.
+    pub fn wide(&self) -> usize {
+        self.looks.wide()
+    }
+
+    // How many tokens were sent on all channels between processes, and those of the input.
+    fn sent(&self) -> u64 {
+        let mut sum = 0_u64;
+        for channel in 0..self.network.channels() {
+            let waiting = self.queues.waiting(channel) as u64;
+            sum = sum
+                .saturating_add(self.queues.taken(channel))
+                .saturating_add(waiting);
+        }
+        sum
+    }
+
+    /// Goes on for a longer input, in which these values come after those of an input channel: they wait there. Fails only if
+    /// memory was refused, and then all goes on as before. The caller names the input for contracts alone.
+    pub fn pour(&mut self, channel: usize, values: &[Value]) -> Result<(), NoMemory>
+        ghost input: { Lists }
+        requires role { role_at (network_of self.old.network) channel ≡ InputRole }
+        requires lists { IsPoured self.old.input channel values.now input }
+        requires few { length (inputs_of input channel) < 2 ^ 64 }
+        ensures poured { IfOk result (λ _. HasTakenIn channel (length values.now) input self.old self.new) }
+        ensures refused { IfErr result (λ _. HasTakenIn channel 0 self.old.input self.old self.new) }
+    {
+        match self.queues.pour(channel, values) {
+            Ok(()) => {
+                regrow_taps(&mut self.taps, &self.queues);
+                self.input = About::named();
+                Ok(())
+            }
+            Err(fault) => Err(fault),
+        }
+    }
+
+    /// The processes let go of all that they kept. Never allocates.
+    pub fn forget(&mut self)
+        ensures { HasEmptied self.old self.new }
+    {
+        forget_all(&mut self.taps);
+    }
+
+    /// Says how all stand. For the prover only.
+    pub fn stood(&self)
+        ensures laid { IsLaid self.now }
+        ensures counted { AreQueued self.now.queues }
+        ensures each { AllStandBy self.now.network self.now.watch self.now.cells }
+    {
+        self.queues.counted();
+        all_stood(self.network, &self.taps);
+    }
+
+    /// Says how it is laid, and how one of its processes stands. For the prover only.
+    pub fn stood_at(&self, instance: usize)
+        requires { instance < length (sight_of self.now).network.instances }
+        ensures laid { IsLaid self.now }
+        ensures stood { StoodIn (sight_of self.now) instance }
+    {
+        self.taps[instance].stood(self.network);
+    }
+
+    /// Its queues.
+    pub fn queues(&self) -> &Plain<Global>
+        ensures { result.now ≡ self.now.queues }
+    {
+        &self.queues
+    }
+
+    /// How many tokens an instance sent on a parameter.
+    pub fn sent_by(&self, side: Side) -> u64
+        requires { IsWithin (sight_of self.now).network side }
+        ensures { result ≡ (view_at (sight_of self.now).cells side.instance).sent side.parameter }
+    {
+        let tap = &self.taps[side.instance];
+        let _count = tap.parameters();
+        tap.sent(side.parameter)
+    }
+
+    /// What an instance sent on a parameter since that was last let go of, if it is kept.
+    pub fn fresh(&self, instance: usize, parameter: usize) -> &[Carried]
+        requires here { instance < length (network_of self.now.network).instances }
+        requires parameter { parameter < length (instance_at (network_of self.now.network) instance).actuals }
+        ensures { HasFresh self.now instance parameter result.now }
+    {
+        let tap = &self.taps[instance];
+        let _count = tap.parameters();
+        tap.fresh(parameter)
+    }
+
+    /// What an instance printed since that was last let go of.
+    pub fn fresh_prints(&self, instance: usize) -> &[Carried]
+        requires { instance < length (network_of self.now.network).instances }
+        ensures { HasFreshPrints self.now instance result.now }
+    {
+        self.taps[instance].fresh_prints()
+    }
+
+    /// How many values the list of an input channel has; nothing if that is 2^64 or more.
+    pub fn given(&self, channel: usize) -> Option<u64>
+        requires { role_at (network_of self.now.network) channel ≡ InputRole }
+        ensures { SomeIff result (length (inputs_of self.now.input channel) < 2 ^ 64) (length (inputs_of self.now.input channel)) }
+    {
+        self.queues.counted();
+        let taken = self.queues.taken(channel);
+        taken.checked_add(self.queues.waiting(channel) as u64)
+    }
+
+    /// The place of the next value of an input channel, if `count` more may be poured: at most 1,048,576 may wait, and places are
+    /// below 2^48.
+    pub fn next_place(&self, channel: usize, count: usize) -> Option<u64>
+        requires { role_at (network_of self.now.network) channel ≡ InputRole }
+        ensures { MatchOption result (IsCrowded self.now channel count) (IsNextPlace self.now channel count) }
+    {
+        if count > MOST_WAITING || self.queues.waiting(channel) > MOST_WAITING - count {
+            return None;
+        }
+        let place = self.given(channel)?;
+        if place > MOST_BOUND || MOST_BOUND - place < count as u64 {
+            return None;
+        }
+        Some(place)
+    }
+
+    /// Its network.
+    pub fn network(&self) -> &'n Network
+        ensures { result.now ≡ self.now.network }
+    {
+        self.network
+    }
+
+    /// Its code.
+    pub fn code(&self) -> &Code
+        ensures { result.now.network.value ≡ self.now.code }
+    {
+        &self.code
+    }
+
+    /// The channel that is watched, if any.
+    pub fn watch(&self) -> Option<usize>
+        ensures { result ≡ self.now.watch }
+    {
+        self.watch
+    }
+
+    /// Its queues.
+    pub fn queues(&self) -> &Plain<Global>
+        ensures { result.now ≡ self.now.queues }
+    {
+        &self.queues
+    }
+
+    /// Says that no process counted more tokens than events. For the prover only.
+    pub fn sized(&self)
+        ensures { (p : ℕ) (c : Told) → slice_get self.now.cells p ≡ Some c → AreCounts c }
+    {
+        all_sized(&self.taps);
+    }
+
+    /// The bench without its processes, and their taps, in order. Never allocates.
+    pub fn into_taps(self) -> (Vacant<'n>, Vec<Tap>)
+        ensures vacant { result.0 ≡ vacant_of self.entry }
+        ensures cells { map told_in result.1.items ≡ self.entry.cells }
+        ensures gone { map gone_in result.1.items ≡ self.entry.gone }
+    {
+        let vacant = Vacant {
+            network: self.network,
+            input: self.input,
+            watch: self.watch,
+            code: self.code,
+            queues: self.queues,
+            awake: self.awake,
+            looks: self.looks,
+        };
+        (vacant, self.taps)
+    }
+
+    /// The streams of an answer: what the writers kept, if nothing was let go of. There is room for what each kept. Never
+    /// allocates.
+    pub fn into_streams(self, mut streams: Vec<Stream>, kept: Vec<Kept>) -> Vec<Stream>
+        requires whole { AreWhole (length (network_of self.network).instances) self.gone }
+        requires ready { AreStreamsReady self.network self.input self.watch streams.items kept.items (vec_capacity kept) }
+        ensures { AreStreams (sight_of self.entry) result.items (stream_lines (sight_of self.entry).network (sight_of self.entry).watch) }
+    {
+        let mut kept = all_kept(self.taps, kept);
+        fill(self.network, &mut streams, &mut kept);
+        streams
+    }
+}
+
+/// A bench whose processes went to jobs. Its queues stay as they stood.
+#[derive(Drop)]
+pub struct Vacant<'n> {
+    network: &'n Network,
+    input: About<Input>,
+    watch: Option<usize>,
+    code: Code,
+    queues: Plain<Global>,
+    awake: Awake,
+    looks: Looks,
+}
+
+impl<'n> Model for Vacant<'n> {
+    ghost use Rattle.kahn_streams.specs.contracts.tree.Action as action;
+    ghost use Rattle.kahn_streams.specs.contracts.tree.Form as form;
+    ghost use Rattle.std.specs.Coded.{codes};
+    ghost use Rattle.std.specs.Prelude.{[]};
+    ghost use Rattle.kahn_sequential.specs.inner.Workbench.{Table, table_of};
+
+    ghost Value = { Table };
+
+    ghost coded = { Prim.hlevel (codes, action.the_row.coded, form.the_row.coded) };
+
+    ghost view = { λ b. table_of b.network.now b.input.value b.watch b.code.network.value [] b.queues };
+}
+
+impl<'n> Vacant<'n> {
+    /// Its code.
+    pub fn code(&self) -> &Code
+        ensures { result.now.network.value ≡ self.now.code }
+    {
+        &self.code
+    }
+
+    /// The bench with these taps, which have let go of nothing. Never allocates.
+    pub fn with_taps(self, taps: Vec<Tap>) -> Bench<'n>
+        requires laid { IsLaid (seated_with self (map told_in taps.items)) }
+        requires whole { AreWhole (length taps.items) (map gone_in taps.items) }
+        ensures { result ≡ seated_with self.entry (map told_in taps.items) }
+    {
+        Bench {
+            network: self.network,
+            input: self.input,
+            watch: self.watch,
+            code: self.code,
+            taps,
+            queues: self.queues,
+            awake: self.awake,
+            looks: self.looks,
+        }
+    }
+}

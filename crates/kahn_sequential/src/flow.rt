@@ -1,0 +1,261 @@
+//! Runs on one thread that are fed as they go, and let go of what they kept.
+
+ghost use Rattle.std.specs.Prelude.{◌≡◌, ◌↔◌, ℕ, ◌+◌, ◌++◌, ◌<◌, ◌≤◌, ◌^◌, [], Some, length, map, slice_get, sum_by, false, true, vec_capacity, IfOk, IsTrue, MatchResult, OnOk};
+ghost use Rattle.kahn_sequential.specs.inner.Below.{Holds, Input as InputRole, Names, Value as ValueOf, Verdict as VerdictOf, inputs_of, is_watched, network_of, role_at, stream_lines, token_value};
+ghost use Rattle.kahn_sequential.specs.HeldRuns.{IsLineOf, IsRightSoFar, IsUnstarted, seen_events};
+ghost use Rattle.kahn_sequential.specs.Flows.{AreNew, HasFlowed, HasLetGo, HasPouredIn, IsNotRun, IsRunOn, IsUnpoured};
+
+use crate::bench::Bench;
+use crate::held_fault::HeldFault;
+use crate::plan::plan_of;
+use crate::rounds::run_part_alone;
+use crate::streams::{give_watched, lines_of};
+use kahn_streams::{
+    Carried, Config, End, FeedFault, Gate, Input, Line, MOST_BOUND, Network, NoMemory, Plan,
+    RunFault, Token, Value, Verdict, Word, channel_meant,
+};
+use std::alloc::Global;
+use std::marker::{Brand, Model};
+use std::mem;
+use std::sync::ledger::Blank;
+
+/// A run on one thread that is fed between its parts, and that lets go of what it kept of its streams: a network, the sum of its
+/// bounds so far, and where each process stands. Only contracts see what it let go of, and the input that was taken.
+///
+/// Whatever its calls answer, what was sent on a stream stays as contracts see it, and no process has fewer events.
+#[derive(Drop)]
+pub struct Flow<'n> {
+    alloc: Global,
+    network: &'n Network,
+    bench: Bench<'n>,
+    plan: Plan,
+    budget: u64,
+    ends: Vec<End>,
+    verdict: Option<Verdict>,
+    // Of a watched input channel, the tokens that weren't let go of.
+    given: Vec<Carried>,
+}
+
+impl<'n> Model for Flow<'n> {
+    ghost use Rattle.kahn_streams.specs.contracts.tree.Action as action;
+    ghost use Rattle.kahn_streams.specs.contracts.tree.Form as form;
+    ghost use Rattle.std.specs.Coded.{codes};
+    ghost use Rattle.std.specs.Prelude.{length, vec_capacity};
+    ghost use Rattle.kahn_sequential.specs.Flows.{Flowing};
+    ghost use Rattle.kahn_sequential.specs.inner.FlowBench.{IsFlowOf, flow_of};
+
+    ghost Value = { Flowing };
+
+    ghost coded = { Prim.hlevel (codes, action.the_row.coded, form.the_row.coded) };
+
+    ghost view = { λ f. flow_of f.bench f.plan f.verdict (length f.given.items) };
+
+    ghost invariant = { λ f. IsFlowOf f.network.now f.plan f.bench f.budget (vec_capacity f.ends) f.ends.items f.verdict f.given.items };
+}
+
+// Room for the ends of all instances.
+fn room_for_ends(alloc: Global, network: &Network) -> Result<Vec<End>, NoMemory>
+    ensures { IfOk result (λ ends. length (network_of network.now).instances ≤ vec_capacity ends) }
+{
+    Ok(Vec::with_capacity(alloc, network.instances())?)
+}
+
+// The values of which tokens are lent: all of a watched channel, and none of another one.
+fn lent_of(watch: Option<usize>, channel: usize, values: &[Value]) -> &[Value]
+    ensures all { is_watched watch channel ≡ true → result.now ≡ values.now }
+    ensures none { is_watched watch channel ≡ false → result.now ≡ [] }
+    ensures few { length result.now ≤ length values.now }
+{
+    if watch == Some(channel) { values } else { &[] }
+}
+
+// Makes room for so many tokens more. Fails only if memory was refused, and then nothing changed.
+fn make_room(tokens: &mut Vec<Carried>, count: usize) -> Result<(), NoMemory>
+    ensures items { tokens.new.items ≡ tokens.old.items }
+    ensures room { OnOk result (length tokens.new.items + count ≤ vec_capacity tokens.new) }
+{
+    tokens.reserve(count)?;
+    Ok(())
+}
+
+// The token of a value that stands there, for the names of what is at hand.
+fn token_for(_bench: &Bench<'_>, channel: usize, place: u64, value: Word) -> Token
+    ghost names: { Names }
+    requires { Holds names.network names.input (Line.Channel channel) place value }
+    ensures { result.value ≡ value }
+{
+    Token::of_word(Line::Channel(channel), place, value)
+}
+
+// The token of a value of an input channel.
+fn input_token(bench: &Bench<'_>, channel: usize, place: u64, value: Value) -> Token
+    requires role { role_at (network_of bench.now.network) channel ≡ InputRole }
+    requires here { slice_get (inputs_of bench.now.input channel) place ≡ Some value }
+    ensures { result.value ≡ value }
+{
+    token_for(bench, channel, place, Word::of(value))
+}
+
+// Adds the tokens of values that stand in the list of an input channel, from this place on. There is room for them.
+fn lend(bench: &Bench<'_>, tokens: &mut Vec<Carried>, channel: usize, place: u64, values: &[Value])
+    requires role { role_at (network_of bench.now.network) channel ≡ InputRole }
+    requires here { (k : ℕ) (v : ValueOf) → slice_get values.now k ≡ Some v → slice_get (inputs_of bench.now.input channel) (place + k) ≡ Some v }
+    requires few { place + length values.now < 2 ^ 64 }
+    requires room { length tokens.old.items + length values.now ≤ vec_capacity tokens.old }
+    ensures { map token_value tokens.new.items ≡ map token_value tokens.old.items ++ values.now }
+{
+    for number in 0..values.len() {
+        let token = input_token(bench, channel, place + number as u64, values[number]);
+        tokens.push_reserved(Carried::of(token));
+    }
+}
+
+impl<'n> Flow<'n> {
+    /// A run of a network with an input, before its first event. It keeps the allocator for its later calls. The bound of the
+    /// configuration is the first one: `resume(0)` runs for that many events. It runs on the caller's thread alone, whatever
+    /// number of workers the configuration has.
+    ///
+    /// Fails with `BadConfig` if a number of the configuration is out of its limit, then with `UnknownWatch` if no channel has
+    /// the name that is to be watched, and with `NoMemory` if memory was refused.
+    pub fn start(
+        alloc: Global,
+        network: &'n Network,
+        input: Input,
+        config: Config,
+    ) -> Result<Flow<'n>, RunFault>
+        ensures { MatchResult result (HasFlowed network.now input config) (IsUnstarted network.now config) }
+    {
+        let plan = plan_of(network, &config)?;
+        let ends = room_for_ends(alloc, network)?;
+        let mut given = Vec::new(alloc);
+        give_watched(network, &input, plan.watch, &mut given)?;
+        let bench = Bench::new(alloc, network, &input, plan.watch)?;
+        Ok(Flow {
+            alloc,
+            network,
+            bench,
+            plan,
+            budget: plan.bound,
+            ends,
+            verdict: None,
+            given,
+        })
+    }
+
+    /// Allows so many events more, and runs until the sum of all bounds is used up, or every process has ended or waits on a
+    /// channel of which it took all, or memory was refused. Before each quantum of an instance the gate is entered.
+    ///
+    /// Fails only with `BadMore`, if the sum of all bounds would pass 2^48 - 1, and then nothing changes.
+    pub fn resume<G: Gate>(&mut self, more: u64, gate: &G) -> Result<Verdict, HeldFault>
+        ensures { MatchResult result (IsRunOn more self.old self.new) (IsNotRun more self.old self.new) }
+    {
+        if MOST_BOUND - self.plan.bound < more {
+            return Err(HeldFault::BadMore);
+        }
+        let ends = mem::replace(&mut self.ends, Vec::new(self.alloc));
+        let bound = self.budget + more;
+        let plan = Plan { bound, ..self.plan };
+        self.bench.stood();
+        let blank = Blank::new(1);
+        let run = run_part_alone::<G, Brand>(blank, &mut self.bench, gate, false, ends, plan);
+        let Some(part) = run else { unreachable!() };
+        self.bench.stood();
+        self.plan.bound += more;
+        self.budget = part.left;
+        self.ends = part.ends;
+        self.verdict = Some(part.verdict);
+        Ok(part.verdict)
+    }
+
+    /// Appends values to the list of an input channel. No process runs before the next part, and there is no verdict until then,
+    /// even if there are no values.
+    ///
+    /// Fails with `UnknownName` if no channel has the name, then with `NotAnInput` if the channel isn't an input, `WrongKind`
+    /// if a value isn't of its kind, `TooMany` if more than 1,048,576 values would wait there or a place would be 2^48 or
+    /// more, and `NoMemory` if memory was refused. A refusal leaves all as it was.
+    pub fn feed(&mut self, channel: &str, values: &[Value]) -> Result<(), FeedFault>
+        ensures { MatchResult result (λ _. HasPouredIn (channel.now, values.now) self.old self.new) (IsUnpoured (channel.now, values.now) self.old self.new) }
+    {
+        let number = channel_meant(self.network, channel, values)?;
+        self.bench.stood();
+        let Some(place) = self.bench.next_place(number, values.len()) else {
+            return Err(FeedFault::TooMany);
+        };
+        let lent = lent_of(self.plan.watch, number, values);
+        make_room(&mut self.given, lent.len())?;
+        let poured = self.bench.pour(number, values);
+        self.bench.stood();
+        poured?;
+        lend(&self.bench, &mut self.given, number, place, lent);
+        self.verdict = None;
+        Ok(())
+    }
+
+    /// Lets go of all that it kept of its streams. Never allocates.
+    pub fn forget(&mut self)
+        ensures { HasLetGo self.old self.new }
+    {
+        self.bench.forget();
+        self.given.clear();
+    }
+
+    /// What is new of the stream of a line since it was last let go of, in place order. May be called only for a line of `lines`.
+    /// Never allocates.
+    pub fn fresh(&self, line: Line) -> &[Carried]
+        requires { IsLineOf self.now.run line }
+        ensures { AreNew self.now line result.now }
+    {
+        self.bench.stood();
+        match line {
+            Line::Channel(channel) => match self.network.writer(channel) {
+                Some(side) => self.bench.fresh(side.instance, side.parameter),
+                None => &self.given,
+            },
+            Line::Print(instance) => self.bench.fresh_prints(instance),
+        }
+    }
+
+    /// How many events more the sum of all bounds so far allows.
+    pub fn budget(&self) -> u64
+        ensures { result + sum_by seen_events self.now.run.cells ≡ self.now.run.bound }
+    {
+        self.budget
+    }
+
+    /// The verdict of the last part, if nothing changed since. Never allocates.
+    pub fn verdict(&self) -> Option<Verdict>
+        ensures { result ≡ self.now.run.verdict }
+    {
+        self.verdict
+    }
+
+    /// Whether the last call that changed the run was a `resume` that answered.
+    pub fn settled(&self) -> bool
+        ensures { IsTrue result ↔ ((v : VerdictOf) × (self.now.run.verdict ≡ Some v)) }
+    {
+        self.verdict.is_some()
+    }
+
+    /// The events of all parts so far. Never allocates.
+    pub fn events(&self) -> u64
+        ensures { result ≡ sum_by seen_events self.now.run.cells }
+    {
+        self.plan.bound - self.budget
+    }
+
+    /// The lines of its streams, in order. Fails only if memory was refused.
+    pub fn lines(&self) -> Result<Vec<Line>, NoMemory>
+        ensures { IfOk result (λ lines. lines.items ≡ stream_lines (network_of self.now.run.network) self.now.run.watch) }
+    {
+        lines_of(self.alloc, self.network, self.plan.watch)
+    }
+
+    /// How each instance stands, right for the input so far and the bound so far. May be called only if the run is settled.
+    /// Never allocates.
+    pub fn ends(&self) -> &[End]
+        requires { (v : VerdictOf) × (self.now.run.verdict ≡ Some v) }
+        ensures { (v : VerdictOf) → self.now.run.verdict ≡ Some v → IsRightSoFar self.now.run v result.now }
+    {
+        &self.ends
+    }
+}

@@ -1,0 +1,26 @@
+//! What a run passes before it runs a process.
+
+/// Is entered just before each quantum of an instance. What is answered is right for every gate; a gate that waits
+/// makes the run wait.
+pub trait Gate {
+    /// The instance is about to run.
+    fn enter(&self, instance: usize);
+
+    /// Whether `enter` does nothing. Only then a run by several workers may begin on the caller's thread alone, and start no
+    /// other where there is no work for two.
+    fn is_open(&self) -> bool {
+        false
+    }
+}
+
+/// The gate that does nothing.
+#[derive(Clone, Copy, Default)]
+pub struct Open;
+
+impl Gate for Open {
+    fn enter(&self, _instance: usize) {}
+
+    fn is_open(&self) -> bool {
+        true
+    }
+}

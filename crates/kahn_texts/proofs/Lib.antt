@@ -1,0 +1,13 @@
+pub mod Writing
+pub mod Ends
+pub mod Fresh
+pub mod Parts
+pub mod Words
+pub mod Scanned
+pub mod Lines
+pub mod Answer_lines
+pub mod Kept
+pub mod Told
+pub mod Same_inputs
+pub mod Cut
+pub mod Placed

@@ -1,0 +1,17 @@
+-- What isn't of the tokens that are left went out, by at most as many writes.
+use Rattle.std.proofs.Common.{◌≡◌, ℕ, ◌+◌, ◌≤◌, List, length, ◌++◌, flat_map}
+use Rattle.std.specs.Io.KnownBytes.{Appends}
+use Rattle.std.specs.Slice.Iter.{chunks_rest, chunks_size}
+use Rattle.kahn_streams.specs.declared.token.Token.{Token}
+use Rattle.kahn_texts.proofs.digits.put_values.Given as goal
+
+abbrev pub invariant-loop-chunk : goal.invariant-loop-chunk
+invariant-loop-chunk g l =
+    let text_of = λ (t : Token). g.F.Layout.text t.value in
+    (goal.iterator-loop-chunk g).can_next l.chunk-iterator
+    × (goal.iterator-loop-chunk g).is_finite l.chunk-iterator
+    × (chunks_size l.chunk-iterator ≡ 32)
+    × (length l.room ≡ 672)
+    × ((done : List ℕ) × (flat_map text_of l.tokens ≡ done ++ flat_map text_of (chunks_rest l.chunk-iterator))
+    × Appends (g.W.Write.contents l.initial.writer) (g.W.Write.contents l.writer) done
+    × (l.writes ≤ l.initial.writes + length done))

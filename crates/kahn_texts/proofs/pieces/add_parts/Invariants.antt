@@ -1,0 +1,14 @@
+-- Some of the line was added, and the rest of its values and its end are left.
+use Rattle.std.proofs.Common.{◌≡◌, ℕ, List, ◌++◌, length, flat_map}
+use Rattle.kahn_streams.specs.Written.{line_feed}
+use Rattle.kahn_texts.specs.Formats.{stream_text, token_text}
+use Rattle.kahn_texts.specs.inner.Pieces.{AreAdded}
+use Rattle.kahn_texts.proofs.pieces.add_parts.Given as goal
+
+abbrev pub invariant-loop-rest : goal.invariant-loop-rest
+invariant-loop-rest l = (added : List ℕ)
+    × AreAdded l.network l.fn.pieces.items l.pieces.items added
+    × (added ++ (flat_map token_text l.rest ++ line_feed) ≡ stream_text l.network l.stream)
+
+abbrev pub decreases-loop-rest : goal.decreases-loop-rest
+decreases-loop-rest l = length l.rest

@@ -1,0 +1,7 @@
+use Rattle.kahn_streams.specs.Written.{Writes}
+use Rattle.std.proofs.Common.{subst}
+use Rattle.kahn_texts.proofs.Fresh.{tokens_plain}
+use Rattle.kahn_texts.proofs.plain.plain_opened.Goals as goal
+
+pub returns : goal.returns
+returns g c = subst (Writes _ _ c.put_values.result) (tokens_plain c.args.tokens.now) c.put_values.ensures.text

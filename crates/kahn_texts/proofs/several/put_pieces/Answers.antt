@@ -1,0 +1,41 @@
+use Rattle.std.proofs.Common.{◌++◌, flat_map, sym, ap, subst, ◌∙◌, append_assoc, rules}
+use Rattle.std.proofs.lemmas.Grind.{flat_map-append}
+use Rattle.std.proofs.KnownBytes.{Appends-trans}
+use Rattle.std.specs.Slice.Iter.{chunks_rest}
+use Rattle.kahn_streams.specs.Written.{AppendsFront}
+use Rattle.kahn_texts.specs.inner.Pieces.{IsPiece, piece_text}
+use Rattle.kahn_texts.proofs.Cut.{all_later}
+use Rattle.kahn_texts.proofs.Writing.{fails, few_on, goes_on_front, stops}
+use Rattle.kahn_texts.proofs.several.put_pieces.Goals as goal
+
+pub loop-together-preserved : goal.loop-together-preserved
+loop-together-preserved g c =
+    let text_of = piece_text c.args.network.now in
+    let (done, split, gone, few) = c.loop-together.invariant.3 in
+    let (size, (front, _, _)) = c.in-Some.ensures.steps in
+    let chunk = c.in-Some.together.now in
+    let rest = chunks_rest c.next.new.self in
+    let parts = ap (flat_map text_of) front ∙ flat_map-append text_of chunk rest in
+    let text = flat_map text_of chunk in (
+      search rules,
+      tt,
+      all_later (IsPiece c.args.network.now) _ chunk rest front c.loop-together.invariant.2,
+      (
+        done ++ text,
+        split ∙ ap (λ l. done ++ l) parts ∙ sym (append_assoc done text (flat_map text_of rest)),
+        Appends-trans _ _ _ done text gone c.in_ok-put_together.ensures.text,
+        few_on _ _ _ done text few c.put_together.ensures.few,
+      ),
+    )
+
+pub returns-in_err-put_together-clause-text : goal.returns-in_err-put_together-clause-text
+returns-in_err-put_together-clause-text g c =
+    let text_of = piece_text c.args.network.now in
+    let (done, split, gone, few) = c.loop-together.invariant.3 in
+    let (size, (front, _, _)) = c.in-Some.ensures.steps in
+    let chunk = c.in-Some.together.now in
+    let rest = chunks_rest c.next.new.self in
+    let parts = ap (flat_map text_of) front ∙ flat_map-append text_of chunk rest in
+    fails _ _ _ _ c.from_residual.ensures.0
+    (subst (AppendsFront _ _) (sym split) (goes_on_front _ _ _ done _ gone
+    (subst (AppendsFront _ _) (sym parts) (stops _ _ _ _ c.in_err-put_together.ensures.text))))

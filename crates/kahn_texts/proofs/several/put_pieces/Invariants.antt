@@ -1,0 +1,16 @@
+-- What isn't of the pieces that are left went out, by at most as many writes.
+use Rattle.std.proofs.Common.{◌≡◌, ℕ, ◌+◌, ◌≤◌, List, length, ◌++◌, flat_map, All}
+use Rattle.std.specs.Io.KnownBytes.{Appends}
+use Rattle.std.specs.Slice.Iter.{chunks_rest}
+use Rattle.kahn_texts.specs.inner.Pieces.{IsPiece, piece_text}
+use Rattle.kahn_texts.proofs.several.put_pieces.Given as goal
+
+abbrev pub invariant-loop-together : goal.invariant-loop-together
+invariant-loop-together g l =
+    (goal.iterator-loop-together g).can_next l.together-iterator
+    × (goal.iterator-loop-together g).is_finite l.together-iterator
+    × All (IsPiece l.network) (chunks_rest l.together-iterator)
+    × ((done : List ℕ)
+    × (flat_map (piece_text l.network) l.pieces ≡ done ++ flat_map (piece_text l.network) (chunks_rest l.together-iterator))
+    × Appends (g.W.Write.contents l.initial.writer) (g.W.Write.contents l.writer) done
+    × (l.writes ≤ l.initial.writes + length done))

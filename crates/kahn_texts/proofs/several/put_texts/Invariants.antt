@@ -1,0 +1,11 @@
+-- The pieces so far went out, by at most as many writes.
+use Rattle.std.proofs.Common.{◌+◌, ◌≤◌, length, take, flat_map}
+use Rattle.std.specs.Io.KnownBytes.{Appends}
+use Rattle.kahn_texts.specs.inner.Pieces.{piece_text}
+use Rattle.kahn_texts.proofs.several.put_texts.Given as goal
+
+abbrev pub invariant-loop-number : goal.invariant-loop-number
+invariant-loop-number g l = record {
+  gone : Appends (g.W.Write.contents l.initial.writer) (g.W.Write.contents l.writer) (flat_map (piece_text l.network) (take l.number l.pieces));
+  few : l.writes ≤ l.initial.writes + length (flat_map (piece_text l.network) (take l.number l.pieces));
+}

@@ -1,0 +1,13 @@
+use Rattle.std.proofs.Common.{flat_map}
+use Rattle.kahn_texts.specs.Formats.{stream_text}
+use Rattle.kahn_texts.proofs.Writing.{fails, stops, goes_on}
+use Rattle.kahn_texts.proofs.several.several_counted.Goals as goal
+
+pub returns-in_err-put_streams_by-clause-text : goal.returns-in_err-put_streams_by-clause-text
+returns-in_err-put_streams_by-clause-text g c =
+    fails _ _ _ _ c.from_residual.ensures.0 (stops _ _ _ _ (rw c.deref.ensures.value at c.in_err-put_streams_by.ensures.text))
+
+pub returns-clause-text : goal.returns-clause-text
+returns-clause-text g c =
+    let streams = flat_map (stream_text c.args.network.now) c.args.answer.now.streams.items in
+    goes_on _ _ _ _ streams _ (rw c.deref.ensures.value at c.in_ok-put_streams_by.ensures.text) (rw c.deref-2.ensures.value at c.closing_counted.ensures.text)

@@ -1,0 +1,4 @@
+pub mod Formats
+pub mod News
+pub mod Reading
+pub mod inner

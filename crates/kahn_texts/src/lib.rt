@@ -1,0 +1,32 @@
+//! Texts in and out of a run: the input text, the report text, and reading and writing them.
+#![tactic(auto)]
+
+mod bytes;
+mod digits;
+mod entries;
+mod heads;
+mod input;
+mod made;
+mod names;
+mod news;
+mod pieces;
+mod plain;
+mod read;
+mod several;
+mod values;
+mod write;
+
+pub use bytes::WriteFault;
+pub use input::{TextFault, read_input};
+pub use read::{ReadFault, read_counted, read_text};
+pub use several::write_report_by;
+pub use write::{write_counted, write_report};
+
+// For the crates above.
+pub use bytes::{flush, put, put_all, put_line, write_line, write_line_counted};
+pub use digits::{Lined, Spaced, put_values};
+pub use entries::{LineFault, MOST_BYTES, read_entries, read_line};
+pub use names::{channel_name, process_name};
+pub use news::{write_closing, write_news};
+pub use plain::write_plain;
+pub use several::write_for;

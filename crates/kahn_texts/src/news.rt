@@ -1,0 +1,113 @@
+//! What goes out while a run goes on: what is new on a stream, and at its end how it ended.
+
+ghost use Rattle.std.specs.Prelude.{◌≡◌, ◌+◌, ◌<◌, ◌≤◌, length, map};
+ghost use Rattle.kahn_streams.specs.Tokens.{token_value};
+ghost use Rattle.kahn_texts.specs.Formats.{IsLine};
+ghost use Rattle.kahn_texts.specs.News.{more_text, closing_text};
+ghost use Rattle.kahn_streams.specs.Written.{Writes};
+
+use crate::bytes::{WriteFault, flush};
+use crate::write::{put_ends, put_last, put_tokens};
+use kahn_streams::{Carried, End, Line, Network, Steps, Verdict};
+use std::io::Write;
+use std::marker::Brand;
+use std::sync::ledger::{Blank, Ledger};
+
+/// Writes the line of a stream with these new tokens, or nothing if there are none, and counts the writes.
+fn news_counted<W: Write, L: Ledger>(
+    writer: &mut W,
+    network: &Network,
+    line: Line,
+    tokens: &[Carried],
+    writes: &mut Steps<L>,
+) -> Result<(), WriteFault>
+    requires { IsLine network.now line }
+    ensures text { Writes (W.contents writer.old) (W.contents writer.new) result (more_text network.now line (map token_value tokens.now)) }
+    ensures few { writes.new ≤ writes.old + length (more_text network.now line (map token_value tokens.now)) }
+{
+    if tokens.is_empty() {
+        return Ok(());
+    }
+    put_tokens(writer, network, line, tokens, writes)
+}
+
+/// Opens a count, and writes what is new.
+fn news_opened<W: Write, L: Ledger>(
+    writer: &mut W,
+    blank: Blank,
+    network: &Network,
+    line: Line,
+    tokens: &[Carried],
+) -> Result<(), WriteFault>
+    requires name { blank.name ≡ L.name }
+    requires parts { blank.parts ≡ L.parts }
+    requires some { 0 < blank.parts }
+    requires line { IsLine network.now line }
+    ensures { Writes (W.contents writer.old) (W.contents writer.new) result (more_text network.now line (map token_value tokens.now)) }
+{
+    let mut writes = Steps::<L>::open(blank);
+    news_counted(writer, network, line, tokens, &mut writes)
+}
+
+/// Writes what is new on a stream: a line with its heading, as in a report, and these values, or nothing if there are
+/// none. It doesn't flush. After a fault a prefix of it went out.
+pub fn write_news<W: Write>(
+    writer: &mut W,
+    network: &Network,
+    line: Line,
+    tokens: &[Carried],
+) -> Result<(), WriteFault>
+    requires { IsLine network.now line }
+    ensures { Writes (W.contents writer.old) (W.contents writer.new) result (more_text network.now line (map token_value tokens.now)) }
+{
+    news_opened::<W, Brand>(writer, Blank::new(1), network, line, tokens)
+}
+
+/// Writes the last lines of a report and flushes, and counts both.
+pub(crate) fn closing_counted<W: Write, L: Ledger>(
+    writer: &mut W,
+    network: &Network,
+    verdict: Verdict,
+    ends: &[End],
+    events: u64,
+    writes: &mut Steps<L>,
+) -> Result<(), WriteFault>
+    ensures text { Writes (W.contents writer.old) (W.contents writer.new) result (closing_text network.now verdict ends.now events) }
+    ensures few { writes.new ≤ writes.old + length (closing_text network.now verdict ends.now events) + 1 }
+{
+    put_ends(writer, network, ends, writes)?;
+    put_last(writer, verdict, events, writes)?;
+    flush(writer, writes)
+}
+
+/// Opens a count, and writes the last lines of a report.
+fn closing_opened<W: Write, L: Ledger>(
+    writer: &mut W,
+    blank: Blank,
+    network: &Network,
+    verdict: Verdict,
+    ends: &[End],
+    events: u64,
+) -> Result<(), WriteFault>
+    requires name { blank.name ≡ L.name }
+    requires parts { blank.parts ≡ L.parts }
+    requires some { 0 < blank.parts }
+    ensures { Writes (W.contents writer.old) (W.contents writer.new) result (closing_text network.now verdict ends.now events) }
+{
+    let mut writes = Steps::<L>::open(blank);
+    closing_counted(writer, network, verdict, ends, events, &mut writes)
+}
+
+/// Writes the last lines of a report, those of the ends and of the verdict with the sum of the events, and flushes. After a
+/// fault a prefix of them went out.
+pub fn write_closing<W: Write>(
+    writer: &mut W,
+    network: &Network,
+    verdict: Verdict,
+    ends: &[End],
+    events: u64,
+) -> Result<(), WriteFault>
+    ensures { Writes (W.contents writer.old) (W.contents writer.new) result (closing_text network.now verdict ends.now events) }
+{
+    closing_opened::<W, Brand>(writer, Blank::new(1), network, verdict, ends, events)
+}

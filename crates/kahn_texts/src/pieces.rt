@@ -1,0 +1,189 @@
+//! The lines of streams, cut into pieces of about the same length.
+
+ghost use Rattle.std.specs.Prelude.{◌≡◌, ◌+◌, ◌<◌, ◌≤◌, ◌∷◌, ◌++◌, length, flat_map, All, IfOk, OnOk};
+ghost use Rattle.kahn_streams.specs.Written.{line_feed, Writes};
+ghost use Rattle.kahn_texts.specs.Formats.{IsLine, line_head, stream_text, token_text};
+ghost use Rattle.kahn_texts.specs.inner.Pieces.{AreAdded, ArePieces, IsMovedOn, IsPiece, piece_text};
+
+use crate::bytes::{WriteFault, put};
+use crate::digits::{Spaced, put_values};
+use crate::write::{put_head, put_streams};
+use kahn_streams::{Carried, Line, Network, Steps, Stream};
+use std::alloc::{AllocError, Global};
+use std::io::Write;
+use std::sync::ledger::Ledger;
+
+/// A piece of the lines of streams.
+#[derive(Clone, Copy)]
+pub(crate) enum Piece<'a> {
+    /// Whole lines.
+    Lines(&'a [Stream]),
+    /// What a line begins with, and its first values.
+    Opening(Line, &'a [Carried]),
+    /// Some values of a line.
+    Middle(&'a [Carried]),
+    /// The last values of a line, and its end.
+    Closing(&'a [Carried]),
+}
+
+/// Writes what a line begins with, and its first values.
+fn put_opening<W: Write, L: Ledger>(
+    writer: &mut W,
+    network: &Network,
+    line: Line,
+    tokens: &[Carried],
+    writes: &mut Steps<L>,
+) -> Result<(), WriteFault>
+    requires { IsLine network.now line }
+    ensures text { Writes (W.contents writer.old) (W.contents writer.new) result (line_head network.now line ++ flat_map token_text tokens.now) }
+    ensures few { writes.new ≤ writes.old + length (line_head network.now line ++ flat_map token_text tokens.now) }
+{
+    put_head(writer, network, line, writes)?;
+    put_values::<Spaced, _, _>(writer, tokens, writes)
+}
+
+/// Writes the last values of a line, and its end.
+fn put_closing<W: Write, L: Ledger>(
+    writer: &mut W,
+    tokens: &[Carried],
+    writes: &mut Steps<L>,
+) -> Result<(), WriteFault>
+    ensures text { Writes (W.contents writer.old) (W.contents writer.new) result (flat_map token_text tokens.now ++ line_feed) }
+    ensures few { writes.new ≤ writes.old + length (flat_map token_text tokens.now ++ line_feed) }
+{
+    put_values::<Spaced, _, _>(writer, tokens, writes)?;
+    put(writer, b"\n", writes)
+}
+
+/// Writes a piece.
+pub(crate) fn put_piece<W: Write, L: Ledger>(
+    writer: &mut W,
+    network: &Network,
+    piece: Piece<'_>,
+    writes: &mut Steps<L>,
+) -> Result<(), WriteFault>
+    requires { IsPiece network.now piece }
+    ensures text { Writes (W.contents writer.old) (W.contents writer.new) result (piece_text network.now piece.entry) }
+    ensures few { writes.new ≤ writes.old + length (piece_text network.now piece.entry) }
+{
+    match piece {
+        Piece::Lines(streams) => put_streams(writer, network, streams, writes),
+        Piece::Opening(line, tokens) => put_opening(writer, network, line, tokens, writes),
+        Piece::Middle(tokens) => put_values::<Spaced, _, _>(writer, tokens, writes),
+        Piece::Closing(tokens) => put_closing(writer, tokens, writes),
+    }
+}
+
+/// Returns the length of a stream's line: 1 for each value, and 1 for what it begins with.
+fn weight(stream: &Stream) -> usize {
+    stream.tokens.len().saturating_add(1)
+}
+
+/// Returns the length of the lines of streams together.
+pub(crate) fn weight_of(streams: &[Stream]) -> usize {
+    let mut sum: usize = 0;
+    for stream in streams {
+        sum = sum.saturating_add(weight(stream));
+    }
+    sum
+}
+
+/// Returns how many of the first lines are together no longer than `most`.
+fn together(streams: &[Stream], most: usize) -> usize
+    ensures { result ≤ length streams.now }
+{
+    let mut sum: usize = 0;
+    for (count, stream) in streams.iter().enumerate() {
+        sum = sum.saturating_add(weight(stream));
+        if sum > most {
+            return count;
+        }
+    }
+    streams.len()
+}
+
+/// Adds a piece.
+fn add<'a>(
+    network: &Network,
+    pieces: &mut Vec<Piece<'a>>,
+    piece: Piece<'a>,
+) -> Result<(), AllocError>
+    requires { IsPiece network.now piece }
+    ensures { OnOk result (AreAdded network.now pieces.old.items pieces.new.items (piece_text network.now piece.entry)) }
+{
+    pieces.push(piece)?;
+    Ok(())
+}
+
+/// Returns how many values each part of so many has: at most `most`, and as many as the others.
+pub(crate) fn part_size(values: usize, most: usize) -> usize
+    requires { 0 < most }
+    ensures { 0 < result }
+{
+    values.div_ceil(values.div_ceil(most).max(1)).max(1)
+}
+
+/// Adds the pieces of one line, each of at most `most` values.
+fn add_parts<'a>(
+    network: &Network,
+    pieces: &mut Vec<Piece<'a>>,
+    stream: &'a Stream,
+    most: usize,
+) -> Result<(), AllocError>
+    requires most { 0 < most }
+    requires line { IsLine network.now stream.now.line }
+    ensures { OnOk result (AreAdded network.now pieces.old.items pieces.new.items (stream_text network.now stream.now)) }
+{
+    let tokens = stream.tokens.as_slice();
+    let size = part_size(tokens.len(), most);
+    let (first, mut rest) = tokens.split_at(size.min(tokens.len()));
+    add(network, pieces, Piece::Opening(stream.line, first))?;
+    while rest.len() > size {
+        let (part, after) = rest.split_at(size);
+        add(network, pieces, Piece::Middle(part))?;
+        rest = after;
+    }
+    add(network, pieces, Piece::Closing(rest))
+}
+
+/// Adds the first of the lines: as many as are short together, or else the pieces of one. Returns the lines that are left.
+fn add_first<'a>(
+    network: &Network,
+    pieces: &mut Vec<Piece<'a>>,
+    streams: &'a [Stream],
+    first: &'a Stream,
+    others: &'a [Stream],
+    most: usize,
+) -> Result<&'a [Stream], AllocError>
+    requires most { 0 < most }
+    requires first { streams.now ≡ first.now ∷ others.now }
+    requires lines { All (λ stream. IsLine network.now stream.line) streams.now }
+    ensures { IfOk result (λ rest. IsMovedOn network.now pieces.old.items pieces.new.items streams.now rest.now) }
+{
+    if weight(first) > most {
+        add_parts(network, pieces, first, most)?;
+        return Ok(others);
+    }
+    let (lines, rest) = streams.split_at(together(streams, most).max(1));
+    add(network, pieces, Piece::Lines(lines))?;
+    Ok(rest)
+}
+
+/// Cuts the lines of streams into pieces, each of about `most` values.
+pub(crate) fn pieces_of<'a>(
+    alloc: Global,
+    network: &Network,
+    streams: &'a [Stream],
+    most: usize,
+) -> Result<Vec<Piece<'a>>, AllocError>
+    requires most { 0 < most }
+    requires lines { All (λ stream. IsLine network.now stream.line) streams.now }
+    ensures { IfOk result (λ pieces. ArePieces network.now pieces.items (flat_map (stream_text network.now) streams.now)) }
+{
+    let mut pieces = Vec::new(alloc);
+    let mut rest = streams;
+    while let Some((first, others)) = rest.split_first() {
+        rest = add_first(network, &mut pieces, rest, first, others, most)?;
+    }
+    Ok(pieces)
+}

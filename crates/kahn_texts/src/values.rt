@@ -1,0 +1,70 @@
+//! The values of an entry, after its colon.
+
+ghost use Rattle.std.specs.Prelude.{◌≡◌, ℤ, MatchOption, MatchResult};
+ghost use Rattle.kahn_texts.specs.Formats.{AreNoValues, AreValues, IsValue};
+ghost use Rattle.kahn_streams.specs.declared.value.Value.{Value};
+ghost use Rattle.kahn_streams.specs.declared.value.Value.TheVariants.{Integer};
+
+use kahn_streams::Value;
+use std::alloc::Global;
+use std::str;
+
+/// Why values weren't read.
+#[derive(Clone, Copy)]
+pub(crate) enum ValuesFault {
+    /// A word that is no value.
+    NoValue,
+    /// Memory was refused.
+    NoMemory,
+}
+
+/// Returns the number that a word spells: an optional minus and digits, in the range of 64 bits.
+fn number_of(word: &str) -> Option<i64>
+    ensures { MatchOption result ((number : ℤ) → IsValue word.now (Integer number) → ⊥) (λ number. IsValue word.now (Integer number)) }
+{
+    if word.as_bytes().first() == Some(&b'+') {
+        return None;
+    }
+    word.parse::<i64>().ok()
+}
+
+/// Returns the number that bytes spell.
+fn number_in(word: &[u8]) -> Option<i64>
+    ensures { MatchOption result ((number : ℤ) → IsValue word.now (Integer number) → ⊥) (λ number. IsValue word.now (Integer number)) }
+{
+    match str::from_utf8(word) {
+        Ok(text) => number_of(text),
+        Err(_) => None,
+    }
+}
+
+/// Returns the value that a word spells.
+fn value_of(word: &[u8]) -> Option<Value>
+    ensures { MatchOption result ((value : Value) → IsValue word.now value → ⊥) (λ value. IsValue word.now value) }
+{
+    if word.eq_ignore_ascii_case(b"true") {
+        return Some(Value::Logical(true));
+    }
+    if word.eq_ignore_ascii_case(b"false") {
+        return Some(Value::Logical(false));
+    }
+    number_in(word).map(Value::Integer)
+}
+
+/// Reads the values between blanks.
+pub(crate) fn read_values(alloc: Global, text: &[u8]) -> Result<Vec<Value>, ValuesFault>
+    ensures { MatchResult result (λ values. AreValues text.now values.items) (λ fault. fault ≡ ValuesFault.NoValue → AreNoValues text.now) }
+{
+    let mut values = Vec::new(alloc);
+    for word in text.split(|byte| *byte == b' ' || *byte == b'\t') {
+        if !word.is_empty() {
+            let Some(value) = value_of(word) else {
+                return Err(ValuesFault::NoValue);
+            };
+            if values.push(value).is_err() {
+                return Err(ValuesFault::NoMemory);
+            }
+        }
+    }
+    Ok(values)
+}
