@@ -342,13 +342,6 @@ impl<'n> Bench<'n> {
         self.watch
     }
 
-    /// Its queues.
-    pub fn queues(&self) -> &Plain<Global>
-        ensures { result.now ≡ self.now.queues }
-    {
-        &self.queues
-    }
-
     /// Says that no process counted more tokens than events. For the prover only.
     pub fn sized(&self)
         ensures { (p : ℕ) (c : Told) → slice_get self.now.cells p ≡ Some c → AreCounts c }

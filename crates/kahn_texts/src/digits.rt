@@ -31,7 +31,7 @@ fn place(text: &[u8], room: &mut [u8], end: usize) -> usize
 
 /// Places a number so that it ends at `end`, and returns where it begins.
 #[inline(always)]
-#[tactic(auto, using(crate::proofs::Pieces::digits_within))]
+#[tactic(auto, using(crate::proofs::Writing::digits_within))]
 fn place_number(number: i64, room: &mut [u8], end: usize) -> usize
     requires { (20 ≤ end) × (end ≤ length room.old) }
     ensures near { (result ≤ end) × (end ≤ result + 20) }
