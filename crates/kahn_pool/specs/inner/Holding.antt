@@ -3,7 +3,7 @@ use Rattle.std.specs.Prelude.{◌≡◌, ℕ, ◌+◌, ◌<◌, ◌≤◌, ◌^�
 use Rattle.kahn_pool.specs.inner.Below.{AreIdle, AreJobsAt, End, HaveGone, IsInRange, IsLack, Left, Lists, NoMemory, Plan, Program, Tasked, Token, Told, Verdict, Work, cells_of, inputs_of, network_of, told_view}
 use Rattle.kahn_sequential.specs.HeldRuns.{HeldRun, seen_events, seen_of}
 use Rattle.kahn_pool.specs.{declared.part.PartRoom.PartRoom, declared.part.Stopped.Stopped, declared.plan.Part.Part, declared.workers.HandRoom.HandRoom}
-use Rattle.kahn_sequential.specs.{inner.Bench.RunState, inner.Streams.AreAllGiven, inner.Streams.AreGiven, inner.Workbench.AllStandBy, inner.Workbench.Table}
+use Rattle.kahn_sequential.specs.{inner.Bench.RunState, inner.Parts.AreEnded, inner.Parts.HaveRisen, inner.Parts.run_with, inner.Streams.AreAllGiven, inner.Streams.AreGiven, inner.Workbench.AllStandBy, inner.Workbench.Table}
 
 -- the cell without its input
 abbrev pub cell_alone : Told → Told
