@@ -1,8 +1,8 @@
 """The worst texts that are known, each of about the most bytes that there may be, against limits on processor time and memory; and that there
 is a report if memory for workers, or threads, are refused.
 
-Each text is read by all four programs, and none may take more than a second (user and system) or 300 MB. LIMITS has the cases that may take
-more, since docs/formats.md names them as limits, with the reason. SINCE has those that version 0.9.0 didn't meet, with what it took.
+Each text is read by all four programs. None may take more than four times as long as a fixed piece of work beside it, which is two seconds of
+a quiet host (user and system), or 300 MB. LIMITS has the cases that may take more, since docs/formats.md names them as limits.
 """
 import concurrent.futures
 import itertools
@@ -16,25 +16,17 @@ import tempfile
 from common import NAMES, TOP, measured_well, write
 
 MOST, MOST_INPUT = 1048576, 16777216
-SECONDS, MEGABYTES = 1.0, 300
+TIMES, MEGABYTES = 4, 300
 
-# What may take more than the limits: seconds, megabytes, and why.
+# What may take more than the limits: how many times as long, megabytes, and why.
 LIMITS = {
-    "variables": (2, 1000, "each of 256 instances has 16 bytes for each of its 209,000 variables"),
-    "straight_line": (2, 300, "a sum of half a million operators is one turn of a loop, and a bound counts turns"),
-    "seven_inputs": (2, 450, "seven million values of inputs and as many of outputs have 16 bytes each"),
-    "waits_256": (2, 300, "the places of each of 256 instances are looked for anew"),
-    "faults_256": (2, 300, "about a second, and more on a slow host"),
-    "signs": (2, 300, "about a second, and more on a slow host"),
-    "faulty_bodies": (4, 300, "each of the first twenty notes looks for its place in all bodies"),
-}
-
-# What version 0.9.0 took, by the program that took the most.
-SINCE = {
-    "hash": "2.3 s", "blanks": "600 s", "while_names": "200 s", "unknown_name": "40 s", "unknown_processes": "75 s", "two_writers": "43 s",
-    "faults_256": "160 s", "faults_lines": "41 s", "faulty_bodies": "1.8 s", "late": "10 s", "late_lines": "10 s", "waits_256": "5.5 s",
-    "body_256": "4.4 s", "comments": "2.9 s", "nested_blocks": "1.6 s", "run": "120 s", "sleeping_readers": "2.9 s",
-    "memory for workers": "no report", "no thread": "no report",
+    "variables": (12, 1000, "each of 256 instances has 16 bytes for each of its 209,000 variables"),
+    "straight_line": (12, 300, "a sum of half a million operators is one turn of a loop, and a bound counts turns"),
+    "seven_inputs": (12, 450, "seven million values of inputs and as many of outputs have 16 bytes each"),
+    "waits_256": (12, 300, "the places of each of 256 instances are looked for anew"),
+    "faults_256": (12, 300, "the places of a fault are looked for in a body as long as a text"),
+    "signs": (12, 300, "as many operators as a text has room for"),
+    "faulty_bodies": (16, 300, "each of the first twenty notes looks for its place in all bodies"),
 }
 
 
@@ -201,21 +193,21 @@ def words_for(program, path, folder, text, more):
 
 
 def try_case(name, paths, folder):
-    """What goes wrong with a text, one line for each program, and how much passes."""
+    """What each program takes for a text: a line, and whether that is good."""
     made, text = CASES[name][0](), f"{folder}/{name}"
     made, given = made if isinstance(made, tuple) else (made, None)
     for content, end, most in ((made, "kahn", MOST), (given, "input", MOST_INPUT)):
         if content is not None:
             assert len(content.encode()) <= most, (name, end, len(content.encode()))
             write(f"{text}.{end}", content)
-    seconds, megabytes, _ = LIMITS.get(name, (SECONDS, MEGABYTES, ""))
+    times, megabytes, why = LIMITS.get(name, (TIMES, MEGABYTES, ""))
     told = []
     for program in NAMES:
         more = CASES[name][1].get(program, [])
         if more is not None:
-            words, lines = words_for(program, paths[program], folder, text, more)
-            status, took, room = measured_well(seconds, words, lines)
-            told.append((program, status, took, room // 1024, 0 <= status <= 8 and took <= seconds and room <= 1024 * megabytes))
+            status, took, room, good = measured_well(times, *words_for(program, paths[program], folder, text, more))
+            line = f"{name}: {program} {took:.2f} s, {room // 1024} MB{why and f' ({why})'}"
+            told.append((line, f"status {status}", good and 0 <= status <= 8 and room <= 1024 * megabytes))
     return told
 
 
@@ -241,7 +233,7 @@ def memory_for_workers(paths, folder):
     bad = [kilobytes for kilobytes in (4500, 5000, 5500, 6000, 7000, 10000, 15000, 20000, 25000, 30000, 35000, 40000)
            if has_report([*words, "--workers", "1"], limited(resource.RLIMIT_AS, 1024 * kilobytes))
            and not has_report(words, limited(resource.RLIMIT_AS, 1024 * kilobytes))]
-    return f"no report with `ulimit -v` {bad}" if bad else ""
+    return [("memory for workers", f"no report with `ulimit -v` {bad}", not bad)]
 
 
 def no_thread(paths, folder):
@@ -249,20 +241,7 @@ def no_thread(paths, folder):
     user = 60003 if os.getuid() == 0 else None
     shutil.copy(paths["kahn"], f"{folder}/kahn")
     good = has_report([f"{folder}/kahn", f"{folder}/chain.kahn", "--bound", "3000000"], limited(resource.RLIMIT_NPROC, 1, user))
-    return "" if good else "no report with `ulimit -u 1`"
-
-
-WORLD = {"memory for workers": memory_for_workers, "no thread": no_thread}
-
-
-def say(name, wrong, what, tried):
-    """Prints what a case took, or what is wrong with it."""
-    if wrong:
-        since = f" (as 0.9.0: {SINCE[name]})" if name in SINCE else ""
-        tried.fail(f"{name}: {what} {wrong}{since}")
-    else:
-        tried.passed += 1
-        print(f"{name}: {what}", flush=True)
+    return [("no thread", "no report with `ulimit -u 1`", good)]
 
 
 def try_worst(paths, folder, only, tried):
@@ -270,11 +249,10 @@ def try_worst(paths, folder, only, tried):
     os.chmod(folder, 0o755)
     write(f"{folder}/chain.kahn", chain())
     write(f"{folder}/input", b"\n" * MOST_INPUT)
-    for name in (it for it in WORLD if only in it):
-        say(name, WORLD[name](paths, folder), "", tried)
-    chosen = [it for it in CASES if only in it]
+    told = [it for case in (memory_for_workers, no_thread) if only in case.__name__ for it in case(paths, folder)]
     with concurrent.futures.ThreadPoolExecutor(os.cpu_count()) as pool:
-        for name, told in zip(chosen, pool.map(lambda it: try_case(it, paths, folder), chosen)):
-            for program, status, took, room, good in told:
-                why = f" ({LIMITS[name][2]})" if name in LIMITS else ""
-                say(name, "" if good else f"status {status}", f"{program} {took:.2f} s, {room} MB{why}", tried)
+        told += itertools.chain.from_iterable(pool.map(lambda it: try_case(it, paths, folder), [it for it in CASES if only in it]))
+    for line, wrong, good in told:
+        print(line if good else f"FAILED {line}: {wrong}", flush=True)
+        tried.passed += good
+        tried.failed += not good
