@@ -67,7 +67,7 @@ def try_vim(vim, path, name, places, tried):
     folder = os.path.dirname(path)
     with open(f"{folder}/script.vim", "w", encoding="utf-8") as it:
         it.write(SCRIPT.replace("EDITORS", EDITORS).replace("PROGRAM", os.path.basename(path).replace(" ", "\\ ")))
-    subprocess.run([vim, "-es", "-u", "NONE", "-i", "NONE", "-S", "script.vim"], cwd=folder, stdin=subprocess.DEVNULL, capture_output=True, timeout=60)
+    subprocess.run([vim, "-es", "-u", "NONE", "-i", "NONE", "-S", "script.vim"], cwd=folder, stdin=subprocess.DEVNULL, capture_output=True, timeout=600)
     with open(f"{folder}/places", encoding="utf-8") as it:
         told = it.read().splitlines()
     tried.same(f"Vim, {name}", told, [*(f"{place} {kind}" for place, kind in places), f"{places[0][0]} comment %s;"])
@@ -75,7 +75,7 @@ def try_vim(vim, path, name, places, tried):
 
 def try_extension(node, explain, path, name, places, marked, changed, tried):
     words = [node, f"{TOP}/checks/editors.js", f"{EDITORS}/vscode", explain, path]
-    ran = subprocess.run(words, capture_output=True, timeout=60, text=True)
+    ran = subprocess.run(words, capture_output=True, timeout=600, text=True)
     told = json.loads(ran.stdout or "{}")
     tried.same(f"Visual Studio Code, {name}", [it[0] for it in told.get("diagnostics", [ran.stderr])], marked)
     tried.same(f"its problem matcher, {name}", [it[0] for it in told.get("matched", [])], [place for place, _ in places])

@@ -98,7 +98,7 @@ def vim(text):
                 "    let column = byteidx(getline(row), place) + 1",
                 "    call add(names, synIDattr(synID(row, column, 1), 'name'))", "  endfor", "  call add(groups, join(names, ','))", "endfor",
                 f"call writefile(groups, '{folder}/groups')", "qall!", ""]))
-        subprocess.run(["vim", "-es", "-u", "NONE", "-i", "NONE", "-S", f"{folder}/ask.vim"], stdin=subprocess.DEVNULL, timeout=60)
+        subprocess.run(["vim", "-es", "-u", "NONE", "-i", "NONE", "-S", f"{folder}/ask.vim"], stdin=subprocess.DEVNULL, timeout=600)
         with open(f"{folder}/groups", encoding="utf-8") as it:
             rows = [line.split(",") for line in it.read().split("\n")]
     return [name for row, line in zip(rows, text.splitlines()) for name in [*row[: len(line)], ""]]

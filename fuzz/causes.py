@@ -254,7 +254,7 @@ def one(explain, kahn, room, seed):
             with open(name, "w", encoding="utf-8", newline="") as it:
                 it.write(content)
         words = [path, "--input", path + ".input", *words, "--workers"]
-        ran = subprocess.run([kahn, *words, "1"], stdin=subprocess.DEVNULL, capture_output=True, timeout=60)
+        ran = subprocess.run([kahn, *words, "1"], stdin=subprocess.DEVNULL, capture_output=True, timeout=600)
         ends, last = ends_of(checked, ran.stdout.decode())
         wanted, status, causes = wanted_of(checked, text, inputs, ends, last)
         if causes:
@@ -264,7 +264,7 @@ def one(explain, kahn, room, seed):
     faulted = {p: None for p, (word, _, _) in enumerate(ends) if word.startswith("fault")}
     placed = faulted | {p: spots(checked, text, ends[p][1]) for p in causes if cause(checked, ends, p)[2]}
     for told, more in zip(wanted, ([], ["--all"])):
-        ran = subprocess.run([explain, *words, workers, *more], stdin=subprocess.DEVNULL, capture_output=True, timeout=60)
+        ran = subprocess.run([explain, *words, workers, *more], stdin=subprocess.DEVNULL, capture_output=True, timeout=600)
         wrong, places = differs(ran, told, status, placed)
         if wrong:
             return wrong, " ".join(words + more)

@@ -317,7 +317,7 @@ def one(program, room, seed):
     if not piped:
         words.append(at + ".kahn")
     try:
-        ran = subprocess.run(words, input=text if piped else b"", capture_output=True, timeout=60)
+        ran = subprocess.run(words, input=text if piped else b"", capture_output=True, timeout=600)
     except (OSError, subprocess.TimeoutExpired) as error:
         return str(error), ' '.join(words)
     wanted = ref.run(text, source, bound, watch, ("standard input" if piped else at + ".kahn", at + ".input"))

@@ -87,8 +87,8 @@ def one(live, kahn, room, seed):
         with open(name, "w", encoding="utf-8", newline="") as it:
             it.write(content)
     words = [kahn, path, "--input", path + ".input", "--bound", str(ENOUGH), "--workers", "1"]
-    whole = subprocess.run(words, stdin=subprocess.DEVNULL, capture_output=True, timeout=60).stdout.decode()
-    ran = subprocess.run([live, path, "--step", str(step)], input=lines.encode() + b"refused\n", capture_output=True, timeout=60)
+    whole = subprocess.run(words, stdin=subprocess.DEVNULL, capture_output=True, timeout=600).stdout.decode()
+    ran = subprocess.run([live, path, "--step", str(step)], input=lines.encode() + b"refused\n", capture_output=True, timeout=600)
     what = difference(ran, whole, step)
     if what is not None:
         return what, f"{path} --step {step} < {path}.lines"

@@ -165,7 +165,7 @@ def one(program, room, seed):
     with open(path, "wb") as it:
         it.write(text)
     try:
-        ran = subprocess.run([program, path], stdin=subprocess.DEVNULL, capture_output=True, timeout=60)
+        ran = subprocess.run([program, path], stdin=subprocess.DEVNULL, capture_output=True, timeout=600)
     except (OSError, subprocess.TimeoutExpired) as error:
         return str(error), path
     lines = ran.stdout.decode().split("\n")

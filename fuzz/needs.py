@@ -40,7 +40,7 @@ class Trial:
         with open(self.at + ".input", "w", encoding="utf-8") as it:
             it.write("".join(lines))
         words = [program, self.at + ".kahn", "--input", self.at + ".input", "--workers", "1", *words]
-        return subprocess.run(words, capture_output=True, text=True, timeout=60)
+        return subprocess.run(words, capture_output=True, text=True, timeout=600)
 
     def report(self, inputs, line, bound=BOUND):
         """The values of a line in a run, the events of each process, and whether it finished."""

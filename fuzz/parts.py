@@ -81,7 +81,7 @@ def one(explain, _, seed):
     wanted = ref.told(text)
     if not wanted:
         return None, "skipped"
-    what = difference(text, subprocess.run([explain], input=text, capture_output=True, timeout=60), wanted)
+    what = difference(text, subprocess.run([explain], input=text, capture_output=True, timeout=600), wanted)
     return what, text.decode() if what else "several faults" if len(wanted) > 1 else "one fault"
 
 

@@ -125,7 +125,7 @@ class Room(unittest.TestCase):
 
     def ran(self, *words, text=b"", **variables):
         """Standard output, standard error and status of a command, which runs in the folder."""
-        done = subprocess.run(words, cwd=self.folder, input=text, capture_output=True, env={**os.environ, **variables}, timeout=60, check=False)
+        done = subprocess.run(words, cwd=self.folder, input=text, capture_output=True, env={**os.environ, **variables}, timeout=600, check=False)
         return done.stdout.decode(), done.stderr.decode(), done.returncode
 
     def refusing(self, source):

@@ -249,10 +249,10 @@ def try_worst(paths, folder, only, tried):
     os.chmod(folder, 0o755)
     write(f"{folder}/chain.kahn", chain())
     write(f"{folder}/input", b"\n" * MOST_INPUT)
-    told = [it for case in (memory_for_workers, no_thread) if only in case.__name__ for it in case(paths, folder)]
     with concurrent.futures.ThreadPoolExecutor(os.cpu_count()) as pool:
-        told += itertools.chain.from_iterable(pool.map(lambda it: try_case(it, paths, folder), [it for it in CASES if only in it]))
-    for line, wrong, good in told:
-        print(line if good else f"FAILED {line}: {wrong}", flush=True)
-        tried.passed += good
-        tried.failed += not good
+        cases = [lambda it=it: it(paths, folder) for it in (memory_for_workers, no_thread) if only in it.__name__]
+        cases += [lambda it=it: try_case(it, paths, folder) for it in CASES if only in it]
+        for line, wrong, good in itertools.chain.from_iterable(pool.map(lambda it: it(), cases)):
+            print(line if good else f"FAILED {line}: {wrong}", flush=True)
+            tried.passed += good
+            tried.failed += not good
