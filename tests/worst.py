@@ -1,5 +1,4 @@
-"""The worst texts that are known, each of about the most bytes that there may be, against limits on processor time and memory; and that there
-is a report if memory for workers, or threads, are refused.
+"""The worst texts that are known, each of about the most bytes that there may be, against limits on processor time and memory.
 
 Each text is read by all four programs. None may take more than four times as long as a fixed piece of work beside it, which is two seconds of
 a quiet host (user and system), or 300 MB. LIMITS has the cases that may take more, since docs/formats.md names them as limits.
@@ -7,9 +6,6 @@ a quiet host (user and system), or 300 MB. LIMITS has the cases that may take mo
 import concurrent.futures
 import itertools
 import os
-import re
-import resource
-import shutil
 import subprocess
 import tempfile
 
@@ -139,14 +135,6 @@ def star():
     return f"begin integer channel {','.join(channels)};{source}{reader}s({','.join(channels)}) par {' par '.join(f'r({it})' for it in channels)} end"
 
 
-def chain():
-    """A source and 255 copies."""
-    inner = [f"c{number}" for number in range(255)]
-    start = f"begin integer channel {','.join(inner)};integer output channel o;process s(integer out b);begin integer x;repeat begin x:=x+1;send x on b end end;"
-    ends = [*inner[1:], "o"]
-    return start + "process f(integer in a;integer out b);begin repeat send wait(a) on b end;s(c0) par " + " par ".join(f"f({a},{b})" for a, b in zip(inner, ends)) + " end"
-
-
 ALONE = {"kahn_live": None, "kahn_draw": None, "kahn_explain": None}
 
 # Each case: what makes the text, or the text and an input, and for a program that takes further words these, or None if it isn't tried.
@@ -211,48 +199,12 @@ def try_case(name, paths, folder):
     return told
 
 
-def limited(which, most, user=None):
-    """What sets a limit of the system on a program that begins."""
-    def begin():
-        resource.setrlimit(which, (most, most))
-        if user:
-            os.setgroups([])
-            os.setgid(user)
-            os.setuid(user)
-    return begin
-
-
-def has_report(words, begin):
-    done = subprocess.run(words, stdin=subprocess.DEVNULL, capture_output=True, preexec_fn=begin, check=False)
-    return done.returncode in (0, 3, 4) and re.search(rb"^(finished|stopped by \w+) \d+\n\Z", done.stdout, re.MULTILINE) is not None
-
-
-def memory_for_workers(paths, folder):
-    """At every limit on memory at which one worker gives a report, the usual workers give one."""
-    words = [paths["kahn"], f"{folder}/chain.kahn", "--bound", "3000000"]
-    bad = [kilobytes for kilobytes in (4500, 5000, 5500, 6000, 7000, 10000, 15000, 20000, 25000, 30000, 35000, 40000)
-           if has_report([*words, "--workers", "1"], limited(resource.RLIMIT_AS, 1024 * kilobytes))
-           and not has_report(words, limited(resource.RLIMIT_AS, 1024 * kilobytes))]
-    return [("memory for workers", f"no report with `ulimit -v` {bad}", not bad)]
-
-
-def no_thread(paths, folder):
-    """A user who may start no thread, and who runs nothing else, gets a report."""
-    user = 60003 if os.getuid() == 0 else None
-    shutil.copy(paths["kahn"], f"{folder}/kahn")
-    good = has_report([f"{folder}/kahn", f"{folder}/chain.kahn", "--bound", "3000000"], limited(resource.RLIMIT_NPROC, 1, user))
-    return [("no thread", "no report with `ulimit -u 1`", good)]
-
-
 def try_worst(paths, folder, only, tried):
     """All cases, or those that have the word in their names."""
-    os.chmod(folder, 0o755)
-    write(f"{folder}/chain.kahn", chain())
     write(f"{folder}/input", b"\n" * MOST_INPUT)
     with concurrent.futures.ThreadPoolExecutor(os.cpu_count()) as pool:
-        cases = [lambda it=it: it(paths, folder) for it in (memory_for_workers, no_thread) if only in it.__name__]
-        cases += [lambda it=it: try_case(it, paths, folder) for it in CASES if only in it]
-        for line, wrong, good in itertools.chain.from_iterable(pool.map(lambda it: it(), cases)):
+        chosen = [it for it in CASES if only in it]
+        for line, wrong, good in itertools.chain.from_iterable(pool.map(lambda it: try_case(it, paths, folder), chosen)):
             print(line if good else f"FAILED {line}: {wrong}", flush=True)
             tried.passed += good
             tried.failed += not good
