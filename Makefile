@@ -25,5 +25,5 @@ release: page ; bash release/make.sh
 page: ; cd crates/kahn_web && rt check && bash ../../web/build.sh
 package: ; bash release/deb.sh
 edits: ; python3 checks/edits.py $(CRATE)
-bench: ; bash bench/run.sh
+bench: ; python3 bench/measure.py
 install: ; bash install.sh
