@@ -11,6 +11,9 @@ import re
 import sys
 
 TOP = os.path.dirname(os.path.dirname(os.path.abspath(__file__)))
+sys.path.append(f"{TOP}/tests")
+from common import text_of as read, write
+
 LIST = f"{TOP}/crates/README.md"
 PAGES = ("CONTRIBUTING.md", *(f"docs/{name}.md" for name in "contract faults-rules meaning needs reading".split()),
          *(f"docs/dev/{name}.md" for name in "architecture board checks decisions toolchain-notes".split()))
@@ -21,11 +24,6 @@ HEAD = """# The crates
 From the bottom up: a crate uses only crates that stand before it. crates.txt says which, and docs/dev/architecture.md which file holds what.
 (`python3 checks/crates.py --write` makes this list.)
 """
-
-
-def read(path):
-    with open(path, encoding="utf-8") as it:
-        return it.read()
 
 
 def subject(crate):
@@ -80,8 +78,7 @@ def lost():
 
 def main(*words):
     if words == ("--write",):
-        with open(LIST, "w", encoding="utf-8") as it:
-            it.write(made())
+        write(LIST, made())
         return 0
     wrong = [] if os.path.exists(LIST) and read(LIST) == made() else ["crates/README.md: python3 checks/crates.py --write makes it anew"]
     wrong += (f"{name} isn't there" for name in lost())

@@ -16,8 +16,9 @@ import sys
 import tempfile
 from concurrent.futures import ThreadPoolExecutor
 
-sys.dont_write_bytecode = True
+sys.path.append(f"{os.path.dirname(os.path.abspath(__file__))}/../tests")
 import reference as ref
+from common import write
 
 KINDS = ("integer", "logical")
 NUMBERS = (0, 1, 2, 3, 5, 7, 10, 1000, 2**31, 2**62, 2**63 - 1)
@@ -304,12 +305,6 @@ def words_of(watch, bound, workers, quantum):
         if value is not None:
             out += [name, str(value)]
     return out
-
-
-def write(path, text):
-    with open(path, "wb") as it:
-        it.write(text if isinstance(text, bytes) else text.encode())
-    return path
 
 
 def asked(*words, text=b""):

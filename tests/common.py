@@ -65,9 +65,14 @@ def read(path):
         return it.read()
 
 
+def text_of(path):
+    return read(path).decode()
+
+
 def write(path, text):
     with open(path, "wb") as it:
         it.write(text if isinstance(text, bytes) else text.encode())
+    return path
 
 
 def difference(given, wanted):
