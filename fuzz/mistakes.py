@@ -17,7 +17,6 @@ sys.dont_write_bytecode = True
 HERE = os.path.dirname(os.path.abspath(__file__))
 import reference as ref
 
-LEXEME = re.compile(r"[A-Za-z]\w*|\d+|:=|<>|<=|>=|\S")
 LEFT_OUT = (";", "(", ")", ",", ":=", "do", "then", "on", "par")
 GUARDS = ("do", "then", "else", "repeat")
 LEAST_RIGHT, MOST_MISLED, LEAST_ONE = 96, 2, 97
