@@ -85,7 +85,7 @@ try_programs() {
   beside "streams, and the examples explained" python3 tests/run.py streams explain
   beside "rows" python3 tests/run.py rows
   beside "sessions, and commands of the pages" python3 tests/run.py sessions pages
-  beside "notes and pictures" python3 tests/run.py notes pictures
+  beside "notes" python3 tests/run.py notes
   beside "the release" bash checks/release.sh
   beside "the first ten minutes" bash checks/newcomer.sh
   beside "attacks on the launcher" bash checks/launcher.sh
