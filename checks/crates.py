@@ -47,21 +47,20 @@ def made():
 
 def sources():
     """The files of the crates and of the scripts: path to text."""
-    kinds = ("crates/*/*/**/*.rt", "crates/*/*/**/*.antt", "tests/*.py", "checks/*.py", "fuzz/*.py")
-    paths = (path for kind in kinds for path in glob.glob(f"{TOP}/{kind}", recursive=True) if "/out/" not in path)
-    return {os.path.relpath(path, TOP): read(path) for path in paths}
+    kinds = ("crates/*/src/**/*.rt", "crates/*/specs/**/*.antt", "crates/*/proofs/**/*.antt", "tests/*.py", "checks/*.py", "fuzz/*.py")
+    return {os.path.relpath(path, TOP): read(path) for kind in kinds for path in glob.glob(f"{TOP}/{kind}", recursive=True)}
 
 
 def named(page):
-    """What a page names beside commands: (crate, file) or (None, word), each in its paragraph, item of a list or row of a table."""
+    """What a page names beside commands: files and words, each with the crates that its paragraph, item of a list or row named before."""
     text = re.sub(r"(?ms)^```.*?^```", "", read(f"{TOP}/{page}"))
     for block in re.split(r"\n\n|\n(?=- |\||\d+\. )", text):
-        crate = None
+        crates = []
         for name, span in re.findall(r"(?<!`)\b(kahn_\w+|kahn(?= `))|`([^`\n]+)`", block):
             for word in [name] if name else re.findall(r"(?<![\w/.])(?:[\w/]+\.(?:rt|antt)\b|[A-Z][a-z]+[A-Z]\w*|[a-z]+(?:_[a-z]+)+\b(?!\.))", span):
-                if os.path.isdir(f"{TOP}/crates/{word}") or word.startswith("kahn_") and "/" not in word:
-                    crate = word
-                yield crate, word
+                if os.path.isdir(f"{TOP}/crates/{word}"):
+                    crates.append(word)
+                yield crates, word
 
 
 def lost():
@@ -69,11 +68,11 @@ def lost():
     files = sources()
     words = set(re.findall(r"\w+", " ".join([*files, *files.values()])))
     for page in PAGES:
-        for crate, word in named(page):
-            below = "" if re.match("(crates/)?kahn", word) else f"{crate or '.*'}/(.*/)?"
+        for crates, word in named(page):
+            below = "" if re.match("(crates/)?kahn", word) else f"({'|'.join(crates) or '.*'})/(.*/)?"
             place = re.compile(f"crates/{below}{word.removeprefix('crates/')}$")
             if word not in words and word not in LIBRARY and not any(place.match(path) for path in files):
-                yield f"{page}: {word}{f' of {crate}' if crate and '.' in word else ''}"
+                yield f"{page}: {word}{f' of {crates[-1]}' if crates and '.' in word else ''}"
 
 
 def main(*words):
