@@ -10,7 +10,7 @@
 #   make release            makes a release of the programs and of the page that were built
 #   make page               makes the page release/kahn.html
 #   make package            makes the Debian package
-#   make edits [CRATE=name] tries the must-fail edits that the gate doesn't, and notes what came of it in docs/dev/checks.md
+#   make edits [CRATE=name] tries the must-fail edits that the gate doesn't
 #   make bench              times of the workloads (bench/README.md)
 #   make install            installs the programs (PREFIX, DESTDIR)
 .PHONY: help check mine prove gate test programs release page package edits bench install
@@ -25,5 +25,5 @@ release: page ; bash release/make.sh
 page: ; cd crates/kahn_web && rt check && bash ../../web/build.sh
 package: ; bash release/deb.sh
 edits: ; python3 checks/edits.py $(CRATE)
-bench: ; bash bench/run.sh
+bench: ; python3 bench/measure.py
 install: ; bash install.sh

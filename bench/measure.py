@@ -1,6 +1,6 @@
 """Times of the workloads, each as the median of interleaved runs, beside the interpreter by hand.
 
-    measure.py KAHN [--runs N] [WORKLOAD ..]      KAHN is the program; without names all workloads, nine runs each
+    measure.py [--runs N] [WORKLOAD ..]      without names all workloads, nine runs each, by the program that ./kahn runs
 
 For each workload it prints the events; the milliseconds with 1, 2, 4 and 16 workers; for these the time by the clock and that of all
 processors as multiples of those of one worker; and, if there is an interpreter by hand of it (one thread, built by rustc if it
@@ -17,8 +17,10 @@ import tempfile
 import time
 
 sys.dont_write_bytecode = True
-sys.path.append(os.path.dirname(os.path.abspath(__file__)))
 import workloads
+
+sys.path.append(f"{workloads.HERE}/../tests")
+from common import program as program_of
 
 HERE = workloads.HERE
 WORKERS = (1, 2, 4, 16)
@@ -98,7 +100,8 @@ def measure(name, program, options, kahn, by_hand, runs, room):
     print(line, flush=True)
 
 
-def main(kahn, *words):
+def main(*words):
+    kahn = program_of("kahn")
     runs = int(words[1]) if words[:1] == ("--runs",) else 9
     wanted = words[2:] if words[:1] == ("--runs",) else words
     unknown = [name for name in wanted if name not in WORKLOADS]

@@ -12,7 +12,6 @@ import sys
 import tempfile
 
 sys.dont_write_bytecode = True
-sys.path.append(os.path.dirname(os.path.abspath(__file__)))
 import workloads
 
 HERE = workloads.HERE

@@ -18,17 +18,16 @@ import os
 import re
 import sys
 
-TOP = os.environ.get("TREE") or os.path.dirname(os.path.dirname(os.path.abspath(__file__)))
+HERE = os.path.dirname(os.path.dirname(os.path.abspath(__file__)))
+sys.path.append(f"{HERE}/tests")
+from common import text_of as read
+
+TOP = os.environ.get("TREE") or HERE
 BELOW = "// For the crates above."
 ITEM = re.compile(r"(?m)^pub (?:const |extern \"C\" )?(?:fn|struct|enum|trait|const|type) (\w+)")
 HEAD = re.compile(r"(?m)^(?:pub(?:\(\w+\))? )?(?:unsafe |const |extern \"C\" )*(fn|struct|enum|trait|impl|const|type)\b(?:<[^{]*?>)?\s+(.*)")
 WORD = re.compile(r"[A-Za-z_][\w'-]*(?:\.[A-Za-z_][\w'-]*)*")
 DEFINED = re.compile(r"\s*(?:abbrev |unfoldable |unfolding \S+ )*pub (data |record )?([A-Za-z_][\w'-]*)")
-
-
-def read(path):
-    with open(path, encoding="utf-8") as it:
-        return it.read()
 
 
 def parts(names):

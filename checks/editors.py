@@ -14,7 +14,7 @@ import tempfile
 
 TOP = os.path.dirname(os.path.dirname(os.path.abspath(__file__)))
 sys.path.append(f"{TOP}/tests")
-from common import Tried
+from common import Tried, text_of, write
 
 EDITORS = f"{TOP}/editors"
 
@@ -65,17 +65,14 @@ def place_of(program, words):
 
 def try_vim(vim, path, name, places, tried):
     folder = os.path.dirname(path)
-    with open(f"{folder}/script.vim", "w", encoding="utf-8") as it:
-        it.write(SCRIPT.replace("EDITORS", EDITORS).replace("PROGRAM", os.path.basename(path).replace(" ", "\\ ")))
-    subprocess.run([vim, "-es", "-u", "NONE", "-i", "NONE", "-S", "script.vim"], cwd=folder, stdin=subprocess.DEVNULL, capture_output=True, timeout=60)
-    with open(f"{folder}/places", encoding="utf-8") as it:
-        told = it.read().splitlines()
-    tried.same(f"Vim, {name}", told, [*(f"{place} {kind}" for place, kind in places), f"{places[0][0]} comment %s;"])
+    write(f"{folder}/script.vim", SCRIPT.replace("EDITORS", EDITORS).replace("PROGRAM", os.path.basename(path).replace(" ", "\\ ")))
+    subprocess.run([vim, "-es", "-u", "NONE", "-i", "NONE", "-S", "script.vim"], cwd=folder, stdin=subprocess.DEVNULL, capture_output=True, timeout=600)
+    tried.same(f"Vim, {name}", text_of(f"{folder}/places").splitlines(), [*(f"{place} {kind}" for place, kind in places), f"{places[0][0]} comment %s;"])
 
 
 def try_extension(node, explain, path, name, places, marked, changed, tried):
     words = [node, f"{TOP}/checks/editors.js", f"{EDITORS}/vscode", explain, path]
-    ran = subprocess.run(words, capture_output=True, timeout=60, text=True)
+    ran = subprocess.run(words, capture_output=True, timeout=600, text=True)
     told = json.loads(ran.stdout or "{}")
     tried.same(f"Visual Studio Code, {name}", [it[0] for it in told.get("diagnostics", [ran.stderr])], marked)
     tried.same(f"its problem matcher, {name}", [it[0] for it in told.get("matched", [])], [place for place, _ in places])
@@ -93,9 +90,7 @@ def main(explain):
         with tempfile.TemporaryDirectory() as folder:
             os.symlink(explain, f"{folder}/kahn_explain")
             os.environ["PATH"] = f"{folder}:{path_before}"
-            path = f"{folder}/a program.kahn"
-            with open(path, "w", encoding="utf-8") as it:
-                it.write(program)
+            path = write(f"{folder}/a program.kahn", program)
             if vim:
                 try_vim(vim, path, name, places, tried)
             if node:

@@ -5,10 +5,8 @@ edits.py [gate] [CRATE ..]
 
 It tries those under checks/edits/CRATE, or with the word gate those under crates/CRATE/must-fail, which the gate tries from nothing; of all
 crates if none is named. It works in copies, over the libraries that are built here and what checks of the crate kept, so that only what
-an edit changes is proved again. What came of those under checks/edits it writes into docs/dev/checks.md, with the day and the commit. The last
-line says how many were refused.
+an edit changes is proved again. The last line says how many were refused.
 """
-import datetime
 import glob
 import os
 import re
@@ -21,11 +19,6 @@ import mine
 
 UNREAD = re.compile(r"(\./)?(src|specs)/\S+:\d+:\d+: error: (?!`)")
 TOLD = re.compile(r"note: \S+:\d+:\d+: |\S+:\d+:\d+: error")
-
-
-PAGE = f"{mine.TOP}/docs/dev/checks.md"
-LINE = re.compile(r"(?m)^( *Refused beside the gate: )(.*)$")
-ENTRY = re.compile(r"(kahn\w*) (\d+ of \d+ \([^)]*\))")
 
 
 class Unfit(Exception):
@@ -91,19 +84,6 @@ def tried(crate, paths, below):
     return refused
 
 
-def note(counts):
-    """Writes into the page how many edits of each crate were refused, of how many, on which day and at which commit."""
-    commit, changed = (subprocess.run(["git", *words], cwd=mine.TOP, capture_output=True, text=True, check=False).stdout.strip()
-                       for words in (["rev-parse", "--short", "HEAD"], ["status", "--porcelain", "crates"]))
-    of = f"{datetime.date.today()}, {commit}{' and changes' if changed else ''}"
-    page = mine.read(PAGE)
-    entries = dict(ENTRY.findall(LINE.search(page)[2]))
-    entries.update((crate, f"{refused} of {every} ({of})") for crate, (refused, every) in counts.items())
-    told = "; ".join(f"{crate} {entry}" for crate, entry in sorted(entries.items()))
-    with open(PAGE, "w", encoding="utf-8") as it:
-        it.write(LINE.sub(rf"\g<1>{told}.", page))
-
-
 def main():
     is_gate = sys.argv[1:2] == ["gate"]
     below = mine.crates()
@@ -112,12 +92,7 @@ def main():
     without = [crate for crate in names if crate not in below or not all_edits[crate]]
     for crate in without:
         print(f"there is no crate {crate}, or it has no edits")
-    counts = {}
-    for crate in (it for it in names if it not in without):
-        counts[crate] = tried(crate, all_edits[crate], below), len(all_edits[crate])
-        if not is_gate:
-            note({crate: counts[crate]})
-    refused = sum(good for good, _ in counts.values())
+    refused = sum(tried(crate, all_edits[crate], below) for crate in names if crate not in without)
     failed = sum(map(len, all_edits.values())) - refused + len(without)
     print(f"{refused} passed, {failed} failed")
     return failed > 0

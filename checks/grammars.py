@@ -15,7 +15,7 @@ import tempfile
 
 TOP = os.path.dirname(os.path.dirname(os.path.abspath(__file__)))
 sys.path.append(f"{TOP}/tests")
-from common import Tried
+from common import Tried, text_of, write
 
 VIM = {"keyword": "kahnKeyword", "name": "kahnName", "number": "kahnNumber", "sign": "kahnSign", "comment": "kahnComment"}
 TEXTMATE = {"keyword": "keyword.control.kahn", "name": "variable.other.kahn", "number": "constant.numeric.kahn",
@@ -29,8 +29,7 @@ end
 
 def lists():
     """The keywords and the signs of docs/language.md."""
-    with open(f"{TOP}/docs/language.md", encoding="utf-8") as it:
-        page = " ".join(it.read().split())
+    page = " ".join(text_of(f"{TOP}/docs/language.md").split())
     keywords = re.search(r"any letter case is a keyword: `([a-z ]+)`", page).group(1).split()
     signs = re.findall(r"`([^`]+)`", re.search(r"\*\*Signs\*\* are (.*?) and the character U\+00AC", page).group(1))
     return keywords, signs
@@ -62,8 +61,7 @@ def lexemes(text, keywords, signs):
 
 def textmate(text):
     """The scope of each character, by the grammar in TextMate's form, which is played line by line."""
-    with open(f"{TOP}/editors/vscode/syntaxes/kahn.tmLanguage.json", encoding="utf-8") as it:
-        patterns = json.load(it)["patterns"]
+    patterns = json.loads(text_of(f"{TOP}/editors/vscode/syntaxes/kahn.tmLanguage.json"))["patterns"]
     scopes, open_pattern, start = [None] * len(text), None, 0
     for line in text.splitlines(keepends=True):
         at = 0
@@ -88,19 +86,15 @@ def textmate(text):
 def vim(text):
     """The group of each character, by Vim."""
     with tempfile.TemporaryDirectory() as folder:
-        path = f"{folder}/text.kahn"
-        with open(path, "w", encoding="utf-8") as it:
-            it.write(text)
-        with open(f"{folder}/ask.vim", "w", encoding="utf-8") as it:
-            it.write("\n".join([
-                "set nocompatible encoding=utf-8 synmaxcol=0", f"edit {path}", "syntax on", f"source {TOP}/editors/vim/syntax/kahn.vim",
-                "let groups = []", "for row in range(1, line('$'))", "  let names = []", "  for place in range(0, strchars(getline(row)) - 1)",
-                "    let column = byteidx(getline(row), place) + 1",
-                "    call add(names, synIDattr(synID(row, column, 1), 'name'))", "  endfor", "  call add(groups, join(names, ','))", "endfor",
-                f"call writefile(groups, '{folder}/groups')", "qall!", ""]))
-        subprocess.run(["vim", "-es", "-u", "NONE", "-i", "NONE", "-S", f"{folder}/ask.vim"], stdin=subprocess.DEVNULL, timeout=60)
-        with open(f"{folder}/groups", encoding="utf-8") as it:
-            rows = [line.split(",") for line in it.read().split("\n")]
+        path = write(f"{folder}/text.kahn", text)
+        write(f"{folder}/ask.vim", "\n".join([
+            "set nocompatible encoding=utf-8 synmaxcol=0", f"edit {path}", "syntax on", f"source {TOP}/editors/vim/syntax/kahn.vim",
+            "let groups = []", "for row in range(1, line('$'))", "  let names = []", "  for place in range(0, strchars(getline(row)) - 1)",
+            "    let column = byteidx(getline(row), place) + 1",
+            "    call add(names, synIDattr(synID(row, column, 1), 'name'))", "  endfor", "  call add(groups, join(names, ','))", "endfor",
+            f"call writefile(groups, '{folder}/groups')", "qall!", ""]))
+        subprocess.run(["vim", "-es", "-u", "NONE", "-i", "NONE", "-S", f"{folder}/ask.vim"], stdin=subprocess.DEVNULL, timeout=600)
+        rows = [line.split(",") for line in text_of(f"{folder}/groups").split("\n")]
     return [name for row, line in zip(rows, text.splitlines()) for name in [*row[: len(line)], ""]]
 
 
@@ -115,8 +109,7 @@ def differences(text, classes, names):
 def main():
     texts = {"odd lexemes": ODD}
     for path in sorted(glob.glob(f"{TOP}/examples/*.kahn") + glob.glob(f"{TOP}/checks/rows/*/program.kahn")):
-        with open(path, encoding="utf-8") as it:
-            text = it.read()
+        text = re.sub("\r\n?", "\n", text_of(path))
         if not path.startswith(f"{TOP}/examples") and not is_lexed(text):
             continue
         texts[os.path.relpath(path, TOP)] = text

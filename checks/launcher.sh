@@ -62,10 +62,10 @@ holds() {
   if "${@:2}"; then pass; else fail "$1"; fi
 }
 
-# waits_for TEST..: runs a test until it holds, for some seconds.
+# waits_for TEST..: runs a test until it holds, for twenty seconds.
 waits_for() {
-  local _
-  for _ in $(seq 60); do
+  local end=$((SECONDS + 20))
+  while [ $SECONDS -lt $end ]; do
     "$@" && return
     sleep 0.05
   done

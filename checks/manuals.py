@@ -9,15 +9,10 @@ import sys
 
 TOP = os.path.dirname(os.path.dirname(os.path.abspath(__file__)))
 sys.path.append(f"{TOP}/tests")
-from common import Tried
+from common import Tried, text_of
 
 COMPLETIONS = f"{TOP}/editors/completions"
 OPTION = re.compile(r"(?m)^  (?:    |(-\w), )(--[\w-]+)(?:\.\.\.)?(?: <([^>]+)>)? {2,}(.*)$")
-
-
-def read(path):
-    with open(path, encoding="utf-8") as it:
-        return it.read()
 
 
 def helped(text):
@@ -53,13 +48,13 @@ def bash(name):
 
 
 def zsh(name):
-    text = read(f"{COMPLETIONS}/_kahn")
+    text = text_of(f"{COMPLETIONS}/_kahn")
     block = re.search(rf"(?m)^  {name}\)\n((?:    .*\n)*)", text)[1] + text.split("esac\n")[1]
     return re.findall(r"'\*?(--[\w-]+)\[", block) + re.findall(r",(--[\w-]+)\}", block)
 
 
 def fish(name):
-    return [f"--{it}" for it in re.findall(rf"(?m)^complete -c {name} (?:-s \w )?-l ([\w-]+)", read(f"{COMPLETIONS}/{name}.fish"))]
+    return [f"--{it}" for it in re.findall(rf"(?m)^complete -c {name} (?:-s \w )?-l ([\w-]+)", text_of(f"{COMPLETIONS}/{name}.fish"))]
 
 
 def try_program(path, tried):
@@ -67,7 +62,7 @@ def try_program(path, tried):
     name = os.path.basename(path)
     text = subprocess.run([path, "--help"], capture_output=True, text=True, check=True).stdout
     wanted = helped(text)
-    page = read(f"{TOP}/docs/man/{name}.1")
+    page = text_of(f"{TOP}/docs/man/{name}.1")
     pairs = list(zip(("first line", "options", "statuses"), paged(page), wanted))
     pairs += [("name", re.search(r"(?m)^\.B (\w+)$", page)[1], name)]
     names = [words.split()[-1] for words, _, _ in wanted[1]]

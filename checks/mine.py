@@ -20,15 +20,10 @@ import time
 
 TOP = os.path.dirname(os.path.dirname(os.path.abspath(__file__)))
 sys.path.append(f"{TOP}/tests")
-from common import launcher
+from common import launcher, text_of as read
 
 TESTS = ("kahn_units", "kahn_rows")
 COUNTED = re.compile(r"(\d+) passed, (\d+) failed")
-
-
-def read(path):
-    with open(path, encoding="utf-8") as it:
-        return it.read()
 
 
 def crates():

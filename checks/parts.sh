@@ -32,13 +32,14 @@ part() {
   echo "FAILED $name: status $status, and not 0 with a last line that counts what passed"
 }
 
-# beside NAME WORD..: begins a part once fewer of them run than there are processors. What it says comes by tell_beside.
+# beside NAME WORD..: begins a part once fewer of them run than there are processors, and gives it an hour, since the host may be busy. What it
+# says comes by tell_beside.
 beside() {
   local number=${#beside[@]}
   while [ "$(jobs -rp | wc -l)" -ge "$(nproc)" ]; do wait -n; done
   beside+=("$1")
   shift
-  { "$@" > "$begun/$number" 2>&1; echo $? > "$begun/$number.status"; } &
+  { timeout 3600 "$@" > "$begun/$number" 2>&1; echo $? > "$begun/$number.status"; } &
 }
 
 # begun NUMBER: what such a part said, and its status.
@@ -73,35 +74,35 @@ try_texts() {
   part "limits of the house" python3 checks/lint.py
   part "what must be believed" python3 checks/believed.py
   part "the list of crates" python3 checks/crates.py
-  part "grammars for editors" timeout 600 python3 checks/grammars.py
+  part "grammars for editors" python3 checks/grammars.py
 }
 
 # The parts that try the programs which KAHN, KAHN_LIVE, KAHN_DRAW and KAHN_EXPLAIN name, and KAHN_CROWD, which isn't released. The same
 # texts give the same verdict: random ones are those of SEED, of 1 if it isn't set.
 try_programs() {
   local seed=${SEED:-1}
-  beside "lines that come through pipes" timeout 600 python3 tests/run.py live
-  beside "streams, and the examples explained" timeout 300 python3 tests/run.py streams explain
+  beside "lines that come through pipes" python3 tests/run.py live
+  beside "streams, and the examples explained" python3 tests/run.py streams explain
   beside "rows" python3 tests/run.py rows
-  beside "sessions, and commands of the pages" timeout 600 python3 tests/run.py sessions pages
-  beside "notes and pictures" timeout 600 python3 tests/run.py notes pictures
-  beside "the release" timeout 600 bash checks/release.sh
-  beside "the first ten minutes" timeout 300 bash checks/newcomer.sh
-  beside "attacks on the launcher" timeout 600 bash checks/launcher.sh
-  beside "the page in a browser" timeout 1000 bash checks/web.sh
-  beside "places and changes in editors" timeout 300 python3 checks/editors.py "$KAHN_EXPLAIN"
-  beside "the Debian package" timeout 300 bash checks/package.sh
+  beside "sessions, and commands of the pages" python3 tests/run.py sessions pages
+  beside "notes" python3 tests/run.py notes
+  beside "the release" bash checks/release.sh
+  beside "the first ten minutes" bash checks/newcomer.sh
+  beside "attacks on the launcher" bash checks/launcher.sh
+  beside "the page in a browser" bash checks/web.sh
+  beside "places and changes in editors" python3 checks/editors.py "$KAHN_EXPLAIN"
+  beside "the Debian package" bash checks/package.sh
   beside "threads and growths of memory that are refused" python3 tests/run.py refusals
-  beside "worst texts" timeout 600 python3 tests/run.py worst
-  beside "machine instructions of the workloads" timeout 300 python3 bench/counts.py "$KAHN"
-  beside "examples with replaced words" timeout 300 python3 fuzz/parts.py "$KAHN_EXPLAIN" 600 "$seed"
+  beside "worst texts" python3 tests/run.py worst
+  beside "machine instructions of the workloads" python3 bench/counts.py "$KAHN"
+  beside "examples with replaced words" python3 fuzz/parts.py "$KAHN_EXPLAIN" 600 "$seed"
   beside "random programs" python3 fuzz/fuzz.py "$KAHN" 300 "$seed"
-  beside "changes that mend random texts" timeout 300 python3 fuzz/mends.py "$KAHN_EXPLAIN" 200 "$seed"
-  beside "mistakes with known repairs" timeout 300 python3 fuzz/mistakes.py "$KAHN_EXPLAIN" 600 "$seed"
-  beside "what may stand in random texts" timeout 300 python3 fuzz/sets.py "$KAHN_EXPLAIN" 150 "$seed"
-  beside "why random networks stop" timeout 300 python3 fuzz/causes.py "$KAHN_EXPLAIN" "$KAHN" 150 "$seed"
-  beside "what values of random networks need" timeout 300 python3 fuzz/needs.py "$KAHN_EXPLAIN" "$KAHN" 150 "$seed"
-  beside "random programs, line by line" timeout 300 python3 fuzz/live.py "$KAHN_LIVE" "$KAHN" 200 "$seed"
+  beside "changes that mend random texts" python3 fuzz/mends.py "$KAHN_EXPLAIN" 200 "$seed"
+  beside "mistakes with known repairs" python3 fuzz/mistakes.py "$KAHN_EXPLAIN" 600 "$seed"
+  beside "what may stand in random texts" python3 fuzz/sets.py "$KAHN_EXPLAIN" 150 "$seed"
+  beside "why random networks stop" python3 fuzz/causes.py "$KAHN_EXPLAIN" "$KAHN" 150 "$seed"
+  beside "what values of random networks need" python3 fuzz/needs.py "$KAHN_EXPLAIN" "$KAHN" 150 "$seed"
+  beside "random programs, line by line" python3 fuzz/live.py "$KAHN_LIVE" "$KAHN" 200 "$seed"
   if [ -x "${KAHN_CROWD:-}" ]; then
     beside "rows, by workers that begin at once" python3 tests/run.py crowd
     beside "random programs, by workers that begin at once" python3 fuzz/fuzz.py "$KAHN_CROWD" 300 "$seed"

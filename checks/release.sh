@@ -26,18 +26,9 @@ tar -C "$top" --exclude=./.git --exclude='out' -cf - . | tar -C "$work/copy" -xf
 cd "$work/copy" || exit 2
 same "a program of release/" "$(given ./kahn examples/count.kahn)" "$report"
 same "the same once more" "$(given ./kahn examples/count.kahn)" "$report"
-ln -s copy/kahn "$work/kahn"
-ln -s "$work/kahn" "$work/home/other"
-same "through a link" "$(given "$work/kahn" examples/count.kahn)" "$report"
-same "through a link of another name to a link" "$(given "$work/home/other" examples/count.kahn)" "$report"
-ln -s "$work/copy/kahn_draw" "$work/home/draw"
-same "another program through a link of another name" "$(given "$work/home/draw" examples/count.kahn | head -n 1)" "digraph network {"
-
 same "an installation" "$(given bash install.sh "$work/prefix" > /dev/null && "$work/prefix/bin/kahn" examples/count.kahn)" "$report"
 same "what is installed" "$(cd "$work/prefix" && find . -type f | sort)" \
   "$({ printf './bin/%s\n' "${programs[@]}"; pages | sed 's/.* /.\//'; echo ./share/kahn/installed.sha256; } | sort)"
-given bash install.sh --uninstall "$work/prefix" > /dev/null
-same "what is left" "$(find "$work/prefix" -type f)" ""
 given DESTDIR="$work/root" PREFIX=/opt/kahn bash install.sh > /dev/null
 same "an installation under DESTDIR" "$(given "$work/root/opt/kahn/bin/kahn" examples/count.kahn)" "$report"
 same "the help of install.sh" "$(given bash install.sh --help | sed -n 's/^  install/install/p')" \

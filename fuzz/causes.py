@@ -8,10 +8,8 @@ that wait because of it, and each process (`--all`). What is said to be for ever
 network on a longer input, and each such process has to end there as it did; if it has a fault, the place where that came has to be
 one of those that are told, or not told beside twenty others. The places of waits are read off the tree of reference.py. A difference is printed, and its texts are kept.
 """
-import os
 import random
 import re
-import subprocess
 import sys
 
 sys.dont_write_bytecode = True
@@ -244,17 +242,13 @@ def lasts(checked, inputs, ends, causes, text, places, rng):
     return count
 
 
-def one(explain, kahn, room, seed):
+def one(explain, kahn, at, seed):
     """(None, the causes and how many of them were tried), or (what differs, the texts' paths)."""
     number = seed * 1000
     while True:
         text, source, checked, inputs, words, rng = case(number)
-        path = f"{room}/{seed}.kahn"
-        for name, content in ((path, text), (path + ".input", source)):
-            with open(name, "w", encoding="utf-8", newline="") as it:
-                it.write(content)
-        words = [path, "--input", path + ".input", *words, "--workers"]
-        ran = subprocess.run([kahn, *words, "1"], stdin=subprocess.DEVNULL, capture_output=True, timeout=60)
+        words = [fuzz.write(f"{at}.kahn", text), "--input", fuzz.write(f"{at}.input", source), *words, "--workers"]
+        ran = fuzz.asked(kahn, *words, "1")
         ends, last = ends_of(checked, ran.stdout.decode())
         wanted, status, causes = wanted_of(checked, text, inputs, ends, last)
         if causes:
@@ -264,15 +258,13 @@ def one(explain, kahn, room, seed):
     faulted = {p: None for p, (word, _, _) in enumerate(ends) if word.startswith("fault")}
     placed = faulted | {p: spots(checked, text, ends[p][1]) for p in causes if cause(checked, ends, p)[2]}
     for told, more in zip(wanted, ([], ["--all"])):
-        ran = subprocess.run([explain, *words, workers, *more], stdin=subprocess.DEVNULL, capture_output=True, timeout=60)
+        ran = fuzz.asked(explain, *words, workers, *more)
         wrong, places = differs(ran, told, status, placed)
         if wrong:
             return wrong, " ".join(words + more)
     tried = lasts(checked, inputs, ends, causes, text, places, rng)
     if isinstance(tried, str):
         return tried, " ".join(words)
-    os.remove(path)
-    os.remove(path + ".input")
     return None, ([why for why, _ in causes.values()], tried)
 
 

@@ -6,6 +6,7 @@ Each difference is printed, with the words of the command line; its texts are ke
 """
 import collections
 import functools
+import glob
 import os
 import random
 import re
@@ -15,8 +16,9 @@ import sys
 import tempfile
 from concurrent.futures import ThreadPoolExecutor
 
-sys.dont_write_bytecode = True
+sys.path.append(f"{os.path.dirname(os.path.abspath(__file__))}/../tests")
 import reference as ref
+from common import write
 
 KINDS = ("integer", "logical")
 NUMBERS = (0, 1, 2, 3, 5, 7, 10, 1000, 2**31, 2**62, 2**63 - 1)
@@ -305,29 +307,23 @@ def words_of(watch, bound, workers, quantum):
     return out
 
 
-def one(program, room, seed):
-    """Runs a case, with its texts in the folder: (None, what kind of case it was), or (what differs, the words)."""
+def asked(*words, text=b""):
+    """What a program gives."""
+    return subprocess.run(words, input=text, capture_output=True, timeout=600)
+
+
+def one(program, at, seed):
+    """Runs a case, with its texts in files that begin so: (None, what kind of case it was), or (what differs, the words)."""
     text, source, watch, bound, workers, quantum, piped = case(seed)
-    at = f"{room}/{seed}"
     words = [program, *words_of(watch, bound, workers, quantum)]
-    open(at + ".kahn", "wb").write(text)
+    write(at + ".kahn", text)
     if source is not None:
-        open(at + ".input", "wb").write(source)
-        words += ["--input", at + ".input"]
+        words += ["--input", write(at + ".input", source)]
     if not piped:
         words.append(at + ".kahn")
-    try:
-        ran = subprocess.run(words, input=text if piped else b"", capture_output=True, timeout=60)
-    except (OSError, subprocess.TimeoutExpired) as error:
-        return str(error), ' '.join(words)
     wanted = ref.run(text, source, bound, watch, ("standard input" if piped else at + ".kahn", at + ".input"))
-    what = difference(ran, wanted)
-    if what is None:
-        for name in (at + ".kahn", at + ".input"):
-            if os.path.exists(name):
-                os.remove(name)
-        return None, kind_of(wanted)
-    return what, ' '.join(words)
+    what = difference(asked(*words, text=text if piped else b""), wanted)
+    return what, ' '.join(words) if what else kind_of(wanted)
 
 
 def difference(ran, wanted):
@@ -359,10 +355,21 @@ def tell_kinds(given):
         print(f"{number:6} {kind}")
 
 
+def kept(one, paths, room, seed):
+    """What comes of one seed, whose texts are kept if something differs."""
+    try:
+        what, more = one(*paths, f"{room}/{seed}", seed)
+    except (OSError, subprocess.TimeoutExpired) as error:
+        what, more = str(error), f"{room}/{seed}"
+    for path in glob.glob(f"{room}/{seed}.*") if what is None else ():
+        os.remove(path)
+    return what, more
+
+
 def drive(one, programs=1, count=150, others=(), pool=ThreadPoolExecutor, tell=tell_kinds):
-    """Runs a script of this folder by its words, PROGRAM .. [COUNT] [SEED], and gives its status. It tries `one(*programs, room, seed)` for
+    """Runs a script of this folder by its words, PROGRAM .. [COUNT] [SEED], and gives its status. It tries `one(*programs, at, seed)` for
     each seed, and first for the others: (None, what to tell of it) or (what differs, what leads there), which is printed. If something
-    failed its texts are kept in their folder."""
+    failed its texts, in files whose names begin with `at`, are kept in their folder."""
     words = sys.argv[1:]
     paths, numbers = [os.path.abspath(path) for path in words[:programs]], [int(it) for it in words[programs : programs + 2]]
     count, first = [*numbers, *(count, random.randrange(10**9))[len(numbers) :]]
@@ -370,7 +377,7 @@ def drive(one, programs=1, count=150, others=(), pool=ThreadPoolExecutor, tell=t
     room, given, failed = tempfile.mkdtemp(prefix="kahn-fuzz-"), [], 0
     seeds = [*others, *range(first, first + count)]
     with pool(os.cpu_count()) as workers:
-        for seed, (what, more) in zip(seeds, workers.map(functools.partial(one, *paths, room), seeds, chunksize=8)):
+        for seed, (what, more) in zip(seeds, workers.map(functools.partial(kept, one, paths, room), seeds, chunksize=8)):
             if what is None:
                 given.append(more)
             else:

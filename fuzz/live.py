@@ -6,9 +6,7 @@ The values of all input channels come in lines of one to four, in any order, and
 Only values are printed; those of a stream, line after line, have to be a beginning of it. If both have finished the streams have to be the
 same, and the ends and events, if they were reported. A difference is printed, and its texts are kept.
 """
-import os
 import random
-import subprocess
 import sys
 
 sys.dont_write_bytecode = True
@@ -79,22 +77,15 @@ def difference(ran, whole, step):
     return None
 
 
-def one(live, kahn, room, seed):
+def one(live, kahn, at, seed):
     """(what differs or None, the live run's last line or the texts' path)."""
     text, source, lines, step = case(seed)
-    path = f"{room}/{seed}.kahn"
-    for name, content in ((path, text), (path + ".input", source), (path + ".lines", lines)):
-        with open(name, "w", encoding="utf-8", newline="") as it:
-            it.write(content)
-    words = [kahn, path, "--input", path + ".input", "--bound", str(ENOUGH), "--workers", "1"]
-    whole = subprocess.run(words, stdin=subprocess.DEVNULL, capture_output=True, timeout=60).stdout.decode()
-    ran = subprocess.run([live, path, "--step", str(step)], input=lines.encode() + b"refused\n", capture_output=True, timeout=60)
+    path = fuzz.write(f"{at}.kahn", text)
+    fuzz.write(f"{at}.lines", lines)
+    whole = fuzz.asked(kahn, path, "--input", fuzz.write(f"{at}.input", source), "--bound", str(ENOUGH), "--workers", "1").stdout.decode()
+    ran = fuzz.asked(live, path, "--step", str(step), text=lines.encode() + b"refused\n")
     what = difference(ran, whole, step)
-    if what is not None:
-        return what, f"{path} --step {step} < {path}.lines"
-    for name in ("", ".input", ".lines"):
-        os.remove(path + name)
-    return None, lived(ran)[2].split()[0]
+    return what, lived(ran)[2].split()[0] if what is None else f"{path} --step {step} < {at}.lines"
 
 
 if __name__ == "__main__":

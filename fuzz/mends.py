@@ -4,10 +4,8 @@
 
 The change that is told is made in the text, which is read again. What is told and isn't so is printed, and its text is kept where the line names it.
 """
-import os
 import random
 import re
-import subprocess
 import sys
 from concurrent.futures import ProcessPoolExecutor
 
@@ -157,17 +155,10 @@ def is_true(text, lexemes, at, place, line):
     return True
 
 
-def one(program, room, seed):
+def one(program, path, seed):
     """(None, how many changes there are), or (what differs, the text's path)."""
     text, lexemes, at = broken(random.Random(seed))
-    count = mends(text, lexemes, at)
-    path = f"{room}/{seed}.kahn"
-    with open(path, "wb") as it:
-        it.write(text)
-    try:
-        ran = subprocess.run([program, path], stdin=subprocess.DEVNULL, capture_output=True, timeout=60)
-    except (OSError, subprocess.TimeoutExpired) as error:
-        return str(error), path
+    ran = fuzz.asked(program, fuzz.write(f"{path}.kahn", text))
     lines = ran.stdout.decode().split("\n")
     heading = re.match(r".*:(\d+):(\d+): error: (.*)", lines[0])
     said = [heading[3]] + [line.split(" = ", 1)[1] for line in lines[3:] if re.match(r" +\d* *= ", line)] if heading else []
@@ -175,9 +166,8 @@ def one(program, room, seed):
     others = [line for line in said if line != last]
     wrong = [line for line in others if not is_true(text, lexemes, at, heading.groups()[:2], line)]
     if ran.returncode != 1 or ran.stderr or not heading or (last is not None) != (last in said) or len(others) > 3 or wrong:
-        return f"status {ran.returncode}, {said}, of which isn't so {wrong}; a comment {last}", path
-    os.remove(path)
-    return None, count
+        return f"status {ran.returncode}, {said}, of which isn't so {wrong}; a comment {last}", f"{path}.kahn"
+    return None, mends(text, lexemes, at)
 
 
 def tell(given):

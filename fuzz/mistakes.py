@@ -17,7 +17,6 @@ sys.dont_write_bytecode = True
 HERE = os.path.dirname(os.path.abspath(__file__))
 import reference as ref
 
-LEXEME = re.compile(r"[A-Za-z]\w*|\d+|:=|<>|<=|>=|\S")
 LEFT_OUT = (";", "(", ")", ",", ":=", "do", "then", "on", "par")
 GUARDS = ("do", "then", "else", "repeat")
 LEAST_RIGHT, MOST_MISLED, LEAST_ONE = 96, 2, 97
@@ -52,52 +51,43 @@ def line_of(text, at):
     return text.count("\n", 0, at) + 1
 
 
-def replaced(text, a, b, put):
-    return text[:a] + put + text[b:]
+def place_of(text, at):
+    return f"{line_of(text, at)}:{at - text.rfind(chr(10), 0, at)}"
 
 
-def misspelt(text, lex, rng):
-    words = [x for x in lex if x[0] == "word" and x[1] not in ("true", "false") and x[1].isalpha()]
-    if not words:
-        return None
-    _, word, a, b = rng.choice(words)
-    put = slip(word, rng)
-    if put.lower() in ref.KEYWORDS or any(x[1] == put for x in lex):
-        return None
-    return Mistake("misspelt keyword", replaced(text, a, b, put), line_of(text, a), f"`{word}`")
+def other_of(one, other):
+    return lambda word, _: other if word == one else one
 
 
-def misnamed(text, lex, rng):
-    names = [x for i, x in enumerate(lex) if x[0] == "name" and i and lex[i - 1][1] not in ("process", "in", "out", "integer", "logical", "channel", ",") and len(x[1]) > 1]
-    if not names:
-        return None
-    _, word, a, b = rng.choice(names)
-    put = slip(word, rng)
-    if put.lower() in ref.KEYWORDS or any(x[1].lower() == put.lower() for x in lex):
-        return None
-    return Mistake("misspelt name", replaced(text, a, b, put), line_of(text, a), f"`{word}`")
+DECLARED = ("process", "in", "out", "integer", "logical", "channel", ",")
+# Mistakes of one lexeme: of which (its number, itself, all), what is put in its place, and the words that name the repair.
+ONE = {
+    "misspelt keyword": (lambda i, x, _: x[0] == "word" and x[1] not in ("true", "false") and x[1].isalpha(), slip, "`{}`"),
+    "misspelt name": (lambda i, x, lex: x[0] == "name" and i and lex[i - 1][1] not in DECLARED and len(x[1]) > 1, slip, "`{}`"),
+    "lost": (lambda i, x, _: x[1] in LEFT_OUT, lambda *_: " ", "insert `{}`|`{}`"),
+    "doubled": (lambda i, x, _: x[1] not in ("+", "-", "(") and x[0] != "number", lambda word, _: f"{word} {word}", "fix: remove|second `{}`"),
+    "= and :=": (lambda i, x, _: x[1] in (":=", "="), other_of("=", ":="), "with `{}`"),
+    "end twice": (lambda i, x, lex: x[1] == "end" and i < len(lex) - 1, lambda *_: "end end", "has no `begin`|remove `end`"),
+    "direction": (lambda i, x, _: x[1] in ("in", "out"), other_of("in", "out"), "direction|writer|reader|`in`|`out`"),
+    "kind": (lambda i, x, _: x[1] in ("integer", "logical"), other_of("integer", "logical"), "kind|wanted"),
+}
 
 
-def lost(text, lex, rng):
-    some = [x for x in lex if x[1] in LEFT_OUT]
-    if not some:
-        return None
-    _, word, a, b = rng.choice(some)
-    return Mistake(f"lost {word}", replaced(text, a, b, " "), line_of(text, a), f"insert `{word}`", f"`{word}`")
+def of_one(sort):
+    """What makes a mistake of one lexeme. A slip makes no word that is there already."""
+    which, put, words = ONE[sort]
 
+    def made(text, lex, rng):
+        some = [x for i, x in enumerate(lex) if which(i, x, lex)]
+        if not some:
+            return None
+        _, word, a, b = rng.choice(some)
+        new = put(word, rng)
+        if put is slip and (new.lower() in ref.KEYWORDS or any(x[1].lower() == new.lower() for x in lex)):
+            return None
+        return Mistake(sort, text[:a] + new + text[b:], line_of(text, a), *words.replace("{}", word).split("|"))
 
-def doubled(text, lex, rng):
-    _, word, a, b = rng.choice([x for x in lex if x[1] not in ("+", "-", "(") and x[0] != "number"])
-    return Mistake("doubled", replaced(text, a, b, f"{word} {word}"), line_of(text, a), "fix: remove", f"second `{word}`")
-
-
-def equals(text, lex, rng):
-    signs = [x for x in lex if x[1] in (":=", "=")]
-    if not signs:
-        return None
-    _, word, a, b = rng.choice(signs)
-    put = "=" if word == ":=" else ":="
-    return Mistake("= and :=", replaced(text, a, b, put), line_of(text, a), f"with `{word}`")
+    return made
 
 
 def block_of(lex, i):
@@ -115,85 +105,55 @@ def lost_end(text, lex, rng):
     if not begins:
         return None
     i = rng.choice(begins)
-    k = block_of(lex, i)
-    line, column = line_of(text, lex[i][2]), lex[i][2] - text.rfind("\n", 0, lex[i][2])
-    return Mistake("lost end", replaced(text, lex[k][2], lex[k][3], ""), line, f"p:{line}:{column}: error: `begin` has no `end`", f"{line}:{column}")
+    _, _, a, b = lex[block_of(lex, i)]
+    place = place_of(text, lex[i][2])
+    return Mistake("lost end", text[:a] + text[b:], line_of(text, lex[i][2]), f"p:{place}: error: `begin` has no `end`", place)
 
 
 def lost_begin(text, lex, rng):
     begins = [i for i, x in enumerate(lex) if x[1] == "begin" and i and lex[i - 1][1] in GUARDS]
-    if not begins:
+    i = rng.choice(begins) if begins else None
+    if i is None or not any(x[1] == ";" for x in lex[i:block_of(lex, i)]):
         return None
-    i = rng.choice(begins)
-    k = block_of(lex, i)
-    if not any(x[1] == ";" for x in lex[i:k]):
-        return None
-    guard = lex[i - 1]
-    line, column = line_of(text, guard[2]), guard[2] - text.rfind("\n", 0, guard[2])
-    return Mistake("lost begin", replaced(text, lex[i][2], lex[i][3], ""), line, f"p:{line}:{column}: error: several statements", f"insert `begin` after `{guard[1]}`", f"`then` at {line}:{column}")
-
-
-def surplus_end(text, lex, rng):
-    ends = [x for x in lex[:-1] if x[1] == "end"]
-    if not ends:
-        return None
-    _, _, a, b = rng.choice(ends)
-    return Mistake("end twice", replaced(text, a, b, "end end"), line_of(text, a), "has no `begin`", "remove `end`")
+    _, guard, at, _ = lex[i - 1]
+    words = f"p:{place_of(text, at)}: error: several statements", f"insert `begin` after `{guard}`", f"`then` at {place_of(text, at)}"
+    return Mistake("lost begin", text[:lex[i][2]] + text[lex[i][3]:], line_of(text, at), *words)
 
 
 def late_else(text, lex, rng):
     elses = [x for i, x in enumerate(lex) if x[1] == "else" and any(y[1] in ("send", ":=", "print", "end") for y in lex[max(0, i - 6):i])]
     if not elses:
         return None
-    _, _, a, b = rng.choice(elses)
+    a = rng.choice(elses)[2]
     return Mistake("; before else", text[:a].rstrip() + "; " + text[a:], line_of(text, a), "remove `;`")
 
 
-def swapped(text, lex, rng):
-    i = rng.randrange(len(lex) - 1)
-    one, other = lex[i], lex[i + 1]
-    if one[1] == other[1] or {one[0], other[0]} == {"name"}:
-        return None
-    return Mistake("two in turn", text[:one[2]] + other[1] + " " + one[1] + text[other[3]:], line_of(text, one[2]), f"`{one[1]}`", f"`{other[1]}`")
-
-
-def wrong_way(text, lex, rng):
-    ways = [x for x in lex if x[1] in ("in", "out")]
-    if not ways:
-        return None
-    _, word, a, b = rng.choice(ways)
-    return Mistake("direction", replaced(text, a, b, "out" if word == "in" else "in"), line_of(text, a), "direction", "writer", "reader", "`in`", "`out`")
-
-
-def wrong_kind(text, lex, rng):
-    kinds = [x for x in lex if x[1] in ("integer", "logical")]
-    if not kinds:
-        return None
-    _, word, a, b = rng.choice(kinds)
-    return Mistake("kind", replaced(text, a, b, "logical" if word == "integer" else "integer"), line_of(text, a), "kind", "wanted")
+def commas_of(lex):
+    """The commas between the arguments of instances."""
+    last = max((i for i, x in enumerate(lex[:-2]) if x[1] == "end"), default=0)
+    return [i for i, x in enumerate(lex) if x[1] == "," and i > last]
 
 
 def arguments(text, lex, rng):
-    last = max(i for i, x in enumerate(lex) if x[1] == "end" and i < len(lex) - 1) if sum(x[1] == "end" for x in lex) > 1 else 0
-    commas = [i for i, x in enumerate(lex) if x[1] == "," and i > last and lex[i - 1][1] != lex[i + 1][1]]
+    commas = [i for i in commas_of(lex) if lex[i - 1][1] != lex[i + 1][1]]
     if not commas:
         return None
     i = rng.choice(commas)
-    one, other = lex[i - 1], lex[i + 1]
-    return Mistake("arguments", text[:one[2]] + other[1] + ", " + one[1] + text[other[3]:], line_of(text, one[2]), one[1], other[1], "interchanged", "expected")
+    (_, one, a, _), (_, other, _, b) = lex[i - 1], lex[i + 1]
+    return Mistake("arguments", f"{text[:a]}{other}, {one}{text[b:]}", line_of(text, a), one, other, "interchanged", "expected")
 
 
 def argument_lost(text, lex, rng):
-    last = max((i for i, x in enumerate(lex[:-2]) if x[1] == "end"), default=0)
-    commas = [i for i, x in enumerate(lex) if x[1] == "," and i > last]
+    commas = commas_of(lex)
     if not commas:
         return None
     i = rng.choice(commas)
     return Mistake("argument lost", text[:lex[i][2]] + text[lex[i + 1][3]:], line_of(text, lex[i][2]), "number of arguments", "wanted", "not declared")
 
 
-FIRST = [misspelt, lost, doubled, equals]
-SORTS = [misspelt, misspelt, misnamed, lost, lost, doubled, equals, lost_end, lost_begin, surplus_end, late_else, wrong_way, wrong_kind, arguments, argument_lost]
+MADE = {sort: of_one(sort) for sort in ONE}
+FIRST = [MADE[sort] for sort in ("misspelt keyword", "lost", "doubled", "= and :=")]
+SORTS = [*MADE.values(), MADE["misspelt keyword"], MADE["lost"], lost_end, lost_begin, late_else, arguments, argument_lost]
 
 
 def two(text, lex, rng):
@@ -278,16 +238,15 @@ def main(explain, count="1500", seed=None, *rest):
     sorts, ones = {}, 0
     for mistake, words in zip(mistakes, said):
         verdict, errors = judged(mistake, words)
-        sorts.setdefault(mistake.sort.split(" ")[0] if mistake.sort.startswith("lost ") and mistake.sort not in ("lost end", "lost begin") else mistake.sort, []).append(verdict)
+        sorts.setdefault(mistake.sort, []).append(verdict)
         ones += errors <= 1
         if "-v" in rest and verdict != "right":
             print(f"--- {verdict}: {mistake.sort}, line {mistake.line}, {mistake.words}\n{words[:900]}")
-    for sort, verdicts in sorted(sorts.items()):
-        print(f"{sort:18} {len(verdicts):5}" + "".join(f"  {name} {100 * verdicts.count(name) / len(verdicts):5.1f}" for name in ("right", "meh", "misled", "silent")))
     every = [verdict for verdicts in sorts.values() for verdict in verdicts]
-    right, misled = (100 * every.count(name) / len(every) for name in ("right", "misled"))
-    one = 100 * ones / len(every)
-    print(f"{len(every)} mistakes, seed {seed}: {right:.1f} % told rightly, {misled:.1f} % misled, {100 * every.count('silent') / len(every):.1f} % silent, one error {one:.1f} %")
+    for sort, verdicts in [*sorted(sorts.items()), (f"seed {seed}", every)]:
+        print(f"{sort:18} {len(verdicts):5}" + "".join(f"  {name} {100 * verdicts.count(name) / len(verdicts):5.1f}" for name in ("right", "meh", "misled", "silent")))
+    right, misled, one = (100 * number / len(every) for number in (every.count("right"), every.count("misled"), ones))
+    print(f"{one:.1f} % have one error")
     good = right >= LEAST_RIGHT and misled <= MOST_MISLED and one >= LEAST_ONE
     print("1 passed, 0 failed" if good else "0 passed, 1 failed")
     return not good

@@ -8,8 +8,6 @@ each process has done the events told, and with a bound of one event less than a
 of its line says the same, and a table of a run that finished has a row for each value; the place after the last never comes. A difference is
 printed, and its texts are kept.
 """
-import os
-import random
 import re
 import subprocess
 import sys
@@ -27,20 +25,17 @@ BOUND, MORE = 3000, 100000  # of the run that is asked about, and of one on inpu
 class Trial:
     """A network with its texts in a folder, and the programs."""
 
-    def __init__(self, explain, kahn, room, seed):
-        self.explain, self.kahn, self.at = explain, kahn, f"{room}/{seed}"
+    def __init__(self, explain, kahn, at, seed):
+        self.explain, self.kahn, self.at = explain, kahn, at
         self.text, _, self.checked, inputs, _, self.rng = causes.case(seed)
         self.inputs = {name: list(inputs.get(c, ())) for c, (name, _, role, *_) in enumerate(self.checked.channels) if role == "input"}
         self.inner = [name for name, _, role, *_ in self.checked.channels if role == "inner"]
-        with open(self.at + ".kahn", "w", encoding="utf-8", newline="") as it:
-            it.write(self.text)
+        fuzz.write(self.at + ".kahn", self.text)
 
     def run(self, program, inputs, *words):
         lines = (f"{name}: {' '.join(str(v).lower() for v in values)}\n" for name, values in inputs.items())
-        with open(self.at + ".input", "w", encoding="utf-8") as it:
-            it.write("".join(lines))
-        words = [program, self.at + ".kahn", "--input", self.at + ".input", "--workers", "1", *words]
-        return subprocess.run(words, capture_output=True, text=True, timeout=60)
+        source = fuzz.write(self.at + ".input", "".join(lines))
+        return subprocess.run([program, self.at + ".kahn", "--input", source, "--workers", "1", *words], capture_output=True, text=True, timeout=600)
 
     def report(self, inputs, line, bound=BOUND):
         """The values of a line in a run, the events of each process, and whether it finished."""
@@ -118,14 +113,9 @@ def difference(trial):
     return None, "print" if line.isdigit() else "inner" if line in trial.inner else "output"
 
 
-def one(explain, kahn, room, seed):
-    trial = Trial(explain, kahn, room, seed)
-    what, kind = difference(trial)
-    if what is None:
-        for end in (".kahn", ".input"):
-            if os.path.exists(trial.at + end):
-                os.remove(trial.at + end)
-    return what, kind if what is None else trial.at + ".kahn"
+def one(explain, kahn, at, seed):
+    what, kind = difference(Trial(explain, kahn, at, seed))
+    return what, kind if what is None else at + ".kahn"
 
 
 if __name__ == "__main__":

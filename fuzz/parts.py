@@ -9,7 +9,6 @@ import glob
 import os
 import random
 import re
-import subprocess
 import sys
 
 sys.dont_write_bytecode = True
@@ -81,7 +80,7 @@ def one(explain, _, seed):
     wanted = ref.told(text)
     if not wanted:
         return None, "skipped"
-    what = difference(text, subprocess.run([explain], input=text, capture_output=True, timeout=60), wanted)
+    what = difference(text, fuzz.asked(explain, text=text), wanted)
     return what, text.decode() if what else "several faults" if len(wanted) > 1 else "one fault"
 
 

@@ -12,7 +12,6 @@ and its text is kept where the line names it.
 import os
 import random
 import re
-import subprocess
 import sys
 from concurrent.futures import ProcessPoolExecutor
 
@@ -262,21 +261,12 @@ def difference(ran, text, lexemes, at):
     return wrong_words(words, wanted, whole)
 
 
-def one(program, room, seed):
+def one(program, path, seed):
     """(None, what may stand), or (what differs, the text's path). A negative seed is a place of the sample network."""
     text, lexemes, at = broken(random.Random(seed)) if seed >= 0 else cut(-1 - seed)
-    path = f"{room}/{seed}.kahn"
-    with open(path, "wb") as it:
-        it.write(text)
-    try:
-        ran = subprocess.run([program, path], stdin=subprocess.DEVNULL, capture_output=True, timeout=60)
-    except (OSError, subprocess.TimeoutExpired) as error:
-        return str(error), path
+    ran = fuzz.asked(program, fuzz.write(f"{path}.kahn", text))
     what = difference(ran, text, lexemes, at)
-    if what is None:
-        os.remove(path)
-        return None, heading_of(ran.stdout)[3]
-    return what, path
+    return what, f"{path}.kahn" if what else heading_of(ran.stdout)[3]
 
 
 def tell(given):

@@ -9,6 +9,7 @@ import unittest
 sys.dont_write_bytecode = True
 TOP = os.path.dirname(os.path.dirname(os.path.abspath(__file__)))
 sys.path.append(f"{TOP}/fuzz")
+YARDSTICK = [sys.executable, "-c", "x = list(range(2_000_000)); x.sort(key=lambda it: -it)"]
 NAMES = ("kahn", "kahn_live", "kahn_draw", "kahn_explain")
 
 
@@ -48,14 +49,15 @@ def measured(words, given=os.devnull, error=os.devnull, output=os.devnull, most=
     return run.returncode, used.ru_utime + used.ru_stime, used.ru_maxrss
 
 
-def measured_well(seconds, *words, **more):
-    """The same, of the quickest of some runs if one takes more than so many seconds, since the gate tries much else beside it."""
-    best = measured(*words, **more)
-    for _ in range(3):
-        if best[1] <= seconds:
+def measured_well(most, *words, **more):
+    """The same, and whether it took at most so many times as long as a fixed piece of work (half a second on a quiet host) takes at that
+    moment: a busy host makes both slow. The quickest of some runs counts."""
+    for _ in range(4):
+        status, seconds, room = measured(*words, **more)
+        good = seconds <= most / 8 or seconds <= most * measured(YARDSTICK)[1]
+        if good:
             break
-        best = min(best, measured(*words, **more), key=lambda it: it[1])
-    return best
+    return status, seconds, room, good
 
 
 def read(path):
@@ -63,9 +65,14 @@ def read(path):
         return it.read()
 
 
+def text_of(path):
+    return read(path).decode()
+
+
 def write(path, text):
     with open(path, "wb") as it:
         it.write(text if isinstance(text, bytes) else text.encode())
+    return path
 
 
 def difference(given, wanted):
@@ -123,7 +130,7 @@ class Room(unittest.TestCase):
 
     def ran(self, *words, text=b"", **variables):
         """Standard output, standard error and status of a command, which runs in the folder."""
-        done = subprocess.run(words, cwd=self.folder, input=text, capture_output=True, env={**os.environ, **variables}, timeout=60, check=False)
+        done = subprocess.run(words, cwd=self.folder, input=text, capture_output=True, env={**os.environ, **variables}, timeout=600, check=False)
         return done.stdout.decode(), done.stderr.decode(), done.returncode
 
     def refusing(self, source):

@@ -99,9 +99,9 @@ def long_texts():
     yield row("as many names as there may be", body("", f"integer {', '.join(names(MOST_BYTES - len(body('', 'integer ; ')))[:-1])}; "), ENDED)
     every = [f"n{number}" for number in range(55000)]
     each = body("; ".join(f"{name}:=1" for name in every), f"integer {', '.join(every)}; ")
-    yield row("as many names as are each written once more", each, ENDED, words=["--workers", "1"], limits="200 5")
+    yield row("as many names as are each written once more", each, ENDED, words=["--workers", "1"], limits="200 20")
     alike = [f"q6ddy9kyA8foNlypV_ly5C5G{number:08d}" + "x" * 16 for number in range(21000)]
-    ended, limits = {"report": ENDED, "words": ["--workers", "1"]}, "200 1"
+    ended, limits = {"report": ENDED, "words": ["--workers", "1"]}, "200 5"
     yield row("21000 names that one seed hashes alike", body("", f"integer {','.join(alike)}; "), **ended, limits=limits)
     some = alike[:9500]
     used = body("; ".join(f"{name}:=1" for name in some), f"integer {', '.join(some)}; ")
@@ -148,7 +148,7 @@ def long_processes():
     """As many instances as there may be of one process, whose text is as long as there may be: its code stands once."""
     start, bare = "integer A; ", instances(256, "integer A; if A = 1 then A := 1 ")
     report = [*(f"end {i} p: ended after 0" for i in range(1, 257)), "finished 0"]
-    limits = {"words": ["--workers", "1"], "limits": "200 2"}
+    limits = {"words": ["--workers", "1"], "limits": "200 10"}
     assignments = "A:=1;" * ((MOST_BYTES - len(instances(256, start))) // 5)
     yield row("256 instances of as many assignments as there may be", instances(256, start + assignments), report, **limits)
     # The sum is never reached: 256 times half a million operators would take longer than their code.
@@ -234,14 +234,14 @@ def long_runs():
     ended = ["B: 549755289600", "print 1 p:", "end 1 p: waits on A after 2097154", "finished 2097154"]
     given = "A:" + "".join(f" {value}" for value in range(1048576))
     for words in (["--workers", "1"], ["--workers", "4", "--quantum", "64"]):
-        yield row(f"1048576 values through one process by workers {words[1]}", program, ended, given=given, words=[*words, "--bound", "3000000"], limits="600 5")
+        yield row(f"1048576 values through one process by workers {words[1]}", program, ended, given=given, words=[*words, "--bound", "3000000"], limits="600 20")
     # one more of each than a list of 2^21 has room for
     count = 2097153
     program = f"""begin integer output channel W; process p(integer out W);
       begin integer I; while I < {count} do begin send I on W; print -I; I := I + 1 end end; p(W) end"""
     sent, printed = "".join(f" {value}" for value in range(count)), "".join(f" {-value}" for value in range(count))
     report = ["W:" + sent, "print 1 p:" + printed, f"end 1 p: ended after {3 * count + 1}", f"finished {3 * count + 1}"]
-    yield row(f"{count} values and prints", program, report, words=["--workers", "1", "--bound", "7000000"], limits="600 5")
+    yield row(f"{count} values and prints", program, report, words=["--workers", "1", "--bound", "7000000"], limits="600 20")
 
 
 def long_reports():

@@ -17,11 +17,11 @@ MISTAKES, WARNINGS, ROWS = (f"{TOP}/checks/{name}" for name in ("mistakes", "war
 
 
 def explain(program, folder, *words):
-    """Status, standard output and standard error, within a minute."""
+    """Status, standard output and standard error, within some minutes."""
     try:
-        done = subprocess.run([program, *words], cwd=folder, stdin=subprocess.DEVNULL, capture_output=True, timeout=60, check=False)
+        done = subprocess.run([program, *words], cwd=folder, stdin=subprocess.DEVNULL, capture_output=True, timeout=600, check=False)
     except subprocess.TimeoutExpired:
-        return -1, b"", b"no answer in a minute\n"
+        return -1, b"", b"no answer in ten minutes\n"
     return done.returncode, done.stdout, done.stderr
 
 

@@ -134,7 +134,7 @@ def run(program, row, way):
     words = [*row.words, *way]
     given = [program, "program.kahn", *(["--input", "input"] if row.input is not None else []), *words]
     try:
-        ran = subprocess.run(row.within(given), cwd=row.folder, stdin=subprocess.DEVNULL, capture_output=True, timeout=60)
+        ran = subprocess.run(row.within(given), cwd=row.folder, stdin=subprocess.DEVNULL, capture_output=True, timeout=600)
         told = row.differences(ran)
     except (OSError, subprocess.TimeoutExpired) as error:
         told = [str(error)]

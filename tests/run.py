@@ -9,10 +9,9 @@ run.py [-k WORD] [--write] [--here] [PART ..]
     pages       the commands of the README and of docs/; with --here in this tree, by its own programs
     notes       kahn_explain on checks/mistakes and checks/warnings (notes.py)
     worst       texts of the most bytes, against limits on time and memory (worst.py)
-    pictures    kahn_draw beside a second maker of pictures (pictures.py)
     NAME        the tests of tests/test_NAME.py, or a session or page by its path from the top
 
-Without a part it tries rows, sessions, pages, notes, pictures and every test_NAME.py. -k takes only what has the word in its name; --write puts
+Without a part it tries rows, sessions, pages, notes and every test_NAME.py. -k takes only what has the word in its name; --write puts
 what the commands of sessions, and kahn_explain, give in place of what is wanted. The last line says how much passed and failed.
 """
 import argparse
@@ -26,7 +25,6 @@ import unittest
 
 import common
 import notes
-import pictures
 import rows
 import sessions
 import worst
@@ -97,8 +95,6 @@ def try_part(part, work, words, tried):
         try_sessions(paths, work, programs, words, tried)
     elif part == "notes":
         notes.try_notes(f"{programs}/kahn_explain", words, tried)
-    elif part == "pictures":
-        pictures.try_pictures(f"{programs}/kahn_draw", words.only, tried)
     elif part == "worst":
         worst.try_worst({name: os.path.realpath(f"{programs}/{name}") for name in common.NAMES}, work, words.only, tried)
     elif part in TESTS:
@@ -115,7 +111,7 @@ def main():
     words.add_argument("parts", nargs="*")
     words = words.parse_args()
     tried = common.Tried()
-    for part in words.parts or ["rows", "sessions", "pages", "notes", "pictures", *TESTS]:
+    for part in words.parts or ["rows", "sessions", "pages", "notes", *TESTS]:
         with tempfile.TemporaryDirectory() as work:
             try_part(part, work, words, tried)
     return tried.finish()

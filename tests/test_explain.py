@@ -30,7 +30,7 @@ class Explained(Room):
         self.put(endless=ENDLESS)
         with open(f"{self.folder}/output", "wb") as output:
             run = subprocess.Popen([EXPLAIN, "endless", "--bound", "281474976710655"], cwd=self.folder, stdin=subprocess.DEVNULL, stdout=output)
-        for _ in range(200):
+        for _ in range(1200):
             if re.search(b": warning: .* never ", read(f"{self.folder}/output")):
                 break
             time.sleep(0.05)

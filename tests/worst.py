@@ -1,40 +1,28 @@
-"""The worst texts that are known, each of about the most bytes that there may be, against limits on processor time and memory; and that there
-is a report if memory for workers, or threads, are refused.
+"""The worst texts that are known, each of about the most bytes that there may be, against limits on processor time and memory.
 
-Each text is read by all four programs, and none may take more than a second (user and system) or 300 MB. LIMITS has the cases that may take
-more, since docs/formats.md names them as limits, with the reason. SINCE has those that version 0.9.0 didn't meet, with what it took.
+Each text is read by all four programs. None may take more than four times as long as a fixed piece of work beside it, which is two seconds of
+a quiet host (user and system), or 300 MB. LIMITS has the cases that may take more, since docs/formats.md names them as limits.
 """
 import concurrent.futures
 import itertools
 import os
-import re
-import resource
-import shutil
 import subprocess
 import tempfile
 
 from common import NAMES, TOP, measured_well, write
 
 MOST, MOST_INPUT = 1048576, 16777216
-SECONDS, MEGABYTES = 1.0, 300
+TIMES, MEGABYTES = 4, 300
 
-# What may take more than the limits: seconds, megabytes, and why.
+# What may take more than the limits: how many times as long, megabytes, and why.
 LIMITS = {
-    "variables": (2, 1000, "each of 256 instances has 16 bytes for each of its 209,000 variables"),
-    "straight_line": (2, 300, "a sum of half a million operators is one turn of a loop, and a bound counts turns"),
-    "seven_inputs": (2, 450, "seven million values of inputs and as many of outputs have 16 bytes each"),
-    "waits_256": (2, 300, "the places of each of 256 instances are looked for anew"),
-    "faults_256": (2, 300, "about a second, and more on a slow host"),
-    "signs": (2, 300, "about a second, and more on a slow host"),
-    "faulty_bodies": (4, 300, "each of the first twenty notes looks for its place in all bodies"),
-}
-
-# What version 0.9.0 took, by the program that took the most.
-SINCE = {
-    "hash": "2.3 s", "blanks": "600 s", "while_names": "200 s", "unknown_name": "40 s", "unknown_processes": "75 s", "two_writers": "43 s",
-    "faults_256": "160 s", "faults_lines": "41 s", "faulty_bodies": "1.8 s", "late": "10 s", "late_lines": "10 s", "waits_256": "5.5 s",
-    "body_256": "4.4 s", "comments": "2.9 s", "nested_blocks": "1.6 s", "run": "120 s", "sleeping_readers": "2.9 s",
-    "memory for workers": "no report", "no thread": "no report",
+    "variables": (12, 1000, "each of 256 instances has 16 bytes for each of its 209,000 variables"),
+    "straight_line": (12, 300, "a sum of half a million operators is one turn of a loop, and a bound counts turns"),
+    "seven_inputs": (12, 450, "seven million values of inputs and as many of outputs have 16 bytes each"),
+    "waits_256": (12, 300, "the places of each of 256 instances are looked for anew"),
+    "faults_256": (12, 300, "the places of a fault are looked for in a body as long as a text"),
+    "signs": (12, 300, "as many operators as a text has room for"),
+    "faulty_bodies": (16, 300, "each of the first twenty notes looks for its place in all bodies"),
 }
 
 
@@ -147,14 +135,6 @@ def star():
     return f"begin integer channel {','.join(channels)};{source}{reader}s({','.join(channels)}) par {' par '.join(f'r({it})' for it in channels)} end"
 
 
-def chain():
-    """A source and 255 copies."""
-    inner = [f"c{number}" for number in range(255)]
-    start = f"begin integer channel {','.join(inner)};integer output channel o;process s(integer out b);begin integer x;repeat begin x:=x+1;send x on b end end;"
-    ends = [*inner[1:], "o"]
-    return start + "process f(integer in a;integer out b);begin repeat send wait(a) on b end;s(c0) par " + " par ".join(f"f({a},{b})" for a, b in zip(inner, ends)) + " end"
-
-
 ALONE = {"kahn_live": None, "kahn_draw": None, "kahn_explain": None}
 
 # Each case: what makes the text, or the text and an input, and for a program that takes further words these, or None if it isn't tried.
@@ -201,80 +181,30 @@ def words_for(program, path, folder, text, more):
 
 
 def try_case(name, paths, folder):
-    """What goes wrong with a text, one line for each program, and how much passes."""
+    """What each program takes for a text: a line, and whether that is good."""
     made, text = CASES[name][0](), f"{folder}/{name}"
     made, given = made if isinstance(made, tuple) else (made, None)
     for content, end, most in ((made, "kahn", MOST), (given, "input", MOST_INPUT)):
         if content is not None:
             assert len(content.encode()) <= most, (name, end, len(content.encode()))
             write(f"{text}.{end}", content)
-    seconds, megabytes, _ = LIMITS.get(name, (SECONDS, MEGABYTES, ""))
+    times, megabytes, why = LIMITS.get(name, (TIMES, MEGABYTES, ""))
     told = []
     for program in NAMES:
         more = CASES[name][1].get(program, [])
         if more is not None:
-            words, lines = words_for(program, paths[program], folder, text, more)
-            status, took, room = measured_well(seconds, words, lines)
-            told.append((program, status, took, room // 1024, 0 <= status <= 8 and took <= seconds and room <= 1024 * megabytes))
+            status, took, room, good = measured_well(times, *words_for(program, paths[program], folder, text, more))
+            line = f"{name}: {program} {took:.2f} s, {room // 1024} MB{why and f' ({why})'}"
+            told.append((line, f"status {status}", good and 0 <= status <= 8 and room <= 1024 * megabytes))
     return told
-
-
-def limited(which, most, user=None):
-    """What sets a limit of the system on a program that begins."""
-    def begin():
-        resource.setrlimit(which, (most, most))
-        if user:
-            os.setgroups([])
-            os.setgid(user)
-            os.setuid(user)
-    return begin
-
-
-def has_report(words, begin):
-    done = subprocess.run(words, stdin=subprocess.DEVNULL, capture_output=True, preexec_fn=begin, check=False)
-    return done.returncode in (0, 3, 4) and re.search(rb"^(finished|stopped by \w+) \d+\n\Z", done.stdout, re.MULTILINE) is not None
-
-
-def memory_for_workers(paths, folder):
-    """At every limit on memory at which one worker gives a report, the usual workers give one."""
-    words = [paths["kahn"], f"{folder}/chain.kahn", "--bound", "3000000"]
-    bad = [kilobytes for kilobytes in (4500, 5000, 5500, 6000, 7000, 10000, 15000, 20000, 25000, 30000, 35000, 40000)
-           if has_report([*words, "--workers", "1"], limited(resource.RLIMIT_AS, 1024 * kilobytes))
-           and not has_report(words, limited(resource.RLIMIT_AS, 1024 * kilobytes))]
-    return f"no report with `ulimit -v` {bad}" if bad else ""
-
-
-def no_thread(paths, folder):
-    """A user who may start no thread, and who runs nothing else, gets a report."""
-    user = 60003 if os.getuid() == 0 else None
-    shutil.copy(paths["kahn"], f"{folder}/kahn")
-    good = has_report([f"{folder}/kahn", f"{folder}/chain.kahn", "--bound", "3000000"], limited(resource.RLIMIT_NPROC, 1, user))
-    return "" if good else "no report with `ulimit -u 1`"
-
-
-WORLD = {"memory for workers": memory_for_workers, "no thread": no_thread}
-
-
-def say(name, wrong, what, tried):
-    """Prints what a case took, or what is wrong with it."""
-    if wrong:
-        since = f" (as 0.9.0: {SINCE[name]})" if name in SINCE else ""
-        tried.fail(f"{name}: {what} {wrong}{since}")
-    else:
-        tried.passed += 1
-        print(f"{name}: {what}", flush=True)
 
 
 def try_worst(paths, folder, only, tried):
     """All cases, or those that have the word in their names."""
-    os.chmod(folder, 0o755)
-    write(f"{folder}/chain.kahn", chain())
     write(f"{folder}/input", b"\n" * MOST_INPUT)
-    for name in (it for it in WORLD if only in it):
-        say(name, WORLD[name](paths, folder), "", tried)
-    chosen = [it for it in CASES if only in it]
     with concurrent.futures.ThreadPoolExecutor(os.cpu_count()) as pool:
-        for name, told in zip(chosen, pool.map(lambda it: try_case(it, paths, folder), chosen)):
-            for program, status, took, room, good in told:
-                why = f" ({LIMITS[name][2]})" if name in LIMITS else ""
-                say(name, "" if good else f"status {status}", f"{program} {took:.2f} s, {room} MB{why}", tried)
+        chosen = [it for it in CASES if only in it]
+        for line, wrong, good in itertools.chain.from_iterable(pool.map(lambda it: try_case(it, paths, folder), chosen)):
+            print(line if good else f"FAILED {line}: {wrong}", flush=True)
+            tried.passed += good
+            tried.failed += not good

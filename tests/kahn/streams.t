@@ -121,11 +121,11 @@ No standard output.
   ! kahn: report could not be written
   [5]
 A pipe that nobody reads.
-  $ { sleep 0.5; kahn examples/count.kahn; echo $? > status; } | true; cat status
+  $ { sleep 2; kahn examples/count.kahn; echo $? > status; } | true; cat status
   5
   ! kahn: report could not be written
 A fault beside a pipe that nobody reads.
-  $ { sleep 0.5; kahn examples/double.kahn --input long_values; echo $? > status; } | true; cat status
+  $ { sleep 2; kahn examples/double.kahn --input long_values; echo $? > status; } | true; cat status
   5
   ! kahn: cannot read long_values
 A pipe that is read in part.

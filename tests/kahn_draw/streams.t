@@ -1,4 +1,4 @@
-Files, streams and arguments of kahn_draw. (Pictures are in tests/pictures.py.)
+Files, streams and arguments of kahn_draw. (Pictures are in pictures.t.)
 
 A file that isn't there.
   $ kahn_draw nothing

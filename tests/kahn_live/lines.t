@@ -18,11 +18,11 @@ A program without input goes on by itself, and takes no line.
   W: 0
   W: 1 2
 A source ends when its reader goes.
-  $ timeout 20 kahn_live numbers.kahn --step 1000 | head -n 1 | cut -c 1-6; echo ${PIPESTATUS[0]}
+  $ timeout 200 kahn_live numbers.kahn --step 1000 | head -n 1 | cut -c 1-6; echo ${PIPESTATUS[0]}
   W: 0 1
   0
 The same, values alone.
-  $ timeout 20 kahn_live numbers.kahn --step 1000 --plain ,W | head -n 2; echo ${PIPESTATUS[0]}
+  $ timeout 200 kahn_live numbers.kahn --step 1000 --plain ,W | head -n 2; echo ${PIPESTATUS[0]}
   0
   1
   0
@@ -127,6 +127,6 @@ Two programs in one pipe.
   B: 8
 Where no process waits on an input any more no line is read.
   $ echo 'begin integer input channel A; integer output channel W; process one(integer in U; integer out V); begin send wait(U) on V end; one(A, W) end' > one
-  $ yes 'A: 1' | timeout 10 kahn_live one; echo ${PIPESTATUS[1]}
+  $ yes 'A: 1' | timeout 200 kahn_live one; echo ${PIPESTATUS[1]}
   W: 1
   0

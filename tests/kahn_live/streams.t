@@ -33,11 +33,11 @@ The help.
   $ kahn_live --help | grep -c -e '--step <N>'
   1
 A reader that goes: then the program ends, and says nothing.
-  $ yes 'A: 1' | timeout 20 kahn_live examples/double.kahn | head -n 1; echo ${PIPESTATUS[1]}
+  $ yes 'A: 1' | timeout 200 kahn_live examples/double.kahn | head -n 1; echo ${PIPESTATUS[1]}
   B: 2
   0
 The same, values alone.
-  $ yes 1 | timeout 20 kahn_live examples/double.kahn --plain A | head -n 1; echo ${PIPESTATUS[1]}
+  $ yes 1 | timeout 200 kahn_live examples/double.kahn --plain A | head -n 1; echo ${PIPESTATUS[1]}
   2
   0
 A full disk.
