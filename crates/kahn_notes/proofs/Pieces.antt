@@ -27,11 +27,3 @@ pub last_listed : (w : What) → listed (text_end_words w) ≡ concat (text_end_
 last_listed Nothing = refl
 last_listed More = refl
 last_listed Other = refl
-
--- words that come in five
-pub in_five : (s a v t b one two three four five : List ℕ) → one ≡ s → two ≡ one ++ a → three ≡ two ++ v → four ≡ three ++ t → five ≡ four ++ b →
-    five ≡ s ++ (a ++ (v ++ (t ++ (b ++ []))))
-in_five s a v t b one two three four five p q r u w =
-    w ∙ ap (λ l. l ++ b) (u ∙ ap (λ l. l ++ t) (r ∙ ap (λ l. l ++ v) (q ∙ ap (λ l. l ++ a) p)))
-    ∙ append_assoc ((s ++ a) ++ v) t b ∙ append_assoc (s ++ a) v (t ++ b) ∙ append_assoc s a (v ++ (t ++ b))
-    ∙ ap (λ l. s ++ (a ++ (v ++ (t ++ l)))) (sym (append-nil b))

@@ -7,8 +7,8 @@ use Rattle.kahn_syntax.specs.declared.fault.What.{What}
 use Rattle.kahn_syntax.specs.declared.fault.What.TheVariants.{More, Nothing, Other}
 use Rattle.kahn_syntax.specs.declared.fault.SyntaxFault.TheVariants.{BadCharacter, Expected}
 use Rattle.kahn_syntax.specs.Texts.{IsProgram, IsTextFault}
-use Rattle.kahn_wanted.specs.declared.groups.Group.{Group}
-use Rattle.kahn_wanted.specs.declared.groups.Group.TheVariants as group
+use Rattle.kahn_wanted.specs.declared.groups.LexemeGroup.{LexemeGroup}
+use Rattle.kahn_wanted.specs.declared.groups.LexemeGroup.TheVariants as group
 use Rattle.kahn_wanted.specs.declared.groups.Wanted.{Wanted}
 use Rattle.kahn_wanted.specs.declared.found.Unexpected.{Unexpected}
 use Rattle.kahn_wanted.specs.Wanted.{IsUnexpected}
@@ -19,7 +19,7 @@ use Rattle.kahn_marks.specs.declared.rendering.Other as other
 use Rattle.kahn_notes.specs.Words.{any_words, separator}
 
 -- any lexeme of a group
-abbrev pub wanted_words : Group → List ℕ
+abbrev pub wanted_words : LexemeGroup → List ℕ
 wanted_words group.Expression = codes "an expression"
 wanted_words group.Operand = codes "an operand"
 wanted_words group.Statement = codes "a statement"

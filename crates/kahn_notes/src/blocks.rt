@@ -7,30 +7,15 @@ use crate::indent::{Misfit, first_misfit};
 use crate::layout::{PlacedLexeme, seats};
 use crate::mending::mending;
 use crate::place::{Place, found, front};
-use crate::said::{Said, headed, insertion, replacement};
-use crate::wanting::{finds, has_fewer};
+use crate::said::{Said, insertion, joined, replacement, saying};
+use crate::table::finds;
 use crate::words::class_words;
 use itoa::Buffer;
-use kahn_marks::{Fix, add, add_spot};
+use kahn_marks::{add, add_spot};
 use kahn_streams::NoMemory;
 use kahn_syntax::{Class, Keyword, Lexeme, Sign, Span};
 use kahn_wanted::{Block, open_behind};
 use std::alloc::{AllocError, Global};
-
-/// The keyword `begin`.
-pub(crate) const BEGIN: Class = Class::Word(Keyword::Begin);
-
-/// The keyword `end`.
-pub(crate) const END: Class = Class::Word(Keyword::End);
-
-/// What stands outside of bodies alone.
-const OUTSIDE: [Class; 5] = [
-    Class::Sign(Sign::Open),
-    Class::Word(Keyword::Process),
-    Class::Word(Keyword::Par),
-    Class::Word(Keyword::Integer),
-    Class::Word(Keyword::Logical),
-];
 
 /// The block with this `begin`, where it is open.
 fn open_there(blocks: &[Block], span: Span) -> Option<Block>
@@ -53,7 +38,7 @@ fn add_where(
 ) -> Result<(), AllocError> {
     match seat {
         Some(seat) if begin.line == seat.line => {
-            add_spot(words, "it ends before ", text, seat.lexeme.span.from)
+            add_spot(words, "it ends before ", text, seat.span.from)
         }
         Some(seat) => {
             let mut buffer = Buffer::new();
@@ -73,46 +58,26 @@ fn unclosed_said(
     number: usize,
 ) -> Result<Option<Said>, AllocError> {
     let blocks = open_behind(alloc, front(place.lexemes, number))?;
-    let Some(block) = open_there(&blocks, begin.lexeme.span) else {
+    let Some(block) = open_there(&blocks, begin.span) else {
         return Ok(None);
     };
     let mut words = String::from_str(alloc, "`begin` has no `end`: ")?;
     add_where(&mut words, place.text, begin, all.get(number).copied())?;
-    Ok(Some(headed(block.begin.span, words)))
+    Ok(Some(saying(Some((block.begin.span, words)), None, None)))
 }
 
 /// Whether the lexeme with a number is a `begin`.
-fn is_begin(all: &[PlacedLexeme], number: Option<usize>) -> bool {
+fn is_begin(place: Place, number: Option<usize>) -> bool {
     match number {
-        Some(number) => match all.get(number) {
-            Some(seat) => seat.lexeme.what == BEGIN,
-            None => false,
-        },
+        Some(number) => finds("begin", place.lexemes.get(number).copied()),
         None => false,
     }
 }
 
-/// Leaving out a `begin` that stands beside another one and is one too many.
-fn doubled(
-    alloc: Global,
-    place: Place,
-    at: Span,
-    all: &[PlacedLexeme],
-    begin: usize,
-    span: Span,
-) -> Result<Option<Fix>, NoMemory> {
-    if is_begin(all, begin.checked_sub(1)) || is_begin(all, begin.checked_add(1)) {
-        let fix = replacement(alloc, span, "")?;
-        return mending(alloc, place.text, at, Some(fix));
-    }
-    Ok(None)
-}
-
-/// The same of the `begin` with a number.
+/// The same of the `begin` with a number; one that stands beside another one is left out.
 fn unclosed(
     alloc: Global,
     place: Place,
-    at: Span,
     all: &[PlacedLexeme],
     begin: usize,
     number: usize,
@@ -120,42 +85,45 @@ fn unclosed(
     let Some(seat) = all.get(begin) else {
         return Ok(None);
     };
-    let span = seat.lexeme.span;
-    if let Some(fix) = doubled(alloc, place, at, all, begin, span)? {
-        let words = String::from_str(alloc, "the second `begin` has no `end`")?;
-        let mut said = headed(span, words);
-        said.fix = Some(fix);
-        return Ok(Some(said));
+    if is_begin(place, begin.checked_sub(1)) || is_begin(place, begin.checked_add(1)) {
+        let fix = replacement(alloc, seat.span, "")?;
+        if let Some(fix) = mending(alloc, place.text, place.span, Some(fix))? {
+            let words = String::from_str(alloc, "the second `begin` has no `end`")?;
+            return Ok(Some(saying(Some((seat.span, words)), Some(fix), None)));
+        }
     }
     Ok(unclosed_said(alloc, place, all, *seat, number)?)
 }
 
-/// Whether several statements stand between two lexemes.
-fn are_several(place: Place, from: usize, to: usize) -> bool {
-    match place.lexemes.get(from..to) {
-        Some(lexemes) => lexemes
-            .iter()
-            .any(|lexeme| lexeme.what == Class::Sign(Sign::Semicolon)),
-        None => false,
-    }
-}
-
 /// What is said of statements without a block behind what leads to them, to an `end` that has no `begin`.
-fn several_said(alloc: Global, text: &str, end: Lexeme, guard: Lexeme) -> Result<Said, AllocError> {
-    let mut words = String::from_str(alloc, "several statements stand behind ")?;
-    add(&mut words, &[class_words(guard.what), " without `begin`"])?;
-    add_spot(&mut words, ", to the `end` at ", text, end.span.from)?;
-    let mut said = headed(guard.span, words);
-    said.fix = Some(insertion(alloc, guard.span, "begin")?);
-    Ok(said)
+fn several_said(alloc: Global, text: &str, end: Span, guard: Lexeme) -> Result<Said, AllocError> {
+    let before = ["several statements stand behind ", class_words(guard.what)];
+    let mut words = joined(alloc, &before)?;
+    add_spot(
+        &mut words,
+        " without `begin`, to the `end` at ",
+        text,
+        end.from,
+    )?;
+    let fix = insertion(alloc, guard.span, "begin")?;
+    Ok(saying(Some((guard.span, words)), Some(fix), None))
 }
 
 /// What is said of an `end` that is one too many.
-fn surplus_said(alloc: Global, end: Lexeme) -> Result<Said, AllocError> {
+fn surplus_said(alloc: Global, end: Span) -> Result<Said, AllocError> {
     let words = "`end` has no `begin`: an `if`, a `while` or a `repeat` has no `end` of its own";
-    let mut said = headed(end.span, String::from_str(alloc, words)?);
-    said.fix = Some(replacement(alloc, end.span, "")?);
-    Ok(said)
+    let head = Some((end, String::from_str(alloc, words)?));
+    Ok(saying(head, Some(replacement(alloc, end, "")?), None))
+}
+
+/// The lexeme that leads to several statements, to the `end` with a number.
+fn guard_before(place: Place, all: &[PlacedLexeme], number: usize) -> Option<Lexeme> {
+    let guard = guard_of(all, number, *all.get(number)?)?;
+    let mut lexemes = place.lexemes.get(guard..number)?.iter();
+    if lexemes.any(|lexeme| lexeme.what == Class::Sign(Sign::Semicolon)) {
+        return place.lexemes.get(guard).copied();
+    }
+    None
 }
 
 /// The same of the `end` with a number.
@@ -165,30 +133,37 @@ fn surplus(
     all: &[PlacedLexeme],
     number: usize,
 ) -> Result<Option<Said>, AllocError> {
-    let Some(seat) = all.get(number) else {
+    let Some(end) = all.get(number) else {
         return Ok(None);
     };
-    let guard = match guard_of(all, number, *seat) {
-        Some(guard) if are_several(place, guard, number) => place.lexemes.get(guard).copied(),
-        _ => None,
-    };
-    let said = match guard {
-        Some(guard) => several_said(alloc, place.text, seat.lexeme, guard)?,
-        None => surplus_said(alloc, seat.lexeme)?,
-    };
-    Ok(Some(said))
+    match guard_before(place, all, number) {
+        Some(guard) => Ok(Some(several_said(alloc, place.text, end.span, guard)?)),
+        None => Ok(Some(surplus_said(alloc, end.span)?)),
+    }
+}
+
+/// How many lexemes are this keyword.
+fn count_of(place: Place, word: Keyword) -> usize {
+    let lexemes = place.lexemes.iter();
+    lexemes
+        .filter(|lexeme| lexeme.what == Class::Word(word))
+        .count()
 }
 
 /// What is said of blocks at a place, by the indentation of the lines up to it.
-pub(crate) fn blocks_said(alloc: Global, place: Place, at: Span) -> Result<Option<Said>, NoMemory> {
-    let missing = has_fewer(END, BEGIN, place.lexemes);
-    if !missing && !has_fewer(BEGIN, END, place.lexemes) {
+pub(crate) fn blocks_said(alloc: Global, place: Place) -> Result<Option<Said>, NoMemory> {
+    let (begins, ends) = (
+        count_of(place, Keyword::Begin),
+        count_of(place, Keyword::End),
+    );
+    if begins == ends {
         return Ok(None);
     }
     let all = seats(alloc, place.text, place.lexemes)?;
-    let late = found(place).is_none() || finds(&OUTSIDE, found(place));
-    match first_misfit(alloc, &all, place.number, missing, late)? {
-        Some(Misfit::Unclosed(begin, number)) => unclosed(alloc, place, at, &all, begin, number),
+    let here = found(place);
+    let late = here.is_none() || finds("( process par integer logical", here);
+    match first_misfit(alloc, &all, place.number, ends < begins, late)? {
+        Some(Misfit::Unclosed(begin, number)) => unclosed(alloc, place, &all, begin, number),
         Some(Misfit::Surplus(number)) => Ok(surplus(alloc, place, &all, number)?),
         None => Ok(None),
     }

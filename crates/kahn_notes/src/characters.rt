@@ -6,207 +6,81 @@ ghost use Rattle.kahn_notes.specs.Notes.{Mends};
 use crate::mending::mending;
 use crate::rewriting::rewritten;
 use crate::said::replacement;
+use crate::table::cell;
 use kahn_marks::Fix;
 use kahn_streams::NoMemory;
 use kahn_syntax::{Span, SyntaxFault};
 use std::alloc::Global;
 
-/// The first bytes in UTF-8 of what stands there, what is put in the place of these if the text goes on with it, and what is said.
-type CharacterRow = (&'static [u8], &'static [&'static str], &'static str);
+/// What stands there, behind `0` where it is told behind a digit alone; what is put in its place if the text goes on with it; and what is
+/// said. The first that holds is told.
+const CHARACTERS: &str = "
+0. |  | ; numbers are whole
+0_ |  | ; a number has decimal digits alone
+. | nothing | ; no `.` stands in a name or behind the last `end`
+_ |  | ; a name begins with a letter
+!= ~= /= \u{2260} | <> | ; unequal is `<>`
+! | not | ; a value is sent by `send E on C`, and `not` is a word
+% | mod | ; a remainder is `mod`
+/ | div | ; a quotient is `div`, and a comment goes from `comment` to `;`
+# |  | ; a comment goes from `comment` to `;`
+\" \u{2018} \u{2019} \u{201C} \u{201D} |  | ; there are no texts
+' |  | ; there are no texts, and a name has letters, digits and `_`
+[ |  | ; there are no arrays; a channel that one process writes and reads is a queue
+{ | begin | ; a block goes from `begin` to `end`, a comment from `comment` to `;`
+} | end | ; a block goes from `begin` to `end`, a comment from `comment` to `;`
+&& | and | ; it is the word `and`, and between instances `par`
+& | and par | ; `and` is a word, and of logicals; a remainder is `X mod 8`, and between instances stands `par`
+^ |  | ; there is no power and no exclusive or: of logicals it is `<>`
+|| | or par | ; it is the word `or`, and between instances `par`
+| | or par | ; it is the word `or`, and between instances `par`
+~ | not | ; it is the word `not`
+? |  | ; a value is taken by `X := wait(C)`, and a choice is `if .. then .. else ..`
+: | ; then do | ; `:` stands before `=` alone; behind a test stands `then` or `do`, and a kind before its names
+` |  | ; the lines of a fence are no part of a program
+\u{A0} |  | ; a no-break space (U+00A0) isn't a blank here
+\u{D7} | * | ; a product is `*`
+\u{F7} | div | ; a quotient is `div`
+\u{2002} |  | ; an en space (U+2002) isn't a blank here
+\u{2003} |  | ; an em space (U+2003) isn't a blank here
+\u{2009} |  | ; a thin space (U+2009) isn't a blank here
+\u{200A} |  | ; a hair space (U+200A) isn't a blank here
+\u{200B} |  | ; a zero width space (U+200B) isn't a blank here
+\u{2011} \u{2013} \u{2014} \u{2212} | - | ; minus is `-`
+\u{202F} |  | ; a narrow no-break space (U+202F) isn't a blank here
+\u{2264} | <= | ; at most is `<=`
+\u{2265} | >= | ; at least is `>=`
+\u{FEFF} |  | ; a byte order mark (U+FEFF) isn't a blank here: save the text without one
+";
 
-/// What is told behind a digit alone.
-const IN_NUMBERS: [CharacterRow; 2] = [
-    (b".", &[], "; numbers are whole"),
-    (b"_", &[], "; a number has decimal digits alone"),
-];
+/// Whether a part of a row stands at a byte.
+fn stands(bytes: &[u8], at: usize, key: &str) -> bool {
+    let rest = bytes.get(at..).unwrap_or(&[]);
+    let before = bytes.get(at.saturating_sub(1)).unwrap_or(&b' ');
+    match key.strip_prefix("0") {
+        Some(key) => before.is_ascii_digit() && rest.starts_with(key.as_bytes()),
+        None => rest.starts_with(key.as_bytes()),
+    }
+}
 
-/// The first that holds is told.
-const CHARACTERS: [CharacterRow; 47] = [
-    (
-        b".",
-        &[""],
-        "; no `.` stands in a name or behind the last `end`",
-    ),
-    (b"_", &[], "; a name begins with a letter"),
-    (b"!=", &["<>"], "; unequal is `<>`"),
-    (b"~=", &["<>"], "; unequal is `<>`"),
-    (b"/=", &["<>"], "; unequal is `<>`"),
-    (
-        b"!",
-        &["not"],
-        "; a value is sent by `send E on C`, and `not` is a word",
-    ),
-    (b"%", &["mod"], "; a remainder is `mod`"),
-    (
-        b"/",
-        &["div"],
-        "; a quotient is `div`, and a comment goes from `comment` to `;`",
-    ),
-    (b"#", &[], "; a comment goes from `comment` to `;`"),
-    (b"\"", &[], "; there are no texts"),
-    (
-        b"'",
-        &[],
-        "; there are no texts, and a name has letters, digits and `_`",
-    ),
-    (
-        b"[",
-        &[],
-        "; there are no arrays; a channel that one process writes and reads is a queue",
-    ),
-    (
-        b"{",
-        &["begin"],
-        "; a block goes from `begin` to `end`, a comment from `comment` to `;`",
-    ),
-    (
-        b"}",
-        &["end"],
-        "; a block goes from `begin` to `end`, a comment from `comment` to `;`",
-    ),
-    (
-        b"&&",
-        &["and"],
-        "; it is the word `and`, and between instances `par`",
-    ),
-    (
-        b"&",
-        &["and", "par"],
-        "; `and` is a word, and of logicals; a remainder is `X mod 8`, and between instances stands `par`",
-    ),
-    (
-        b"^",
-        &[],
-        "; there is no power and no exclusive or: of logicals it is `<>`",
-    ),
-    (
-        b"||",
-        &["or", "par"],
-        "; it is the word `or`, and between instances `par`",
-    ),
-    (
-        b"|",
-        &["or", "par"],
-        "; it is the word `or`, and between instances `par`",
-    ),
-    (b"~", &["not"], "; it is the word `not`"),
-    (
-        b"?",
-        &[],
-        "; a value is taken by `X := wait(C)`, and a choice is `if .. then .. else ..`",
-    ),
-    (
-        b":",
-        &[";", "then", "do"],
-        "; `:` stands before `=` alone; behind a test stands `then` or `do`, and a kind before its names",
-    ),
-    (b"`", &[], "; the lines of a fence are no part of a program"),
-    (
-        b"\xC2\xA0",
-        &[],
-        "; a no-break space (U+00A0) isn't a blank here",
-    ),
-    (b"\xC3\x97", &["*"], "; a product is `*`"),
-    (b"\xC3\xB7", &["div"], "; a quotient is `div`"),
-    (
-        b"\xE2\x80\x82",
-        &[],
-        "; an en space (U+2002) isn't a blank here",
-    ),
-    (
-        b"\xE2\x80\x83",
-        &[],
-        "; an em space (U+2003) isn't a blank here",
-    ),
-    (
-        b"\xE2\x80\x89",
-        &[],
-        "; a thin space (U+2009) isn't a blank here",
-    ),
-    (
-        b"\xE2\x80\x8A",
-        &[],
-        "; a hair space (U+200A) isn't a blank here",
-    ),
-    (
-        b"\xE2\x80\x8B",
-        &[],
-        "; a zero width space (U+200B) isn't a blank here",
-    ),
-    (b"\xE2\x80\x91", &["-"], "; minus is `-`"),
-    (b"\xE2\x80\x93", &["-"], "; minus is `-`"),
-    (b"\xE2\x80\x94", &["-"], "; minus is `-`"),
-    (b"\xE2\x80\x98", &[], "; there are no texts"),
-    (b"\xE2\x80\x99", &[], "; there are no texts"),
-    (b"\xE2\x80\x9C", &[], "; there are no texts"),
-    (b"\xE2\x80\x9D", &[], "; there are no texts"),
-    (
-        b"\xE2\x80\xAF",
-        &[],
-        "; a narrow no-break space (U+202F) isn't a blank here",
-    ),
-    (b"\xE2\x88\x92", &["-"], "; minus is `-`"),
-    (b"\xE2\x89\xA0", &["<>"], "; unequal is `<>`"),
-    (b"\xE2\x89\xA4", &["<="], "; at most is `<=`"),
-    (b"\xE2\x89\xA5", &[">="], "; at least is `>=`"),
-    (
-        b"\xEF\xBB\xBF",
-        &[],
-        "; a byte order mark (U+FEFF) isn't a blank here: save the text without one",
-    ),
-    (b"\xC2", &[], ""),
-    (b"\xE2", &[], ""),
-    (b"\xEF", &[], ""),
-];
-
-/// The first of some rows that holds of what stands at a place.
-fn first_row(rows: &'static [CharacterRow], rest: &[u8]) -> Option<&'static CharacterRow> {
-    for row in rows {
-        if rest.starts_with(row.0) {
-            return Some(row);
+/// The row of the character that begins at a byte, and the part of it that stands there.
+fn row_at(bytes: &[u8], at: usize) -> Option<(&'static str, &'static str)> {
+    for row in CHARACTERS.lines() {
+        for key in cell(row, 0).split(" ") {
+            if !key.is_empty() && stands(bytes, at, key) {
+                return Some((row, key));
+            }
         }
     }
     None
 }
 
-/// What is said of any other character, by its first byte.
-fn other_help(first: u8) -> &'static str {
-    if first < 0x80 {
-        ""
-    } else {
-        "; a name has ASCII letters, digits and `_`"
-    }
-}
-
-/// A byte of a text, or 0 behind its end.
-fn byte_at(bytes: &[u8], at: usize) -> u8 {
-    match bytes.get(at) {
-        Some(byte) => *byte,
-        None => 0,
-    }
-}
-
-/// What stands from a byte of a text on.
-fn rest_at(bytes: &[u8], at: usize) -> &[u8] {
-    if at <= bytes.len() { &bytes[at..] } else { &[] }
-}
-
-/// The row of the character that begins at a byte.
-fn row_at(bytes: &[u8], at: usize) -> Option<&'static CharacterRow> {
-    let rest = rest_at(bytes, at);
-    if byte_at(bytes, at.saturating_sub(1)).is_ascii_digit() {
-        if let Some(row) = first_row(&IN_NUMBERS, rest) {
-            return Some(row);
-        }
-    }
-    first_row(&CHARACTERS, rest)
-}
-
-/// What is said of a character that begins at a byte.
+/// What is said of a character that begins at a byte; of one without a row that of another script, since these don't begin with such bytes.
 fn place_help(bytes: &[u8], at: usize) -> &'static str {
-    match row_at(bytes, at) {
-        Some(told) => told.2,
-        None => other_help(byte_at(bytes, at)),
+    match (row_at(bytes, at), bytes.get(at)) {
+        (Some((row, _)), _) => cell(row, 2),
+        (None, None | Some(0..=0x7F | 0xC2 | 0xE2 | 0xEF)) => "",
+        (None, _) => "; a name has ASCII letters, digits and `_`",
     }
 }
 
@@ -218,15 +92,13 @@ pub(crate) fn character_fix(alloc: Global, text: &str, span: Span) -> Result<Opt
     if let Some(fix) = mending(alloc, text, span, rewritten)? {
         return Ok(Some(fix));
     }
-    let Some(told) = row_at(text.as_bytes(), span.from) else {
+    let Some((row, key)) = row_at(text.as_bytes(), span.from) else {
         return Ok(None);
     };
-    let part = Span {
-        from: span.from,
-        to: span.from.saturating_add(told.0.len()),
-    };
-    for put in told.1 {
-        let fix = replacement(alloc, part, put)?;
+    let to = span.from.saturating_add(key.len());
+    for put in cell(row, 1).split_whitespace() {
+        let put = if put == "nothing" { "" } else { put };
+        let fix = replacement(alloc, Span { to, ..span }, put)?;
         if let Some(fix) = mending(alloc, text, span, Some(fix))? {
             return Ok(Some(fix));
         }

@@ -1,54 +1,35 @@
 //! Which change of one lexeme is told: of those that mend a place, what is most often meant.
 
-use crate::place::{Place, ahead, back, before, found, is_declared, letters};
+use crate::place::{Place, back, before, behind, found, is_declared, lexeme_at, name_at};
 use crate::split::is_late_else;
-use crate::wanting::finds;
-use kahn_syntax::{Class, Keyword, Lexeme, Sign};
+use crate::table::{cell, class_of, finds};
+use kahn_marks::part_of;
+use kahn_syntax::Lexeme;
 use kahn_wanted::{Change, Reach, Spot};
 use std::alloc::{AllocError, Global};
 
-/// What a lexeme is often written for.
-const OTHERS: [(Class, Class); 13] = [
-    (Class::Sign(Sign::Equal), Class::Sign(Sign::Becomes)),
-    (Class::Sign(Sign::Becomes), Class::Sign(Sign::Equal)),
-    (Class::Sign(Sign::Comma), Class::Sign(Sign::Semicolon)),
-    (Class::Sign(Sign::Comma), Class::Word(Keyword::Par)),
-    (Class::Sign(Sign::Comma), Class::Word(Keyword::On)),
-    (Class::Sign(Sign::Semicolon), Class::Sign(Sign::Comma)),
-    (Class::Sign(Sign::Semicolon), Class::Word(Keyword::Par)),
-    (Class::Word(Keyword::Then), Class::Word(Keyword::Do)),
-    (Class::Word(Keyword::Do), Class::Word(Keyword::Then)),
-    (Class::Word(Keyword::Input), Class::Word(Keyword::In)),
-    (Class::Word(Keyword::Output), Class::Word(Keyword::Out)),
-    (Class::Word(Keyword::In), Class::Word(Keyword::Input)),
-    (Class::Word(Keyword::Out), Class::Word(Keyword::Output)),
-];
+/// Lexemes, and what each is often written for.
+const OTHERS: &str = "
+= | :=
+:= | =
+, | ; par on
+; | , par
+then | do
+do | then
+input | in
+output | out
+in | input
+out | output
+";
 
 /// What is often left out, in the order in which it is looked for.
-const LEFT_OUT: [Class; 13] = [
-    Class::Sign(Sign::Semicolon),
-    Class::Sign(Sign::Comma),
-    Class::Sign(Sign::Close),
-    Class::Sign(Sign::Open),
-    Class::Sign(Sign::Becomes),
-    Class::Word(Keyword::On),
-    Class::Word(Keyword::Then),
-    Class::Word(Keyword::Do),
-    Class::Word(Keyword::Par),
-    Class::Word(Keyword::Begin),
-    Class::Word(Keyword::End),
-    Class::Sign(Sign::Times),
-    Class::Word(Keyword::Channel),
-];
+const LEFT_OUT: &str = "; , ) ( := on then do par begin end * channel";
 
 /// What is left out again at a place, and before it.
-const TOO_MANY: [Class; 5] = [
-    Class::Word(Keyword::Do),
-    Class::Sign(Sign::Comma),
-    Class::Sign(Sign::Open),
-    Class::Word(Keyword::Par),
-    Class::Word(Keyword::End),
-];
+const TOO_MANY: &str = "do , ( par end";
+
+/// The words for directions and roles.
+const ROLES: &str = "in out input output";
 
 /// The changes that are offered at a place.
 #[derive(Drop)]
@@ -57,27 +38,8 @@ pub(crate) struct Offers {
     pub(crate) whole: bool,
     /// Those, or else those that go farthest.
     pub(crate) best: Vec<Change>,
-    /// All with which it goes wrong later, where it is a program with none.
-    pub(crate) farther: Vec<Reach>,
-}
-
-/// Whether the text is a program with one of some changes.
-fn is_one_whole(all: &[Reach]) -> bool {
-    for reach in all {
-        if reach.whole {
-            return true;
-        }
-    }
-    false
-}
-
-/// How far the farthest of some changes goes.
-fn most(some: &[Reach]) -> usize {
-    let mut most = 0usize;
-    for one in some {
-        most = most.max(one.to);
-    }
-    most
+    /// How far the text goes with each change that can stand there.
+    pub(crate) all: Vec<Reach>,
 }
 
 /// Those of all changes that are offered where so many lexemes stand before the place.
@@ -86,69 +48,26 @@ pub(crate) fn offers_of(
     all: Vec<Reach>,
     number: usize,
 ) -> Result<Offers, AllocError> {
-    let whole = is_one_whole(&all);
-    let far = most(&all).max(number.saturating_add(3));
+    let whole = all.iter().any(|reach| reach.whole);
+    let most = all.iter().map(|reach| reach.to).max().unwrap_or(0);
+    let far = most.max(number.saturating_add(3));
     let mut best = Vec::new(alloc);
     for reach in &all {
         if reach.whole || (!whole && reach.to == far) {
             best.push(reach.change)?;
         }
     }
-    let farther = if whole { Vec::new(alloc) } else { all };
-    Ok(Offers {
-        whole,
-        best,
-        farther,
-    })
-}
-
-/// Whether both are the same change.
-fn are_same(one: Change, other: Change) -> bool {
-    one.spot == other.spot && one.put == other.put
-}
-
-/// Whether a change is one of some.
-fn is_offered(some: &[Change], change: Change) -> bool {
-    for one in some {
-        if are_same(*one, change) {
-            return true;
-        }
-    }
-    false
+    Ok(Offers { whole, best, all })
 }
 
 /// The first of those that are looked for that is one of some.
 pub(crate) fn first_of(some: &[Change], looked_for: &[Change]) -> Option<Change> {
     for change in looked_for {
-        if is_offered(some, *change) {
+        if some.contains(change) {
             return Some(*change);
         }
     }
     None
-}
-
-/// The change that goes farthest of those that are looked for.
-fn farthest_of(some: &[Reach], looked_for: &[Change]) -> Option<Change> {
-    let mut best: Option<Reach> = None;
-    for one in some {
-        let is_better = match best {
-            Some(best) => best.to < one.to,
-            None => true,
-        };
-        if is_better && is_offered(looked_for, one.change) {
-            best = Some(*one);
-        }
-    }
-    best.map(|one| one.change)
-}
-
-/// The slip that is told, of those that may be.
-pub(crate) fn slip_of(offers: &Offers, slips: &[Change]) -> Option<Change> {
-    if offers.whole {
-        first_of(&offers.best, slips)
-    } else {
-        farthest_of(&offers.farther, slips)
-    }
 }
 
 /// Whether two lexemes are the same, and not numbers, `+` or `-`, which may stand side by side.
@@ -156,157 +75,105 @@ fn are_twice(text: &str, one: Option<Lexeme>, other: Option<Lexeme>) -> bool {
     let (Some(one), Some(other)) = (one, other) else {
         return false;
     };
-    let may = matches!(
-        one.what,
-        Class::Number(_) | Class::Sign(Sign::Plus) | Class::Sign(Sign::Minus)
-    );
-    one.what == other.what && !may && letters(text, one) == letters(text, other)
-}
-
-/// A change.
-pub(crate) fn change(spot: Spot, put: Option<Class>) -> Change {
-    Change { spot, put }
-}
-
-/// Adds leaving out one of two same lexemes side by side.
-fn add_doubled(changes: &mut Vec<Change>, place: Place) -> Result<(), AllocError> {
-    if are_twice(place.text, before(place), found(place)) {
-        changes.push(change(Spot::Here, None))?;
-    }
-    if are_twice(place.text, back(place, 2), before(place)) {
-        changes.push(change(Spot::Before, None))?;
-    }
-    Ok(())
-}
-
-/// Whether it is the word for a direction or a role.
-fn is_role(lexeme: Option<Lexeme>) -> bool {
-    match lexeme {
-        Some(lexeme) => matches!(
-            lexeme.what,
-            Class::Word(Keyword::In | Keyword::Out | Keyword::Input | Keyword::Output)
-        ),
-        None => false,
-    }
-}
-
-/// Adds leaving out one of two such words side by side.
-fn add_roles(changes: &mut Vec<Change>, place: Place) -> Result<(), AllocError> {
-    let next = place.lexemes.get(place.number.saturating_add(1)).copied();
-    if is_role(found(place)) && (is_role(before(place)) || is_role(next)) {
-        changes.push(change(Spot::Here, None))?;
-    }
-    Ok(())
-}
-
-/// Adds what is often meant by a lexeme.
-fn add_others(
-    changes: &mut Vec<Change>,
-    spot: Spot,
-    lexeme: Option<Lexeme>,
-) -> Result<(), AllocError> {
-    for (class, put) in &OTHERS {
-        if finds(&[*class], lexeme) {
-            changes.push(change(spot, Some(*put)))?;
-        }
-    }
-    Ok(())
+    one.what == other.what
+        && !finds("number + -", Some(one))
+        && part_of(text, one.span) == part_of(text, other.span)
 }
 
 /// Whether `:=` isn't left out at a place: before a `(`, behind a name that isn't declared.
 fn is_call(place: Place) -> bool {
-    match before(place) {
-        Some(name) => {
-            finds(&[Class::Sign(Sign::Open)], found(place))
-                && name.what == Class::Name
-                && !is_declared(place.text, ahead(place, 1), letters(place.text, name))
-        }
+    match name_at(place, Spot::Before) {
+        Some(name) => finds("(", found(place)) && !is_declared(place, 1, name),
         None => false,
     }
 }
 
 /// Whether a product is written without `*` at a place: behind a number or a bracket, before a bracket or a name that is declared.
 fn is_product(place: Place) -> bool {
-    let is_left = match before(place) {
-        Some(lexeme) => matches!(lexeme.what, Class::Number(_) | Class::Sign(Sign::Close)),
-        None => false,
+    let is_right = match name_at(place, Spot::Here) {
+        Some(name) => is_declared(place, 0, name),
+        None => finds("(", found(place)),
     };
-    let Some(lexeme) = found(place) else {
-        return false;
-    };
-    let is_right = match lexeme.what {
-        Class::Name => is_declared(place.text, ahead(place, 0), letters(place.text, lexeme)),
-        class => class == Class::Sign(Sign::Open),
-    };
-    is_left && is_right
+    is_right && finds("number )", before(place))
 }
 
 /// Whether something that is often left out is looked for at a place.
-fn may_lack(place: Place, class: Class, whole: bool) -> bool {
-    match class {
-        Class::Word(Keyword::Begin | Keyword::End) => whole,
-        Class::Sign(Sign::Becomes) => !is_call(place),
-        Class::Sign(Sign::Times) => is_product(place),
-        Class::Word(Keyword::Channel) => is_role(before(place)),
+fn may_lack(place: Place, word: &str) -> bool {
+    match word {
+        "begin" | "end" => place.offers.whole,
+        ":=" => !is_call(place),
+        "*" => is_product(place),
+        "channel" => finds(ROLES, before(place)),
         _ => true,
     }
 }
 
-/// Adds what is often left out.
-fn add_left_out(changes: &mut Vec<Change>, place: Place, whole: bool) -> Result<(), AllocError> {
-    for class in &LEFT_OUT {
-        if may_lack(place, *class, whole) {
-            changes.push(change(Spot::Between, Some(*class)))?;
+/// Adds leaving out a lexeme, where a test holds.
+fn add_less(changes: &mut Vec<Change>, spot: Spot, holds: bool) -> Result<(), AllocError> {
+    if holds {
+        changes.push(Change { spot, put: None })?;
+    }
+    Ok(())
+}
+
+/// Adds putting one of these lexemes there, each where a test holds.
+fn add_more(
+    changes: &mut Vec<Change>,
+    place: Place,
+    spot: Spot,
+    words: &str,
+) -> Result<(), AllocError> {
+    for word in words.split_whitespace() {
+        if spot != Spot::Between || may_lack(place, word) {
+            let put = class_of(word);
+            changes.push(Change { spot, put })?;
         }
     }
     Ok(())
 }
 
-/// Adds leaving out a `;` before an `else`, where one statement stands before that.
-fn add_late(changes: &mut Vec<Change>, place: Place) -> Result<(), AllocError> {
-    let next = place.lexemes.get(place.number.saturating_add(1)).copied();
-    if finds(&[Class::Sign(Sign::Semicolon)], found(place))
-        && finds(&[Class::Word(Keyword::Else)], next)
-    {
-        changes.push(change(Spot::Here, None))?;
-    }
-    if is_late_else(place) {
-        changes.push(change(Spot::Before, None))?;
+/// Adds what is often meant by a lexeme.
+fn add_others(changes: &mut Vec<Change>, place: Place, spot: Spot) -> Result<(), AllocError> {
+    for row in OTHERS.lines() {
+        if finds(cell(row, 0), lexeme_at(place, spot)) {
+            add_more(changes, place, spot, cell(row, 1))?;
+        }
     }
     Ok(())
 }
 
 /// The changes that are looked for first, in their order: leaving out one of two same lexemes, what one is often written for, and leaving
-/// out a `;` before an `else`.
+/// out a `;` before an `else`, where one statement stands before that.
 pub(crate) fn likely(alloc: Global, place: Place) -> Result<Vec<Change>, AllocError> {
     let mut changes = Vec::new(alloc);
-    add_doubled(&mut changes, place)?;
-    add_roles(&mut changes, place)?;
-    add_others(&mut changes, Spot::Here, found(place))?;
-    add_others(&mut changes, Spot::Before, before(place))?;
-    add_late(&mut changes, place)?;
+    let (one, here, next) = (before(place), found(place), behind(place));
+    let is_role = finds(ROLES, here) && (finds(ROLES, one) || finds(ROLES, next));
+    let is_late = finds(";", here) && finds("else", next);
+    add_less(&mut changes, Spot::Here, are_twice(place.text, one, here))?;
+    add_less(
+        &mut changes,
+        Spot::Before,
+        are_twice(place.text, back(place, 2), one),
+    )?;
+    add_less(&mut changes, Spot::Here, is_role)?;
+    add_others(&mut changes, place, Spot::Here)?;
+    add_others(&mut changes, place, Spot::Before)?;
+    add_less(&mut changes, Spot::Here, is_late)?;
+    add_less(&mut changes, Spot::Before, is_late_else(place))?;
     Ok(changes)
 }
 
 /// What is often left out there.
-pub(crate) fn left_out(
-    alloc: Global,
-    place: Place,
-    whole: bool,
-) -> Result<Vec<Change>, AllocError> {
+pub(crate) fn left_out(alloc: Global, place: Place) -> Result<Vec<Change>, AllocError> {
     let mut changes = Vec::new(alloc);
-    add_left_out(&mut changes, place, whole)?;
+    add_more(&mut changes, place, Spot::Between, LEFT_OUT)?;
     Ok(changes)
 }
 
 /// The changes that are looked for behind it: leaving out what is too many.
 pub(crate) fn too_many(alloc: Global, place: Place) -> Result<Vec<Change>, AllocError> {
     let mut changes = Vec::new(alloc);
-    if finds(&TOO_MANY, found(place)) {
-        changes.push(change(Spot::Here, None))?;
-    }
-    if finds(&TOO_MANY, before(place)) {
-        changes.push(change(Spot::Before, None))?;
-    }
+    add_less(&mut changes, Spot::Here, finds(TOO_MANY, found(place)))?;
+    add_less(&mut changes, Spot::Before, finds(TOO_MANY, before(place)))?;
     Ok(changes)
 }

@@ -1,38 +1,32 @@
 //! What is said of a comment before a place where a text goes wrong.
 
 ghost use Rattle.std.specs.Prelude.{◌≡◌, IfOk, IfSome, string_bytes};
-ghost use Rattle.kahn_notes.specs.inner.Held.{comment_verb, comment_words};
 ghost use Rattle.kahn_notes.specs.Notes.{Mends};
 
 use crate::characters::character_fix;
-use kahn_marks::{Note, Sort, add_spot, place, simple};
+use kahn_marks::{Note, Sort, add, add_spot, place, simple};
 use kahn_streams::NoMemory;
 use kahn_syntax::Span;
 use kahn_wanted::comment_before;
 use std::alloc::{AllocError, Global};
 
-/// Whether a comment ends on the line where it begins, in words.
-fn comment_verb(text: &str, comment: Span) -> &'static str
-    ensures { result.now ≡ comment_verb text.now comment }
-{
-    let (first, _) = place(text, comment.from);
-    let (last, _) = place(text, comment.to.saturating_sub(1));
-    if first == last {
+/// What is said of a comment: where it begins, and where it ends, on the same line or further on.
+pub(crate) fn comment_words(
+    alloc: Global,
+    text: &str,
+    comment: Span,
+) -> Result<String, AllocError> {
+    let end = comment.to.saturating_sub(1);
+    let is_one_line = place(text, comment.from).0 == place(text, end).0;
+    let verb = if is_one_line {
         " ends with"
     } else {
         " goes on to"
-    }
-}
-
-/// What is said of a comment.
-pub(crate) fn comment_words(alloc: Global, text: &str, comment: Span) -> Result<String, AllocError>
-    ensures { IfOk result (λ words. string_bytes words ≡ comment_words text.now comment) }
-{
+    };
     let mut words = String::from_str(alloc, "the comment")?;
     add_spot(&mut words, " at ", text, comment.from)?;
-    words.push_str(comment_verb(text, comment))?;
-    words.push_str(" the `;`")?;
-    add_spot(&mut words, " at ", text, comment.to.saturating_sub(1))?;
+    add(&mut words, &[verb, " the `;`"])?;
+    add_spot(&mut words, " at ", text, end)?;
     Ok(words)
 }
 

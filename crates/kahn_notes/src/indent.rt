@@ -1,7 +1,8 @@
 //! Which block has no `end`, and which `end` is one too many, by the indentation of their lines.
 
-use crate::guards::{guard_of, is_word};
+use crate::guards::guard_of;
 use crate::layout::PlacedLexeme;
+use crate::place::front;
 use kahn_syntax::{Class, Keyword};
 use std::alloc::{AllocError, Global};
 
@@ -9,10 +10,9 @@ use std::alloc::{AllocError, Global};
 #[derive(Clone, Copy)]
 struct OpenBlock {
     /// The number of its `begin`.
-    begin: usize,
-    /// The line of that, and how deep it is indented.
-    line: usize,
-    deep: usize,
+    number: usize,
+    /// Its `begin`.
+    begin: PlacedLexeme,
     /// What stands behind it.
     next: Option<Class>,
     /// How deep the first line within is indented, once there is one.
@@ -41,138 +41,67 @@ struct BlockWalk {
     doubt: Option<usize>,
 }
 
-/// Whether a lexeme stands on another line than the `begin` of a block.
-fn is_far(top: Option<OpenBlock>, seat: PlacedLexeme) -> bool {
-    match top {
-        Some(top) => top.line != seat.line,
-        None => false,
-    }
-}
-
-/// Whether an `end` is less indented than its block.
-fn is_shallow(top: Option<OpenBlock>, seat: PlacedLexeme) -> bool {
-    match top {
-        Some(top) => is_far(Some(top), seat) && seat.first && seat.deep < top.deep,
-        None => false,
-    }
-}
-
-/// Whether an `end` seems to be one too many: it is deeper than its block, or closes statements without one.
-fn is_deep(
-    top: Option<OpenBlock>,
-    seats: &[PlacedLexeme],
-    number: usize,
-    seat: PlacedLexeme,
-) -> bool {
-    match top {
-        Some(top) => {
-            is_far(Some(top), seat)
-                && if seat.first {
-                    seat.deep > top.deep
-                } else {
-                    guard_of(seats, number, seat).is_some()
-                }
-        }
-        None => true,
-    }
-}
-
-/// What an `end` says where `end`s are missing.
-fn at_missing(
-    walk: &BlockWalk,
-    top: Option<OpenBlock>,
-    number: usize,
-    seat: PlacedLexeme,
-) -> Option<Misfit> {
-    match top {
-        Some(block) if walk.missing && is_shallow(top, seat) => {
-            Some(Misfit::Unclosed(block.begin, number))
-        }
-        _ => None,
-    }
-}
-
-/// What an `end` says where there are too many.
-fn at_surplus(
-    walk: &BlockWalk,
-    top: Option<OpenBlock>,
-    seats: &[PlacedLexeme],
-    number: usize,
-    seat: PlacedLexeme,
-) -> Option<Misfit> {
-    if walk.missing || !(walk.open.len() < 2 || is_deep(top, seats, number, seat)) {
-        return None;
-    }
-    let sure = match top {
-        Some(top) => seat.first && seat.deep > top.deep,
-        None => false,
-    };
-    match walk.doubt {
-        Some(doubt) if !sure => Some(Misfit::Surplus(doubt)),
-        _ => Some(Misfit::Surplus(number)),
-    }
-}
-
-/// What an `end` says.
+/// What an `end` says: it is less indented than its block, where `end`s are missing; or where there are too many, it is deeper, closes
+/// statements without a block, or closes the last one.
 fn at_end(
     walk: &mut BlockWalk,
     seats: &[PlacedLexeme],
     number: usize,
     seat: PlacedLexeme,
 ) -> Option<Misfit> {
-    let top = walk.open.last().copied();
-    if let Some(found) = at_missing(walk, top, number, seat) {
-        return Some(found);
+    let (missing, first, doubt) = (walk.missing, seat.first, walk.doubt.unwrap_or(number));
+    let Some(top) = walk.open.pop() else {
+        return if missing {
+            None
+        } else {
+            Some(Misfit::Surplus(doubt))
+        };
+    };
+    let far = top.begin.line != seat.line;
+    if missing {
+        let is_shallow = far && first && seat.deep < top.begin.deep;
+        return if is_shallow {
+            Some(Misfit::Unclosed(top.number, number))
+        } else {
+            None
+        };
     }
-    if let Some(found) = at_surplus(walk, top, seats, number, seat) {
-        return Some(found);
+    let is_sure = first && seat.deep > top.begin.deep;
+    let is_deep = far && (is_sure || (!first && guard_of(seats, number, seat).is_some()));
+    if is_deep || walk.open.is_empty() {
+        return Some(Misfit::Surplus(if is_sure { number } else { doubt }));
     }
-    if !walk.missing && is_far(top, seat) && !seat.first {
+    if far && !first {
         walk.doubt = Some(number);
     }
-    let left = walk.open.len().saturating_sub(1);
-    walk.open.truncate(left);
     None
 }
 
-/// Whether the lines of a block aren't deeper than its `begin`, so that indentation says nothing of it; or whether this is its first
-/// line, and deeper.
+/// Whether a line is the first within a block, and deeper than that of its `begin`, or no line of it needs to be.
 fn is_inner(walk: &BlockWalk, top: OpenBlock, number: usize, seat: PlacedLexeme) -> bool {
-    let what = seat.lexeme.what;
+    let kinds = [Class::Word(Keyword::Integer), Class::Word(Keyword::Logical)];
     let is_body = match top.next {
-        Some(class) => {
-            class == what
-                || class == Class::Word(Keyword::Integer)
-                || class == Class::Word(Keyword::Logical)
-        }
+        Some(class) => class == seat.what || kinds.contains(&class),
         None => false,
     };
-    top.inner.is_none()
-        && (seat.deep > top.deep
-            || (number.saturating_add(1) < walk.number
-                && is_body
-                && what != Class::Word(Keyword::Process)))
+    let is_within = number.saturating_add(1) < walk.number;
+    let is_process = seat.what == Class::Word(Keyword::Process);
+    top.inner.is_none() && (seat.deep > top.begin.deep || (is_within && is_body && !is_process))
 }
 
 /// Whether a block had to end before a line.
 fn is_past(top: OpenBlock, seat: PlacedLexeme) -> bool {
-    let what = seat.lexeme.what;
-    match top.inner {
-        None => true,
-        Some(inner) => {
-            what == Class::Word(Keyword::Process)
-                || (seat.deep <= top.deep && top.deep < inner)
-                || (what == Class::Word(Keyword::Else) && seat.deep < inner)
-        }
+    match (top.inner, seat.what) {
+        (None, _) | (_, Class::Word(Keyword::Process)) => true,
+        (Some(inner), Class::Word(Keyword::Else)) if seat.deep < inner => true,
+        (Some(inner), _) => seat.deep <= top.begin.deep && top.begin.deep < inner,
     }
 }
 
-/// What a lexeme says that begins a line and is no `end`.
+/// What a lexeme says that begins a line and is no `begin` or `end`.
 fn at_line(walk: &mut BlockWalk, number: usize, seat: PlacedLexeme) -> Option<Misfit> {
-    let Some(top) = walk.open.last().copied() else {
-        return None;
-    };
-    if !seat.first || !is_far(Some(top), seat) || walk.open.len() < 2 {
+    let top = walk.open.last().copied()?;
+    if !seat.first || top.begin.line == seat.line || walk.open.len() < 2 {
         return None;
     }
     if is_inner(walk, top, number, seat) {
@@ -182,7 +111,7 @@ fn at_line(walk: &mut BlockWalk, number: usize, seat: PlacedLexeme) -> Option<Mi
         return None;
     }
     if walk.missing && is_past(top, seat) {
-        return Some(Misfit::Unclosed(top.begin, number));
+        return Some(Misfit::Unclosed(top.number, number));
     }
     None
 }
@@ -192,30 +121,27 @@ fn at_seat(
     walk: &mut BlockWalk,
     seats: &[PlacedLexeme],
     number: usize,
-    seat: PlacedLexeme,
+    begin: PlacedLexeme,
 ) -> Result<Option<Misfit>, AllocError> {
-    match seat.lexeme.what {
-        Class::Word(Keyword::End) => return Ok(at_end(walk, seats, number, seat)),
+    match begin.what {
+        Class::Word(Keyword::End) => return Ok(at_end(walk, seats, number, begin)),
         Class::Word(Keyword::Begin) => {
-            let next = seats.get(number.saturating_add(1));
+            let next = seats.get(number.saturating_add(1)).map(|seat| seat.what);
             walk.open.push(OpenBlock {
-                begin: number,
-                line: seat.line,
-                deep: seat.deep,
-                next: next.map(|seat| seat.lexeme.what),
+                number,
+                begin,
+                next,
                 inner: None,
             })?;
             return Ok(None);
         }
         _ => {}
     }
-    if let Some(found) = at_line(walk, number, seat) {
-        return Ok(Some(found));
-    }
-    if is_word(Some(seat.lexeme.what), Keyword::Process) {
+    let found = at_line(walk, number, begin);
+    if begin.what == Class::Word(Keyword::Process) {
         walk.doubt = None;
     }
-    Ok(None)
+    Ok(found)
 }
 
 /// What is said where nothing was found: at what may not stand in a block, that the innermost one is open; at the end of the text that of
@@ -224,7 +150,7 @@ fn at_place(walk: &BlockWalk, late: bool, count: usize) -> Option<Misfit> {
     let outer = if walk.number < count { 1 } else { 0 };
     match walk.open.last() {
         Some(top) if late && walk.missing && walk.open.len() > outer => {
-            Some(Misfit::Unclosed(top.begin, walk.number))
+            Some(Misfit::Unclosed(top.number, walk.number))
         }
         _ => walk.doubt.map(Misfit::Surplus),
     }
@@ -245,10 +171,7 @@ pub(crate) fn first_misfit(
         open: Vec::new(alloc),
         doubt: None,
     };
-    for (at, seat) in seats.iter().enumerate() {
-        if at > number {
-            return Ok(at_place(&walk, late, seats.len()));
-        }
+    for (at, seat) in front(seats, number.saturating_add(1)).iter().enumerate() {
         if let Some(found) = at_seat(&mut walk, seats, at, *seat)? {
             return Ok(Some(found));
         }

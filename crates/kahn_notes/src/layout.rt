@@ -1,24 +1,16 @@
 //! How deep the lines of a text are indented.
 
-use kahn_syntax::Lexeme;
+use kahn_syntax::{Class, Lexeme, Span};
 use kahn_wanted::bytes_between;
 use std::alloc::{AllocError, Global};
-
-/// A line up to some byte.
-#[derive(Clone, Copy)]
-struct Indentation {
-    number: usize,
-    /// How deep it is indented, in columns.
-    deep: usize,
-    /// Whether nothing but blanks stands on it so far.
-    blank: bool,
-}
 
 /// A lexeme, with its line.
 #[derive(Clone, Copy)]
 pub(crate) struct PlacedLexeme {
-    /// The lexeme.
-    pub(crate) lexeme: Lexeme,
+    /// What it is.
+    pub(crate) what: Class,
+    /// Its bytes.
+    pub(crate) span: Span,
     /// The number of its line.
     pub(crate) line: usize,
     /// How deep that line is indented, in columns.
@@ -27,36 +19,16 @@ pub(crate) struct PlacedLexeme {
     pub(crate) first: bool,
 }
 
-/// A line behind one byte more; a tab goes to the next multiple of 8.
-fn passed(line: Indentation, byte: u8) -> Indentation {
-    match (byte, line.blank) {
-        (b'\n', _) => Indentation {
-            number: line.number.saturating_add(1),
-            deep: 0,
-            blank: true,
-        },
-        (b' ', true) => Indentation {
-            deep: line.deep.saturating_add(1),
-            ..line
-        },
-        (b'\t', true) => Indentation {
-            deep: (line.deep | 7).saturating_add(1),
-            ..line
-        },
-        (_, _) => Indentation {
-            blank: false,
-            ..line
-        },
+/// A line behind one byte more: its number, how deep it is indented, and whether blanks alone stand on it so far. A tab goes to the next
+/// multiple of 8.
+fn passed(line: (usize, usize, bool), byte: u8) -> (usize, usize, bool) {
+    let (number, deep, blank) = line;
+    match (byte, blank) {
+        (b'\n', _) => (number.saturating_add(1), 0, true),
+        (b' ', true) => (number, deep.saturating_add(1), true),
+        (b'\t', true) => (number, (deep | 7).saturating_add(1), true),
+        (_, _) => (number, deep, false),
     }
-}
-
-/// A line behind more bytes.
-fn walked(line: Indentation, bytes: &[u8]) -> Indentation {
-    let mut line = line;
-    for byte in bytes {
-        line = passed(line, *byte);
-    }
-    line
 }
 
 /// The lexemes of a text, each with its line.
@@ -66,20 +38,19 @@ pub(crate) fn seats(
     lexemes: &[Lexeme],
 ) -> Result<Vec<PlacedLexeme>, AllocError> {
     let mut seats = Vec::new(alloc);
-    let mut line = Indentation {
-        number: 1,
-        deep: 0,
-        blank: true,
-    };
-    let mut at = 0;
+    let (mut at, mut place) = (0, (1, 0, true));
     for lexeme in lexemes {
-        line = walked(line, bytes_between(text, at, lexeme.span.from));
+        for byte in bytes_between(text, at, lexeme.span.from) {
+            place = passed(place, *byte);
+        }
         at = lexeme.span.from;
+        let (what, span, (line, deep, first)) = (lexeme.what, lexeme.span, place);
         seats.push(PlacedLexeme {
-            lexeme: *lexeme,
-            line: line.number,
-            deep: line.deep,
-            first: line.blank,
+            what,
+            span,
+            line,
+            deep,
+            first,
         })?;
     }
     Ok(seats)

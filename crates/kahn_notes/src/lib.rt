@@ -2,11 +2,9 @@
 //! changes that mend it, and the blocks that are open.
 #![tactic(auto)]
 
-mod advice;
 mod blocks;
 mod characters;
 mod choice;
-mod classes;
 mod commented;
 mod foreign;
 mod guards;
@@ -23,8 +21,8 @@ mod rules;
 mod said;
 mod spelling;
 mod split;
+mod table;
 mod unexpected;
-mod wanting;
 mod words;
 
 // For the crates above.

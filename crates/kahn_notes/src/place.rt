@@ -1,9 +1,9 @@
 //! The place where a text goes wrong, with the lexemes round it.
 
-ghost use Rattle.std.specs.Prelude.{◌≤◌, length};
-
-use kahn_syntax::{Class, Keyword, Lexeme, Sign};
-use kahn_wanted::{Wanted, bytes_between};
+use crate::choice::Offers;
+use kahn_marks::part_of;
+use kahn_syntax::{Class, Keyword, Lexeme, Sign, Span};
+use kahn_wanted::{Spot, Wanted};
 
 /// The place where a text goes wrong.
 #[derive(Clone, Copy)]
@@ -14,19 +14,12 @@ pub(crate) struct Place<'p> {
     pub(crate) lexemes: &'p [Lexeme],
     /// How many of them stand before the place.
     pub(crate) number: usize,
+    /// The bytes of what stands there.
+    pub(crate) span: Span,
     /// What may stand there.
     pub(crate) wanted: &'p Wanted,
-}
-
-/// How many lexemes begin before a byte.
-pub(crate) fn count_before(lexemes: &[Lexeme], from: usize) -> usize {
-    let mut count = 0usize;
-    for lexeme in lexemes {
-        if lexeme.span.from < from {
-            count = count.saturating_add(1);
-        }
-    }
-    count
+    /// The changes that are offered.
+    pub(crate) offers: &'p Offers,
 }
 
 /// The lexeme so many before a place.
@@ -44,6 +37,20 @@ pub(crate) fn before(place: Place) -> Option<Lexeme> {
     back(place, 1)
 }
 
+/// The lexeme behind the one at a place.
+pub(crate) fn behind(place: Place) -> Option<Lexeme> {
+    place.lexemes.get(place.number.saturating_add(1)).copied()
+}
+
+/// The lexeme in the place of which a change puts another one.
+pub(crate) fn lexeme_at(place: Place, spot: Spot) -> Option<Lexeme> {
+    match spot {
+        Spot::Between => None,
+        Spot::Here => found(place),
+        Spot::Before => before(place),
+    }
+}
+
 /// The lexemes before a place, without so many of the last.
 pub(crate) fn ahead<'p>(place: Place<'p>, less: usize) -> &'p [Lexeme] {
     front(place.lexemes, place.number.saturating_sub(less))
@@ -51,20 +58,21 @@ pub(crate) fn ahead<'p>(place: Place<'p>, less: usize) -> &'p [Lexeme] {
 
 /// The first so many of some.
 pub(crate) fn front<T>(items: &[T], count: usize) -> &[T] {
-    match items.get(..count) {
-        Some(items) => items,
-        None => items,
+    items.get(..count).unwrap_or(items)
+}
+
+/// The name there, if it is one.
+pub(crate) fn name_at<'p>(place: Place<'p>, spot: Spot) -> Option<&'p str> {
+    let lexeme = lexeme_at(place, spot)?;
+    if lexeme.what == Class::Name {
+        return Some(part_of(place.text, lexeme.span));
     }
+    None
 }
 
-/// The letters of a lexeme, or its sign.
-pub(crate) fn letters(text: &str, lexeme: Lexeme) -> &[u8] {
-    bytes_between(text, lexeme.span.from, lexeme.span.to)
-}
-
-/// Whether a lexeme is a name with these letters.
-pub(crate) fn is_named(text: &str, lexeme: Lexeme, name: &[u8]) -> bool {
-    lexeme.what == Class::Name && letters(text, lexeme) == name
+/// Whether a lexeme is this name.
+fn is_named(text: &str, lexeme: Lexeme, name: &str) -> bool {
+    lexeme.what == Class::Name && part_of(text, lexeme.span) == name
 }
 
 /// Whether names are declared behind a lexeme.
@@ -82,11 +90,11 @@ fn declares(class: Class) -> bool {
     )
 }
 
-/// Whether lexemes declare a name.
-pub(crate) fn is_declared(text: &str, lexemes: &[Lexeme], name: &[u8]) -> bool {
+/// Whether the lexemes before a place, without so many of the last, declare a name.
+pub(crate) fn is_declared(place: Place, less: usize, name: &str) -> bool {
     let mut naming = false;
-    for lexeme in lexemes {
-        if naming && is_named(text, *lexeme, name) {
+    for lexeme in ahead(place, less) {
+        if naming && is_named(place.text, *lexeme, name) {
             return true;
         }
         let goes_on = matches!(lexeme.what, Class::Name | Class::Sign(Sign::Comma));
@@ -95,13 +103,12 @@ pub(crate) fn is_declared(text: &str, lexemes: &[Lexeme], name: &[u8]) -> bool {
     false
 }
 
-/// How often a name stands in lexemes.
-pub(crate) fn count_named(text: &str, lexemes: &[Lexeme], name: &[u8]) -> usize {
-    let mut count = 0usize;
-    for lexeme in lexemes {
-        if is_named(text, *lexeme, name) {
-            count = count.saturating_add(1);
-        }
-    }
-    count
+/// Whether a name stands once in a text.
+pub(crate) fn stands_once(place: Place, name: &str) -> bool {
+    place
+        .lexemes
+        .iter()
+        .filter(|lexeme| is_named(place.text, **lexeme, name))
+        .count()
+        == 1
 }

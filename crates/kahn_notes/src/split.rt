@@ -1,81 +1,36 @@
 //! What is said of an `else` behind several statements.
 
-use crate::guards::is_word;
 use crate::place::{Place, ahead, before, found};
-use crate::wanting::{awaits, finds};
+use crate::table::{finds, may_stand};
 use kahn_marks::add_spot;
 use kahn_syntax::{Class, Keyword, Lexeme, Sign};
 use std::alloc::{AllocError, Global};
 
-/// A walk back from an `else`, in its list of statements.
-#[derive(Clone, Copy)]
-struct ThenSearch {
-    /// How many blocks are closed behind the lexeme.
-    depth: usize,
-    /// How many `;` stand behind it, outside of these.
-    parts: usize,
-    /// The last `then`.
-    then: Option<Lexeme>,
-    /// Whether the walk has ended.
-    done: bool,
-}
-
-/// A walk behind one lexeme more.
-fn passed(back: ThenSearch, lexeme: Lexeme) -> ThenSearch {
-    let depth = match lexeme.what {
-        Class::Word(Keyword::End) => Some(back.depth.saturating_add(1)),
-        Class::Word(Keyword::Begin) => back.depth.checked_sub(1),
-        _ => Some(back.depth),
-    };
-    let Some(depth) = depth else {
-        return ThenSearch { done: true, ..back };
-    };
-    if depth == 0 && is_word(Some(lexeme.what), Keyword::Then) {
-        return ThenSearch {
-            then: Some(lexeme),
-            done: true,
-            ..back
-        };
-    }
-    let is_part = depth == 0 && lexeme.what == Class::Sign(Sign::Semicolon);
-    ThenSearch {
-        depth,
-        parts: back.parts.saturating_add(if is_part { 1 } else { 0 }),
-        ..back
-    }
-}
-
 /// The last `then` before a place, in its list of statements, and how many `;` stand behind it.
-fn last_then(place: Place) -> ThenSearch {
-    let mut back = ThenSearch {
-        depth: 0,
-        parts: 0,
-        then: None,
-        done: false,
-    };
+fn last_then(place: Place) -> (Option<Lexeme>, usize) {
+    let (mut depth, mut parts) = (0usize, 0usize);
     for lexeme in ahead(place, 0).iter().rev() {
-        if back.done {
-            return back;
+        match (lexeme.what, depth) {
+            (Class::Word(Keyword::End), _) => depth = depth.saturating_add(1),
+            (Class::Word(Keyword::Begin), 0) => return (None, parts),
+            (Class::Word(Keyword::Begin), _) => depth = depth.saturating_sub(1),
+            (Class::Word(Keyword::Then), 0) => return (Some(*lexeme), parts),
+            (Class::Sign(Sign::Semicolon), 0) => parts = parts.saturating_add(1),
+            (_, _) => {}
         }
-        back = passed(back, *lexeme);
     }
-    back
+    (None, parts)
 }
 
 /// Whether one statement and a `;` stand between `then` and the `else` at a place.
 pub(crate) fn is_late_else(place: Place) -> bool {
-    finds(&[Class::Word(Keyword::Else)], found(place))
-        && finds(&[Class::Sign(Sign::Semicolon)], before(place))
-        && last_then(place).parts == 1
+    finds("else", found(place)) && finds(";", before(place)) && last_then(place).1 == 1
 }
 
 /// What is said of an `else` at a place behind several statements.
 pub(crate) fn split_words(alloc: Global, place: Place) -> Result<Option<String>, AllocError> {
-    let is_else = finds(&[Class::Word(Keyword::Else)], found(place));
-    if !is_else || !awaits(Class::Word(Keyword::End), place.wanted) || is_late_else(place) {
-        return Ok(None);
-    }
-    let Some(then) = last_then(place).then else {
+    let is_else = finds("else", found(place)) && may_stand("end", place.wanted);
+    let (Some(then), false) = (last_then(place).0, !is_else || is_late_else(place)) else {
         return Ok(None);
     };
     let mut words = String::new(alloc);

@@ -10,31 +10,24 @@ use crate::choice::offers_of;
 use crate::commented::comment_words;
 use crate::listing::add_wanted;
 use crate::mending::mending;
-use crate::place::{Place as Spotted, before};
+use crate::place::Place;
 use crate::rules::grammar_said;
-use crate::said::{Said, text_of};
-use kahn_marks::{Fix, Note, Other, Sort, add};
+use crate::said::{Heading, Said, joined};
+use kahn_marks::{Fix, Note, Other, Sort, add, part_of};
 use kahn_streams::NoMemory;
 use kahn_syntax::{Lexeme, Span, What};
-use kahn_wanted::{Place, Unexpected, comment_before, place_at, reaches, swallows};
+use kahn_wanted::{FaultPlace, Unexpected, comment_before, place_at, reaches, swallows};
 use std::alloc::{AllocError, Global};
 
 /// Of how many lexemes a text may be for which changes are looked for.
 const MOST: usize = 8192;
 
-/// Adds what stands at a place.
-fn add_found(words: &mut String, text: &str, found: Option<Lexeme>) -> Result<(), AllocError> {
-    match found {
-        Some(lexeme) => add(words, &["`", text_of(text, lexeme), "`"]),
-        None => words.push_str("the end of the text"),
-    }
-}
-
 /// What stands at a place, in words.
 fn found_words(alloc: Global, text: &str, found: Option<Lexeme>) -> Result<String, AllocError> {
-    let mut words = String::new(alloc);
-    add_found(&mut words, text, found)?;
-    Ok(words)
+    match found {
+        Some(lexeme) => joined(alloc, &["`", part_of(text, lexeme.span), "`"]),
+        None => String::from_str(alloc, "the end of the text"),
+    }
 }
 
 /// What was expected at a place, and what was found there.
@@ -55,10 +48,10 @@ fn expected_words(
 
 /// Whether a comment before a place is what is wrong: it goes on over what reads like a part of a program, or nothing but comments stands
 /// before the place, and no change of one lexeme makes a program.
-fn is_cause(place: Spotted, comment: Option<Span>, whole: bool) -> bool {
+fn is_cause(place: Place, comment: Option<Span>) -> bool {
     match comment {
         Some(comment) if comment.to <= place.text.len() => {
-            (before(place).is_none() && !whole)
+            (place.number == 0 && !place.offers.whole)
                 || swallows(place.text.as_bytes(), comment.from, comment.to, true)
         }
         _ => false,
@@ -70,25 +63,27 @@ fn said_of(
     alloc: Global,
     text: &str,
     span: Span,
-    place: &Place,
+    at: &FaultPlace,
     comment: Option<Span>,
 ) -> Result<Option<Said>, NoMemory> {
-    let all = if place.lexemes.len() <= MOST {
-        reaches(alloc, &place.lexemes, place.number)?
+    let all = if at.lexemes.len() <= MOST {
+        reaches(alloc, &at.lexemes, at.number)?
     } else {
         Vec::new(alloc)
     };
-    let offers = offers_of(alloc, all, place.number)?;
-    let spotted = Spotted {
+    let offers = offers_of(alloc, all, at.number)?;
+    let place = Place {
         text,
-        lexemes: &place.lexemes,
-        number: place.number,
-        wanted: &place.unexpected.wanted,
+        lexemes: &at.lexemes,
+        number: at.number,
+        span,
+        wanted: &at.unexpected.wanted,
+        offers: &offers,
     };
-    if is_cause(spotted, comment, offers.whole) {
+    if is_cause(place, comment) {
         return Ok(None);
     }
-    grammar_said(alloc, spotted, span, &offers)
+    grammar_said(alloc, place)
 }
 
 /// Where the heading stands: where a change is made, or at the place itself.
@@ -106,7 +101,7 @@ fn note_at(
     alloc: Global,
     span: Span,
     expected: String,
-    head: Option<(Span, String)>,
+    head: Heading,
     fix: Option<Fix>,
     below: Vec<String>,
 ) -> Result<Note, AllocError>
@@ -140,20 +135,8 @@ fn note_at(
     }
 }
 
-/// What a note has beside what was expected.
-#[derive(Drop)]
-struct Parts {
-    head: Option<(Span, String)>,
-    fix: Option<Fix>,
-    below: Vec<String>,
-}
-
 /// A heading of its own; one that would stand at the place itself stands below.
-fn own_head(
-    below: &mut Vec<String>,
-    span: Span,
-    head: Option<(Span, String)>,
-) -> Result<Option<(Span, String)>, AllocError> {
+fn own_head(below: &mut Vec<String>, span: Span, head: Heading) -> Result<Heading, AllocError> {
     let Some((at, words)) = head else {
         return Ok(None);
     };
@@ -164,37 +147,27 @@ fn own_head(
     Ok(None)
 }
 
-/// The parts of what is said of a place.
-fn parts_of(alloc: Global, span: Span, said: Said) -> Result<Parts, AllocError> {
-    let Said { head, fix, below } = said;
-    let mut sentences = Vec::new(alloc);
-    let head = own_head(&mut sentences, span, head)?;
-    if let Some(sentence) = below {
-        sentences.push(sentence)?;
-    }
-    Ok(Parts {
-        head,
-        fix,
-        below: sentences,
-    })
-}
-
-/// Those at a place, with a sentence on the comment before it.
-fn parts_at(alloc: Global, text: &str, span: Span, place: &Place) -> Result<Parts, NoMemory> {
+/// What a note has beside what was expected: a heading of its own, a change, and sentences, of which one is on the comment before it.
+fn parts_at(
+    alloc: Global,
+    text: &str,
+    span: Span,
+    place: &FaultPlace,
+) -> Result<(Heading, Option<Fix>, Vec<String>), NoMemory> {
     let comment = comment_before(alloc, text, span.from)?;
-    let said = match said_of(alloc, text, span, place, comment)? {
-        Some(said) => said,
-        None => Said {
-            head: None,
-            fix: None,
-            below: None,
-        },
-    };
-    let mut parts = parts_of(alloc, span, said)?;
-    if let Some(comment) = comment {
-        parts.below.push(comment_words(alloc, text, comment)?)?;
+    let mut below = Vec::new(alloc);
+    let (mut head, mut fix) = (None, None);
+    if let Some(said) = said_of(alloc, text, span, place, comment)? {
+        head = own_head(&mut below, span, said.head)?;
+        fix = said.fix;
+        if let Some(sentence) = said.below {
+            below.push(sentence)?;
+        }
     }
-    Ok(parts)
+    if let Some(comment) = comment {
+        below.push(comment_words(alloc, text, comment)?)?;
+    }
+    Ok((head, fix, below))
 }
 
 /// A note on a place where a text goes wrong, which tells what was expected there, and with it the first that answers of these: a
@@ -208,7 +181,7 @@ pub fn unexpected_note(alloc: Global, text: &str, span: Span, what: What) -> Res
 {
     let place = place_at(alloc, text, span, what)?;
     let expected = expected_words(alloc, text, what, &place.unexpected)?;
-    let Parts { head, fix, below } = parts_at(alloc, text, span, &place)?;
+    let (head, fix, below) = parts_at(alloc, text, span, &place)?;
     let fix = mending(alloc, text, span, fix)?;
     Ok(note_at(alloc, span, expected, head, fix, below)?)
 }

@@ -5,7 +5,7 @@ ghost use Rattle.kahn_notes.specs.Notes.{wanted_words};
 ghost use Rattle.kahn_notes.specs.Words.{any_words, keyword_words, sign_words};
 
 use kahn_syntax::{Class, Keyword, Sign};
-use kahn_wanted::Group;
+use kahn_wanted::LexemeGroup;
 
 /// A keyword between quotes.
 pub(crate) fn keyword_words(keyword: Keyword) -> &'static str
@@ -79,30 +79,28 @@ pub(crate) fn class_words(class: Class) -> &'static str
 }
 
 /// What a group is called.
-pub(crate) fn group_words(group: Group) -> &'static str
+pub(crate) fn group_words(group: LexemeGroup) -> &'static str
     ensures { result.now ≡ wanted_words group }
 {
     match group {
-        Group::Expression => "an expression",
-        Group::Operand => "an operand",
-        Group::Statement => "a statement",
-        Group::SimpleStatement => "a simple statement",
-        Group::Declaration => "a declaration",
-        Group::Operator => "an operator",
-        Group::Arithmetic => "an arithmetic operator",
-        Group::Comparison => "a comparison",
+        LexemeGroup::Expression => "an expression",
+        LexemeGroup::Operand => "an operand",
+        LexemeGroup::Statement => "a statement",
+        LexemeGroup::SimpleStatement => "a simple statement",
+        LexemeGroup::Declaration => "a declaration",
+        LexemeGroup::Operator => "an operator",
+        LexemeGroup::Arithmetic => "an arithmetic operator",
+        LexemeGroup::Comparison => "a comparison",
     }
 }
 
-/// The letters of a keyword or a sign; none of another class.
-pub(crate) fn put_text(class: Class) -> &'static str {
+/// How a class is written in the tables: the letters of a keyword or a sign, or what any of the class is.
+pub(crate) fn class_word(class: Class) -> &'static str {
     let words = match class {
         Class::Word(keyword) => return keyword.letters(),
         Class::Sign(sign) => sign_words(sign),
-        Class::Name | Class::Number(_) => return "",
+        Class::Name => return "name",
+        Class::Number(_) => return "number",
     };
-    match words.get(1..words.len().saturating_sub(1)) {
-        Some(letters) => letters,
-        None => "",
-    }
+    words.get(1..words.len().saturating_sub(1)).unwrap_or("")
 }

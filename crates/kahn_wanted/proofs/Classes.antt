@@ -13,7 +13,7 @@ use Rattle.kahn_syntax.specs.declared.lexeme.Lexeme.{Lexeme}
 use Rattle.kahn_streams.specs.declared.span.Span.{Span}
 use Rattle.kahn_syntax.specs.Texts.{terminal, terminals, sign_terminal, IsUnsigned, IsProper}
 use Rattle.kahn_wanted.specs.declared.asked.TheConstants.{CLASSES}
-use Rattle.kahn_wanted.specs.declared.groups.Group.{Group}
+use Rattle.kahn_wanted.specs.declared.groups.LexemeGroup.{LexemeGroup}
 use Rattle.kahn_wanted.specs.declared.groups.Wanted.{Wanted}
 use Rattle.kahn_wanted.specs.Wanted.{AreWanted, class_of_terminal, members, told_classes}
 use Rattle.kahn_wanted.specs.inner.Asked.{AreOf, nowhere}
@@ -122,18 +122,18 @@ all_told P some i ws past h c m = (
 
 -- ---- groups
 
-pub group_more : (classes old new : List Class) (groups all : List Group) (g : Group) (ms : List Class) → ms ≡ members g → all ≡ groups ++ g ∷ [] → new ≡ old ++ ms
+pub group_more : (classes old new : List Class) (groups all : List LexemeGroup) (g : LexemeGroup) (ms : List Class) → ms ≡ members g → all ≡ groups ++ g ∷ [] → new ≡ old ++ ms
     → All (Contains classes) ms → (old ≡ flat_map members groups) × All (Contains classes) old → (new ≡ flat_map members all) × All (Contains classes) new
 group_more classes old new groups all g ms is more added within h = (
   added ∙ ap (λ l. l ++ ms) h.0 ∙ ap (λ l. flat_map members groups ++ l) is ∙ sym (one_group groups) ∙ ap (flat_map members) (sym more),
   subst (All (Contains classes)) (sym added) (All-append (Contains classes) old ms h.1 within),
 )
   where
-    one_group : (gs : List Group) → flat_map members (gs ++ g ∷ []) ≡ flat_map members gs ++ members g
+    one_group : (gs : List LexemeGroup) → flat_map members (gs ++ g ∷ []) ≡ flat_map members gs ++ members g
     one_group [] = append-nil (members g)
     one_group (h ∷ gs) = ap (λ l. members h ++ l) (one_group gs) ∙ sym (append_assoc (members h) (flat_map members gs) (members g))
 
-pub group_same : (classes old new : List Class) (groups all : List Group) → new ≡ old → all ≡ groups
+pub group_same : (classes old new : List Class) (groups all : List LexemeGroup) → new ≡ old → all ≡ groups
     → (old ≡ flat_map members groups) × All (Contains classes) old → (new ≡ flat_map members all) × All (Contains classes) new
 group_same classes old new groups all same more h = (same ∙ h.0 ∙ ap (flat_map members) (sym more), subst (All (Contains classes)) (sym same) h.1)
 

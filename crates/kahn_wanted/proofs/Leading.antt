@@ -6,13 +6,12 @@ use Rattle.kahn_syntax.specs.declared.lexeme.Sign.TheVariants as mark
 use Rattle.kahn_syntax.specs.Grammar.{Terminal, word}
 use Rattle.kahn_syntax.specs.Texts.{bytes_of_sign, letters_of, sign_terminal}
 use Rattle.kahn_syntax.specs.inner.Machine.{a_name, a_number, a_sign, a_word, accepts, either}
-use Rattle.kahn_wanted.specs.inner.Walk.{is_denial}
 
-pub word_or_sign : (w : Keyword) (s : Sign) → (is_denial s && bytes_eq (letters_of w) (codes "not")) ≡ accepts (a_word w) (sign_terminal s)
+pub word_or_sign : (w : Keyword) (s : Sign) → (bytes_eq (bytes_of_sign mark.Not) (bytes_of_sign s) && bytes_eq (letters_of w) (codes "not")) ≡ accepts (a_word w) (sign_terminal s)
 word_or_sign w mark.Not = refl
 word_or_sign w _ = refl
 
-pub sign_or_word : (g s : Sign) → (not (is_denial s) && bytes_eq (bytes_of_sign g) (bytes_of_sign s)) ≡ accepts (a_sign g) (sign_terminal s)
+pub sign_or_word : (g s : Sign) → (not (bytes_eq (bytes_of_sign mark.Not) (bytes_of_sign s)) && bytes_eq (bytes_of_sign g) (bytes_of_sign s)) ≡ accepts (a_sign g) (sign_terminal s)
 sign_or_word g mark.Not = refl
 sign_or_word g _ = refl
 

@@ -39,26 +39,19 @@ abbrev pub line_has : List ℕ → List ℕ → Bool
 line_has word [] = false
 line_has word (b ∷ rest) = not (b == 10) && ((not (is_of_word b) && has_word word rest) || line_has word rest)
 
--- it begins with a word that begins a statement, and one that has another word on that line
-abbrev pub has_statement : List ℕ → Bool
-has_statement rest =
+-- it begins with a word that begins a statement, and one that has another word on that line; or with `begin` or `end`, where these are looked for
+abbrev pub has_statement : Bool → List ℕ → Bool
+has_statement blocks rest =
     has_word (codes "send") rest || has_word (codes "print") rest || has_word (codes "repeat") rest
     || (has_word (codes "if") rest && line_has (codes "then") rest) || (has_word (codes "while") rest && line_has (codes "do") rest)
+    || (blocks && (has_word (codes "begin") rest || has_word (codes "end") rest))
 
 -- `:=` begins at byte i, or a whole word `wait` with a bracket behind it, which the byte before isn't a part of, or a line with a statement
-abbrev pub is_statement_at : List ℕ → ℕ → Bool
-is_statement_at text i =
+abbrev pub is_part_at : Bool → List ℕ → ℕ → Bool
+is_part_at blocks text i =
     starts_with ◌==◌ (drop i text) (codes ":=")
     || (not (is_of_word (slice_index text (i - 1))) && has_call (codes "wait") (drop i text))
-    || (begins_line text i && has_statement (drop i text))
-
--- a line with `begin` or `end` begins at byte i
-abbrev pub is_block_word_at : List ℕ → ℕ → Bool
-is_block_word_at text i = begins_line text i && (has_word (codes "begin") (drop i text) || has_word (codes "end") (drop i text))
-
--- one of the former, or of both where these are looked for too
-abbrev pub is_part_at : Bool → List ℕ → ℕ → Bool
-is_part_at blocks text i = is_statement_at text i || (blocks && is_block_word_at text i)
+    || (begins_line text i && has_statement blocks (drop i text))
 
 -- between bytes a and b a line ends, and one of them begins behind that
 abbrev pub Swallows : Bool → List ℕ → ℕ → ℕ → Type 0

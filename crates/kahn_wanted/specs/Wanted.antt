@@ -13,8 +13,8 @@ use Rattle.kahn_syntax.specs.declared.fault.What.TheVariants.{More}
 use Rattle.kahn_syntax.specs.Grammar as grammar
 use Rattle.kahn_syntax.specs.Grammar.{Terminal}
 use Rattle.kahn_syntax.specs.Texts.{terminal, terminals, AreLexemes, Begins}
-use Rattle.kahn_wanted.specs.declared.groups.Group.{Group}
-use Rattle.kahn_wanted.specs.declared.groups.Group.TheVariants as group
+use Rattle.kahn_wanted.specs.declared.groups.LexemeGroup.{LexemeGroup}
+use Rattle.kahn_wanted.specs.declared.groups.LexemeGroup.TheVariants as group
 use Rattle.kahn_wanted.specs.declared.groups.Wanted.{Wanted}
 use Rattle.kahn_wanted.specs.declared.found.Unexpected.{Unexpected}
 
@@ -38,7 +38,7 @@ signs [] = []
 signs (s ∷ ss) = class.Sign s ∷ signs ss
 
 -- what an operand begins with, a simple statement, and so on
-abbrev pub members : Group → List Class
+abbrev pub members : LexemeGroup → List Class
 members group.Expression = class.Name ∷ class.Number (pos 0) ∷ class.Sign sign.Open ∷ class.Sign sign.Minus
     ∷ words (word.True ∷ word.False ∷ word.Wait ∷ word.Not ∷ word.If ∷ [])
 members group.Operand = class.Name ∷ class.Number (pos 0) ∷ class.Sign sign.Open ∷ class.Sign sign.Minus ∷ words (word.True ∷ word.False ∷ word.Wait ∷ [])
@@ -46,8 +46,8 @@ members group.Statement = class.Name ∷ words (word.Send ∷ word.Print ∷ wor
 members group.SimpleStatement = class.Name ∷ words (word.Send ∷ word.Print ∷ word.Begin ∷ [])
 members group.Declaration = words (word.Integer ∷ word.Logical ∷ word.Process ∷ [])
 members group.Operator =
-    signs (sign.Plus ∷ sign.Minus ∷ sign.Times ∷ sign.Equal ∷ sign.Unequal ∷ sign.Less ∷ sign.AtMost ∷ sign.Greater ∷ sign.AtLeast ∷ [])
-    ++ words (word.Div ∷ word.Mod ∷ word.And ∷ word.Or ∷ [])
+    signs (sign.Plus ∷ sign.Minus ∷ sign.Times ∷ []) ++ words (word.Div ∷ word.Mod ∷ [])
+    ++ signs (sign.Equal ∷ sign.Unequal ∷ sign.Less ∷ sign.AtMost ∷ sign.Greater ∷ sign.AtLeast ∷ []) ++ words (word.And ∷ word.Or ∷ [])
 members group.Arithmetic = signs (sign.Plus ∷ sign.Minus ∷ sign.Times ∷ []) ++ words (word.Div ∷ word.Mod ∷ [])
 members group.Comparison = signs (sign.Equal ∷ sign.Unequal ∷ sign.Less ∷ sign.AtMost ∷ sign.Greater ∷ sign.AtLeast ∷ [])
 

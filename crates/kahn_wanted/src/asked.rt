@@ -8,7 +8,7 @@ use kahn_syntax::{Class, Keyword, Lexeme, Sign};
 use std::alloc::{AllocError, Global};
 
 /// The classes of lexemes; the one of the number 0 stands for all numbers. The sign for `not` is the word.
-pub(crate) const CLASSES: [Class; 44] = [
+pub const CLASSES: [Class; 44] = [
     Class::Name,
     Class::Number(0),
     Class::Word(Keyword::And),

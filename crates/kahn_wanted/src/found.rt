@@ -23,7 +23,7 @@ pub struct Unexpected {
 
 /// A place where a text goes wrong.
 #[derive(Drop)]
-pub struct Place {
+pub struct FaultPlace {
     /// The lexemes of the text.
     pub lexemes: Vec<Lexeme>,
     /// How many of them stand before the place.
@@ -95,7 +95,7 @@ fn wanted_of(
 }
 
 /// The place where a text goes wrong, which is read into lexemes once. It refuses only where memory was refused.
-pub fn place_at(alloc: Global, text: &str, span: Span, what: What) -> Result<Place, NoMemory>
+pub fn place_at(alloc: Global, text: &str, span: Span, what: What) -> Result<FaultPlace, NoMemory>
     requires { IsTextFault text.now (Expected span what) }
     ensures { IfOk result (λ place. IsUnexpected text.now span what place.unexpected) }
 {
@@ -104,7 +104,7 @@ pub fn place_at(alloc: Global, text: &str, span: Span, what: What) -> Result<Pla
     };
     let unexpected = wanted_of(alloc, text, &lexemes, span, what)?;
     let number = place_of(text, &lexemes, span, what);
-    Ok(Place {
+    Ok(FaultPlace {
         lexemes,
         number,
         unexpected,

@@ -14,20 +14,38 @@ use crate::awaited::Lead::{Either, Word};
 use crate::awaited::Single::{
     Becomes, Begin, Channel, Close, Do, Else, End, Name, Number, On, Open, Semicolon, Then,
 };
-use crate::awaited::{Awaited, Lead, Rule, Single};
+use crate::awaited::{Awaited, Lead, LeadRule, Single};
 use kahn_syntax::{Keyword, Operator, Sign};
 
-static PROGRAM: [Rule; 1] = [(
+/// What several parts begin with.
+const KIND: Lead = Either(Keyword::Integer, Keyword::Logical);
+
+const TRUTH: Lead = Either(Keyword::True, Keyword::False);
+
+const WAIT: Lead = Word(Keyword::Wait);
+
+const MINUS: Lead = Lead::Sign(Sign::Minus);
+
+const LEFT: Lead = Lead::Sign(Sign::Open);
+
+/// Single lexemes.
+const CLOSING: Awaited = Just(Close);
+
+const PARTING: Awaited = Just(Semicolon);
+
+const BODY: Awaited = Just(Begin);
+
+static PROGRAM: [LeadRule; 1] = [(
     Word(Keyword::Begin),
     &[Last, Just(End), Last, MoreInstances, Instance, Declarations],
 )];
 
-static DECLARATIONS: [Rule; 2] = [
+static DECLARATIONS: [LeadRule; 2] = [
     (
-        Either(Keyword::Integer, Keyword::Logical),
+        KIND,
         &[
             Declarations,
-            Just(Semicolon),
+            PARTING,
             MoreNames,
             Just(Name),
             Just(Channel),
@@ -38,14 +56,14 @@ static DECLARATIONS: [Rule; 2] = [
         Word(Keyword::Process),
         &[
             Declarations,
-            Just(Semicolon),
+            PARTING,
             Just(End),
             MoreStatements,
             Statement,
             Variables,
-            Just(Begin),
-            Just(Semicolon),
-            Just(Close),
+            BODY,
+            PARTING,
+            CLOSING,
             Groups,
             Just(Open),
             Just(Name),
@@ -53,26 +71,17 @@ static DECLARATIONS: [Rule; 2] = [
     ),
 ];
 
-static ROLE: [Rule; 1] = [(Either(Keyword::Input, Keyword::Output), &[])];
+static ROLE: [LeadRule; 1] = [(Either(Keyword::Input, Keyword::Output), &[])];
 
-static GROUPS: [Rule; 1] = [(
-    Either(Keyword::Integer, Keyword::Logical),
-    &[MoreGroups, MoreNames, Just(Name), Direction],
-)];
+static GROUPS: [LeadRule; 1] = [(KIND, &[MoreGroups, MoreNames, Just(Name), Direction])];
 
-static GROUP: [Rule; 1] = [(
-    Either(Keyword::Integer, Keyword::Logical),
-    &[MoreNames, Just(Name), Direction],
-)];
+static GROUP: [LeadRule; 1] = [(KIND, &[MoreNames, Just(Name), Direction])];
 
-static DIRECTION: [Rule; 1] = [(Either(Keyword::In, Keyword::Out), &[])];
+static DIRECTION: [LeadRule; 1] = [(Either(Keyword::In, Keyword::Out), &[])];
 
-static VARIABLES: [Rule; 1] = [(
-    Either(Keyword::Integer, Keyword::Logical),
-    &[Variables, Just(Semicolon), MoreNames, Just(Name)],
-)];
+static VARIABLES: [LeadRule; 1] = [(KIND, &[Variables, PARTING, MoreNames, Just(Name)])];
 
-static STATEMENT: [Rule; 7] = [
+static STATEMENT: [LeadRule; 7] = [
     (
         Word(Keyword::If),
         &[Level, Otherwise, Simple, Just(Then), Expression],
@@ -91,7 +100,7 @@ static STATEMENT: [Rule; 7] = [
     ),
 ];
 
-static SIMPLE: [Rule; 4] = [
+static SIMPLE: [LeadRule; 4] = [
     (Lead::Name, &[Expression, Just(Becomes)]),
     (Word(Keyword::Send), &[Just(Name), Just(On), Expression]),
     (Word(Keyword::Print), &[Expression]),
@@ -101,7 +110,7 @@ static SIMPLE: [Rule; 4] = [
     ),
 ];
 
-static EXPRESSION: [Rule; 8] = [
+static EXPRESSION: [LeadRule; 8] = [
     (
         Word(Keyword::If),
         &[
@@ -115,226 +124,176 @@ static EXPRESSION: [Rule; 8] = [
     ),
     (Word(Keyword::Not), &[Ors, Ands, Level, Denial]),
     (Lead::Number, &[Ors, Ands, Comparison, Signs, Products]),
-    (
-        Either(Keyword::True, Keyword::False),
-        &[Ors, Ands, Comparison, Signs, Products],
-    ),
+    (TRUTH, &[Ors, Ands, Comparison, Signs, Products]),
     (Lead::Name, &[Ors, Ands, Comparison, Signs, Products]),
     (
-        Word(Keyword::Wait),
+        WAIT,
         &[
             Ors,
             Ands,
             Comparison,
             Signs,
             Products,
-            Just(Close),
+            CLOSING,
             Just(Name),
             Just(Open),
         ],
     ),
     (
-        Lead::Sign(Sign::Minus),
+        MINUS,
         &[Ors, Ands, Comparison, Signs, Products, Level, Factor],
     ),
     (
-        Lead::Sign(Sign::Open),
+        LEFT,
         &[
-            Ors,
-            Ands,
-            Comparison,
-            Signs,
-            Products,
-            Level,
-            Just(Close),
-            Expression,
+            Ors, Ands, Comparison, Signs, Products, Level, CLOSING, Expression,
         ],
     ),
 ];
 
-static CONJUNCTION: [Rule; 7] = [
+static CONJUNCTION: [LeadRule; 7] = [
     (Word(Keyword::Not), &[Ands, Level, Denial]),
     (Lead::Number, &[Ands, Comparison, Signs, Products]),
-    (
-        Either(Keyword::True, Keyword::False),
-        &[Ands, Comparison, Signs, Products],
-    ),
+    (TRUTH, &[Ands, Comparison, Signs, Products]),
     (Lead::Name, &[Ands, Comparison, Signs, Products]),
     (
-        Word(Keyword::Wait),
+        WAIT,
         &[
             Ands,
             Comparison,
             Signs,
             Products,
-            Just(Close),
+            CLOSING,
             Just(Name),
             Just(Open),
         ],
     ),
+    (MINUS, &[Ands, Comparison, Signs, Products, Level, Factor]),
     (
-        Lead::Sign(Sign::Minus),
-        &[Ands, Comparison, Signs, Products, Level, Factor],
-    ),
-    (
-        Lead::Sign(Sign::Open),
+        LEFT,
         &[
-            Ands,
-            Comparison,
-            Signs,
-            Products,
-            Level,
-            Just(Close),
-            Expression,
+            Ands, Comparison, Signs, Products, Level, CLOSING, Expression,
         ],
     ),
 ];
 
-static DENIAL: [Rule; 7] = [
+static DENIAL: [LeadRule; 7] = [
     (Word(Keyword::Not), &[Level, Denial]),
     (Lead::Number, &[Comparison, Signs, Products]),
-    (
-        Either(Keyword::True, Keyword::False),
-        &[Comparison, Signs, Products],
-    ),
+    (TRUTH, &[Comparison, Signs, Products]),
     (Lead::Name, &[Comparison, Signs, Products]),
     (
-        Word(Keyword::Wait),
-        &[
-            Comparison,
-            Signs,
-            Products,
-            Just(Close),
-            Just(Name),
-            Just(Open),
-        ],
+        WAIT,
+        &[Comparison, Signs, Products, CLOSING, Just(Name), Just(Open)],
     ),
+    (MINUS, &[Comparison, Signs, Products, Level, Factor]),
     (
-        Lead::Sign(Sign::Minus),
-        &[Comparison, Signs, Products, Level, Factor],
-    ),
-    (
-        Lead::Sign(Sign::Open),
-        &[Comparison, Signs, Products, Level, Just(Close), Expression],
+        LEFT,
+        &[Comparison, Signs, Products, Level, CLOSING, Expression],
     ),
 ];
 
-static SUM: [Rule; 6] = [
+static SUM: [LeadRule; 6] = [
     (Lead::Number, &[Signs, Products]),
-    (Either(Keyword::True, Keyword::False), &[Signs, Products]),
+    (TRUTH, &[Signs, Products]),
     (Lead::Name, &[Signs, Products]),
-    (
-        Word(Keyword::Wait),
-        &[Signs, Products, Just(Close), Just(Name), Just(Open)],
-    ),
-    (Lead::Sign(Sign::Minus), &[Signs, Products, Level, Factor]),
-    (
-        Lead::Sign(Sign::Open),
-        &[Signs, Products, Level, Just(Close), Expression],
-    ),
+    (WAIT, &[Signs, Products, CLOSING, Just(Name), Just(Open)]),
+    (MINUS, &[Signs, Products, Level, Factor]),
+    (LEFT, &[Signs, Products, Level, CLOSING, Expression]),
 ];
 
-static TERM: [Rule; 6] = [
+static TERM: [LeadRule; 6] = [
     (Lead::Number, &[Products]),
-    (Either(Keyword::True, Keyword::False), &[Products]),
+    (TRUTH, &[Products]),
     (Lead::Name, &[Products]),
-    (
-        Word(Keyword::Wait),
-        &[Products, Just(Close), Just(Name), Just(Open)],
-    ),
-    (Lead::Sign(Sign::Minus), &[Products, Level, Factor]),
-    (
-        Lead::Sign(Sign::Open),
-        &[Products, Level, Just(Close), Expression],
-    ),
+    (WAIT, &[Products, CLOSING, Just(Name), Just(Open)]),
+    (MINUS, &[Products, Level, Factor]),
+    (LEFT, &[Products, Level, CLOSING, Expression]),
 ];
 
-static FACTOR: [Rule; 6] = [
+static FACTOR: [LeadRule; 6] = [
     (Lead::Number, &[]),
-    (Either(Keyword::True, Keyword::False), &[]),
+    (TRUTH, &[]),
     (Lead::Name, &[]),
-    (Word(Keyword::Wait), &[Just(Close), Just(Name), Just(Open)]),
-    (Lead::Sign(Sign::Minus), &[Level, Factor]),
-    (Lead::Sign(Sign::Open), &[Level, Just(Close), Expression]),
+    (WAIT, &[CLOSING, Just(Name), Just(Open)]),
+    (MINUS, &[Level, Factor]),
+    (LEFT, &[Level, CLOSING, Expression]),
 ];
 
-static ORS: [Rule; 1] = [(Lead::Operator(Operator::Or), &[Ors, Conjunction])];
+static ORS: [LeadRule; 1] = [(Lead::Operator(Operator::Or), &[Ors, Conjunction])];
 
-static ANDS: [Rule; 1] = [(Lead::Operator(Operator::And), &[Ands, Denial])];
+static ANDS: [LeadRule; 1] = [(Lead::Operator(Operator::And), &[Ands, Denial])];
 
-static COMPARISON: [Rule; 1] = [(Lead::Operator(Operator::Equal), &[Sum])];
+static COMPARISON: [LeadRule; 1] = [(Lead::Operator(Operator::Equal), &[Sum])];
 
-static SIGNS: [Rule; 1] = [(Lead::Operator(Operator::Add), &[Signs, Term])];
+static SIGNS: [LeadRule; 1] = [(Lead::Operator(Operator::Add), &[Signs, Term])];
 
-static PRODUCTS: [Rule; 1] = [(Lead::Operator(Operator::Multiply), &[Products, Factor])];
+static PRODUCTS: [LeadRule; 1] = [(Lead::Operator(Operator::Multiply), &[Products, Factor])];
 
-static INSTANCE: [Rule; 1] = [(Lead::Name, &[Arguments, Just(Open)])];
+static INSTANCE: [LeadRule; 1] = [(Lead::Name, &[Arguments, Just(Open)])];
 
-static ARGUMENTS: [Rule; 5] = [
+static ARGUMENTS: [LeadRule; 5] = [
     (Lead::Sign(Sign::Close), &[]),
-    (Lead::Name, &[Just(Close), MoreArguments]),
-    (Lead::Number, &[Just(Close), MoreArguments]),
-    (
-        Either(Keyword::True, Keyword::False),
-        &[Just(Close), MoreArguments],
-    ),
-    (
-        Lead::Sign(Sign::Minus),
-        &[Just(Close), MoreArguments, Just(Number)],
-    ),
+    (Lead::Name, &[CLOSING, MoreArguments]),
+    (Lead::Number, &[CLOSING, MoreArguments]),
+    (TRUTH, &[CLOSING, MoreArguments]),
+    (MINUS, &[CLOSING, MoreArguments, Just(Number)]),
 ];
 
-static ARGUMENT: [Rule; 4] = [
+static ARGUMENT: [LeadRule; 4] = [
     (Lead::Name, &[]),
     (Lead::Number, &[]),
-    (Either(Keyword::True, Keyword::False), &[]),
-    (Lead::Sign(Sign::Minus), &[Just(Number)]),
+    (TRUTH, &[]),
+    (MINUS, &[Just(Number)]),
 ];
 
-static MORE_NAMES: [Rule; 1] = [(Lead::Sign(Sign::Comma), &[MoreNames, Just(Name)])];
+static MORE_NAMES: [LeadRule; 1] = [(Lead::Sign(Sign::Comma), &[MoreNames, Just(Name)])];
 
-static MORE_STATEMENTS: [Rule; 1] = [(Lead::Sign(Sign::Semicolon), &[MoreStatements, Statement])];
+static MORE_STATEMENTS: [LeadRule; 1] = [(
+    Lead::Sign(Sign::Semicolon),
+    &[MoreStatements, Statement],
+)];
 
-static MORE_GROUPS: [Rule; 1] = [(Lead::Sign(Sign::Semicolon), &[MoreGroups, Group])];
+static MORE_GROUPS: [LeadRule; 1] = [(Lead::Sign(Sign::Semicolon), &[MoreGroups, Group])];
 
-static MORE_ARGUMENTS: [Rule; 1] = [(Lead::Sign(Sign::Comma), &[MoreArguments, Argument])];
+static MORE_ARGUMENTS: [LeadRule; 1] = [(Lead::Sign(Sign::Comma), &[MoreArguments, Argument])];
 
-static MORE_INSTANCES: [Rule; 1] = [(Word(Keyword::Par), &[MoreInstances, Instance])];
+static MORE_INSTANCES: [LeadRule; 1] = [(Word(Keyword::Par), &[MoreInstances, Instance])];
 
-static OTHERWISE: [Rule; 1] = [(Word(Keyword::Else), &[Statement])];
+static OTHERWISE: [LeadRule; 1] = [(Word(Keyword::Else), &[Statement])];
 
-static LAST: [Rule; 1] = [(Lead::Sign(Sign::Semicolon), &[])];
+static LAST: [LeadRule; 1] = [(Lead::Sign(Sign::Semicolon), &[])];
 
-static LEVEL: [Rule; 0] = [];
+static LEVEL: [LeadRule; 0] = [];
 
-static NAME: [Rule; 1] = [(Lead::Name, &[])];
+static NAME: [LeadRule; 1] = [(Lead::Name, &[])];
 
-static NUMBER: [Rule; 1] = [(Lead::Number, &[])];
+static NUMBER: [LeadRule; 1] = [(Lead::Number, &[])];
 
-static OPEN: [Rule; 1] = [(Lead::Sign(Sign::Open), &[])];
+static OPEN: [LeadRule; 1] = [(Lead::Sign(Sign::Open), &[])];
 
-static CLOSE: [Rule; 1] = [(Lead::Sign(Sign::Close), &[])];
+static CLOSE: [LeadRule; 1] = [(Lead::Sign(Sign::Close), &[])];
 
-static SEMICOLON: [Rule; 1] = [(Lead::Sign(Sign::Semicolon), &[])];
+static SEMICOLON: [LeadRule; 1] = [(Lead::Sign(Sign::Semicolon), &[])];
 
-static BECOMES: [Rule; 1] = [(Lead::Sign(Sign::Becomes), &[])];
+static BECOMES: [LeadRule; 1] = [(Lead::Sign(Sign::Becomes), &[])];
 
-static BEGIN: [Rule; 1] = [(Word(Keyword::Begin), &[])];
+static BEGIN: [LeadRule; 1] = [(Word(Keyword::Begin), &[])];
 
-static END: [Rule; 1] = [(Word(Keyword::End), &[])];
+static END: [LeadRule; 1] = [(Word(Keyword::End), &[])];
 
-static CHANNEL: [Rule; 1] = [(Word(Keyword::Channel), &[])];
+static CHANNEL: [LeadRule; 1] = [(Word(Keyword::Channel), &[])];
 
-static ON: [Rule; 1] = [(Word(Keyword::On), &[])];
+static ON: [LeadRule; 1] = [(Word(Keyword::On), &[])];
 
-static THEN: [Rule; 1] = [(Word(Keyword::Then), &[])];
+static THEN: [LeadRule; 1] = [(Word(Keyword::Then), &[])];
 
-static DO: [Rule; 1] = [(Word(Keyword::Do), &[])];
+static DO: [LeadRule; 1] = [(Word(Keyword::Do), &[])];
 
-static ELSE: [Rule; 1] = [(Word(Keyword::Else), &[])];
+static ELSE: [LeadRule; 1] = [(Word(Keyword::Else), &[])];
 
 /// What a single lexeme begins with: itself.
-fn single_rules(single: Single) -> &'static [Rule]
+fn single_rules(single: Single) -> &'static [LeadRule]
     ensures { rules_as result.now ≡ (single_token single, []) ∷ [] }
 {
     match single {
@@ -355,7 +314,7 @@ fn single_rules(single: Single) -> &'static [Rule]
 }
 
 /// What a part begins with.
-pub(crate) fn rules(part: Awaited) -> &'static [Rule]
+pub(crate) fn rules(part: Awaited) -> &'static [LeadRule]
     ensures { rules_as result.now ≡ (rules_of (awaited_part part)).1 }
 {
     match part {
@@ -399,37 +358,14 @@ pub(crate) fn is_optional(part: Awaited) -> bool
     ensures { result ≡ (rules_of (awaited_part part)).0 }
 {
     match part {
-        Awaited::Declarations
-        | Awaited::Role
-        | Awaited::Groups
-        | Awaited::Direction
-        | Awaited::Variables
-        | Awaited::Statement
-        | Awaited::Simple
-        | Awaited::Ors
-        | Awaited::Ands
-        | Awaited::Comparison
-        | Awaited::Signs
-        | Awaited::Products
-        | Awaited::MoreNames
-        | Awaited::MoreStatements
-        | Awaited::MoreGroups
-        | Awaited::MoreArguments
-        | Awaited::MoreInstances
-        | Awaited::Otherwise
-        | Awaited::Last
-        | Awaited::Level => true,
-        Awaited::Program
-        | Awaited::Group
-        | Awaited::Expression
-        | Awaited::Conjunction
-        | Awaited::Denial
-        | Awaited::Sum
-        | Awaited::Term
-        | Awaited::Factor
-        | Awaited::Instance
-        | Awaited::Arguments
-        | Awaited::Argument
-        | Awaited::Just(_) => false,
+        Awaited::Declarations | Awaited::Role | Awaited::Groups | Awaited::Direction => true,
+        Awaited::Variables | Awaited::Statement | Awaited::Simple | Awaited::Level => true,
+        Awaited::Ors | Awaited::Ands | Awaited::Comparison | Awaited::Signs => true,
+        Awaited::Products | Awaited::MoreNames | Awaited::MoreStatements => true,
+        Awaited::MoreGroups | Awaited::MoreArguments | Awaited::MoreInstances => true,
+        Awaited::Otherwise | Awaited::Last => true,
+        Awaited::Program | Awaited::Group | Awaited::Expression | Awaited::Conjunction => false,
+        Awaited::Denial | Awaited::Sum | Awaited::Term | Awaited::Factor => false,
+        Awaited::Instance | Awaited::Arguments | Awaited::Argument | Awaited::Just(_) => false,
     }
 }

@@ -10,7 +10,7 @@ use std::alloc::{AllocError, Global};
 
 /// A group of lexemes, in a word of the grammar: those with which one may begin.
 #[derive(Clone, Copy, PartialEq)]
-pub enum Group {
+pub enum LexemeGroup {
     /// Any expression.
     Expression,
     /// An expression without `not` and `if`.
@@ -33,28 +33,28 @@ pub enum Group {
 #[derive(Drop)]
 pub struct Wanted {
     /// The groups.
-    pub groups: Vec<Group>,
+    pub groups: Vec<LexemeGroup>,
     /// The classes that are in none of them.
     pub others: Vec<Class>,
 }
 
 // The groups of which all members are told, and these members.
 #[derive(Drop)]
-struct Told {
-    groups: Vec<Group>,
+struct ToldGroups {
+    groups: Vec<LexemeGroup>,
     classes: Vec<Class>,
 }
 
 /// The groups; one that has another stands before it.
-const GROUPS: [Group; 8] = [
-    Group::Expression,
-    Group::Operand,
-    Group::Statement,
-    Group::SimpleStatement,
-    Group::Declaration,
-    Group::Operator,
-    Group::Arithmetic,
-    Group::Comparison,
+const GROUPS: [LexemeGroup; 8] = [
+    LexemeGroup::Expression,
+    LexemeGroup::Operand,
+    LexemeGroup::Statement,
+    LexemeGroup::SimpleStatement,
+    LexemeGroup::Declaration,
+    LexemeGroup::Operator,
+    LexemeGroup::Arithmetic,
+    LexemeGroup::Comparison,
 ];
 
 static EXPRESSION: [Class; 9] = [
@@ -69,16 +69,6 @@ static EXPRESSION: [Class; 9] = [
     Class::Word(Keyword::If),
 ];
 
-static OPERAND: [Class; 7] = [
-    Class::Name,
-    Class::Number(0),
-    Class::Sign(Sign::Open),
-    Class::Sign(Sign::Minus),
-    Class::Word(Keyword::True),
-    Class::Word(Keyword::False),
-    Class::Word(Keyword::Wait),
-];
-
 static STATEMENT: [Class; 7] = [
     Class::Name,
     Class::Word(Keyword::Send),
@@ -87,13 +77,6 @@ static STATEMENT: [Class; 7] = [
     Class::Word(Keyword::If),
     Class::Word(Keyword::While),
     Class::Word(Keyword::Repeat),
-];
-
-static SIMPLE: [Class; 4] = [
-    Class::Name,
-    Class::Word(Keyword::Send),
-    Class::Word(Keyword::Print),
-    Class::Word(Keyword::Begin),
 ];
 
 static DECLARATION: [Class; 3] = [
@@ -106,49 +89,32 @@ static OPERATOR: [Class; 13] = [
     Class::Sign(Sign::Plus),
     Class::Sign(Sign::Minus),
     Class::Sign(Sign::Times),
+    Class::Word(Keyword::Div),
+    Class::Word(Keyword::Mod),
     Class::Sign(Sign::Equal),
     Class::Sign(Sign::Unequal),
     Class::Sign(Sign::Less),
     Class::Sign(Sign::AtMost),
     Class::Sign(Sign::Greater),
     Class::Sign(Sign::AtLeast),
-    Class::Word(Keyword::Div),
-    Class::Word(Keyword::Mod),
     Class::Word(Keyword::And),
     Class::Word(Keyword::Or),
 ];
 
-static ARITHMETIC: [Class; 5] = [
-    Class::Sign(Sign::Plus),
-    Class::Sign(Sign::Minus),
-    Class::Sign(Sign::Times),
-    Class::Word(Keyword::Div),
-    Class::Word(Keyword::Mod),
-];
-
-static COMPARISON: [Class; 6] = [
-    Class::Sign(Sign::Equal),
-    Class::Sign(Sign::Unequal),
-    Class::Sign(Sign::Less),
-    Class::Sign(Sign::AtMost),
-    Class::Sign(Sign::Greater),
-    Class::Sign(Sign::AtLeast),
-];
-
-impl Group {
+impl LexemeGroup {
     /// Its members.
     pub fn members(self) -> &'static [Class]
         ensures { result.now ≡ members self }
     {
         match self {
-            Group::Expression => &EXPRESSION,
-            Group::Operand => &OPERAND,
-            Group::Statement => &STATEMENT,
-            Group::SimpleStatement => &SIMPLE,
-            Group::Declaration => &DECLARATION,
-            Group::Operator => &OPERATOR,
-            Group::Arithmetic => &ARITHMETIC,
-            Group::Comparison => &COMPARISON,
+            LexemeGroup::Expression => &EXPRESSION,
+            LexemeGroup::Operand => &EXPRESSION[..7],
+            LexemeGroup::Statement => &STATEMENT,
+            LexemeGroup::SimpleStatement => &STATEMENT[..4],
+            LexemeGroup::Declaration => &DECLARATION,
+            LexemeGroup::Operator => &OPERATOR,
+            LexemeGroup::Arithmetic => &OPERATOR[..5],
+            LexemeGroup::Comparison => &OPERATOR[5..11],
         }
     }
 }
@@ -173,7 +139,7 @@ fn are_within(some: &[Class], classes: &[Class]) -> bool
 }
 
 /// The groups of which all members are among these classes. None is told of which all members were told before.
-fn find_groups(alloc: Global, classes: &[Class]) -> Result<Told, AllocError>
+fn find_groups(alloc: Global, classes: &[Class]) -> Result<ToldGroups, AllocError>
     ensures { IfOk result (λ t. (t.classes.items ≡ flat_map members t.groups.items) × All (Contains classes.now) t.classes.items) }
 {
     let mut groups = Vec::new(alloc);
@@ -185,7 +151,7 @@ fn find_groups(alloc: Global, classes: &[Class]) -> Result<Told, AllocError>
             told.extend_from_slice(members)?;
         }
     }
-    Ok(Told {
+    Ok(ToldGroups {
         groups,
         classes: told,
     })
@@ -208,7 +174,7 @@ fn find_others(alloc: Global, classes: &[Class], told: &[Class]) -> Result<Vec<C
 pub(crate) fn grouped(alloc: Global, classes: &[Class]) -> Result<Wanted, AllocError>
     ensures { IfOk result (λ w. (c : Class) → Contains (told_classes w) c ↔ Contains classes.now c) }
 {
-    let Told {
+    let ToldGroups {
         groups,
         classes: told,
     } = find_groups(alloc, classes)?;

@@ -6,9 +6,9 @@ ghost use Rattle.kahn_streams.specs.declared.span.Span.{Span};
 ghost use Rattle.kahn_syntax.specs.Grammar.{rank, word as word_terminal};
 ghost use Rattle.kahn_syntax.specs.Texts.{bytes_of_sign, letters_of, sign_terminal, terminal};
 ghost use Rattle.kahn_syntax.specs.inner.Machine.{a_name, a_number, a_sign, a_word, accepts, an_operator, enters, operator_of, rank_or};
-ghost use Rattle.kahn_wanted.specs.inner.Walk.{is_denial, lead_of, awaited_parts, rules_as};
+ghost use Rattle.kahn_wanted.specs.inner.Walk.{lead_of, awaited_parts, rules_as};
 
-use crate::awaited::{Awaited, Lead, Rule};
+use crate::awaited::{Awaited, Lead, LeadRule};
 use kahn_syntax::{Class, Keyword, Operator, Sign};
 
 /// Whether two keywords are the same.
@@ -48,29 +48,6 @@ fn same_sign(first: Sign, second: Sign) -> bool
     sign_bytes(first) == sign_bytes(second)
 }
 
-/// Whether it is the sign for `not`.
-fn is_denial(sign: Sign) -> bool
-    ensures { result ≡ is_denial sign }
-{
-    match sign {
-        Sign::Not => true,
-        Sign::Becomes
-        | Sign::Open
-        | Sign::Close
-        | Sign::Comma
-        | Sign::Semicolon
-        | Sign::Plus
-        | Sign::Minus
-        | Sign::Times
-        | Sign::Equal
-        | Sign::Unequal
-        | Sign::Less
-        | Sign::AtMost
-        | Sign::Greater
-        | Sign::AtLeast => false,
-    }
-}
-
 /// Whether a lexeme is this keyword.
 #[tactic(auto, using(crate::proofs::Leading::word_or_sign))]
 fn is_word(word: Keyword, class: Class) -> bool
@@ -78,7 +55,7 @@ fn is_word(word: Keyword, class: Class) -> bool
 {
     match class {
         Class::Word(found) => same_word(word, found),
-        Class::Sign(found) => is_denial(found) && same_word(word, Keyword::Not),
+        Class::Sign(found) => same_sign(Sign::Not, found) && same_word(word, Keyword::Not),
         Class::Name => false,
         Class::Number(_) => false,
     }
@@ -91,7 +68,7 @@ fn is_sign(sign: Sign, class: Class) -> bool
 {
     match class {
         Class::Word(_) => false,
-        Class::Sign(found) => !is_denial(found) && same_sign(sign, found),
+        Class::Sign(found) => !same_sign(Sign::Not, found) && same_sign(sign, found),
         Class::Name => false,
         Class::Number(_) => false,
     }
@@ -224,7 +201,7 @@ fn accepts(lead: Lead, class: Class) -> bool
 }
 
 /// What is open behind a lexeme, by the first rule that has it.
-pub(crate) fn entered(rules: &'static [Rule], class: Class) -> Option<&'static [Awaited]>
+pub(crate) fn entered(rules: &'static [LeadRule], class: Class) -> Option<&'static [Awaited]>
     ensures { (text : List ℕ) (at : Span) → option_map (λ ps. awaited_parts ps.now) result ≡ enters (rules_as rules.now) (terminal text class at) }
 {
     for rule in rules {

@@ -15,11 +15,12 @@ mod walk;
 
 pub use blocks::{Block, open_behind};
 pub use comments::{comment_before, comments_of};
-pub use found::{Place, Unexpected, place_at};
-pub use groups::{Group, Wanted};
+pub use found::{FaultPlace, Unexpected, place_at};
+pub use groups::{LexemeGroup, Wanted};
 pub use reached::{Change, Reach, Spot, reaches};
 pub use swallowing::swallows;
 
 // For the crates above.
+pub use asked::CLASSES;
 pub use blocks::bytes_between;
 pub use swallowing::{has_word, is_blank, is_of_word};

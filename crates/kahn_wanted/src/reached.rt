@@ -19,7 +19,7 @@ pub enum Spot {
 }
 
 /// A change of one lexeme.
-#[derive(Clone, Copy)]
+#[derive(Clone, Copy, PartialEq)]
 pub struct Change {
     /// Where it is.
     pub spot: Spot,
@@ -38,117 +38,72 @@ pub struct Reach {
     pub to: usize,
 }
 
-/// Where a lexeme is put in: by what is open before it and what stands behind.
-#[derive(Clone, Copy)]
-struct Gap<'p> {
-    spot: Spot,
-    open: &'p [Awaited],
-    rest: &'p [Lexeme],
-    /// The number of the first lexeme of the rest.
-    from: usize,
-}
-
-/// How many of some lexemes may stand, one behind another, where this is open.
-fn going(open: &mut Vec<Awaited>, lexemes: &[Lexeme]) -> Result<usize, AllocError> {
+/// How many lexemes may stand, one behind another, where this is open, and whether they make a program.
+fn going(stack: &mut Vec<Awaited>, lexemes: &[Lexeme]) -> Result<(usize, bool), AllocError> {
     for (number, lexeme) in lexemes.iter().enumerate() {
-        if !pass(open, lexeme.what)? {
-            return Ok(number);
+        if !pass(stack, lexeme.what)? {
+            return Ok((number, false));
         }
     }
-    Ok(lexemes.len())
+    let whole = stack.iter().all(|part| is_optional(*part));
+    Ok((lexemes.len(), whole))
 }
 
-/// Whether all parts may be left out.
-fn are_optional(open: &[Awaited]) -> bool {
-    for part in open {
-        if !is_optional(*part) {
-            return false;
-        }
-    }
-    true
-}
-
-/// How far a text goes with a lexeme in a gap, or with none there.
-fn reach_of(alloc: Global, gap: &Gap<'_>, put: Option<Class>) -> Result<Option<Reach>, AllocError> {
-    let mut open = Vec::new(alloc);
-    open.extend_from_slice(gap.open)?;
-    if let Some(class) = put {
-        if !pass(&mut open, class)? {
-            return Ok(None);
-        }
-    }
-    let count = going(&mut open, gap.rest)?;
-    let spot = gap.spot;
-    Ok(Some(Reach {
-        change: Change { spot, put },
-        whole: count == gap.rest.len() && are_optional(&open),
-        to: gap.from.saturating_add(count),
-    }))
-}
-
-/// Adds how far it goes, where it is a program then or at least two lexemes behind the place stand.
+/// Adds how far a text goes with a change, if it can stand where this is open, before lexemes from a number on.
 fn add_reach(
     all: &mut Vec<Reach>,
     alloc: Global,
-    gap: &Gap<'_>,
-    number: usize,
-    put: Option<Class>,
+    open: &[Awaited],
+    rest: &[Lexeme],
+    from: usize,
+    change: Change,
 ) -> Result<(), AllocError> {
-    match reach_of(alloc, gap, put)? {
-        Some(reach) if reach.whole || number.saturating_add(1) < reach.to => Ok(all.push(reach)?),
-        _ => Ok(()),
+    let mut stack = Vec::new(alloc);
+    stack.extend_from_slice(open)?;
+    if let Some(class) = change.put {
+        if !pass(&mut stack, class)? {
+            return Ok(());
+        }
     }
+    let (count, whole) = going(&mut stack, rest)?;
+    let to = from.saturating_add(count);
+    Ok(all.push(Reach { change, whole, to })?)
 }
 
-/// Adds all in a gap.
-fn add_all(
+/// Adds how far it goes with each change there.
+fn add_reaches(
     all: &mut Vec<Reach>,
     alloc: Global,
-    gap: &Gap<'_>,
+    lexemes: &[Lexeme],
     number: usize,
+    spot: Spot,
 ) -> Result<(), AllocError> {
-    if gap.spot != Spot::Between {
-        add_reach(all, alloc, gap, number, None)?;
+    let (kept, from) = match spot {
+        Spot::Between => (number, number),
+        Spot::Here => (number, number.saturating_add(1)),
+        Spot::Before => (number.saturating_sub(1), number),
+    };
+    let (Some(before), Some(rest)) = (lexemes.get(..kept), lexemes.get(from..)) else {
+        return Ok(());
+    };
+    let open = awaited_behind(alloc, before)?;
+    if spot != Spot::Between {
+        add_reach(all, alloc, &open, rest, from, Change { spot, put: None })?;
     }
     for class in &CLASSES {
-        add_reach(all, alloc, gap, number, Some(*class))?;
+        let put = Some(*class);
+        add_reach(all, alloc, &open, rest, from, Change { spot, put })?;
     }
     Ok(())
 }
 
-/// How far a text goes with each change beside the lexeme with a number, where it is a program then or at least two lexemes behind the
-/// place stand.
+/// How far a text goes with each change of one lexeme beside the one with a number, of those that can stand there.
 pub fn reaches(alloc: Global, lexemes: &[Lexeme], number: usize) -> Result<Vec<Reach>, AllocError> {
     let mut all = Vec::new(alloc);
-    let (Some(before), Some(rest)) = (lexemes.get(..number), lexemes.get(number..)) else {
-        return Ok(all);
-    };
-    let open = awaited_behind(alloc, before)?;
-    let gap = Gap {
-        spot: Spot::Between,
-        open: &open,
-        rest,
-        from: number,
-    };
-    add_all(&mut all, alloc, &gap, number)?;
-    if let Some((_, rest)) = rest.split_first() {
-        let gap = Gap {
-            spot: Spot::Here,
-            open: &open,
-            rest,
-            from: number.saturating_add(1),
-        };
-        add_all(&mut all, alloc, &gap, number)?;
-    }
-    if let Some((_, before)) = before.split_last() {
-        let open = awaited_behind(alloc, before)?;
-        let gap = Gap {
-            spot: Spot::Before,
-            open: &open,
-            rest,
-            from: number,
-        };
-        add_all(&mut all, alloc, &gap, number)?;
+    add_reaches(&mut all, alloc, lexemes, number, Spot::Between)?;
+    add_reaches(&mut all, alloc, lexemes, number, Spot::Here)?;
+    if 0 < number {
+        add_reaches(&mut all, alloc, lexemes, number, Spot::Before)?;
     }
     Ok(all)
 }

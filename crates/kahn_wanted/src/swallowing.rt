@@ -2,7 +2,7 @@
 
 ghost use Rattle.std.specs.Prelude.{◌≡◌, ◌↔◌, ℕ, ◌+◌, ◌≤◌, ◌<◌, IfNone, IfSome, IsTrue, length, slice_index};
 ghost use Rattle.kahn_syntax.specs.Texts.{IsBlank};
-ghost use Rattle.kahn_wanted.specs.Swallowing.{Swallows, begins_line, has_call, has_statement, has_word, is_block_word_at, is_of_word, is_part_at, is_space, is_statement_at, line_has, opens};
+ghost use Rattle.kahn_wanted.specs.Swallowing.{Swallows, begins_line, has_call, has_statement, has_word, is_of_word, is_part_at, is_space, line_has, opens};
 
 /// Whether it is a space, a tab, a CR or an LF.
 pub fn is_blank(b: u8) -> bool
@@ -87,49 +87,31 @@ fn line_has(word: &[u8], text: &[u8]) -> bool
     false
 }
 
-/// Whether a text begins with `send`, `print` or `repeat`, or with `if` or `while` and has `then` or `do` on that line.
-fn has_statement(text: &[u8]) -> bool
-    ensures { result ≡ has_statement text.now }
+/// Whether a text begins with `send`, `print` or `repeat`, or with `if` or `while` and has `then` or `do` on that line; or with `begin` or
+/// `end`, where these are looked for too.
+fn has_statement(blocks: bool, text: &[u8]) -> bool
+    ensures { result ≡ has_statement blocks text.now }
 {
     has_word(b"send", text)
         || has_word(b"print", text)
         || has_word(b"repeat", text)
         || (has_word(b"if", text) && line_has(b"then", text))
         || (has_word(b"while", text) && line_has(b"do", text))
+        || (blocks && (has_word(b"begin", text) || has_word(b"end", text)))
 }
 
 /// Whether `:=`, a whole word `wait` with a bracket behind it, or a line with a statement begins at a byte that isn't the first of the text.
 /// It is told whether a line begins there, behind blanks.
-fn is_statement_at(text: &[u8], at: usize, line: bool) -> bool
-    requires low { 0 < at }
-    requires high { at < length text.now }
-    requires line { line ≡ begins_line text.now at }
-    ensures { result ≡ is_statement_at text.now at }
-{
-    let rest = &text[at..];
-    rest.starts_with(b":=")
-        || (!is_of_word(text[at - 1]) && has_call(b"wait", rest))
-        || (line && has_statement(rest))
-}
-
-/// Whether a line with `begin` or `end` begins at a byte.
-fn is_block_word_at(text: &[u8], at: usize, line: bool) -> bool
-    requires inside { at < length text.now }
-    requires line { line ≡ begins_line text.now at }
-    ensures { result ≡ is_block_word_at text.now at }
-{
-    let rest = &text[at..];
-    line && (has_word(b"begin", rest) || has_word(b"end", rest))
-}
-
-/// Whether one of the former begins at such a byte, or of both where these are looked for too.
 fn is_part_at(blocks: bool, text: &[u8], at: usize, line: bool) -> bool
     requires low { 0 < at }
     requires high { at < length text.now }
     requires line { line ≡ begins_line text.now at }
     ensures { result ≡ is_part_at blocks text.now at }
 {
-    is_statement_at(text, at, line) || (blocks && is_block_word_at(text, at, line))
+    let rest = &text[at..];
+    rest.starts_with(b":=")
+        || (!is_of_word(text[at - 1]) && has_call(b"wait", rest))
+        || (line && has_statement(blocks, rest))
 }
 
 /// Whether one begins between two bytes, at the first of which a line begins.

@@ -1,9 +1,8 @@
 -- Inner. What is open behind lexemes: what the code calls the parts of the grammar, and what terminals do to them, one after another.
-use Rattle.std.specs.Prelude.{◌≡◌, ℕ, Bool, true, false, List, [], ◌∷◌, ◌++◌, Option, Some, None, is_some, map}
+use Rattle.std.specs.Prelude.{◌≡◌, ℕ, Bool, List, [], ◌∷◌, ◌++◌, Option, Some, None, is_some, map}
 use Rattle.std.specs.Borrow.{Bor}
 use Rattle.kahn_streams.specs.declared.span.Span.{Span}
 use Rattle.kahn_syntax.specs.declared.lexeme.Class.{Class}
-use Rattle.kahn_syntax.specs.declared.lexeme.Sign.{Sign}
 use Rattle.kahn_syntax.specs.declared.lexeme.Keyword.TheVariants as keyword
 use Rattle.kahn_syntax.specs.declared.lexeme.Sign.TheVariants as mark
 use Rattle.kahn_syntax.specs.Grammar.{Terminal}
@@ -100,8 +99,3 @@ MayPass s c may = (text : List ℕ) (at : Span) → is_some (step (awaited_parts
 
 abbrev pub Passes : List Awaited → Class → List Awaited → Bool → Type 0
 Passes old c new may = MayPass old c may × ((text : List ℕ) (at : Span) → left_open (step (awaited_parts old) (terminal text c at)) ≡ awaited_parts new)
-
--- the sign for `not`
-abbrev pub is_denial : Sign → Bool
-is_denial mark.Not = true
-is_denial _ = false

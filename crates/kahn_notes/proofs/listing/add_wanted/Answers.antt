@@ -3,7 +3,7 @@ use Rattle.std.proofs.lemmas.List.{at_drop_all, length-map}
 use Rattle.std.proofs.lemmas.Result.{IfOk-weaker}
 use Rattle.kahn_syntax.specs.declared.lexeme.Class.TheVariants as class
 use Rattle.kahn_syntax.specs.declared.lexeme.Keyword.TheVariants as word
-use Rattle.kahn_wanted.specs.declared.groups.Group.TheVariants as group
+use Rattle.kahn_wanted.specs.declared.groups.LexemeGroup.TheVariants as group
 use Rattle.kahn_notes.specs.Notes.{listed, pieces_of, text_end_words, wanted_words}
 use Rattle.kahn_notes.specs.Words.{any_words}
 use Rattle.kahn_notes.proofs.Pieces.{last_listed, listed_on}

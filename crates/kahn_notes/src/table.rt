@@ -1,0 +1,105 @@
+//! Tables of words, a row a line, with cells between bars; and what stands at a place, by such words.
+
+use crate::place::{Place, before, found};
+use crate::words::class_word;
+use kahn_syntax::{Class, Lexeme};
+use kahn_wanted::{CLASSES, LexemeGroup, Wanted};
+
+/// A cell of a row; nothing where there is none.
+pub(crate) fn cell(row: &'static str, number: usize) -> &'static str {
+    row.split(" | ").nth(number).unwrap_or("")
+}
+
+/// Whether a word is one of some, in any letter case.
+pub(crate) fn has_word(words: &str, word: &str) -> bool {
+    words
+        .split_whitespace()
+        .any(|one| one.eq_ignore_ascii_case(word))
+}
+
+/// The row of a table whose first cell has a word.
+pub(crate) fn row_of(table: &'static str, word: &str) -> Option<&'static str> {
+    for row in table.lines() {
+        if has_word(cell(row, 0), word) {
+            return Some(row);
+        }
+    }
+    None
+}
+
+/// The class that is written so.
+pub(crate) fn class_of(word: &str) -> Option<Class> {
+    for class in &CLASSES {
+        if class_word(*class) == word {
+            return Some(*class);
+        }
+    }
+    None
+}
+
+/// Whether there is a lexeme, of one of the classes that are written so.
+pub(crate) fn finds(words: &str, lexeme: Option<Lexeme>) -> bool {
+    match lexeme {
+        Some(lexeme) => has_word(words, class_word(lexeme.what)),
+        None => false,
+    }
+}
+
+/// Whether all of a group may stand, or one of a class, in no group.
+pub(crate) fn may_stand(word: &str, wanted: &Wanted) -> bool {
+    let groups: &[LexemeGroup] = match word {
+        "statement" => &[LexemeGroup::Statement],
+        "declaration" => &[LexemeGroup::Declaration],
+        "operand" => &[LexemeGroup::Operand],
+        "arithmetic" => &[LexemeGroup::Arithmetic],
+        "operator" => &[LexemeGroup::Operator, LexemeGroup::Arithmetic],
+        "value" => &[LexemeGroup::Expression, LexemeGroup::Operand],
+        _ => return wanted.others.iter().any(|class| class_word(*class) == word),
+    };
+    wanted.groups.iter().any(|group| groups.contains(group))
+}
+
+/// Whether no byte stands between the lexemes before a place and at it.
+fn are_joined(place: Place) -> bool {
+    match (before(place), found(place)) {
+        (Some(one), Some(other)) => one.span.to == other.span.from,
+        (_, _) => false,
+    }
+}
+
+/// Whether a lexeme is what a cell says: of one of these classes, any, or none.
+fn is_such(words: &str, lexeme: Option<Lexeme>) -> bool {
+    match words {
+        "any" => true,
+        "nothing" => lexeme.is_none(),
+        _ => finds(words, lexeme),
+    }
+}
+
+/// Whether a test holds of a place: behind `+` stands what may stand there, behind `-` what may not.
+fn holds(test: &str, place: Place) -> bool {
+    match (test.strip_prefix("+"), test.strip_prefix("-")) {
+        (Some(word), _) => may_stand(word, place.wanted),
+        (_, Some(word)) => !may_stand(word, place.wanted),
+        (_, _) => test != "joined" || are_joined(place),
+    }
+}
+
+/// Whether a row fits at a place: the lexeme before it, the one there, and the tests.
+fn fits(row: &'static str, place: Place) -> bool {
+    is_such(cell(row, 0), before(place))
+        && is_such(cell(row, 1), found(place))
+        && cell(row, 2)
+            .split_whitespace()
+            .all(|test| holds(test, place))
+}
+
+/// The words of the first row of a table that fits at a place.
+pub(crate) fn advice(table: &'static str, place: Place) -> Option<&'static str> {
+    for row in table.lines() {
+        if fits(row, place) {
+            return Some(cell(row, 3));
+        }
+    }
+    None
+}
