@@ -1,7 +1,7 @@
 -- The names in sight that are told.
 use Rattle.std.proofs.Common.{◌≡◌, ◌∙◌, ◌++◌, ℕ, zero, suc, List, [], ◌∷◌, drop, length, map, take, refl, ap, append_assoc}
 use Rattle.kahn_streams.specs.declared.tree.Name.{Name}
-use Rattle.kahn_hints.specs.Inputs.{counted_channels, more_channels, told_channels}
+use Rattle.kahn_hints.specs.Inputs.{more_channels, told_channels}
 use Rattle.kahn_hints.specs.Sight.{listed_names}
 
 take_of_map : {A B : Type 0} (f : A → B) (n : ℕ) (xs : List A) → map f (take n xs) ≡ take n (map f xs)
@@ -9,7 +9,7 @@ take_of_map f zero xs = refl
 take_of_map f (suc n) [] = refl
 take_of_map f (suc n) (x ∷ xs) = ap (λ l. f x ∷ l) (take_of_map f n xs)
 
-pub length_of_map : {A B : Type 0} (f : A → B) (xs : List A) → length xs ≡ length (map f xs)
+length_of_map : {A B : Type 0} (f : A → B) (xs : List A) → length xs ≡ length (map f xs)
 length_of_map f [] = refl
 length_of_map f (x ∷ xs) = ap suc (length_of_map f xs)
 
@@ -18,12 +18,6 @@ drop_of_map f zero [] = refl
 drop_of_map f (suc n) [] = refl
 drop_of_map f zero (x ∷ xs) = length_of_map f (x ∷ xs)
 drop_of_map f (suc n) (x ∷ xs) = drop_of_map f n xs
-
--- of one channel and more
-pub counted : (n : ℕ) → (n ≡ 0 → ⊥) → (n ≡ 1 → ⊥) → counted_channels n ≡ more_channels n
-counted zero a b = absurd (a refl)
-counted (suc zero) a b = absurd (b refl)
-counted (suc (suc n)) a b = refl
 
 -- the first names, and how many more there are
 pub told_joined : {A : Type 0} (f : A → Name) (xs told more : List A) (old one new : List ℕ) → told ≡ take 5 xs → more ≡ drop 5 xs

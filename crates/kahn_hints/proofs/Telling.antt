@@ -1,6 +1,6 @@
 -- Notes of which each tells a fault.
-use Rattle.std.proofs.Common.{◌≡◌, ℕ, List, [], ◌∷◌, ◌++◌, All, Contains, subst, sym, take}
-use Rattle.std.proofs.lemmas.List.Elements.{All-from_recursion, All-head, All-push, All-tail, All-take}
+use Rattle.std.proofs.Common.{◌≡◌, ◌<◌, ℕ, zero, suc, List, [], ◌∷◌, ◌++◌, All, Contains, ap, arith, length, refl, subst, sym, take}
+use Rattle.std.proofs.lemmas.List.Elements.{All-from_recursion, All-push, All-take}
 use Rattle.kahn_streams.specs.declared.fault.CheckFault.{CheckFault}
 use Rattle.kahn_marks.specs.declared.rendering.Note.{Note}
 use Rattle.kahn_hints.specs.Hints.{HasOneMore, TellsOne}
@@ -15,11 +15,13 @@ one_alone text fs note notes one is = subst (All (TellsOne text fs)) (sym is) (A
 pub none_yet : (text : List ℕ) (fs : List CheckFault) (notes : List Note) → notes ≡ [] → All (TellsOne text fs) notes
 none_yet text fs notes is = subst (All (TellsOne text fs)) (sym is) (All-from_recursion (TellsOne text fs) [] tt)
 
--- the first of the faults that are told is one of all, and so are those behind it
-pub first_among : (fs told : List CheckFault) (f : CheckFault) (rest : List CheckFault) → told ≡ f ∷ rest → All (Contains fs) told → Contains fs f
-first_among fs told f rest is all = All-head (Contains fs) f rest (subst (All (Contains fs)) is all)
+-- the faults that are shown are some of all, and none only where none is told
+pub shown_among : (fs told shown : List CheckFault) (n : ℕ) → shown ≡ take n told → All (Contains fs) told → All (Contains fs) shown
+shown_among fs told shown n first all = subst (All (Contains fs)) (sym first) (All-take (Contains fs) n told all)
 
-pub others_among : (fs told : List CheckFault) (f : CheckFault) (rest shown : List CheckFault) (n : ℕ) → told ≡ f ∷ rest → shown ≡ take n rest
-    → All (Contains fs) told → All (Contains fs) shown
-others_among fs told f rest shown n is first all =
-    subst (All (Contains fs)) (sym first) (All-take (Contains fs) n rest (All-tail (Contains fs) f rest (subst (All (Contains fs)) is all)))
+pub none_shown : (told shown : List CheckFault) (n : ℕ) → 0 < n → shown ≡ take n told → length shown ≡ 0 → told ≡ []
+none_shown [] shown n some first none = refl
+none_shown (f ∷ fs) shown zero some first none = absurd (omega (arith, some))
+none_shown (f ∷ fs) shown (suc n) some first none =
+    let long = ap length first in
+    absurd (omega (arith, long, none))

@@ -1,28 +1,24 @@
 -- Believed. What is said of a name that no input channel has, or none at all.
-use Rattle.std.specs.Prelude.{◌==◌, ℕ, zero, suc, List, [], ◌∷◌, ◌++◌, Option, Some, None, codes, decimal, drop, if◌then◌else◌, length, take}
+use Rattle.std.specs.Prelude.{◌==◌, ℕ, true, false, List, [], ◌∷◌, ◌++◌, Option, Some, None, codes, decimal, drop, if◌then◌else◌, length, take}
 use Rattle.std.specs.List.{concat}
 use Rattle.kahn_streams.specs.declared.tree.Name.{Name}
 use Rattle.kahn_streams.specs.declared.tree.Program.{Program}
-use Rattle.kahn_hints.specs.declared.names.Sort.TheVariants as sort
-use Rattle.kahn_hints.specs.Names.{program_names}
+use Rattle.kahn_hints.specs.Names.{channels_asked}
 use Rattle.kahn_hints.specs.Near.{nearest}
 use Rattle.kahn_hints.specs.Sight.{listed_names, meant_words}
 
 -- the names of the input channels, and of all channels, in order of declaration
 abbrev pub input_names : Program → List Name
-input_names t = program_names (Some sort.Input) t
+input_names t = channels_asked true t
 
 abbrev pub names_of_channels : Program → List Name
-names_of_channels t = program_names (Some sort.Channel) t
+names_of_channels t = channels_asked false t
 
 -- how many there are more than were told
-abbrev pub counted_channels : ℕ → List ℕ
-counted_channels n = concat (codes ", and " ∷ decimal n ∷ codes " channels more" ∷ [])
-
 abbrev pub more_channels : ℕ → List ℕ
-more_channels zero = []
-more_channels (suc zero) = codes ", and 1 channel more"
-more_channels (suc (suc n)) = counted_channels (suc (suc n))
+more_channels n =
+    if n == 0 then [] else if n == 1 then codes ", and 1 channel more"
+    else concat (codes ", and " ∷ decimal n ∷ codes " channels more" ∷ [])
 
 -- the first five, and how many more there are
 unfoldable pub told_channels : List Name → List ℕ

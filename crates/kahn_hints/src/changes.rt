@@ -1,15 +1,15 @@
 //! Which change of one word was perhaps meant: each is tried, and the one that leaves the fewest faults is told.
 
 use crate::mending::left_by;
-use crate::names::{Sort, names_seen};
+use crate::names::names_asked;
 use crate::near::nearest;
 use crate::others::{argument_span, first_passed};
 use crate::place::{
-    Place, asked_sort, class_of, instance_at, is_called, seen_in, text_of, word_at,
+    FaultPlace, class_of, instance_at, is_called, is_in, seen_in, text_of, word_at,
 };
 use crate::sides::hands;
 use kahn_marks::{Fix, add, part_of};
-use kahn_streams::{Argument, CheckFault, Direction, NoMemory, Span};
+use kahn_streams::{Argument, CheckFault, Direction, Name, NoMemory, Span};
 use kahn_syntax::{Class, Keyword, Lexeme, Sign};
 use std::alloc::{AllocError, Global};
 
@@ -61,72 +61,64 @@ pub(crate) fn tries_of(text: &str, lexemes: &[Lexeme]) -> usize {
     }
 }
 
-/// Whether a change is told before another one that leaves as many faults: a name that nothing uses is.
-fn is_before(way: EditKind, other: EditKind) -> bool {
-    matches!((way, other), (EditKind::Unused, EditKind::Used))
-}
-
-/// Whether both changes put one of several names in.
-fn are_names(way: EditKind, other: EditKind) -> bool {
-    matches!(
-        (way, other),
-        (EditKind::Unused, EditKind::Unused)
-            | (EditKind::Used, EditKind::Used)
-            | (EditKind::Renamed, EditKind::Renamed)
-    )
-}
-
-/// The better of two changes: the one that leaves fewer faults, or else the first.
+/// The better of two changes: the one that leaves fewer faults, or else the first, but for a name that nothing uses.
 fn better(best: Option<Edit>, change: Edit) -> Edit {
     let Some(best) = best else {
         return change;
     };
-    let is_equal = change.left == best.left;
-    if change.left < best.left || (is_equal && is_before(change.way, best.way)) {
-        return change;
+    if change.left != best.left {
+        return if change.left < best.left {
+            change
+        } else {
+            best
+        };
     }
+    let is_another = match (change.way, best.way) {
+        (EditKind::Unused, EditKind::Used) => return change,
+        (EditKind::Renamed, EditKind::Renamed) => true,
+        (EditKind::Unused, EditKind::Unused) | (EditKind::Used, EditKind::Used) => {
+            change.fix.put.as_bytes() != best.fix.put.as_bytes()
+        }
+        _ => false,
+    };
     let mut best = best;
-    if is_equal && are_names(change.way, best.way) {
-        let is_another = matches!(change.way, EditKind::Renamed)
-            || change.fix.put.as_bytes() != best.fix.put.as_bytes();
-        best.is_one_of = best.is_one_of || is_another;
-    }
+    best.is_one_of = best.is_one_of || is_another;
     best
 }
 
-/// What changes are tried for: the place of a fault, and all faults of the text.
-#[derive(Clone, Copy)]
-pub(crate) struct Search<'p> {
-    pub(crate) place: Place<'p>,
-    pub(crate) faults: &'p [CheckFault],
+/// The changes that are tried for a fault, one after another.
+#[derive(Drop)]
+struct Trial<'p> {
+    alloc: Global,
+    place: FaultPlace<'p>,
+    /// All faults of the text.
+    faults: &'p [CheckFault],
+    /// How many may be tried yet.
+    tries: usize,
+    /// The best so far.
+    best: Option<Edit>,
 }
 
-/// The better of a change and another one, which is tried, if some may be tried yet.
-fn tried(
-    alloc: Global,
-    search: Search,
-    tries: &mut usize,
-    best: Option<Edit>,
-    way: EditKind,
-    parts: (Span, Span),
-    put: String,
-) -> Result<Option<Edit>, NoMemory> {
-    let Some(rest) = tries.checked_sub(1) else {
-        return Ok(best);
-    };
-    *tries = rest;
-    let (first, last) = parts;
-    let span = Span {
-        from: first.from,
-        to: last.to,
-    };
-    let fix = Fix {
-        span,
-        put,
-        beside: span,
-    };
-    match left_by(alloc, search.place.text, search.faults, &fix)? {
-        Some(left) => {
+impl<'p> Trial<'p> {
+    /// Tries these pieces in the place of what stands from the first part to the second, if some change may be tried yet.
+    fn put(&mut self, way: EditKind, parts: (Span, Span), pieces: &[&str]) -> Result<(), NoMemory> {
+        let Some(rest) = self.tries.checked_sub(1) else {
+            return Ok(());
+        };
+        self.tries = rest;
+        let (first, last) = parts;
+        let span = Span {
+            from: first.from,
+            to: last.to,
+        };
+        let mut put = String::new(self.alloc);
+        add(&mut put, pieces)?;
+        let fix = Fix {
+            span,
+            put,
+            beside: span,
+        };
+        if let Some(left) = left_by(self.alloc, self.place.text, self.faults, &fix)? {
             let change = Edit {
                 way,
                 fix,
@@ -134,65 +126,128 @@ fn tried(
                 left,
                 is_one_of: false,
             };
-            Ok(Some(better(best, change)))
+            self.best = Some(better(self.best.take(), change));
         }
-        None => Ok(best),
+        Ok(())
     }
-}
 
-/// The nearest of the names that may stand at a place.
-fn with_near(alloc: Global, search: Search, tries: &mut usize) -> Result<Option<Edit>, NoMemory> {
-    let place = search.place;
-    let sort = asked_sort(place);
-    let names = names_seen(alloc, place.program, place.process, Some(sort))?;
-    match nearest(word_at(place.text, place.at), &names) {
-        Some(name) => {
-            let put = String::from_str(alloc, name.text.as_str())?;
-            let parts = (place.at, place.at);
-            tried(alloc, search, tries, None, EditKind::Near, parts, put)
-        }
-        None => Ok(None),
+    /// Tries this in the place of one part.
+    fn put_one(&mut self, way: EditKind, at: Span, put: &str) -> Result<(), NoMemory> {
+        self.put(way, (at, at), &[put])
     }
-}
 
-/// Two neighbouring ones of some arguments interchanged.
-fn with_swaps(
-    alloc: Global,
-    search: Search,
-    tries: &mut usize,
-    best: Option<Edit>,
-    arguments: &[Argument],
-) -> Result<Option<Edit>, NoMemory> {
-    let text = search.place.text;
-    let mut best = best;
-    let mut before: Option<Span> = None;
-    for argument in arguments {
-        let last = argument_span(argument);
-        if let Some(first) = before {
-            let between = Span {
-                from: first.to,
-                to: last.from,
-            };
-            let mut put = String::new(alloc);
-            let parts = [
-                part_of(text, last),
-                part_of(text, between),
-                part_of(text, first),
-            ];
-            add(&mut put, &parts)?;
-            best = tried(
-                alloc,
-                search,
-                tries,
-                best,
-                EditKind::Swap,
-                (first, last),
-                put,
-            )?;
+    /// Two neighbouring ones of some arguments interchanged.
+    fn with_swaps(&mut self, arguments: &[Argument]) -> Result<(), NoMemory> {
+        let text = self.place.text;
+        let mut before: Option<Span> = None;
+        for argument in arguments {
+            let last = argument_span(argument);
+            if let Some(first) = before {
+                let between = Span {
+                    from: first.to,
+                    to: last.from,
+                };
+                let pieces = [
+                    part_of(text, last),
+                    part_of(text, between),
+                    part_of(text, first),
+                ];
+                self.put(EditKind::Swap, (first, last), &pieces)?;
+            }
+            before = Some(last);
         }
-        before = Some(last);
+        Ok(())
     }
-    Ok(best)
+
+    /// Other directions, kinds and roles, in a part and of the channels that are arguments.
+    fn with_flips(
+        &mut self,
+        place: FaultPlace,
+        part: Span,
+        arguments: &[Argument],
+    ) -> Result<(), NoMemory> {
+        for (number, lexeme) in place.lexemes.iter().enumerate() {
+            let words = flipped(lexeme.what);
+            let is_tried = self.tries > 0 && !words.is_empty();
+            if is_tried && (is_in(part, lexeme.span) || declares_one(place, number, arguments)) {
+                for put in words {
+                    self.put_one(EditKind::Flip, lexeme.span, put)?;
+                }
+            }
+        }
+        Ok(())
+    }
+
+    /// The nearest of the names that may stand at the place.
+    fn with_near(&mut self, names: &[&'p Name]) -> Result<Option<Span>, NoMemory> {
+        let Some(name) = nearest(self.place.word(), names) else {
+            return Ok(None);
+        };
+        self.put_one(EditKind::Near, self.place.at, name.text.as_str())?;
+        Ok(Some(name.span))
+    }
+
+    /// Those for a name that isn't declared: a near one; or one that nothing uses, there or declared so.
+    fn with_unknown(&mut self) -> Result<(), NoMemory> {
+        let place = self.place;
+        let names = names_asked(self.alloc, place)?;
+        let near = self.with_near(&names)?;
+        for name in &names {
+            let is_meant = near.is_none() || near == Some(name.span);
+            if is_meant && !is_called(place.word(), name) && !is_used(place, name) {
+                self.put_one(EditKind::Unused, place.at, name.text.as_str())?;
+                self.put_one(EditKind::Renamed, name.span, part_of(place.text, place.at))?;
+            }
+        }
+        Ok(())
+    }
+
+    /// The other names in sight, put in the place of the one at the place, or where a channel is handed over first.
+    fn with_names(&mut self, first: Option<Span>) -> Result<(), NoMemory> {
+        let place = self.place;
+        let names = names_asked(self.alloc, place)?;
+        for name in &names {
+            if self.tries > 0 && !is_called(place.word(), name) {
+                let way = if is_used(place, name) {
+                    EditKind::Used
+                } else {
+                    EditKind::Unused
+                };
+                self.put_one(way, place.at, name.text.as_str())?;
+                if let Some(span) = first {
+                    self.put_one(way, span, name.text.as_str())?;
+                }
+            }
+        }
+        Ok(())
+    }
+
+    /// Those that don't put a near name in.
+    fn with_others(&mut self, fault: CheckFault) -> Result<(), NoMemory> {
+        let place = self.place;
+        let instances = &place.program.instances;
+        let none: &[Argument] = &[];
+        let (called, arguments) = match (place.process, instance_at(instances, place.at.from)) {
+            (Some(process), _) => (process.name.text.as_bytes(), none),
+            (None, Some(instance)) => (
+                instance.process.text.as_bytes(),
+                instance.arguments.as_slice(),
+            ),
+            (None, None) => return Ok(()),
+        };
+        self.with_swaps(arguments)?;
+        let first = first_of(place, fault);
+        if let Some(span) = first {
+            if let Some(instance) = instance_at(instances, span.from) {
+                self.with_swaps(&instance.arguments)?;
+            }
+        }
+        self.with_flips(place, flips_in(place, called), arguments)?;
+        if is_of_names(place, fault) {
+            self.with_names(first)?;
+        }
+        Ok(())
+    }
 }
 
 /// The other direction, or the other kind; the other role, or none.
@@ -209,20 +264,16 @@ fn flipped(class: Class) -> &'static [&'static str] {
 }
 
 /// Whether a kind or a role is that of the declaration of a channel which is one of some arguments.
-fn declares_one(place: Place, number: usize, arguments: &[Argument]) -> bool {
-    let next = class_of(place.lexemes, number.checked_add(1));
+fn declares_one(place: FaultPlace, number: usize, arguments: &[Argument]) -> bool {
     let is_declaration = matches!(
-        next,
+        class_of(place.lexemes, number.checked_add(1)),
         Some(Class::Word(Keyword::Channel | Keyword::Input | Keyword::Output))
     );
     let Some(rest) = place.lexemes.get(number..) else {
         return false;
     };
-    if !is_declaration {
-        return false;
-    }
     for lexeme in rest {
-        if matches!(lexeme.what, Class::Sign(Sign::Semicolon)) {
+        if !is_declaration || matches!(lexeme.what, Class::Sign(Sign::Semicolon)) {
             return false;
         }
         let word = word_at(place.text, lexeme.span);
@@ -233,69 +284,30 @@ fn declares_one(place: Place, number: usize, arguments: &[Argument]) -> bool {
     false
 }
 
-/// The part of a text before the first `)` in it.
-fn header_in(lexemes: &[Lexeme], part: Span) -> Span {
-    for lexeme in lexemes {
-        if lexeme.span.from >= part.from && matches!(lexeme.what, Class::Sign(Sign::Close)) {
-            return Span {
-                from: part.from,
-                to: lexeme.span.from,
-            };
+/// The part of a text in which a direction or a kind may be another one: of the process that has the fault, or the parameters of the one
+/// that an instance names, to the first `)`.
+fn flips_in(place: FaultPlace, called: &[u8]) -> Span {
+    let nowhere = Span { from: 0, to: 0 };
+    let Some(part) = text_of(place.program, called) else {
+        return nowhere;
+    };
+    for lexeme in place.lexemes {
+        let is_end = matches!(lexeme.what, Class::Sign(Sign::Close));
+        if place.process.is_none() && is_end && lexeme.span.from >= part.from {
+            let to = lexeme.span.from;
+            return Span { to, ..part };
         }
     }
     part
 }
 
-/// The part of a text in which a direction or a kind may be another one: of the process that has the fault, or the parameters of the one
-/// that an instance names.
-fn flips_in(place: Place, called: &[u8]) -> Span {
-    let nowhere = Span { from: 0, to: 0 };
-    let Some(part) = text_of(place.program, called) else {
-        return nowhere;
-    };
-    if place.process.is_some() {
-        part
-    } else {
-        header_in(place.lexemes, part)
-    }
-}
-
-/// Other directions, kinds and roles, in a part and of the channels that are arguments.
-fn with_flips(
-    alloc: Global,
-    search: Search,
-    tries: &mut usize,
-    best: Option<Edit>,
-    part: Span,
-    arguments: &[Argument],
-) -> Result<Option<Edit>, NoMemory> {
-    let place = search.place;
-    let mut best = best;
-    for (number, lexeme) in place.lexemes.iter().enumerate() {
-        if *tries == 0 {
-            return Ok(best);
-        }
-        let is_within = part.from <= lexeme.span.from && lexeme.span.from < part.to;
-        let words = flipped(lexeme.what);
-        if !words.is_empty() && (is_within || declares_one(place, number, arguments)) {
-            for put in words {
-                let put = String::from_str(alloc, put)?;
-                let parts = (lexeme.span, lexeme.span);
-                best = tried(alloc, search, tries, best, EditKind::Flip, parts, put)?;
-            }
-        }
-    }
-    Ok(best)
-}
-
-/// Whether a word stands more than once in the part of a text that sees the names at a place.
-fn is_used(place: Place, word: &[u8]) -> bool {
+/// Whether a name stands more than once in the part of a text that sees the names at a place.
+fn is_used(place: FaultPlace, name: &Name) -> bool {
     let part = seen_in(place);
     let mut is_there = false;
     for lexeme in place.lexemes {
-        let is_seen = part.from <= lexeme.span.from && lexeme.span.from < part.to;
-        let is_name = is_seen && matches!(lexeme.what, Class::Name);
-        if is_name && word_at(place.text, lexeme.span) == word {
+        let is_name = is_in(part, lexeme.span) && matches!(lexeme.what, Class::Name);
+        if is_name && is_called(word_at(place.text, lexeme.span), name) {
             if is_there {
                 return true;
             }
@@ -305,63 +317,8 @@ fn is_used(place: Place, word: &[u8]) -> bool {
     false
 }
 
-/// Those for a name that isn't declared: a near one; or one that nothing uses, there or declared so.
-fn with_unknown(
-    alloc: Global,
-    search: Search,
-    tries: &mut usize,
-) -> Result<Option<Edit>, NoMemory> {
-    let place = search.place;
-    let word = word_at(place.text, place.at);
-    let mut best = with_near(alloc, search, tries)?;
-    let names = names_seen(alloc, place.program, place.process, Some(asked_sort(place)))?;
-    let near = nearest(word, &names).map(|name| name.span);
-    for name in &names {
-        let is_meant = near.is_none() || near == Some(name.span);
-        if is_meant && !is_called(word, name) && !is_used(place, name.text.as_bytes()) {
-            let put = String::from_str(alloc, name.text.as_str())?;
-            let here = (place.at, place.at);
-            best = tried(alloc, search, tries, best, EditKind::Unused, here, put)?;
-            let put = String::from_str(alloc, part_of(place.text, place.at))?;
-            let there = (name.span, name.span);
-            best = tried(alloc, search, tries, best, EditKind::Renamed, there, put)?;
-        }
-    }
-    Ok(best)
-}
-
-/// The other names in sight, put in the place of the one at a place, or where a channel is handed over first.
-fn with_names(
-    alloc: Global,
-    search: Search,
-    tries: &mut usize,
-    best: Option<Edit>,
-    first: Option<Span>,
-) -> Result<Option<Edit>, NoMemory> {
-    let place = search.place;
-    let names = names_seen(alloc, place.program, place.process, Some(asked_sort(place)))?;
-    let word = word_at(place.text, place.at);
-    let mut best = best;
-    for name in &names {
-        if *tries > 0 && !is_called(word, name) {
-            let way = if is_used(place, name.text.as_bytes()) {
-                EditKind::Used
-            } else {
-                EditKind::Unused
-            };
-            let put = String::from_str(alloc, name.text.as_str())?;
-            best = tried(alloc, search, tries, best, way, (place.at, place.at), put)?;
-            if let Some(span) = first {
-                let put = String::from_str(alloc, name.text.as_str())?;
-                best = tried(alloc, search, tries, best, way, (span, span), put)?;
-            }
-        }
-    }
-    Ok(best)
-}
-
 /// Where a channel is handed over first that has a side twice.
-fn first_of(place: Place, fault: CheckFault) -> Option<Span> {
+fn first_of(place: FaultPlace, fault: CheckFault) -> Option<Span> {
     match fault {
         CheckFault::TwoWriters(_) => first_passed(place, Direction::Out),
         CheckFault::TwoReaders(_) => first_passed(place, Direction::In),
@@ -370,85 +327,53 @@ fn first_of(place: Place, fault: CheckFault) -> Option<Span> {
 }
 
 /// Whether any other name may be meant.
-fn is_of_names(place: Place, fault: CheckFault) -> bool {
-    let is_name = matches!(
-        class_of(place.lexemes, Some(place.number)),
-        Some(Class::Name)
-    );
-    match fault {
-        CheckFault::TwoWriters(_) | CheckFault::TwoReaders(_) => is_name,
-        CheckFault::WrongDirection(_) | CheckFault::ChannelExpected(_) => is_name,
-        CheckFault::WrongKind(_) => is_name && place.process.is_none(),
+fn is_of_names(place: FaultPlace, fault: CheckFault) -> bool {
+    let class = class_of(place.lexemes, Some(place.number));
+    let is_asked = match fault {
+        CheckFault::TwoWriters(_)
+        | CheckFault::TwoReaders(_)
+        | CheckFault::WrongDirection(_)
+        | CheckFault::ChannelExpected(_) => true,
+        CheckFault::WrongKind(_) => place.process.is_none(),
         _ => false,
-    }
-}
-
-/// The best of the changes that don't put a near name in.
-fn with_others(
-    alloc: Global,
-    search: Search,
-    tries: &mut usize,
-    near: Option<Edit>,
-    fault: CheckFault,
-) -> Result<Option<Edit>, NoMemory> {
-    let place = search.place;
-    let first = first_of(place, fault);
-    let mut best = near;
-    let none: &[Argument] = &[];
-    let (called, arguments) = match (
-        place.process,
-        instance_at(&place.program.instances, place.at.from),
-    ) {
-        (Some(process), _) => (process.name.text.as_bytes(), none),
-        (None, Some(instance)) => (
-            instance.process.text.as_bytes(),
-            instance.arguments.as_slice(),
-        ),
-        (None, None) => return Ok(best),
     };
-    best = with_swaps(alloc, search, tries, best, arguments)?;
-    if let Some(span) = first {
-        if let Some(instance) = instance_at(&place.program.instances, span.from) {
-            best = with_swaps(alloc, search, tries, best, &instance.arguments)?;
-        }
-    }
-    let part = flips_in(place, called);
-    best = with_flips(alloc, search, tries, best, part, arguments)?;
-    if is_of_names(place, fault) {
-        best = with_names(alloc, search, tries, best, first)?;
-    }
-    Ok(best)
+    is_asked && matches!(class, Some(Class::Name))
 }
 
-/// The change that leaves the fewest faults, and fewer than there are.
+/// The change that leaves the fewest faults of all, and fewer than there are, of those that may be tried yet.
 pub(crate) fn change_for(
     alloc: Global,
-    search: Search,
+    place: FaultPlace,
+    faults: &[CheckFault],
     tries: &mut usize,
     fault: CheckFault,
 ) -> Result<Option<Edit>, NoMemory> {
     if *tries == 0 {
         return Ok(None);
     }
-    let best = match fault {
-        CheckFault::Unknown(_) => with_unknown(alloc, search, tries)?,
+    let mut trial = Trial {
+        alloc,
+        place,
+        faults,
+        tries: *tries,
+        best: None,
+    };
+    match fault {
+        CheckFault::Unknown(_) => trial.with_unknown()?,
         CheckFault::WrongDirection(_) => {
-            let near = with_near(alloc, search, tries)?;
-            with_others(alloc, search, tries, near, fault)?
+            let names = names_asked(alloc, place)?;
+            trial.with_near(&names)?;
+            trial.with_others(fault)?;
         }
         CheckFault::WrongKind(_)
         | CheckFault::ChannelExpected(_)
         | CheckFault::ValueExpected(_)
         | CheckFault::TwoWriters(_)
-        | CheckFault::TwoReaders(_) => with_others(alloc, search, tries, None, fault)?,
-        CheckFault::DeclaredTwice(_)
-        | CheckFault::WrongCount(_)
-        | CheckFault::NoWriter(_)
-        | CheckFault::NoReader(_)
-        | CheckFault::TooMany(_)
-        | CheckFault::NoMemory => None,
-    };
-    match best {
+        | CheckFault::TwoReaders(_) => trial.with_others(fault)?,
+        _ => {}
+    }
+    *tries = trial.tries;
+    match trial.best {
         Some(change) if change.is_one_of => Ok(None),
         found => Ok(found),
     }
@@ -466,28 +391,18 @@ pub(crate) fn is_elsewhere(change: &Edit, at: Span) -> bool {
 /// Adds a change to the words of a fault, unless it is made elsewhere.
 pub(crate) fn add_change(
     words: &mut String,
-    place: Place,
+    place: FaultPlace,
     change: &Edit,
 ) -> Result<(), AllocError> {
     let (first, last) = change.parts;
-    if matches!(change.way, EditKind::Renamed) {
-        return add(
-            words,
-            &["; nothing uses `", part_of(place.text, first), "`"],
-        );
-    }
-    if is_elsewhere(change, place.at) {
-        return Ok(());
-    }
+    let (first, last) = (part_of(place.text, first), part_of(place.text, last));
     match change.way {
-        EditKind::Swap => {
-            let (first, last) = (part_of(place.text, first), part_of(place.text, last));
-            add(
-                words,
-                &["; are `", first, "` and `", last, "` interchanged?"],
-            )
-        }
-        EditKind::Near | EditKind::Unused | EditKind::Used | EditKind::Flip | EditKind::Renamed =>
-            add(words, &["; did you mean `", change.fix.put.as_str(), "`?"]),
+        EditKind::Renamed => add(words, &["; nothing uses `", first, "`"]),
+        EditKind::Swap => add(
+            words,
+            &["; are `", first, "` and `", last, "` interchanged?"],
+        ),
+        _ if is_elsewhere(change, place.at) => Ok(()),
+        _ => add(words, &["; did you mean `", change.fix.put.as_str(), "`?"]),
     }
 }

@@ -1,9 +1,9 @@
 //! What is said of a name that no input channel has, or none at all.
 
 ghost use Rattle.std.specs.Prelude.{◌≡◌, ◌++◌, IfOk, map, string_bytes};
-ghost use Rattle.kahn_hints.specs.Inputs.{names_of_channels, channels_lead, counted_channels, input_names, inputs_lead, inputs_words, more_channels, near_or_listed, told_channels, unknown_channel, unknown_input};
+ghost use Rattle.kahn_hints.specs.Inputs.{channels_lead, input_names, inputs_lead, inputs_words, more_channels, names_of_channels, near_or_listed, told_channels, unknown_channel, unknown_input};
 
-use crate::names::{Sort, program_names};
+use crate::names::channels_asked;
 use crate::near::nearest;
 use crate::sight::{TOLD, add_meant, add_names};
 use itoa::Buffer;
@@ -31,17 +31,7 @@ fn channels_lead(count: usize) -> &'static str
     }
 }
 
-/// Adds that there are so many channels more.
-fn add_count(words: &mut String, more: usize) -> Result<(), AllocError>
-    ensures { IfOk result (λ _. string_bytes words.new ≡ string_bytes words.old ++ counted_channels more) }
-{
-    let mut digits = Buffer::new();
-    let more = digits.format(more);
-    add(words, &[", and ", more, " channels more"])
-}
-
 /// Adds how many channels more there are than were told, where there are any.
-#[tactic(auto, using(crate::proofs::Sights::counted))]
 fn add_more(words: &mut String, more: usize) -> Result<(), AllocError>
     ensures { IfOk result (λ _. string_bytes words.new ≡ string_bytes words.old ++ more_channels more) }
 {
@@ -51,7 +41,8 @@ fn add_more(words: &mut String, more: usize) -> Result<(), AllocError>
     if more == 1 {
         return add(words, &[", and 1 channel more"]);
     }
-    add_count(words, more)
+    let mut digits = Buffer::new();
+    add(words, &[", and ", digits.format(more), " channels more"])
 }
 
 /// Adds the first five names, and how many more there are.
@@ -85,7 +76,7 @@ fn add_near(words: &mut String, word: &[u8], lead: &str, names: &[&Name]) -> Res
 pub fn add_inputs(words: &mut String, alloc: Global, program: &Program) -> Result<(), AllocError>
     ensures { IfOk result (λ _. string_bytes words.new ≡ string_bytes words.old ++ inputs_words (input_names program.now)) }
 {
-    let names = program_names(alloc, program, Some(Sort::Input))?;
+    let names = channels_asked(alloc, program, true)?;
     add_listed(words, inputs_lead(names.len()), &names)
 }
 
@@ -98,7 +89,7 @@ pub fn add_unknown_input(
 ) -> Result<(), AllocError>
     ensures { IfOk result (λ _. string_bytes words.new ≡ string_bytes words.old ++ unknown_input word.now (input_names program.now)) }
 {
-    let names = program_names(alloc, program, Some(Sort::Input))?;
+    let names = channels_asked(alloc, program, true)?;
     add_near(words, word, inputs_lead(names.len()), &names)
 }
 
@@ -111,6 +102,6 @@ pub fn add_unknown_channel(
 ) -> Result<(), AllocError>
     ensures { IfOk result (λ _. string_bytes words.new ≡ string_bytes words.old ++ unknown_channel word.now (names_of_channels program.now)) }
 {
-    let names = program_names(alloc, program, Some(Sort::Channel))?;
+    let names = channels_asked(alloc, program, false)?;
     add_near(words, word, channels_lead(names.len()), &names)
 }

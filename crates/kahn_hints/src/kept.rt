@@ -25,13 +25,8 @@ fn has_fault(faults: &[CheckFault], part: Option<Span>) -> bool {
     })
 }
 
-/// Whether the same was told already of a part with these letters.
-fn is_again(text: &str, told: &[CheckFault], fault: CheckFault) -> bool {
-    told.iter()
-        .any(|other| is_same_fault(text, *other, text, fault))
-}
-
-/// Whether a fault is told: of an instance where its process has none, nothing of sides where something else is wrong, and nothing twice.
+/// Whether a fault behind the first one is told: all are behind the first of a limit; of an instance where its process has none, nothing
+/// of sides where something else is wrong, and nothing twice.
 fn is_told(
     text: &str,
     tree: &Program,
@@ -45,9 +40,15 @@ fn is_told(
     let Some(instance) = instance_at(&tree.instances, span.from) else {
         return true;
     };
+    if span.from >= limit_of(faults) {
+        return true;
+    }
     let follows = is_side(fault) && faults.iter().any(|other| !is_side(*other));
     let body = text_of(tree, instance.process.text.as_bytes());
-    !follows && !has_fault(faults, body) && !is_again(text, told, fault)
+    let is_again = told
+        .iter()
+        .any(|other| is_same_fault(text, *other, text, fault));
+    !follows && !has_fault(faults, body) && !is_again
 }
 
 /// Where the first fault of a limit stands.
@@ -60,17 +61,10 @@ fn limit_of(faults: &[CheckFault]) -> usize {
     usize::MAX
 }
 
-/// Whether a fault stands behind a byte.
-fn is_behind(fault: CheckFault, limit: usize) -> bool {
-    match check_span(fault) {
-        Some(span) => span.from >= limit,
-        None => true,
-    }
-}
-
 /// Adds a fault, if it is told.
 fn add_if(told: &mut Vec<CheckFault>, is_told: bool, fault: CheckFault) -> Result<(), AllocError>
-    ensures { IfOk result (λ _. (fs : List CheckFault) → Contains fs fault → All (Contains fs) told.old.items → All (Contains fs) told.new.items) }
+    ensures some { IfOk result (λ _. (told.old.items ≡ [] → ⊥) → told.new.items ≡ [] → ⊥) }
+    ensures among { IfOk result (λ _. (fs : List CheckFault) → Contains fs fault → All (Contains fs) told.old.items → All (Contains fs) told.new.items) }
 {
     if !is_told {
         return Ok(());
@@ -78,26 +72,7 @@ fn add_if(told: &mut Vec<CheckFault>, is_told: bool, fault: CheckFault) -> Resul
     Ok(told.push(fault)?)
 }
 
-/// Those faults of a program that are told: the first one is, and behind the first of a limit all are.
-fn chosen(
-    alloc: Global,
-    text: &str,
-    tree: &Program,
-    faults: &[CheckFault],
-) -> Result<Vec<CheckFault>, AllocError>
-    ensures { IfOk result (λ told. All (Contains faults.now) told.items) }
-{
-    let limit = limit_of(faults);
-    let mut told = Vec::new(alloc);
-    for fault in faults {
-        let is_sure = told.is_empty() || is_behind(*fault, limit);
-        let is_told = is_sure || is_told(text, tree, faults, &told, *fault);
-        add_if(&mut told, is_told, *fault)?;
-    }
-    Ok(told)
-}
-
-/// Those faults of a program that are told: where these would be none, all.
+/// Those faults of a program that are told.
 pub(crate) fn kept(
     alloc: Global,
     text: &str,
@@ -107,11 +82,14 @@ pub(crate) fn kept(
     ensures some { IfOk result (λ told. told.items ≡ [] → faults.now ≡ []) }
     ensures among { IfOk result (λ told. All (Contains faults.now) told.items) }
 {
-    let told = chosen(alloc, text, tree, faults)?;
-    if !told.is_empty() {
+    let mut told = Vec::new(alloc);
+    let Some((first, rest)) = faults.split_first() else {
         return Ok(told);
+    };
+    told.push(*first)?;
+    for fault in rest {
+        let is_told = is_told(text, tree, faults, &told, *fault);
+        add_if(&mut told, is_told, *fault)?;
     }
-    let mut all = Vec::new(alloc);
-    all.extend_from_slice(faults)?;
-    Ok(all)
+    Ok(told)
 }

@@ -34,24 +34,17 @@ pub(crate) fn is_same_fault(text: &str, fault: CheckFault, other: &str, found: C
 fn is_known(text: &str, faults: &[CheckFault], other: &str, found: CheckFault) -> bool
     ensures { result ≡ is_known text.now faults.now other.now found }
 {
-    for fault in faults {
-        if is_same_fault(text, *fault, other, found) {
-            return true;
-        }
-    }
-    false
+    faults
+        .iter()
+        .any(|fault| is_same_fault(text, *fault, other, found))
 }
 
 /// Whether all are.
 fn are_known(text: &str, faults: &[CheckFault], other: &str, left: &[CheckFault]) -> bool
     ensures { result ≡ are_known text.now faults.now other.now left.now }
 {
-    for found in left {
-        if !is_known(text, faults, other, *found) {
-            return false;
-        }
-    }
-    true
+    left.iter()
+        .all(|found| is_known(text, faults, other, *found))
 }
 
 /// How many faults a changed text has, if it spells a program with fewer of them than these, and none that isn't among these.

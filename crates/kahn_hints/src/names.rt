@@ -1,19 +1,18 @@
 //! The names of a process and of a program, by what they stand for.
 
-ghost use Rattle.std.specs.Prelude.{◌≡◌, ◌++◌, ◌==◌, IfOk, flat_map, map, option_map};
-ghost use Rattle.kahn_hints.specs.Names.{channel_sort, globals_of, is_sort, kept, names_seen, program_names, process_names, taking_sort};
+ghost use Rattle.std.specs.Prelude.{◌≡◌, ◌++◌, IfOk, map};
+ghost use Rattle.kahn_hints.specs.Names.{channels_asked, channels_in, is_asked};
 
+use crate::place::{FaultPlace, asked_kind};
 use kahn_streams::{Declaration, Direction, Name, Process, Program, Role, Taking};
 use std::alloc::{AllocError, Global};
 
 /// What a name stands for.
-#[derive(Clone, Copy)]
-pub(crate) enum Sort {
+#[derive(Clone, Copy, PartialEq, Eq)]
+pub(crate) enum NameKind {
     /// A variable, or a parameter that takes a value.
     Value,
-    /// A channel of the program that is an input.
-    Input,
-    /// Any other.
+    /// A channel of the program.
     Channel,
     /// A parameter that takes a channel to be read.
     Source,
@@ -23,134 +22,115 @@ pub(crate) enum Sort {
     Process,
 }
 
-/// Whether a sort is the one that is asked for; each is where none is, and an input is a channel too.
-fn is_sort(asked: Option<Sort>, sort: Sort) -> bool
-    ensures { result ≡ is_sort asked sort }
-{
-    match (asked, sort) {
-        (None, _) => true,
-        (Some(Sort::Value), Sort::Value) => true,
-        (Some(Sort::Channel), Sort::Channel | Sort::Input) => true,
-        (Some(Sort::Input), Sort::Input) => true,
-        (Some(Sort::Source), Sort::Source) => true,
-        (Some(Sort::Target), Sort::Target) => true,
-        (Some(Sort::Process), Sort::Process) => true,
-        _ => false,
-    }
+/// The names that may stand at the place of a fault.
+pub(crate) fn names_asked<'p>(
+    alloc: Global,
+    place: FaultPlace<'p>,
+) -> Result<Vec<&'p Name>, AllocError> {
+    names_seen(alloc, place.program, place.process, Some(asked_kind(place)))
 }
 
-/// What a parameter's name stands for.
-fn taking_sort(taking: Taking) -> Sort
-    ensures { result ≡ taking_sort taking }
-{
-    match taking {
-        Taking::Channel(Direction::In, _) => Sort::Source,
-        Taking::Channel(Direction::Out, _) => Sort::Target,
-        Taking::Value(_) => Sort::Value,
+/// The names of a process, its parameters first, or those of the program where there is none; of the kind that is asked for, or all.
+pub(crate) fn names_seen<'p>(
+    alloc: Global,
+    program: &'p Program,
+    process: Option<&'p Process>,
+    asked: Option<NameKind>,
+) -> Result<Vec<&'p Name>, AllocError> {
+    let mut names = Vec::new(alloc);
+    let Some(process) = process else {
+        for declaration in &program.declarations {
+            match declaration {
+                Declaration::Channels(_, _, channels) => {
+                    for channel in channels {
+                        keep(&mut names, asked, NameKind::Channel, channel)?;
+                    }
+                }
+                Declaration::Process(process) => {
+                    keep(&mut names, asked, NameKind::Process, &process.name)?;
+                }
+            }
+        }
+        return Ok(names);
+    };
+    for parameter in &process.parameters {
+        let kind = match parameter.taking {
+            Taking::Channel(Direction::In, _) => NameKind::Source,
+            Taking::Channel(Direction::Out, _) => NameKind::Target,
+            Taking::Value(_) => NameKind::Value,
+        };
+        keep(&mut names, asked, kind, &parameter.name)?;
     }
+    for variable in &process.variables {
+        keep(&mut names, asked, NameKind::Value, &variable.name)?;
+    }
+    Ok(names)
 }
 
-/// What a channel's name stands for.
-fn channel_sort(role: Role) -> Sort
-    ensures { result ≡ channel_sort role }
-{
-    match role {
-        Role::Input => Sort::Input,
-        Role::Output | Role::Inner => Sort::Channel,
-    }
-}
-
-/// Adds a name of a sort, where it is the one that is asked for.
+/// Adds a name of a kind, where it is the one that is asked for.
 fn keep<'p>(
     names: &mut Vec<&'p Name>,
-    asked: Option<Sort>,
-    sort: Sort,
+    asked: Option<NameKind>,
+    kind: NameKind,
     name: &'p Name,
-) -> Result<(), AllocError>
-    ensures { IfOk result (λ _. map (λ n. n.now) names.new.items ≡ map (λ n. n.now) names.old.items ++ kept asked sort name.now) }
-{
-    if is_sort(asked, sort) {
+) -> Result<(), AllocError> {
+    if asked.is_none() || asked == Some(kind) {
         names.push(name)?;
     }
     Ok(())
 }
 
-/// The names that a process declares, of the sort that is asked for: its parameters first and then its variables.
-pub(crate) fn process_names<'p>(
-    alloc: Global,
-    process: &'p Process,
-    asked: Option<Sort>,
-) -> Result<Vec<&'p Name>, AllocError>
-    ensures { IfOk result (λ names. map (λ n. n.now) names.items ≡ process_names asked process.now) }
-{
-    let mut names = Vec::new(alloc);
-    for parameter in &process.parameters {
-        let sort = taking_sort(parameter.taking);
-        keep(&mut names, asked, sort, &parameter.name)?;
-    }
-    for variable in &process.variables {
-        keep(&mut names, asked, Sort::Value, &variable.name)?;
-    }
-    Ok(names)
-}
-
-/// Adds the names of channels of a sort, where it is the one that is asked for.
-fn add_channels<'p>(
-    names: &mut Vec<&'p Name>,
-    asked: Option<Sort>,
-    sort: Sort,
-    channels: &'p [Name],
-) -> Result<(), AllocError>
-    ensures { IfOk result (λ _. map (λ n. n.now) names.new.items ≡ map (λ n. n.now) names.old.items ++ flat_map (kept asked sort) channels.now) }
+/// Adds names of channels.
+fn add_channels<'p>(names: &mut Vec<&'p Name>, channels: &'p [Name]) -> Result<(), AllocError>
+    ensures { IfOk result (λ _. map (λ n. n.now) names.new.items ≡ map (λ n. n.now) names.old.items ++ channels.now) }
 {
     for channel in channels {
-        keep(names, asked, sort, channel)?;
+        names.push(channel)?;
     }
     Ok(())
 }
 
-/// Adds the names of a declaration, of the sort that is asked for.
-fn add_globals<'p>(
+/// Whether a channel is one of those that are asked for: all, or the inputs alone.
+fn is_asked(inputs: bool, role: Role) -> bool
+    ensures { result ≡ is_asked inputs role }
+{
+    match role {
+        Role::Input => true,
+        Role::Output | Role::Inner => !inputs,
+    }
+}
+
+/// Adds the names of the channels of a declaration; of inputs alone, if only these are asked for.
+fn add_declared<'p>(
     names: &mut Vec<&'p Name>,
-    asked: Option<Sort>,
+    inputs: bool,
     declaration: &'p Declaration,
 ) -> Result<(), AllocError>
-    ensures { IfOk result (λ _. map (λ n. n.now) names.new.items ≡ map (λ n. n.now) names.old.items ++ globals_of asked declaration.now) }
+    ensures { IfOk result (λ _. map (λ n. n.now) names.new.items ≡ map (λ n. n.now) names.old.items ++ channels_in inputs declaration.now) }
 {
     match declaration {
         Declaration::Channels(_, role, channels) => {
-            add_channels(names, asked, channel_sort(*role), channels)
+            if is_asked(inputs, *role) {
+                add_channels(names, channels)
+            } else {
+                Ok(())
+            }
         }
-        Declaration::Process(process) => keep(names, asked, Sort::Process, &process.name),
+        Declaration::Process(_) => Ok(()),
     }
 }
 
-/// The names that a program declares, of the sort that is asked for, in order.
-pub(crate) fn program_names<'p>(
+/// The names of the channels that a program declares, in order; of its inputs alone, if only these are asked for.
+pub(crate) fn channels_asked<'p>(
     alloc: Global,
     program: &'p Program,
-    asked: Option<Sort>,
+    inputs: bool,
 ) -> Result<Vec<&'p Name>, AllocError>
-    ensures { IfOk result (λ names. map (λ n. n.now) names.items ≡ program_names asked program.now) }
+    ensures { IfOk result (λ names. map (λ n. n.now) names.items ≡ channels_asked inputs program.now) }
 {
     let mut names = Vec::new(alloc);
     for declaration in &program.declarations {
-        add_globals(&mut names, asked, declaration)?;
+        add_declared(&mut names, inputs, declaration)?;
     }
     Ok(names)
-}
-
-/// The names of a process, or those of the program where there is none, of the sort that is asked for.
-pub(crate) fn names_seen<'p>(
-    alloc: Global,
-    program: &'p Program,
-    process: Option<&'p Process>,
-    asked: Option<Sort>,
-) -> Result<Vec<&'p Name>, AllocError>
-    ensures { IfOk result (λ names. map (λ n. n.now) names.items ≡ names_seen asked program.now (option_map (λ p. p.now) process.entry)) }
-{
-    match process {
-        Some(process) => process_names(alloc, process, asked),
-        None => program_names(alloc, program, asked),
-    }
 }

@@ -1,14 +1,14 @@
 //! The notes on what is wrong with a network.
 
-ghost use Rattle.std.specs.Prelude.{◌≡◌, ◌∷◌, [], All, Contains, IfOk, IfSome};
+ghost use Rattle.std.specs.Prelude.{◌≡◌, ◌∷◌, ◌<◌, [], All, Contains, IfOk, IfSome};
 ghost use Rattle.kahn_fault.specs.Message.{check_span};
 ghost use Rattle.kahn_hints.specs.Hints.{HasOneMore, LessensFaults, TellsFault, TellsOne};
 
-use crate::changes::{Edit, Search, add_change, change_for, is_elsewhere, tries_of};
+use crate::changes::{Edit, add_change, change_for, is_elsewhere, tries_of};
 use crate::kept::kept;
 use crate::mending::left_by;
 use crate::others::others_of;
-use crate::place::{Place, place_of};
+use crate::place::{FaultPlace, place_of};
 use crate::said::{add_advice, add_found};
 use kahn_fault::{check_span, check_words};
 use kahn_marks::{Fix, MOST_NOTES, Note, Sort, first_ones};
@@ -46,7 +46,7 @@ fn span_of(fault: CheckFault) -> Span
 /// The words of a fault, with what is wanted and found, and what to do.
 fn words_of(
     alloc: Global,
-    place: Place,
+    place: FaultPlace,
     fault: CheckFault,
     change: &Option<Edit>,
 ) -> Result<String, AllocError> {
@@ -97,14 +97,14 @@ fn fix_of(
 fn found_at(
     alloc: Global,
     text: &str,
-    place: Place,
+    place: FaultPlace,
     faults: &[CheckFault],
     fault: CheckFault,
     tries: &mut usize,
 ) -> Result<ToldFault, NoMemory>
     ensures { IfOk result (λ found. Contains faults.now fault → TellsFault text.now faults.now found.note fault) }
 {
-    let change = change_for(alloc, Search { place, faults }, tries, fault)?;
+    let change = change_for(alloc, place, faults, tries, fault)?;
     let is_whole = match &change {
         Some(change) => change.left == 0,
         None => false,
@@ -131,16 +131,17 @@ fn alone(alloc: Global, note: Note) -> Result<FaultNotes, NoMemory>
     Ok(FaultNotes { notes, more: 0 })
 }
 
-/// How many faults are told behind the first one: none behind one of a limit.
-fn most_behind(faults: &[CheckFault]) -> usize {
-    let mut number = 0usize;
-    for fault in faults {
-        if matches!(fault, CheckFault::TooMany(_)) {
-            return number.min(MOST_NOTES - 1);
-        }
-        number = number.saturating_add(1);
+/// How many faults are told at most: none behind one of a limit.
+fn most_told(faults: &[CheckFault]) -> usize
+    ensures { 0 < result }
+{
+    let limit = faults
+        .iter()
+        .position(|fault| matches!(*fault, CheckFault::TooMany(_)));
+    match limit {
+        Some(number) => number.min(MOST_NOTES - 1) + 1,
+        None => MOST_NOTES,
     }
-    MOST_NOTES - 1
 }
 
 /// Adds the note on a fault, unless that is the only one to be told.
@@ -165,21 +166,12 @@ pub fn fault_notes(
     ensures some { IfOk result (λ told. told.notes.items ≡ [] → faults.now ≡ []) }
 {
     let told = kept(alloc, text, program, faults)?;
-    let mut notes = Vec::new(alloc);
-    let Some((first, rest)) = told.split_first() else {
-        return Ok(FaultNotes { notes, more: 0 });
-    };
     let Ok(lexemes) = lex(alloc, text) else {
         return Err(NoMemory);
     };
+    let mut notes = Vec::new(alloc);
     let mut tries = tries_of(text, &lexemes);
-    let place = place_of(text, &lexemes, program, span_of(*first));
-    let found = found_at(alloc, text, place, faults, *first, &mut tries)?;
-    if found.is_whole {
-        return alone(alloc, found.note);
-    }
-    add_note(&mut notes, found.note)?;
-    let (shown, more) = first_ones(rest, most_behind(&told));
+    let (shown, more) = first_ones(&told, most_told(&told));
     for fault in shown {
         let place = place_of(text, &lexemes, program, span_of(*fault));
         let found = found_at(alloc, text, place, faults, *fault, &mut tries)?;

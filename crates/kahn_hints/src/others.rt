@@ -1,55 +1,43 @@
 //! Another place that has to do with a fault.
 
-use crate::names::{Sort, names_seen};
-use crate::place::{Place, called_first, instance_at, word_at};
+use crate::names::{NameKind, names_seen};
+use crate::place::{FaultPlace, called_first, instance_at};
 use crate::sides::{channel_called, idle_process, passed, process_called};
 use kahn_marks::Other;
 use kahn_streams::{Argument, CheckFault, Direction, Name, Process, Program, Span};
 use std::alloc::{AllocError, Global};
 
 /// Another place, and what is said of it.
-pub(crate) type Second = Option<(Span, &'static str)>;
+type Second = Option<(Span, &'static str)>;
 
 /// Where the first of the names of a process, or of the program where there is none, is declared with the letters at a place.
 fn declared(
     alloc: Global,
-    place: Place,
+    place: FaultPlace,
     process: Option<&Process>,
-    asked: Option<Sort>,
+    asked: Option<NameKind>,
     words: &'static str,
 ) -> Result<Second, AllocError> {
     let names = names_seen(alloc, place.program, process, asked)?;
-    let word = word_at(place.text, place.at);
-    let second = match called_first(word, &names) {
-        Some(name) => Some((name.span, words)),
-        None => None,
-    };
-    Ok(second)
-}
-
-/// The first of the names in sight with the letters at a place.
-fn declared_here(alloc: Global, place: Place) -> Result<Second, AllocError> {
-    declared(alloc, place, place.process, None, "declared here")
+    match called_first(place.word(), &names) {
+        Some(name) => Ok(Some((name.span, words))),
+        None => Ok(None),
+    }
 }
 
 /// The same of the program, where it may not stand.
-fn declared_outside(alloc: Global, place: Place) -> Result<Second, AllocError> {
-    match place.process {
-        Some(_) => declared(
-            alloc,
-            place,
-            None,
+fn declared_outside(alloc: Global, place: FaultPlace) -> Result<Second, AllocError> {
+    let (asked, words) = match place.process {
+        Some(_) => (
             None,
             "declared here, outside of the process, which sees its own names alone",
         ),
-        None => declared(
-            alloc,
-            place,
-            None,
-            Some(Sort::Channel),
+        None => (
+            Some(NameKind::Channel),
             "declared here as a channel, and not as a process",
         ),
-    }
+    };
+    declared(alloc, place, None, asked, words)
 }
 
 /// Where an argument stands.
@@ -66,27 +54,24 @@ fn parameter_of(program: &Program, at: Span) -> Option<&Name> {
     let process = process_called(program, instance.process.text.as_bytes())?;
     for (number, argument) in instance.arguments.iter().enumerate() {
         if argument_span(argument).from == at.from {
-            let parameter = process.parameters.get(number)?;
-            return Some(&parameter.name);
+            return Some(&process.parameters.get(number)?.name);
         }
     }
     None
 }
 
 /// The first of the names in sight with the letters at a place, or else the parameter that takes what stands there.
-fn wanted_here(alloc: Global, place: Place) -> Result<Second, AllocError> {
-    if let Some(second) = declared_here(alloc, place)? {
-        return Ok(Some(second));
-    }
-    match parameter_of(place.program, place.at) {
-        Some(name) => Ok(Some((name.span, "its parameter is declared here"))),
-        None => Ok(None),
+fn wanted_here(alloc: Global, place: FaultPlace) -> Result<Second, AllocError> {
+    let here = declared(alloc, place, place.process, None, "declared here")?;
+    match (here, parameter_of(place.program, place.at)) {
+        (None, Some(name)) => Ok(Some((name.span, "its parameter is declared here"))),
+        _ => Ok(here),
     }
 }
 
 /// Where the channel at a place is handed over first in a direction, if not there.
-pub(crate) fn first_passed(place: Place, direction: Direction) -> Option<Span> {
-    let name = passed(place.program, direction, word_at(place.text, place.at))?;
+pub(crate) fn first_passed(place: FaultPlace, direction: Direction) -> Option<Span> {
+    let name = passed(place.program, direction, place.word())?;
     if name.span.from == place.at.from {
         return None;
     }
@@ -96,34 +81,39 @@ pub(crate) fn first_passed(place: Place, direction: Direction) -> Option<Span> {
 /// Where a channel is handed over first, or where it is declared, if nothing hands it over before.
 fn taken_before(
     alloc: Global,
-    place: Place,
+    place: FaultPlace,
     direction: Direction,
     first: &'static str,
     role: &'static str,
 ) -> Result<Second, AllocError> {
     match first_passed(place, direction) {
         Some(span) => Ok(Some((span, first))),
-        None => declared(alloc, place, None, Some(Sort::Channel), role),
+        None => declared(alloc, place, None, Some(NameKind::Channel), role),
     }
 }
 
 /// Where the first process without an instance is declared that takes the channel at a place in a direction.
-fn idle_place(place: Place, direction: Direction) -> Second {
-    let (kind, _) = channel_called(place.program, word_at(place.text, place.at))?;
+fn idle_place(place: FaultPlace, direction: Direction) -> Second {
+    let (kind, _) = channel_called(place.program, place.word())?;
     let process = idle_process(place.program, direction, kind)?;
     Some((process.name.span, "this process has no instance"))
 }
 
 /// Another place that has to do with a fault, and what is said of it.
-fn second_place(alloc: Global, place: Place, fault: CheckFault) -> Result<Second, AllocError> {
+fn second_place(alloc: Global, place: FaultPlace, fault: CheckFault) -> Result<Second, AllocError> {
+    let process = place.process;
     match fault {
-        CheckFault::DeclaredTwice(_) => {
-            declared(alloc, place, place.process, None, "declared here first")
-        }
+        CheckFault::DeclaredTwice(_) => declared(
+            alloc,
+            place,
+            process,
+            None,
+            "declared here first",
+        ),
         CheckFault::WrongKind(_)
         | CheckFault::WrongCount(_)
         | CheckFault::ValueExpected(_)
-        | CheckFault::WrongDirection(_) => declared_here(alloc, place),
+        | CheckFault::WrongDirection(_) => declared(alloc, place, process, None, "declared here"),
         CheckFault::ChannelExpected(_) => wanted_here(alloc, place),
         CheckFault::TwoWriters(_) => taken_before(
             alloc,
@@ -149,7 +139,7 @@ fn second_place(alloc: Global, place: Place, fault: CheckFault) -> Result<Second
 /// The other places that have to do with a fault.
 pub(crate) fn others_of(
     alloc: Global,
-    place: Place,
+    place: FaultPlace,
     fault: CheckFault,
 ) -> Result<Vec<Other>, AllocError> {
     let mut others = Vec::new(alloc);

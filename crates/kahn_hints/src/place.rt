@@ -3,7 +3,7 @@
 ghost use Rattle.std.specs.Prelude.{◌≡◌};
 ghost use Rattle.kahn_hints.specs.Hints.{word_at};
 
-use crate::names::Sort;
+use crate::names::NameKind;
 use crate::sides::channel_called;
 use kahn_streams::{Declaration, Instance, Kind, Name, Process, Program, Span, Taking};
 use kahn_syntax::{Class, Keyword, Lexeme, Sign};
@@ -20,7 +20,7 @@ pub(crate) fn word_at(text: &str, at: Span) -> &[u8]
 
 /// The place of a fault.
 #[derive(Clone, Copy)]
-pub(crate) struct Place<'p> {
+pub(crate) struct FaultPlace<'p> {
     /// The text.
     pub(crate) text: &'p str,
     /// Its lexemes.
@@ -33,6 +33,13 @@ pub(crate) struct Place<'p> {
     pub(crate) number: usize,
     /// The process in whose text it stands, behind its name.
     pub(crate) process: Option<&'p Process>,
+}
+
+impl<'p> FaultPlace<'p> {
+    /// The letters there.
+    pub(crate) fn word(&self) -> &'p [u8] {
+        word_at(self.text, self.at)
+    }
 }
 
 /// Whether a name has these letters.
@@ -50,8 +57,13 @@ pub(crate) fn called_first<'p>(word: &[u8], names: &[&'p Name]) -> Option<&'p Na
     None
 }
 
+/// Whether a part begins within another one.
+pub(crate) fn is_in(part: Span, span: Span) -> bool {
+    part.from <= span.from && span.from < part.to
+}
+
 /// Where a declaration begins: at its first name.
-pub(crate) fn begin_of(declaration: &Declaration) -> usize {
+fn begin_of(declaration: &Declaration) -> usize {
     match declaration {
         Declaration::Process(process) => process.name.span.from,
         Declaration::Channels(_, _, names) => match names.first() {
@@ -75,20 +87,14 @@ pub(crate) fn text_of(program: &Program, word: &[u8]) -> Option<Span> {
             }
         }
     }
-    let first = program.instances.first()?;
-    let to = first.process.span.from;
+    let to = program.instances.first()?.process.span.from;
     Some(Span { from: from?, to })
 }
 
 /// The last of some instances that begins before a byte, or at it.
 pub(crate) fn instance_at(instances: &[Instance], from: usize) -> Option<&Instance> {
-    let mut last = None;
-    for instance in instances {
-        if instance.process.span.from <= from {
-            last = Some(instance);
-        }
-    }
-    last
+    let count = instances.partition_point(|instance| instance.process.span.from <= from);
+    instances.get(count.checked_sub(1)?)
 }
 
 /// The process in whose text a byte stands, behind its name.
@@ -115,8 +121,8 @@ pub(crate) fn place_of<'p>(
     lexemes: &'p [Lexeme],
     program: &'p Program,
     at: Span,
-) -> Place<'p> {
-    Place {
+) -> FaultPlace<'p> {
+    FaultPlace {
         text,
         lexemes,
         program,
@@ -127,7 +133,7 @@ pub(crate) fn place_of<'p>(
 }
 
 /// The part of a text that sees the names at a place: a process, or all of it.
-pub(crate) fn seen_in(place: Place) -> Span {
+pub(crate) fn seen_in(place: FaultPlace) -> Span {
     let all = Span {
         from: 0,
         to: place.text.len(),
@@ -140,41 +146,38 @@ pub(crate) fn seen_in(place: Place) -> Span {
 
 /// What the lexeme of a number is.
 pub(crate) fn class_of(lexemes: &[Lexeme], number: Option<usize>) -> Option<Class> {
-    match lexemes.get(number?) {
-        Some(lexeme) => Some(lexeme.what),
-        None => None,
-    }
+    Some(lexemes.get(number?)?.what)
 }
 
-/// The sort of the names that may stand at a place.
-pub(crate) fn asked_sort(place: Place) -> Sort {
+/// The kind of the names that may stand at a place.
+pub(crate) fn asked_kind(place: FaultPlace) -> NameKind {
     let number = place.number;
     if place.process.is_none() {
         return match class_of(place.lexemes, number.checked_add(1)) {
-            Some(Class::Sign(Sign::Open)) => Sort::Process,
-            _ => Sort::Channel,
+            Some(Class::Sign(Sign::Open)) => NameKind::Process,
+            _ => NameKind::Channel,
         };
     }
     let before = class_of(place.lexemes, number.checked_sub(1));
     match (before, class_of(place.lexemes, number.checked_sub(2))) {
-        (Some(Class::Word(Keyword::On)), _) => Sort::Target,
-        (Some(Class::Sign(Sign::Open)), Some(Class::Word(Keyword::Wait))) => Sort::Source,
-        _ => Sort::Value,
+        (Some(Class::Word(Keyword::On)), _) => NameKind::Target,
+        (Some(Class::Sign(Sign::Open)), Some(Class::Word(Keyword::Wait))) => NameKind::Source,
+        _ => NameKind::Value,
     }
 }
 
-/// The kind of a value, or of the values of a channel.
-fn kind_in(taking: Taking) -> Kind {
-    match taking {
-        Taking::Channel(_, kind) | Taking::Value(kind) => kind,
-    }
-}
-
-/// The kind of what a name stands for in a process.
-fn kind_inside(process: &Process, word: &[u8]) -> Option<Kind> {
+/// The kind of the values of what a name stands for at a place.
+fn kind_named(place: FaultPlace, span: Span) -> Option<Kind> {
+    let word = word_at(place.text, span);
+    let Some(process) = place.process else {
+        let (kind, _) = channel_called(place.program, word)?;
+        return Some(kind);
+    };
     for parameter in &process.parameters {
         if is_called(word, &parameter.name) {
-            return Some(kind_in(parameter.taking));
+            return match parameter.taking {
+                Taking::Channel(_, kind) | Taking::Value(kind) => Some(kind),
+            };
         }
     }
     for variable in &process.variables {
@@ -185,18 +188,8 @@ fn kind_inside(process: &Process, word: &[u8]) -> Option<Kind> {
     None
 }
 
-/// The kind of what a name stands for at a place.
-fn kind_named(place: Place, span: Span) -> Option<Kind> {
-    let word = word_at(place.text, span);
-    match (place.process, channel_called(place.program, word)) {
-        (Some(process), _) => kind_inside(process, word),
-        (None, Some((kind, _))) => Some(kind),
-        (None, None) => None,
-    }
-}
-
 /// The kind of a lexeme that gives a value.
-fn kind_alone(place: Place, lexeme: Lexeme) -> Option<Kind> {
+fn kind_alone(place: FaultPlace, lexeme: Lexeme) -> Option<Kind> {
     match lexeme.what {
         Class::Number(_) => Some(Kind::Integer),
         Class::Word(Keyword::True | Keyword::False) => Some(Kind::Logical),
@@ -208,95 +201,59 @@ fn kind_alone(place: Place, lexeme: Lexeme) -> Option<Kind> {
 /// The kind that an operator gives.
 fn kind_given(class: Class) -> Option<Kind> {
     match class {
-        Class::Word(Keyword::And | Keyword::Or | Keyword::Not) => Some(Kind::Logical),
         Class::Word(Keyword::Div | Keyword::Mod) => Some(Kind::Integer),
         Class::Sign(Sign::Plus | Sign::Minus | Sign::Times) => Some(Kind::Integer),
-        Class::Sign(
-            Sign::Equal
-            | Sign::Unequal
-            | Sign::Less
-            | Sign::AtMost
-            | Sign::Greater
-            | Sign::AtLeast
-            | Sign::Not,
-        ) => Some(Kind::Logical),
-        Class::Word(_) | Class::Sign(_) | Class::Name | Class::Number(_) => None,
-    }
-}
-
-/// A walk over an expression.
-#[derive(Clone, Copy)]
-struct KindWalk {
-    /// How many brackets are open.
-    depth: usize,
-    /// How many tests are open, between `if` and `then`.
-    tests: usize,
-    /// In how many brackets the operator stands that decides so far, and the kind that it gives.
-    decides: Option<(usize, Kind)>,
-    /// The kind of the first lexeme that gives a value.
-    first: Option<Kind>,
-}
-
-/// What decides behind an operator in so many brackets: the one in fewer brackets, or a logical one.
-fn decided(walk: KindWalk, kind: Kind) -> Option<(usize, Kind)> {
-    match (walk.decides, kind) {
-        (Some((depth, _)), Kind::Logical) if walk.depth <= depth => Some((walk.depth, kind)),
-        (Some((depth, _)), Kind::Integer) if walk.depth < depth => Some((walk.depth, kind)),
-        (Some(found), _) => Some(found),
-        (None, _) => Some((walk.depth, kind)),
-    }
-}
-
-/// A walk behind one lexeme more.
-fn walked(place: Place, walk: KindWalk, lexeme: Lexeme) -> KindWalk {
-    let (depth, tests) = match lexeme.what {
-        Class::Sign(Sign::Open) => (walk.depth.saturating_add(1), walk.tests),
-        Class::Sign(Sign::Close) => (walk.depth.saturating_sub(1), walk.tests),
-        Class::Word(Keyword::If) => (walk.depth, walk.tests.saturating_add(1)),
-        Class::Word(Keyword::Then) => (walk.depth, walk.tests.saturating_sub(1)),
-        _ => (walk.depth, walk.tests),
-    };
-    if walk.tests > 0 {
-        return KindWalk {
-            depth,
-            tests,
-            ..walk
-        };
-    }
-    let decides = match kind_given(lexeme.what) {
-        Some(kind) => decided(walk, kind),
-        None => walk.decides,
-    };
-    let first = walk.first.or(kind_alone(place, lexeme));
-    KindWalk {
-        depth,
-        tests,
-        decides,
-        first,
-    }
-}
-
-/// The kind that the outermost operator of an expression gives, or that of its one value.
-fn kind_of(walk: KindWalk) -> Option<Kind> {
-    match walk.decides {
-        Some((_, kind)) => Some(kind),
-        None => walk.first,
-    }
-}
-
-/// The kind of what stands at a place.
-pub(crate) fn found_kind(place: Place) -> Option<Kind> {
-    let mut walk = KindWalk {
-        depth: 0,
-        tests: 0,
-        decides: None,
-        first: None,
-    };
-    for lexeme in place.lexemes.get(place.number..)? {
-        if lexeme.span.to > place.at.to {
-            return kind_of(walk);
+        Class::Word(Keyword::And | Keyword::Or | Keyword::Not) => Some(Kind::Logical),
+        Class::Sign(Sign::Equal | Sign::Unequal | Sign::Not) => Some(Kind::Logical),
+        Class::Sign(Sign::Less | Sign::AtMost | Sign::Greater | Sign::AtLeast) => {
+            Some(Kind::Logical)
         }
-        walk = walked(place, walk, *lexeme);
+        _ => None,
     }
-    kind_of(walk)
+}
+
+/// In how many brackets the operator stands that decides, and the kind that it gives, behind a lexeme in so many: the one in fewer, or a
+/// logical one.
+fn decided(decides: Option<(usize, Kind)>, depth: usize, class: Class) -> Option<(usize, Kind)> {
+    let Some(kind) = kind_given(class) else {
+        return decides;
+    };
+    match (decides, kind) {
+        (Some((least, _)), Kind::Logical) if depth > least => decides,
+        (Some((least, _)), Kind::Integer) if depth >= least => decides,
+        _ => Some((depth, kind)),
+    }
+}
+
+/// How many brackets are open behind a lexeme, and how many tests, between `if` and `then`.
+fn nested(depth: usize, tests: usize, class: Class) -> (usize, usize) {
+    match class {
+        Class::Sign(Sign::Open) => (depth.saturating_add(1), tests),
+        Class::Sign(Sign::Close) => (depth.saturating_sub(1), tests),
+        Class::Word(Keyword::If) => (depth, tests.saturating_add(1)),
+        Class::Word(Keyword::Then) => (depth, tests.saturating_sub(1)),
+        _ => (depth, tests),
+    }
+}
+
+/// The kind of what stands at a place: the one that the outermost operator gives, or else that of the first value.
+pub(crate) fn found_kind(place: FaultPlace) -> Option<Kind> {
+    let end = place
+        .lexemes
+        .partition_point(|lexeme| lexeme.span.to <= place.at.to);
+    let mut open = (0usize, 0usize);
+    let mut decides: Option<(usize, Kind)> = None;
+    let mut first: Option<Kind> = None;
+    for lexeme in place.lexemes.get(place.number..end)? {
+        let (depth, tests) = open;
+        if tests == 0 {
+            decides = decided(decides, depth, lexeme.what);
+            first = first.or(kind_alone(place, *lexeme));
+        }
+        open = nested(depth, tests, lexeme.what);
+    }
+    match decides {
+        Some((_, kind)) => Some(kind),
+        None => first,
+    }
 }

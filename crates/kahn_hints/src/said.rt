@@ -1,10 +1,10 @@
 //! The words behind those of a fault: what is wanted, what is found, and what to do.
 
-use crate::names::{Sort, names_seen};
+use crate::names::{NameKind, names_asked, names_seen};
 use crate::near::nearest;
 use crate::others::argument_span;
 use crate::place::{
-    Place, asked_sort, called_first, class_of, found_kind, instance_at, is_called, word_at,
+    FaultPlace, asked_kind, called_first, class_of, found_kind, instance_at, is_called, word_at,
 };
 use crate::sides::{channel_called, passed, process_called};
 use crate::sight::{add_meant, add_names, first_once};
@@ -15,8 +15,8 @@ use kahn_syntax::Class;
 use std::alloc::{AllocError, Global};
 
 /// The kind that is wanted and the one that is found.
-fn kind_words(found: Option<Kind>) -> &'static str {
-    match found {
+fn kind_words(place: FaultPlace) -> &'static str {
+    match found_kind(place) {
         Some(Kind::Integer) => ": wanted logical, found integer",
         Some(Kind::Logical) => ": wanted integer, found logical",
         None => "",
@@ -24,7 +24,7 @@ fn kind_words(found: Option<Kind>) -> &'static str {
 }
 
 /// How a value of the wanted kind is made of an expression in a body, and what an instance hands over for one.
-fn made_words(place: Place) -> &'static str {
+fn made_words(place: FaultPlace) -> &'static str {
     let class = class_of(place.lexemes, Some(place.number));
     match (found_kind(place), place.process.is_some(), class) {
         (Some(Kind::Integer), true, _) => "; `X <> 0` is a truth value of `X`",
@@ -37,31 +37,27 @@ fn made_words(place: Place) -> &'static str {
 }
 
 /// The direction that is wanted and the one that is found.
-fn direction_words(place: Place) -> &'static str {
-    match asked_sort(place) {
-        Sort::Source => ": wanted `in`, found `out`",
-        Sort::Target => ": wanted `out`, found `in`",
-        Sort::Value | Sort::Input | Sort::Channel | Sort::Process => "",
+fn direction_words(place: FaultPlace) -> &'static str {
+    match asked_kind(place) {
+        NameKind::Source => ": wanted `in`, found `out`",
+        NameKind::Target => ": wanted `out`, found `in`",
+        _ => "",
     }
 }
 
 /// What is found where a channel is wanted.
-fn channel_words(place: Place) -> &'static str {
-    if process_called(place.program, word_at(place.text, place.at)).is_some()
-        && place.process.is_none()
-    {
-        ", found a process"
-    } else {
-        ", found a value"
+fn channel_words(place: FaultPlace) -> &'static str {
+    match (place.process, process_called(place.program, place.word())) {
+        (None, Some(_)) => ", found a process",
+        _ => ", found a value",
     }
 }
 
 /// What is found where a value is wanted.
-fn value_words(place: Place) -> &'static str {
-    let word = word_at(place.text, place.at);
-    if place.process.is_some() || channel_called(place.program, word).is_some() {
+fn value_words(place: FaultPlace) -> &'static str {
+    if place.process.is_some() || channel_called(place.program, place.word()).is_some() {
         ", found a channel"
-    } else if process_called(place.program, word).is_some() {
+    } else if process_called(place.program, place.word()).is_some() {
         ", found a process"
     } else {
         ", found a name; an instance hands over numbers, `true` and `false`"
@@ -69,64 +65,53 @@ fn value_words(place: Place) -> &'static str {
 }
 
 /// As what a name is declared that should be that of a process.
-fn other_words(place: Place) -> &'static str {
-    let channel = channel_called(place.program, word_at(place.text, place.at));
-    match (asked_sort(place), channel) {
-        (Sort::Process, Some(_)) => " as a process, but as a channel",
+fn other_words(place: FaultPlace) -> &'static str {
+    let channel = channel_called(place.program, place.word());
+    match (asked_kind(place), channel) {
+        (NameKind::Process, Some(_)) => " as a process, but as a channel",
         _ => "",
     }
 }
 
 /// Adds how many arguments are wanted and found at an instance.
-fn add_counts(words: &mut String, place: Place) -> Result<(), AllocError> {
-    let Some(process) = process_called(place.program, word_at(place.text, place.at)) else {
+fn add_counts(words: &mut String, place: FaultPlace) -> Result<(), AllocError> {
+    let process = process_called(place.program, place.word());
+    let instance = instance_at(&place.program.instances, place.at.from);
+    let (Some(process), Some(instance)) = (process, instance) else {
         return Ok(());
     };
-    for instance in &place.program.instances {
-        if instance.process.span.from == place.at.from {
-            let mut first = Buffer::new();
-            let mut second = Buffer::new();
-            let wanted = first.format(process.parameters.len());
-            let found = second.format(instance.arguments.len());
-            return add(words, &[": wanted ", wanted, ", found ", found]);
-        }
-    }
-    Ok(())
+    let mut first = Buffer::new();
+    let mut second = Buffer::new();
+    let wanted = first.format(process.parameters.len());
+    let found = second.format(instance.arguments.len());
+    add(words, &[": wanted ", wanted, ", found ", found])
 }
 
 /// Adds what is wanted and what is found.
 pub(crate) fn add_found(
     words: &mut String,
-    place: Place,
+    place: FaultPlace,
     fault: CheckFault,
 ) -> Result<(), AllocError> {
-    match fault {
-        CheckFault::Unknown(_) => words.push_str(other_words(place)),
-        CheckFault::WrongCount(_) => add_counts(words, place),
-        CheckFault::WrongKind(_) => words.push_str(kind_words(found_kind(place))),
-        CheckFault::WrongDirection(_) => words.push_str(direction_words(place)),
-        CheckFault::ChannelExpected(_) => words.push_str(channel_words(place)),
-        CheckFault::ValueExpected(_) => words.push_str(value_words(place)),
-        CheckFault::TooMany(_) => {
-            words.push_str("; a program has at most 1024 channels and 256 instances")
-        }
-        CheckFault::DeclaredTwice(_)
-        | CheckFault::NoWriter(_)
-        | CheckFault::TwoWriters(_)
-        | CheckFault::NoReader(_)
-        | CheckFault::TwoReaders(_)
-        | CheckFault::NoMemory => Ok(()),
-    }
+    let found = match fault {
+        CheckFault::Unknown(_) => other_words(place),
+        CheckFault::WrongCount(_) => return add_counts(words, place),
+        CheckFault::WrongKind(_) => kind_words(place),
+        CheckFault::WrongDirection(_) => direction_words(place),
+        CheckFault::ChannelExpected(_) => channel_words(place),
+        CheckFault::ValueExpected(_) => value_words(place),
+        CheckFault::TooMany(_) => "; a program has at most 1024 channels and 256 instances",
+        _ => "",
+    };
+    words.push_str(found)
 }
 
 /// Adds which name was perhaps meant: the nearest of those that may stand there, unless it is the very name, declared a second time; or
 /// else the first five of them, each once.
-fn add_unknown(words: &mut String, alloc: Global, place: Place) -> Result<(), AllocError> {
-    let sort = asked_sort(place);
-    let names = names_seen(alloc, place.program, place.process, Some(sort))?;
-    let word = word_at(place.text, place.at);
-    match nearest(word, &names) {
-        Some(name) if is_called(word, name) => Ok(()),
+fn add_unknown(words: &mut String, alloc: Global, place: FaultPlace) -> Result<(), AllocError> {
+    let names = names_asked(alloc, place)?;
+    match nearest(place.word(), &names) {
+        Some(name) if is_called(place.word(), name) => Ok(()),
         Some(name) => add_meant(words, name),
         None => {
             let list = first_once(alloc, &names)?;
@@ -139,31 +124,27 @@ fn add_unknown(words: &mut String, alloc: Global, place: Place) -> Result<(), Al
 }
 
 /// Adds how the next value is taken, where a parameter to be read stands for a value, or how one is sent, where one to be written does.
-fn add_used(words: &mut String, alloc: Global, place: Place) -> Result<(), AllocError> {
-    let Some(process) = place.process else {
+fn add_used(words: &mut String, alloc: Global, place: FaultPlace) -> Result<(), AllocError> {
+    if place.process.is_none() {
         return Ok(());
-    };
-    let word = word_at(place.text, place.at);
-    let sources = names_seen(alloc, place.program, Some(process), Some(Sort::Source))?;
-    if let Some(name) = called_first(word, &sources) {
-        let name = name.text.as_str();
-        return add(words, &["; its next value is `wait(", name, ")`"]);
     }
-    let targets = names_seen(alloc, place.program, Some(process), Some(Sort::Target))?;
-    match called_first(word, &targets) {
-        Some(name) => {
-            let name = name.text.as_str();
-            add(words, &["; it takes a value by `send E on ", name, "`"])
+    let ways = [
+        (NameKind::Source, "; its next value is `wait(", ")`"),
+        (NameKind::Target, "; it takes a value by `send E on ", "`"),
+    ];
+    for (kind, before, behind) in ways {
+        let names = names_seen(alloc, place.program, place.process, Some(kind))?;
+        if let Some(name) = called_first(place.word(), &names) {
+            return add(words, &[before, name.text.as_str(), behind]);
         }
-        None => Ok(()),
     }
+    Ok(())
 }
 
 /// What to do about a channel without a writer.
-fn unwritten_words(place: Place) -> &'static str {
-    let word = word_at(place.text, place.at);
-    let is_read = passed(place.program, Direction::In, word).is_some();
-    match (channel_called(place.program, word), is_read) {
+fn unwritten_words(place: FaultPlace) -> &'static str {
+    let is_read = passed(place.program, Direction::In, place.word()).is_some();
+    match (channel_called(place.program, place.word()), is_read) {
         (Some((_, Role::Inner)), true) => {
             "; hand it to an `out` parameter, or declare it `input` where its values come from outside"
         }
@@ -174,8 +155,8 @@ fn unwritten_words(place: Place) -> &'static str {
 }
 
 /// What to do about a channel without a reader.
-fn unread_words(place: Place) -> &'static str {
-    match channel_called(place.program, word_at(place.text, place.at)) {
+fn unread_words(place: FaultPlace) -> &'static str {
+    match channel_called(place.program, place.word()) {
         Some((_, Role::Inner)) =>
             "; hand it to an `in` parameter, or declare it `output` where its values are to be reported",
         _ => "; hand it to an `in` parameter",
@@ -184,9 +165,6 @@ fn unread_words(place: Place) -> &'static str {
 
 /// Whether two instances are spelled alike.
 fn are_equal(text: &str, one: &Instance, other: &Instance) -> bool {
-    if one.process.text.as_bytes() != other.process.text.as_bytes() {
-        return false;
-    }
     for (number, argument) in one.arguments.iter().enumerate() {
         let Some(found) = other.arguments.get(number) else {
             return false;
@@ -195,11 +173,11 @@ fn are_equal(text: &str, one: &Instance, other: &Instance) -> bool {
             return false;
         }
     }
-    true
+    one.process.text.as_bytes() == other.process.text.as_bytes()
 }
 
 /// Adds where an instance stands before the one at a place that is spelled alike; or else what to do about a channel with such a side twice.
-fn add_twice(words: &mut String, place: Place, advice: &str) -> Result<(), AllocError> {
+fn add_twice(words: &mut String, place: FaultPlace, advice: &str) -> Result<(), AllocError> {
     let instances = &place.program.instances;
     if let Some(one) = instance_at(instances, place.at.from) {
         for other in instances {
@@ -217,7 +195,7 @@ fn add_twice(words: &mut String, place: Place, advice: &str) -> Result<(), Alloc
 pub(crate) fn add_advice(
     words: &mut String,
     alloc: Global,
-    place: Place,
+    place: FaultPlace,
     fault: CheckFault,
 ) -> Result<(), AllocError> {
     match fault {
@@ -236,10 +214,6 @@ pub(crate) fn add_advice(
         ),
         CheckFault::NoWriter(_) => words.push_str(unwritten_words(place)),
         CheckFault::NoReader(_) => words.push_str(unread_words(place)),
-        CheckFault::WrongCount(_)
-        | CheckFault::ChannelExpected(_)
-        | CheckFault::DeclaredTwice(_)
-        | CheckFault::TooMany(_)
-        | CheckFault::NoMemory => Ok(()),
+        _ => Ok(()),
     }
 }

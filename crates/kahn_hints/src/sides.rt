@@ -9,25 +9,21 @@ use kahn_streams::{
 /// The first process that a program declares under these letters.
 pub(crate) fn process_called<'p>(program: &'p Program, word: &[u8]) -> Option<&'p Process> {
     for declaration in &program.declarations {
-        if let Declaration::Process(process) = declaration {
-            if is_called(word, &process.name) {
+        match declaration {
+            Declaration::Process(process) if is_called(word, &process.name) => {
                 return Some(process);
             }
+            _ => {}
         }
     }
     None
-}
-
-/// Whether one of the names has these letters.
-pub(crate) fn is_among(word: &[u8], names: &[Name]) -> bool {
-    names.iter().any(|name| is_called(word, name))
 }
 
 /// The kind of the channel that a program declares under these letters, and what the outside has to do with it.
 pub(crate) fn channel_called(program: &Program, word: &[u8]) -> Option<(Kind, Role)> {
     for declaration in &program.declarations {
         if let Declaration::Channels(kind, role, names) = declaration {
-            if is_among(word, names) {
+            if names.iter().any(|name| is_called(word, name)) {
                 return Some((*kind, *role));
             }
         }
@@ -35,27 +31,18 @@ pub(crate) fn channel_called(program: &Program, word: &[u8]) -> Option<(Kind, Ro
     None
 }
 
-/// Whether a parameter takes a channel in a direction.
-fn takes(direction: Direction, parameter: &Parameter) -> bool {
-    matches!(
-        (direction, parameter.taking),
-        (Direction::In, Taking::Channel(Direction::In, _))
-            | (Direction::Out, Taking::Channel(Direction::Out, _))
-    )
+/// The kind of the channel that a parameter takes in a direction, if it takes one.
+fn kind_taken(direction: Direction, parameter: &Parameter) -> Option<Kind> {
+    match (direction, parameter.taking) {
+        (Direction::In, Taking::Channel(Direction::In, kind))
+        | (Direction::Out, Taking::Channel(Direction::Out, kind)) => Some(kind),
+        _ => None,
+    }
 }
 
 /// Whether none of the instances names a process.
 fn has_none(instances: &[Instance], process: &Process) -> bool {
     !instances.iter().any(|instance| is_called(instance.process.text.as_bytes(), &process.name))
-}
-
-/// Whether a parameter takes a channel of this kind, in this direction.
-fn takes_kind(direction: Direction, kind: Kind, parameter: &Parameter) -> bool {
-    let found = match parameter.taking {
-        Taking::Channel(_, found) => found,
-        Taking::Value(_) => return false,
-    };
-    takes(direction, parameter) && found == kind
 }
 
 /// The first process without an instance that takes a channel of this kind in this direction.
@@ -69,13 +56,18 @@ pub(crate) fn idle_process(
             let takes = process
                 .parameters
                 .iter()
-                .any(|parameter| takes_kind(direction, kind, parameter));
+                .any(|parameter| kind_taken(direction, parameter) == Some(kind));
             if takes && has_none(&program.instances, process) {
                 return Some(process);
             }
         }
     }
     None
+}
+
+/// Whether an argument is the channel of these letters.
+pub(crate) fn hands(word: &[u8], argument: &Argument) -> bool {
+    matches!(argument, Argument::Channel(name) if is_called(word, name))
 }
 
 /// The first argument that hands the channel of these letters over in a direction, by the parameters.
@@ -88,20 +80,12 @@ fn passed_in<'p>(
     for (number, argument) in arguments.iter().enumerate() {
         let parameter = parameters.get(number)?;
         if let Argument::Channel(name) = argument {
-            if takes(direction, parameter) && is_called(word, name) {
+            if kind_taken(direction, parameter).is_some() && is_called(word, name) {
                 return Some(name);
             }
         }
     }
     None
-}
-
-/// Whether an argument is the channel of these letters.
-pub(crate) fn hands(word: &[u8], argument: &Argument) -> bool {
-    match argument {
-        Argument::Channel(name) => is_called(word, name),
-        Argument::Number(_, _) | Argument::Logical(_, _) => false,
-    }
 }
 
 /// The first argument of all that hands the channel of these letters over in a direction.
@@ -112,13 +96,12 @@ pub(crate) fn passed<'p>(
 ) -> Option<&'p Name> {
     for instance in &program.instances {
         // a look at the arguments is cheaper than the search for the process
-        let is_handed = instance
+        if instance
             .arguments
             .iter()
-            .any(|argument| hands(word, argument));
-        if is_handed {
-            let process = process_called(program, instance.process.text.as_bytes());
-            if let Some(process) = process {
+            .any(|argument| hands(word, argument))
+        {
+            if let Some(process) = process_called(program, instance.process.text.as_bytes()) {
                 let name = passed_in(direction, word, &process.parameters, &instance.arguments);
                 if name.is_some() {
                     return name;

@@ -1,7 +1,7 @@
--- Each note so far tells one of the faults, and there is one.
+-- Each note so far tells one of the faults, and there is one behind the first fault.
 use Rattle.std.proofs.Common.{◌≡◌, [], All}
 use Rattle.kahn_hints.specs.Hints.{TellsOne}
 use Rattle.kahn_hints.proofs.notes.fault_notes.Given as goal
 
 abbrev pub invariant-loop-fault : goal.invariant-loop-fault
-invariant-loop-fault l = All (TellsOne l.text l.faults) l.notes.items × (l.notes.items ≡ [] → ⊥)
+invariant-loop-fault l = All (TellsOne l.text l.faults) l.notes.items × (l.notes.items ≡ [] → l.fault-index ≡ 0)

@@ -1,9 +1,9 @@
 use Rattle.std.proofs.Common.{arith}
 use Rattle.std.proofs.lemmas.Grind.{common_steps}
-use Rattle.kahn_hints.proofs.names.program_names.Goals as goal
+use Rattle.kahn_hints.proofs.names.channels_asked.Goals as goal
 
 pub loop-declaration-preserved : goal.loop-declaration-preserved
-loop-declaration-preserved c = grind (arith, common_steps, c.loop-declaration.invariant, c.in_ok-add_globals.ensures)
+loop-declaration-preserved c = grind (arith, common_steps, c.loop-declaration.invariant, c.in_ok-add_declared.ensures)
 
 pub returns : goal.returns
 returns c = grind (arith, common_steps, c.loop-declaration.invariant)

@@ -1,7 +1,0 @@
--- The names of the declarations so far.
-use Rattle.std.proofs.Common.{◌≡◌, flat_map, map, take}
-use Rattle.kahn_hints.specs.Names.{globals_of}
-use Rattle.kahn_hints.proofs.names.program_names.Given as goal
-
-abbrev pub invariant-loop-declaration : goal.invariant-loop-declaration
-invariant-loop-declaration l = map (λ n. n.now) l.names.items ≡ flat_map (globals_of l.asked) (take l.declaration-index l.program.declarations.items)

@@ -1,9 +1,0 @@
-use Rattle.std.proofs.Common.{arith}
-use Rattle.std.proofs.lemmas.Grind.{common_steps}
-use Rattle.kahn_warnings.proofs.program.add_body_constants.Goals as goal
-
-pub loop-statement-preserved : goal.loop-statement-preserved
-loop-statement-preserved c = grind (arith, common_steps, c.loop-statement.invariant, c.in_ok-add_constants.ensures)
-
-pub returns : goal.returns
-returns c = grind (arith, common_steps, c.loop-statement.invariant)

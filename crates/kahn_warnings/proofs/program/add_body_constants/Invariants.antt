@@ -1,7 +1,0 @@
--- The warnings of the statements so far.
-use Rattle.std.proofs.Common.{◌≡◌, ◌++◌, flat_map, take}
-use Rattle.kahn_warnings.proofs.Folding.{constants_in}
-use Rattle.kahn_warnings.proofs.program.add_body_constants.Given as goal
-
-abbrev pub invariant-loop-statement : goal.invariant-loop-statement
-invariant-loop-statement l = l.warnings.items ≡ l.initial.warnings.items ++ flat_map constants_in (take l.statement-index l.statements)
