@@ -91,6 +91,22 @@ class Memory(Room):
         kinds = {(whole, "", 0): "alike", (whole, "again\n", 0): "stopped"}
         self.growths(f"held {program} by {workers} with quantum {quantum}", words, lambda *given: kinds.get(given), workers)
 
+    def counted(self, *words):
+        """How many growths a run has."""
+        mark = f"{self.folder}/growths"
+        _, err, status = self.ran(*words, GROWTHS=mark, LD_PRELOAD=self.library)
+        self.same(f"{words}: it ends well", (err, status), ("", 0))
+        return int.from_bytes(read(mark), "little")
+
+    def test_turns_take_no_memory(self):
+        """Thousands of turns more take some more growths of queues and of what is kept, and over lanes one for each segment."""
+        self.put(**{f"{number}.kahn": COPIES.replace("65", str(number)) for number in (130, 2000)})
+        for runner in ((KAHN,), (CROWD,), (CROWD, "held")) if HAS_CROWD else ((KAHN,),):
+            for quantum in ("1", "1000"):
+                few, many = (self.counted(*runner, f"{number}.kahn", "--workers", "1", "--quantum", quantum) for number in (130, 2000))
+                name = f"{' '.join(map(os.path.basename, runner))} with quantum {quantum}: {few} growths of 130 values, {many} of 2000"
+                self.same(name, many - few <= 2000 // 8)
+
     def test_runs(self):
         for workers in (1, 2, 8):
             for quantum in (1, 1000):

@@ -20,6 +20,7 @@ pub mod Woken
 pub mod Sole
 pub mod Limits
 pub mod Left
+pub mod Lasting
 pub mod Passed
 pub mod Joined
 pub mod Placed

@@ -25,7 +25,7 @@ module _ {T : Type 0} (told : T → Option Summary) (belongs : ℕ → T → Typ
   unchanged s a i id m me fit = subst (λ (l : List ℕ). Whole told belongs w d record { words = l; homes = s.homes; views = set s.views id (after_step m.0) }) (sym (set-get_or s.words i 0)) (idles told belongs w d s a.place a.tally a.ruled id m (after_step m.0) s.words me fit
       (still told belongs w d s a.place a.tally a.ruled id m.0 m.0.drawn m.0.done m.0.untold m.0.owed m.0.down s.words me refl (λ q h. refl) refl refl refl (a.ruled.seats id m.0 me).pairs (omega arith) (λ e. e) refl))
 
-  mine_is : (s : St T) (a : Whole told belongs w d s) (id : ℕ) (v : View) (p : ℕ) → get_elem? s.views id ≡ some v → p < w.instances → IsIn v p → a.place p ≡ held id
+  pub mine_is : (s : St T) (a : Whole told belongs w d s) (id : ℕ) (v : View) (p : ℕ) → get_elem? s.views id ≡ some v → p < w.instances → IsIn v p → a.place p ≡ held id
   mine_is s a id v p me inside is_in = is_held id (a.place p) (sym ((a.ruled.seats id v me).hands p inside) ∙ is_in)
 
   -- what a seat sees of the run as it takes a cell: whether it is halted

@@ -4,6 +4,7 @@
 
 mod board;
 mod closing;
+mod laws;
 mod opening;
 mod plays;
 mod rule;
@@ -13,6 +14,7 @@ mod wiring;
 
 pub use board::{Board, Draw, Look, Rest, Seat};
 pub use closing::Closed;
+pub use laws::quiet_is_final;
 
 // For the crates above.
 pub use closing::{join_all, split_all};

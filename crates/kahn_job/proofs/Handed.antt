@@ -1,5 +1,5 @@
 -- The ends of a channel come to the parameters that it is handed to.
-use Rattle.kahn_job.proofs.Common.{arith, ◌≡◌, ◌⊎◌, inl, inr, ℕ, ◌+◌, ◌<◌, List, [], length, refl, sym, ap, ◌∙◌, subst, true, false, Option, Some, None, IfSome, slice_set, slice_index_or, cases_eq, length-set, get_or-set_same, get_or-set_other, none-some, same_Some, Program, Role, Side, Inner, Input, Output, Network, Actual, Reads, Writes, Hands, network_of, instance_at, actual_at, role_at, IsWriter, IsReader, IsOnly, IsWithin, IsWellWired, side_at, IsFed, handed_within, reads, writes, Lists, is_output, Joins, End, ShareLane, Serves, end_at, AreJoinedOn, HasPlace, end_in, AreEndsOf, AreEndsSo, IsFresh, no_end, placed}
+use Rattle.kahn_job.proofs.Common.{arith, ◌≡◌, ◌⊎◌, inl, inr, ℕ, ◌+◌, ◌<◌, List, [], length, refl, sym, ap, ◌∙◌, subst, Option, Some, None, IfSome, slice_set, slice_index_or, cases_eq, length-set, get_or-set_same, get_or-set_other, none-some, same_Some, Program, Role, Side, Inner, Input, Output, Network, Actual, Reads, Writes, Hands, network_of, instance_at, actual_at, role_at, IsWriter, IsReader, IsOnly, IsWithin, IsWellWired, side_at, IsFed, handed_within, reads, writes, Joins, End, ShareLane, end_at, AreJoinedOn, HasPlace, end_in, AreEndsSo, no_end, placed}
 use Rattle.kahn_job.proofs.Settles.{is_inner}
 
 -- a row for each instance, in which the parameters have the ends of the first k channels, and what is so of those and of all
@@ -76,22 +76,8 @@ only_passes : (P : Side → Type 0) (side : Option Side) (s : Side) → IsOnly P
 only_passes P None s none e = absurd (none-some s e)
 only_passes P (Some u) s one e = subst P (same_Some _ _ e) one.0
 
-not_output : (r : Role) → (r ≡ Input → ⊥) → is_output r ≡ false → r ≡ Inner
-not_output Inner n e = refl
-not_output Input n e = absurd (n refl)
-not_output Output n e = let h : true ≡ false = e in absurd cc
-
 pub inner_is_not_input : {r : Role} → r ≡ Inner → r ≡ Input → ⊥
 inner_is_not_input a b = let e : Inner ≡ Input = sym a ∙ b in absurd cc
-
--- the ends of a new lane
-pub ends_so : (t : Program) (lists : Lists) (c : ℕ) (x y : End) → AreEndsOf t lists c x y → AreEndsSo t (Serves t lists) IsFresh c x y
-ends_so t lists c x y e = record {
-  puts = λ n o. let z = e.puts (not_output (role_at (network_of t) c) n o) in (z.0, z.1);
-  takes = e.takes;
-  lane = λ i. (e.puts i).2;
-  every = e.fresh;
-}
 
 module _ (t : Program) (wired : IsWellWired t) (so : Actual → End → Type 0) (whole : End → Type 0) (c : ℕ) (x y : End) (e : AreEndsSo t so whole c x y) where
   abbrev N : Network

@@ -1,7 +1,9 @@
 //! A task: a job as workers pass it on, with what they have to know of it.
 
 ghost use Rattle.std.specs.Prelude.{◌≡◌, ◌+◌, ◌*◌, ◌^◌, ◌<◌, ◌≤◌};
-ghost use Rattle.kahn_job.specs.inner.Words.{length, slice_set, OnOk, network_of, instance_at, site_code, count, AreCounts, site_of};
+ghost use Rattle.kahn_job.specs.inner.Words.{length, slice_set, OnOk, network_of, instance_at, site_code, count, AreCounts, WantsRoom, site_of};
+ghost use Rattle.kahn_code.specs.declared.progress.Pause.TheVariants.{NoMemory as IsRefused};
+ghost use Rattle.kahn_job.specs.inner.Ends.{HasRoom};
 ghost use Rattle.kahn_job.specs.inner.Berths.{HaveFlushed, IsWithinInput, end_at};
 ghost use Rattle.kahn_job.specs.inner.Idles.{CanGoOn};
 ghost use Rattle.kahn_job.specs.inner.Tasks.{Continues, IsTrueOf, standing_after, woken_task};
@@ -99,6 +101,8 @@ impl Task {
         ensures paused { HasPaused self.old.work self.new.work quantum result }
         ensures standing { self.new.standing ≡ standing_after result }
         ensures published { self.new.published ≡ self.old.published }
+        // If memory was refused, what it would send next has no room.
+        ensures refused { result ≡ IsRefused → WantsRoom self.new.work.cell (λ q. HasRoom (end_at self.new.work.ends q)) }
         // How many instructions were executed.
         ensures cost { steps.new ≤ steps.old + (quantum + 1) * length (site_code (site_of self.old.work.cell)) }
     {

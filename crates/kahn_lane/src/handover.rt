@@ -3,18 +3,30 @@
 //!
 //! A taker that finds nothing returns at once. No call ever blocks.
 
-ghost use Rattle.std.specs.Prelude.{◌≡◌, ◌+◌, ◌<◌, List, [], ◌∷◌, ◌++◌, length, IfOk, MatchResult, MatchOption};
+ghost use Rattle.std.specs.Prelude.{◌≡◌, ◌+◌, ◌<◌, List, [], ◌∷◌, ◌++◌, length, true, IfOk, MatchResult, MatchOption};
+ghost use Rattle.crossbeam_deque.specs.Handles.{worker_capacity, worker_flavor, worker_index, worker_view};
+ghost use Rattle.kahn_lane.specs.inner.RelayRule.{log};
 ghost use Rattle.kahn_lane.specs.RelayEnds.{giver_relay, taker_relay, given, got, known_given, ComesBack, SameRelay, WasEmpty};
 
 use crate::ends::{Blank, Giver, Got, InOrder, Log, Roles, Sent, Taker, Total};
 use crate::fault::LaneFault;
 use crossbeam_deque::{Steal, Worker};
 use kahn_streams::NoMemory;
-use std::alloc::Allocator;
+use std::alloc::{AllocError, Allocator};
 use std::mem;
 
 // How often a steal that met another one is tried again.
 const TRIES: usize = 64;
+
+// The deque of a new relay, with memory for one item.
+fn small_deque<T: Drop, A: Allocator + Clone + Drop>(
+    alloc: A,
+) -> Result<Worker<T, A, Log<T>, InOrder>, AllocError>
+    ensures small { IfOk result (λ w. worker_capacity w ≡ 1) }
+    ensures first { IfOk result (λ w. (worker_flavor w ≡ 0) × (worker_index w ≡ 0) × (worker_view w ≡ log true true 0 [] [])) }
+{
+    Worker::<T, A, Log<T>, InOrder>::fifo_as(alloc, 1)
+}
 
 /// Makes a relay. Its two ends may go to different threads. Nothing was given or taken yet.
 pub fn relay<T: Drop, A: Allocator + Clone + Drop>(
@@ -23,7 +35,7 @@ pub fn relay<T: Drop, A: Allocator + Clone + Drop>(
     ensures one { IfOk result (λ r. giver_relay r.0 ≡ taker_relay r.1) }
     ensures start { IfOk result (λ r. (given r.0 ≡ []) × (got r.1 ≡ []) × (known_given r.1 ≡ 0)) }
 {
-    let mut worker = Worker::<T, A, Log<T>, InOrder>::fifo_as(alloc, 1)?;
+    let mut worker = small_deque::<T, A>(alloc)?;
     let stealer = worker.stealer()?;
     let pass = worker.another::<Roles>();
     Ok((Giver { worker }, Taker { stealer, pass }))

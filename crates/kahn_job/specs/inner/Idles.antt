@@ -47,18 +47,16 @@ pub record HaveSettled (t : Program) (lists : Lists) (rows : List (List End)) : 
 abbrev pub IsFresh : End → Type 0
 IsFresh e = (e.next ≡ 0) × (e.flushed ≡ 0)
 
--- the two ends of a channel, the writer's and the reader's; of an inner channel they are those of one lane
-pub record AreEndsOf (t : Program) (lists : Lists) (c : ℕ) (writer reader : End) : Type 0 where
-  pub puts : role_at (network_of t) c ≡ Inner → (writer.writes ≡ true) × (writer.name ≡ Some (lane_name t lists c)) × ShareLane writer reader
-  pub takes : (role_at (network_of t) c ≡ Output → ⊥) → Serves t lists (Reads c) reader
-  pub fresh : IsFresh writer × IsFresh reader
-
 -- the two ends of a channel, and `so` holds of them; of an inner channel they are those of one lane
 pub record AreEndsSo (t : Program) (so : Actual → End → Type 0) (whole : End → Type 0) (c : ℕ) (writer reader : End) : Type 0 where
   pub puts : (role_at (network_of t) c ≡ Input → ⊥) → so (Writes c) writer
   pub takes : (role_at (network_of t) c ≡ Output → ⊥) → so (Reads c) reader
   pub lane : role_at (network_of t) c ≡ Inner → ShareLane writer reader
   pub every : whole writer × whole reader
+
+-- the two ends of a channel on which nothing was taken, put or flushed
+abbrev pub AreEndsOf : Program → Lists → ℕ → End → End → Type 0
+AreEndsOf t lists c writer reader = AreEndsSo t (Serves t lists) IsFresh c writer reader
 
 -- the end of a channel that is handed over stands where the queue of that stands
 abbrev pub StandsByQueue : Program → List Waiting → Actual → End → Type 0

@@ -10,7 +10,8 @@ returns-in-Ok c =
     subst (λ x. AreEndsOf c.args.network.now c.args.input.now c.args.channel x c.takes.result) (sym c.puts.ensures)
     (subst (λ y. AreEndsOf c.args.network.now c.args.input.now c.args.channel (putting s) y) (sym c.takes.ensures)
     (record {
-      puts = λ i. (refl, h.name.0, (receiver_lane r, ap Some h.lane, refl));
+      puts = λ n o. (refl, h.name.0);
       takes = λ n. (refl, h.name.1, λ i. absurd (inner_is_not_input (search rules) i));
-      fresh = ((h.start.0, h.start.1), (h.start.2, refl));
+      lane = λ i. (receiver_lane r, ap Some h.lane, refl);
+      every = ((h.start.0, h.start.1), (h.start.2, refl));
     }))

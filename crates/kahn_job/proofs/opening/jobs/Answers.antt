@@ -1,6 +1,6 @@
 use Rattle.kahn_job.proofs.Common.{◌≡◌, ℕ, ◌+◌, ap, arith, length, network_of, refl, subst, sym, ◌∙◌, rows_of, placed, IsFresh, Serves}
 use Rattle.kahn_job.proofs.Begun.{all_bare, all_opening}
-use Rattle.kahn_job.proofs.Handed.{AreHanded, ends_so, handed_more}
+use Rattle.kahn_job.proofs.Handed.{AreHanded, handed_more}
 use Rattle.kahn_job.proofs.opening.jobs.Goals as goal
 
 pub loop-channel-init : goal.loop-channel-init
@@ -14,7 +14,7 @@ loop-channel-preserved c =
     let w = c.in_ok-writer.writer in
     let r = c.in_ok-writer.reader in (
       subst (AreHanded t (Serves c.args.network.now c.args.input.now) IsFresh (c.loop-channel.channel + 1)) (sym (c.place-in-loop-channel.ensures.rows ∙ ap (λ rows. placed rows c.reader.result r) c.place.ensures.rows))
-          (handed_more t c.program-program.ensures.wired (Serves c.args.network.now c.args.input.now) IsFresh c.loop-channel.channel w r (ends_so t c.args.input.now c.loop-channel.channel w r c.in_ok-writer.ensures) (rows_of c.loop-channel.idles.items) i.0
+          (handed_more t c.program-program.ensures.wired (Serves c.args.network.now c.args.input.now) IsFresh c.loop-channel.channel w r c.in_ok-writer.ensures (rows_of c.loop-channel.idles.items) i.0
           c.writer.result c.reader.result c.writer.ensures.only c.reader.ensures.only),
       c.place-in-loop-channel.ensures.cells ∙ c.place.ensures.cells ∙ i.1,
     )

@@ -1,0 +1,51 @@
+-- Believed. The kinds of steps on the words of a board: who may make them, and what becomes of the words.
+use Rattle.std.specs.Prelude.{◌≡◌, ◌≢◌, ◌⊎◌, ℕ, ◌*◌, ◌<◌, List, length, slice_index, slice_set}
+use mathlib.Core.Option.{some}
+use lib.ListN.{get_elem?}
+use Rattle.kahn_board.specs.Plays.{IsIn}
+use Rattle.kahn_board.specs.Rule.{St, budget_at, channel_at, count_at, halted_at, wired}
+use Rattle.kahn_board.specs.Wires.{Wires}
+use Rattle.kahn_board.specs.declared.{rule.Terms.Terms, view.View.View}
+
+pub data StepKind : Type 0 where
+  -- `looks_ready`, `look`, `report_done`, and all that finds another number than it wants
+  loads : StepKind
+  -- `claim` of an instance
+  claims : ℕ → StepKind
+  -- `set_down` of an instance, whose word becomes that number
+  sets : ℕ → ℕ → StepKind
+  -- `park` or `publish` of an instance on a channel, whose word becomes that number
+  tells : ℕ → ℕ → ℕ → StepKind
+  -- `count_up`, `count_down`: the count becomes that number
+  pays : ℕ → StepKind
+  -- `draw`, `give_back`: the budget becomes that number
+  draws : ℕ → StepKind
+  -- `halt`
+  halts : StepKind
+
+-- a seat with the view v may make such a step, where these are the words
+abbrev pub MayMake : Wires → View → List ℕ → StepKind → Type 0
+MayMake w v words (claims p) = (p < w.instances) × (slice_index words (8 * p) ≡ 0)
+MayMake w v words (sets p k) = (p < w.instances) × IsIn v p
+MayMake w v words (tells p c k) = (p < w.instances) × IsIn v p
+MayMake w v words (pays k) = (0 < length v.owed) ⊎ (0 < v.down)
+MayMake w v words kind = Unit {0}
+
+abbrev pub words_after : Wires → List ℕ → StepKind → List ℕ
+words_after w words loads = words
+words_after w words (claims p) = slice_set words (8 * p) 1
+words_after w words (sets p k) = slice_set words (8 * p) k
+words_after w words (tells p c k) = slice_set words (channel_at w c) k
+words_after w words (pays k) = slice_set words (count_at w) k
+words_after w words (draws k) = slice_set words (budget_at w) k
+words_after w words halts = slice_set words (halted_at w) 1
+
+-- all words but the budget's and that of the halt are the same
+abbrev pub StaysQuiet : Wires → List ℕ → List ℕ → Type 0
+StaysQuiet w old new = (i : ℕ) → i ≢ budget_at w → i ≢ halted_at w → slice_index new i ≡ slice_index old i
+
+-- no kind of step of any seat changes another word
+abbrev pub StepsQuietly : {T : Type 0} → Terms T → St T → Type 0
+StepsQuietly key s =
+    (j : ℕ) (v : View) (k : StepKind) → get_elem? s.views j ≡ some v → MayMake (wired key) v s.words k →
+    StaysQuiet (wired key) s.words (words_after (wired key) s.words k)

@@ -1,0 +1,14 @@
+//! A law of the board. The function does nothing: its contract is the law.
+
+ghost use Rattle.std.specs.Prelude.{◌≡◌};
+ghost use Rattle.kahn_board.specs.Final.{StepsQuietly};
+ghost use Rattle.kahn_board.specs.Rule.{St, holds, count, wired};
+ghost use Rattle.kahn_board.specs.declared.rule.Terms.{Terms};
+
+use crate::rule::Told;
+
+/// A quiet run stays so: while the count is 0, no kind of step changes another word than those of the budget and of the halt, whichever seat
+/// makes it.
+pub fn quiet_is_final<T: Told>()
+    ensures { (key : Terms T) (s : St T) → holds T.told T.after key s → count (wired key) s.words ≡ 0 → StepsQuietly key s }
+{}
