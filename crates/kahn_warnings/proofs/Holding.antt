@@ -3,6 +3,7 @@ use mathlib.Core.Path.{fun_ext}
 use Rattle.std.proofs.Common.{◌≡◌, ◌∙◌, ℕ, zero, suc, ◌&&◌, Bool, true, false, Option, Some, None, Result, Ok, Err, neg_ℤ, not, ap, sym, refl, if◌then◌else◌}
 use Rattle.std.proofs.lemmas.Option.{none-some, same_Some}
 use Rattle.std.specs.Prelude.{int_div, int_rem}
+use Rattle.std.specs.Result.{result_err, result_ok}
 use Rattle.kahn_streams.specs.Syntax.{Expr, Literal, Variable, Wait, Negate, Not, Binary, Conditional, Stmt, If, While}
 use Rattle.kahn_streams.specs.declared.tree.Operator.{Operator}
 use Rattle.kahn_streams.specs.declared.value.Value.{Value}
@@ -13,13 +14,13 @@ use Rattle.kahn_streams.specs.declared.value.Failure.TheVariants.{Division}
 use Rattle.kahn_streams.specs.Arithmetic.{apply, is_zero, number, ranged, truth}
 use Rattle.kahn_streams.specs.Meaning.{Store, constant, exec, script_of, settle, turns_of, value_of}
 use Rattle.kahn_streams.specs.Script.{Fail, Give, Script, Tapes, Turns, play}
-use Rattle.kahn_warnings.specs.Constants.{ConstantsHold, bad, chosen, constant_of, divides, combined, good, inverted, negate_fault, negated, sure_fault}
+use Rattle.kahn_warnings.specs.Constants.{ConstantsHold, chosen, constant_of, divides, combined, inverted, negate_fault, negated, sure_fault}
 
-good_ok : (r : Result Value Failure) (v : Value) → good r ≡ Some v → r ≡ Ok v
+good_ok : (r : Result Value Failure) (v : Value) → result_ok r ≡ Some v → r ≡ Ok v
 good_ok (Ok w) v e = ap Ok (same_Some w v e)
 good_ok (Err k) v e = absurd (none-some v e)
 
-bad_err : (r : Result Value Failure) (k : Failure) → bad r ≡ Some k → r ≡ Err k
+bad_err : (r : Result Value Failure) (k : Failure) → result_err r ≡ Some k → r ≡ Err k
 bad_err (Ok w) k e = absurd (none-some k e)
 bad_err (Err j) k e = ap Err (same_Some j k e)
 

@@ -3,6 +3,7 @@ use Rattle.std.proofs.Common.{arith, ◌≡◌, ◌∙◌, ℕ, zero, suc, ℤ, 
 use Rattle.std.proofs.lemmas.Int.{ints, rem_below}
 use Rattle.std.proofs.Common.{Less as Before, Equal as Same, Greater as Behind}
 use Rattle.std.specs.Ordering.{is_eq}
+use Rattle.std.specs.Result.{result_err}
 use Rattle.std.proofs.Math.Nat.{div-le_self, div-lt_self}
 use Rattle.std.specs.Prelude.{cond, int_lt, unsigned_abs}
 use Rattle.kahn_streams.specs.declared.tree.Operator.{Operator}
@@ -12,7 +13,7 @@ use Rattle.kahn_streams.specs.declared.tree.Operator.TheVariants.{Or, And, Equal
 use Rattle.kahn_streams.specs.declared.value.Value.TheVariants.{Integer, Logical}
 use Rattle.kahn_streams.specs.declared.value.Failure.TheVariants.{Overflow, Division}
 use Rattle.kahn_streams.specs.Arithmetic.{apply, arithmetic, fits_64, is_zero, number, ranged}
-use Rattle.kahn_warnings.specs.Constants.{bad, divides}
+use Rattle.kahn_warnings.specs.Constants.{divides}
 use Rattle.kahn_warnings.specs.Faults.{IsOperand, IsOf64Bits, can_divide, can_fail, is_failure, operator_can, sign_can}
 
 true_not : (b : Bool) → b ≡ true → b ≡ false → ⊥
@@ -132,8 +133,8 @@ same_failure : (k : Failure) → is_failure k (Some k) ≡ true
 same_failure Overflow = refl
 same_failure Division = refl
 
-known : (k : Failure) (r : Result Value Failure) → is_failure k (bad r) ≡ false → r ≡ Err k → ⊥
-known k r h e = true_not (is_failure k (bad r)) (ap (λ x. is_failure k (bad x)) e ∙ same_failure k) h
+known : (k : Failure) (r : Result Value Failure) → is_failure k (result_err r) ≡ false → r ≡ Err k → ⊥
+known k r h e = true_not (is_failure k (result_err r)) (ap (λ x. is_failure k (result_err x)) e ∙ same_failure k) h
 
 pub operator : (k : Failure) (o : Operator) (l r : Option Value) → operator_can k o l r ≡ false → (v w : Value) → IsOperand l v → IsOperand r w → apply o v w ≡ Err k → ⊥
 operator k o None None h v w p q e = never k o v w h q e

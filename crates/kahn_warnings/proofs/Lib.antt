@@ -6,5 +6,4 @@ mod Unchanged
 mod Unseen
 mod Innocent
 mod Nowhere
-mod Placing
 mod Reading

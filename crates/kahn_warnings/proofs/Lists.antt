@@ -1,7 +1,5 @@
 -- The operands of a level and the statements of a block and of a body, one after another.
-use Rattle.std.proofs.Common.{◌≡◌, ◌||◌, ◌++◌, ◌∙◌, ℕ, Bool, true, false, List, [], ◌∷◌, Option, None, Some, if◌then◌else◌, refl, ap, flat_map}
-use Rattle.std.specs.Option.{option_or}
-use Rattle.kahn_streams.specs.declared.span.Span.{Span}
+use Rattle.std.proofs.Common.{◌≡◌, ◌||◌, ◌++◌, ◌∙◌, Bool, true, false, List, [], ◌∷◌, refl, ap, flat_map}
 use Rattle.kahn_streams.specs.Syntax.{Expr, Stmt}
 use Rattle.kahn_streams.specs.View.{Scope, body_of, expr_of, expression_of, level_of, row_of, statement_of, stmt_of}
 use Rattle.kahn_streams.specs.declared.tree.Form.{Row_of-Operand, end_of-Operand, more_of-Operand}
@@ -12,7 +10,7 @@ use Rattle.kahn_streams.specs.declared.tree.Form.TheBlock.{items-the_row-Operand
 use Rattle.kahn_streams.specs.declared.tree.Action.TheBlock.{items-the_row-Statement}
 use Rattle.kahn_warnings.specs.Loops.{is_seen, never_ends}
 use Rattle.kahn_warnings.specs.Uses.{any_varies_by, is_assigned_in, is_named, is_used_in, varies_by, waits_in}
-use Rattle.kahn_warnings.specs.Warnings.{block_items, first_standing, first_unreached, list_warnings, row_warnings, statement_warnings}
+use Rattle.kahn_warnings.specs.Warnings.{block_items, list_warnings, row_warnings, statement_warnings}
 use Rattle.kahn_warnings.specs.declared.warning.Warning.{Warning}
 
 or_assoc : (a b c : Bool) → ((a || b) || c) ≡ (a || (b || c))
@@ -105,24 +103,3 @@ pub block_statement : {m : _} (row : Row_of-Statement m) →
 block_statement {m = m} row =
     ap (λ ws. ws ++ list_warnings (block_items row)) (block_warned row)
     ∙ ap (λ ss. flat_map each (items-the_row-Statement m row) ++ list_warnings ss) (block_same row)
-
--- ---- where nothing stands behind a statement, nothing there is unreached
-
-none_further : (a b : Option Span) → option_or a b ≡ None → b ≡ None
-none_further None b h = h
-none_further (Some at) b h = absurd cc
-
-pub none_behind : (s : Statement) (rest : List Statement) → first_standing rest ≡ None → first_unreached (s ∷ rest) ≡ None
-none_behind s rest h = by (never_ends (statement_of [] s)) (all rest h)
-  where
-    all : (ss : List Statement) → first_standing ss ≡ None → first_unreached ss ≡ None
-    all [] g = refl
-    all (t ∷ ss) g = one (never_ends (statement_of [] t)) (none_further t.span (first_standing ss) g) (all ss (none_further t.span (first_standing ss) g))
-      where
-        one : (b : Bool) → first_standing ss ≡ None → first_unreached ss ≡ None → (if b then first_standing ss else first_unreached ss) ≡ None
-        one true i j = i
-        one false i j = j
-
-    by : (b : Bool) → first_unreached rest ≡ None → (if b then first_standing rest else first_unreached rest) ≡ None
-    by true g = h
-    by false g = g

@@ -1,6 +1,7 @@
 -- A body without a place never ends with that fault.
-use Rattle.std.proofs.Common.{arith, ◌≡◌, ◌∙◌, ℕ, zero, suc, neg_ℤ, ◌++◌, ◌==◌, not, Bool, true, false, List, [], ◌∷◌, Option, Some, None, Result, Ok, Err, refl, sym, ap, subst, slice_set, if◌then◌else◌}
+use Rattle.std.proofs.Common.{arith, ◌≡◌, ◌∙◌, ℕ, zero, suc, neg_ℤ, ◌++◌, ◌==◌, not, Bool, true, false, List, [], ◌∷◌, Option, Some, None, Result, Ok, Err, refl, sym, ap, flat_map, subst, slice_set, if◌then◌else◌}
 use Rattle.std.specs.List.{AllByRecursion}
+use Rattle.std.specs.Result.{result_ok}
 use Rattle.kahn_streams.specs.declared.span.Span.{Span}
 use Rattle.kahn_streams.specs.declared.tree.Operator.{Operator}
 use Rattle.kahn_streams.specs.declared.tree.Form.{Form, Negate', Not', Bracket', Level', Conditional', Row_of-Operand, end_of-Operand, more_of-Operand}
@@ -21,8 +22,10 @@ use Rattle.kahn_streams.specs.declared.value.Line.TheVariants as line
 use Rattle.kahn_streams.specs.Solution.{Faulted, HasEnd, Histories, Inputs, ending, exec_at, fed, goes_to, input_list, iterate, opening, out, source, tape_of, tapes_of, values_at}
 use Rattle.kahn_streams.specs.Meaning.{Store, constant, exec, read, script_of, settle, turns_of, value_of}
 use Rattle.kahn_streams.specs.Script.{Cut, Dry, Fail, Fault, Give, Got, Outcome, Port, Reached, Rest, Script, Sends, Tapes, Turns, Waits, play, put, wait_at}
-use Rattle.kahn_warnings.specs.Constants.{chosen, combined, constant_of, good, inverted, negated}
-use Rattle.kahn_warnings.specs.Faults.{AreNumbersOf64, AreOf64Bits, FaultsLie, IsWrittenIn64, AreWrittenIn64, IsOperand, IsOf64Bits, action_places, else_places, fault_places, form_places, level_places, operator_can, place_where, row_places, sign_can}
+use Rattle.kahn_warnings.specs.Constants.{chosen, combined, constant_of, inverted, negated}
+use Rattle.kahn_warnings.specs.Faults.{AreNumbersOf64, AreOf64Bits, FaultsLie, IsWrittenIn64, AreWrittenIn64, IsOperand, IsOf64Bits, fault_places, operator_can, place_where, sign_can, site_places}
+use Rattle.kahn_warnings.specs.Sites.{action_sites, else_sites, form_sites, level_sites, row_sites}
+use Rattle.kahn_warnings.specs.declared.sites.ConstantSite.{ConstantSite}
 use Rattle.kahn_warnings.proofs.Innocent as innocent
 
 -- ---- expressions and statements none of whose operators can have such a fault
@@ -98,7 +101,7 @@ short_of (Some u) v p = p.0
 negated_is : (o : Option Value) (v u : Value) → IsOperand o v → ranged (neg_ℤ (number v)) ≡ Ok u → IsOperand (negated o) u
 negated_is None v u p e = innocent.ranged_short (neg_ℤ (number v)) u e
 negated_is (Some w) v u p e =
-    subst (λ r. IsOperand (good r) u) (sym e ∙ ap (λ x. ranged (neg_ℤ (number x))) p.1) (innocent.ranged_short (neg_ℤ (number v)) u e, refl)
+    subst (λ r. IsOperand (result_ok r) u) (sym e ∙ ap (λ x. ranged (neg_ℤ (number x))) p.1) (innocent.ranged_short (neg_ℤ (number v)) u e, refl)
 
 inverted_is : (o : Option Value) (v : Value) → IsOperand o v → IsOperand (inverted o) (Logical (not (truth v)))
 inverted_is None v p = refl
@@ -108,7 +111,7 @@ combined_is : (o : Operator) (l r : Option Value) (v w u : Value) → IsOperand 
 combined_is o None r v w u p q e = innocent.apply_short o v w u e
 combined_is o (Some a) None v w u p q e = innocent.apply_short o v w u e
 combined_is o (Some a) (Some b) v w u p q e =
-    subst (λ x. IsOperand (good x) u) (sym e ∙ (λ i. apply o (p.1 i) (q.1 i))) (innocent.apply_short o v w u e, refl)
+    subst (λ x. IsOperand (result_ok x) u) (sym e ∙ (λ i. apply o (p.1 i) (q.1 i))) (innocent.apply_short o v w u e, refl)
 
 read_short : (s : Store) (x : ℕ) → AllByRecursion IsOf64Bits s → IsOf64Bits (read s x)
 read_short [] x h = refl
@@ -181,51 +184,40 @@ put_short T q vs h i r = by (r == q)
     by true = i
     by false = h r
 
-taken_free : {A : Type 0} (k : Failure) (n q : ℕ) (T : Tapes) (vs : List Value) (go : ℕ → Value → Tapes → Reached A) → ((r : ℕ) → AllByRecursion IsOf64Bits (T r)) → AllByRecursion IsOf64Bits vs
-    → ((m : ℕ) (v : Value) (U : Tapes) → IsOf64Bits v → ((r : ℕ) → AllByRecursion IsOf64Bits (U r)) → (go m v U).outcome ≡ Fault k → ⊥)
-    → (wait_at n q T vs go).outcome ≡ Fault k → ⊥
-taken_free k n q T [] go h i f e = cc
-taken_free k zero q T (v ∷ vs) go h i f e = cc
-taken_free k (suc n) q T (v ∷ vs) go h i f e = f n v (put T q vs) i.0 (put_short T q vs h i.1) e
-
-play_free : {A : Type 0} (B : Failure → Type 0) (n : ℕ) (c : Script A) (T : Tapes) (k : Failure) → IsFree B c → ((q : ℕ) → AllByRecursion IsOf64Bits (T q)) → (play n c T).outcome ≡ Fault k → B k → ⊥
-play_free B n (Give a) T k f h e b = cc
-play_free B n (Fail j) T k f h e b =
-    let is : k ≡ j = cc in
-    f (subst B is b)
-play_free B n (Waits q go) T k f h e b =
-    taken_free k n q T (T q) (λ m v U. play m (go v) U) h (h q) (λ m v U s i is. play_free B m (go v) U k (f v s) i is b) e
-play_free B zero (Sends p v c) T k f h e b = cc
-play_free B (suc n) (Sends p v c) T k f h e b = play_free B n c T k f.1 h e b
-play_free B zero (Turns c) T k f h e b = cc
-play_free B (suc n) (Turns c) T k f h e b = play_free B n c T k f h e b
-play_free B n Rest T k f h e b = cc
-
--- ---- what is sent
-
 abbrev AreSentIn64 : List (Port × Value) → Type 0
 AreSentIn64 xs = AllByRecursion (λ x. IsOf64Bits x.1) xs
 
-taken_sent : {A : Type 0} (n q : ℕ) (T : Tapes) (vs : List Value) (go : ℕ → Value → Tapes → Reached A) → ((r : ℕ) → AllByRecursion IsOf64Bits (T r)) → AllByRecursion IsOf64Bits vs
-    → ((m : ℕ) (v : Value) (U : Tapes) → IsOf64Bits v → ((r : ℕ) → AllByRecursion IsOf64Bits (U r)) → AreSentIn64 (go m v U).sent)
-    → AreSentIn64 (wait_at n q T vs go).sent
-taken_sent n q T [] go h i f = tt
-taken_sent zero q T (v ∷ vs) go h i f = tt
-taken_sent (suc n) q T (v ∷ vs) go h i f = f n v (put T q vs) i.0 (put_short T q vs h i.1)
+-- no such fault came, and what is sent
+abbrev CameFree : {A : Type 0} → (Failure → Type 0) → Reached A → Type 0
+CameFree B r = ((k : Failure) → r.outcome ≡ Fault k → B k → ⊥) × AreSentIn64 r.sent
 
-play_sent : {A : Type 0} (B : Failure → Type 0) (n : ℕ) (c : Script A) (T : Tapes) → IsFree B c → ((q : ℕ) → AllByRecursion IsOf64Bits (T q)) → AreSentIn64 (play n c T).sent
-play_sent B n (Give a) T f h = tt
-play_sent B n (Fail j) T f h = tt
-play_sent B n (Waits q go) T f h = taken_sent n q T (T q) (λ m v U. play m (go v) U) h (h q) (λ m v U s i. play_sent B m (go v) U (f v s) i)
-play_sent B zero (Sends p v c) T f h = tt
-play_sent B (suc n) (Sends p v c) T f h = (f.0, play_sent B n c T f.1 h)
-play_sent B zero (Turns c) T f h = tt
-play_sent B (suc n) (Turns c) T f h = play_sent B n c T f h
-play_sent B n Rest T f h = tt
+taken_free : {A : Type 0} (B : Failure → Type 0) (n q : ℕ) (T : Tapes) (vs : List Value) (go : ℕ → Value → Tapes → Reached A)
+    → ((r : ℕ) → AllByRecursion IsOf64Bits (T r)) → AllByRecursion IsOf64Bits vs
+    → ((m : ℕ) (v : Value) (U : Tapes) → IsOf64Bits v → ((r : ℕ) → AllByRecursion IsOf64Bits (U r)) → CameFree B (go m v U)) → CameFree B (wait_at n q T vs go)
+taken_free B n q T [] go h i f = (λ k e b. cc, tt)
+taken_free B zero q T (v ∷ vs) go h i f = (λ k e b. cc, tt)
+taken_free B (suc n) q T (v ∷ vs) go h i f = f n v (put T q vs) i.0 (put_short T q vs h i.1)
+
+failed : {A : Type 0} (B : Failure → Type 0) (j k : Failure) → (B j → ⊥) → ◌≡◌ {A = Outcome A} (Fault j) (Fault k) → B k → ⊥
+failed B j k f e b =
+    let is : k ≡ j = cc in
+    f (subst B is b)
+
+play_free : {A : Type 0} (B : Failure → Type 0) (n : ℕ) (c : Script A) (T : Tapes) → IsFree B c → ((q : ℕ) → AllByRecursion IsOf64Bits (T q)) → CameFree B (play n c T)
+play_free B n (Give a) T f h = (λ k e b. cc, tt)
+play_free B n (Fail j) T f h = (λ k e b. failed B j k f e b, tt)
+play_free B n (Waits q go) T f h = taken_free B n q T (T q) (λ m v U. play m (go v) U) h (h q) (λ m v U s i. play_free B m (go v) U (f v s) i)
+play_free B zero (Sends p v c) T f h = (λ k e b. cc, tt)
+play_free B (suc n) (Sends p v c) T f h =
+    let came = play_free B n c T f.1 h in
+    (came.0, (f.0, came.1))
+play_free B zero (Turns c) T f h = (λ k e b. cc, tt)
+play_free B (suc n) (Turns c) T f h = play_free B n c T f h
+play_free B n Rest T f h = (λ k e b. cc, tt)
 
 exec_sent : (n : ℕ) (b : Stmt) (s : Store) (T : Tapes) → AreOf64Bits b s T → AreSentIn64 (exec n b s T).sent
 exec_sent n b s T are =
-    play_sent None_of n (script_of n b s Give) T (script_free None_of n b s Give (any_statement b) are.written are.stored (λ r i. tt)) are.taken
+    (play_free None_of n (script_of n b s Give) T (script_free None_of n b s Give (any_statement b) are.written are.stored (λ r i. tt)) are.taken).1
 
 values_short : (here : Port → Bool) (xs : List (Port × Value)) → AreSentIn64 xs → AllByRecursion IsOf64Bits (values_at here xs)
 values_short here [] h = tt
@@ -272,9 +264,19 @@ no_more : {A : Type 0} (xs ys : List A) → xs ++ ys ≡ [] → (xs ≡ []) × (
 no_more [] ys e = (refl, e)
 no_more (x ∷ xs) ys e = absurd cc
 
-no_place : (c : Bool) (at : Span) → place_where c at ≡ [] → c ≡ false
-no_place true at e = absurd cc
-no_place false at e = refl
+one_place : (c : Bool) (at : Span) (rest : List Span) → place_where c at ++ rest ≡ [] → (c ≡ false) × (rest ≡ [])
+one_place true at rest e = absurd cc
+one_place false at rest e = (refl, e)
+
+abbrev places : Failure → List ConstantSite → List Span
+places k sites = flat_map (site_places k) sites
+
+parted : (k : Failure) (xs ys : List ConstantSite) → places k (xs ++ ys) ≡ [] → (places k xs ≡ []) × (places k ys ≡ [])
+parted k [] ys e = (refl, e)
+parted k (x ∷ xs) ys e =
+    let are = no_more (site_places k x) (places k (xs ++ ys)) e in
+    let both = parted k xs ys are.1 in
+    ((λ i. are.0 i ++ both.0 i), both.1)
 
 mutual
   same_constant : (names : Scope) (f : Form) → constant_of (expr_of names f) ≡ constant_of (expr_of [] f)
@@ -299,71 +301,71 @@ no_operator : (k : Failure) (o : Operator) (l r : Option Value) → operator_can
 no_operator k o l r h v w p q j e is = innocent.operator k o l r h v w p q (e ∙ ap Err is)
 
 mutual
-  none_form : (k : Failure) (names : Scope) (f : Form) → form_places k f ≡ [] → IsInnocent (λ j. j ≡ k) (expr_of names f)
+  none_form : (k : Failure) (names : Scope) (f : Form) → places k (form_sites f) ≡ [] → IsInnocent (λ j. j ≡ k) (expr_of names f)
   none_form k names (form.Number z) h = tt
   none_form k names (form.Logical b) h = tt
   none_form k names (form.Variable x) h = tt
   none_form k names (form.Wait q) h = tt
   none_form k names (Negate' p at e) h =
-      let are = no_more (form_places k e) _ h in
-      (none_form k names e are.0, no_sign k (constant_of (expr_of names e)) (ap (sign_can k) (same_constant names e) ∙ no_place _ at are.1))
+      let are = parted k (form_sites e) _ h in
+      (none_form k names e are.0, no_sign k (constant_of (expr_of names e)) (ap (sign_can k) (same_constant names e) ∙ (one_place (sign_can k (constant_of (expr_of [] e))) at [] are.1).0))
   none_form k names (Not' p at e) h = none_form k names e h
   none_form k names (Bracket' p at e) h = none_form k names e h
   none_form k names (Level' p at e shape rest) h =
-      let are = no_more (form_places k e) _ h in
-      none_level k names (expr_of names e) rest (none_form k names e are.0) (ap (λ l. level_places k l rest) (same_constant names e) ∙ are.1)
+      let are = parted k (form_sites e) _ h in
+      none_level k names (expr_of names e) rest (none_form k names e are.0) (ap (λ l. places k (level_sites l rest)) (same_constant names e) ∙ are.1)
   none_form k names (Conditional' p at t q at' a r at'' b) h =
-      let are = no_more (form_places k t) _ h in
-      let both = no_more (form_places k a) _ are.1 in
+      let are = parted k (form_sites t) (form_sites a ++ form_sites b) h in
+      let both = parted k (form_sites a) _ are.1 in
       (none_form k names t are.0, none_form k names a both.0, none_form k names b both.1)
 
-  none_level : {m : _} (k : Failure) (names : Scope) (first : Expr) (row : Row_of-Operand m) → IsInnocent (λ j. j ≡ k) first → level_places k (constant_of first) row ≡ [] →
+  none_level : {m : _} (k : Failure) (names : Scope) (first : Expr) (row : Row_of-Operand m) → IsInnocent (λ j. j ≡ k) first → places k (level_sites (constant_of first) row) ≡ [] →
       IsInnocent (λ j. j ≡ k) (level_of names first row)
   none_level k names first end_of-Operand i h = i
   none_level k names first (more_of-Operand o at e rest) i h =
-      let are = no_more (form_places k e) _ h in
-      let both = no_more (place_where (operator_can k o (constant_of first) (constant_of (expr_of [] e))) at) _ are.1 in
+      let are = parted k (form_sites e) _ h in
+      let both = one_place (operator_can k o (constant_of first) (constant_of (expr_of [] e))) at (places k (level_sites (combined o (constant_of first) (constant_of (expr_of [] e))) rest)) are.1 in
       none_level k names (Binary o first (expr_of names e)) rest
-      (i, none_form k names e are.0, no_operator k o (constant_of first) (constant_of (expr_of names e)) (ap (operator_can k o (constant_of first)) (same_constant names e) ∙ no_place _ at both.0))
-      (ap (λ r. level_places k (combined o (constant_of first) r) rest) (same_constant names e) ∙ both.1)
+      (i, none_form k names e are.0, no_operator k o (constant_of first) (constant_of (expr_of names e)) (ap (operator_can k o (constant_of first)) (same_constant names e) ∙ both.0))
+      (ap (λ r. places k (level_sites (combined o (constant_of first) r) rest)) (same_constant names e) ∙ both.1)
 
 mutual
-  none_action : (k : Failure) (names : Scope) (a : Action) → action_places k a ≡ [] → AreInnocent (λ j. j ≡ k) (stmt_of names a)
+  none_action : (k : Failure) (names : Scope) (a : Action) → places k (action_sites a) ≡ [] → AreInnocent (λ j. j ≡ k) (stmt_of names a)
   none_action k names action.Empty h = tt
   none_action k names (action.Assign x e) h = none_form k names e.form h
   none_action k names (action.Send e q) h = none_form k names e.form h
   none_action k names (action.Print e) h = none_form k names e.form h
   none_action k names (Block' shape row) h = none_row k names row h
   none_action k names (If' t p at a b) h =
-      let are = no_more (form_places k t.form) _ h in
-      let both = no_more (action_places k a) _ are.1 in
+      let are = parted k (form_sites t.form) (action_sites a ++ else_sites b) h in
+      let both = parted k (action_sites a) _ are.1 in
       (none_form k names t.form are.0, none_action k names a both.0, none_else k names b both.1)
   none_action k names (While' t p at a) h =
-      let are = no_more (form_places k t.form) _ h in
+      let are = parted k (form_sites t.form) (action_sites a) h in
       (none_form k names t.form are.0, none_action k names a are.1)
   none_action k names (Repeat' p at a) h = none_action k names a h
 
-  none_row : {m : _} (k : Failure) (names : Scope) (row : Row_of-Statement m) → row_places k row ≡ [] → AreInnocent (λ j. j ≡ k) (row_of names row)
+  none_row : {m : _} (k : Failure) (names : Scope) (row : Row_of-Statement m) → places k (row_sites row) ≡ [] → AreInnocent (λ j. j ≡ k) (row_of names row)
   none_row k names end_of-Statement h = tt
   none_row k names (more_of-Statement at a rest) h =
-      let are = no_more (action_places k a) _ h in
+      let are = parted k (action_sites a) _ h in
       (none_action k names a are.0, none_row k names rest are.1)
 
-  none_else : (k : Failure) (names : Scope) (b : Held-Action-If-2) → else_places k b ≡ [] → AreInnocent (λ j. j ≡ k) (else_of names b)
+  none_else : (k : Failure) (names : Scope) (b : Held-Action-If-2) → places k (else_sites b) ≡ [] → AreInnocent (λ j. j ≡ k) (else_of names b)
   none_else k names None' h = tt
   none_else k names (Some' p at a) h = none_action k names a h
 
 none_body : (k : Failure) (names : Scope) (ss : List Statement) → fault_places k ss ≡ [] → AreInnocent (λ j. j ≡ k) (body_of names ss)
 none_body k names [] h = tt
 none_body k names (s ∷ ss) h =
-    let are = no_more (action_places k s.action) _ h in
+    let are = parted k (action_sites s.action) _ h in
     (none_action k names s.action are.0, none_body k names ss are.1)
 
 nowhere : (k : Failure) (names : Scope) (ss : List Statement) → fault_places k ss ≡ [] → (n : ℕ) (s : Store) (T : Tapes) → AreOf64Bits (body_of names ss) s T
     → (exec n (body_of names ss) s T).outcome ≡ Fault k → ⊥
 nowhere k names ss h n s T are e =
-    play_free (λ j. j ≡ k) n (script_of n (body_of names ss) s Give) T k
-    (script_free (λ j. j ≡ k) n (body_of names ss) s Give (none_body k names ss h) are.written are.stored (λ r i. tt)) are.taken e refl
+    (play_free (λ j. j ≡ k) n (script_of n (body_of names ss) s Give) T
+    (script_free (λ j. j ≡ k) n (body_of names ss) s Give (none_body k names ss h) are.written are.stored (λ r i. tt)) are.taken).0 k e refl
 
 ended : {A : Type 0} (x : Outcome A) (k : Failure) → ending x ≡ Some (Faulted k) → x ≡ Fault k
 ended (Got a) k e = absurd cc

@@ -22,7 +22,7 @@ right : (x y : Bool) → y ≡ true → (x || y) ≡ true
 right true y h = refl
 right false y h = h
 
-neither : (x y : Bool) → (x || y) ≡ false → (x ≡ false) × (y ≡ false)
+pub neither : (x y : Bool) → (x || y) ≡ false → (x ≡ false) × (y ≡ false)
 neither true y h = absurd cc
 neither false y h = (refl, h)
 
@@ -118,7 +118,7 @@ same_result (Conditional t a b) s r h is =
 
 -- ---- a statement that gives these names no value goes on alike where what is behind it does for all values that agree
 
-same_branch : {A : Type 0} (c : Bool) (x y x' y' : Script A) → x ≡ x' → y ≡ y' →
+pub same_branch : {A : Type 0} (c : Bool) (x y x' y' : Script A) → x ≡ x' → y ≡ y' →
     ◌≡◌ {A = Script A} (elim c [ true ↦ x | false ↦ y ]) (elim c [ true ↦ x' | false ↦ y' ])
 same_branch true x y x' y' h g = h
 same_branch false x y x' y' h g = g

@@ -10,7 +10,7 @@ use Rattle.kahn_streams.specs.Meaning.{Store, script_of, settle, turns_of, value
 use Rattle.kahn_streams.specs.Script.{Fail, Give, Rest, Script, Sends, Tapes, Turns, Waits, play}
 use Rattle.kahn_warnings.specs.Constants.{constant_of, is_true}
 use Rattle.kahn_warnings.proofs.Holding.{holds}
-use Rattle.kahn_warnings.proofs.Unchanged.{kept_value, never_left}
+use Rattle.kahn_warnings.proofs.Unchanged.{kept_value, neither, never_left, same_branch}
 use Rattle.kahn_warnings.specs.Loops.{LoopsHold, is_seen, never_ends}
 use Rattle.kahn_warnings.specs.Uses.{waits_in}
 
@@ -22,16 +22,7 @@ both : (x y : Bool) → (x && y) ≡ true → (x ≡ true) × (y ≡ true)
 both true y h = (refl, h)
 both false y h = absurd cc
 
-neither : (x y : Bool) → (x || y) ≡ false → (x ≡ false) × (y ≡ false)
-neither true y h = absurd cc
-neither false y h = (refl, h)
-
 -- ---- whatever comes behind one that never ends
-
-same_branch : {A : Type 0} (c : Bool) (x y x' y' : Script A) → x ≡ x' → y ≡ y' →
-    ◌≡◌ {A = Script A} (elim c [ true ↦ x | false ↦ y ]) (elim c [ true ↦ x' | false ↦ y' ])
-same_branch true x y x' y' h g = h
-same_branch false x y x' y' h g = g
 
 repeated : {A : Type 0} (j k : ℕ) (a : Stmt) (s : Store) (f g : Store → Script A) →
     turns_of j (λ r go. go (Logical true)) (λ r go. script_of k a r go) s f ≡ turns_of j (λ r go. go (Logical true)) (λ r go. script_of k a r go) s g

@@ -1,5 +1,5 @@
 -- Believed. Comments that go on over a line's end, and have the beginning of a statement behind that.
-use Rattle.std.specs.Prelude.{ℕ, false, List, [], ◌∷◌}
+use Rattle.std.specs.Prelude.{ℕ, false, List, [], ◌∷◌, ◌++◌}
 use Rattle.kahn_streams.specs.declared.span.Span.{Span}
 use Rattle.kahn_wanted.specs.Comments.{AreComments}
 use Rattle.kahn_wanted.specs.Swallowing.{Swallows}
@@ -12,9 +12,10 @@ comment_warning c = record { kind = LongComment; span = c }
 -- these are the warnings of comments of a text, in order
 pub data CommentWarnings (text : List ℕ) : List Span → List Warning → Type 0 where
   no_comment : CommentWarnings text [] []
-  passed_over : {c : Span} {cs : List Span} {ws : List Warning} → ¬ (Swallows false text c.from c.to) → CommentWarnings text cs ws → CommentWarnings text (c ∷ cs) ws
-  warned_of : {c : Span} {cs : List Span} {ws : List Warning} → Swallows false text c.from c.to → CommentWarnings text cs ws →
-      CommentWarnings text (c ∷ cs) (comment_warning c ∷ ws)
+  passed_over : {cs : List Span} {ws : List Warning} {c : Span} → CommentWarnings text cs ws → ¬ (Swallows false text c.from c.to) →
+      CommentWarnings text (cs ++ c ∷ []) ws
+  warned_of : {cs : List Span} {ws : List Warning} {c : Span} → CommentWarnings text cs ws → Swallows false text c.from c.to →
+      CommentWarnings text (cs ++ c ∷ []) (ws ++ comment_warning c ∷ [])
 
 -- of all its comments
 abbrev pub AreCommentWarnings : List ℕ → List Warning → Type 0

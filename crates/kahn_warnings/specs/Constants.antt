@@ -1,33 +1,26 @@
 -- Believed. What is warned of constants: operators that fail wherever they are reached, and tests that come out one way.
-use Rattle.std.specs.Prelude.{◌≡◌, ℕ, Bool, true, false, not, ◌&&◌, neg_ℤ, List, [], ◌++◌, Option, Some, None, Result, Ok, Err, if◌then◌else◌}
+use Rattle.std.specs.Result.{result_err, result_ok}
+use Rattle.std.specs.Prelude.{◌≡◌, ℕ, Bool, true, false, not, ◌&&◌, neg_ℤ, Option, Some, None, if◌then◌else◌}
 use Rattle.kahn_streams.specs.declared.tree.Operator.{Operator}
-use Rattle.kahn_streams.specs.declared.tree.Form.{Form, Number, Logical, Variable, Wait, Negate', Not', Bracket', Level', Conditional', Row_of-Operand, end_of-Operand, more_of-Operand}
-use Rattle.kahn_streams.specs.declared.tree.Action.{Action, Empty, Assign, Send, Print, Block', If', While', Repeat', Row_of-Statement, end_of-Statement, more_of-Statement, Held-Action-If-2, None', Some'}
 use Rattle.kahn_streams.specs.declared.value.Value.{Value}
 use Rattle.kahn_streams.specs.declared.value.Failure.{Failure}
 use Rattle.kahn_streams.specs.declared.tree.Operator.TheVariants.{Divide, Remainder}
 use Rattle.kahn_streams.specs.Syntax as S
-use Rattle.kahn_streams.specs.View.{expr_of, expression_of}
 use Rattle.kahn_streams.specs.declared.value.Value.TheVariants as value
 use Rattle.kahn_streams.specs.declared.value.Failure.TheVariants.{Overflow, Division}
 use Rattle.kahn_streams.specs.Arithmetic.{apply, is_zero, number, ranged, truth}
 use Rattle.kahn_streams.specs.Meaning.{Store, constant, eval, exec, value_of}
 use Rattle.kahn_streams.specs.Script.{Fail, Fault, Give, Got, Tapes, Turns, at_once, play}
-use Rattle.kahn_warnings.specs.Uses.{is_empty, varies_by}
-use Rattle.kahn_warnings.specs.Warned.{warned_if}
-use Rattle.kahn_warnings.specs.declared.warning.Warning.{Warning}
+use Rattle.kahn_warnings.specs.declared.sites.SiteKind.{SiteKind}
+use Rattle.kahn_warnings.specs.declared.sites.SiteKind.TheVariants.{Sign, Binary, Test, Turn}
 use Rattle.kahn_warnings.specs.declared.warning.WarningKind.{WarningKind}
 use Rattle.kahn_warnings.specs.declared.warning.WarningKind.TheVariants.{Divides, Overflows, AlwaysTrue, AlwaysFalse, Unchanged, BareDo}
 
 -- ---- the value that an expression has wherever it is reached, where that is told
 
-abbrev pub good : Result Value Failure → Option Value
-good (Ok v) = Some v
-good (Err k) = None
-
 abbrev pub negated : Option Value → Option Value
 negated None = None
-negated (Some v) = good (ranged (neg_ℤ (number v)))
+negated (Some v) = result_ok (ranged (neg_ℤ (number v)))
 
 abbrev pub inverted : Option Value → Option Value
 inverted None = None
@@ -36,7 +29,7 @@ inverted (Some v) = Some (value.Logical (not (truth v)))
 abbrev pub combined : Operator → Option Value → Option Value → Option Value
 combined o None w = None
 combined o (Some v) None = None
-combined o (Some v) (Some w) = good (apply o v w)
+combined o (Some v) (Some w) = result_ok (apply o v w)
 
 abbrev pub chosen : Option Value → Option Value → Option Value → Option Value
 chosen None a b = None
@@ -58,13 +51,9 @@ is_true (Some v) = truth v
 
 -- ---- the fault that an operator has wherever its operands have their values
 
-abbrev pub bad : Result Value Failure → Option Failure
-bad (Ok v) = None
-bad (Err k) = Some k
-
 abbrev pub negate_fault : Option Value → Option Failure
 negate_fault None = None
-negate_fault (Some v) = bad (ranged (neg_ℤ (number v)))
+negate_fault (Some v) = result_err (ranged (neg_ℤ (number v)))
 
 abbrev pub divides : Operator → Bool
 divides Divide = true
@@ -75,7 +64,7 @@ divides o = false
 abbrev pub sure_fault : Operator → Option Value → Option Value → Option Failure
 sure_fault o v None = None
 sure_fault o None (Some w) = if divides o && is_zero (number w) then Some Division else None
-sure_fault o (Some v) (Some w) = bad (apply o v w)
+sure_fault o (Some v) (Some w) = result_err (apply o v w)
 
 abbrev pub fault_kind : Option Failure → Option WarningKind
 fault_kind None = None
@@ -93,50 +82,12 @@ abbrev pub turn_kind : Option Value → Bool → Bool → Option WarningKind
 turn_kind None varies empty = if varies then None else Some (if empty then BareDo else Unchanged)
 turn_kind (Some v) varies empty = if truth v then None else Some AlwaysFalse
 
--- ---- in an expression: of an operator its right operand is told, or its only one
-
-abbrev mutual
-  pub expression_warnings : Form → List Warning
-  expression_warnings (Number z) = []
-  expression_warnings (Logical b) = []
-  expression_warnings (Variable x) = []
-  expression_warnings (Wait q) = []
-  expression_warnings (Negate' p at e) = expression_warnings e ++ warned_if (fault_kind (negate_fault (constant_of (expr_of [] e)))) at
-  expression_warnings (Not' p at e) = expression_warnings e
-  expression_warnings (Bracket' p at e) = expression_warnings e
-  expression_warnings (Level' p at e shape rest) = expression_warnings e ++ level_warnings (constant_of (expr_of [] e)) rest
-  expression_warnings (Conditional' p at t q at' a r at'' b) =
-      warned_if (test_kind (constant_of (expr_of [] t))) at ++ (expression_warnings t ++ (expression_warnings a ++ expression_warnings b))
-
-  -- behind operands with this value
-  pub level_warnings : {m : _} → Option Value → Row_of-Operand m → List Warning
-  level_warnings left end_of-Operand = []
-  level_warnings left (more_of-Operand o at e rest) =
-      expression_warnings e
-      ++ (warned_if (fault_kind (sure_fault o left (constant_of (expr_of [] e)))) at ++ level_warnings (combined o left (constant_of (expr_of [] e))) rest)
-
--- ---- in a statement
-
-abbrev mutual
-  pub constant_warnings : Action → List Warning
-  constant_warnings Empty = []
-  constant_warnings (Assign x e) = expression_warnings e.form
-  constant_warnings (Send e q) = expression_warnings e.form
-  constant_warnings (Print e) = expression_warnings e.form
-  constant_warnings (Block' shape row) = row_constants row
-  constant_warnings (If' t p at a b) =
-      warned_if (test_kind (constant_of (expression_of [] t))) t.span ++ (expression_warnings t.form ++ (constant_warnings a ++ else_constants b))
-  constant_warnings (While' t p at a) =
-      warned_if (turn_kind (constant_of (expression_of [] t)) (varies_by a t.form) (is_empty a)) t.span ++ (expression_warnings t.form ++ constant_warnings a)
-  constant_warnings (Repeat' p at a) = constant_warnings a
-
-  pub row_constants : {m : _} → Row_of-Statement m → List Warning
-  row_constants end_of-Statement = []
-  row_constants (more_of-Statement at a rest) = constant_warnings a ++ row_constants rest
-
-  pub else_constants : Held-Action-If-2 → List Warning
-  else_constants None' = []
-  else_constants (Some' p at a) = constant_warnings a
+-- what is warned of an operator or of a test
+abbrev pub site_kind : SiteKind → Option WarningKind
+site_kind (Sign v) = fault_kind (negate_fault v)
+site_kind (Binary o v w) = fault_kind (sure_fault o v w)
+site_kind (Test v) = test_kind v
+site_kind (Turn v varies empty) = turn_kind v varies empty
 
 -- ---- the law
 

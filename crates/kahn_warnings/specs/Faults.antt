@@ -1,24 +1,27 @@
 -- Believed. Where in the body of a process a fault of arithmetic can come from.
 use Rattle.std.specs.Prelude.{◌≡◌, ℕ, ℤ, negsuc, Bool, true, false, ◌&&◌, neg_ℤ, List, [], ◌∷◌, ◌++◌, Option, Some, None, Err, if◌then◌else◌, flat_map}
 use Rattle.std.specs.List.{AllByRecursion}
+use Rattle.std.specs.Result.{result_err}
 use Rattle.std.proofs.Common.{int_eq}
 use Rattle.kahn_streams.specs.declared.span.Span.{Span}
 use Rattle.kahn_streams.specs.declared.tree.Operator.{Operator}
-use Rattle.kahn_streams.specs.declared.tree.Form.{Form, Number, Logical, Variable, Wait, Negate', Not', Bracket', Level', Conditional', Row_of-Operand, end_of-Operand, more_of-Operand}
-use Rattle.kahn_streams.specs.declared.tree.Action.{Action, Empty, Assign, Send, Print, Block', If', While', Repeat', Row_of-Statement, end_of-Statement, more_of-Statement, Held-Action-If-2, None', Some'}
 use Rattle.kahn_streams.specs.declared.tree.Statement.{Statement}
 use Rattle.kahn_streams.specs.declared.value.Value.{Value}
 use Rattle.kahn_streams.specs.declared.value.Failure.{Failure}
 use Rattle.kahn_streams.specs.declared.tree.Operator.TheVariants.{Add, Subtract, Multiply, Divide, Remainder}
 use Rattle.kahn_streams.specs.Syntax as S
-use Rattle.kahn_streams.specs.View.{Scope, body_of, expr_of}
+use Rattle.kahn_streams.specs.View.{Scope, body_of}
 use Rattle.kahn_streams.specs.declared.value.Failure.TheVariants.{Overflow, Division}
 use Rattle.kahn_streams.specs.Arithmetic.{apply, fits_64, is_zero, number, ranged}
 use Rattle.kahn_streams.specs.Network.{Network, instance_at}
 use Rattle.kahn_streams.specs.Meaning.{Store, constant, exec}
 use Rattle.kahn_streams.specs.Script.{Fault, Tapes}
 use Rattle.kahn_streams.specs.Solution.{Faulted, HasEnd, Inputs, opening}
-use Rattle.kahn_warnings.specs.Constants.{bad, combined, constant_of, divides, negate_fault}
+use Rattle.kahn_warnings.specs.Constants.{divides, negate_fault}
+use Rattle.kahn_warnings.specs.Sites.{body_sites}
+use Rattle.kahn_warnings.specs.declared.sites.ConstantSite.{ConstantSite}
+use Rattle.kahn_warnings.specs.declared.sites.SiteKind.{SiteKind}
+use Rattle.kahn_warnings.specs.declared.sites.SiteKind.TheVariants.{Sign, Binary, Test, Turn}
 
 -- ---- which operators can have a fault
 
@@ -45,7 +48,7 @@ is_failure k (Some j) = false
 
 -- by the values of its operands, as far as the constants in them tell
 abbrev pub operator_can : Failure → Operator → Option Value → Option Value → Bool
-operator_can k o (Some v) (Some w) = is_failure k (bad (apply o v w))
+operator_can k o (Some v) (Some w) = is_failure k (result_err (apply o v w))
 operator_can k o None (Some w) = can_fail k o && (if divides o then can_divide k (number w) else true)
 operator_can k o v None = can_fail k o
 
@@ -55,55 +58,24 @@ sign_can Overflow None = true
 sign_can Division None = false
 sign_can k (Some v) = is_failure k (negate_fault (Some v))
 
--- ---- where they stand in an expression: of an operator its right operand is told, or its only one
+abbrev pub site_can : Failure → SiteKind → Bool
+site_can k (Sign v) = sign_can k v
+site_can k (Binary o v w) = operator_can k o v w
+site_can k (Test v) = false
+site_can k (Turn v varies empty) = false
+
+-- ---- where they stand
 
 abbrev pub place_where : Bool → Span → List Span
 place_where true at = at ∷ []
 place_where false at = []
 
-abbrev mutual
-  pub form_places : Failure → Form → List Span
-  form_places k (Number z) = []
-  form_places k (Logical b) = []
-  form_places k (Variable x) = []
-  form_places k (Wait q) = []
-  form_places k (Negate' p at e) = form_places k e ++ place_where (sign_can k (constant_of (expr_of [] e))) at
-  form_places k (Not' p at e) = form_places k e
-  form_places k (Bracket' p at e) = form_places k e
-  form_places k (Level' p at e shape rest) = form_places k e ++ level_places k (constant_of (expr_of [] e)) rest
-  form_places k (Conditional' p at t q at' a r at'' b) = form_places k t ++ (form_places k a ++ form_places k b)
-
-  -- behind operands with this value
-  pub level_places : {m : _} → Failure → Option Value → Row_of-Operand m → List Span
-  level_places k left end_of-Operand = []
-  level_places k left (more_of-Operand o at e rest) =
-      form_places k e
-      ++ (place_where (operator_can k o left (constant_of (expr_of [] e))) at ++ level_places k (combined o left (constant_of (expr_of [] e))) rest)
-
--- ---- and in a statement
-
-abbrev mutual
-  pub action_places : Failure → Action → List Span
-  action_places k Empty = []
-  action_places k (Assign x e) = form_places k e.form
-  action_places k (Send e q) = form_places k e.form
-  action_places k (Print e) = form_places k e.form
-  action_places k (Block' shape row) = row_places k row
-  action_places k (If' t p at a b) = form_places k t.form ++ (action_places k a ++ else_places k b)
-  action_places k (While' t p at a) = form_places k t.form ++ action_places k a
-  action_places k (Repeat' p at a) = action_places k a
-
-  pub row_places : {m : _} → Failure → Row_of-Statement m → List Span
-  row_places k end_of-Statement = []
-  row_places k (more_of-Statement at a rest) = action_places k a ++ row_places k rest
-
-  pub else_places : Failure → Held-Action-If-2 → List Span
-  else_places k None' = []
-  else_places k (Some' p at a) = action_places k a
+abbrev pub site_places : Failure → ConstantSite → List Span
+site_places k s = place_where (site_can k s.kind) s.span
 
 -- the operands in a body by which this fault can come, in the order of the text
 abbrev pub fault_places : Failure → List Statement → List Span
-fault_places k ss = flat_map (λ s. action_places k s.action) ss
+fault_places k ss = flat_map (site_places k) (body_sites ss)
 
 -- ---- values of 64 bits, as all are in a run
 

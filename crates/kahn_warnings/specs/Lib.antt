@@ -2,6 +2,7 @@ pub mod Comments
 pub mod Constants
 pub mod Faults
 pub mod Loops
+pub mod Sites
 pub mod Uses
 pub mod Telling
 pub mod Warned

@@ -1,10 +1,8 @@
 //! Comments that go on over a line's end, and have the beginning of a statement behind that.
 
-ghost use Rattle.std.specs.Prelude.{◌≤◌, List, ◌∷◌, IfOk, length};
-ghost use Rattle.kahn_streams.specs.declared.span.Span.{Span};
+ghost use Rattle.std.specs.Prelude.{◌≤◌, ◌++◌, ◌∷◌, [], IfOk, length};
 ghost use Rattle.kahn_wanted.specs.inner.Passing.{EndWithin};
 ghost use Rattle.kahn_warnings.specs.Comments.{AreCommentWarnings, CommentWarnings};
-ghost use Rattle.kahn_warnings.specs.inner.Reading.{WarnsOn};
 
 use crate::warning::{Warning, WarningKind};
 use kahn_streams::{NoMemory, Span};
@@ -14,7 +12,7 @@ use std::alloc::{AllocError, Global};
 /// Adds the warning of a comment, where there is one.
 fn add_comment(warnings: &mut Vec<Warning>, text: &[u8], comment: Span) -> Result<(), AllocError>
     requires { comment.to ≤ length text.now }
-    ensures { IfOk result (λ _. (all rest : List Span) → WarnsOn text.now all warnings.old.items (comment ∷ rest) → WarnsOn text.now all warnings.new.items rest) }
+    ensures { IfOk result (λ _. (cs : _) → CommentWarnings text.now cs warnings.old.items → CommentWarnings text.now (cs ++ comment ∷ []) warnings.new.items) }
 {
     if swallows(text, comment.from, comment.to, false) {
         warnings.push(Warning {

@@ -2,30 +2,10 @@
 
 ghost use Rattle.std.specs.Prelude.{◌≡◌};
 ghost use Rattle.kahn_streams.specs.View.{Scope, expression_of};
-ghost use Rattle.kahn_warnings.specs.Constants.{bad, chosen, constant_of, divides, combined, good, inverted, is_true, negate_fault, negated, sure_fault};
+ghost use Rattle.kahn_warnings.specs.Constants.{chosen, combined, constant_of, divides, inverted, is_true, negate_fault, negated, sure_fault};
 
 use crate::arithmetic::{apply, is_zero, negate, truth};
 use kahn_streams::{Expression, Failure, Form, Operator, Value};
-
-/// The value, where there is no fault.
-fn good(outcome: Result<Value, Failure>) -> Option<Value>
-    ensures { result ≡ good outcome }
-{
-    match outcome {
-        Ok(value) => Some(value),
-        Err(_) => None,
-    }
-}
-
-/// The fault, where there is one.
-pub(crate) fn bad(outcome: Result<Value, Failure>) -> Option<Failure>
-    ensures { result ≡ bad outcome }
-{
-    match outcome {
-        Ok(_) => None,
-        Err(failure) => Some(failure),
-    }
-}
 
 /// The value with the other sign.
 pub(crate) fn negated(value: Option<Value>) -> Option<Value>
@@ -33,7 +13,7 @@ pub(crate) fn negated(value: Option<Value>) -> Option<Value>
 {
     match value {
         None => None,
-        Some(value) => good(negate(value)),
+        Some(value) => negate(value).ok(),
     }
 }
 
@@ -58,7 +38,7 @@ pub(crate) fn combined(
     match (left, right) {
         (None, _) => None,
         (Some(_), None) => None,
-        (Some(left), Some(right)) => good(apply(operator, left, right)),
+        (Some(left), Some(right)) => apply(operator, left, right).ok(),
     }
 }
 
@@ -79,8 +59,7 @@ pub(crate) fn constant_of(expression: &Expression) -> Option<Value>
     match &expression.form {
         Form::Number(number) => Some(Value::Integer(*number)),
         Form::Logical(truth) => Some(Value::Logical(*truth)),
-        Form::Variable(_) => None,
-        Form::Wait(_) => None,
+        Form::Variable(_) | Form::Wait(_) => None,
         Form::Negate(inner) => negated(constant_of(inner)),
         Form::Not(inner) => inverted(constant_of(inner)),
         Form::Bracket(inner) => constant_of(inner),
@@ -113,7 +92,7 @@ pub(crate) fn negate_fault(value: Option<Value>) -> Option<Failure>
 {
     match value {
         None => None,
-        Some(value) => bad(negate(value)),
+        Some(value) => negate(value).err(),
     }
 }
 
@@ -141,6 +120,6 @@ pub(crate) fn sure_fault(
                 None
             }
         }
-        (Some(left), Some(right)) => bad(apply(operator, left, right)),
+        (Some(left), Some(right)) => apply(operator, left, right).err(),
     }
 }

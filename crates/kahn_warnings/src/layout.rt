@@ -6,7 +6,7 @@ use std::alloc::{AllocError, Global};
 
 /// A line up to some byte.
 #[derive(Clone, Copy)]
-struct Line {
+struct LineFront {
     /// The column behind the byte.
     column: usize,
     /// How deep the line is indented.
@@ -15,46 +15,26 @@ struct Line {
     blank: bool,
 }
 
-/// The beginning of a line.
-const START: Line = Line {
-    column: 0,
-    deep: 0,
-    blank: true,
-};
-
-/// The last so many bytes of some.
-fn last_bytes(bytes: &[u8], count: usize) -> &[u8] {
-    match bytes.get(bytes.len().saturating_sub(count)..) {
-        Some(bytes) => bytes,
-        None => &[],
-    }
-}
-
-/// The bytes before a place, on its line.
-fn line_before(text: &str, at: usize) -> &[u8] {
+/// The line of a place, up to there; a tab goes to the next multiple of 8.
+fn line_before(text: &str, at: usize) -> LineFront {
     let before = bytes_between(text, 0, at);
-    let mut count = 0usize;
-    for byte in before.iter().rev() {
-        if *byte == b'\n' {
-            return last_bytes(before, count);
-        }
-        count = count.saturating_add(1);
-    }
-    before
-}
-
-/// The line behind some bytes of it; a tab goes to the next multiple of 8.
-fn walked(bytes: &[u8]) -> Line {
-    let mut line = START;
-    for byte in bytes {
-        let is_blank = *byte == b' ' || *byte == b'\t';
+    let from = match before.iter().rposition(|byte| *byte == b'\n') {
+        Some(end) => end.saturating_add(1),
+        None => 0,
+    };
+    let mut line = LineFront {
+        column: 0,
+        deep: 0,
+        blank: true,
+    };
+    for byte in bytes_between(text, from, at) {
         let column = if *byte == b'\t' {
             (line.column | 7).saturating_add(1)
         } else {
             line.column.saturating_add(1)
         };
-        let blank = line.blank && is_blank;
-        line = Line {
+        let blank = line.blank && (*byte == b' ' || *byte == b'\t');
+        line = LineFront {
             column,
             deep: if blank { column } else { line.deep },
             blank,
@@ -66,22 +46,21 @@ fn walked(bytes: &[u8]) -> Line {
 /// Behind the last byte before a place that is no blank and ends no line.
 fn end_before(text: &str, at: usize) -> usize {
     let before = bytes_between(text, 0, at);
-    let mut end = before.len();
-    for byte in before.iter().rev() {
-        if !matches!(*byte, b' ' | b'\t' | b'\r' | b'\n') {
-            return end;
-        }
-        end = end.saturating_sub(1);
+    let last = before
+        .iter()
+        .rposition(|byte| !matches!(*byte, b' ' | b'\t' | b'\r' | b'\n'));
+    match last {
+        Some(last) => last.saturating_add(1),
+        None => 0,
     }
-    end
 }
 
 /// Whether a statement looks like a part of the `if` or the loop of one that stands behind a `then`, an `else`, a `do` or a `repeat`: that is
 /// deeper than the line of this, and the statement begins a later line in its column; or it stands on the line that the other one begins.
 fn is_under(text: &str, inner: Span, next: Span) -> bool {
-    let line = walked(line_before(text, next.from));
-    let other = walked(line_before(text, inner.from));
-    let guard = walked(line_before(text, end_before(text, inner.from)));
+    let line = line_before(text, next.from);
+    let other = line_before(text, inner.from);
+    let guard = line_before(text, end_before(text, inner.from));
     let is_later = bytes_between(text, inner.from, next.from).contains(&b'\n');
     let is_alike = if is_later {
         line.blank && other.column == line.column
@@ -91,32 +70,22 @@ fn is_under(text: &str, inner: Span, next: Span) -> bool {
     is_alike && guard.deep < other.column
 }
 
-/// Whether the next statement looks like a part of what a statement is a part of, which stands behind such a word.
-fn is_part(text: &str, inner: &Statement, next: Span) -> bool {
-    match (inner.span, &inner.action) {
-        (_, Action::Block(_)) => false,
-        (Some(span), _) => is_under(text, span, next),
-        (None, _) => false,
-    }
-}
-
-/// Whether the next statement looks like a part of a statement; `guarded` tells that this stands behind such a word.
+/// Whether the next statement looks like a part of what a statement is a part of, or ends with, and what stands behind such a word there,
+/// as `guarded` tells of this one. A block is none.
 fn is_alike(text: &str, statement: &Statement, next: Span, guarded: bool) -> bool {
-    if guarded && is_part(text, statement, next) {
-        return true;
+    let is_block = matches!(statement.action, Action::Block(_));
+    if let Some(span) = statement.span {
+        if guarded && !is_block && is_under(text, span, next) {
+            return true;
+        }
     }
     match &statement.action {
-        Action::Empty => false,
-        Action::Assign(_, _) => false,
-        Action::Send(_, _) => false,
-        Action::Print(_) => false,
-        Action::Block(_) => false,
         Action::If(_, yes, no) => match no {
             Some(no) => is_alike(text, no, next, true),
             None => is_alike(text, yes, next, true),
         },
-        Action::While(_, body) => is_alike(text, body, next, true),
-        Action::Repeat(body) => is_alike(text, body, next, true),
+        Action::While(_, body) | Action::Repeat(body) => is_alike(text, body, next, true),
+        _ => false,
     }
 }
 
@@ -137,10 +106,6 @@ fn add_list(spans: &mut Vec<Span>, text: &str, statements: &[Statement]) -> Resu
 /// Adds those within a statement.
 fn add_within(spans: &mut Vec<Span>, text: &str, statement: &Statement) -> Result<(), AllocError> {
     match &statement.action {
-        Action::Empty => Ok(()),
-        Action::Assign(_, _) => Ok(()),
-        Action::Send(_, _) => Ok(()),
-        Action::Print(_) => Ok(()),
         Action::Block(statements) => {
             for inner in statements {
                 add_within(spans, text, inner)?;
@@ -154,17 +119,9 @@ fn add_within(spans: &mut Vec<Span>, text: &str, statement: &Statement) -> Resul
                 None => Ok(()),
             }
         }
-        Action::While(_, body) => add_within(spans, text, body),
-        Action::Repeat(body) => add_within(spans, text, body),
+        Action::While(_, body) | Action::Repeat(body) => add_within(spans, text, body),
+        _ => Ok(()),
     }
-}
-
-/// Adds those of a body.
-fn add_body(spans: &mut Vec<Span>, text: &str, statements: &[Statement]) -> Result<(), AllocError> {
-    for statement in statements {
-        add_within(spans, text, statement)?;
-    }
-    add_list(spans, text, statements)
 }
 
 /// The statements of a program that are indented as if they belonged to the statement before them.
@@ -175,11 +132,11 @@ pub(crate) fn misplaced(
 ) -> Result<Vec<Span>, AllocError> {
     let mut spans = Vec::new(alloc);
     for declaration in &program.declarations {
-        match declaration {
-            Declaration::Channels(_, _, _) => {}
-            Declaration::Process(process) => {
-                add_body(&mut spans, text, &process.statements)?;
+        if let Declaration::Process(process) = declaration {
+            for statement in &process.statements {
+                add_within(&mut spans, text, statement)?;
             }
+            add_list(&mut spans, text, &process.statements)?;
         }
     }
     Ok(spans)

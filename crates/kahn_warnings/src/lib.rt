@@ -12,6 +12,7 @@ mod loops;
 mod names;
 mod notes;
 mod program;
+mod sites;
 mod surely;
 mod uses;
 mod warning;

@@ -13,10 +13,7 @@ pub(crate) fn never_ends(statement: &Statement) -> bool
     ensures { (names : Scope) → result ≡ never_ends (statement_of names statement.now) }
 {
     match &statement.action {
-        Action::Empty => false,
-        Action::Assign(_, _) => false,
-        Action::Send(_, _) => false,
-        Action::Print(_) => false,
+        Action::Empty | Action::Assign(_, _) | Action::Send(_, _) | Action::Print(_) => false,
         Action::Block(statements) => {
             for inner in statements {
                 if never_ends(inner) {
@@ -42,9 +39,7 @@ pub(crate) fn waits_in(expression: &Expression) -> bool
     ensures { (names : Scope) → result ≡ waits_in (expression_of names expression.now) }
 {
     match &expression.form {
-        Form::Number(_) => false,
-        Form::Logical(_) => false,
-        Form::Variable(_) => false,
+        Form::Number(_) | Form::Logical(_) | Form::Variable(_) => false,
         Form::Wait(_) => true,
         Form::Negate(inner) => waits_in(inner),
         Form::Not(inner) => waits_in(inner),
@@ -71,8 +66,7 @@ pub(crate) fn is_seen(statement: &Statement) -> bool
     match &statement.action {
         Action::Empty => false,
         Action::Assign(_, expression) => waits_in(expression),
-        Action::Send(_, _) => true,
-        Action::Print(_) => true,
+        Action::Send(_, _) | Action::Print(_) => true,
         Action::Block(statements) => {
             for inner in statements {
                 if is_seen(inner) {

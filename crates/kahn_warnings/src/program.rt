@@ -1,77 +1,49 @@
 //! All that is warned of in a program.
 
 ghost use Rattle.std.specs.Prelude.{◌≡◌, ◌++◌, IfOk, flat_map};
-ghost use Rattle.kahn_streams.specs.View.{stmt_of};
-ghost use Rattle.kahn_warnings.specs.Warnings.{AreTreeWarnings, AreWarnings, bare_warnings, body_constants, body_warnings, by_layout, declaration_warnings, endless_warnings, first_standing, first_unreached, idle_warnings, list_warnings, statement_warnings};
-ghost use Rattle.kahn_warnings.specs.Warned.{warned_where};
+ghost use Rattle.kahn_warnings.specs.Warnings.{AreTreeWarnings, AreWarnings, bare_kind, body_warnings, by_layout, declaration_warnings, endless_kind, first_standing, first_unreached, idle_kind, list_warnings, statement_warnings};
 
 use crate::comments::comment_warnings;
 use crate::constants::{constant_of, is_true};
 use crate::layout::misplaced;
 use crate::loops::{is_seen, never_ends};
-use crate::names::{add_names, add_process};
+use crate::names::{add_names, process_kind};
 use crate::surely::add_constants;
 use crate::uses::is_empty;
-use crate::warning::{Warning, WarningKind};
+use crate::warning::{Warning, WarningKind, add_warning};
 use kahn_streams::{Action, Declaration, Expression, Instance, NoMemory, Program, Span, Statement};
 use std::alloc::{AllocError, Global};
 
-/// Adds a warning of a part, where that stands anywhere.
-fn add_where(
-    warnings: &mut Vec<Warning>,
-    kind: WarningKind,
-    place: Option<Span>,
-) -> Result<(), AllocError>
-    ensures { IfOk result (λ _. warnings.new.items ≡ warnings.old.items ++ warned_where kind place) }
-{
-    if let Some(span) = place {
-        warnings.push(Warning { kind, span })?;
-    }
-    Ok(())
-}
-
-/// Adds the warning of a loop without an end, where it neither waits nor sends nor prints.
-fn add_idle(
-    warnings: &mut Vec<Warning>,
-    place: Option<Span>,
-    body: &Statement,
-) -> Result<(), AllocError>
-    ensures { IfOk result (λ _. warnings.new.items ≡ warnings.old.items ++ idle_warnings place body.now.action) }
+/// What is warned of a loop without an end, which may neither wait nor send nor print.
+fn idle_kind(body: &Statement) -> Option<WarningKind>
+    ensures { result ≡ idle_kind body.now.action }
 {
     if is_seen(body) {
-        return Ok(());
+        None
+    } else {
+        Some(WarningKind::Idle)
     }
-    add_where(warnings, WarningKind::Idle, place)
 }
 
-/// Adds that of a loop whose test is always true.
-fn add_endless(
-    warnings: &mut Vec<Warning>,
-    place: Option<Span>,
-    test: &Expression,
-    body: &Statement,
-) -> Result<(), AllocError>
-    ensures { IfOk result (λ _. warnings.new.items ≡ warnings.old.items ++ endless_warnings place test.now body.now.action) }
+/// What is warned of a loop with a test, which may always be true.
+fn endless_kind(test: &Expression, body: &Statement) -> Option<WarningKind>
+    ensures { result ≡ endless_kind test.now body.now.action }
 {
     if is_true(constant_of(test)) {
-        add_idle(warnings, place, body)
+        idle_kind(body)
     } else {
-        Ok(())
+        None
     }
 }
 
-/// Adds that of an `if` without `else`, where nothing stands behind its `then`.
-fn add_bare(
-    warnings: &mut Vec<Warning>,
-    place: Option<Span>,
-    yes: &Statement,
-) -> Result<(), AllocError>
-    ensures { IfOk result (λ _. warnings.new.items ≡ warnings.old.items ++ bare_warnings place yes.now.action) }
+/// What is warned of an `if` without `else`, where nothing may stand behind its `then`.
+fn bare_kind(yes: &Statement) -> Option<WarningKind>
+    ensures { result ≡ bare_kind yes.now.action }
 {
     if is_empty(yes) {
-        add_where(warnings, WarningKind::BareThen, place)
+        Some(WarningKind::BareThen)
     } else {
-        Ok(())
+        None
     }
 }
 
@@ -88,22 +60,13 @@ fn first_standing(statements: &[Statement]) -> Option<Span>
 }
 
 /// Where the first such statement stands behind one that never ends.
-#[tactic(auto, using(crate::proofs::Lists::none_behind))]
 fn first_unreached(statements: &[Statement]) -> Option<Span>
     ensures { result ≡ first_unreached statements.now }
 {
     let mut rest = statements;
     'statements: while let Some((first, behind)) = rest.split_first() {
-        if is_empty(first) {
-            rest = behind;
-            continue 'statements;
-        }
-        // where nothing stands behind it, nobody asks whether it ends
-        let Some(next) = first_standing(behind) else {
-            return None;
-        };
         if never_ends(first) {
-            return Some(next);
+            return first_standing(behind);
         }
         rest = behind;
     }
@@ -114,11 +77,8 @@ fn first_unreached(statements: &[Statement]) -> Option<Span>
 fn add_list(warnings: &mut Vec<Warning>, statements: &[Statement]) -> Result<(), AllocError>
     ensures { IfOk result (λ _. warnings.new.items ≡ warnings.old.items ++ list_warnings statements.now) }
 {
-    add_where(
-        warnings,
-        WarningKind::Unreached,
-        first_unreached(statements),
-    )
+    let place = first_unreached(statements);
+    add_warning(warnings, Some(WarningKind::Unreached), place)
 }
 
 /// Adds the warnings of a statement.
@@ -126,10 +86,7 @@ fn add_statement(warnings: &mut Vec<Warning>, statement: &Statement) -> Result<(
     ensures { IfOk result (λ _. warnings.new.items ≡ warnings.old.items ++ statement_warnings statement.now.span statement.now.action) }
 {
     match &statement.action {
-        Action::Empty => Ok(()),
-        Action::Assign(_, _) => Ok(()),
-        Action::Send(_, _) => Ok(()),
-        Action::Print(_) => Ok(()),
+        Action::Empty | Action::Assign(_, _) | Action::Send(_, _) | Action::Print(_) => Ok(()),
         Action::Block(statements) => {
             for inner in statements {
                 add_statement(warnings, inner)?;
@@ -140,15 +97,15 @@ fn add_statement(warnings: &mut Vec<Warning>, statement: &Statement) -> Result<(
             add_statement(warnings, yes)?;
             match no {
                 Some(no) => add_statement(warnings, no),
-                None => add_bare(warnings, statement.span, yes),
+                None => add_warning(warnings, bare_kind(yes), statement.span),
             }
         }
         Action::While(test, body) => {
-            add_endless(warnings, statement.span, test, body)?;
+            add_warning(warnings, endless_kind(test, body), statement.span)?;
             add_statement(warnings, body)
         }
         Action::Repeat(body) => {
-            add_idle(warnings, statement.span, body)?;
+            add_warning(warnings, idle_kind(body), statement.span)?;
             add_statement(warnings, body)
         }
     }
@@ -164,20 +121,6 @@ fn add_body(warnings: &mut Vec<Warning>, statements: &[Statement]) -> Result<(),
     add_list(warnings, statements)
 }
 
-/// Adds those of the constants in a body.
-fn add_body_constants(
-    warnings: &mut Vec<Warning>,
-    alloc: Global,
-    statements: &[Statement],
-) -> Result<(), AllocError>
-    ensures { IfOk result (λ _. warnings.new.items ≡ warnings.old.items ++ body_constants statements.now) }
-{
-    for statement in statements {
-        add_constants(warnings, alloc, statement)?;
-    }
-    Ok(())
-}
-
 /// Adds those of a declaration.
 fn add_declaration(
     warnings: &mut Vec<Warning>,
@@ -190,10 +133,11 @@ fn add_declaration(
     match declaration {
         Declaration::Channels(_, _, _) => Ok(()),
         Declaration::Process(process) => {
-            add_process(warnings, instances, process)?;
+            let place = Some(process.name.span);
+            add_warning(warnings, process_kind(instances, process), place)?;
             add_names(warnings, alloc, process)?;
             add_body(warnings, &process.statements)?;
-            add_body_constants(warnings, alloc, &process.statements)
+            add_constants(warnings, alloc, &process.statements)
         }
     }
 }
@@ -214,7 +158,7 @@ fn add_misplaced(warnings: &mut Vec<Warning>, spans: &[Span]) -> Result<(), Allo
     ensures { IfOk result (λ _. warnings.new.items ≡ warnings.old.items ++ flat_map by_layout spans.now) }
 {
     for span in spans {
-        add_where(warnings, WarningKind::Beside, Some(*span))?;
+        add_warning(warnings, Some(WarningKind::Beside), Some(*span))?;
     }
     Ok(())
 }

@@ -1,6 +1,10 @@
 //! A warning.
 
+ghost use Rattle.std.specs.Prelude.{◌≡◌, ◌++◌, IfOk};
+ghost use Rattle.kahn_warnings.specs.Warned.{warned};
+
 use kahn_streams::Span;
+use std::alloc::AllocError;
 
 /// What is warned of.
 #[derive(Clone, Copy)]
@@ -47,4 +51,19 @@ pub struct Warning {
     /// The whole comment; the name of the process, of the parameter or of the variable where it is declared; the loop; the
     /// first statement that isn't reached, or doesn't belong to the `if`; the right operand, or the one behind a sign; the test; or the `if`.
     pub span: Span,
+}
+
+/// Adds the warning of a part, where there is something to warn of and the part stands anywhere.
+pub(crate) fn add_warning(
+    warnings: &mut Vec<Warning>,
+    kind: Option<WarningKind>,
+    place: Option<Span>,
+) -> Result<(), AllocError>
+    ensures { IfOk result (λ _. warnings.new.items ≡ warnings.old.items ++ warned kind place) }
+{
+    match (kind, place) {
+        (None, _) => Ok(()),
+        (Some(_), None) => Ok(()),
+        (Some(kind), Some(span)) => Ok(warnings.push(Warning { kind, span })?),
+    }
 }

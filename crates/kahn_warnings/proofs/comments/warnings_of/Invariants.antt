@@ -1,7 +1,7 @@
--- The comments so far are gone through.
-use Rattle.std.proofs.Common.{drop}
-use Rattle.kahn_warnings.specs.inner.Reading.{WarnsOn}
+-- The warnings of the comments so far.
+use Rattle.std.proofs.Common.{take}
+use Rattle.kahn_warnings.specs.Comments.{CommentWarnings}
 use Rattle.kahn_warnings.proofs.comments.warnings_of.Given as goal
 
 abbrev pub invariant-loop-comment : goal.invariant-loop-comment
-invariant-loop-comment l = WarnsOn l.text l.comments l.warnings.items (drop l.comment-index l.comments)
+invariant-loop-comment l = CommentWarnings l.text (take l.comment-index l.comments) l.warnings.items

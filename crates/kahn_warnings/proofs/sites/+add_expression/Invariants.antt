@@ -2,13 +2,12 @@
 use Rattle.std.proofs.Common.{◌≡◌, ◌++◌, drop}
 use Rattle.kahn_streams.specs.View.{Scope, expression_of}
 use Rattle.kahn_warnings.specs.Constants.{constant_of}
-use Rattle.kahn_warnings.specs.Faults.{form_places}
-use Rattle.kahn_warnings.proofs.Folding.{level_constant}
-use Rattle.kahn_warnings.proofs.Placing.{operands_placed}
-use Rattle.kahn_warnings.proofs.faults.+add_expression.Given as goal
+use Rattle.kahn_warnings.specs.Sites.{form_sites}
+use Rattle.kahn_warnings.proofs.Folding.{level_constant, operands_sites}
+use Rattle.kahn_warnings.proofs.sites.+add_expression.Given as goal
 
 abbrev pub invariant-loop-operand : goal.invariant-loop-operand
 invariant-loop-operand l = record {
-  places : l.places.items ++ operands_placed l.fn.failure l.left (drop l.operand-index l.operand-items) ≡ l.fn.places.items ++ form_places l.fn.failure l.fn.expression.form;
+  sites : l.sites.items ++ operands_sites l.left (drop l.operand-index l.operand-items) ≡ l.fn.sites.items ++ form_sites l.fn.expression.form;
   value : (names : Scope) → level_constant names l.left (drop l.operand-index l.operand-items) ≡ constant_of (expression_of names l.fn.expression);
 }

@@ -1,6 +1,6 @@
 use Rattle.std.proofs.Common.{arith}
 use Rattle.std.proofs.lemmas.Grind.{common_steps}
-use Rattle.kahn_warnings.proofs.faults.fault_places.Goals as goal
+use Rattle.kahn_warnings.proofs.sites.sites_in.Goals as goal
 
 pub loop-statement-preserved : goal.loop-statement-preserved
 loop-statement-preserved c = grind (arith, common_steps, c.loop-statement.invariant, c.in_ok-add_statement.ensures)
