@@ -19,16 +19,16 @@ const PARTS: u64 = 8;
 
 /// How long a worker has rested since it found an instance last: first it pauses, and then it sleeps, for longer the longer it has slept.
 #[derive(Drop)]
-pub(crate) struct Rest {
+pub(crate) struct Idling {
     backoff: Backoff,
     parker: Parker,
     slept: u64,
 }
 
-impl Rest {
+impl Idling {
     /// The rest of a worker that has not rested yet.
-    pub(crate) fn new() -> Rest {
-        Rest {
+    pub(crate) fn new() -> Idling {
+        Idling {
             backoff: Backoff::new(),
             parker: Parker::new(),
             slept: 0,

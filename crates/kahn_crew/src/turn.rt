@@ -2,7 +2,7 @@
 
 ghost use Rattle.std.specs.Prelude.{◌≡◌, ◌⊎◌, ◌+◌, ◌-◌, ◌≤◌};
 ghost use Rattle.kahn_crew.specs.inner.Words.{ℕ, OnErr, OnOk, wired, NoMemory as IsWant, IsDelivered, IsBetweenTurns, Going as IsGoing};
-ghost use Rattle.kahn_crew.specs.inner.Turns.{CanRest, IsDue, IsSetDown, HasTask, Heeds, IsAtWork, IsTaskIn, SitsIn, SitsWith, StandsStill};
+ghost use Rattle.kahn_crew.specs.inner.Turns.{CanRest, IsDue, IsSetDown, IsShare, HasTask, Heeds, IsAtWork, IsTaskIn, SitsIn, SitsWith, StandsStill};
 ghost use Rattle.kahn_crew.specs.inner.Tasks.{IsPublished};
 
 use crate::hints::Order;
@@ -138,7 +138,8 @@ fn spend_all<G: Gate, L: Ledger>(
     drawn: u64,
     steps: &mut Steps<L>,
 ) -> u64
-    requires { HasTask run.now first drawn worker.old.seat }
+    requires has { HasTask run.now first drawn worker.old.seat }
+    requires share { IsShare run.now drawn }
     ensures same { Heeds worker.old worker.new }
     ensures rests { SitsWith run.now result worker.new.seat }
 {
@@ -159,7 +160,8 @@ fn spend_all<G: Gate, L: Ledger>(
 }
 
 /// A turn of an instance that was picked: it is run for a part of the budget, if some is left that other workers don't
-/// take first, and set down, and so are those that it woke while the part lasts.
+/// take first, and set down, and so are those that it woke while the part lasts. One that lost each of its draws is set down ready with a
+/// hint, so that it isn't left aside.
 pub(crate) fn turn<G: Gate, L: Ledger>(
     run: &Run<'_>,
     gate: &G,
@@ -177,7 +179,10 @@ pub(crate) fn turn<G: Gate, L: Ledger>(
             let left = spend_all(run, gate, worker, p, drawn, steps);
             worker.seat.give_back(run.board, left);
         }
-        Draw::Lost => rest_ready(&mut worker.seat, run.board, p),
+        Draw::Lost => {
+            rest_ready(&mut worker.seat, run.board, p);
+            hint(run, worker, Some(p), Order::Last);
+        }
         Draw::Empty => rest_ready(&mut worker.seat, run.board, p),
     }
 }

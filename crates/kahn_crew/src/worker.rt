@@ -7,7 +7,7 @@ ghost use Rattle.kahn_crew.specs.inner.Turns.{HasPicked, Heeds, IsSameWorker, Si
 use crate::boxes::Boxed;
 use crate::hints::Hints;
 use crate::pick::{pick_any, pick_hinted};
-use crate::rest::Rest;
+use crate::rest::Idling;
 use crate::run::Run;
 use crate::turn::turn;
 use kahn_board::{Seat, go_on};
@@ -40,7 +40,7 @@ fn looking_ready(run: &Run<'_>, start: usize) -> Option<usize> {
 }
 
 // Waits a little, until an instance has looked ready for some time: it is seldom taken from the worker that woke it then.
-fn wait_a_little(run: &Run<'_>, rest: &Rest, start: usize) {
+fn wait_a_little(run: &Run<'_>, rest: &Idling, start: usize) {
     let mut last = None;
     let mut since = 0;
     for look in 0..rest.pauses() {
@@ -57,7 +57,7 @@ fn wait_a_little(run: &Run<'_>, rest: &Rest, start: usize) {
 }
 
 // Picks an instance: one that a hint of its own names, or another's hint, or else any that is ready.
-fn pick_next(run: &Run<'_>, worker: &mut Worker, rest: &Rest) -> Option<usize>
+fn pick_next(run: &Run<'_>, worker: &mut Worker, rest: &Idling) -> Option<usize>
     requires { SitsWith run.now 0 worker.old.seat }
     ensures same { IsSameWorker worker.old worker.new }
     ensures found { HasPicked run.now result worker.old worker.new }
@@ -86,7 +86,7 @@ pub(crate) fn turns<R: Wait, G: Gate, L: Ledger>(
     ensures left { IsBetweenTurns worker.new.seat × (worker.new.seat.seat.me.0.stage ≡ 1) }
 {
     let mut steps = Steps::<L>::open(blank);
-    let mut rest = Rest::new();
+    let mut rest = Idling::new();
     for _ in rt.forever() {
         if !go_on(&mut worker.seat, run.board) {
             return;

@@ -1,7 +1,7 @@
 -- Inner. What a worker has between two turns and in a turn, how a task is set down, and what the workers of a run have together.
-use Rattle.std.specs.Prelude.{◌≡◌, ◌≢◌, ◌⊎◌, ◌↔◌, ◌+◌, ◌*◌, ◌/◌, ◌^◌, ◌<◌, ◌≤◌}
+use Rattle.std.specs.Prelude.{◌≡◌, ◌≢◌, ◌⊎◌, ◌↔◌, ◌+◌, ◌*◌, ◌/◌, ◌^◌, ◌<◌, ◌≤◌, min}
 use Rattle.kahn_crew.specs.inner.Words.{ℕ, Bool, true, Option, None, Some, slice_index, false, List, length, slice_index_or, TableId, Was, belongs, wired, SeesMore, channel_at, TellsEnd, TellsWait, Seat, Terms, View, BeginsTurn, EndsTurn, HoldsInTurn, IsBetween, IsDoneAt, IsSeatOf, SetsStill, SitsAt, Continues, Tasked}
-use Rattle.kahn_board.specs.Wires.{Wires}
+use Rattle.kahn_board.specs.{Rule.budget_at, Wires.Wires}
 use Rattle.kahn_crew.specs.declared.{run.Run.Run, turn.Due.Due, worker.Worker.Worker}
 use Rattle.kahn_crew.specs.declared.turn.Due.TheVariants as due
 use Rattle.kahn_job.specs.declared.standing.Standing.TheVariants as standing
@@ -38,6 +38,11 @@ pub record IsAtWork (run : Run) (p n k : ℕ) (x : Tasked) (s : Seat Tasked) : T
   pub events : x.work.cell.events ≡ slice_index s.seat.me.0.events_when_got p + k
   pub agrees : AgreesWith x.work x.published s.seat.me.0.flushed
   pub first : belongs Continues (terms_of run) p x
+
+-- so many events were drawn for a turn: the run's quantum, or all of a moment's budget if that was less
+abbrev pub IsShare : Run → ℕ → Type 0
+IsShare run n =
+    (s : Seat Tasked) × (v : View) × (a : ℕ) × (n ≡ min run.quantum a) × Was told_tale IsLater (terms_of run) s v (budget_at (wired (terms_of run))) a
 
 -- x is the task of the instance p of the run, whose number of events fits
 abbrev pub IsTaskIn : Run → ℕ → Tasked → Type 0

@@ -14,3 +14,6 @@ loop-first-preserved g c =
       same = heeds_then a s b (heeds_then a c.loop-first.worker s c.loop-first.invariant.same c.spend-done.ensures.same) (heeds_still s b c.pick_hinted.ensures.same);
       holds = c.in-Some.ensures.picked (c.loop-first.left - c.spend-done.result) c.spend-done.ensures.rests.1;
     }
+
+pub returns-in_default-clause-rests : goal.returns-in_default-clause-rests
+returns-in_default-clause-rests g c = c.in_default.ensures.left (c.loop-first.left - c.spend-done.result) c.spend-done.ensures.rests.1
