@@ -1,5 +1,5 @@
 -- A quiet run stays quiet.
-use Rattle.kahn_board.proofs.Common.{◌≡◌, ◌≢◌, ◌⊎◌, inl, inr, ℕ, ◌*◌, ◌<◌, List, length, get_or, get_or-set_other, ap, refl, sym, ◌∙◌, arith, Option, Summary, View, Wires, Deal, St, Whole, IsIn, Place, held, is_up, ready, count, get_elem?, some}
+use Rattle.kahn_board.proofs.Common.{◌≡◌, ◌⊎◌, inl, inr, ℕ, ◌<◌, length, get_or-set_other, ap, refl, sym, ◌∙◌, arith, Option, Summary, View, Wires, Deal, St, Whole, IsIn, Place, held, is_up, ready, count, get_elem?, some}
 use Rattle.kahn_board.proofs.Moved.{code_ready}
 use Rattle.kahn_board.proofs.Steps.{mine_is}
 use Rattle.kahn_board.proofs.Sums.{term_le}

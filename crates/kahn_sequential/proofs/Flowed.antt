@@ -1,6 +1,6 @@
 -- A flow: what its parts, more input and letting go make of it.
 use Rattle.std.proofs.Common.{vec_capacity, sum_by, arith, ◌≡◌, ℕ, zero, suc, ◌+◌, ◌-◌, ◌<◌, ◌≤◌, ◌^◌, List, [], ◌∷◌, ◌++◌, length, map, replicate, take, refl, sym, ap, ◌∙◌, subst, append-nil, Option, Some, slice_get, slice_index_or}
-use Rattle.kahn_sequential.proofs.Common.{length-map, map-append, take_all, take_at, Source, Given, Written, Nobody, Writes, channel_source, network_of, instance_at, actual_at, role_at, Token, Value, Line, Channel, Print, AreInputsExtended, source, Lists, inputs_of, none_of, prefix_refl, View, token_value, IsPoured, tokens, Told, told_view, Gone, nothing_gone, poured_grown, GoesOn, IsLineOf, HeldRun, given_so_far, seen_at, seen_of, so_far, writing, stream_lines, Verdict, all_events, IsConcluded, AreEnded, AreNew, HasLetGo, IsRunOn, AreLent, IsFlowOf, flow_of, let_go_by, let_go_of, run_of_bench, no_view, AreAllGiven, AllStandBy, AreWhole, HasEmptied, HasTakenIn, HasWorked, IsLaid, Table, all_of, sight_of, writes, HaveRisen, Plan, Program, seen_events}
+use Rattle.kahn_sequential.proofs.Common.{length-map, map-append, take_all, take_at, Source, Given, Written, Nobody, Writes, channel_source, network_of, instance_at, actual_at, role_at, Token, Value, Line, Channel, Print, AreInputsExtended, source, Lists, inputs_of, none_of, prefix_refl, View, token_value, IsPoured, tokens, Told, told_view, Gone, nothing_gone, poured_grown, GoesOn, IsLineOf, HeldRun, given_so_far, seen_at, seen_of, so_far, writing, stream_lines, Verdict, all_events, IsConcluded, AreEnded, AreNew, HasLetGo, IsRunOn, AreLent, IsFlowOf, flow_of, let_go_by, let_go_of, run_of_bench, no_view, AreAllGiven, AllStandBy, AreWhole, HasEmptied, HasTakenIn, HasWorked, IsLaid, IsVerdict, Table, all_of, sight_of, writes, HaveRisen, Plan, Program, seen_events}
 use Rattle.std.proofs.lemmas.List.{length-append}
 use Rattle.kahn_streams.specs.declared.answer.End.{End}
 use Rattle.kahn_sequential.proofs.Benched.{mapped}
@@ -232,6 +232,7 @@ module _ {t : Program} {plan : Plan} {b : Table} {budget room : ℕ} {last : Lis
       settled_by part_ended.1,
     ),
     let_go_same b d h.network h.input h.watch b.gone h.gone n,
+    λ e. let lacks = (c.2 (subst (λ v. IsVerdict c.0 r.ends.items v) e c.1.rule)).0 in let l = c.1.last.total in let s = events_seen d.cells in omega (arith, lacks, l, s, whole),
   )
 
 -- a line of its streams
