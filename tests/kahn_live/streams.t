@@ -2,7 +2,7 @@ Files, streams and arguments of kahn_live. (What needs pipes that stay open is i
 
 No such channel to watch.
   $ kahn_live examples/double.kahn --watch Z
-  ! kahn: watched channel is not declared
+  ! examples/double.kahn: --watch: no such channel: `Z`; channels: `A` and `B`
   [6]
 No program.
   $ kahn_live nothing

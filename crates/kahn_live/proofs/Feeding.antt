@@ -1,12 +1,15 @@
 -- Lines that are fed behind those of the input, and that what went out stays right.
-use Rattle.std.proofs.Common.{◌≡◌, inl, inr, ℕ, zero, suc, Bool, true, false, true≢false, List, [], ◌∷◌, Option, Result, Ok, Err, refl, sym, ap, subst}
+use Rattle.std.proofs.Common.{arith, ◌≡◌, ◌<◌, inl, inr, ℕ, zero, suc, Bool, true, false, true≢false, List, [], ◌∷◌, length, take, Option, None, Some, Result, Ok, Err, refl, sym, ap, subst}
 use Rattle.kahn_streams.specs.declared.answer.Verdict.{Verdict}
 use Rattle.kahn_fault.specs.declared.fault.Fault.{Fault}
 use Rattle.kahn_session.specs.Live.{IsMeantLine, IsTakenLine, IsUnfedBy, Live}
 use Rattle.kahn_session.specs.declared.fault.TakeFault.{TakeFault}
-use Rattle.kahn_session.specs.declared.fault.TakeFault.TheVariants.{TooLong, NotUtf8, BadLine, BadValue, Feed, NoMemory, Write}
+use Rattle.kahn_session.specs.declared.fault.TakeFault.TheVariants.{TooLong, NotUtf8, BadLine, BadValue, BadRow, Feed, NoMemory, Write}
 use Rattle.kahn_session.specs.Refusals.{at_end_number}
-use Rattle.kahn_live.specs.Course.{AreFed, AreMeant, AreRead, IsFirstPart, IsFirstUnmeant, IsAnyMet, IsBrokenOff, IsCutOff, IsToldBy, Point, Telling, WasAnswered}
+use Rattle.kahn_live.specs.Course.{HasMissed, IsAloneMet, IsBrokenOff, IsToldBy, LiveTelling, Point, WasAnswered, WasMet}
+use Rattle.kahn_live.specs.InputMet.{AreFed, AreRead, AreTaken, IsAnyMet, IsCutOff, IsFirstPart, IsFirstUnmeant, IsReadIn, IsReadMet}
+use Rattle.kahn_live.specs.Lines.{fed_text, most_kept, unmarked}
+use Rattle.kahn_live.specs.Rows.{AreMeant, row_names}
 use Rattle.kahn_live.specs.LinesMet.{AreEachMet, LinesGiven}
 use Rattle.kahn_live.specs.Histories.{IsShown}
 
@@ -34,13 +37,14 @@ begun_there input old new false there begun = absurd (true≢false (sym there))
 stays : (old new : Live) → new ≡ old → IsShown old → IsShown new
 stays old new same was = subst (λ (s : Live). IsShown s) (sym same) was
 
-taken : (number : ℕ) (line : List ℕ) (p q : Telling) (old new : Live) (before after : Option (List ℕ)) (answer : Result Verdict TakeFault) → IsToldBy new number line answer p q
+taken : (number : ℕ) (line : List ℕ) (p q : LiveTelling) (old new : Live) (before after : Option (List ℕ)) (answer : Result Verdict TakeFault) → IsToldBy new number line answer p q
     → IsTakenLine line old new before after answer → IsShown old → IsShown new
 taken number line p q old new before after (Ok v) told t was = (v, t.answered.verdict, t.answered.ends, t.out)
 taken number line p q old new before after (Err TooLong) told t was = stays old new t.same was
 taken number line p q old new before after (Err NotUtf8) told t was = stays old new t.same was
 taken number line p q old new before after (Err BadLine) told t was = stays old new t.same was
 taken number line p q old new before after (Err BadValue) told t was = stays old new t.same was
+taken number line p q old new before after (Err BadRow) told t was = stays old new t.same was
 taken number line p q old new before after (Err (Feed f)) told t was = stays old new t.same was
 taken number line p q old new before after (Err NoMemory) told t was = stays old new t.same was
 taken number line p q old new before after (Err (Write f)) told t was = absurd (true≢false told.1)
@@ -48,14 +52,44 @@ taken number line p q old new before after (Err (Write f)) told t was = absurd (
 answered : (number : ℕ) (line : List ℕ) (old new : Point) → WasAnswered number line old new → IsShown old.session → IsShown new.session
 answered number line old new (answer, (told, (sent, t, kept))) was = taken number line old.told new.told old.session new.session old.out sent answer told t was
 
-met : (number : ℕ) (line : List ℕ) (old new : Point) → IsAnyMet number line old new → IsShown old.session → IsShown new.session
-met number line old new (inl a) was = answered number line old new a was
-met number line old new (inr (told, (same, kept))) was = stays old.session new.session same was
+missed : (number : ℕ) (old new : Point) → HasMissed number old new → IsShown old.session → IsShown new.session
+missed number old new (told, (same, kept)) was = stays old.session new.session same was
+
+-- a line that was taken shows all, whatever was shown before
+shown : (number : ℕ) (line : List ℕ) (v : Verdict) (old new : Point) → WasMet number line (Ok v) old new → IsShown new.session
+shown number line v old new (told, (sent, t, kept)) = (v, t.answered.verdict, t.answered.ends, t.out)
+
+-- and so do lines that were all taken
+row_shown : (number : ℕ) (lines : List (List ℕ)) (old new : Point) → AreTaken number lines old new → IsShown old.session → IsShown new.session
+row_shown number [] old new same was = stays old.session new.session (ap (λ (p : Point). p.session) same) was
+row_shown number (line ∷ lines) old new (v, next, one, rest) was = row_shown number lines next new rest (shown number line v old next one)
+
+some_shown : (number : ℕ) (lines : List (List ℕ)) (old new : Point) → 0 < length lines → AreTaken number lines old new → IsShown new.session
+some_shown number [] old new some same = absurd (omega (arith, some))
+some_shown number (line ∷ lines) old new some (v, next, one, rest) = row_shown number lines next new rest (shown number line v old next one)
+
+read_in : (rows input : Option (List ℕ)) (number : ℕ) (line : List ℕ) (old new : Point) (r : Option TakeFault) → IsReadIn rows input number line old new (Ok r) → IsShown old.session
+    → IsShown new.session
+read_in None input number line old new None (inl (v, met)) was = shown number (fed_text input line) v old new met
+read_in None input number line old new (Some f) (inl met) was = answered number (fed_text input line) old new (Err f, met) was
+read_in None input number line old new r (inr (is, none)) was = missed number old new none was
+read_in (Some names) input number line old new None (cells, are, taken) was = row_shown number cells old new taken was
+read_in (Some names) input number line old new (Some f) (cell, bad, told, (same, kept)) was = stays old.session new.session same was
+
+-- the first part shows all
+first_in : (rows input : Option (List ℕ)) (line : List ℕ) (old new : Point) → IsReadIn rows input 0 line old new (Ok None) → IsShown new.session
+first_in None input line old new (inl (v, met)) = shown 0 (fed_text input line) v old new met
+first_in None input line old new (inr (is, none)) = absurd cc
+first_in (Some names) input line old new (cells, (rest, left, front, no_name, no_word, some), taken) = some_shown 0 cells old new some taken
+
+met : (input : Option (List ℕ)) (number : ℕ) (line : List ℕ) (old new : Point) → IsAnyMet input number line old new → IsShown old.session → IsShown new.session
+met input number line old new (inl (r, is)) was = read_in (row_names input) input number (unmarked number (take most_kept line)) old new r is was
+met input number line old new (inr none) was = missed number old new none was
 
 read : (input : Option (List ℕ)) (n : ℕ) (text rest : Option (List ℕ)) (old new : Point) → AreRead input n text rest old new → IsShown old.session → IsShown new.session
 read input zero text rest old new (left, same) was = stays old.session new.session (ap (λ (p : Point). p.session) same) was
 read input (suc n) text rest old new (left, last, are, hearing, (line, ready, cuts, (quiet, (same, kept)), any)) was =
-    met (suc n) _ ready new any (stays last.session ready.session same (read input n text left old last are was))
+    met input (suc n) line ready new any (stays last.session ready.session same (read input n text left old last are was))
 
 fed : (lines : List (List ℕ)) (old new : Point) → AreFed lines old new → IsShown old.session → IsShown new.session
 fed [] old new same was = stays old.session new.session (ap (λ (p : Point). p.session) same) was
@@ -63,9 +97,9 @@ fed (line ∷ lines) old new (next, a, rest) was = fed lines next new rest (answ
 
 -- where all lines were met
 pub all_shown : (f : LinesGiven) (text : Option (List ℕ)) (old new : Point) → AreEachMet f (Ok true) text old new → IsShown new.session
-all_shown f text old new (begun, (v, (told, (sent, t, kept))), (ready, last, (unchanged, quiet_out, said), (n, rest, ended, are, (quiet, (same, still)), out), behind)) =
+all_shown f text old new (begun, first, (ready, last, (unchanged, quiet_out, said), (n, rest, ended, are, (quiet, (same, still)), out), behind)) =
     fed f.at_end last new behind
-    (stays ended.session last.session same (read f.input n text rest ready ended are (stays begun.session ready.session unchanged (v, t.answered.verdict, t.answered.ends, t.out))))
+    (stays ended.session last.session same (read f.input n text rest ready ended are (stays begun.session ready.session unchanged (first_in (row_names f.input) f.input [] old begun first))))
 
 -- ---- the lines behind are tried before
 

@@ -8,7 +8,8 @@ use Rattle.kahn_streams.specs.Written.{AppendsFront, Writes}
 use Rattle.kahn_fault.specs.declared.fault.Fault.{Fault}
 use Rattle.kahn_session.specs.Live.{HasVerdict, IsTakenLine, Live, breaks}
 use Rattle.kahn_session.specs.declared.fault.TakeFault.{TakeFault}
-use Rattle.kahn_live.specs.Course.{AreRead, WasAnswered, WasFed, HasSent, HasWaited, IsAnswerTold, IsBlankMet, IsHearing, IsLineMet, IsAnyMet, IsNextMet, IsNoneCome, IsSource, IsStep, IsToldBy, Point, Telling}
+use Rattle.kahn_live.specs.Course.{WasAnswered, WasFed, HasSent, HasWaited, IsAnswerTold, IsLineMet, IsToldBy, Point, LiveTelling}
+use Rattle.kahn_live.specs.InputMet.{AreRead, IsBlankMet, IsHearing, IsNextMet, IsNoneCome, IsSource, IsStep}
 
 -- what the session made of a line, where no byte more went out since
 fed_since : (line : List ℕ) (answer : Result Verdict TakeFault) (old mid new : Point) → IsTakenLine line old.session mid.session old.out mid.out answer → HasWaited mid new
@@ -21,12 +22,12 @@ pub line_met : (number : ℕ) (line : List ℕ) (answer : Result Verdict TakeFau
 line_met number line answer old mid new (Ok None) quiet taken ((v, is), told, waited) = (
   v,
   (
-    subst (λ (a : Result Verdict TakeFault). IsToldBy new.session number line a old.told new.told) is (subst (λ (t : Telling). IsToldBy new.session number line answer t new.told) quiet told),
+    subst (λ (a : Result Verdict TakeFault). IsToldBy new.session number line a old.told new.told) is (subst (λ (t : LiveTelling). IsToldBy new.session number line answer t new.told) quiet told),
     subst (λ (a : Result Verdict TakeFault). WasFed line a old new) is (fed_since line answer old mid new taken waited),
   ),
 )
 line_met number line answer old mid new (Ok (Some f)) quiet taken (is, told, waited) = (
-  subst (λ (a : Result Verdict TakeFault). IsToldBy new.session number line a old.told new.told) is (subst (λ (t : Telling). IsToldBy new.session number line answer t new.told) quiet told),
+  subst (λ (a : Result Verdict TakeFault). IsToldBy new.session number line a old.told new.told) is (subst (λ (t : LiveTelling). IsToldBy new.session number line answer t new.told) quiet told),
   subst (λ (a : Result Verdict TakeFault). WasFed line a old new) is (fed_since line answer old mid new taken waited),
 )
 line_met number line answer old mid new (Err fault) quiet taken (why, (still, waited)) =
@@ -53,10 +54,6 @@ still_whole number line answer mid new (Err fault) whole told = tt
 pub answered_of : (number : ℕ) (line : List ℕ) (old new : Point) (r : Option TakeFault) → IsLineMet number line old new (Ok r) → WasAnswered number line old new
 answered_of number line old new None (v, met) = (Ok v, met)
 answered_of number line old new (Some f) met = (Err f, met)
-
--- and as one of the input
-pub met_of : (number : ℕ) (line : List ℕ) (old new : Point) (r : Option TakeFault) → IsLineMet number line old new (Ok r) → IsAnyMet number line old new
-met_of number line old new r met = inl (answered_of number line old new r met)
 
 -- one line more
 pub next_read : (input : Option (List ℕ)) (n number : ℕ) (text left rest : Option (List ℕ)) (old last new : Point) (b : Bool) → b ≡ true → number ≡ suc n

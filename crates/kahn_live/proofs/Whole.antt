@@ -13,10 +13,10 @@ use Rattle.kahn_streams.specs.declared.fault.RunFault.{RunFault}
 use Rattle.kahn_fault.specs.declared.fault.Fault.{Fault}
 use Rattle.kahn_line.specs.declared.parts.Plain.{Plain}
 use Rattle.kahn_session.specs.Live.{HasOpened, IsStreamOf, Live}
-use Rattle.kahn_live.specs.Course.{Point, Telling}
+use Rattle.kahn_live.specs.Course.{Point, LiveTelling}
 use Rattle.kahn_live.specs.LinesMet.{AreAllMet, LinesGiven}
 use Rattle.kahn_live.specs.Running.{HasServed, IsInForm, IsPlainStream, IsSetUp}
-use Rattle.kahn_live.specs.declared.serving.Ending.{Ending}
+use Rattle.kahn_live.specs.declared.serving.RunEnding.{RunEnding}
 
 -- there is an input channel of the name
 pub all_there : (f : LinesGiven) (text : Option (List ℕ)) (old new : Point) (b : Bool) → b ≡ true → AreAllMet f (Ok b) text old new → AreAllMet f (Ok true) text old new
@@ -46,7 +46,7 @@ set_up plain t config first (Ok s) opened formed = (first, opened, formed)
 set_up plain t config first (Err f) opened formed = inr (first, opened, formed)
 
 -- the same lines, behind the same bytes
-pub served_as : (strict : Bool) (named input : Option (List ℕ)) (at_end : List (List ℕ)) (s : Live) (text before out : Option (List ℕ)) (old : Telling) (last : Point) (r : Result Ending Fault)
+pub served_as : (strict : Bool) (named input : Option (List ℕ)) (at_end : List (List ℕ)) (s : Live) (text before out : Option (List ℕ)) (old : LiveTelling) (last : Point) (r : Result RunEnding Fault)
     → named ≡ input → before ≡ out → HasServed strict (record { input = named; at_end = at_end }) r text (record { session = s; out = before; told = old }) last
     → HasServed strict (record { input = input; at_end = at_end }) r text (record { session = s; out = out; told = old }) last
 served_as strict named input at_end s text before out old last r is same served =

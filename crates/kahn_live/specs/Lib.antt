@@ -1,5 +1,7 @@
 pub mod Lines
+pub mod Rows
 pub mod Course
+pub mod InputMet
 pub mod LinesMet
 pub mod Histories
 pub mod Running

@@ -6,7 +6,7 @@ use Rattle.std.specs.Cmp.Lexicographic.{pointwise}
 use Rattle.kahn_texts.specs.Formats.{most_input_bytes}
 use Rattle.kahn_live.specs.declared.lines.Next.{Next}
 use Rattle.kahn_live.specs.declared.lines.Next.TheVariants.{Line, End, Failed, NoMemory}
-use Rattle.kahn_live.specs.declared.outlet.Outlet.{Outlet}
+use Rattle.kahn_live.specs.declared.outlet.DeferredWriter.{DeferredWriter}
 use Rattle.std.specs.List.{list_any}
 
 -- the line stands before the first line feed of the text; or it is the whole text, which has none and isn't empty
@@ -51,5 +51,5 @@ IsNextLine old new kept Failed = ⊤
 IsNextLine old new kept NoMemory = (line : List ℕ) × CutsLine line old new
 
 -- a read doesn't wait for a line, or nothing that is new waits to be sent
-abbrev pub IsReadyToRead : {W : Type 0} → List ℕ → Outlet W → Type 0
+abbrev pub IsReadyToRead : {W : Type 0} → List ℕ → DeferredWriter W → Type 0
 IsReadyToRead come outlet = (list_any (λ b. b == 10) come ≡ true) ⊎ (outlet.due ≡ false)

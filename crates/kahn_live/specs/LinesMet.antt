@@ -1,7 +1,9 @@
 -- Believed. All lines of a run: the part before them, those of the input, and those behind these (this project's profile).
 use Rattle.std.specs.Prelude.{◌≡◌, ◌⊎◌, ℕ, Bool, true, false, List, map, Option, option_copied, string_bytes, Result, Ok, Err}
 use Rattle.kahn_fault.specs.declared.fault.Fault.{Fault}
-use Rattle.kahn_live.specs.Course.{AreAllRead, AreFed, AreMeant, IsAloneTold, IsCutOff, IsFirstPart, IsInputStopped, IsUnmeantTold, Point}
+use Rattle.kahn_live.specs.Course.{Point}
+use Rattle.kahn_live.specs.InputMet.{AreAllRead, AreFed, IsAloneTold, IsCutOff, IsFirstPart, IsInputStopped, IsUnmeantTold}
+use Rattle.kahn_live.specs.Rows.{AreMeant, bare_of}
 use Rattle.kahn_live.specs.declared.taking.Fed.{Fed}
 
 -- what is fed: the lines of the input, behind the name of a channel where values stand alone, and the lines behind them
@@ -21,10 +23,10 @@ AreStopped f fault text old new =
 -- input channel of the name no line is read
 abbrev pub AreEachMet : LinesGiven → Result Bool Fault → Option (List ℕ) → Point → Point → Type 0
 AreEachMet f (Ok true) text old new = (begun : Point) × IsFirstPart f.input old begun (Ok true)
-    × ((ready : Point) × (last : Point) × IsAloneTold f.input begun ready × AreAllRead f.input text ready last × AreFed f.at_end last new)
+    × ((ready : Point) × (last : Point) × IsAloneTold (bare_of f.input) begun ready × AreAllRead f.input text ready last × AreFed f.at_end last new)
 AreEachMet f (Ok false) text old new = IsFirstPart f.input old new (Ok false)
 AreEachMet f (Err fault) text old new = IsFirstPart f.input old new (Err fault)
-    ⊎ ((begun : Point) × (ready : Point) × IsFirstPart f.input old begun (Ok true) × IsAloneTold f.input begun ready × AreStopped f fault text ready new)
+    ⊎ ((begun : Point) × (ready : Point) × IsFirstPart f.input old begun (Ok true) × IsAloneTold (bare_of f.input) begun ready × AreStopped f fault text ready new)
 
 -- all that, where each of the lines behind is meant for an input channel; else the first that isn't is told, and nothing else is done
 abbrev pub AreAllMet : LinesGiven → Result Bool Fault → Option (List ℕ) → Point → Point → Type 0

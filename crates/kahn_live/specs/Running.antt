@@ -1,5 +1,5 @@
 -- Believed. A run on lines, from the program text to the status (this project's profile).
-use Rattle.std.specs.Prelude.{◌≡◌, ◌⊎◌, ℕ, Bool, true, false, List, [], ◌∷◌, map, Option, None, Some, Result, Ok, Err, option_map, option_copied, codes, string_bytes}
+use Rattle.std.specs.Prelude.{◌≡◌, ◌⊎◌, ℕ, Bool, true, false, List, [], ◌∷◌, map, Option, None, Some, Result, Ok, Err, option_map, option_copied, codes, is_some, string_bytes}
 use Rattle.std.specs.declared.alloc.Global.{Global}
 use Rattle.std.specs.declared.string.String.{String}
 use Rattle.std.specs.Io.KnownBytes.{Keeps}
@@ -23,26 +23,26 @@ use Rattle.kahn_line.specs.declared.parts.Plain.{Plain}
 use Rattle.kahn_hints.specs.Inputs.{names_of_channels, unknown_channel}
 use Rattle.kahn_session.specs.Refusals.{unknown_text}
 use Rattle.kahn_session.specs.Live.{HasOpened, IsFaulty, IsLastText, IsRinged, IsStreamOf, IsUnopened, Live}
-use Rattle.kahn_live.specs.Course.{HasSent, HasWaited, IsMoreTold, IsWriteFault, Point, Telling, WasTold, no_memory, telling_of}
+use Rattle.kahn_live.specs.Course.{HasSent, HasWaited, IsMoreTold, IsWriteFault, Point, LiveTelling, WasTold, no_memory, telling_of}
 use Rattle.kahn_live.specs.LinesMet.{AreAllMet, LinesGiven}
-use Rattle.kahn_live.specs.declared.running.Asked.{Asked}
+use Rattle.kahn_live.specs.declared.running.Requested.{Requested}
 use Rattle.kahn_live.specs.declared.running.Returned.{Returned}
 use Rattle.kahn_live.specs.declared.serving.Amiss.{Amiss}
 use Rattle.kahn_live.specs.declared.serving.Amiss.TheVariants.{Faulted, Ringed}
-use Rattle.kahn_live.specs.declared.serving.Ending.{Ending}
-use Rattle.kahn_live.specs.declared.serving.Ending.TheVariants.{Reached, Gone, Refused}
+use Rattle.kahn_live.specs.declared.serving.RunEnding.{RunEnding}
+use Rattle.kahn_live.specs.declared.serving.RunEnding.TheVariants.{Reached, Gone, Refused}
 use Rattle.kahn_live.specs.declared.telling.Teller.{Teller}
 
 -- ---- the start
 
--- the channel whose values alone are shown is watched, where it is named, and no other one is
-abbrev pub WatchesOutput : Option (String Global) → Config → Config → Type 0
-WatchesOutput None old new = new ≡ record old { watch = None }
-WatchesOutput (Some name) old new = (word : String Global) × (string_bytes word ≡ string_bytes name) × (new ≡ record old { watch = Some word })
+-- the name of the channel that is watched: that of `--watch`; where values stand alone the one whose values are shown, and no other
+abbrev pub name_watched : Option Plain → Option (String Global) → Option (List ℕ)
+name_watched None watch = option_map string_bytes watch
+name_watched (Some p) watch = option_map string_bytes p.output
 
-abbrev pub WatchesPlain : Option Plain → Config → Config → Type 0
-WatchesPlain None old new = new ≡ old
-WatchesPlain (Some p) old new = WatchesOutput p.output old new
+-- the channel of this name is watched, and nothing else differs
+abbrev pub Watches : Option (List ℕ) → Config → Config → Type 0
+Watches name old new = (option_map string_bytes new.watch ≡ name) × (new ≡ record old { watch = new.watch })
 
 -- the number of the stream whose values alone are shown: that of the channel that is named, or else the first
 abbrev pub IsPlainStream : HeldRun → Option (String Global) → Option ℕ → Type 0
@@ -81,14 +81,14 @@ abbrev pub IsEndWanted : HeldRun → Option Amiss → Bool → Verdict → Bool 
 IsEndWanted h amiss refused v true = (reached_status amiss refused v ≡ 0 → ⊥) ⊎ (IsFaulty h true ⊎ IsRinged h true)
 IsEndWanted h amiss refused v false = (reached_status amiss refused v ≡ 0) × IsFaulty h false × IsRinged h false
 
-abbrev pub IsEndPut : HeldRun → Telling → Telling → Type 0
+abbrev pub IsEndPut : HeldRun → LiveTelling → LiveTelling → Type 0
 IsEndPut h old new = (v : Verdict) × (text : List ℕ) × IsLastText h v text × WasTold text old new
 
-abbrev pub IsEndTold : HeldRun → Telling → Telling → Bool → Type 0
-IsEndTold h old new true = (mid : Telling) × IsMoreTold old mid × IsEndPut h mid new
+abbrev pub IsEndTold : HeldRun → LiveTelling → LiveTelling → Bool → Type 0
+IsEndTold h old new true = (mid : LiveTelling) × IsMoreTold old mid × IsEndPut h mid new
 IsEndTold h old new false = new ≡ old
 
-abbrev pub IsVerdictMet : HeldRun → Option Amiss → Telling → Telling → Verdict → Type 0
+abbrev pub IsVerdictMet : HeldRun → Option Amiss → LiveTelling → LiveTelling → Verdict → Type 0
 IsVerdictMet h amiss old new v = (h.verdict ≡ Some v) × ((told : Bool) × IsEndWanted h amiss old.refused v told × IsEndTold h old new told)
 
 -- what is new went out, and how the run ended is told
@@ -103,7 +103,7 @@ abbrev pub IsClosing : Bool → Option Amiss → Point → Point → Result Verd
 IsClosing strict amiss old new r = IsJudged strict old.session.flow.run amiss × IsEnded amiss old new r
 
 -- all lines were met and then the end, or one of these stopped the run
-abbrev pub HasServedAll : Bool → LinesGiven → Result Ending Fault → Option (List ℕ) → Point → Point → Type 0
+abbrev pub HasServedAll : Bool → LinesGiven → Result RunEnding Fault → Option (List ℕ) → Point → Point → Type 0
 HasServedAll strict f (Ok (Reached v amiss)) text old new =
     (last : Point) × AreAllMet f (Ok true) text old last × IsClosing strict amiss last new (Ok v)
 HasServedAll strict f (Ok Refused) text old new = AreAllMet f (Ok false) text old new
@@ -115,53 +115,55 @@ HasServedAll strict f (Err fault) text old new = AreAllMet f (Err fault) text ol
 abbrev pub IsLacking : {X P : Type 0} → Result X Fault → P → P → Type 0
 IsLacking r old new = (r ≡ Err no_memory) × (new ≡ old)
 
-abbrev pub HasServed : Bool → LinesGiven → Result Ending Fault → Option (List ℕ) → Point → Point → Type 0
+abbrev pub HasServed : Bool → LinesGiven → Result RunEnding Fault → Option (List ℕ) → Point → Point → Type 0
 HasServed strict f r text old new = HasServedAll strict f r text old new ⊎ IsLacking r old new
 
 -- whether the lines of a run ended since a write failed
-abbrev pub is_unwritten : Result Ending Fault → Bool
+abbrev pub is_unwritten : Result RunEnding Fault → Bool
 is_unwritten (Err (Work (WriteWork f))) = true
 is_unwritten r = false
 
 -- what is new couldn't be sent in the end
-abbrev pub IsUnsent : Result Ending Fault → Result Ending Fault → Type 0
+abbrev pub IsUnsent : Result RunEnding Fault → Result RunEnding Fault → Type 0
 IsUnsent (Ok x) (Ok y) = y ≡ Gone
 IsUnsent (Ok x) (Err fault) = IsWriteFault fault
 IsUnsent (Err f) r = (r ≡ Ok Gone) ⊎ (r ≡ Err f)
 
 -- How a run ended is how its lines ended; or nobody reads what is new any more, only if these ended since a write failed. The same where the
 -- last send failed, which is a write fault otherwise.
-abbrev pub IsSent : Bool → Result Ending Fault → Result Ending Fault → Type 0
+abbrev pub IsSent : Bool → Result RunEnding Fault → Result RunEnding Fault → Type 0
 IsSent true ending r = IsUnsent ending r
 IsSent false ending r = (r ≡ ending) ⊎ ((is_unwritten ending ≡ true) × (r ≡ Ok Gone))
 
-abbrev pub WasSent : Result Ending Fault → Result Ending Fault → Type 0
+abbrev pub WasSent : Result RunEnding Fault → Result RunEnding Fault → Type 0
 WasSent ending r = (failed : Bool) × IsSent failed ending r
 
 -- ---- the whole run
 
 -- this holds of what is told, before and after, and of the answer
-abbrev pub Tells : {X E : Type 0} → (E → Option (List ℕ)) → Teller E → X × Teller E → (Telling → Telling → X → Type 0) → Type 0
+abbrev pub Tells : {X E : Type 0} → (E → Option (List ℕ)) → Teller E → X × Teller E → (LiveTelling → LiveTelling → X → Type 0) → Type 0
 Tells said old done holds = holds (telling_of said old) (telling_of said done.1) done.0
 
 -- the same, and of what went out
 abbrev pub Gives : {W E : Type 0} → (W → Option (List ℕ)) → (E → Option (List ℕ)) → Teller E → Returned W E
-    → (Option (List ℕ) → Telling → Telling → Result Ending Fault → Type 0) → Type 0
+    → (Option (List ℕ) → LiveTelling → LiveTelling → Result RunEnding Fault → Type 0) → Type 0
 Gives written said old done holds = holds (written done.output) (telling_of said old) (telling_of said done.teller) done.ending
 
 -- the lines were served from a session on; this went out in all, and this was told
-abbrev pub HasRunSession : Bool → LinesGiven → Live → Option (List ℕ) → Option (List ℕ) → Option (List ℕ) → Telling → Telling → Result Ending Fault → Type 0
-HasRunSession strict f s text out made old new r = (last : Point) × (ending : Result Ending Fault)
+abbrev pub HasRunSession : Bool → LinesGiven → Live → Option (List ℕ) → Option (List ℕ) → Option (List ℕ) → LiveTelling → LiveTelling → Result RunEnding Fault → Type 0
+HasRunSession strict f s text out made old new r = (last : Point) × (ending : Result RunEnding Fault)
     × HasServed strict f ending text (record { session = s; out = out; told = old }) last × WasSent ending r × Keeps last.out made × (new ≡ last.told)
 
--- what is asked for: the channels whose values stand alone, the lines behind those of the input, and whether the run is judged
+-- what is asked for: the channels whose values stand alone, the channel that is watched, the lines behind those of the input, and whether
+-- the run is judged
 pub record Request : Type 0 where
   pub plain : Option Plain
+  pub watch : Option (List ℕ)
   pub at_end : List (List ℕ)
   pub strict : Bool
 
-abbrev pub request_of : Asked → Request
-request_of a = record { plain = option_copied a.plain; at_end = map string_bytes a.at_end.now; strict = a.strict }
+abbrev pub request_of : Requested → Request
+request_of a = record { plain = option_copied a.plain; watch = option_copied a.watch; at_end = map string_bytes a.at_end.now; strict = a.strict }
 
 -- the channel whose values stand alone in the lines of input, where one is named
 abbrev pub named_input : List ℕ → Option (List ℕ)
@@ -172,55 +174,58 @@ abbrev pub input_of : Option Plain → Option (List ℕ)
 input_of None = None
 input_of (Some p) = named_input (string_bytes p.input)
 
--- the channel that is named for the values that are shown, where a run is refused since none has that name
-abbrev pub unknown_output : RunFault → Option Plain → Option (List ℕ)
-unknown_output UnknownWatch (Some p) = option_map string_bytes p.output
-unknown_output f plain = None
+-- the name of the channel that is to be watched, where a run is refused since none has it
+abbrev pub unknown_watch : RunFault → Option (List ℕ) → Option (List ℕ)
+unknown_watch UnknownWatch name = name
+unknown_watch f name = None
 
 -- what is said of it: the nearest channel, or else which there are; or nothing where memory was refused for it
 abbrev pub IsChannelWords : Program → List ℕ → List ℕ → Type 0
 IsChannelWords t name words = (words ≡ unknown_channel name (names_of_channels t)) ⊎ (words ≡ [])
 
 -- that was told; or the run is refused for another reason
-abbrev pub IsUnstartedTold : Option (List ℕ) → Program → RunFault → Telling → Telling → Result Ending Fault → Type 0
-IsUnstartedTold None t f old new r = (r ≡ Err (Work (RunWork f))) × (new ≡ old)
-IsUnstartedTold (Some name) t f old new r =
-    (r ≡ Ok Refused) × ((words : List ℕ) × IsChannelWords t name words × WasTold (unknown_text old.path name words) old new)
+abbrev pub IsUnknownTold : Bool → Option (List ℕ) → Program → RunFault → LiveTelling → LiveTelling → Result RunEnding Fault → Type 0
+IsUnknownTold of_plain None t f old new r = (r ≡ Err (Work (RunWork f))) × (new ≡ old)
+IsUnknownTold of_plain (Some name) t f old new r =
+    (r ≡ Ok Refused) × ((words : List ℕ) × IsChannelWords t name words × WasTold (unknown_text old.path of_plain name words) old new)
+
+abbrev pub IsUnstartedTold : Request → Program → RunFault → LiveTelling → LiveTelling → Result RunEnding Fault → Type 0
+IsUnstartedTold a t f old new r = IsUnknownTold (is_some a.plain) (unknown_watch f a.watch) t f old new r
 
 -- a session of the network was set up and run, or why not: the run is refused, and nothing went out
-abbrev pub HasRunNetwork : Request → Program → Config → Option (List ℕ) → Option (List ℕ) → Option (List ℕ) → Telling → Telling → Result Ending Fault → Type 0
+abbrev pub HasRunNetwork : Request → Program → Config → Option (List ℕ) → Option (List ℕ) → Option (List ℕ) → LiveTelling → LiveTelling → Result RunEnding Fault → Type 0
 HasRunNetwork a t config text out made old new r =
-    ((f : RunFault) × IsSetUp a.plain t config (Err f) × IsUnstartedTold (unknown_output f a.plain) t f old new r × (made ≡ out))
+    ((f : RunFault) × IsSetUp a.plain t config (Err f) × IsUnstartedTold a t f old new r × (made ≡ out))
     ⊎ ((s : Live) × IsSetUp a.plain t config (Ok s) × HasRunSession a.strict (record { input = input_of a.plain; at_end = a.at_end }) s text out made old new r)
 
 -- the network of the program text was run on this text of input, or why not: memory was refused, or the program text is
-abbrev pub HasRunText : List ℕ → LiveOptions → Option (List ℕ) → Option (List ℕ) → Option (List ℕ) → Telling → Telling → Result Ending Fault → Type 0
+abbrev pub HasRunText : List ℕ → LiveOptions → Option (List ℕ) → Option (List ℕ) → Option (List ℕ) → LiveTelling → LiveTelling → Result RunEnding Fault → Type 0
 HasRunText program o text out made old new r = (IsLacking r old new × (made ≡ out))
     ⊎ (((f : WorkFault) × IsUnchecked program f × (r ≡ Err (Work f)) × (new ≡ old) × (made ≡ out))
-    ⊎ ((t : Program) × (config : Config) × IsChecked program t × WatchesPlain o.plain o.config config
-    × HasRunNetwork (record { plain = o.plain; at_end = map string_bytes o.at_end.items; strict = o.strict }) t config text out made old new r))
+    ⊎ ((t : Program) × (config : Config) × IsChecked program t × Watches (name_watched o.plain o.config.watch) o.config config
+    × HasRunNetwork (record { plain = o.plain; watch = name_watched o.plain o.config.watch; at_end = map string_bytes o.at_end.items; strict = o.strict }) t config text out made old new r))
 
 -- ---- the status
 
-abbrev pub ending_status : Bool → Result Ending Fault → ℕ
+abbrev pub ending_status : Bool → Result RunEnding Fault → ℕ
 ending_status refused (Ok (Reached v amiss)) = reached_status amiss refused v
 ending_status refused (Ok Gone) = live_status_of refused (Ok Finished)
 ending_status refused (Ok Refused) = 6
 ending_status refused (Err fault) = live_status_of refused (Err fault)
 
 -- what is told of how a run ended: a fault, and which program says more of it
-abbrev pub IsLastTold : List ℕ → Result Verdict Fault → Telling → Telling → Type 0
-IsLastTold program answer old new = (mid : Telling) × (last : Telling)
+abbrev pub IsLastTold : List ℕ → Result Verdict Fault → LiveTelling → LiveTelling → Type 0
+IsLastTold program answer old new = (mid : LiveTelling) × (last : LiveTelling)
     × IsMoreTold old mid × WasTold (told_text program answer) mid last × WasTold (pointer_text last.path answer) last new
 
-abbrev pub IsEndingTold : List ℕ → Result Ending Fault → Telling → Telling → Type 0
+abbrev pub IsEndingTold : List ℕ → Result RunEnding Fault → LiveTelling → LiveTelling → Type 0
 IsEndingTold program (Ok (Reached v amiss)) old new = IsLastTold program (Ok v) old new
 IsEndingTold program (Ok Gone) old new = IsLastTold program (Ok Finished) old new
 IsEndingTold program (Ok Refused) old new = new ≡ old
 IsEndingTold program (Err fault) old new = IsLastTold program (Err fault) old new
 
 -- before the first line
-abbrev pub untold : Option (List ℕ) → Bool → List ℕ → Telling
+abbrev pub untold : Option (List ℕ) → Bool → List ℕ → LiveTelling
 untold bytes keep_going path = record {
   bytes = bytes;
   failed = false;
@@ -237,11 +242,11 @@ IsWatchTold false old new = new ≡ old
 
 -- a program text, of this file, was run as the options say, on this text of input, behind what was written and what was told before; how that
 -- ended was told, this is what went out, and the status is this
-abbrev pub HasRunAs : List ℕ → List ℕ → LiveOptions → Option (List ℕ) → Option (List ℕ) → Option (List ℕ) → Option (List ℕ) → Telling → ℕ → Type 0
+abbrev pub HasRunAs : List ℕ → List ℕ → LiveOptions → Option (List ℕ) → Option (List ℕ) → Option (List ℕ) → Option (List ℕ) → LiveTelling → ℕ → Type 0
 HasRunAs program path o text out bytes made new status =
-    (r : Result Ending Fault) × (last : Telling) × HasRunText program o text out made (untold bytes o.keep_going path) last r
+    (r : Result RunEnding Fault) × (last : LiveTelling) × HasRunText program o text out made (untold bytes o.keep_going path) last r
     × IsEndingTold program r last new × (status ≡ ending_status last.refused r)
 
 -- this holds of what went out, of what is told, and of the status
-abbrev pub EndsAs : {W E : Type 0} → (W → Option (List ℕ)) → (E → Option (List ℕ)) → ℕ × W × Teller E → (Option (List ℕ) → Telling → ℕ → Type 0) → Type 0
+abbrev pub EndsAs : {W E : Type 0} → (W → Option (List ℕ)) → (E → Option (List ℕ)) → ℕ × W × Teller E → (Option (List ℕ) → LiveTelling → ℕ → Type 0) → Type 0
 EndsAs written said done holds = holds (written done.1) (telling_of said done.2) done.0

@@ -6,7 +6,7 @@ ghost use Rattle.std.specs.Io.Buffered.{reader_buffer, reader_remaining};
 ghost use Rattle.kahn_live.specs.Lines.{IsNextLine, IsReadyToRead, fed_text, is_bare_line, most_kept, unmarked};
 ghost use Rattle.kahn_live.specs.inner.Parts.{IsLastRead, IsLinePart, IsPassed};
 
-use crate::outlet::Outlet;
+use crate::outlet::DeferredWriter;
 use kahn_texts::MOST_BYTES;
 use std::alloc::AllocError;
 use std::io::{BufRead, BufReader, ErrorKind, Read, Write};
@@ -30,7 +30,7 @@ pub(crate) enum Next {
 }
 
 /// What was read of a line.
-enum Part {
+enum LinePart {
     /// Bytes of it, or none.
     More,
     /// The rest of it, and its line feed.
@@ -64,7 +64,7 @@ pub(crate) fn has_line<R: Read>(reader: &BufReader<R>) -> bool
 pub(crate) fn next_line<R: Read, W: Write>(
     reader: &mut BufReader<R>,
     line: &mut Vec<u8>,
-    _outlet: &Outlet<W>,
+    _outlet: &DeferredWriter<W>,
 ) -> Next
     requires { IsReadyToRead (reader_buffer reader.old) _outlet.now }
     ensures { IsNextLine (reader_remaining R.remaining reader.old) (reader_remaining R.remaining reader.new) line.new.items result }
@@ -80,11 +80,11 @@ fn read_line<B: BufRead>(reader: &mut B, line: &mut Vec<u8>) -> Next
 {
     for _ in 0..u64::MAX {
         match read_part(reader, line) {
-            Part::More => {}
-            Part::Whole => return Next::Line,
-            Part::End => return last_line(line),
-            Part::Failed => return Next::Failed,
-            Part::NoMemory => return pass_line(reader),
+            LinePart::More => {}
+            LinePart::Whole => return Next::Line,
+            LinePart::End => return last_line(line),
+            LinePart::Failed => return Next::Failed,
+            LinePart::NoMemory => return pass_line(reader),
         }
     }
     Next::Failed
@@ -111,7 +111,7 @@ fn pass_line<B: BufRead>(reader: &mut B) -> Next
 }
 
 /// Reads what has come of a line, or waits for it, and keeps it.
-fn read_part<B: BufRead>(reader: &mut B, line: &mut Vec<u8>) -> Part
+fn read_part<B: BufRead>(reader: &mut B, line: &mut Vec<u8>) -> LinePart
     requires { vec_len line.old ≤ most_kept }
     ensures { IsLinePart (B.remaining reader.old) (B.remaining reader.new) line.old.items line.new.items result }
 {
@@ -119,25 +119,25 @@ fn read_part<B: BufRead>(reader: &mut B, line: &mut Vec<u8>) -> Part
         Ok(shown) => shown,
         Err(error) => {
             return if error.kind() == ErrorKind::Interrupted {
-                Part::More
+                LinePart::More
             } else {
-                Part::Failed
+                LinePart::Failed
             };
         }
     };
     let length = shown.len();
     let end = length_before(shown, b'\n');
     if length == 0 {
-        return Part::End;
+        return LinePart::End;
     }
     if keep(line, &shown[..end]).is_err() {
-        return Part::NoMemory;
+        return LinePart::NoMemory;
     }
     reader.consume((end + 1).min(length));
     if end == length {
-        return Part::More;
+        return LinePart::More;
     }
-    Part::Whole
+    LinePart::Whole
 }
 
 /// The length of the bytes before the first such byte, or of all.
@@ -166,7 +166,7 @@ fn keep(line: &mut Vec<u8>, bytes: &[u8]) -> Result<(), AllocError>
 }
 
 /// A line without a byte order mark, which only the first line may begin with.
-fn without_mark(line: &[u8], number: u64) -> &[u8]
+pub(crate) fn without_mark(line: &[u8], number: u64) -> &[u8]
     ensures { result.now ≡ unmarked number line.now }
 {
     if number != 1 {
@@ -178,17 +178,14 @@ fn without_mark(line: &[u8], number: u64) -> &[u8]
     }
 }
 
-/// The line of that number as it is fed: without a byte order mark, and behind the name of the input channel and a colon, where
-/// values stand alone.
+/// A line as it is fed: behind the name of the input channel and a colon, where values stand alone.
 pub(crate) fn fed_line<'a>(
     input: Option<&str>,
     line: &'a [u8],
-    number: u64,
     room: &'a mut Vec<u8>,
 ) -> Result<&'a [u8], AllocError>
-    ensures { IfOk result (λ fed. fed.now ≡ fed_text (option_copied input.entry) (unmarked number line.entry.now)) }
+    ensures { IfOk result (λ fed. fed.now ≡ fed_text (option_copied input.entry) line.entry.now) }
 {
-    let line = without_mark(line, number);
     let Some(input) = input else {
         return Ok(line);
     };

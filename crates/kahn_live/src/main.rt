@@ -4,9 +4,11 @@
 ghost use Rattle.std.specs.Prelude.{◌≡◌, ◌&&◌, is_some};
 ghost use Rattle.kahn_live.specs.Running.{IsWatchTold};
 
+mod complaint;
 mod lines;
 mod outlet;
 mod patient;
+mod rows;
 mod running;
 mod serving;
 mod source;

@@ -12,19 +12,19 @@ use std::io::{ErrorKind, Write};
 
 /// A writer that puts flushes off until `send`, and remembers whether its reader is gone.
 #[derive(Drop)]
-pub(crate) struct Outlet<W: Write> {
+pub(crate) struct DeferredWriter<W: Write> {
     pub(crate) writer: W,
     // Whether a flush was put off.
     pub(crate) due: bool,
     pub(crate) gone: bool,
 }
 
-impl<W: Write> Outlet<W> {
+impl<W: Write> DeferredWriter<W> {
     /// Before the first write.
-    pub(crate) fn new(writer: W) -> Outlet<W>
+    pub(crate) fn new(writer: W) -> DeferredWriter<W>
         ensures { result ≡ record { writer = writer; due = false; gone = false } }
     {
-        Outlet {
+        DeferredWriter {
             writer,
             due: false,
             gone: false,
@@ -66,7 +66,7 @@ fn is_gone<T>(done: &io::Result<T>) -> bool
     }
 }
 
-impl<W: Write> Write for Outlet<W> {
+impl<W: Write> Write for DeferredWriter<W> {
     ghost contents = { λ o. W.contents o.writer };
 
     fn write(&mut self, buf: &[u8]) -> io::Result<usize>

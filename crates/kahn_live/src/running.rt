@@ -1,13 +1,13 @@
 //! A run on lines, from the program text to the status.
 
-ghost use Rattle.std.specs.Prelude.{◌≡◌, IfOk, false, option_copied, option_map, string_bytes};
+ghost use Rattle.std.specs.Prelude.{◌≡◌, IfOk, false, is_some, option_copied, option_map, string_bytes};
 ghost use Rattle.kahn_live.specs.Course.{telling_of};
-ghost use Rattle.kahn_live.specs.Running.{EndsAs, Gives, HasRunAs, HasRunNetwork, HasRunText, IsChannelWords, IsInForm, IsPlainStream, IsSetUp, Tells, WatchesPlain};
-ghost use Rattle.kahn_live.specs.Running.{IsEndingTold, IsUnstartedTold, ending_status, input_of, named_input, request_of, unknown_output};
+ghost use Rattle.kahn_live.specs.Running.{EndsAs, Gives, HasRunAs, HasRunNetwork, HasRunText, IsChannelWords, IsInForm, IsPlainStream, IsSetUp, Tells, Watches, name_watched};
+ghost use Rattle.kahn_live.specs.Running.{IsEndingTold, IsUnstartedTold, ending_status, input_of, named_input, request_of, unknown_watch};
 
-use crate::outlet::Outlet;
-use crate::serving::{Ending, reached_status, sent, work};
-use crate::stage::Stage;
+use crate::outlet::DeferredWriter;
+use crate::serving::{RunEnding, reached_status, sent, work};
+use crate::stage::LiveStage;
 use crate::taking::{Fed, wants_memory};
 use crate::telling::Teller;
 use kahn_fault::{Fault, WorkFault, checked};
@@ -24,39 +24,52 @@ const REFUSED: u8 = 6;
 /// What a run gives back: how it ended, and its writers.
 #[derive(Drop)]
 struct Returned<W: Write, E: Write> {
-    ending: Result<Ending, Fault>,
+    ending: Result<RunEnding, Fault>,
     output: W,
     teller: Teller<E>,
 }
 
-/// How the run is set up: where values stand alone, the channel whose values are shown is watched, so that it has a stream, and no other
-/// one is, whose stream may be the first.
-fn watching(alloc: Global, config: Config, plain: Option<&Plain>) -> Result<Config, AllocError>
-    ensures { IfOk result (WatchesPlain (option_copied plain.entry) config) }
+/// A name, where there is one.
+fn named(name: &Option<String>) -> Option<&str>
+    ensures { option_copied result ≡ option_map string_bytes name.now }
 {
-    let Some(plain) = plain else {
-        return Ok(config);
-    };
-    let Some(output) = &plain.output else {
-        return Ok(Config {
-            watch: None,
-            ..config
-        });
-    };
-    Ok(Config {
-        watch: Some(String::from_str(alloc, output.as_str())?),
-        ..config
-    })
-}
-
-/// The name of the channel whose values are shown, where it is named.
-fn output_of(plain: &Plain) -> Option<&str>
-    ensures { option_copied result ≡ option_map string_bytes plain.now.output }
-{
-    match &plain.output {
-        Some(output) => Some(output.as_str()),
+    match name {
+        Some(name) => Some(name.as_str()),
         None => None,
     }
+}
+
+/// The name of the channel that is watched: where values stand alone, of the one whose values are shown, so that it has a stream, and
+/// of no other one, whose stream may be the first.
+fn name_watched<'o>(watch: &'o Option<String>, plain: Option<&'o Plain>) -> Option<&'o str>
+    ensures { option_copied result ≡ name_watched (option_copied plain.entry) watch.entry.now }
+{
+    match plain {
+        Some(plain) => named(&plain.output),
+        None => named(watch),
+    }
+}
+
+/// Copies a name, if there is one.
+fn copied(alloc: Global, name: Option<&str>) -> Result<Option<String>, AllocError>
+    ensures { IfOk result (λ copy. option_map string_bytes copy ≡ option_copied name.entry) }
+{
+    match name {
+        Some(name) => Ok(Some(String::from_str(alloc, name)?)),
+        None => Ok(None),
+    }
+}
+
+/// How the run is set up, with the channel of that name watched.
+fn watching(alloc: Global, config: &Config, name: Option<&str>) -> Result<Config, AllocError>
+    ensures { IfOk result (Watches (option_copied name.entry) config.now) }
+{
+    Ok(Config {
+        workers: config.workers,
+        quantum: config.quantum,
+        bound: config.bound,
+        watch: copied(alloc, name)?,
+    })
 }
 
 /// The number of the stream of which the values alone are shown.
@@ -97,21 +110,23 @@ fn started<'n>(
 
 /// What the command line asks for of a run that is set up.
 #[derive(Clone, Copy)]
-struct Asked<'a> {
+struct Requested<'a> {
     /// The channels whose values stand alone in the lines of input and output, where they do.
     plain: Option<&'a Plain>,
+    /// The name of the channel that is watched.
+    watch: Option<&'a str>,
     /// The lines behind those of the input.
     at_end: &'a [String],
     /// Whether the run is judged.
     strict: bool,
 }
 
-/// The channel that `--plain` names for the values that are shown, where a run is refused since none has that name.
-fn unknown_output<'p>(fault: RunFault, plain: Option<&'p Plain>) -> Option<&'p str>
-    ensures { option_copied result ≡ unknown_output fault (option_copied plain.entry) }
+/// The name of the channel that is to be watched, where a run is refused since none has it.
+fn unknown_watch<'o>(fault: RunFault, watch: Option<&'o str>) -> Option<&'o str>
+    ensures { option_copied result ≡ unknown_watch fault (option_copied watch.entry) }
 {
-    match (fault, plain) {
-        (RunFault::UnknownWatch, Some(plain)) => output_of(plain),
+    match fault {
+        RunFault::UnknownWatch => watch,
         _ => None,
     }
 }
@@ -127,21 +142,31 @@ fn channel_words(alloc: Global, network: &Network, name: &str) -> String
     }
 }
 
-/// How a run without a session ends. That there is no channel of a name of `--plain` is told.
+/// Whether values stand alone.
+fn is_plain(plain: Option<&Plain>) -> bool
+    ensures { result ≡ is_some (option_copied plain.entry) }
+{
+    match plain {
+        Some(_) => true,
+        None => false,
+    }
+}
+
+/// How a run without a session ends. That there is no channel of the name that is to be watched is told.
 fn unstarted<E: Write + Drop>(
     network: &Network,
     fault: RunFault,
-    plain: Option<&Plain>,
+    asked: Requested<'_>,
     mut teller: Teller<E>,
-) -> (Result<Ending, Fault>, Teller<E>)
-    ensures { Tells E.contents teller result (IsUnstartedTold (unknown_output fault (option_copied plain.entry)) network.now fault) }
+) -> (Result<RunEnding, Fault>, Teller<E>)
+    ensures { Tells E.contents teller result (IsUnstartedTold (request_of asked.entry) network.now fault) }
 {
-    match unknown_output(fault, plain) {
+    match unknown_watch(fault, asked.watch) {
         None => (Err(Fault::Work(WorkFault::Run(fault))), teller),
         Some(name) => {
             let words = channel_words(teller.alloc, network, name);
-            teller.tell_unknown(name, words.as_str());
-            (Ok(Ending::Refused), teller)
+            teller.tell_unknown(is_plain(asked.plain), name, words.as_str());
+            (Ok(RunEnding::Refused), teller)
         }
     }
 }
@@ -151,7 +176,7 @@ fn run_network<I: Read + Drop, W: Write + Drop, E: Write + Drop>(
     alloc: Global,
     network: &Network,
     config: Config,
-    asked: Asked<'_>,
+    asked: Requested<'_>,
     input: I,
     output: W,
     teller: Teller<E>,
@@ -161,7 +186,7 @@ fn run_network<I: Read + Drop, W: Write + Drop, E: Write + Drop>(
     let session = match started(alloc, network, config, asked.plain) {
         Ok(session) => session,
         Err(fault) => {
-            let (ending, teller) = unstarted(network, fault, asked.plain, teller);
+            let (ending, teller) = unstarted(network, fault, asked, teller);
             return Returned {
                 ending,
                 output,
@@ -169,9 +194,9 @@ fn run_network<I: Read + Drop, W: Write + Drop, E: Write + Drop>(
             };
         }
     };
-    let mut stage = Stage {
+    let mut stage = LiveStage {
         session,
-        outlet: Outlet::new(output),
+        outlet: DeferredWriter::new(output),
         teller,
     };
     let fed = Fed {
@@ -180,7 +205,7 @@ fn run_network<I: Read + Drop, W: Write + Drop, E: Write + Drop>(
     };
     let ending = work(alloc, &mut stage, input, fed, asked.strict);
     let ending = sent(&mut stage.outlet, ending);
-    let Stage { outlet, teller, .. } = stage;
+    let LiveStage { outlet, teller, .. } = stage;
     let output = outlet.writer;
     Returned {
         ending,
@@ -227,12 +252,15 @@ fn run<I: Read + Drop, W: Write + Drop, E: Write + Drop>(
         strict,
         ..
     } = options;
-    let asked = Asked {
-        plain: plain.as_ref(),
+    let columns = plain.as_ref();
+    let watch = name_watched(&config.watch, columns);
+    let asked = Requested {
+        plain: columns,
+        watch,
         at_end: &at_end,
         strict,
     };
-    let Ok(config) = watching(alloc, config, asked.plain) else {
+    let Ok(config) = watching(alloc, &config, watch) else {
         let ending = Err(wants_memory());
         return Returned {
             ending,
@@ -254,18 +282,18 @@ fn run<I: Read + Drop, W: Write + Drop, E: Write + Drop>(
 }
 
 /// Tells a fault of the run, and gives the status.
-fn told<E: Write>(ending: Result<Ending, Fault>, program: &str, teller: &mut Teller<E>) -> u8
+fn told<E: Write>(ending: Result<RunEnding, Fault>, program: &str, teller: &mut Teller<E>) -> u8
     ensures status { result ≡ ending_status teller.old.refused ending }
     ensures told { IsEndingTold program.now ending (telling_of E.contents teller.old) (telling_of E.contents teller.new) }
 {
     match ending {
-        Ok(Ending::Reached(verdict, amiss)) => {
+        Ok(RunEnding::Reached(verdict, amiss)) => {
             let status = reached_status(amiss, teller.refused, verdict);
             teller.tell_last(&Ok(verdict), program);
             status
         }
-        Ok(Ending::Gone) => teller.tell_last(&Ok(Verdict::Finished), program),
-        Ok(Ending::Refused) => REFUSED,
+        Ok(RunEnding::Gone) => teller.tell_last(&Ok(Verdict::Finished), program),
+        Ok(RunEnding::Refused) => REFUSED,
         Err(fault) => teller.tell_last(&Err(fault), program),
     }
 }

@@ -7,8 +7,8 @@ ghost use Rattle.kahn_live.specs.Course.{Across, AcrossStage, IsWriteFault, poin
 ghost use Rattle.kahn_live.specs.LinesMet.{lines_given};
 ghost use Rattle.kahn_live.specs.Running.{HasServed, HasServedAll, IsEndWanted, IsEnded, IsJudged, IsSent, IsVerdictMet, WasSent, is_unwritten, reached_status};
 
-use crate::outlet::Outlet;
-use crate::stage::Stage;
+use crate::outlet::DeferredWriter;
+use crate::stage::LiveStage;
 use crate::taking::{Fed, take_all, wants_memory};
 use crate::telling::Teller;
 use kahn_fault::{Fault, WorkFault, live_status};
@@ -28,7 +28,7 @@ pub(crate) enum Amiss {
 
 /// How a run ended.
 #[derive(Drop)]
-pub(crate) enum Ending {
+pub(crate) enum RunEnding {
     /// The end of the input was reached, and that is amiss.
     Reached(Verdict, Option<Amiss>),
     /// Nobody reads what is new any more.
@@ -106,7 +106,7 @@ fn tell_verdict<E: Write>(
 
 /// Sends what is new, and tells how the run ended where it isn't as it should be.
 fn close<W: Write, E: Write>(
-    stage: &mut Stage<'_, W, E>,
+    stage: &mut LiveStage<'_, W, E>,
     amiss: Option<Amiss>,
 ) -> Result<Verdict, Fault>
     requires { HasVerdict stage.old.session }
@@ -119,30 +119,30 @@ fn close<W: Write, E: Write>(
 /// Takes the lines of the reader, and then those behind them, judges the run where it is to be, and closes the session.
 fn serve<I: Read, W: Write, E: Write>(
     alloc: Global,
-    stage: &mut Stage<'_, W, E>,
+    stage: &mut LiveStage<'_, W, E>,
     reader: &mut BufReader<I>,
     fed: Fed<'_>,
     strict: bool,
-) -> Result<Ending, Fault>
+) -> Result<RunEnding, Fault>
     requires { stage.old.session.broken ≡ false }
     ensures { Across I.remaining W.contents E.contents reader.old reader.new stage.old stage.new (λ s t. HasServedAll strict (lines_given fed.entry) result s) }
 {
     if !take_all(alloc, stage, reader, fed)? {
-        return Ok(Ending::Refused);
+        return Ok(RunEnding::Refused);
     }
     let amiss = judged(&stage.session, strict);
     let verdict = close(stage, amiss)?;
-    Ok(Ending::Reached(verdict, amiss))
+    Ok(RunEnding::Reached(verdict, amiss))
 }
 
 /// Takes the lines of the input, and writes what is new.
 pub(crate) fn work<I: Read + Drop, W: Write, E: Write>(
     alloc: Global,
-    stage: &mut Stage<'_, W, E>,
+    stage: &mut LiveStage<'_, W, E>,
     input: I,
     fed: Fed<'_>,
     strict: bool,
-) -> Result<Ending, Fault>
+) -> Result<RunEnding, Fault>
     requires { stage.old.session.broken ≡ false }
     ensures { AcrossStage W.contents E.contents stage.old stage.new (HasServed strict (lines_given fed.entry) result (I.remaining input)) }
 {
@@ -153,7 +153,7 @@ pub(crate) fn work<I: Read + Drop, W: Write, E: Write>(
 }
 
 /// Whether a run ended since a write failed.
-fn is_unwritten(ending: &Result<Ending, Fault>) -> bool
+fn is_unwritten(ending: &Result<RunEnding, Fault>) -> bool
     ensures { result ≡ is_unwritten ending.now }
 {
     match ending {
@@ -166,13 +166,13 @@ fn is_unwritten(ending: &Result<Ending, Fault>) -> bool
 fn ended(
     gone: bool,
     sent: Result<(), Fault>,
-    ending: Result<Ending, Fault>,
-) -> Result<Ending, Fault>
+    ending: Result<RunEnding, Fault>,
+) -> Result<RunEnding, Fault>
     requires { IfErr sent IsWriteFault }
     ensures { IsSent (is_err sent) ending result }
 {
     if gone && (sent.is_err() || is_unwritten(&ending)) {
-        return Ok(Ending::Gone);
+        return Ok(RunEnding::Gone);
     }
     let ending = ending?;
     sent?;
@@ -181,9 +181,9 @@ fn ended(
 
 /// Sends what is new in the end.
 pub(crate) fn sent<W: Write>(
-    outlet: &mut Outlet<W>,
-    ending: Result<Ending, Fault>,
-) -> Result<Ending, Fault>
+    outlet: &mut DeferredWriter<W>,
+    ending: Result<RunEnding, Fault>,
+) -> Result<RunEnding, Fault>
     ensures kept { Keeps (W.contents outlet.old.writer) (W.contents outlet.new.writer) }
     ensures sent { WasSent ending result }
 {

@@ -1,9 +1,10 @@
 //! Whether lines can change a run, and the blank ones by which a program without an input channel goes on.
 
 ghost use Rattle.std.specs.Prelude.{◌≡◌, IfErr, IfOk, false, option_copied};
-ghost use Rattle.kahn_live.specs.Course.{AcrossStage, HasSent, IsBlankMet, IsDeafNow, IsSource, IsWriteFault, lacks_memory, point_of};
+ghost use Rattle.kahn_live.specs.Course.{AcrossStage, HasSent, IsWriteFault, point_of};
+ghost use Rattle.kahn_live.specs.InputMet.{IsBlankMet, IsDeafNow, IsSource, lacks_memory};
 
-use crate::stage::Stage;
+use crate::stage::LiveStage;
 use crate::taking::take_read;
 use kahn_fault::Fault;
 use kahn_session::Session;
@@ -41,7 +42,7 @@ fn lacks_memory(session: &Session<'_>) -> bool
 }
 
 /// Sends what is new.
-fn send_now<W: Write, E: Write>(stage: &mut Stage<'_, W, E>) -> Result<(), Fault>
+fn send_now<W: Write, E: Write>(stage: &mut LiveStage<'_, W, E>) -> Result<(), Fault>
     ensures sent { HasSent (point_of W.contents E.contents stage.old) (point_of W.contents E.contents stage.new) }
     ensures fault { IfErr result IsWriteFault }
 {
@@ -50,7 +51,7 @@ fn send_now<W: Write, E: Write>(stage: &mut Stage<'_, W, E>) -> Result<(), Fault
 
 /// Takes a blank line of that number, once what is new went out, and tells that it did: not where memory was refused for the last part.
 pub(crate) fn take_blank<W: Write, E: Write>(
-    stage: &mut Stage<'_, W, E>,
+    stage: &mut LiveStage<'_, W, E>,
     input: Option<&str>,
     number: u64,
     room: &mut Vec<u8>,
@@ -63,6 +64,6 @@ pub(crate) fn take_blank<W: Write, E: Write>(
         return Ok(false);
     }
     send_now(stage)?;
-    take_read(stage, input, b"", number, room)?;
+    let _ = take_read(stage, input, b"", number, room)?;
     Ok(true)
 }

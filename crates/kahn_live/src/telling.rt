@@ -6,7 +6,8 @@ ghost use Rattle.kahn_session.specs.Refusals.{unknown_text};
 ghost use Rattle.kahn_session.specs.Live.{HasVerdict};
 ghost use Rattle.kahn_fault.specs.Status.{live_status_of};
 ghost use Rattle.kahn_fault.specs.Telling.{pointer_text, told_text};
-ghost use Rattle.kahn_live.specs.Course.{IsAlonePut, IsTallied, IsMoreTold, IsNewPut, IsNewTold, IsNextTold, IsFaultPut, IsNewFault, IsStepPut, IsVerdictPut, IsVerdictTold, IsWaitPut, WasTold, complaints_of, does_count, is_again, is_alike, is_hinted, is_next, is_step_new, is_verdict_new, telling_of};
+ghost use Rattle.kahn_live.specs.Course.{IsTallied, IsMoreTold, IsNewPut, IsNewTold, IsNextTold, IsFaultPut, IsNewFault, IsStepPut, IsVerdictPut, IsVerdictTold, IsWaitPut, WasTold, complaints_of, does_count, is_again, is_alike, is_hinted, is_next, is_step_new, is_verdict_new, telling_of};
+ghost use Rattle.kahn_live.specs.InputMet.{IsAlonePut};
 ghost use Rattle.kahn_live.specs.Running.{IsEndPut, IsEndTold, IsLastTold, untold};
 
 use kahn_fault::{Fault, live_status, tell, tell_explain};
@@ -191,11 +192,12 @@ impl<E: Write> Teller<E> {
         self.failed |= told.is_err();
     }
 
-    /// Tells that no channel has the name of `--plain` for the values that are shown, and more words.
-    pub(crate) fn tell_unknown(&mut self, name: &str, words: &str)
-        ensures { WasTold (unknown_text (string_bytes self.old.path) name.now words.now) (telling_of E.contents self.old) (telling_of E.contents self.new) }
+    /// Tells that no channel has the name of `--plain` or `--watch` for the values that are shown, and more words.
+    pub(crate) fn tell_unknown(&mut self, of_plain: bool, name: &str, words: &str)
+        ensures { WasTold (unknown_text (string_bytes self.old.path) of_plain name.now words.now) (telling_of E.contents self.old) (telling_of E.contents self.new) }
     {
-        let told = write_unknown(&mut self.errors, self.path.as_str(), name, words);
+        let path = self.path.as_str();
+        let told = write_unknown(&mut self.errors, path, of_plain, name, words);
         self.failed |= told.is_err();
     }
 

@@ -31,7 +31,7 @@ use Rattle.kahn_streams.specs.Written.{AppendsFront}
 use Rattle.kahn_texts.specs.declared.bytes.WriteFault.{WriteFault}
 use Rattle.kahn_session.specs.Pace.{events_of, part_bound}
 use Rattle.kahn_session.specs.declared.fault.TakeFault.{TakeFault}
-use Rattle.kahn_session.specs.declared.fault.TakeFault.TheVariants.{TooLong, NotUtf8, BadLine, BadValue, Feed, NoMemory, Write}
+use Rattle.kahn_session.specs.declared.fault.TakeFault.TheVariants.{TooLong, NotUtf8, BadLine, BadValue, BadRow, Feed, NoMemory, Write}
 
 pub record Live : Type 0 where
   -- the run, and what was let go of each stream: all of it went out
@@ -96,6 +96,7 @@ IsUnfedBy line h TooLong = most_input_bytes < length line
 IsUnfedBy line h NotUtf8 = (length line ≤ most_input_bytes) × ¬ IsUtf8 line
 IsUnfedBy line h BadLine = IsText line × HasNoHead (content line)
 IsUnfedBy line h BadValue = IsText line × HasNoValues (content line)
+IsUnfedBy line h BadRow = ⊥
 IsUnfedBy line h (Feed f) = IsText line × ((entry : Entry) × IsEntry (content line) entry × IsUnpoured entry h h f)
 IsUnfedBy line h NoMemory = IsText line
 IsUnfedBy line h (Write f) = ⊥
@@ -146,6 +147,7 @@ breaks TooLong = false
 breaks NotUtf8 = false
 breaks BadLine = false
 breaks BadValue = false
+breaks BadRow = false
 breaks (Feed f) = false
 breaks NoMemory = false
 breaks (Write f) = true
@@ -163,6 +165,7 @@ IsTakenLine line old new before after (Err TooLong) = IsRefusedLine line old new
 IsTakenLine line old new before after (Err NotUtf8) = IsRefusedLine line old new before after NotUtf8
 IsTakenLine line old new before after (Err BadLine) = IsRefusedLine line old new before after BadLine
 IsTakenLine line old new before after (Err BadValue) = IsRefusedLine line old new before after BadValue
+IsTakenLine line old new before after (Err BadRow) = IsRefusedLine line old new before after BadRow
 IsTakenLine line old new before after (Err (Feed f)) = IsRefusedLine line old new before after (Feed f)
 IsTakenLine line old new before after (Err NoMemory) = IsRefusedLine line old new before after NoMemory
 IsTakenLine line old new before after (Err (Write f)) = HasBroken line old new before after

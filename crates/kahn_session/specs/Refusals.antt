@@ -25,6 +25,7 @@ take_words take.TooLong = codes "line is too long"
 take_words take.NotUtf8 = codes "not UTF-8"
 take_words take.BadLine = codes "not a name and a colon"
 take_words take.BadValue = codes "not a value"
+take_words take.BadRow = codes "not one value for each channel"
 take_words (take.Feed f) = feed_words f
 take_words take.NoMemory = codes "no memory"
 take_words (take.Write f) = codes "news could not be written"
@@ -85,9 +86,13 @@ hint_text path (Some input) = concat (path ∷ codes ": bare numbers are taken w
 abbrev pub refusal_text : List ℕ → ℕ → TakeFault → List ℕ → List ℕ → Option (List ℕ) → List ℕ
 refusal_text path number f part more hint = refusal_line path number f part more ++ hint_text path hint
 
--- no channel has the name of `--plain` for the values that are shown, and more words
-abbrev pub unknown_text : List ℕ → List ℕ → List ℕ → List ℕ
-unknown_text path name more = said_text path (codes ": --plain") [] (feed_words feed.UnknownName) name more
+-- the option that names a channel whose values are shown
+abbrev pub showing_option : Bool → List ℕ
+showing_option of_plain = if of_plain then codes ": --plain" else codes ": --watch"
+
+-- no channel has the name of `--plain` or `--watch` for the values that are shown, and more words
+abbrev pub unknown_text : List ℕ → Bool → List ℕ → List ℕ → List ℕ
+unknown_text path of_plain name more = said_text path (showing_option of_plain) [] (feed_words feed.UnknownName) name more
 
 -- all lines are for one input channel, and none is for another, where there is one
 abbrev pub alone_line : List ℕ → List ℕ → List ℕ → List ℕ

@@ -22,6 +22,9 @@ pub enum TakeFault {
     /// A word after the colon is no value. Nothing changed.
     #[error("not a value")]
     BadValue,
+    /// The line is a row, and hasn't one value for each of its channels. A session takes no rows, and never says so.
+    #[error("not one value for each channel")]
+    BadRow,
     /// The values aren't fed to the channel of the name. Nothing changed.
     #[error("{0}")]
     Feed(FeedFault),

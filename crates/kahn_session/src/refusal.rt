@@ -3,7 +3,7 @@
 ghost use Rattle.std.specs.Prelude.{◌≡◌, [], ◌∷◌, option_copied};
 ghost use Rattle.std.specs.List.{concat};
 ghost use Rattle.kahn_streams.specs.Written.{Writes};
-ghost use Rattle.kahn_session.specs.Refusals.{alike_text, alone_line, alone_text, behind_part, digits, failure_words, failed_text, feed_words, hint_text, is_of_plain, is_want, more_words, before_part, line_note, origin, pieces, refusal_line, refusal_text, said_text, stepped_text, take_words, unknown_text, waiting_text};
+ghost use Rattle.kahn_session.specs.Refusals.{alike_text, alone_line, alone_text, behind_part, digits, failure_words, failed_text, feed_words, hint_text, is_of_plain, is_want, more_words, before_part, line_note, origin, pieces, refusal_line, refusal_text, said_text, showing_option, stepped_text, take_words, unknown_text, waiting_text};
 
 use crate::fault::TakeFault;
 use itoa::Buffer;
@@ -47,6 +47,7 @@ pub fn take_words(fault: TakeFault) -> &'static str
         TakeFault::NotUtf8 => "not UTF-8",
         TakeFault::BadLine => "not a name and a colon",
         TakeFault::BadValue => "not a value",
+        TakeFault::BadRow => "not one value for each channel",
         TakeFault::Feed(fault) => feed_words(fault),
         TakeFault::NoMemory => "no memory",
         TakeFault::Write(_) => "news could not be written",
@@ -227,18 +228,27 @@ pub fn write_refusal<W: Write>(
     put_hint(writer, path, input)
 }
 
-/// Writes that no channel has the name of `--plain` for the values that are shown, and more words, and flushes; as `write_refusal`
-/// does.
+/// The option that names a channel whose values are shown.
+fn showing_option(of_plain: bool) -> &'static str
+    ensures { result.now ≡ showing_option of_plain }
+{
+    if of_plain { ": --plain" } else { ": --watch" }
+}
+
+/// Writes that no channel has the name of `--plain` or `--watch` for the values that are shown, and more words, and flushes; as
+/// `write_refusal` does.
 pub fn write_unknown<W: Write>(
     writer: &mut W,
     path: &str,
+    of_plain: bool,
     name: &str,
     more: &str,
 ) -> Result<(), WriteFault>
-    ensures { Writes (W.contents writer.old) (W.contents writer.new) result (unknown_text path.now name.now more.now) }
+    ensures { Writes (W.contents writer.old) (W.contents writer.new) result (unknown_text path.now of_plain name.now more.now) }
 {
     let words = feed_words(FeedFault::UnknownName);
-    put_said(writer, path, ": --plain", "", words, name.as_bytes(), more)
+    let option = showing_option(of_plain);
+    put_said(writer, path, option, "", words, name.as_bytes(), more)
 }
 
 /// Writes that all lines are for one input channel, and none is for another, and flushes; as `write_refusal` does.

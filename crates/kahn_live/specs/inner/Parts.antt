@@ -1,12 +1,18 @@
--- Inner. What is read of a line at a time.
-use Rattle.std.specs.Prelude.{◌≡◌, ◌≢◌, ℕ, ◌<◌, ⊤, List, [], ◌∷◌, ◌++◌, length, take, All, Option, IfSome}
+-- Inner. What is read of a line at a time, and a line of a row.
+use Rattle.std.specs.Prelude.{◌≡◌, ◌≢◌, ◌⊎◌, ℕ, ◌<◌, ⊤, List, [], ◌∷◌, ◌++◌, length, take, All, Option, IfSome, Result, Ok, Err}
 use Rattle.std.specs.Io.KnownBytes.{Consumes, IsAtEnd, Keeps}
 use Rattle.std.specs.Io.BufRead.{DropsThrough}
 use Rattle.kahn_live.specs.Lines.{most_kept}
+use Rattle.kahn_live.specs.Rows.{bytes_in}
+use Rattle.std.specs.declared.alloc.Global.{Global}
+use Rattle.std.specs.declared.vec.Vec.{Vec}
+use Rattle.kahn_session.specs.Live.{IsMeantLine, IsUnfedBy, Live}
+use Rattle.kahn_session.specs.declared.fault.TakeFault.{TakeFault}
+use Rattle.kahn_session.specs.declared.fault.TakeFault.TheVariants.{NoMemory as NoMemoryTake}
 use Rattle.kahn_live.specs.declared.lines.Next.{Next}
 use Rattle.kahn_live.specs.declared.lines.Next.TheVariants as next
-use Rattle.kahn_live.specs.declared.lines.Part.{Part}
-use Rattle.kahn_live.specs.declared.lines.Part.TheVariants.{More, Whole, End, Failed, NoMemory}
+use Rattle.kahn_live.specs.declared.lines.LinePart.{LinePart}
+use Rattle.kahn_live.specs.declared.lines.LinePart.TheVariants.{More, Whole, End, Failed, NoMemory}
 
 -- bytes without a line feed were read, and kept within the limit
 abbrev pub WasKept : Option (List ℕ) → Option (List ℕ) → List ℕ → List ℕ → List ℕ → Type 0
@@ -14,7 +20,7 @@ WasKept old new before after behind =
     (bytes : List ℕ) × All (λ b. b ≢ 10) bytes × Consumes old new (bytes ++ behind) × (after ≡ take most_kept (before ++ bytes))
 
 -- what a read made of the bytes that are left, and of those that were kept
-abbrev pub IsLinePart : Option (List ℕ) → Option (List ℕ) → List ℕ → List ℕ → Part → Type 0
+abbrev pub IsLinePart : Option (List ℕ) → Option (List ℕ) → List ℕ → List ℕ → LinePart → Type 0
 IsLinePart old new before after More = WasKept old new before after []
 IsLinePart old new before after Whole = WasKept old new before after (10 ∷ [])
 IsLinePart old new before after End = IsAtEnd old × Keeps old new × (after ≡ before)
@@ -34,3 +40,8 @@ IsPassed old new next.Line = ⊥
 IsPassed old new next.End = ⊥
 IsPassed old new next.Failed = ⊤
 IsPassed old new next.NoMemory = DropsThrough old new 10
+
+-- a line of a row is meant for an input channel; or why not, and the line, or nothing where memory was refused for it
+abbrev pub IsTriedCell : Live → List ℕ → Result (Vec ℕ Global) (TakeFault × Vec ℕ Global) → Type 0
+IsTriedCell s cell (Ok line) = (bytes_in line ≡ cell) × IsMeantLine (bytes_in line) s.flow.run.network
+IsTriedCell s cell (Err r) = ((r.0 ≡ NoMemoryTake) × (bytes_in r.1 ≡ [])) ⊎ ((bytes_in r.1 ≡ cell) × IsUnfedBy (bytes_in r.1) s.flow r.0)

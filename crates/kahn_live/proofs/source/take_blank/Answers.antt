@@ -1,8 +1,9 @@
-use Rattle.std.proofs.Common.{◌∙◌, inl, inr, List, ℕ, subst, sym}
+use Rattle.std.proofs.Common.{◌∙◌, inl, inr, List, ℕ, Err, Ok, subst, sym}
 use Rattle.std.specs.Prelude.{option_copied}
 use Rattle.std.proofs.lemmas.Result.{err_from_is_err_and}
-use Rattle.kahn_live.specs.Course.{IsAnyMet, IsBrokenOff, point_of}
-use Rattle.kahn_live.specs.Lines.{fed_text, most_kept, unmarked}
+use Rattle.kahn_live.specs.Course.{point_of}
+use Rattle.kahn_live.specs.InputMet.{IsReadMet}
+use Rattle.kahn_live.specs.Lines.{most_kept}
 use Rattle.kahn_live.proofs.Meeting.{none_kept, unmoved}
 use Rattle.kahn_live.proofs.source.take_blank.Goals as goal
 
@@ -27,7 +28,7 @@ returns-in_err-take_read-clause-met g c =
       inr (
         ready,
         c.in_ok-send_now.ensures.sent,
-        subst (λ (l : List ℕ). IsBrokenOff (fed_text (option_copied c.args.input) (unmarked c.args.number l)) ready new c.in_err-take_read.field-0.0) (sym (none_kept most_kept)) c.in_err-take_read.ensures.met,
+        subst (λ (l : List ℕ). IsReadMet (option_copied c.args.input) c.args.number l ready new (Err c.in_err-take_read.field-0.0)) (sym (none_kept most_kept)) c.in_err-take_read.ensures.met,
       ),
     )
 
@@ -36,4 +37,4 @@ returns-clause-met g c =
     let room = sym c.lacks_memory.ensures ∙ c.if-lacks_memory.false in
     let ready = point_of g.W.Write.contents g.E.Write.contents c.send_now.new.stage in
     let new = point_of g.W.Write.contents g.E.Write.contents c.take_read.new.stage in
-    (room, (ready, c.in_ok-send_now.ensures.sent, subst (λ (l : List ℕ). IsAnyMet c.args.number (fed_text (option_copied c.args.input) (unmarked c.args.number l)) ready new) (sym (none_kept most_kept)) c.in_ok-take_read.ensures.met))
+    (room, (ready, c.in_ok-send_now.ensures.sent, inl (c.in_ok-take_read.field-0, subst (λ (l : List ℕ). IsReadMet (option_copied c.args.input) c.args.number l ready new (Ok c.in_ok-take_read.field-0)) (sym (none_kept most_kept)) c.in_ok-take_read.ensures.met)))

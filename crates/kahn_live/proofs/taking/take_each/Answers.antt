@@ -1,8 +1,9 @@
-use Rattle.std.proofs.Common.{◌≡◌, inl, inr, rules, true}
+use Rattle.std.proofs.Common.{◌≡◌, inl, inr, List, ℕ, Option, rules, subst, true}
 use Rattle.std.specs.Prelude.{option_copied}
 use Rattle.std.proofs.lemmas.Result.{err_from_is_err_and}
 use Rattle.std.specs.Io.Buffered.{reader_remaining}
 use Rattle.kahn_live.specs.Course.{point_of}
+use Rattle.kahn_live.specs.InputMet.{IsAloneTold}
 use Rattle.kahn_live.specs.LinesMet.{lines_given}
 use Rattle.kahn_live.proofs.Begun.{histories}
 use Rattle.kahn_live.proofs.Feeding.{all_shown, begun_there}
@@ -13,21 +14,23 @@ returns-in_err-take_lines-clause-met g c =
     let old = point_of g.W.Write.contents g.E.Write.contents c.args.stage.now in
     let begun = point_of g.W.Write.contents g.E.Write.contents c.begin.new.stage in
     let ready = point_of g.W.Write.contents g.E.Write.contents c.tell_alone.new.stage in
+    let alone = subst (λ (i : Option (List ℕ)). IsAloneTold i begun ready) c.bare_of.ensures c.tell_alone.ensures in
     let there : c.in_ok-begin.field-0 ≡ true = search rules in
     let has = begun_there (option_copied c.args.fed.input) old begun c.in_ok-begin.field-0 there c.in_ok-begin.ensures.begun in
     let p = err_from_is_err_and c.from_residual-in_err-take_lines.result c.from_residual-in_err-take_lines.ensures.1 in
-    rw (p.1, p.2) (inr (begun, ready, has, c.tell_alone.ensures, inl c.in_err-take_lines.ensures.met))
+    rw (p.1, p.2) (inr (begun, ready, has, alone, inl c.in_err-take_lines.ensures.met))
 
 pub returns-in_err-take_last-clause-met : goal.returns-in_err-take_last-clause-met
 returns-in_err-take_last-clause-met g c =
     let old = point_of g.W.Write.contents g.E.Write.contents c.args.stage.now in
     let begun = point_of g.W.Write.contents g.E.Write.contents c.begin.new.stage in
     let ready = point_of g.W.Write.contents g.E.Write.contents c.tell_alone.new.stage in
+    let alone = subst (λ (i : Option (List ℕ)). IsAloneTold i begun ready) c.bare_of.ensures c.tell_alone.ensures in
     let last = point_of g.W.Write.contents g.E.Write.contents c.take_lines.new.stage in
     let there : c.in_ok-begin.field-0 ≡ true = search rules in
     let has = begun_there (option_copied c.args.fed.input) old begun c.in_ok-begin.field-0 there c.in_ok-begin.ensures.begun in
     let p = err_from_is_err_and c.from_residual-in_err-take_last.result c.from_residual-in_err-take_last.ensures.1 in
-    rw (p.1, p.2) (inr (begun, ready, has, c.tell_alone.ensures, inr (last, c.in_ok-take_lines.ensures.met, c.in_err-take_last.ensures.met)))
+    rw (p.1, p.2) (inr (begun, ready, has, alone, inr (last, c.in_ok-take_lines.ensures.met, c.in_err-take_last.ensures.met)))
 
 pub returns-clause-settled : goal.returns-clause-settled
 returns-clause-settled g c =
@@ -35,11 +38,12 @@ returns-clause-settled g c =
     let old = point_of g.W.Write.contents g.E.Write.contents c.args.stage.now in
     let begun = point_of g.W.Write.contents g.E.Write.contents c.begin.new.stage in
     let ready = point_of g.W.Write.contents g.E.Write.contents c.tell_alone.new.stage in
+    let alone = subst (λ (i : Option (List ℕ)). IsAloneTold i begun ready) c.bare_of.ensures c.tell_alone.ensures in
     let last = point_of g.W.Write.contents g.E.Write.contents c.take_lines.new.stage in
     let new = point_of g.W.Write.contents g.E.Write.contents c.take_last.new.stage in
     let there : c.in_ok-begin.field-0 ≡ true = search rules in
     let has = begun_there (option_copied c.args.fed.input) old begun c.in_ok-begin.field-0 there c.in_ok-begin.ensures.begun in
-    let shown = all_shown (lines_given c.args.fed) text old new (begun, has, (ready, last, c.tell_alone.ensures, c.in_ok-take_lines.ensures.met, c.in_ok-take_last.ensures.met)) in
+    let shown = all_shown (lines_given c.args.fed) text old new (begun, has, (ready, last, alone, c.in_ok-take_lines.ensures.met, c.in_ok-take_last.ensures.met)) in
     λ _. (c.in_ok-take_last.ensures.broken, (shown.0, shown.1))
 
 pub returns-clause-histories : goal.returns-clause-histories
@@ -48,11 +52,12 @@ returns-clause-histories g c =
     let old = point_of g.W.Write.contents g.E.Write.contents c.args.stage.now in
     let begun = point_of g.W.Write.contents g.E.Write.contents c.begin.new.stage in
     let ready = point_of g.W.Write.contents g.E.Write.contents c.tell_alone.new.stage in
+    let alone = subst (λ (i : Option (List ℕ)). IsAloneTold i begun ready) c.bare_of.ensures c.tell_alone.ensures in
     let last = point_of g.W.Write.contents g.E.Write.contents c.take_lines.new.stage in
     let new = point_of g.W.Write.contents g.E.Write.contents c.take_last.new.stage in
     let there : c.in_ok-begin.field-0 ≡ true = search rules in
     let has = begun_there (option_copied c.args.fed.input) old begun c.in_ok-begin.field-0 there c.in_ok-begin.ensures.begun in
-    let shown = all_shown (lines_given c.args.fed) text old new (begun, has, (ready, last, c.tell_alone.ensures, c.in_ok-take_lines.ensures.met, c.in_ok-take_last.ensures.met)) in
+    let shown = all_shown (lines_given c.args.fed) text old new (begun, has, (ready, last, alone, c.in_ok-take_lines.ensures.met, c.in_ok-take_last.ensures.met)) in
     λ _. histories new.session shown
 
 pub returns-clause-met : goal.returns-clause-met
@@ -60,7 +65,8 @@ returns-clause-met g c =
     let old = point_of g.W.Write.contents g.E.Write.contents c.args.stage.now in
     let begun = point_of g.W.Write.contents g.E.Write.contents c.begin.new.stage in
     let ready = point_of g.W.Write.contents g.E.Write.contents c.tell_alone.new.stage in
+    let alone = subst (λ (i : Option (List ℕ)). IsAloneTold i begun ready) c.bare_of.ensures c.tell_alone.ensures in
     let last = point_of g.W.Write.contents g.E.Write.contents c.take_lines.new.stage in
     let there : c.in_ok-begin.field-0 ≡ true = search rules in
     let has = begun_there (option_copied c.args.fed.input) old begun c.in_ok-begin.field-0 there c.in_ok-begin.ensures.begun in
-    (begun, has, (ready, last, c.tell_alone.ensures, c.in_ok-take_lines.ensures.met, c.in_ok-take_last.ensures.met))
+    (begun, has, (ready, last, alone, c.in_ok-take_lines.ensures.met, c.in_ok-take_last.ensures.met))

@@ -2,7 +2,8 @@
 use Rattle.std.proofs.Common.{◌≡◌, false, drop, map}
 use Rattle.std.specs.Prelude.{string_bytes}
 use Rattle.kahn_fault.specs.declared.fault.Fault.{Fault}
-use Rattle.kahn_live.specs.Course.{AreFed, IsCutOff, Point, point_of}
+use Rattle.kahn_live.specs.Course.{Point, point_of}
+use Rattle.kahn_live.specs.InputMet.{AreFed, IsCutOff}
 use Rattle.kahn_live.proofs.taking.take_last.Given as goal
 
 abbrev pub invariant-loop-line : goal.invariant-loop-line

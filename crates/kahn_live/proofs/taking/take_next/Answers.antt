@@ -1,9 +1,10 @@
 use Rattle.std.specs.Prelude.{option_copied}
-use Rattle.std.proofs.Common.{◌≡◌, ◌∙◌, inl, inr, List, ℕ, subst, take}
+use Rattle.std.proofs.Common.{◌≡◌, ◌∙◌, inl, inr, List, ℕ, Err, Ok, subst, take}
 use Rattle.std.proofs.lemmas.Result.{err_from_is_err_and}
 use Rattle.std.specs.Io.Buffered.{reader_remaining}
-use Rattle.kahn_live.specs.Course.{IsBrokenOff, IsAnyMet, IsSource, point_of}
-use Rattle.kahn_live.specs.Lines.{fed_text, most_kept, unmarked}
+use Rattle.kahn_live.specs.Course.{point_of}
+use Rattle.kahn_live.specs.InputMet.{IsReadMet, IsSource}
+use Rattle.kahn_live.specs.Lines.{most_kept}
 use Rattle.kahn_live.proofs.Meeting.{blank_next}
 use Rattle.kahn_live.proofs.taking.take_next.Goals as goal
 
@@ -21,7 +22,7 @@ returns-in_err-take_read-in-Line-clause-met g c =
       ready,
       inl (source, cuts),
       c.in_ok-send_before.ensures.sent,
-      subst (λ (l : List ℕ). IsBrokenOff (fed_text (option_copied c.args.input) (unmarked c.args.number l)) ready new c.in_err-take_read-in-Line.field-0.0) is c.in_err-take_read-in-Line.ensures.met,
+      subst (λ (l : List ℕ). IsReadMet (option_copied c.args.input) c.args.number l ready new (Err c.in_err-take_read-in-Line.field-0.0)) is c.in_err-take_read-in-Line.ensures.met,
     ))
 
 pub returns-in_ok-take_read-in-Line-clause-met : goal.returns-in_ok-take_read-in-Line-clause-met
@@ -35,7 +36,7 @@ returns-in_ok-take_read-in-Line-clause-met g c =
       ready,
       inl (source, cuts),
       c.in_ok-send_before.ensures.sent,
-      subst (λ (l : List ℕ). IsAnyMet c.args.number (fed_text (option_copied c.args.input) (unmarked c.args.number l)) ready new) is c.in_ok-take_read-in-Line.ensures.met,
+      inl (c.in_ok-take_read-in-Line.field-0, subst (λ (l : List ℕ). IsReadMet (option_copied c.args.input) c.args.number l ready new (Ok c.in_ok-take_read-in-Line.field-0)) is c.in_ok-take_read-in-Line.ensures.met),
     )
 
 pub returns-in_ok-tell_behind-in-NoMemory-clause-met : goal.returns-in_ok-tell_behind-in-NoMemory-clause-met

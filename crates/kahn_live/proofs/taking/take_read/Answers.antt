@@ -1,18 +1,28 @@
-use Rattle.std.proofs.Common.{List, ℕ, subst}
-use Rattle.std.proofs.lemmas.Result.{err_from_is_err_and}
-use Rattle.kahn_live.specs.Course.{IsBrokenOff, IsAnyMet, point_of}
-use Rattle.kahn_live.proofs.Meeting.{met_of}
+use Rattle.std.specs.Prelude.{option_copied}
+use Rattle.std.proofs.Common.{List, ℕ, Option, subst}
+use Rattle.kahn_live.specs.Course.{point_of}
+use Rattle.kahn_live.specs.InputMet.{IsReadIn}
+use Rattle.kahn_live.specs.Rows.{row_names}
 use Rattle.kahn_live.proofs.taking.take_read.Goals as goal
 
-pub returns-in_err-take_line-clause-met : goal.returns-in_err-take_line-clause-met
-returns-in_err-take_line-clause-met g c =
+pub returns-in-Some-clause-met : goal.returns-in-Some-clause-met
+returns-in-Some-clause-met g c =
+    let input = option_copied c.args.input in
+    let n = c.args.number in
     let old = point_of g.W.Write.contents g.E.Write.contents c.args.stage.now in
-    let new = point_of g.W.Write.contents g.E.Write.contents c.take_line.new.stage in
-    let p = err_from_is_err_and c.from_residual.result c.from_residual.ensures.1 in
-    rw (p.1, p.2) (subst (λ (l : List ℕ). IsBrokenOff l old new c.in_err-take_line.field-0.0) c.in-Ok.ensures c.in_err-take_line.ensures.met)
+    let new = point_of g.W.Write.contents g.E.Write.contents c.take_row.new.stage in
+    let r = c.take_row.result in
+    let line = c.without_mark-line.result.now in
+    let met = subst (λ (names : Option (List ℕ)). IsReadIn names input n line old new r) c.in-Some.ensures c.take_row.ensures.met in
+    subst (λ (l : List ℕ). IsReadIn (row_names input) input n l old new r) c.without_mark-line.ensures met
 
-pub returns-clause-met : goal.returns-clause-met
-returns-clause-met g c =
+pub returns-in-None-clause-met : goal.returns-in-None-clause-met
+returns-in-None-clause-met g c =
+    let input = option_copied c.args.input in
+    let n = c.args.number in
     let old = point_of g.W.Write.contents g.E.Write.contents c.args.stage.now in
-    let new = point_of g.W.Write.contents g.E.Write.contents c.take_line.new.stage in
-    subst (λ (l : List ℕ). IsAnyMet c.args.number l old new) c.in-Ok.ensures (met_of c.args.number c.in-Ok.fed.now old new c.in_ok-take_line.field-0 c.in_ok-take_line.ensures.met)
+    let new = point_of g.W.Write.contents g.E.Write.contents c.take_alone.new.stage in
+    let r = c.take_alone.result in
+    let line = c.without_mark-line.result.now in
+    let met = subst (λ (names : Option (List ℕ)). IsReadIn names input n line old new r) c.in-None.ensures c.take_alone.ensures.met in
+    subst (λ (l : List ℕ). IsReadIn (row_names input) input n l old new r) c.without_mark-line.ensures met

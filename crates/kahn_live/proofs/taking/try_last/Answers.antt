@@ -2,7 +2,8 @@ use Rattle.std.proofs.Common.{arith, ◌≡◌, ◌+◌, ◌∷◌, inr, List, �
 use Rattle.std.specs.Prelude.{string_bytes}
 use Rattle.std.proofs.lemmas.Grind.{common_steps}
 use Rattle.kahn_session.specs.Live.{IsMeantLine, IsUnfedBy}
-use Rattle.kahn_live.specs.Course.{IsLastRefused, Telling, telling_of}
+use Rattle.kahn_live.specs.Course.{LiveTelling, telling_of}
+use Rattle.kahn_live.specs.InputMet.{IsLastRefused}
 use Rattle.kahn_live.proofs.Feeding.{meant_more, unmeant_here, unmeant_more}
 use Rattle.kahn_live.proofs.taking.try_last.Goals as goal
 
@@ -19,7 +20,7 @@ returns-in-Err g c =
     let new = telling_of g.E.Write.contents c.refuse_last.new.teller in
     let why = subst (λ (l : List ℕ). IsUnfedBy l s.flow f) c.as_bytes-bytes.ensures.value c.in-Err.ensures in
     let named = subst (λ (l : List ℕ). IsLastRefused s l f (telling_of g.E.Write.contents c.loop-line.teller) new c.refuse_last.result) c.as_bytes-bytes.ensures.value c.refuse_last.ensures in
-    let told = subst (λ (t : Telling). IsLastRefused s line f t new c.refuse_last.result) c.loop-line.invariant.0 named in
+    let told = subst (λ (t : LiveTelling). IsLastRefused s line f t new c.refuse_last.result) c.loop-line.invariant.0 named in
     inr (line, f, c.loop-line.invariant.2 line f (unmeant_here s line (map string_bytes xs) (map string_bytes (drop i all)) f (ap (map string_bytes) split) why), told)
 
 pub loop-line-preserved : goal.loop-line-preserved

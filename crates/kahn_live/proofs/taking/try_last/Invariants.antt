@@ -2,7 +2,9 @@
 use Rattle.std.proofs.Common.{◌≡◌, List, ℕ, drop, map}
 use Rattle.std.specs.Prelude.{string_bytes}
 use Rattle.kahn_session.specs.declared.fault.TakeFault.{TakeFault}
-use Rattle.kahn_live.specs.Course.{AreMeant, IsFirstUnmeant, telling_of}
+use Rattle.kahn_live.specs.Course.{telling_of}
+use Rattle.kahn_live.specs.InputMet.{IsFirstUnmeant}
+use Rattle.kahn_live.specs.Rows.{AreMeant}
 use Rattle.kahn_live.proofs.taking.try_last.Given as goal
 
 abbrev pub invariant-loop-line : goal.invariant-loop-line

@@ -1,7 +1,7 @@
 use Rattle.std.proofs.Common.{◌∙◌, Bool, subst, sym}
 use Rattle.std.specs.Prelude.{option_copied}
 use Rattle.kahn_live.specs.Course.{IsComplaint, IsHintBy, telling_of}
-use Rattle.kahn_live.proofs.taking.tell_refused.Goals as goal
+use Rattle.kahn_live.proofs.complaint.tell_refused.Goals as goal
 
 pub returns-then-is_again : goal.returns-then-is_again
 returns-then-is_again g c =

@@ -1,7 +1,7 @@
 use Rattle.std.proofs.Common.{subst}
 use Rattle.kahn_streams.specs.declared.tree.Program.{Program}
 use Rattle.kahn_live.specs.Course.{IsRefusedPart}
-use Rattle.kahn_live.proofs.taking.tell_new_refusal.Goals as goal
+use Rattle.kahn_live.proofs.complaint.tell_new_refusal.Goals as goal
 
 pub returns : goal.returns
 returns g c =

@@ -1,0 +1,83 @@
+-- The lines of a row, one after the other.
+use Rattle.std.proofs.Common.{arith, not, ◌≡◌, ◌∙◌, ◌<◌, inl, inr, ℕ, Bool, true, List, [], ◌∷◌, ◌++◌, length, map, take, drop, Option, None, Some, Result, Ok, Err, refl, sym, ap, ap₂, subst}
+use Rattle.kahn_streams.specs.declared.answer.Verdict.{Verdict}
+use Rattle.kahn_fault.specs.declared.fault.Fault.{Fault}
+use Rattle.kahn_session.specs.Live.{IsMeantLine, Live}
+use Rattle.kahn_session.specs.declared.fault.TakeFault.{TakeFault}
+use Rattle.kahn_live.specs.Course.{IsAloneMet, IsBrokenOff, IsLineMet, Point, WasMet, no_memory}
+use Rattle.kahn_live.specs.InputMet.{AreTaken, IsTornOff}
+use Rattle.std.specs.declared.alloc.Global.{Global}
+use Rattle.std.specs.declared.vec.Vec.{Vec}
+use Rattle.std.proofs.lemmas.List.{length-drop, length-take}
+use Rattle.std.specs.List.{list_any, position_or_len}
+use Rattle.std.specs.Prelude.{◌==◌, if◌then◌else◌}
+use Rattle.kahn_live.specs.Rows.{AreCells, AreMeant, IsRowFront, bare_of, behind_word, bytes_in, row_line, row_names, first_word, from_word, is_row_gap, is_wordless}
+
+-- one line more
+cells_more : (blank : Bool) (names words : List ℕ) (cells : List (List ℕ)) (rest left cell : List ℕ) → AreCells blank names words cells rest left → 0 < length (first_word rest)
+    → is_wordless left ≡ blank → cell ≡ row_line (first_word rest) (first_word left) → AreCells blank names words (cells ++ (cell ∷ [])) (behind_word rest) (behind_word left)
+cells_more blank names words [] rest left cell (p, q) some fits is = (
+  subst (λ (n : List ℕ). 0 < length (first_word n)) p some,
+  subst (λ (w : List ℕ). is_wordless w ≡ blank) q fits,
+  is ∙ ap₂ (λ (n w : List ℕ). row_line (first_word n) (first_word w)) p q,
+  (ap behind_word p, ap behind_word q),
+)
+cells_more blank names words (x ∷ xs) rest left cell (some0, fits0, is0, more) some fits is =
+    (some0, fits0, is0, cells_more blank (behind_word names) (behind_word words) xs rest left cell more some fits is)
+
+meant_last : (s : Live) (cells : List (List ℕ)) (cell : List ℕ) → AreMeant s cells → IsMeantLine cell s.flow.run.network → AreMeant s (cells ++ (cell ∷ []))
+meant_last s [] cell are one = (one, tt)
+meant_last s (x ∷ xs) cell (meant, are) one = (meant, meant_last s xs cell are one)
+
+pub last_in : (cells : List (Vec ℕ Global)) (cell : Vec ℕ Global) → map bytes_in (cells ++ (cell ∷ [])) ≡ map bytes_in cells ++ (bytes_in cell ∷ [])
+last_in [] cell = refl
+last_in (x ∷ xs) cell = ap (λ (l : List (List ℕ)). bytes_in x ∷ l) (last_in xs cell)
+
+pub front_more : (s : Live) (names row : List ℕ) (cells new : List (List ℕ)) (rest left cell : List ℕ) → IsRowFront s names row cells rest left → 0 < length (first_word rest)
+    → is_wordless left ≡ is_wordless row → cell ≡ row_line (first_word rest) (first_word left) → IsMeantLine cell s.flow.run.network → new ≡ cells ++ (cell ∷ [])
+    → IsRowFront s names row new (behind_word rest) (behind_word left)
+front_more s names row cells new rest left cell (are, meant) some fits is one grown = subst (λ (cs : List (List ℕ)). IsRowFront s names row cs (behind_word rest) (behind_word left)) (sym grown)
+    (cells_more (is_wordless row) names row cells rest left cell are some fits is, meant_last s cells cell meant one)
+
+-- a line that isn't one of a row
+pub alone_met : (number : ℕ) (line fed : List ℕ) (old new : Point) (r : Result (Option TakeFault) Fault) → fed ≡ line → IsLineMet number fed old new r → IsAloneMet number line old new r
+alone_met number line fed old new (Ok r) is met = inl (subst (λ (l : List ℕ). IsLineMet number l old new (Ok r)) is met)
+alone_met number line fed old new (Err fault) is met = subst (λ (l : List ℕ). IsBrokenOff l old new fault) is met
+
+-- a line of a row was taken, and those behind it
+pub taken_more : (number : ℕ) (line : List ℕ) (lines rest : List (List ℕ)) (old new : Point) (v : Verdict) → rest ≡ line ∷ lines → WasMet number line (Ok v) old new → (p : Point)
+    → AreTaken number lines new p → AreTaken number rest old p
+taken_more number line lines rest old new v split met p are = subst (λ (ls : List (List ℕ)). AreTaken number ls old p) (sym split) (v, new, met, are)
+
+-- one behind it stopped the run
+pub torn_more : (number : ℕ) (line : List ℕ) (lines rest : List (List ℕ)) (old new : Point) (v : Verdict) → rest ≡ line ∷ lines → WasMet number line (Ok v) old new → (p : Point)
+    (fault : Fault) → IsTornOff number lines new p fault → IsTornOff number rest old p fault
+torn_more number line lines rest old new v split met p fault torn = subst (λ (ls : List (List ℕ)). IsTornOff number ls old p fault) (sym split) (inr (inr (v, new, met, torn)))
+
+-- this one did, since nothing can be written, or since it was refused
+pub torn_off : (number : ℕ) (line : List ℕ) (lines rest : List (List ℕ)) (old new : Point) (fault : Fault) → rest ≡ line ∷ lines → IsBrokenOff line old new fault
+    → IsTornOff number rest old new fault
+torn_off number line lines rest old new fault split broken = subst (λ (ls : List (List ℕ)). IsTornOff number ls old new fault) (sym split) (inl broken)
+
+pub torn_refused : (number : ℕ) (line : List ℕ) (lines rest : List (List ℕ)) (old new : Point) (o : Option TakeFault) {f : TakeFault} → o ≡ Some f → (fault : Fault)
+    → rest ≡ line ∷ lines → IsLineMet number line old new (Ok o) → fault ≡ no_memory → IsTornOff number rest old new fault
+torn_refused number line lines rest old new (Some f) same fault split met is =
+    subst (λ (ls : List (List ℕ)). IsTornOff number ls old new fault) (sym split) (inr (inl (f, met, is)))
+torn_refused number line lines rest old new None same fault split met is = absurd cc
+
+-- behind a word there are fewer bytes
+split_less : (k : ℕ) (from : List ℕ) → 0 < length (take k from) → length (drop k from) < length from
+split_less k from some = omega (arith, some, length-take k from, length-drop k from)
+
+pub fewer : (bytes : List ℕ) → 0 < length (first_word bytes) → length (behind_word bytes) < length bytes
+fewer bytes some =
+    let start = position_or_len (λ b. not (is_row_gap b)) bytes in
+    let less = split_less (position_or_len is_row_gap (from_word bytes)) (from_word bytes) some in
+    omega (arith, less, length-drop start bytes)
+
+-- several names, and one
+pub several : (names : List ℕ) (b : Bool) → b ≡ true → b ≡ list_any (λ x. x == 44) names → (i : Option (List ℕ)) → i ≡ Some names → Some names ≡ row_names i
+several names b there is i are = sym (ap row_names are ∙ ap (λ (t : Bool). if t then Some names else None) (sym is ∙ there))
+
+pub not_one : (names : List ℕ) (b : Bool) → b ≡ true → b ≡ list_any (λ x. x == 44) names → (i : Option (List ℕ)) → i ≡ Some names → None ≡ bare_of i
+not_one names b there is i are = sym (ap bare_of are ∙ ap (λ (t : Bool). if t then None else Some names) (sym is ∙ there))

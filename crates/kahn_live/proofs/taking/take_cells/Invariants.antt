@@ -1,0 +1,17 @@
+-- Whatever is made of the lines that are left is made of all.
+use Rattle.std.proofs.Common.{◌≡◌, false, drop, map}
+use Rattle.kahn_fault.specs.declared.fault.Fault.{Fault}
+use Rattle.kahn_live.specs.Course.{Point, point_of}
+use Rattle.kahn_live.specs.InputMet.{AreTaken, IsTornOff}
+use Rattle.kahn_live.specs.Rows.{bytes_in}
+use Rattle.kahn_live.proofs.taking.take_cells.Given as goal
+
+abbrev pub invariant-loop-cell : goal.invariant-loop-cell
+invariant-loop-cell g l =
+    let old = point_of g.W.Write.contents g.E.Write.contents l.initial.stage in
+    let new = point_of g.W.Write.contents g.E.Write.contents l.stage in
+    let all = map bytes_in l.cells in
+    let rest = map bytes_in (drop l.cell-index l.cells) in
+    (l.stage.session.broken ≡ false)
+    × ((p : Point) → AreTaken l.number rest new p → AreTaken l.number all old p)
+    × ((p : Point) (fault : Fault) → IsTornOff l.number rest new p fault → IsTornOff l.number all old p fault)

@@ -1,0 +1,190 @@
+-- Believed. The lines of the input, the part before them and the lines behind them, of a run on lines (this project's profile).
+use Rattle.std.specs.Prelude.{◌≡◌, ◌⊎◌, ℕ, zero, suc, ◌-◌, ◌^◌, Bool, true, false, List, [], ◌∷◌, take, Option, None, Some, Result, Ok, Err}
+use Rattle.std.specs.Io.KnownBytes.{IsAtEnd}
+use Rattle.kahn_streams.specs.declared.answer.Verdict.{Verdict}
+use Rattle.kahn_streams.specs.declared.answer.Verdict.TheVariants.{Memory}
+use Rattle.kahn_fault.specs.declared.fault.Fault.{Fault}
+use Rattle.kahn_session.specs.Live.{HasVerdict, IsDeaf, IsFirstInput, IsMeantLine, IsOtherInput, IsUnfedBy, Live}
+use Rattle.kahn_session.specs.Refusals.{alone_text, at_end_number, is_want}
+use Rattle.kahn_session.specs.declared.fault.TakeFault.{TakeFault}
+use Rattle.kahn_live.specs.Lines.{CutsLine, fed_text, most_kept, unmarked}
+use Rattle.kahn_live.specs.Rows.{AreMeant, AreRowCells, IsBadRow, row_names}
+use Rattle.kahn_live.specs.Course.{HasMissed, HasSent, HasWaited, IsAloneMet, IsBrokenOff, IsReadFailed, IsRefused, IsWriteFault, LiveTelling, Point, WasAnswered, WasMet, WasTold, no_memory}
+
+-- ---- a row
+
+-- all of these lines were taken, in their order
+abbrev pub AreTaken : ℕ → List (List ℕ) → Point → Point → Type 0
+AreTaken number [] old new = new ≡ old
+AreTaken number (line ∷ lines) old new = (v : Verdict) × (next : Point) × WasMet number line (Ok v) old next × AreTaken number lines next new
+
+-- one of them stopped the run, behind those before it, since nothing can be written or it was refused
+abbrev pub IsTornOff : ℕ → List (List ℕ) → Point → Point → Fault → Type 0
+IsTornOff number [] old new fault = ⊥
+IsTornOff number (line ∷ lines) old new fault = IsBrokenOff line old new fault
+    ⊎ (((f : TakeFault) × WasMet number line (Err f) old new × (fault ≡ no_memory))
+    ⊎ ((v : Verdict) × (next : Point) × WasMet number line (Ok v) old next × IsTornOff number lines next new fault))
+
+abbrev pub AreCellsMet : {X : Type 0} → ℕ → List (List ℕ) → Point → Point → Result X Fault → Type 0
+AreCellsMet number lines old new (Ok x) = AreTaken number lines old new
+AreCellsMet number lines old new (Err fault) = IsTornOff number lines old new fault
+
+-- a row was taken whole, or no value of it was, and the reason was told; or it stopped the run
+abbrev pub IsRowMet : List ℕ → ℕ → List ℕ → Point → Point → Result (Option TakeFault) Fault → Type 0
+IsRowMet names number row old new (Ok None) = (cells : List (List ℕ)) × AreRowCells old.session names row cells × AreTaken number cells old new
+IsRowMet names number row old new (Ok (Some f)) =
+    (cell : List ℕ) × IsBadRow old.session names row f cell × IsRefused new.session number cell f old.told new.told × HasWaited old new
+IsRowMet names number row old new (Err fault) = (IsWriteFault fault × HasSent old new)
+    ⊎ ((cells : List (List ℕ)) × AreRowCells old.session names row cells × IsTornOff number cells old new fault)
+
+-- ---- a line of the input
+
+abbrev pub IsReadIn : Option (List ℕ) → Option (List ℕ) → ℕ → List ℕ → Point → Point → Result (Option TakeFault) Fault → Type 0
+IsReadIn (Some names) input number line old new r = IsRowMet names number line old new r
+IsReadIn None input number line old new r = IsAloneMet number (fed_text input line) old new r
+
+-- a line of which this was kept: a row, where several channels are named
+abbrev pub IsReadMet : Option (List ℕ) → ℕ → List ℕ → Point → Point → Result (Option TakeFault) Fault → Type 0
+IsReadMet input number kept old new r = IsReadIn (row_names input) input number (unmarked number kept) old new r
+
+-- a line of the input, of which no more is kept than decides that it is too long: it was taken or refused, for want of memory too
+abbrev pub IsAnyMet : Option (List ℕ) → ℕ → List ℕ → Point → Point → Type 0
+IsAnyMet input number line old new = ((r : Option TakeFault) × IsReadMet input number (take most_kept line) old new (Ok r)) ⊎ HasMissed number old new
+
+-- ---- what may still come
+
+-- a line may still change the run
+abbrev pub IsHearing : Live → Type 0
+IsHearing s = HasVerdict s → IsDeaf s.flow.run false
+
+-- whether none can
+abbrev pub IsDeafNow : Live → Bool → Type 0
+IsDeafNow s true = HasVerdict s × IsDeaf s.flow.run true
+IsDeafNow s false = IsHearing s
+
+-- ---- the lines of the input
+
+-- whether the program has no input channel: then no line is read, and the run goes on by blank ones
+abbrev pub IsSource : Live → Bool → Type 0
+IsSource s true = IsFirstInput s.flow.run.network None
+IsSource s false = (name : List ℕ) × IsFirstInput s.flow.run.network (Some name)
+
+-- whether memory was refused for the last part
+abbrev pub lacks_memory : Option Verdict → Bool
+lacks_memory (Some Memory) = true
+lacks_memory v = false
+
+-- the line that comes next, behind which this is left
+abbrev pub IsNextCome : Live → List ℕ → Option (List ℕ) → Option (List ℕ) → Type 0
+IsNextCome s line text rest = (IsSource s false × CutsLine line text rest)
+    ⊎ (IsSource s true × (lacks_memory s.flow.run.verdict ≡ false) × (line ≡ []) × (rest ≡ text))
+
+-- none does: the input is at its end, or there is none and memory was refused
+abbrev pub IsNoneCome : Live → Option (List ℕ) → Type 0
+IsNoneCome s text = (IsSource s false × IsAtEnd text) ⊎ (IsSource s true × (lacks_memory s.flow.run.verdict ≡ true))
+
+-- the line of this number came, behind which this is left, and was met
+abbrev pub IsStep : Option (List ℕ) → ℕ → Option (List ℕ) → Option (List ℕ) → Point → Point → Type 0
+IsStep input number text rest old new =
+    (line : List ℕ) × (ready : Point) × IsNextCome old.session line text rest × HasSent old ready × IsAnyMet input number line ready new
+
+-- it wasn't read, or it is the last, since nothing can be written
+abbrev pub IsStoppedAt : Option (List ℕ) → ℕ → Option (List ℕ) → Point → Point → Fault → Type 0
+IsStoppedAt input number text old new fault =
+    (HasSent old new × (IsWriteFault fault ⊎ IsReadFailed fault))
+    ⊎ ((line : List ℕ) × (rest : Option (List ℕ)) × (ready : Point) × IsNextCome old.session line text rest × HasSent old ready
+    × IsReadMet input number (take most_kept line) ready new (Err fault))
+
+-- what is new went out, and then a part was run by a blank line; or memory was refused for the last one
+abbrev pub IsBlankMet : Option (List ℕ) → ℕ → Point → Point → Result Bool Fault → Type 0
+IsBlankMet input number old new (Ok true) =
+    (lacks_memory old.session.flow.run.verdict ≡ false) × ((ready : Point) × HasSent old ready × IsAnyMet input number [] ready new)
+IsBlankMet input number old new (Ok false) = (lacks_memory old.session.flow.run.verdict ≡ true) × HasSent old new
+IsBlankMet input number old new (Err fault) = (lacks_memory old.session.flow.run.verdict ≡ false) × ((IsWriteFault fault × HasSent old new)
+    ⊎ ((ready : Point) × HasSent old ready × IsReadMet input number (take most_kept []) ready new (Err fault)))
+
+-- whether there was a line
+abbrev pub IsNextMet : Option (List ℕ) → ℕ → Result Bool Fault → Option (List ℕ) → Option (List ℕ) → Point → Point → Type 0
+IsNextMet input number (Ok true) text rest old new = IsStep input number text rest old new
+IsNextMet input number (Ok false) text rest old new = IsNoneCome old.session text × HasSent old new
+IsNextMet input number (Err fault) text rest old new = IsStoppedAt input number text old new fault
+
+-- the first lines, as many as these, were read and met in their order, each while it could change the run
+abbrev pub AreRead : Option (List ℕ) → ℕ → Option (List ℕ) → Option (List ℕ) → Point → Point → Type 0
+AreRead input zero text rest old new = (rest ≡ text) × (new ≡ old)
+AreRead input (suc n) text rest old new =
+    (left : Option (List ℕ)) × (last : Point) × AreRead input n text left old last × IsHearing last.session × IsStep input (suc n) left rest last new
+
+-- no further line is read: there is none, or none can change the run, or there were as many as have numbers
+abbrev pub IsReadOut : Option (List ℕ) → Live → ℕ → Type 0
+IsReadOut rest s number = IsNoneCome s rest ⊎ (IsDeafNow s true ⊎ (number ≡ 2 ^ 64 - 1))
+
+-- the lines of the input were met
+abbrev pub AreAllRead : Option (List ℕ) → Option (List ℕ) → Point → Point → Type 0
+AreAllRead input text old new =
+    (n : ℕ) × (rest : Option (List ℕ)) × (last : Point) × AreRead input n text rest old last × HasSent last new × IsReadOut rest last.session (suc n)
+
+-- or the one behind these stopped the run
+abbrev pub IsInputStopped : Option (List ℕ) → Fault → Option (List ℕ) → Point → Point → Type 0
+IsInputStopped input fault text old new =
+    (n : ℕ) × (rest : Option (List ℕ)) × (last : Point) × AreRead input n text rest old last × IsHearing last.session × IsStoppedAt input (suc n) rest last new fault
+
+abbrev pub IsInputMet : {X : Type 0} → Option (List ℕ) → Result X Fault → Option (List ℕ) → Point → Point → Type 0
+IsInputMet input (Ok x) text old new = AreAllRead input text old new
+IsInputMet input (Err fault) text old new = IsInputStopped input fault text old new
+
+-- ---- the part before the first line
+
+-- a line of number 0 without values was taken; or it was refused, since there is no input channel of the name, or of one of them; or memory
+-- was refused for it
+abbrev pub IsFirstPart : Option (List ℕ) → Point → Point → Result Bool Fault → Type 0
+IsFirstPart input old new (Ok true) = IsReadMet input 0 [] old new (Ok None)
+IsFirstPart input old new (Ok false) = (f : TakeFault) × IsReadMet input 0 [] old new (Ok (Some f)) × (is_want f ≡ false)
+IsFirstPart input old new (Err fault) = IsReadMet input 0 [] old new (Err fault)
+    ⊎ ((fault ≡ no_memory) × ((f : TakeFault) × IsReadMet input 0 [] old new (Ok (Some f)) × (is_want f ≡ true)))
+
+-- that no line is for another input channel was told, where values of one stand alone and there is another
+abbrev pub IsAlonePut : List ℕ → Option (List ℕ) → LiveTelling → LiveTelling → Type 0
+IsAlonePut input other old new = WasTold (alone_text old.path input other) old new
+
+abbrev pub IsAloneSaid : Option (List ℕ) → Live → LiveTelling → LiveTelling → Type 0
+IsAloneSaid None s old new = new ≡ old
+IsAloneSaid (Some input) s old new = (other : Option (List ℕ)) × IsOtherInput s.flow.run.network input other × IsAlonePut input other old new
+
+abbrev pub IsAloneTold : Option (List ℕ) → Point → Point → Type 0
+IsAloneTold input old new = (new.session ≡ old.session) × (new.out ≡ old.out) × IsAloneSaid input old.session old.told new.told
+
+-- ---- the lines behind those of the input
+
+-- each was taken or refused, in their order
+abbrev pub AreFed : List (List ℕ) → Point → Point → Type 0
+AreFed [] old new = new ≡ old
+AreFed (line ∷ lines) old new = (next : Point) × WasAnswered at_end_number line old next × AreFed lines next new
+
+-- one of them stopped the run, behind those before it
+abbrev pub IsCutOff : List (List ℕ) → Point → Point → Fault → Type 0
+IsCutOff [] old new fault = ⊥
+IsCutOff (line ∷ lines) old new fault =
+    IsBrokenOff line old new fault ⊎ ((next : Point) × WasAnswered at_end_number line old next × IsCutOff lines next new fault)
+
+abbrev pub AreLastMet : {X : Type 0} → List (List ℕ) → Point → Point → Result X Fault → Type 0
+AreLastMet lines old new (Ok x) = AreFed lines old new
+AreLastMet lines old new (Err fault) = IsCutOff lines old new fault
+
+-- this one isn't, for this reason, while those before it are
+abbrev pub IsFirstUnmeant : Live → List (List ℕ) → List ℕ → TakeFault → Type 0
+IsFirstUnmeant s [] line f = ⊥
+IsFirstUnmeant s (l ∷ ls) line f = ((l ≡ line) × IsUnfedBy line s.flow f) ⊎ (IsMeantLine l s.flow.run.network × IsFirstUnmeant s ls line f)
+
+-- that was told, unless memory was refused for it
+abbrev pub IsLastRefused : Live → List ℕ → TakeFault → LiveTelling → LiveTelling → Result Bool Fault → Type 0
+IsLastRefused s line f old new (Ok true) = ⊥
+IsLastRefused s line f old new (Ok false) = IsRefused s at_end_number line f old new
+IsLastRefused s line f old new (Err fault) = (fault ≡ no_memory) × (is_want f ≡ true) × (new ≡ old)
+
+abbrev pub IsUnmeantTold : Live → List (List ℕ) → LiveTelling → LiveTelling → Result Bool Fault → Type 0
+IsUnmeantTold s lines old new r = (line : List ℕ) × (f : TakeFault) × IsFirstUnmeant s lines line f × IsLastRefused s line f old new r
+
+-- before any is fed, all were tried
+abbrev pub AreLastTried : Live → List (List ℕ) → LiveTelling → LiveTelling → Result Bool Fault → Type 0
+AreLastTried s lines old new r = ((r ≡ Ok true) × AreMeant s lines × (new ≡ old)) ⊎ IsUnmeantTold s lines old new r

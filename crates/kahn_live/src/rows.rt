@@ -1,0 +1,169 @@
+//! Rows: lines of input that have one value for each of several channels.
+
+ghost use Rattle.std.specs.Prelude.{◌≡◌, ◌==◌, ◌≤◌, IfOk, length, not, option_copied};
+ghost use Rattle.std.specs.List.{list_any, position, position_or_len};
+ghost use Rattle.kahn_live.specs.Rows.{IsRowTried, bare_of, behind_word, bytes_in, row_line, first_word, from_word, is_row_gap, row_names};
+ghost use Rattle.kahn_live.specs.inner.Parts.{IsTriedCell};
+
+use kahn_session::{Session, TakeFault};
+use std::alloc::{AllocError, Global};
+
+/// Whether commas stand between names.
+fn is_several(names: &str) -> bool
+    ensures { result ≡ list_any (λ b. b == 44) names.now }
+{
+    names.as_bytes().contains(&b',')
+}
+
+/// The names of several channels, where commas stand between them: then each line is a row.
+pub(crate) fn row_names(input: Option<&str>) -> Option<&str>
+    ensures { option_copied result ≡ row_names (option_copied input.entry) }
+{
+    let Some(names) = input else {
+        return None;
+    };
+    if is_several(names) {
+        return Some(names);
+    }
+    None
+}
+
+/// The name of one channel, where no comma stands in it.
+pub(crate) fn bare_of(input: Option<&str>) -> Option<&str>
+    ensures { option_copied result ≡ bare_of (option_copied input.entry) }
+{
+    let Some(name) = input else {
+        return None;
+    };
+    if is_several(name) {
+        return None;
+    }
+    Some(name)
+}
+
+/// Whether a byte stands between words.
+fn is_row_gap(byte: u8) -> bool
+    ensures { result ≡ is_row_gap byte }
+{
+    byte == b' ' || byte == b'\t' || byte == b',' || byte == b'\r'
+}
+
+/// Where the first byte of a word stands.
+fn first_of_word(bytes: &[u8]) -> Option<usize>
+    ensures { result ≡ position (λ b. not (is_row_gap b)) bytes.now }
+{
+    bytes.iter().position(|byte| !is_row_gap(*byte))
+}
+
+/// Where the first byte between words stands.
+fn first_between(bytes: &[u8]) -> Option<usize>
+    ensures { result ≡ position is_row_gap bytes.now }
+{
+    bytes.iter().position(|byte| is_row_gap(*byte))
+}
+
+/// How many bytes stand before the first word.
+fn word_start(bytes: &[u8]) -> usize
+    ensures within { result ≤ length bytes.now }
+    ensures stop { result ≡ position_or_len (λ b. not (is_row_gap b)) bytes.now }
+{
+    first_of_word(bytes).unwrap_or(bytes.len())
+}
+
+/// How many bytes stand before the first one that is between words.
+fn word_length(bytes: &[u8]) -> usize
+    ensures within { result ≤ length bytes.now }
+    ensures stop { result ≡ position_or_len is_row_gap bytes.now }
+{
+    first_between(bytes).unwrap_or(bytes.len())
+}
+
+/// The bytes from the first word on.
+fn from_word(bytes: &[u8]) -> &[u8]
+    ensures { result.now ≡ from_word bytes.now }
+{
+    &bytes[word_start(bytes)..]
+}
+
+/// The first word, or nothing.
+fn first_word(bytes: &[u8]) -> &[u8]
+    ensures { result.now ≡ first_word bytes.now }
+{
+    let bytes = from_word(bytes);
+    &bytes[..word_length(bytes)]
+}
+
+/// What stands behind the first word.
+fn behind_word(bytes: &[u8]) -> &[u8]
+    ensures { result.now ≡ behind_word bytes.now }
+{
+    let bytes = from_word(bytes);
+    &bytes[word_length(bytes)..]
+}
+
+/// A line of a name and a word.
+fn cell_of(alloc: Global, name: &[u8], word: &[u8]) -> Result<Vec<u8>, AllocError>
+    ensures { IfOk result (λ cell. bytes_in cell ≡ row_line name.now word.now) }
+{
+    let mut cell = Vec::new(alloc);
+    cell.extend_from_slice(name)?;
+    cell.push(b':')?;
+    cell.extend_from_slice(word)?;
+    Ok(cell)
+}
+
+/// A line that feeds a row's value to the channel of that name, where it is meant for it; else it, or nothing, and the fault.
+fn tried_cell(
+    alloc: Global,
+    session: &Session<'_>,
+    name: &[u8],
+    word: &[u8],
+) -> Result<Vec<u8>, (TakeFault, Vec<u8>)>
+    ensures { IsTriedCell session.now (row_line name.now word.now) result }
+{
+    let Ok(cell) = cell_of(alloc, name, word) else {
+        return Err((TakeFault::NoMemory, Vec::new(alloc)));
+    };
+    match session.try_line(&cell) {
+        Ok(()) => Ok(cell),
+        Err(fault) => Err((fault, cell)),
+    }
+}
+
+/// The lines of a row, one for each of the names, each of which is meant for an input channel; a blank row has no values for them. Else
+/// why there are none, and which line isn't.
+pub(crate) fn row_cells(
+    alloc: Global,
+    session: &Session<'_>,
+    names: &[u8],
+    row: &[u8],
+) -> Result<Vec<Vec<u8>>, (TakeFault, Vec<u8>)>
+    ensures { IsRowTried session.now names.now row.now result }
+{
+    let blank = first_word(row).is_empty();
+    let mut cells = Vec::new(alloc);
+    let mut rest = names;
+    let mut words = row;
+    'names: while !first_word(rest).is_empty() {
+        let word = first_word(words);
+        if word.is_empty() != blank {
+            return Err((TakeFault::BadRow, Vec::new(alloc)));
+        }
+        let cell = match tried_cell(alloc, session, first_word(rest), word) {
+            Ok(cell) => cell,
+            Err(refused) => return Err(refused),
+        };
+        if cells.push(cell).is_err() {
+            return Err((TakeFault::NoMemory, Vec::new(alloc)));
+        }
+        rest = behind_word(rest);
+        words = behind_word(words);
+    }
+    if cells.is_empty() {
+        return Err((TakeFault::BadRow, Vec::new(alloc)));
+    }
+    if !first_word(words).is_empty() {
+        return Err((TakeFault::BadRow, Vec::new(alloc)));
+    }
+    Ok(cells)
+}
