@@ -30,12 +30,6 @@ from_part parts k part h =
     let e : drop k parts ≡ get_or parts k part ∷ drop (k + 1) parts = rw add-one (drop-cons parts k part h.0) in
     e ∙ ap (λ (w : List ℕ). w ∷ drop (k + 1) parts) (sym h.1)
 
-pub take_all : (parts : List (List ℕ)) (k : ℕ) → length parts ≤ k → take k parts ≡ parts
-take_all [] zero h = refl
-take_all [] (suc k) h = refl
-take_all (x ∷ xs) zero h = absurd (omega (arith, h))
-take_all (x ∷ xs) (suc k) h = ap (λ l. x ∷ l) (take_all xs k (omega (arith, h)))
-
 all_one : (P : List ℕ → Type 0) (x : List ℕ) → P x → All P (x ∷ [])
 all_one P x p zero d below = p
 all_one P x p (suc k) d below = absurd (omega (arith, below))
@@ -53,7 +47,7 @@ module _ (parts : List (List ℕ)) (k m : ℕ) (part : List ℕ) (e : m ≡ k + 
       let h = parts_joined (take k parts) (part ∷ []) in
       ap parts_length one_more ∙ h ∙ ap (λ n. parts_length (take k parts) + n) (omega arith)
 
-  pub length_within : parts_length (take k parts) + (length part + 1) ≤ parts_length parts
+  length_within : parts_length (take k parts) + (length part + 1) ≤ parts_length parts
   length_within =
       let h = parts_joined (take k parts) (part ∷ drop (k + 1) parts) in
       let whole : parts_length parts ≡ parts_length (take k parts ++ (part ∷ drop (k + 1) parts)) = ap parts_length cut_here in
@@ -61,3 +55,12 @@ module _ (parts : List (List ℕ)) (k m : ℕ) (part : List ℕ) (e : m ≡ k + 
 
   pub all_more : (P : List ℕ → Type 0) → All P (take k parts) → P part → All P (take m parts)
   all_more P all p = subst (All P) (sym one_more) (All-append P (take k parts) (part ∷ []) all (all_one P part p))
+
+-- the part at k ends within the bytes
+pub reaches : (p : ℕ → Bool) (bytes : List ℕ) (k n : ℕ) (part : List ℕ) → (k < length (slice_split p bytes)) × (part ≡ get_or (slice_split p bytes) k part)
+    → n ≡ parts_length (take k (slice_split p bytes)) → n + length part ≤ length bytes
+reaches p bytes k n part turn from =
+    let parts = slice_split p bytes in
+    let within = length_within parts k (k + 1) part refl (from_part parts k part turn) in
+    let whole = parts_whole p bytes in
+    omega (arith, within, whole, from)

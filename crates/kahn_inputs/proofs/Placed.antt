@@ -13,7 +13,7 @@ use Rattle.kahn_inputs.specs.Feeding.{IsInputNote, IsLineNote, IsNumberedNote, r
 use Rattle.kahn_inputs.specs.Fitting.{parts_length}
 use Rattle.kahn_inputs.specs.Placed.{HasItsPlace}
 use Rattle.kahn_inputs.specs.Seeking.{IsFound}
-use Rattle.kahn_inputs.specs.declared.seeking.Sort.TheVariants as sort
+use Rattle.kahn_inputs.specs.declared.seeking.LineKind.TheVariants as kind
 use Rattle.kahn_inputs.proofs.Fitted.{parts_joined, parts_whole}
 
 -- ---- a line at fault is neither blank nor an entry
@@ -72,7 +72,7 @@ some : (line : List ℕ) (e : Entry) → IsEntry (content line) e → 0 < length
 some [] e (rest, (before, between, whole, blanks, named, more), values) = absurd (no_part before e.0 between rest whole)
 some (b ∷ bs) e h = omega arith
 
-no_last : (text : List ℕ) (from : ℕ) (line : List ℕ) → IsFound text (length text) from line sort.Entry → ⊥
+no_last : (text : List ℕ) (from : ℕ) (line : List ℕ) → IsFound text (length text) from line kind.Entry → ⊥
 no_last text from line (before, whole, after, es, e, spelt, count, (entry, is), same, first, within) =
     let less = few before es spelt in
     let one = some whole entry is in

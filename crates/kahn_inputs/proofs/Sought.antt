@@ -3,10 +3,10 @@ use Rattle.std.proofs.Common.{◌≡◌, inl, inr, ℕ, ◌+◌, ◌≤◌, List
 use Rattle.std.proofs.lemmas.List.{length_push}
 use Rattle.kahn_streams.specs.Inputs.{Entry}
 use Rattle.kahn_texts.specs.Formats.{AreBlanks, AreEntries, IsEntry, content}
-use Rattle.kahn_inputs.specs.Seeking.{IsNotSought, IsSort, entries_in}
-use Rattle.kahn_inputs.specs.declared.seeking.Sort.{Sort}
-use Rattle.kahn_inputs.specs.declared.seeking.Sort.TheVariants.{Blank, NoHead, NoValues}
-use Rattle.kahn_inputs.specs.declared.seeking.Sort.TheVariants as sort
+use Rattle.kahn_inputs.specs.Seeking.{IsNotSought, IsLineKind, entries_in}
+use Rattle.kahn_inputs.specs.declared.seeking.LineKind.{LineKind}
+use Rattle.kahn_inputs.specs.declared.seeking.LineKind.TheVariants.{Blank, NoHead, NoValues}
+use Rattle.kahn_inputs.specs.declared.seeking.LineKind.TheVariants as kind
 
 with_entry : (xs : List (List ℕ)) (line : List ℕ) (es : List Entry) (e : Entry) → AreEntries xs es → IsEntry (content line) e → AreEntries (xs ++ (line ∷ [])) (es ++ (e ∷ []))
 with_entry [] line [] e h is = inr (is, tt)
@@ -23,19 +23,19 @@ with_blank (x ∷ xs) line (f ∷ es) (inl h) blank = inl (h.0, with_blank xs li
 with_blank (x ∷ xs) line (f ∷ es) (inr h) blank = inr (h.0, with_blank xs line es h.1 blank)
 
 -- a line that is passed adds its entry, where it is one
-pub one_on : (lines : List (List ℕ)) (k m : ℕ) (line : List ℕ) → take m lines ≡ take k lines ++ (line ∷ []) → (s : Sort) → IsSort (content line) s → (n number : ℕ) → IsNotSought s n number
+pub one_on : (lines : List (List ℕ)) (k m : ℕ) (line : List ℕ) → take m lines ≡ take k lines ++ (line ∷ []) → (s : LineKind) → IsLineKind (content line) s → (n number : ℕ) → IsNotSought s n number
     → (es : List Entry) × AreEntries (take k lines) es × (length es ≡ n) → (fs : List Entry) × AreEntries (take m lines) fs × (length fs ≡ n + entries_in s)
 one_on lines k m line more Blank is n number passed (es, h, len) =
     (es, subst (λ l. AreEntries l es) (sym more) (with_blank (take k lines) line es h is), omega (arith, len))
-one_on lines k m line more sort.Entry (e, is) n number passed (es, h, len) =
+one_on lines k m line more kind.Entry (e, is) n number passed (es, h, len) =
     let longer = length_push es e in
     (es ++ (e ∷ []), subst (λ l. AreEntries l (es ++ (e ∷ []))) (sym more) (with_entry (take k lines) line es e h is), omega (arith, len, longer))
 one_on lines k m line more NoHead is n number passed count = absurd passed
 one_on lines k m line more NoValues is n number passed count = absurd passed
 
 -- and there are no more than are looked for
-pub still : (s : Sort) (n number : ℕ) → IsNotSought s n number → n ≤ number → n + entries_in s ≤ number
+pub still : (s : LineKind) (n number : ℕ) → IsNotSought s n number → n ≤ number → n + entries_in s ≤ number
 still Blank n number passed few = omega (arith, few)
-still sort.Entry n number passed few = omega (arith, few, passed)
+still kind.Entry n number passed few = omega (arith, few, passed)
 still NoHead n number passed few = absurd passed
 still NoValues n number passed few = absurd passed

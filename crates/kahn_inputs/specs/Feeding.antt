@@ -15,7 +15,7 @@ use Rattle.kahn_marks.specs.declared.rendering.Other.{Other}
 use Rattle.kahn_marks.specs.declared.rendering.Sort.TheVariants.{Error}
 use Rattle.kahn_inputs.specs.Fitting.{AreAllFit, IsUnfit, colon_at, lack_of, lack_span, moved_by, line_name, name_span}
 use Rattle.kahn_inputs.specs.Seeking.{IsFirstNamed, IsFound, IsNamedNowhere, IsUnfound}
-use Rattle.kahn_inputs.specs.declared.seeking.Sort.TheVariants.{Entry, NoHead, NoValues}
+use Rattle.kahn_inputs.specs.declared.seeking.LineKind.TheVariants.{Entry, NoHead, NoValues}
 
 -- a note on a part of the line that begins at byte `from`
 abbrev pub IsPartNote : ℕ → Span → Note → Type 0
@@ -45,12 +45,8 @@ IsKindFor t name kind = MatchOption kind (IsNoName t name ⊎ ¬ IsUtf8 name) (�
 
 -- the first value of another kind, or the name
 abbrev pub IsEntrySpan : List ℕ → Option Kind → InputFault → Span → Type 0
-IsEntrySpan line kind (input_fault.UnknownName n) span = span ≡ name_span line
-IsEntrySpan line kind (input_fault.NotAnInput n) span = span ≡ name_span line
-IsEntrySpan line kind (input_fault.GivenTwice n) span = span ≡ name_span line
 IsEntrySpan line kind (input_fault.WrongKind n) span = IsUnfitSpan kind line span
-IsEntrySpan line kind (input_fault.TooMany n) span = span ≡ name_span line
-IsEntrySpan line kind input_fault.NoMemory span = span ≡ name_span line
+IsEntrySpan line kind fault span = span ≡ name_span line
 
 -- where two entries are for one channel, the first of them is told
 abbrev pub AreFirstGiven : List ℕ → List ℕ → InputFault → List Other → Type 0

@@ -7,18 +7,18 @@ use Rattle.kahn_streams.specs.declared.tree.Kind.{Kind}
 use Rattle.kahn_streams.specs.declared.value.Value.{Value}
 use Rattle.kahn_streams.specs.Inputs.{kind_of_value}
 use Rattle.kahn_texts.specs.Formats.{IsValue, is_blank, is_word_byte, most_name_bytes}
-use Rattle.kahn_inputs.specs.declared.fitting.Class.{Class}
-use Rattle.kahn_inputs.specs.declared.fitting.Class.TheVariants.{Blank, Named, Dark}
+use Rattle.kahn_inputs.specs.declared.fitting.ByteClass.{ByteClass}
+use Rattle.kahn_inputs.specs.declared.fitting.ByteClass.TheVariants.{Blank, Named, Dark}
 use Rattle.kahn_inputs.specs.declared.fitting.Lack.{Lack}
 use Rattle.kahn_inputs.specs.declared.fitting.Lack.TheVariants.{Name, ShortName, Colon}
 
 -- whether a byte is of a class, and how many at the front are
-abbrev pub is_in_class : Class → ℕ → Bool
+abbrev pub is_in_class : ByteClass → ℕ → Bool
 is_in_class Blank b = is_blank b
 is_in_class Named b = is_word_byte b
 is_in_class Dark b = not (is_blank b)
 
-abbrev pub class_bytes : Class → List ℕ → ℕ
+abbrev pub class_bytes : ByteClass → List ℕ → ℕ
 class_bytes class bytes = position_or_len (λ b. not (is_in_class class b)) bytes
 
 -- where the name of a line begins and ends, and where its colon stands

@@ -4,41 +4,41 @@ use Rattle.kahn_streams.specs.declared.span.Span.{Span}
 use Rattle.kahn_streams.specs.Inputs.{Entry}
 use Rattle.kahn_texts.specs.Formats.{AreBlanks, AreEntries, HasNoHead, HasNoValues, IsEntry, content, text_lines}
 use Rattle.kahn_inputs.specs.Fitting.{moved_by, line_name, name_span, parts_length}
-use Rattle.kahn_inputs.specs.declared.seeking.Sort.{Sort}
-use Rattle.kahn_inputs.specs.declared.seeking.Sort.TheVariants.{Blank, NoHead, NoValues}
-use Rattle.kahn_inputs.specs.declared.seeking.Sort.TheVariants as sort
+use Rattle.kahn_inputs.specs.declared.seeking.LineKind.{LineKind}
+use Rattle.kahn_inputs.specs.declared.seeking.LineKind.TheVariants.{Blank, NoHead, NoValues}
+use Rattle.kahn_inputs.specs.declared.seeking.LineKind.TheVariants as kind
 
 -- what a line is
-abbrev pub IsSort : List ℕ → Sort → Type 0
-IsSort line Blank = AreBlanks line
-IsSort line sort.Entry = (e : Entry) × IsEntry line e
-IsSort line NoHead = HasNoHead line
-IsSort line NoValues = HasNoValues line
+abbrev pub IsLineKind : List ℕ → LineKind → Type 0
+IsLineKind line Blank = AreBlanks line
+IsLineKind line kind.Entry = (e : Entry) × IsEntry line e
+IsLineKind line NoHead = HasNoHead line
+IsLineKind line NoValues = HasNoValues line
 
 -- which is looked for, with so many entries before it: that of this number, counted from 0, or one that is neither blank nor an entry
-abbrev pub IsSought : Sort → ℕ → ℕ → Type 0
+abbrev pub IsSought : LineKind → ℕ → ℕ → Type 0
 IsSought Blank count number = ⊥
-IsSought sort.Entry count number = count ≡ number
+IsSought kind.Entry count number = count ≡ number
 IsSought NoHead count number = Unit {0}
 IsSought NoValues count number = Unit {0}
 
 -- which isn't, and how many entries it is
-abbrev pub IsNotSought : Sort → ℕ → ℕ → Type 0
+abbrev pub IsNotSought : LineKind → ℕ → ℕ → Type 0
 IsNotSought Blank count number = Unit {0}
-IsNotSought sort.Entry count number = ¬ (count ≡ number)
+IsNotSought kind.Entry count number = ¬ (count ≡ number)
 IsNotSought NoHead count number = ⊥
 IsNotSought NoValues count number = ⊥
 
-abbrev pub entries_in : Sort → ℕ
+abbrev pub entries_in : LineKind → ℕ
 entries_in Blank = 0
-entries_in sort.Entry = 1
+entries_in kind.Entry = 1
 entries_in NoHead = 0
 entries_in NoValues = 0
 
 -- a line that begins at this byte, where those before it spell entries
-abbrev pub IsFound : List ℕ → ℕ → ℕ → List ℕ → Sort → Type 0
+abbrev pub IsFound : List ℕ → ℕ → ℕ → List ℕ → LineKind → Type 0
 IsFound text number from line s = (before : List (List ℕ)) × (whole : List ℕ) × (after : List (List ℕ)) × (es : List Entry)
-    × (text_lines text ≡ before ++ (whole ∷ after)) × AreEntries before es × IsSought s (length es) number × IsSort (content whole) s
+    × (text_lines text ≡ before ++ (whole ∷ after)) × AreEntries before es × IsSought s (length es) number × IsLineKind (content whole) s
     × (line ≡ content whole) × (from ≡ parts_length before) × (from + length line ≤ length text)
 
 -- all lines spell entries, and no more than that

@@ -7,10 +7,10 @@ use crate::fitting::{
     Lack, behind, colon_at, first_unfit, lack_of, lack_span, line_name, moved_by, name_span,
     part_of,
 };
-use crate::seeking::{Found, Sort, find_line, first_named};
+use crate::seeking::{FoundLine, LineKind, find_line, first_named};
 use crate::strange::{no_comment_words, numeral_words, strange_words};
 use kahn_hints::{add_inputs, add_unknown_input};
-use kahn_marks::{Note, Other, Sort as NoteSort, add, simple};
+use kahn_marks::{Note, Other, Sort, add, simple};
 use kahn_streams::{InputFault, Kind, Network, NoMemory, Span, channel_named};
 use kahn_texts::TextFault;
 use std::alloc::{AllocError, Global};
@@ -26,9 +26,7 @@ fn lack_words(lack: Lack) -> &'static str {
 }
 
 /// What is said of a word that is no value.
-fn no_value_words() -> &'static str {
-    "not a value: wanted a number of 64 bits, `true` or `false`"
-}
+const NO_VALUE: &str = "not a value: wanted a number of 64 bits, `true` or `false`";
 
 /// What is said of an entry.
 fn entry_words(fault: InputFault) -> &'static str {
@@ -55,7 +53,7 @@ fn kinds_words(kind: Option<Kind>) -> &'static str {
 fn part_note(
     alloc: Global,
     _text: &str,
-    found: Found<'_>,
+    found: FoundLine<'_>,
     span: Span,
     words: &[&str],
 ) -> Result<Note, AllocError>
@@ -68,14 +66,14 @@ fn part_note(
     add(&mut told, words)?;
     simple(
         alloc,
-        NoteSort::Error,
+        Sort::Error,
         moved_by(found.from, span),
         told.as_str(),
     )
 }
 
 /// The note on a line that doesn't begin with a name and a colon.
-fn lack_note(alloc: Global, text: &str, found: Found<'_>) -> Result<Note, AllocError>
+fn lack_note(alloc: Global, text: &str, found: FoundLine<'_>) -> Result<Note, AllocError>
     requires { found.from + length found.line.now ≤ length text.now }
     ensures { IfOk result (IsPartNote found.entry.from (lack_place found.entry.line.now)) }
 {
@@ -109,7 +107,7 @@ pub(crate) fn unfit_span(asked: Option<Kind>, line: &[u8]) -> Span
 }
 
 /// The note on a line with what is no value.
-fn value_note(alloc: Global, text: &str, found: Found<'_>) -> Result<Note, AllocError>
+fn value_note(alloc: Global, text: &str, found: FoundLine<'_>) -> Result<Note, AllocError>
     requires { found.from + length found.line.now ≤ length text.now }
     ensures { IfOk result (IsValueNote found.entry.from found.entry.line.now) }
 {
@@ -117,7 +115,7 @@ fn value_note(alloc: Global, text: &str, found: Found<'_>) -> Result<Note, Alloc
     let part = part_of(found.line, span);
     let strange = strange_words(found.from + span.from, part);
     let more = numeral_words(part);
-    part_note(alloc, text, found, span, &[no_value_words(), more, strange])
+    part_note(alloc, text, found, span, &[NO_VALUE, more, strange])
 }
 
 /// The kind of the channel of that name, where a channel has it.
@@ -147,9 +145,7 @@ fn entry_text(
         InputFault::UnknownName(_) => add_unknown_input(&mut words, alloc, program, name)?,
         InputFault::NotAnInput(_) => add_inputs(&mut words, alloc, program)?,
         InputFault::WrongKind(_) => words.push_str(kinds_words(kind))?,
-        InputFault::GivenTwice(_) => {}
-        InputFault::TooMany(_) => {}
-        InputFault::NoMemory => {}
+        InputFault::GivenTwice(_) | InputFault::TooMany(_) | InputFault::NoMemory => {}
     }
     Ok(words)
 }
@@ -194,7 +190,7 @@ fn entry_note(
     alloc: Global,
     network: &Network,
     text: &str,
-    found: Found<'_>,
+    found: FoundLine<'_>,
     fault: InputFault,
 ) -> Result<Note, AllocError>
     requires { found.from + length found.line.now ≤ length text.now }
@@ -217,11 +213,11 @@ fn line_note(alloc: Global, text: &str) -> Result<Option<Note>, NoMemory>
     let Some(found) = find_line(alloc, text, text.len())? else {
         return Ok(None);
     };
-    match found.sort {
-        Sort::Blank => Ok(None),
-        Sort::Entry => Ok(None),
-        Sort::NoHead => Ok(Some(lack_note(alloc, text, found)?)),
-        Sort::NoValues => Ok(Some(value_note(alloc, text, found)?)),
+    match found.kind {
+        LineKind::Blank => Ok(None),
+        LineKind::Entry => Ok(None),
+        LineKind::NoHead => Ok(Some(lack_note(alloc, text, found)?)),
+        LineKind::NoValues => Ok(Some(value_note(alloc, text, found)?)),
     }
 }
 
@@ -238,11 +234,11 @@ fn numbered_note(
     let Some(found) = find_line(alloc, text, number)? else {
         return Ok(None);
     };
-    match found.sort {
-        Sort::Entry => Ok(Some(entry_note(alloc, network, text, found, fault)?)),
-        Sort::Blank => Ok(None),
-        Sort::NoHead => Ok(None),
-        Sort::NoValues => Ok(None),
+    match found.kind {
+        LineKind::Entry => Ok(Some(entry_note(alloc, network, text, found, fault)?)),
+        LineKind::Blank => Ok(None),
+        LineKind::NoHead => Ok(None),
+        LineKind::NoValues => Ok(None),
     }
 }
 

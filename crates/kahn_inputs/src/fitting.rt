@@ -26,7 +26,7 @@ pub(crate) enum Lack {
 
 /// A class of bytes.
 #[derive(Clone, Copy)]
-pub(crate) enum Class {
+pub(crate) enum ByteClass {
     /// Spaces and tabs.
     Blank,
     /// Those of a name.
@@ -36,25 +36,25 @@ pub(crate) enum Class {
 }
 
 /// Whether a byte is of a class.
-fn is_in_class(class: Class, byte: u8) -> bool
+fn is_in_class(class: ByteClass, byte: u8) -> bool
     ensures { result ≡ is_in_class class byte }
 {
     match class {
-        Class::Blank => byte == b' ' || byte == b'\t',
-        Class::Named => byte.is_ascii_alphanumeric() || byte == b'_',
-        Class::Dark => !(byte == b' ' || byte == b'\t'),
+        ByteClass::Blank => byte == b' ' || byte == b'\t',
+        ByteClass::Named => byte.is_ascii_alphanumeric() || byte == b'_',
+        ByteClass::Dark => !(byte == b' ' || byte == b'\t'),
     }
 }
 
 /// The first byte that isn't of a class.
-fn first_past(class: Class, bytes: &[u8]) -> Option<usize>
+fn first_past(class: ByteClass, bytes: &[u8]) -> Option<usize>
     ensures { result ≡ position (λ b. not (is_in_class class b)) bytes.now }
 {
     bytes.iter().position(|byte| !is_in_class(class, *byte))
 }
 
 /// How many bytes at the front are of a class.
-fn class_bytes(class: Class, bytes: &[u8]) -> usize
+fn class_bytes(class: ByteClass, bytes: &[u8]) -> usize
     ensures within { result ≤ length bytes.now }
     ensures stop { result ≡ class_bytes class bytes.now }
 {
@@ -67,8 +67,8 @@ pub(crate) fn name_span(line: &[u8]) -> Span
     ensures within { result.to ≤ length line.now }
     ensures span { result ≡ name_span line.now }
 {
-    let from = class_bytes(Class::Blank, line);
-    let to = from + class_bytes(Class::Named, &line[from..]);
+    let from = class_bytes(ByteClass::Blank, line);
+    let to = from + class_bytes(ByteClass::Named, &line[from..]);
     Span { from, to }
 }
 
@@ -117,7 +117,7 @@ pub(crate) fn colon_at(line: &[u8]) -> usize
     ensures place { result ≡ colon_at line.now }
 {
     let to = name_span(line).to;
-    to + class_bytes(Class::Blank, &line[to..])
+    to + class_bytes(ByteClass::Blank, &line[to..])
 }
 
 /// What stands from there on, up to a blank.
@@ -129,7 +129,7 @@ fn dark_span(line: &[u8], at: usize) -> Span
 {
     Span {
         from: at,
-        to: at + class_bytes(Class::Dark, &line[at..]),
+        to: at + class_bytes(ByteClass::Dark, &line[at..]),
     }
 }
 

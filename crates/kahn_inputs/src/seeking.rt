@@ -3,7 +3,7 @@
 ghost use Rattle.std.specs.Prelude.{◌≡◌, ◌+◌, ◌≤◌, IfOk, IsFalse, IsTrue, MatchOption, length};
 ghost use Rattle.kahn_texts.specs.Formats.{content as content_of};
 ghost use Rattle.kahn_inputs.specs.Fitting.{moved_by, name_span};
-ghost use Rattle.kahn_inputs.specs.Seeking.{IsFirstNamed, IsFound, IsNamedNowhere, IsNotSought, IsSort, IsSought, IsUnfound, entries_in, has_line_name};
+ghost use Rattle.kahn_inputs.specs.Seeking.{IsFirstNamed, IsFound, IsNamedNowhere, IsNotSought, IsLineKind, IsSought, IsUnfound, entries_in, has_line_name};
 
 use crate::fitting::{line_name, moved_by, name_span};
 use kahn_streams::{NoMemory, Span};
@@ -12,7 +12,7 @@ use std::alloc::Global;
 
 /// What a line is.
 #[derive(Clone, Copy)]
-pub(crate) enum Sort {
+pub(crate) enum LineKind {
     /// It has blanks alone, or nothing.
     Blank,
     /// An entry.
@@ -25,13 +25,13 @@ pub(crate) enum Sort {
 
 /// A line of an input text.
 #[derive(Clone, Copy)]
-pub(crate) struct Found<'a> {
+pub(crate) struct FoundLine<'a> {
     /// The byte at which it begins.
     pub from: usize,
     /// The line without its end.
     pub line: &'a [u8],
     /// What it is.
-    pub sort: Sort,
+    pub kind: LineKind,
 }
 
 /// A line without one carriage return before its end.
@@ -46,39 +46,39 @@ pub(crate) fn content(line: &[u8]) -> &[u8]
 }
 
 /// What a line is.
-fn sort_of(alloc: Global, line: &[u8]) -> Result<Sort, NoMemory>
-    ensures { IfOk result (IsSort (content_of line.now)) }
+fn kind_of(alloc: Global, line: &[u8]) -> Result<LineKind, NoMemory>
+    ensures { IfOk result (IsLineKind (content_of line.now)) }
 {
     match read_line(alloc, line) {
-        Ok(None) => Ok(Sort::Blank),
-        Ok(Some(_entry)) => Ok(Sort::Entry),
-        Err(LineFault::NoHead) => Ok(Sort::NoHead),
-        Err(LineFault::NoValues) => Ok(Sort::NoValues),
+        Ok(None) => Ok(LineKind::Blank),
+        Ok(Some(_entry)) => Ok(LineKind::Entry),
+        Err(LineFault::NoHead) => Ok(LineKind::NoHead),
+        Err(LineFault::NoValues) => Ok(LineKind::NoValues),
         Err(LineFault::NoMemory) => Err(NoMemory),
     }
 }
 
 /// Whether a line is looked for, with so many entries before it: the entry of this number, or one that is neither blank nor an
 /// entry.
-fn is_sought(sort: Sort, before: usize, number: usize) -> bool
-    ensures sought { IsTrue result → IsSought sort before number }
-    ensures passed { IsFalse result → IsNotSought sort before number }
+fn is_sought(kind: LineKind, before: usize, number: usize) -> bool
+    ensures sought { IsTrue result → IsSought kind before number }
+    ensures passed { IsFalse result → IsNotSought kind before number }
 {
-    match sort {
-        Sort::Blank => false,
-        Sort::Entry => before == number,
-        Sort::NoHead => true,
-        Sort::NoValues => true,
+    match kind {
+        LineKind::Blank => false,
+        LineKind::Entry => before == number,
+        LineKind::NoHead => true,
+        LineKind::NoValues => true,
     }
 }
 
 /// How many entries a line is that isn't looked for.
-fn entries_in(sort: Sort) -> usize
-    ensures { result ≡ entries_in sort }
+fn entries_in(kind: LineKind) -> usize
+    ensures { result ≡ entries_in kind }
 {
-    match sort {
-        Sort::Entry => 1,
-        Sort::Blank | Sort::NoHead | Sort::NoValues => 0,
+    match kind {
+        LineKind::Entry => 1,
+        LineKind::Blank | LineKind::NoHead | LineKind::NoValues => 0,
     }
 }
 
@@ -88,19 +88,19 @@ pub(crate) fn find_line(
     alloc: Global,
     text: &str,
     number: usize,
-) -> Result<Option<Found<'_>>, NoMemory>
-    ensures { IfOk result (λ found. MatchOption found (IsUnfound text.now number) (λ f. IsFound text.now number f.from f.line.now f.sort)) }
+) -> Result<Option<FoundLine<'_>>, NoMemory>
+    ensures { IfOk result (λ found. MatchOption found (IsUnfound text.now number) (λ f. IsFound text.now number f.from f.line.now f.kind)) }
 {
     let mut from = 0;
     let mut entries = 0;
     for whole in text.as_bytes().split(|byte| *byte == b'\n') {
-        let sort = sort_of(alloc, whole)?;
+        let kind = kind_of(alloc, whole)?;
         let to = from + whole.len();
-        if is_sought(sort, entries, number) {
+        if is_sought(kind, entries, number) {
             let line = content(whole);
-            return Ok(Some(Found { from, line, sort }));
+            return Ok(Some(FoundLine { from, line, kind }));
         }
-        entries += entries_in(sort);
+        entries += entries_in(kind);
         from = to + 1;
     }
     Ok(None)

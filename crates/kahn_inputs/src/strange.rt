@@ -1,9 +1,7 @@
 //! Characters of an input text that look like blanks and are none, and the mark of byte order; and words that are no values.
 
 ghost use Rattle.std.specs.Prelude.{◌≡◌};
-ghost use Rattle.kahn_inputs.specs.Strange.{are_digits, no_comment_words, is_front, is_number, numeral_words, strange_words, stands_in};
-ghost use Rattle.std.specs.List.{list_all};
-ghost use Rattle.std.specs.Char.{is_ascii_digit};
+ghost use Rattle.kahn_inputs.specs.Strange.{are_digits, no_comment_words, is_front, is_number, numeral_words, stands_in};
 
 use crate::fitting::behind;
 
@@ -28,9 +26,7 @@ pub(crate) fn stands_in(bytes: &[u8], part: &[u8]) -> bool
 }
 
 /// What is said of the first of such characters that stands in a part, which begins at this byte of the text.
-pub(crate) fn strange_words(at: usize, part: &[u8]) -> &'static str
-    ensures { result.now ≡ strange_words at part.now }
-{
+pub(crate) fn strange_words(at: usize, part: &[u8]) -> &'static str {
     if at == 0 && is_front(b"\xEF\xBB\xBF", part) {
         "; a byte order mark (EF BB BF) stands before the first line"
     } else if stands_in(b"\xEF\xBB\xBF", part) {

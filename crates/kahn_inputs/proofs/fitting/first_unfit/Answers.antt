@@ -1,58 +1,42 @@
 use Rattle.std.proofs.Common.{rules, tests, ◌<◌, ◌+◌, ◌≤◌, Fits, w64, All, length, take, drop, [], ◌∷◌, ◌++◌, arith, refl, subst}
 use Rattle.std.proofs.Math.Facts.{Fits-le}
-use Rattle.std.proofs.lemmas.List.{length_push}
+use Rattle.std.proofs.lemmas.List.{length_push, take_all}
 use Rattle.std.proofs.lemmas.Iterator.Splits.{YieldsList-from_slice_split}
 use Rattle.std.proofs.lemmas.Iterator.Consumers.{YieldsList-turn, YieldsList-end}
 use Rattle.std.specs.List.{slice_split}
 use Rattle.kahn_texts.specs.Formats.{is_blank}
 use Rattle.kahn_inputs.specs.Fitting.{IsFitPart, IsUnfitWord}
-use Rattle.kahn_inputs.proofs.Fitted.{all_more, cut_here, from_part, length_more, length_within, parts_whole, take_all}
+use Rattle.kahn_inputs.proofs.Fitted.{all_more, cut_here, from_part, length_more, reaches}
 use Rattle.kahn_inputs.proofs.fitting.first_unfit.Goals as goal
 
 pub overflow_add-to : goal.overflow_add-to
 overflow_add-to c =
-    let parts = slice_split is_blank c.args.bytes.now in
     let k = length c.loop-word.yielded in
     let part = c.in-Some.word.now in
     let t = YieldsList-turn (YieldsList-from_slice_split {s = c.into_iter-word-iterator.result} _ is_blank {f = c.split-word-items.result.pred} c.args.bytes.now (search rules) (search rules) (search rules) (λ x b q k. search (rules, tests)))
     c.loop-word.yielded _ c.loop-word.yielded_by _ _ c.in-Some.word c.in-Some.is c.next.ensures.steps in
-    let here = from_part parts k part t in
-    let within = length_within parts k (k + 1) part refl here in
-    let whole = parts_whole is_blank c.args.bytes.now in
-    let from = c.loop-word.invariant.from in
-    let below : c.loop-word.from + length part ≤ length c.args.bytes.now = omega (arith, within, whole, from) in
+    let below : c.loop-word.from + length part ≤ length c.args.bytes.now = reaches is_blank c.args.bytes.now k _ part t c.loop-word.invariant.from in
     let fits : Fits w64 (length c.args.bytes.now) = search rules in
     Fits-le below fits
 
 pub overflow_add-from : goal.overflow_add-from
 overflow_add-from c =
-    let parts = slice_split is_blank c.args.bytes.now in
     let k = length c.loop-word.yielded in
     let part = c.in-Some.word.now in
     let t = YieldsList-turn (YieldsList-from_slice_split {s = c.into_iter-word-iterator.result} _ is_blank {f = c.split-word-items.result.pred} c.args.bytes.now (search rules) (search rules) (search rules) (λ x b q k. search (rules, tests)))
     c.loop-word.yielded _ c.loop-word.yielded_by _ _ c.in-Some.word c.in-Some.is c.next.ensures.steps in
-    let here = from_part parts k part t in
-    let within = length_within parts k (k + 1) part refl here in
-    let whole = parts_whole is_blank c.args.bytes.now in
-    let from = c.loop-word.invariant.from in
-    let below : c.loop-word.from + length part ≤ length c.args.bytes.now = omega (arith, within, whole, from) in
+    let below : c.loop-word.from + length part ≤ length c.args.bytes.now = reaches is_blank c.args.bytes.now k _ part t c.loop-word.invariant.from in
     let fits : Fits w64 (length c.args.bytes.now + 1) = search rules in
     let more : c.loop-word.from + length part + 1 ≤ length c.args.bytes.now + 1 = omega (arith, below) in
     Fits-le more fits
 
 pub returns-then-not-is_fit_part-clause-within : goal.returns-then-not-is_fit_part-clause-within
 returns-then-not-is_fit_part-clause-within c =
-    let parts = slice_split is_blank c.args.bytes.now in
     let k = length c.loop-word.yielded in
     let part = c.in-Some.word.now in
     let t = YieldsList-turn (YieldsList-from_slice_split {s = c.into_iter-word-iterator.result} _ is_blank {f = c.split-word-items.result.pred} c.args.bytes.now (search rules) (search rules) (search rules) (λ x b q k. search (rules, tests)))
     c.loop-word.yielded _ c.loop-word.yielded_by _ _ c.in-Some.word c.in-Some.is c.next.ensures.steps in
-    let here = from_part parts k part t in
-    let within = length_within parts k (k + 1) part refl here in
-    let whole = parts_whole is_blank c.args.bytes.now in
-    let from = c.loop-word.invariant.from in
-    let below : c.loop-word.from + length part ≤ length c.args.bytes.now = omega (arith, within, whole, from) in
-    below
+    reaches is_blank c.args.bytes.now k _ part t c.loop-word.invariant.from
 
 pub returns-then-not-is_fit_part-clause-first : goal.returns-then-not-is_fit_part-clause-first
 returns-then-not-is_fit_part-clause-first c =
@@ -90,4 +74,4 @@ returns-clause-first c =
     let parts = slice_split is_blank c.args.bytes.now in
     let t = YieldsList-end (YieldsList-from_slice_split {s = c.into_iter-word-iterator.result} _ is_blank {f = c.split-word-items.result.pred} c.args.bytes.now (search rules) (search rules) (search rules) (λ x b q k. search (rules, tests)))
     c.loop-word.yielded _ c.loop-word.yielded_by _ _ c.in-None.is c.next.ensures.steps in
-    subst (All (IsFitPart c.args.asked)) (take_all parts (length c.loop-word.yielded) (omega (arith, t.1))) c.loop-word.invariant.fit
+    subst (All (IsFitPart c.args.asked)) (take_all (length c.loop-word.yielded) parts (omega (arith, t.1))) c.loop-word.invariant.fit

@@ -1,49 +1,39 @@
 use Rattle.std.proofs.Common.{rules, tests, ◌+◌, ◌≤◌, ◌==◌, Fits, w64, length, take, drop, [], ◌∷◌, ◌++◌, arith, refl, sym, subst}
 use Rattle.std.proofs.Math.Facts.{Fits-le}
-use Rattle.std.proofs.lemmas.List.{length_push}
+use Rattle.std.proofs.lemmas.List.{length_push, take_all}
 use Rattle.std.proofs.lemmas.Iterator.Splits.{YieldsList-from_slice_split}
 use Rattle.std.proofs.lemmas.Iterator.Consumers.{YieldsList-turn, YieldsList-end}
 use Rattle.kahn_texts.specs.Formats.{AreEntries, text_lines}
 use Rattle.kahn_inputs.specs.Seeking.{IsNotSought, IsSought}
-use Rattle.kahn_inputs.proofs.Fitted.{cut_here, from_part, length_more, length_within, one_more, parts_whole, take_all}
+use Rattle.kahn_inputs.proofs.Fitted.{cut_here, from_part, length_more, one_more, reaches}
 use Rattle.kahn_inputs.proofs.Sought.{one_on, still}
 use Rattle.kahn_inputs.proofs.seeking.find_line.Goals as goal
 
 pub overflow_add-to : goal.overflow_add-to
 overflow_add-to c =
-    let parts = text_lines c.args.text.now in
     let k = length c.loop-whole.yielded in
     let part = c.in-Some.whole.now in
     let t = YieldsList-turn (YieldsList-from_slice_split {s = c.into_iter-whole-iterator.result} _ (λ b. b == 10) {f = c.split-whole-items.result.pred} c.args.text.now (search rules) (search rules) (search rules) (λ x b q k. search (rules, tests)))
     c.loop-whole.yielded _ c.loop-whole.yielded_by _ _ c.in-Some.whole c.in-Some.is c.next.ensures.steps in
-    let here = from_part parts k part t in
-    let within = length_within parts k (k + 1) part refl here in
-    let all = parts_whole (λ b. b == 10) c.args.text.now in
-    let from = c.loop-whole.invariant.from in
-    let below : c.loop-whole.from + length part ≤ length c.args.text.now = omega (arith, within, all, from) in
+    let below : c.loop-whole.from + length part ≤ length c.args.text.now = reaches (λ b. b == 10) c.args.text.now k _ part t c.loop-whole.invariant.from in
     let fits : Fits w64 (length c.args.text.now) = search rules in
     Fits-le below fits
 
 pub overflow_add-from : goal.overflow_add-from
 overflow_add-from c =
-    let parts = text_lines c.args.text.now in
     let k = length c.loop-whole.yielded in
     let part = c.in-Some.whole.now in
     let t = YieldsList-turn (YieldsList-from_slice_split {s = c.into_iter-whole-iterator.result} _ (λ b. b == 10) {f = c.split-whole-items.result.pred} c.args.text.now (search rules) (search rules) (search rules) (λ x b q k. search (rules, tests)))
     c.loop-whole.yielded _ c.loop-whole.yielded_by _ _ c.in-Some.whole c.in-Some.is c.next.ensures.steps in
-    let here = from_part parts k part t in
-    let within = length_within parts k (k + 1) part refl here in
-    let all = parts_whole (λ b. b == 10) c.args.text.now in
-    let from = c.loop-whole.invariant.from in
-    let below : c.loop-whole.from + length part ≤ length c.args.text.now = omega (arith, within, all, from) in
+    let below : c.loop-whole.from + length part ≤ length c.args.text.now = reaches (λ b. b == 10) c.args.text.now k _ part t c.loop-whole.invariant.from in
     let fits : Fits w64 (length c.args.text.now + 1) = search rules in
     let more : c.loop-whole.from + length part + 1 ≤ length c.args.text.now + 1 = omega (arith, below) in
     Fits-le more fits
 
 pub overflow_add-entries : goal.overflow_add-entries
 overflow_add-entries c =
-    let passed : IsNotSought c.in_ok-sort.sort c.loop-whole.entries c.args.number = search rules in
-    let few = still c.in_ok-sort.sort c.loop-whole.entries c.args.number passed c.loop-whole.invariant.few in
+    let passed : IsNotSought c.in_ok-kind.kind c.loop-whole.entries c.args.number = search rules in
+    let few = still c.in_ok-kind.kind c.loop-whole.entries c.args.number passed c.loop-whole.invariant.few in
     let same = c.entries_in-entries.ensures in
     let within : c.loop-whole.entries + c.entries_in-entries.result ≤ c.args.number = omega (arith, few, same) in
     Fits-le within c.ranges.number
@@ -56,11 +46,8 @@ returns-then-is_sought c =
     let t = YieldsList-turn (YieldsList-from_slice_split {s = c.into_iter-whole-iterator.result} _ (λ b. b == 10) {f = c.split-whole-items.result.pred} c.args.text.now (search rules) (search rules) (search rules) (λ x b q k. search (rules, tests)))
     c.loop-whole.yielded _ c.loop-whole.yielded_by _ _ c.in-Some.whole c.in-Some.is c.next.ensures.steps in
     let here = from_part parts k part t in
-    let within = length_within parts k (k + 1) part refl here in
-    let all = parts_whole (λ b. b == 10) c.args.text.now in
-    let from = c.loop-whole.invariant.from in
-    let below : c.loop-whole.from + length part ≤ length c.args.text.now = omega (arith, within, all, from) in
-    let sought : IsSought c.in_ok-sort.sort c.loop-whole.entries c.args.number = search rules in
+    let below : c.loop-whole.from + length part ≤ length c.args.text.now = reaches (λ b. b == 10) c.args.text.now k _ part t c.loop-whole.invariant.from in
+    let sought : IsSought c.in_ok-kind.kind c.loop-whole.entries c.args.number = search rules in
     let (es, spelt, count) = c.loop-whole.invariant.count in
     let shorter = c.content-line.ensures.within in (
       take k parts,
@@ -69,10 +56,10 @@ returns-then-is_sought c =
       es,
       cut_here parts k (k + 1) part refl here,
       spelt,
-      subst (λ n. IsSought c.in_ok-sort.sort n c.args.number) (sym count) sought,
-      c.in_ok-sort.ensures,
+      subst (λ n. IsSought c.in_ok-kind.kind n c.args.number) (sym count) sought,
+      c.in_ok-kind.ensures,
       c.content-line.ensures.line,
-      from,
+      c.loop-whole.invariant.from,
       omega (arith, below, shorter),
     )
 
@@ -87,10 +74,10 @@ loop-whole-preserved c =
     let m = length (c.loop-whole.yielded ++ c.in-Some.whole ∷ []) in
     let e = length_push c.loop-whole.yielded c.in-Some.whole in
     let longer = length_more parts k m part e here in
-    let passed : IsNotSought c.in_ok-sort.sort c.loop-whole.entries c.args.number = search rules in
+    let passed : IsNotSought c.in_ok-kind.kind c.loop-whole.entries c.args.number = search rules in
     let same = c.entries_in-entries.ensures in
-    let (es, spelt, count) = one_on parts k m part (one_more parts k m part e here) c.in_ok-sort.sort c.in_ok-sort.ensures c.loop-whole.entries c.args.number passed c.loop-whole.invariant.count in
-    let few = still c.in_ok-sort.sort c.loop-whole.entries c.args.number passed c.loop-whole.invariant.few in
+    let (es, spelt, count) = one_on parts k m part (one_more parts k m part e here) c.in_ok-kind.kind c.in_ok-kind.ensures c.loop-whole.entries c.args.number passed c.loop-whole.invariant.count in
+    let few = still c.in_ok-kind.kind c.loop-whole.entries c.args.number passed c.loop-whole.invariant.few in
     record {
       next = search rules;
       ends = search rules;
@@ -104,7 +91,7 @@ returns c =
     let parts = text_lines c.args.text.now in
     let t = YieldsList-end (YieldsList-from_slice_split {s = c.into_iter-whole-iterator.result} _ (λ b. b == 10) {f = c.split-whole-items.result.pred} c.args.text.now (search rules) (search rules) (search rules) (λ x b q k. search (rules, tests)))
     c.loop-whole.yielded _ c.loop-whole.yielded_by _ _ c.in-None.is c.next.ensures.steps in
-    let read = take_all parts (length c.loop-whole.yielded) (omega (arith, t.1)) in
+    let read = take_all (length c.loop-whole.yielded) parts (omega (arith, t.1)) in
     let (es, spelt, count) = c.loop-whole.invariant.count in
     let few = c.loop-whole.invariant.few in
     (es, subst (λ l. AreEntries l es) read spelt, omega (arith, count, few))

@@ -1,58 +1,42 @@
 use Rattle.std.proofs.Common.{rules, tests, ◌≡◌, ◌∙◌, ◌+◌, ◌≤◌, ◌==◌, Fits, w64, All, ap, length, take, drop, [], ◌∷◌, ◌++◌, arith, refl, subst, true, false}
 use Rattle.std.proofs.Math.Facts.{Fits-le}
-use Rattle.std.proofs.lemmas.List.{length_push}
+use Rattle.std.proofs.lemmas.List.{length_push, take_all}
 use Rattle.std.proofs.lemmas.Iterator.Splits.{YieldsList-from_slice_split}
 use Rattle.std.proofs.lemmas.Iterator.Consumers.{YieldsList-turn, YieldsList-end}
 use Rattle.kahn_texts.specs.Formats.{text_lines}
 use Rattle.kahn_inputs.specs.Fitting.{moved_by, name_span, parts_length}
 use Rattle.kahn_inputs.specs.Seeking.{has_line_name}
-use Rattle.kahn_inputs.proofs.Fitted.{all_more, cut_here, from_part, length_more, length_within, parts_whole, take_all}
+use Rattle.kahn_inputs.proofs.Fitted.{all_more, cut_here, from_part, length_more, reaches}
 use Rattle.kahn_inputs.proofs.seeking.first_named.Goals as goal
 
 pub overflow_add-to : goal.overflow_add-to
 overflow_add-to c =
-    let parts = text_lines c.args.text.now in
     let k = length c.loop-line.yielded in
     let part = c.in-Some.line.now in
     let t = YieldsList-turn (YieldsList-from_slice_split {s = c.into_iter-line-iterator.result} _ (λ b. b == 10) {f = c.split-line-items.result.pred} c.args.text.now (search rules) (search rules) (search rules) (λ x b q k. search (rules, tests)))
     c.loop-line.yielded _ c.loop-line.yielded_by _ _ c.in-Some.line c.in-Some.is c.next.ensures.steps in
-    let here = from_part parts k part t in
-    let within = length_within parts k (k + 1) part refl here in
-    let all = parts_whole (λ b. b == 10) c.args.text.now in
-    let from = c.loop-line.invariant.from in
-    let below : c.loop-line.from + length part ≤ length c.args.text.now = omega (arith, within, all, from) in
+    let below : c.loop-line.from + length part ≤ length c.args.text.now = reaches (λ b. b == 10) c.args.text.now k _ part t c.loop-line.invariant.from in
     let fits : Fits w64 (length c.args.text.now) = search rules in
     Fits-le below fits
 
 pub overflow_add-from : goal.overflow_add-from
 overflow_add-from c =
-    let parts = text_lines c.args.text.now in
     let k = length c.loop-line.yielded in
     let part = c.in-Some.line.now in
     let t = YieldsList-turn (YieldsList-from_slice_split {s = c.into_iter-line-iterator.result} _ (λ b. b == 10) {f = c.split-line-items.result.pred} c.args.text.now (search rules) (search rules) (search rules) (λ x b q k. search (rules, tests)))
     c.loop-line.yielded _ c.loop-line.yielded_by _ _ c.in-Some.line c.in-Some.is c.next.ensures.steps in
-    let here = from_part parts k part t in
-    let within = length_within parts k (k + 1) part refl here in
-    let all = parts_whole (λ b. b == 10) c.args.text.now in
-    let from = c.loop-line.invariant.from in
-    let below : c.loop-line.from + length part ≤ length c.args.text.now = omega (arith, within, all, from) in
+    let below : c.loop-line.from + length part ≤ length c.args.text.now = reaches (λ b. b == 10) c.args.text.now k _ part t c.loop-line.invariant.from in
     let fits : Fits w64 (length c.args.text.now + 1) = search rules in
     let more : c.loop-line.from + length part + 1 ≤ length c.args.text.now + 1 = omega (arith, below) in
     Fits-le more fits
 
 pub placed_name-requires : goal.placed_name-requires
 placed_name-requires c =
-    let parts = text_lines c.args.text.now in
     let k = length c.loop-line.yielded in
     let part = c.in-Some.line.now in
     let t = YieldsList-turn (YieldsList-from_slice_split {s = c.into_iter-line-iterator.result} _ (λ b. b == 10) {f = c.split-line-items.result.pred} c.args.text.now (search rules) (search rules) (search rules) (λ x b q k. search (rules, tests)))
     c.loop-line.yielded _ c.loop-line.yielded_by _ _ c.in-Some.line c.in-Some.is c.next.ensures.steps in
-    let here = from_part parts k part t in
-    let within = length_within parts k (k + 1) part refl here in
-    let all = parts_whole (λ b. b == 10) c.args.text.now in
-    let from = c.loop-line.invariant.from in
-    let below : c.loop-line.from + length part ≤ length c.args.text.now = omega (arith, within, all, from) in
-    below
+    reaches (λ b. b == 10) c.args.text.now k _ part t c.loop-line.invariant.from
 
 pub returns-then-has_line_name : goal.returns-then-has_line_name
 returns-then-has_line_name c =
@@ -90,5 +74,5 @@ returns c =
     let parts = text_lines c.args.text.now in
     let t = YieldsList-end (YieldsList-from_slice_split {s = c.into_iter-line-iterator.result} _ (λ b. b == 10) {f = c.split-line-items.result.pred} c.args.text.now (search rules) (search rules) (search rules) (λ x b q k. search (rules, tests)))
     c.loop-line.yielded _ c.loop-line.yielded_by _ _ c.in-None.is c.next.ensures.steps in
-    let read = take_all parts (length c.loop-line.yielded) (omega (arith, t.1)) in
+    let read = take_all (length c.loop-line.yielded) parts (omega (arith, t.1)) in
     subst (All (λ l. has_line_name c.args.name.now l ≡ false)) read c.loop-line.invariant.others
