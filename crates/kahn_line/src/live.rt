@@ -20,7 +20,7 @@ static ABOUT: &str =
     "Runs a network of processes on the lines of its standard input, and shows after each line what is new.";
 
 // The usage line.
-static USAGE: &str = "kahn_live PROGRAM [--in NAME] [--out NAME] [OPTIONS] < LINES";
+static USAGE: &str = "kahn_live PROGRAM [--in NAMES] [--out NAME] [OPTIONS] < LINES";
 
 // The text after the options in the help.
 static MORE: &str = "\
@@ -42,8 +42,9 @@ mistake in a line of `--at-end` is said at the start, and no line is taken. If a
 standard error says so once, and if memory is refused after a line was taken, it says so too. In both cases the run goes on
 with the next line, even a blank one. The run uses one thread. It doesn't keep what it wrote, nor the input that was taken.
 
-With `--in A` a line has only values of that channel, separated by blanks. If there are several input channels, use lines
-with names: the others get no values, and kahn_live says so. With `--out X` it writes only the new values of that channel,
+With `--in A` a line has only values of that channel, separated by blanks. With `--in A,B` a line is a row: one value for
+each of these channels, with blanks, tabs or commas between. A row that can't be taken whole feeds nothing. Other input
+channels get no values; where one is named, kahn_live says so. With `--out X` it writes only the new values of that channel,
 one a line; with `--in` alone those of the first stream. `--plain A,X` is short for `--in A --out X`.
 
   printf '1\\n2 3\\n' | kahn_live double.kahn --in A --out B
@@ -104,8 +105,8 @@ fn in_arg<'a>(alloc: Global) -> Arg<'a>
     text_arg(
         alloc,
         "in",
-        "NAME",
-        "Reads bare values of this input channel alone",
+        "NAME[,NAME..]",
+        "Reads bare values of this input channel alone, or rows with one value for each of these",
     )
 }
 
