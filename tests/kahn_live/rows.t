@@ -26,9 +26,9 @@ A row that isn't whole, or has more, feeds nothing; nor does one of which one va
   ! sums.kahn: and 1 line more like it
   ! sums.kahn: input line 4: not a value: `x`; values are numbers, `true` and `false`
   ! sums.kahn: and 1 line more like it
-  ! end 1 add: waits on A after 7
+  ! end 1 add: waits on A after 9
   ! end 2 drain: waits on C after 1
-  ! finished 8
+  ! finished 10
   [1]
 A kind that doesn't agree.
   $ printf '1,10,1\n' | kahn_live sums.kahn --in A,B,C --out X --keep-going
