@@ -23,17 +23,21 @@ import web_tries
 SECONDS = 330
 SECONDS_TO_OPEN = 60
 
-# Runs cases, one after the other, and gives what the module answers for each: status, report, picture, why.
+# Runs cases, one after the other, and gives what the module answers for each: status, report, picture, why, and the run that keeps all channels.
 ANSWERS = """(async () => {
-    const answers = [];
+    const answers = [], isKept = (report) => isReport(report) && report.length <= MOST_LETTERS_KEPT;
     for (const [program, input, bound] of CASES) {
         const { status, report } = await checker.ask("run", { program, input, bound });
         const picture = await checker.ask("draw", { program, input });
         const isShort = new TextEncoder().encode(program).length <= 32768 && status <= 4;
-        answers.push([status, report, picture, isShort ? await checker.ask("explain", { program, input, bound }) : ""]);
+        const whole = isKept(report) ? await checker.ask("whole", { program, input, quantum: QUANTUM, bound }) : "";
+        answers.push([status, report, picture, isShort ? await checker.ask("explain", { program, input, bound }) : "", whole]);
     }
     return answers;
 })()"""
+
+# So long a report may have its histories compared.
+MOST_LETTERS_KEPT = 200000
 
 # What the page shows at each bound of a slider: how each process stands, and the values of each stream.
 STEPS = """(async () => {
@@ -41,7 +45,8 @@ STEPS = """(async () => {
     const steps = [];
     for (let k = 0; k <= about.last; k += 1) {
         const { processes, streams } = await about.momentAt(k);
-        steps.push([processes.map((it) => [it.number, it.name, it.state, it.on, it.events]), streams.map((it) => [it.name, it.values.join(" ")])]);
+        const states = processes.map((it) => [it.number, it.name, it.state, it.on, it.events]);
+        steps.push([states, streams.map((it) => [it.process ? `print ${it.name}` : it.name, it.values])]);
     }
     return steps;
 })()"""
@@ -61,7 +66,7 @@ def cases():
 
 
 def native(kahn, draw, explain, program, text, bound, folder):
-    """What the programs answer: status, report or fault, picture if there is one, and why the run stopped or the program is refused."""
+    """What the programs answer: status, report or fault, picture if there is one, why the run stopped or the program is refused, and the histories."""
     for name, it in (("program", program), ("input", text)):
         with open(f"{folder}/{name}", "w", encoding="utf-8", newline="") as file:
             file.write(it)
@@ -72,24 +77,53 @@ def native(kahn, draw, explain, program, text, bound, folder):
     if ran.returncode in (0, 1, 3, 4) and len(program.encode()) <= 1 << 15:
         words = [explain, "--all", "--workers", "1", "--bound", bound, "--input", "input", "program"]
         reasons = subprocess.run(words, capture_output=True, timeout=60, cwd=folder).stdout
-    return ran.returncode, ran.stdout + ran.stderr, drawn.stdout, reasons
+    table = {}
+    if ran.returncode in (0, 3, 4) and len(ran.stdout) <= MOST_LETTERS_KEPT:
+        table = traced(explain, bound, f"{folder}/program", "--input", f"{folder}/input")
+    return ran.returncode, ran.stdout + ran.stderr, drawn.stdout, reasons, table
+
+
+def traced(explain, bound, *words):
+    """The histories of all channels and prints, as the table of `kahn_explain --trace` has them."""
+    told = subprocess.run([explain, "--trace", "--workers", "1", "--bound", bound, *words], capture_output=True, timeout=60, text=True).stdout
+    heads, *rows = ([*it.split(",")[1:]] for it in told.splitlines())
+    return {head: [row[i] for row in rows if row[i]] for i, head in enumerate(heads)}
+
+
+def histories_of(whole):
+    """The same of the text of a run that keeps all channels, where as many values were sent as are told, and no more taken."""
+    found, counts = {}, {}
+    for line in whole.splitlines():
+        head, colon, rest = line.partition(":")
+        words = head.split()
+        if words[0] == "count":
+            found[words[1]], counts[words[1]] = [], [int(it) for it in rest.split()]
+        elif colon and words[0] != "end":
+            found[head] = rest.split()
+    if any(len(found[it]) != sent or taken > sent for it, (sent, taken) in counts.items()):
+        return counts
+    return found
+
+
+def asked(some):
+    return ANSWERS.replace("CASES", json.dumps([it[1:] for it in some])).replace("MOST_LETTERS_KEPT", str(MOST_LETTERS_KEPT))
 
 
 def compare_rows(page, tried, *programs):
     """Runs the rows in the page, and compares what its module answers with what the programs answer."""
     every = list(cases())
-    answers = [it for at in range(0, len(every), 50) for it in page.value(ANSWERS.replace("CASES", json.dumps([it[1:] for it in every[at : at + 50]])))]
+    answers = [it for at in range(0, len(every), 50) for it in page.value(asked(every[at : at + 50]))]
     with tempfile.TemporaryDirectory() as folder:
-        for (name, *case), (status, *texts) in zip(every, answers, strict=True):
-            given = status, *(it.encode() for it in texts)
-            for part, mine, theirs in zip(("status", "report", "picture", "reasons"), given, native(*programs, *case, folder)):
+        for (name, *case), (status, *texts, whole) in zip(every, answers, strict=True):
+            given = status, *(it.encode() for it in texts), histories_of(whole)
+            for part, mine, theirs in zip(("status", "report", "picture", "reasons", "histories"), given, native(*programs, *case, folder)):
                 tried.same(f"{name}, {part}", mine, theirs)
     print(f"{len(every)} rows")
 
 
 def step_of(report):
-    """What the page has to show of a report."""
-    processes, streams = [], []
+    """What the page has to show of the processes of a report."""
+    processes = []
     for line in report.splitlines():
         head, colon, rest = line.partition(":")
         words = head.split()
@@ -97,23 +131,21 @@ def step_of(report):
             state, *on = rest.split()
             on = {"waits": on[1:2], "fault": on[:1]}.get(state, [])
             processes.append([int(words[1]), words[2], STATES[state], "".join(on), int(rest.split()[-1])])
-        elif colon:
-            streams.append([" ".join(words[1:]) if words[0] == "print" else head, rest.strip()])
-    return [processes, streams]
+    return processes
 
 
-def compare_steps(page, tried, kahn):
-    """At every bound the page shows what the report of `kahn --bound` says."""
+def compare_steps(page, tried, kahn, explain):
+    """At every bound the page shows what the report of `kahn --bound` says, and the histories of `kahn_explain --trace --bound`."""
     for name in STEPPED:
         path = f"{TOP}/examples/{name}"
         text = open(f"{path}.input", encoding="utf-8").read() if os.path.exists(f"{path}.input") else ""
         program = open(f"{path}.kahn", encoding="utf-8").read()
         steps = page.value(STEPS.replace("TEXTS", json.dumps([program, text])))
-        words = [kahn, "--workers", "1", f"{path}.kahn", *(["--input", f"{path}.input"] if text else [])]
-        for k, shown in enumerate(steps):
-            bound = [] if k == len(steps) - 1 else ["--bound", str(k)]
-            ran = subprocess.run([*words, *bound], capture_output=True, timeout=60, text=True)
-            tried.same(f"{name} at {k}", shown, step_of(ran.stdout))
+        texts = [f"{path}.kahn", *(["--input", f"{path}.input"] if text else [])]
+        for k, (processes, streams) in enumerate(steps):
+            ran = subprocess.run([kahn, "--workers", "1", "--bound", str(k), *texts], capture_output=True, timeout=60, text=True)
+            tried.same(f"{name} at {k}", processes, step_of(ran.stdout))
+            tried.same(f"{name} at {k}, histories", dict(streams), traced(explain, str(k), *texts))
 
 
 def main(program, path, *words):
@@ -129,7 +161,7 @@ def main(program, path, *words):
                 web_tries.try_page(page, path, tried)
             if words[0] not in ("--opens", "--tries"):
                 page.open(path)
-                compare_steps(page, tried, words[0])
+                compare_steps(page, tried, words[0], words[2])
                 compare_rows(page, tried, *words)
     except (RuntimeError, TimeoutError) as error:
         tried.same("the page", str(error), "an answer")

@@ -122,18 +122,68 @@ ORDER = """(async () => {
     for (let k = 0; k <= steps; k += Math.max(1, steps >> 5)) {
         const report = await run.reportAt(k), counts = report.ends.map((_, i) => timeline.order.slice(0, k).filter((it) => it === i).length);
         if (String(counts) !== String(report.ends.map((it) => it.events))) return `order at ${k}`;
-        const sent = timeline.times.map((it) => it.filter((at) => at <= k).length);
-        if (String(sent) !== String(report.streams.map((it) => it.count))) return `times at ${k}`;
+        const came = timeline.times.map((it) => it.filter((at) => at <= k).length);
+        if (String(came) !== String(report.streams.map((it, i) => cameOf(run.streams[i], it)))) return `times at ${k}`;
     }
-    const row = run.streams[0].count - 1;
+    const row = cameOf(run.streams[0], run.end.streams[0]) - 1;
     return (await run.eventOf(0, row)) === timeline.times[0][row] ? "agrees" : "event of the last value";
+})()"""
+# Whether from each step to the next one process does one event and one number of values goes up by one, or none at a turn of a loop; whether
+# all events add up, no channel has more taken than sent, and all values begin those of the end.
+FLOWS = """(async () => {
+    const { run } = page, total = (numbers) => numbers.reduce((sum, it) => sum + it, 0), { channels } = run.wiring;
+    const numbers = ({ ends, streams }) => [ends.map((it) => it.events), streams.flatMap((it) => [it.count, it.taken ?? 0])];
+    let before;
+    for (let k = 0; k <= run.steps; k++) {
+        const report = await run.reportAt(k), now = numbers(report), { event, streams } = await run.momentAt(k);
+        if (total(now[0]) !== k || report.verdict.events !== k) return `events at ${k}`;
+        const wrong = report.streams.find((it, i) => it.count < (it.taken ?? 0) || String(it.values) !== String(run.streams[i].values.slice(0, it.count)) || it.values.length !== it.count);
+        if (wrong) return `${wrong.name} at ${k}`;
+        if (before) {
+            const grown = before.map((part, i) => part.flatMap((it, j) => (now[i][j] === it ? [] : [now[i][j] - it])));
+            if (String(grown[0]) !== "1" || !["", "1"].includes(String(grown[1])) || (event.kind === "turn") !== (grown[1].length === 0)) return `event ${k}`;
+            const { writer, reader } = channels[event.channel] ?? {}, who = now[0].findIndex((it, i) => it !== before[0][i]);
+            if ((event.kind === "send" && writer !== who) || (event.kind === "take" && reader !== who)) return `who did event ${k}`;
+            if (event.stream >= 0 && !event.words.includes(` ${run.streams[event.stream].values[event.row]}`)) return `words of event ${k}`;
+        }
+        before = now;
+    }
+    return "agrees";
 })()"""
 
 
 def try_order(page, tried):
-    for name in ("squares", "filter", "hamming", "rates"):
+    for name in ("squares", "filter", "rates", "alarm"):
         put_example(page, name)
         tried.same(f"{name}, who did each event", page.value(ORDER), "agrees")
+        tried.same(f"{name}, from event to event", page.value(FLOWS), "agrees")
+
+
+# To what a run came.
+ENDED = "JSON.stringify([page.run.last, page.run.end.ends, page.run.end.streams.map((it) => [it.name, it.count, it.taken, it.text])])"
+
+
+def try_turns(page, tried):
+    """With other turns of the processes the run comes to the same; where it hasn't finished there are none."""
+    put_example(page, "rates")
+    ends, longest = page.value(ENDED), {}
+    for turns in ("1", "10", "1000"):
+        page.value(f"void (at('turns').value = '{turns}', takeTurns().then(() => (globalThis.turned = {turns})))")
+        page.wait(f"globalThis.turned === {turns} && page.moment.isEnd")
+        tried.same(f"turns of {turns}", page.value(ENDED), ends)
+        tried.same(f"turns of {turns}, from event to event", page.value(FLOWS), "agrees")
+        page.wait("!!page.run.timeline.order")
+        longest[turns] = page.value("Math.max(...String.fromCharCode(...page.run.timeline.order.map((it) => it + 65)).match(/(.)\\1*/g).map((it) => it.length))")
+    tried.same("short turns are shorter", longest["1"] < longest["1000"] or longest)
+    text = open(f"{TOP}/examples/alarm.kahn", encoding="utf-8").read(), open(f"{TOP}/examples/alarm.input", encoding="utf-8").read()
+    put_settled(page, *text, bound="40")
+    tried.same("two runs that stopped elsewhere", page.value("[page.run.isCut, page.run.last, page.moment.isEnd]"), [True, 41, True])
+    tried.same("the end is the report's", page.value("JSON.stringify(page.moment.processes) === JSON.stringify(page.run.report.ends)"))
+    tried.same("without the channels inside", page.value("[...new Set(page.moment.streams.filter((it, i) => it.taken !== undefined).map((it) => it.name))]"), [])
+    page.value("go(40)")
+    tried.same("the last step is the other run's", page.value("[page.moment.isEnd, page.moment.processes.reduce((sum, it) => sum + it.events, 0)]"), [False, 40])
+    put_settled(page, ENDLESS, bound="1000")
+    tried.same("a run that is stopped has one order", page.value("at('turns').disabled"))
 
 
 def try_deadlock(page, tried):
@@ -282,7 +332,7 @@ def try_steps(page, tried):
     page.key("ArrowRight", 39)
     page.wait("page.moment.k === 1")
     tried.same("an arrow", page.value("[page.k, page.moment.mover]"), [1, 0])
-    tried.same("its words", page.value("at('slider').getAttribute('aria-valuetext')"), "event 1: 1 count does an event that no output shows")
+    tried.same("its words", page.value("at('slider').getAttribute('aria-valuetext')"), "event 1: 1 count begins a turn of a loop")
     tried.same("who did it is blue", page.value("picture.boxes[0].group.classList.contains('now')"))
     page.key("PageDown", 34)
     page.wait("page.moment.k === page.k")
@@ -295,7 +345,7 @@ def try_steps(page, tried):
     tried.same("and marks its waits", len(seen(page, "#programInk .chain")) > 0)
     tried.same("the chain in words", page.value("at('chain').textContent.includes(' waits on C')"))
     put_example(page, "sorting")
-    page.value("choose({ channel: page.run.streams[1].channel })")
+    page.value("choose({ channel: page.run.streams.find((it) => it.name === 'SECOND').channel })")
     tried.same("a channel in words", page.value("at('chain').firstChild.textContent"), "SECOND integer · from 5 compare to the output · 3 sent")
     tried.same("the picture fits beside it", page.value("at('picture').scrollWidth <= at('picture').clientWidth + 1"))
     page.key("Escape", 27)
@@ -306,24 +356,43 @@ def try_values(page, tried):
     """Values that came, and no others."""
     put_example(page, "squares")
     page.value("go(14)")
-    tried.same("an event that an output shows", page.value("at('event').textContent"), "Event 14 of 27 2 square sends 0 on SQUARES 5:47")
+    tried.same("an event", page.value("at('event').textContent"), "Event 14 of 27 2 square sends 0 on SQUARES 5:47")
     tried.same("its place", seen(page, "#programInk .now")[:1], ["send"])
     tried.same("the newest value", seen(page, "#table .newest"), ["0"])
     tried.same("values that have not come", seen(page, "#table .later"), ["1", "4", "9", "16"])
-    tried.same("below the arrows", seen(page, "#picture .count") + seen(page, "#picture .last"), ["", "1", "", "0"])
-    tried.same("outputs alone", page.value("table.streams.map((it) => it.name)"), ["SQUARES"])
-    page.value("go(3)")
-    tried.same("an event inside", page.value("page.moment.event.words"), "does an event that no output shows")
-    tried.same("no value yet", seen(page, "#table .past, #table .newest") + seen(page, "#picture .count") + seen(page, "#picture .last"), ["", "", "", ""])
-    page.click("#table tbody tr:nth-child(4) td")
+    tried.same("values that wait", seen(page, "#table .waiting"), ["1", "2", "3", "4"])
+    tried.same("below the arrows", seen(page, "#picture .count") + seen(page, "#picture .last"), ["4", "1", "4 3 2 1", "0"])
+    tried.same("all channels", page.value("table.streams.map((it) => it.name)"), ["NUMBERS", "SQUARES"])
+    page.value("choose({ channel: 0 })")
+    tried.same("a channel in words", page.value("at('chain').firstChild.textContent"), "NUMBERS integer · from 1 count to 2 square · 5 sent, 1 taken, 4 wait")
+    page.value("chooseNothing()")
+    page.value("go(13)")
+    tried.same("a value that is taken", page.value("at('event').textContent"), "Event 13 of 27 2 square takes 0 from NUMBERS 5:38")
+    tried.same("in the table", seen(page, "#table .took"), ["0"])
+    page.value("go(2)")
+    tried.same("an event inside", page.value("at('event').textContent"), "Event 2 of 27 1 count sends 0 on NUMBERS 3:41")
+    tried.same("no further value", seen(page, "#table .past, #table .newest, #table .waiting, #picture .count, #picture .last"), ["1", "0", "", "", "0"])
+    page.click("#table tbody tr:nth-child(4) td:nth-of-type(2)")
     page.wait("page.moment.k === page.k && page.k > 3")
-    tried.same("a value goes to its event", page.value("[page.moment.streams[0].count, page.moment.event.words]"), [3, "sends 4 on SQUARES"])
+    tried.same("a value goes to its event", page.value("[page.moment.streams[1].count, page.moment.event.words]"), [3, "sends 4 on SQUARES"])
+    page.click("#table tbody tr:nth-child(4) td")
+    page.wait("page.moment.k === page.k && page.k < 12")
+    tried.same("so does one inside", page.value("[page.moment.streams[0].count, page.moment.event.words]"), [3, "sends 2 on NUMBERS"])
     page.value("showTab('plots')")
     page.value("void (at('by').value = 'event', showBy())")
     page.wait("plots.by === 'event'")
     tried.same("plots over events", page.value("String(plots.lanes[0].spots) === String(page.run.timeline.times[0])"))
     page.value("void (at('by').value = 'place', showBy())")
+    page.value("void (at('slider').value = 6, at('slider').oninput())")
+    page.wait("page.moment.k === page.k")
+    tried.same("the slider", page.value("[page.k, page.moment.event.words, plots.lanes.map((it) => it.value.textContent)]"), [6, "sends 2 on NUMBERS", ["2 at 3", ""]])
+    put_settled(page, COPY, "A: 7 8 9")
+    page.value("go(2)")
+    tried.same("of an input the plot has what was taken", page.value("plots.lanes.map((it) => it.value.textContent)"), ["7 at 1", ""])
     page.value("showTab('table')")
+    put_settled(page, COPY, "A: 7 8 9")
+    page.value("go(2)")
+    tried.same("an input's values", seen(page, "#table .took, #table .waiting, #picture .count, #picture .last"), ["2", "9 8", "", "", "7", "8", "9"])
     put_settled(page, ENDLESS, bound="1000000")
     tried.same("a long run has its first steps and its end", page.value("[page.run.last, page.run.steps, page.run.isCut]"), [20001, 20000, True])
     tried.same("its values are counted", page.value("[page.moment.streams[0].count, page.moment.streams[0].values.length]"), [500000, 100000])
@@ -482,6 +551,7 @@ def try_quickness(page, path, tried):
 def try_page(page, path, tried):
     try_examples(page, tried)
     try_order(page, tried)
+    try_turns(page, tried)
     try_deadlock(page, tried)
     try_fault(page, tried)
     try_bound(page, tried)

@@ -49,9 +49,10 @@ export function chooseAt(index) {
 }
 
 function channelWords(number) {
-  const { wiring, streams } = page.run, it = wiring.channels[number], stream = streams.findIndex((one) => one.channel === number);
+  const { wiring } = page.run, it = wiring.channels[number], { count, taken } = page.moment.streams[number];
   const name = (i, otherwise) => (wiring.processes[i] ? `${wiring.processes[i].number} ${wiring.processes[i].name}` : otherwise);
-  const sent = stream < 0 ? "" : ` · ${numbered(page.moment.streams[stream].count)} sent`, kind = it.isLogical ? "logical" : "integer";
+  const read = it.role === "output" ? "" : `, ${numbered(taken ?? 0)} taken, ${numbered(count - taken)} wait`, kind = it.isLogical ? "logical" : "integer";
+  const sent = it.role === "output" || taken !== undefined ? ` · ${numbered(count)} sent${read}` : "";
   return [made("span", {}, made("b", {}, it.name), ` ${kind} · from ${name(it.writer, "the input")} to ${name(it.reader, "the output")}${sent}`)];
 }
 
@@ -96,6 +97,7 @@ export function showWaits() {
 
 export function showLegend() {
   const words = [["ready", "ready"], ["waits", "waits"], ["ended", "ended"], ["fault", "fault or deadlock"], ["now", "did this event"]];
-  const output = made("span", { className: "values" }, made("b", {}, "5"), " … 16: values of an output, and the last one");
-  at("legend").replaceChildren(...words.map(([kind, word]) => made("span", { className: `mark-${kind}` }, word)), output);
+  const shown = (number, values, word) => made("span", { className: "values" }, made("b", {}, number), ` ${values}: ${word}`);
+  const both = [shown("3", "16 9 4", "values that wait, the next one at the right"), shown("5", "… 16", "values of an output, and the last one")];
+  at("legend").replaceChildren(...words.map(([kind, word]) => made("span", { className: `mark-${kind}` }, word)), ...both);
 }

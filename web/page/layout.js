@@ -4,7 +4,7 @@
 
 export const LETTER = 7.25;
 const PORT = 38, BEND = 30, SIDE = 14, LANE = 11, BETWEEN = 20, STUB = 40, TURN = 8;
-// So many letters of what an output has are shown beside its arrow; in a narrow room fewer.
+// So many letters of what waits on an arrow are shown beside it; in a narrow room fewer.
 const SHOWN = 10, NARROW_SHOWN = 7, NARROW = 520;
 
 export const LEAST_SCALE = 10 / 12;
@@ -22,7 +22,7 @@ function sized({ processes, channels }, shown) {
   const nodes = processes.map((it, i) => boxOf(it, i, shown));
   const edges = channels.map((it) => {
     const end = (i, word) => nodes[i] ?? nodes[nodes.push({ word, width: LETTER * word.length, height: 20 }) - 1];
-    const label = LETTER * Math.max(it.name.length, it.role === "output" ? shown : 0);
+    const label = LETTER * Math.max(it.name.length, shown);
     return { number: it.number, from: end(it.writer, "input"), to: end(it.reader, "output"), label };
   });
   for (const node of nodes.filter((it) => it.isBox)) {

@@ -6,7 +6,7 @@ import { FIRST } from "./examples.js";
 import { divider } from "./panes.js";
 import { STOPPED } from "./run.js";
 import { lacking } from "./runner.js";
-import { edited, fail, runTexts, save, showBy, showName } from "./running.js";
+import { edited, fail, runTexts, save, showBy, showName, takeTurns } from "./running.js";
 import { fit, show, showTab, TABS } from "./showing.js";
 import { BOUND, input, NOTHING, page, picture, plots, program, runner, store, table } from "./state.js";
 import { go, play, playIcon, showPlay, stopPlaying } from "./steps.js";
@@ -29,6 +29,7 @@ at("file").onchange = () => opened(at("file").files).then(() => (at("file").valu
 at("download").onclick = downloadTexts;
 at("copy").onclick = copyLink;
 at("by").onchange = showBy;
+at("turns").onchange = takeTurns;
 at("program").onclick = () => chooseAt(at("program").selectionStart);
 
 function goByHand(k) {

@@ -2,12 +2,13 @@
 
 import { at, made } from "./elements.js";
 import { applied, fixesOf, isOffer } from "./fixes.js";
+import { onlyPlace } from "./moment.js";
 import { lexemeAt, lexemeEnd, placeAt, placeWords } from "./places.js";
 import { show } from "./showing.js";
 import { input, page, program } from "./state.js";
 import { verdictOf } from "./verdict.js";
 
-export const atEnd = () => Boolean(page.run && page.moment) && page.moment.k === page.run.events;
+export const atEnd = () => Boolean(page.run && page.moment?.isEnd);
 export const isBad = () => atEnd() && ["fault", "deadlock"].includes(verdictOf(page.run).kind);
 
 const found = () => page.check?.why.marks ?? [];
@@ -21,7 +22,8 @@ function marks() {
   const list = found().filter((it) => it.where === "program").flatMap((it) => [{ ...seen(it), kind: it.severity }, ...kinded(it.notes, "note")]);
   if (!run || page.isOld) return list;
   if (atEnd()) list.push(...kinded(verdictOf(run).places, "stuck"));
-  if (moment?.event?.place && !isBad()) list.push({ from: moment.event.place.from, to: lexemeEnd(program.text, moment.event.place.from), kind: "now" });
+  const place = onlyPlace(moment?.event);
+  if (place && !isBad()) list.push({ from: place.from, to: lexemeEnd(program.text, place.from), kind: "now" });
   return [...list, ...kinded(placesOf(chosen), "chain")];
 }
 

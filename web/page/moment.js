@@ -1,4 +1,4 @@
-// What the network looks like after so many events: how each process stands, how much each stream has, and what the last event was.
+// What the network looks like after so many events: how each process stands, what waits on each channel, and what the last event was.
 
 // The processes whose waits lead from one to the next and back.
 function ringOf(processes, channels) {
@@ -25,26 +25,33 @@ export function chainOf(start, processes, channels) {
   return chain;
 }
 
-// What the module's report at a bound says, and how the report of the bound before differs from it.
-export function momentOf({ wiring, streams }, k, report, before) {
+// What the module says of a bound, and how what it says of the bound before differs.
+export function momentOf({ wiring }, k, report, before) {
   const mover = before ? report.ends.findIndex((it, i) => it.events !== before.ends[i].events) : -1;
   return {
     k, processes: report.ends, streams: report.streams, ring: ringOf(report.ends, wiring.channels), mover,
-    event: mover < 0 ? undefined : eventOf(wiring, streams, mover, report, before),
+    event: mover < 0 ? undefined : eventOf(wiring, mover, report, before),
   };
 }
 
-const only = (places) => (places.length === 1 ? places[0] : undefined);
-
-// The event between two reports: a value more of a stream, or one that no stream shows. It has a place if the text leaves no other.
-function eventOf({ processes, channels }, streams, mover, report, before) {
-  const who = `${processes[mover].number} ${processes[mover].name}`;
-  const stream = report.streams.findIndex((it, i) => it.count !== before.streams[i].count);
-  if (stream < 0) return { who, stream, channel: -1, words: "does an event that no output shows" };
-  const { channel, print } = streams[stream], { last } = report.streams[stream];
-  if (print !== undefined) return { who, stream, channel: -1, words: `prints ${last}`, place: only(processes[mover].body.prints) };
-  return { who, stream, channel, words: `sends ${last} on ${channels[channel].name}`, place: only(channels[channel].sends) };
+// The event between two neighbours, of which the process that moved did one more: what it changed says which it was. `stream` and `row` are
+// the value that came or went; `places` are those in the text where it can have been.
+function eventOf({ processes, channels }, mover, { streams }, before) {
+  const { number, name, body } = processes[mover], who = `${number} ${name}`;
+  const changed = (key) => streams.findIndex((it, i) => it[key] !== before.streams[i][key]);
+  const taken = changed("taken"), sent = changed("count"), stream = Math.max(taken, sent), row = taken < 0 ? streams[sent]?.count - 1 : streams[taken].taken - 1;
+  const value = streams[stream]?.values[row], channel = channels[stream], event = { who, stream, row, channel: channel ? stream : -1 };
+  if (taken >= 0) return { ...event, kind: "take", words: `takes ${value} from ${channel.name}`, places: channel.waits };
+  if (channel) return { ...event, kind: "send", words: `sends ${value} on ${channel.name}`, places: channel.sends };
+  if (stream >= 0) return { ...event, kind: "print", words: `prints ${value}`, places: body.prints };
+  return { ...event, kind: "turn", words: "begins a turn of a loop", places: body.turns };
 }
+
+// Where an event was, if the text leaves one place.
+export const onlyPlace = (event) => (event?.places.length === 1 ? event.places[0] : undefined);
+
+// How many values of a stream have come: of an input those that were taken, where that is known.
+export const cameOf = (stream, { count, taken }) => (stream.role === "input" ? taken ?? count : count);
 
 export function stateWords({ state, on }) {
   return { ready: "ready to go on", waits: `waits on ${on}`, ended: "ended", fault: `fault: ${on === "division" ? "division by 0" : on}` }[state] ?? "";

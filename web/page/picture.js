@@ -19,6 +19,14 @@ function stateText({ state, on, events }) {
   return state === "fault" ? (on === "division" ? "division by 0" : on) : `${state} · ${shortly(events)}`;
 }
 
+// The values that wait, the newest at the left and the next to be taken at the right, as far as there is room; logical ones as T and F.
+function waitingText({ count, taken, values, last }, most) {
+  const briefly = (it) => ({ true: "T", false: "F" })[it] ?? it, next = values[taken] === undefined ? "" : briefly(values[taken]), newest = briefly(last);
+  const all = count - taken <= most && count <= values.length ? values.slice(taken).reverse().map(briefly).join(" ") : undefined;
+  if (all !== undefined && all.length <= most) return all;
+  return newest.length + next.length + 3 <= most ? `${newest} … ${next}` : count - taken > 1 ? `… ${clipped(next, most - 2)}` : clipped(next, most);
+}
+
 export class Picture {
   constructor(place) {
     Object.assign(this, { place, choose: () => {} });
@@ -68,18 +76,17 @@ export class Picture {
   }
 
   // isResult: the end of a run in which something is red, so that nothing is blue.
-  update(moment, chosen, streams, isResult) {
+  update(moment, chosen, isResult) {
     for (const it of this.boxes) this.updateBox(it, moment, chosen, !isResult && moment.mover === it.node.i);
     const waits = new Map(moment.processes.map((it, i) => [it.state === "waits" ? it.on : "", moment.ring.has(i)]));
-    const outputs = new Map(streams.flatMap((it, i) => (it.channel === undefined ? [] : [[it.channel, moment.streams[i]]])));
     this.arrows.forEach((it, number) => {
-      const { name } = this.wiring.channels[number], isRing = waits.get(name) === true, isNow = !isResult && moment.event?.channel === number;
+      const channel = this.wiring.channels[number], { name } = channel, isRing = waits.get(name) === true, isNow = !isResult && moment.event?.channel === number;
       const isChain = chosen.channels.includes(number);
       const classes = classesOf(waits.has(name) && "dry", isRing && "ring", isNow && "now", isChain && "chain", chosen.channel === number && "chosen");
       it.line.setAttribute("class", `arrow ${classes}`);
       it.label.setAttribute("class", `label ${classes}`);
       it.shown.setAttribute("marker-end", `url(#head${isNow ? "now" : isRing ? "ring" : isChain ? "chain" : ""})`);
-      this.updateLabel(it, name, outputs.get(number));
+      this.updateLabel(it, channel, moment.streams[number]);
     });
   }
 
@@ -92,13 +99,16 @@ export class Picture {
     tip.textContent = `${node.number} ${node.name}: ${stateWords(it)}, after ${numbered(it.events)} events`;
   }
 
-  // What is below the arrow of an output: how many values it has, and the last one.
-  updateLabel({ count, last, tip, labelX }, name, stream) {
-    const number = stream?.count ? shortly(stream.count) : "";
+  // What is below an arrow: how many values wait, and which; of an output, how many it has, and the last one. At the end of a run whose
+  // inner channels weren't kept, nothing.
+  updateLabel({ count, last, tip, labelX }, { name, role }, stream) {
+    const isOutput = role === "output", isKnown = isOutput || stream.taken !== undefined, waiting = isOutput ? stream.count : stream.count - stream.taken;
+    const number = isKnown && waiting ? shortly(waiting) : "", room = this.laid.shown - number.length;
     count.textContent = number;
-    last.textContent = number ? `${stream.count > 1 ? "… " : ""}${clipped(stream.last, this.laid.shown - 2 - number.length)}` : "";
+    last.textContent = !number ? "" : isOutput ? `${stream.count > 1 ? "… " : ""}${clipped(stream.last, room - 2)}` : waitingText(stream, room);
     last.setAttribute("x", labelX + LETTER * number.length + 8);
-    tip.textContent = stream ? `${name}: ${numbered(stream.count)} sent${stream.count ? `, the last is ${stream.last}` : ""}` : name;
+    const more = isOutput ? (stream.count ? `, the last is ${stream.last}` : "") : `, ${numbered(stream.taken ?? 0)} taken, ${numbered(waiting)} wait`;
+    tip.textContent = isKnown ? `${name}: ${numbered(stream.count)} sent${more}` : name;
   }
 
   // Scrolls so far that the boxes are seen.

@@ -1,6 +1,7 @@
 // The values of the streams as plots, one under the other on one axis: over their places, or over the events by which they came.
 
 import { clipped, numbered, svg } from "./elements.js";
+import { cameOf } from "./moment.js";
 
 const NAMES = 128, NUMBERS = 50, LEFT = NAMES + NUMBERS, RIGHT = 10, STRIP = 30, PLOT = 68, AXIS = 24, APART = 6, LEAST_WIDTH = 280;
 // So many values have a point each, or a step each; of more, each step goes from the least to the greatest of some.
@@ -112,14 +113,15 @@ export class Plots {
     Object.assign(this, { moment, chosen });
     const end = this.svg.clientWidth - APART;
     for (const { stream, i, veil, cursor, group, points, value } of this.lanes) {
-      const { count } = moment.streams[i], x = Math.min(end, this.xOf(this.isByEvent ? moment.k : count + 0.5));
+      const count = cameOf(stream, moment.streams[i]), x = Math.min(end, this.xOf(this.isByEvent ? moment.k : count + 0.5));
       veil.setAttribute("x", x);
       veil.setAttribute("width", Math.max(0, end - x));
       cursor.setAttribute("x1", x);
       cursor.setAttribute("x2", x);
       group.classList.toggle("chain", stream.channel !== undefined && chosen.channels.includes(stream.channel));
       points?.forEach((it, row) => it.setAttribute("class", row === count - 1 ? "newest" : ""));
-      value.textContent = count ? `${brief(moment.streams[i].last)} at ${numbered(count)}` : "";
+      const newest = count ? moment.streams[i].values[count - 1] ?? moment.streams[i].last : "";
+      value.textContent = count ? `${brief(newest)} at ${numbered(count)}` : "";
     }
   }
 

@@ -1,17 +1,20 @@
 // One run of texts: in growing parts, so that stopping it leaves the values so far; then why it ended, its network, and its steps.
 
-import { momentOf } from "./moment.js";
-import { isReport, readReport } from "./report.js";
+import { cameOf, momentOf } from "./moment.js";
+import { isReport, readReport, Stream } from "./report.js";
 import { Timeline } from "./timeline.js";
 import { faultOf, readWhy } from "./why.js";
 import { wiringOf } from "./wiring.js";
 
 const FIRST_PART = 1000000n, GROWTH = 4n;
-// So many first steps of a run can be looked at, and so many bytes of a program the module explains without more of a stack.
-const MOST_STEPS = 20000, MOST_EXPLAINED = 32768;
+// So many first steps of a run can be looked at, of a run of so many events all channels are kept to its end, and so many bytes of a program
+// the module explains without more of a stack.
+const MOST_STEPS = 20000, MOST_WHOLE = 1000000, MOST_EXPLAINED = 32768;
+// The most events of a turn, as in the run whose report is shown.
+export const QUANTUM = 1000;
 const MILLISECONDS_TO_LEARN = 12000, MOST_REPORTS = 8;
-// So many bytes of memory a worker may keep from one run to the next.
-const MOST_MEMORY = 1 << 26;
+// So many bytes of memory a worker may keep from one run to the next; so many letters of an answer take about as much.
+const MOST_MEMORY = 1 << 26, MOST_LETTERS = 1 << 23;
 export const STOPPED = "stopped by hand", LET_GO = "let go";
 
 function* parts(bound) {
@@ -57,48 +60,67 @@ export async function ran(runner, texts, told) {
   return new Run(runner, { ...about, text: last.report, isByHand, milliseconds: last.milliseconds }).begun();
 }
 
-// What each stream of a report is: the number of its channel, or of the process that prints it.
-function streamsOf(report, { channels, processes }) {
-  const byName = new Map(channels.map((it) => [it.name, it]));
-  return report.streams.map(({ process, name, count, values }) => {
+// What each stream is: the number of its channel, or of the process that prints it. The channels come first, in order.
+function streamsOf(streams, { channels, processes }) {
+  return streams.map(({ process, name, count, values }, number) => {
     const print = processes.findIndex((it) => it.number === process);
     if (process) return { print, name, count, values, role: "prints", isLogical: /^[tf]/.test(values[0] ?? "") };
-    const { number, isLogical, role } = byName.get(name);
-    return { channel: number, name, count, values, role, isLogical };
+    return { channel: number, name, count, values, role: channels[number].role, isLogical: channels[number].isLogical };
   });
 }
 
-// What a run is looked at by: its moments, from 0 to its events. Of a long one the first steps can be seen, and its end.
+const said = ({ ends, verdict }) => JSON.stringify([ends, verdict]);
+
+// What a run is looked at by: its moments, from 0 to its events. At each it is a run that keeps all channels. Of a long one the first steps
+// can be seen, and its end as the report tells it; likewise where it is stopped, and the run that keeps all channels came elsewhere.
 class Run {
   constructor(runner, values) {
-    const report = readReport(values.text), { events } = report.verdict, steps = Math.min(events, MOST_STEPS);
-    Object.assign(this, values, { runner, report, events, steps, isCut: steps < events, reports: new Map() });
-    this.last = this.isCut ? steps + 1 : steps;
-    this.streams = streamsOf(report, this.wiring);
+    const report = readReport(values.text), { events } = report.verdict;
+    Object.assign(this, values, { runner, report, events, steps: Math.min(events, MOST_STEPS), quantum: QUANTUM, reports: new Map() });
   }
 
   async begun() {
-    const numbers = ({ ends, streams }) => ({ events: ends.map((it) => it.events), counts: streams.map((it) => it.count) });
-    this.timeline = new Timeline(numbers(await this.reportAt(this.steps)), async (k) => numbers(await this.reportAt(k)));
+    const first = await this.reportAt(this.steps), isLast = this.steps === this.events;
+    const whole = isLast ? first : this.events <= MOST_WHOLE ? await this.wholeAt(this.events) : undefined;
+    this.end = whole && said(whole) === said(this.report) ? whole : undefined;
+    this.isCut = !isLast || !this.end;
+    this.last = this.isCut ? this.steps + 1 : this.steps;
+    const told = new Map(this.report.streams.map((it) => [it.name, it]));
+    this.final = this.end ?? { ...this.report, streams: first.streams.map((it) => told.get(it.name) ?? new Stream({ ...it, taken: undefined })) };
+    this.streams = streamsOf(this.final.streams, this.wiring);
+    const numbers = ({ ends, streams }) => ({ events: ends.map((it) => it.events), counts: streams.map((it, i) => cameOf(this.streams[i], it)) });
+    this.timeline = new Timeline(numbers(first), async (k) => numbers(await this.reportAt(k)));
     return this;
   }
 
-  // The module's report at a bound. The newest ones are kept.
-  async reportAt(k, isUrgent = false) {
-    if (k === this.events) return this.report;
-    if (!this.reports.has(k)) {
-      const { report } = await this.runner.ask("run", { ...this.texts, bound: String(k) }, isUrgent);
-      this.reports.set(k, readReport(report));
-      if (this.reports.size > MOST_REPORTS) this.reports.delete(this.reports.keys().next().value);
-    }
-    return this.reports.get(k);
+  // The same run with other turns of its processes: where it has finished, it comes to the same.
+  takeTurns(quantum) {
+    Object.assign(this, { quantum, reports: new Map() });
+    return this.begun();
   }
 
-  // The network after k events; k past the steps is the end of a long run.
+  // What the module tells of a run to a bound that keeps all channels.
+  async wholeAt(k, isUrgent = false) {
+    const text = await this.runner.ask("whole", { ...this.texts, quantum: this.quantum, bound: String(k) }, isUrgent);
+    if (text === "") throw new Error("Memory was used up");
+    if (text.length > MOST_LETTERS) this.runner.end(LET_GO);
+    return readReport(text);
+  }
+
+  // That at one of the steps. The newest ones are kept.
+  async reportAt(k, isUrgent = false) {
+    const { reports } = this;
+    if (!reports.has(k)) {
+      reports.set(k, await this.wholeAt(k, isUrgent));
+      if (reports.size > MOST_REPORTS) reports.delete(reports.keys().next().value);
+    }
+    return reports.get(k);
+  }
+
+  // The network after k events; k past the steps is the end of a run that is cut.
   async momentAt(k) {
-    if (k > this.steps) return momentOf(this, this.events, this.report);
-    const report = await this.reportAt(k, true);
-    return momentOf(this, k, report, k ? await this.reportAt(k - 1, true) : undefined);
+    const report = k > this.steps ? this.final : await this.reportAt(k, true), before = k > 0 && k <= this.steps ? await this.reportAt(k - 1, true) : undefined;
+    return { ...momentOf(this, Math.min(k, this.events), report, before), isEnd: k === this.last };
   }
 
   learnOrder(isWanted) {

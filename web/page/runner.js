@@ -41,6 +41,7 @@ function work() {
     return text;
   };
   const calls = {
+    whole: (texts, { quantum, bound }) => made(program.kahn_web_whole, texts, BigInt(quantum), BigInt(bound)),
     run: (texts, { bound }) => run(texts, BigInt(bound)),
     draw: ([text]) => made(program.kahn_web_draw, [text]),
     explain: (texts, { bound }) => made(program.kahn_web_explain, texts, BigInt(bound)),
@@ -49,7 +50,7 @@ function work() {
   onmessage = async ({ data }) => {
     try {
       if (data.module) {
-        program = (await WebAssembly.instantiate(data.module)).instance.exports;
+        program = (await WebAssembly.instantiate(data.module)).exports;
         memory = program.memory;
         postMessage({ answer: "ready" });
       } else {
@@ -67,14 +68,17 @@ export function lacking() {
   return Object.entries(wanted).filter(([name]) => typeof globalThis[name] === "undefined").map(([, words]) => words);
 }
 
-let unpacked;
+let compiled;
 
+// The module, which is compiled once for all workers.
 function moduleOf(packed) {
-  unpacked ??= (async () => {
-    const bytes = Uint8Array.from(atob(packed), (it) => it.charCodeAt(0));
-    return new Response(new Blob([bytes]).stream().pipeThrough(new DecompressionStream("deflate-raw"))).arrayBuffer();
+  compiled ??= (async () => {
+    const text = atob(packed), bytes = new Uint8Array(text.length);
+    for (let i = 0; i < text.length; i++) bytes[i] = text.charCodeAt(i);
+    const unpacked = new Response(new Blob([bytes]).stream().pipeThrough(new DecompressionStream("deflate-raw")));
+    return WebAssembly.compile(await unpacked.arrayBuffer());
   })();
-  return unpacked;
+  return compiled;
 }
 
 const SECONDS_TO_START = 20;
@@ -106,13 +110,13 @@ export class Runner {
   }
 
   async start() {
-    const module = await moduleOf(this.packed), place = URL.createObjectURL(new Blob([`(${work})()`])), worker = new Worker(place);
+    const place = URL.createObjectURL(new Blob([`(${work})()`])), worker = new Worker(place);
     this.worker = worker;
     await new Promise((settle, refuse) => {
       worker.onmessage = ({ data }) => (data.fault ? refuse(new Error(data.fault)) : settle());
       worker.onerror = ({ message }) => refuse(new Error(message || "The worker did not start"));
       setTimeout(() => refuse(new Error("The worker gave no sign")), 1000 * SECONDS_TO_START);
-      worker.postMessage({ module });
+      moduleOf(this.packed).then((module) => worker.postMessage({ module }), refuse);
     });
     URL.revokeObjectURL(place);
     worker.onmessage = ({ data }) => this.told(data);

@@ -4,7 +4,7 @@ import { showLegend } from "./choosing.js";
 import { at, made, numbered, svg } from "./elements.js";
 import { example } from "./examples.js";
 import { placeButton, quoted, remark, showProblems } from "./marking.js";
-import { checked, ran, STOPPED } from "./run.js";
+import { checked, QUANTUM, ran, STOPPED } from "./run.js";
 import { lacking } from "./runner.js";
 import { showInput } from "./showing.js";
 import { boundOf, checker, input, isSame, MOST_BOUND, NOTHING, page, picture, plots, program, runner, store, table, texts } from "./state.js";
@@ -190,20 +190,38 @@ async function showRun(run, number) {
     stale();
     check();
   }
+  at("turns").value = String(QUANTUM);
+  at("turns").disabled = run.report.verdict.kind !== "finished";
   await go(run.last);
   if (number !== page.number || !page.moment) return;
   const red = page.moment.processes.flatMap((it, i) => (it.state === "fault" ? [i] : []));
   if (page.width) picture.reveal([...page.moment.ring, ...red]);
-  if ((await asked(run.learnOrder(() => number === page.number))) && page.run === run) {
-    showScore();
-    if (page.moment) update();
-  }
+  showOrder(run);
+}
+
+// Who did each event, once that is known.
+async function showOrder(run) {
+  const { number } = page, { timeline } = run, isWanted = () => number === page.number && page.run === run && run.timeline === timeline;
+  if (!(await asked(run.learnOrder(isWanted))) || !isWanted()) return;
+  showScore();
+  if (page.moment) update();
+}
+
+// The same run, with its processes more or less side by side.
+export async function takeTurns() {
+  const { run } = page;
+  stopPlaying();
+  if (!(await asked(run.takeTurns(Number(at("turns").value)))) || page.run !== run) return;
+  showStreams();
+  showSteps();
+  await go(run.last);
+  showOrder(run);
 }
 
 export function showStreams() {
   const { run } = page, { times } = run.timeline;
   at("by").querySelector("[value=event]").disabled = run.isCut;
-  table.show(run.streams);
+  table.show(run.streams, Boolean(run.end), run.steps);
   plots.show(run.streams, run.steps, times);
   at("by").value = plots.by;
 }

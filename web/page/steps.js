@@ -3,6 +3,7 @@
 import { chosenOf, showChain, showWaits } from "./choosing.js";
 import { at, made, numbered, svg } from "./elements.js";
 import { atEnd, isBad, placeButton, remark } from "./marking.js";
+import { onlyPlace } from "./moment.js";
 import { LET_GO, STOPPED } from "./run.js";
 import { fail } from "./running.js";
 import { page, picture, plots, program, store, table } from "./state.js";
@@ -10,6 +11,8 @@ import { verdictOf } from "./verdict.js";
 
 // Seconds that a run plays for, and the milliseconds from one step to the next.
 const SECONDS_TO_PLAY = 14, QUICKEST = 40, SLOWEST = 500;
+// Of so many places in the text where an event can have been all are named, and of more none.
+const MOST_SPOTS = 3;
 // How many hundredths of the room the network's pane takes.
 const LEAST_NETWORK = 34, MOST_NETWORK = 58;
 const PLAYS = {
@@ -70,12 +73,12 @@ export async function go(k) {
 function showEvent() {
   const { run, moment } = page, { event } = moment, isPast = page.k > run.steps;
   const words = event ? `${event.who} ${event.words}` : moment.k === 0 ? "nothing has happened yet" : "the end of the run";
-  const all = run.isCut && !isPast ? ` of the first ${numbered(run.steps)} of ${numbered(run.events)}` : ` of ${numbered(run.events)}`;
-  const place = event?.place ? [" ", placeButton(event.place)] : [];
+  const whole = run.steps < run.events && !isPast ? ` of the first ${numbered(run.steps)} of ${numbered(run.events)}` : ` of ${numbered(run.events)}`;
+  const all = event?.places ?? [], places = all.length > MOST_SPOTS ? [] : all.flatMap((it, i) => [i ? " or " : " ", placeButton(it)]);
   at("slider").value = page.k;
   at("slider").setAttribute("aria-valuetext", `event ${numbered(moment.k)}: ${words}`);
-  const parts = [made("b", {}, `Event ${numbered(moment.k)}`), made("span", { className: "hint" }, all), " ", made("span", { className: "words" }, words)];
-  at("event").replaceChildren(...parts, ...place);
+  const parts = [made("b", {}, `Event ${numbered(moment.k)}`), made("span", { className: "hint" }, whole), " ", made("span", { className: "words" }, words)];
+  at("event").replaceChildren(...parts, ...places);
   at("toStart").disabled = at("back").disabled = page.k === 0;
   at("on").disabled = at("toEnd").disabled = page.k === run.last;
 }
@@ -83,14 +86,14 @@ function showEvent() {
 // Scrolls the program to where it happens.
 function revealPlace() {
   if (document.activeElement === at("program")) return;
-  const place = isBad() ? verdictOf(page.run).places[0] : page.moment.event?.place;
+  const place = isBad() ? verdictOf(page.run).places[0] : onlyPlace(page.moment.event);
   if (place) program.reveal(place.from);
 }
 
 export function update() {
   const { run, moment, chosen } = page;
   drawPicture();
-  if (page.width) picture.update(moment, chosen, run.streams, isBad());
+  if (page.width) picture.update(moment, chosen, isBad());
   showEvent();
   if (page.tab === "table") table.update(moment, chosen);
   if (page.tab === "plots") plots.update(moment, chosen);

@@ -1,9 +1,11 @@
 // The values of the streams as a table: a row for each place, a column for each stream.
 
 import { made, numbered } from "./elements.js";
+import { cameOf } from "./moment.js";
 
 // The height of a row, and how many rows beside those in sight are in the document.
 const ROW = 24, SPARE = 12;
+const ROLES_INSIDE = ["inner", "input"];
 
 export class Table {
   constructor(place) {
@@ -11,7 +13,8 @@ export class Table {
     place.addEventListener("scroll", () => this.fill());
   }
 
-  show(streams) {
+  // isWhole: whether channels that are no outputs were kept to the end of the run.
+  show(streams, isWhole, steps) {
     this.rows = Math.max(0, ...streams.map((it) => it.values.length));
     this.heads = streams.map((it) => {
       const act = { className: "stream", title: "Its process and places", onclick: () => this.choose(it) };
@@ -19,10 +22,10 @@ export class Table {
     });
     this.body = made("tbody", {}, this.space(this.rows));
     const head = made("thead", {}, made("tr", {}, made("th", { scope: "col", className: "place" }, "place"), ...this.heads));
-    const isCut = streams.some((it) => it.count > it.values.length);
-    const words = streams.length ? `The first ${numbered(this.rows)} values of each are shown.` : "This program has no output channel, and prints nothing.";
+    const isCut = streams.some((it) => it.count > it.values.length), isPart = !isWhole && streams.some((it) => ROLES_INSIDE.includes(it.role));
+    const words = [isCut && `The first ${numbered(this.rows)} values of each are shown.`, isPart && `Of channels that are no outputs, those of the first ${numbered(steps)} events.`];
     this.place.replaceChildren(made("table", { "aria-rowcount": this.rows + 1 }, head, this.body));
-    if (isCut || !streams.length) this.place.prepend(made("p", { className: "hint" }, words));
+    if (isCut || isPart) this.place.prepend(made("p", { className: "hint" }, words.filter(Boolean).join(" ")));
     Object.assign(this, { streams, moment: undefined, first: -1 });
   }
 
@@ -35,7 +38,7 @@ export class Table {
 
   // Scrolls to the newest value.
   follow() {
-    const newest = Math.min(this.rows, Math.max(0, ...this.moment.streams.map((it) => it.count)));
+    const newest = Math.min(this.rows, Math.max(0, ...this.streams.map((it, i) => cameOf(it, this.moment.streams[i]))));
     const { scrollTop, clientHeight } = this.place, y = newest * ROW;
     if (y < scrollTop + 2 * ROW || y > scrollTop + clientHeight - 2 * ROW) this.place.scrollTop = y - clientHeight + 3 * ROW;
   }
@@ -66,9 +69,10 @@ export class Table {
   }
 
   kindOf(i, row) {
-    const { count } = this.moment.streams[i];
-    if (row >= this.streams[i].values.length) return "none";
-    return row >= count ? "later" : this.moment.event?.stream === i && row === count - 1 ? "newest" : "past";
+    const { role, values } = this.streams[i], { streams, event } = this.moment, { count, taken } = streams[i];
+    if (row >= values.length) return "none";
+    if (event?.stream === i && event.row === row) return event.kind === "take" ? "took" : "newest";
+    return row >= count ? "later" : ROLES_INSIDE.includes(role) && row >= taken ? "waiting" : "past";
   }
 
   isChosen({ channel }) {

@@ -34,17 +34,18 @@ function drawn(picture, program) {
   return { processes, channels };
 }
 
-const NO_BODY = { waits: {}, sends: {}, prints: [] };
+const NO_BODY = { waits: {}, sends: {}, prints: [], turns: [] };
 
-// Where each process of the text waits on, and sends on, each of its parameters, and where it prints.
+// Where each process of the text waits on, and sends on, each of its parameters, where it prints, and where its loops begin.
 function bodies(lexemes) {
   const found = new Map();
   let body = NO_BODY, send;
   lexemes.forEach(({ kind, text, from, to }, i) => {
     const word = kind === "keyword" ? text.toLowerCase() : "", put = (list, name, place) => (list[name] ??= []).push(place);
-    if (word === "process") found.set(lexemes[i + 1]?.text, (body = { waits: {}, sends: {}, prints: [] }));
+    if (word === "process") found.set(lexemes[i + 1]?.text, (body = { waits: {}, sends: {}, prints: [], turns: [] }));
     else if (word === "wait") put(body.waits, lexemes[i + 2]?.text, { from, to: lexemes[i + 3]?.to ?? to });
     else if (word === "print") body.prints.push({ from, to });
+    else if (word === "repeat" || word === "while") body.turns.push({ from, to });
     else if (word === "send") send = { from, to };
     else if (word === "on" && send) put(body.sends, lexemes[i + 1]?.text, { from: send.from, to: lexemes[i + 1]?.to ?? to });
   });

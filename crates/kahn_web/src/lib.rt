@@ -1,25 +1,28 @@
 //! Runs, draws and explains texts for a host that calls in, as a page does: the bytes of a program and an input in, those of a report
-//! out, or of why the run stopped; the bytes of a program in, those of a picture out.
+//! out, or of why the run stopped, or of what each channel carried; the bytes of a program in, those of a picture out.
 #![tactic(auto)]
 
 ghost use Rattle.kahn_web.specs.Explained.{IsReasonInto};
 ghost use Rattle.kahn_web.specs.Page.{IsPut, IsRunInto};
 ghost use Rattle.kahn_web.specs.Picture.{IsDrawnInto};
+ghost use Rattle.kahn_web.specs.Whole.{IsWholeInto};
 
 mod alone;
 mod drawing;
 mod explaining;
 mod texts;
+mod whole;
 
 use crate::drawing::drawn;
 use crate::explaining::reason;
 use crate::texts::run_texts;
+use crate::whole::kept;
 use std::alloc::Global;
 
 /// The result of a run.
 #[repr(C)]
 #[derive(Drop)]
-pub struct Told {
+pub struct RunOutcome {
     /// The status that the program `kahn` ends with for the same texts.
     pub status: u64,
     /// How many bytes the report has, or the line of the fault if there is no report.
@@ -45,13 +48,13 @@ pub extern "C" fn kahn_web_run(
     input: &[u8],
     bound: u64,
     room: &mut [u8],
-    outcome: &mut Told,
+    outcome: &mut RunOutcome,
 )
     ensures { IsRunInto program.now input.now bound room.old room.new outcome.new.status outcome.new.length }
 {
     let mut written = Vec::new(alloc);
     let status = run_texts(alloc, program, input, bound, &mut written);
-    *outcome = Told {
+    *outcome = RunOutcome {
         status: status as u64,
         length: put(written.as_slice(), room),
     };
@@ -82,6 +85,27 @@ pub extern "C" fn kahn_web_explain(
     ensures { IsReasonInto program.now input.now bound room.old room.new result }
 {
     match reason(alloc, program, input, bound) {
+        Some(text) => put(text.as_slice(), room),
+        None => 0,
+    }
+}
+
+/// Runs a program on an input for at most `bound` events, with at most `quantum` of them in a turn of a process, and keeps what is sent
+/// on every channel. For each channel in order of declaration there is a line with its number of values and of those that were taken,
+/// and a line of its history, unless that is empty or in the report, which comes last. If a process reads a channel that it writes, each
+/// turn is one event. The text is copied as a report is, and its length is given, which is 0 where there is none.
+#[unsafe(no_mangle)]
+pub extern "C" fn kahn_web_whole(
+    alloc: Global,
+    program: &[u8],
+    input: &[u8],
+    quantum: u64,
+    bound: u64,
+    room: &mut [u8],
+) -> u64
+    ensures { IsWholeInto program.now input.now quantum bound room.old room.new result }
+{
+    match kept(alloc, program, input, quantum, bound) {
         Some(text) => put(text.as_slice(), room),
         None => 0,
     }

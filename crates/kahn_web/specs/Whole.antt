@@ -1,0 +1,54 @@
+-- Believed. What the page is told of all channels of a run: how many values each had, what they were, and how many of them were taken.
+use Rattle.std.specs.Prelude.{◌≡◌, ◌⊎◌, ℕ, zero, suc, List, [], ◌∷◌, ◌++◌, Option, None, Some, codes, decimal, length, slice_get}
+use Rattle.std.specs.List.{concat}
+use Rattle.kahn_streams.specs.declared.tree.Program.{Program}
+use Rattle.kahn_streams.specs.declared.config.Config.{Config}
+use Rattle.kahn_streams.specs.declared.answer.Stream.{Stream}
+use Rattle.kahn_streams.specs.declared.value.Line.TheVariants.{Channel}
+use Rattle.kahn_streams.specs.Answers.{values_of}
+use Rattle.kahn_streams.specs.Inputs.{Lists}
+use Rattle.kahn_streams.specs.Network.{network_of}
+use Rattle.kahn_streams.specs.Written.{line_feed}
+use Rattle.kahn_sequential.specs.Recordings.{IsRecordedRun}
+use Rattle.kahn_sequential.specs.declared.{counted.Count.Count, recorded.Recorded.Recorded}
+use Rattle.kahn_texts.specs.Formats.{StandsFor, channel_name, report_text}
+use Rattle.kahn_texts.specs.News.{more_text}
+use Rattle.kahn_fault.specs.Work.{IsChecked}
+use Rattle.kahn_web.specs.Alone.{alone}
+use Rattle.kahn_web.specs.Page.{IsPut}
+
+-- the same with at most so many events in a turn
+abbrev pub turning : ℕ → ℕ → Config
+turning quantum bound = record (alone bound) { quantum = quantum }
+
+-- the numbers of a channel
+abbrev pub flow_text : Program → ℕ → Option Count → List ℕ
+flow_text t c None = []
+flow_text t c (Some n) = concat (codes "count " ∷ channel_name t c ∷ codes ": " ∷ decimal n.sent ∷ codes " " ∷ decimal n.taken ∷ line_feed ∷ [])
+
+-- what was kept of it, if there is any: what an output had stands in the report
+abbrev pub history_text : Program → ℕ → Option Stream → List ℕ
+history_text t c None = []
+history_text t c (Some s) = more_text t (Channel c) (values_of s)
+
+-- both of the first n channels
+abbrev pub channels_text : Program → Recorded → ℕ → List ℕ
+channels_text t x zero = []
+channels_text t x (suc n) = channels_text t x n ++ (flow_text t n (slice_get x.counts.items n) ++ history_text t n (slice_get x.channels.items n))
+
+-- those of all channels, and the report
+abbrev pub whole_text : Program → Recorded → List ℕ
+whole_text t x = channels_text t x (length (network_of t).channels) ++ report_text t x.answer
+
+-- a run that kept all channels, for what an input text describes
+abbrev pub IsRunRecorded : Program → List ℕ → Config → Recorded → Type 0
+IsRunRecorded t text config x = (lists : Lists) × StandsFor t text lists × IsRecordedRun t lists config x
+
+abbrev pub IsWholeText : List ℕ → List ℕ → ℕ → ℕ → List ℕ → Type 0
+IsWholeText program input quantum bound text =
+    (t : Program) × (x : Recorded) × IsChecked program t × IsRunRecorded t input (turning quantum bound) x × (text ≡ whole_text t x)
+
+-- there is nothing, or what was put into the room
+abbrev pub IsWholeInto : List ℕ → List ℕ → ℕ → ℕ → List ℕ → List ℕ → ℕ → Type 0
+IsWholeInto program input quantum bound old new size =
+    ((size ≡ 0) × (new ≡ old)) ⊎ ((text : List ℕ) × IsWholeText program input quantum bound text × IsPut text old new size)
