@@ -24,6 +24,6 @@ programs: ; bash release/build.sh
 release: page ; bash release/make.sh
 page: ; cd crates/kahn_web && rt check && bash ../../web/build.sh
 package: ; bash release/deb.sh
-edits: ; python3 checks/edits.py $(CRATE)
+edits: ; bash checks/edits.sh $(CRATE)
 bench: ; python3 bench/measure.py
 install: ; bash install.sh

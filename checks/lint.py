@@ -14,10 +14,10 @@ import shutil
 import subprocess
 import sys
 
-import edits
-from mine import read
-
 TOP = os.path.dirname(os.path.dirname(os.path.abspath(__file__)))
+sys.path.append(f"{TOP}/tests")
+from common import text_of as read
+
 LIMITS = f"{TOP}/checks/limits.txt"
 LONG_CLAUSE, LONG_BODY, LONG_FILE = 160, 40, 500
 
@@ -128,13 +128,19 @@ def strange_operators():
 
 
 def unfit_edits():
-    """Must-fail edits that can't be applied."""
+    """Must-fail edits that can't be applied: what is old is one line, and stands once in the file."""
     for path in sorted(glob.glob(f"{TOP}/crates/*/must-fail/*.edit") + glob.glob(f"{TOP}/checks/edits/*/*.edit")):
-        name = os.path.relpath(path, TOP)
-        try:
-            edits.edited(path, f"{TOP}/crates/{name.split('/')[1 if name.startswith('crates/') else 2]}")
-        except edits.Unfit as line:
-            yield f"{name}: {line}"
+        crate, text, old = re.sub(f"{TOP}/(?:crates|checks/edits)/([^/]+)/.*", r"\1", path), "", None
+        for word, rest in (line.split(":", 1) for line in read(path).splitlines()):
+            rest = rest.removeprefix(" ")
+            if word == "file":
+                text = read(f"{TOP}/crates/{crate}/{rest}")
+            elif word == "old" and text.count(rest) == 1:
+                old = rest
+            elif word == "new" and old is not None:
+                text, old = text.replace(old, rest), None
+            else:
+                yield f"{os.path.relpath(path, TOP)}: {word}: {rest}"
 
 
 def not_laid_out():

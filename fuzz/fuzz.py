@@ -18,7 +18,7 @@ from concurrent.futures import ThreadPoolExecutor
 
 sys.path.append(f"{os.path.dirname(os.path.abspath(__file__))}/../tests")
 import reference as ref
-from common import write
+from common import TOP, read, write
 
 KINDS = ("integer", "logical")
 NUMBERS = (0, 1, 2, 3, 5, 7, 10, 1000, 2**31, 2**62, 2**63 - 1)
