@@ -93,7 +93,7 @@ try_programs() {
   beside "notes" python3 tests/run.py notes
   beside "the release" bash checks/release.sh
   beside "the first ten minutes" bash checks/newcomer.sh
-  beside "attacks on the launcher" bash checks/launcher.sh
+  beside "attacks on the launcher" python3 tests/run.py launcher
   beside "the page in a browser" bash checks/web.sh
   beside "places and changes in editors" python3 checks/editors.py "$KAHN_EXPLAIN"
   beside "the Debian package" bash checks/package.sh

@@ -64,9 +64,9 @@ def rows_of(path):
             name = line.strip().rstrip(".:")
 
 
-def ran(command, folder, path, joined=False):
+def ran(command, folder, path, joined=False, **variables):
     """What bash makes of a command: standard output, standard error, status. What it began is killed after a time."""
-    words = {"PATH": f"{path}:{os.environ['PATH']}", "LC_ALL": "C.UTF-8", "TOP": TOP}
+    words = {"PATH": f"{path}:{os.environ['PATH']}", "LC_ALL": "C.UTF-8", "TOP": TOP, **variables}
     run = subprocess.Popen(["bash", "-c", command], cwd=folder, env={**os.environ, **words}, stdin=subprocess.DEVNULL, stdout=subprocess.PIPE,
                            stderr=subprocess.STDOUT if joined else subprocess.PIPE, start_new_session=True)
     late = threading.Timer(SECONDS, os.killpg, (run.pid, signal.SIGKILL))
@@ -76,13 +76,14 @@ def ran(command, folder, path, joined=False):
     return out, err, run.returncode
 
 
-def try_session(path, programs, folder, only, tried):
-    """Tries the rows of a session in this new folder. With a word only those count that have it in their names. Gives what they gave."""
+def try_session(path, programs, folder, only, tried, **variables):
+    """Tries the rows of a session in this new folder. With a word only those count that have it in their names. Gives what they gave. If
+    begin.sh is beside the session, each command begins with that."""
     shutil.copytree(os.path.dirname(path), folder, ignore=shutil.ignore_patterns("*.t"))
     os.symlink(f"{TOP}/examples", f"{folder}/examples")
-    given = []
+    begin, given = ["source ./begin.sh"] * os.path.exists(f"{folder}/begin.sh"), []
     for row in list(rows_of(path)):
-        result = ran("\n".join(row.command), folder, programs)
+        result = ran("\n".join(begin + row.command), folder, programs, **variables)
         given.append((row, result))
         if only in row.name:
             tried.same(f"{os.path.relpath(path, TOP)}:{row.start}: {row.name}", result, row.wants())
@@ -100,7 +101,7 @@ def rewrite(path, given):
 
 
 def sessions():
-    return sorted(glob.glob(f"{TOP}/tests/*/*.t"))
+    return sorted(set(glob.glob(f"{TOP}/tests/*/*.t")) - set(glob.glob(f"{TOP}/tests/launcher/*.t")))
 
 
 def pages():
