@@ -1,40 +1,34 @@
-"""The page in a headless Chromium, which is told what to do over two pipes."""
+"""The page in a headless Chromium, which is told what to do over two pipes, or in a headless Firefox, by WebDriver BiDi over a web socket."""
 import base64
 import json
 import os
+import re
 import select
 import shutil
 import signal
+import socket
+import struct
 import subprocess
 import tempfile
 import time
 
-
-SECONDS_TO_WAIT, SECONDS_TO_ANSWER, SECONDS_TO_OPEN = 40, 90, 20
+SECONDS_TO_ANSWER, SECONDS_TO_OPEN = 90, 20
+# A key's number in Chromium, and its sign in WebDriver.
+KEYS = {"Enter": (13, "\ue007"), "Escape": (27, "\ue00c"), "Space": (32, " "), "PageDown": (34, "\ue00f"), "End": (35, "\ue010"), "Home": (36, "\ue011"),
+        "ArrowLeft": (37, "\ue012"), "ArrowRight": (39, "\ue014"), "ArrowDown": (40, "\ue015")}
+CONTROL = "\ue009"
 
 
 class Browser:
     """Opens the file of the page. Each call ends within the seconds that are left, or raises TimeoutError. `told` has the errors of its
     scripts, and what its policy refused; `script` is one that runs before those of a page that is opened."""
 
-    # Whether it tells what a reader of the screen is told, and prints a PDF whose text can be read.
-    has_tree = True
-
-    def __init__(self, program, path, seconds):
+    def __init__(self, program, path, seconds, script=""):
         self.end, self.number, self.kept, self.told = time.monotonic() + seconds, 0, b"", []
-        self.limit, self.shape, self.script, self.session, self.target = self.end, None, "", None, None
+        self.limit, self.path, self.script, self.target, self.shape = self.end, path, script, None, None
         self.folder = tempfile.TemporaryDirectory(ignore_cleanup_errors=True)
-        theirs, self.to = os.pipe()
-        self.come, back = os.pipe()
-        words = [program, "--headless=new", "--disable-gpu", "--no-first-run", f"--user-data-dir={self.folder.name}", "--remote-debugging-pipe"]
-        words += ["--no-sandbox"] if os.getuid() == 0 else []
-        shell = ["sh", "-c", f'exec "$@" 3<&{theirs} 4>&{back}', "sh", *words, "about:blank"]
-        self.process = subprocess.Popen(
-            shell, stdin=subprocess.DEVNULL, stdout=subprocess.DEVNULL, stderr=subprocess.DEVNULL, pass_fds=(theirs, back), start_new_session=True
-        )
-        os.close(theirs)
-        os.close(back)
-        self.open(path)
+        self.start(program)
+        self.open()
 
     def __enter__(self):
         return self
@@ -45,46 +39,101 @@ class Browser:
         except ProcessLookupError:
             pass
         self.process.wait()
-        self.close()
         self.folder.cleanup()
 
-    def close(self):
-        os.close(self.to)
-        os.close(self.come)
+    def begin(self, *words, **more):
+        self.process = subprocess.Popen(words, stdin=subprocess.DEVNULL, start_new_session=True, **more)
 
-    def read(self):
-        """The next message."""
-        while b"\0" not in self.kept:
-            if not select.select([self.come], [], [], max(0, self.limit - time.monotonic()))[0]:
-                raise TimeoutError("the browser gave no answer in time")
-            got = os.read(self.come, 1 << 20)
-            if not got:
-                raise TimeoutError("the browser ended")
-            self.kept += got
-        text, self.kept = self.kept.split(b"\0", 1)
-        message = json.loads(text)
-        if message.get("method") == "Runtime.exceptionThrown":
-            self.told.append(message["params"]["exceptionDetails"].get("exception", {}).get("description", "an exception"))
-        if message.get("method") == "Log.entryAdded" and message["params"]["entry"]["level"] == "error":
-            self.told.append(message["params"]["entry"]["text"])
-        return message
+    def more(self):
+        """Takes what comes next."""
+        if not select.select([self.come], [], [], max(0, self.limit - time.monotonic()))[0]:
+            raise TimeoutError("the browser gave no answer in time")
+        got = os.read(self.come, 1 << 20)
+        if not got:
+            raise TimeoutError("the browser ended")
+        self.kept += got
 
     def call(self, method, seconds=SECONDS_TO_ANSWER, **values):
         self.number, self.limit = self.number + 1, min(self.end, time.monotonic() + seconds)
-        message = {"id": self.number, "method": method, "params": values}
-        message.update({"sessionId": self.session} if self.session else {})
-        data = json.dumps(message).encode() + b"\0"
+        self.send({"id": self.number, "method": method, "params": values})
+        while (answer := self.receive()).get("id") != self.number:
+            self.note(answer.get("method"), answer.get("params"))
+        if "error" in answer:
+            raise RuntimeError(f"{method}: {answer}")
+        return answer["result"]
+
+    def open(self, fragment="", tries=3):
+        """Opens the page in a new tab. One of many on a machine full of work never answers, so it has further tries."""
+        try:
+            self.attach()
+            if self.shape:
+                self.size(*self.shape)
+            self.navigate(f"file://{os.path.abspath(self.path)}{fragment}")
+            self.value("until(() => document.readyState === 'complete' && typeof page === 'object')")
+        except TimeoutError:
+            if tries == 1:
+                raise
+            self.open(fragment, tries - 1)
+
+    def pause(self, milliseconds):
+        self.value(f"new Promise((done) => setTimeout(done, {milliseconds}))")
+
+    def size(self, width, height, scheme="light"):
+        self.shape = width, height, scheme
+        self.resize(*self.shape)
+        self.pause(300)
+
+    def key(self, name, control=False):
+        self.press(name, *KEYS[name], control)
+        self.pause(60)
+
+    def click(self, selector):
+        """A press of the mouse in the middle of the first such element."""
+        found = f"document.querySelector({json.dumps(selector)})"
+        self.value(f"{found}.scrollIntoView({{ block: 'nearest' }})")
+        x, y, width, height = self.value(f"(({{ x, y, width, height }}) => [x, y, width, height])({found}.getBoundingClientRect())")
+        self.push(x + width / 2, y + height / 2)
+        self.pause(60)
+
+    def shot(self, path):
+        """A picture of the page as a file; with a palette, in a third of the bytes, if Debian's pngquant is there."""
+        with open(path, "wb") as file:
+            file.write(base64.b64decode(self.picture()["data"]))
+        if shutil.which("pngquant"):
+            subprocess.run(["pngquant", "--force", "--ext", ".png", path], check=True)
+
+
+class Chromium(Browser):
+    session = None
+
+    def start(self, program):
+        theirs, self.to = os.pipe()
+        self.come, back = os.pipe()
+        words = [program, "--headless=new", "--disable-gpu", "--no-first-run", f"--user-data-dir={self.folder.name}", "--remote-debugging-pipe"]
+        words += ["--no-sandbox"] if os.getuid() == 0 else []
+        shell = ["sh", "-c", f'exec "$@" 3<&{theirs} 4>&{back}', "sh", *words, "about:blank"]
+        self.begin(*shell, stdout=subprocess.DEVNULL, stderr=subprocess.DEVNULL, pass_fds=(theirs, back))
+        os.close(theirs)
+        os.close(back)
+
+    def send(self, message):
+        data = json.dumps({**message, **({"sessionId": self.session} if self.session else {})}).encode() + b"\0"
         while data:
             data = data[os.write(self.to, data) :]
-        while True:
-            answer = self.read()
-            if answer.get("id") == self.number:
-                if "error" in answer:
-                    raise RuntimeError(f"{method}: {answer['error']['message']}")
-                return answer["result"]
+
+    def receive(self):
+        while b"\0" not in self.kept:
+            self.more()
+        text, self.kept = self.kept.split(b"\0", 1)
+        return json.loads(text)
+
+    def note(self, method, it):
+        if method == "Runtime.exceptionThrown":
+            self.told.append(it["exceptionDetails"].get("exception", {}).get("description", "an exception"))
+        if method == "Log.entryAdded" and it["entry"]["level"] == "error":
+            self.told.append(it["entry"]["text"])
 
     def attach(self):
-        """Goes over to a new tab, and closes the one before."""
         self.session, before = None, self.target
         self.target = self.call("Target.createTarget", url="about:blank")["targetId"]
         if before:
@@ -92,21 +141,10 @@ class Browser:
         self.session = self.call("Target.attachToTarget", targetId=self.target, flatten=True)["sessionId"]
         for domain in ("Page", "Runtime", "Log"):
             self.call(f"{domain}.enable")
-        if self.script:
-            self.call("Page.addScriptToEvaluateOnNewDocument", source=self.script)
-        if self.shape:
-            self.size(*self.shape)
+        self.call("Page.addScriptToEvaluateOnNewDocument", source=self.script)
 
-    def open(self, path, fragment="", tries=3):
-        """Opens a page in a new tab. One of many on a machine full of work never answers, so it has further tries."""
-        try:
-            self.attach()
-            self.call("Page.navigate", SECONDS_TO_OPEN, url=f"file://{os.path.abspath(path)}{fragment}")
-            self.wait("document.readyState === 'complete' && typeof page === 'object'")
-        except TimeoutError:
-            if tries == 1:
-                raise
-            self.open(path, fragment, tries - 1)
+    def navigate(self, url):
+        self.call("Page.navigate", SECONDS_TO_OPEN, url=url)
 
     def value(self, text):
         """What the text, of JavaScript, gives in the page; a promise is waited for."""
@@ -115,37 +153,104 @@ class Browser:
             raise RuntimeError(told["exceptionDetails"].get("exception", {}).get("description", "the page told an exception"))
         return told["result"].get("value")
 
-    def wait(self, text):
-        """Waits until the text gives true."""
-        end = min(self.end, time.monotonic() + SECONDS_TO_WAIT)
-        while not self.value(text):
-            if time.monotonic() > end:
-                raise TimeoutError(f"waited for {text}")
-            time.sleep(0.02)
-
-    def size(self, width, height, scheme="light"):
-        self.shape = width, height, scheme
+    def resize(self, width, height, scheme):
         self.call("Emulation.setDeviceMetricsOverride", width=width, height=height, deviceScaleFactor=1, mobile=width < 500)
         self.call("Emulation.setEmulatedMedia", features=[{"name": "prefers-color-scheme", "value": scheme}])
-        self.value("new Promise((done) => setTimeout(done, 300))")
 
-    def key(self, name, code, modifiers=0):
+    def press(self, name, code, sign, control):
+        name = sign if name == "Space" else name
         for kind in ("rawKeyDown", "keyUp"):
-            self.call("Input.dispatchKeyEvent", type=kind, key=name, code=name, windowsVirtualKeyCode=code, modifiers=modifiers)
-        self.value("new Promise((done) => setTimeout(done, 60))")
+            self.call("Input.dispatchKeyEvent", type=kind, key=name, code=name, windowsVirtualKeyCode=code, modifiers=2 * control)
 
-    def click(self, selector):
-        """A press of the mouse in the middle of the first such element."""
-        found = f"document.querySelector({json.dumps(selector)})"
-        self.value(f"{found}.scrollIntoView({{ block: 'nearest' }})")
-        x, y, width, height = self.value(f"(({{ x, y, width, height }}) => [x, y, width, height])({found}.getBoundingClientRect())")
+    def push(self, x, y):
         for kind in ("mousePressed", "mouseReleased"):
-            self.call("Input.dispatchMouseEvent", type=kind, x=x + width / 2, y=y + height / 2, button="left", clickCount=1)
-        self.value("new Promise((done) => setTimeout(done, 60))")
+            self.call("Input.dispatchMouseEvent", type=kind, x=x, y=y, button="left", clickCount=1)
 
-    def shot(self, path):
-        """A picture of the page as a file; with a palette, in a third of the bytes, if Debian's pngquant is there."""
-        with open(path, "wb") as file:
-            file.write(base64.b64decode(self.call("Page.captureScreenshot", format="png")["data"]))
-        if shutil.which("pngquant"):
-            subprocess.run(["pngquant", "--force", "--ext", ".png", path], check=True)
+    def picture(self):
+        return self.call("Page.captureScreenshot", format="png")
+
+
+class Firefox(Browser):
+    """What Chromium does, in one scheme of colours, and without what a reader of the screen is told."""
+
+    added = None
+
+    def start(self, program):
+        with open(f"{self.folder.name}/user.js", "w", encoding="utf-8") as file:
+            file.write('user_pref("layout.css.prefers-color-scheme.content-override", 1);\nuser_pref("toolkit.telemetry.enabled", false);\n')
+        words = [program, "--headless", "--no-remote", "--profile", self.folder.name, "--remote-debugging-port", "0"]
+        with open(f"{self.folder.name}/said", "wb") as said:
+            self.begin(*words, stdout=said, stderr=said, env={**os.environ, "HOME": self.folder.name})
+        while not (found := re.search(rb"listening on ws://127\.0\.0\.1:(\d+)", open(f"{self.folder.name}/said", "rb").read())):
+            if time.monotonic() > self.limit:
+                raise TimeoutError("the browser gave no answer in time")
+            time.sleep(0.1)
+        self.socket = socket.create_connection(("127.0.0.1", int(found[1])))
+        self.come = self.socket.fileno()
+        self.socket.sendall(b"GET /session HTTP/1.1\r\nHost: 127.0.0.1:%s\r\nUpgrade: websocket\r\nConnection: Upgrade\r\n"
+                            b"Sec-WebSocket-Key: AAAAAAAAAAAAAAAAAAAAAA==\r\nSec-WebSocket-Version: 13\r\n\r\n" % found[1])
+        while b"\r\n\r\n" not in self.kept:
+            self.more()
+        self.kept = self.kept.split(b"\r\n\r\n", 1)[1]
+        self.call("session.new", capabilities={})
+        self.call("session.subscribe", events=["log.entryAdded"])
+
+    def send(self, message):
+        data = json.dumps(message).encode()
+        size = len(data)
+        length = struct.pack("!B", 128 + size) if size < 126 else struct.pack("!BH", 254, size) if size < 1 << 16 else struct.pack("!BQ", 255, size)
+        # a mask of zeros isn't taken
+        self.socket.sendall(b"\x81" + length + b"\1\1\1\1" + bytes(it ^ 1 for it in data))
+
+    def take(self, count):
+        while len(self.kept) < count:
+            self.more()
+        taken, self.kept = self.kept[:count], self.kept[count:]
+        return taken
+
+    def receive(self):
+        text, is_last = b"", False
+        while not is_last:
+            first, length = self.take(2)
+            if length > 125:
+                length = int.from_bytes(self.take(2 if length == 126 else 8), "big")
+            text, is_last = text + self.take(length), bool(first & 0x80)
+        return json.loads(text)
+
+    def note(self, method, it):
+        if method == "log.entryAdded" and it["level"] == "error":
+            self.told.append(it["text"])
+
+    def attach(self):
+        before, self.target = self.target, self.call("browsingContext.create", type="tab")["context"]
+        if before:
+            self.call("browsingContext.close", context=before)
+            self.call("script.removePreloadScript", script=self.added)
+        self.added = self.call("script.addPreloadScript", functionDeclaration=f"() => {{ {self.script} }}")["script"]
+
+    def navigate(self, url):
+        self.call("browsingContext.navigate", context=self.target, url=url, wait="complete")
+
+    def value(self, text):
+        wrapped = f"(async () => JSON.stringify((await ({text.strip().removesuffix(';')})) ?? null))()"
+        told = self.call("script.evaluate", expression=wrapped, target={"context": self.target}, awaitPromise=True, userActivation=True)
+        if told["type"] == "exception":
+            raise RuntimeError(told["exceptionDetails"]["text"])
+        return json.loads(told["result"]["value"])
+
+    def resize(self, width, height, scheme):
+        self.call("browsingContext.setViewport", context=self.target, viewport={"width": width, "height": height}, devicePixelRatio=1)
+
+    def act(self, kind, actions, **more):
+        self.call("input.performActions", context=self.target, actions=[{"type": kind, "id": kind, "actions": actions, **more}])
+
+    def press(self, name, code, sign, control):
+        keys = [CONTROL] * control + [sign]
+        self.act("key", [{"type": "keyDown", "value": it} for it in keys] + [{"type": "keyUp", "value": it} for it in reversed(keys)])
+
+    def push(self, x, y):
+        move = {"type": "pointerMove", "x": round(x), "y": round(y)}
+        self.act("pointer", [move, {"type": "pointerDown", "button": 0}, {"type": "pointerUp", "button": 0}], parameters={"pointerType": "mouse"})
+
+    def picture(self):
+        return self.call("browsingContext.captureScreenshot", context=self.target)

@@ -15,9 +15,7 @@ TOP = os.path.dirname(os.path.dirname(os.path.abspath(__file__)))
 sys.path.append(f"{TOP}/tests")
 import browser
 import common
-import firefox
 import rows
-import web_looks
 import web_tries
 
 SECONDS = 330
@@ -138,9 +136,8 @@ def compare_steps(page, tried, kahn, explain):
     """At every bound the page shows what the report of `kahn --bound` says, and the histories of `kahn_explain --trace --bound`."""
     for name in STEPPED:
         path = f"{TOP}/examples/{name}"
-        text = open(f"{path}.input", encoding="utf-8").read() if os.path.exists(f"{path}.input") else ""
-        program = open(f"{path}.kahn", encoding="utf-8").read()
-        steps = page.value(STEPS.replace("TEXTS", json.dumps([program, text])))
+        text = common.text_of(f"{path}.input") if os.path.exists(f"{path}.input") else ""
+        steps = page.value(STEPS.replace("TEXTS", json.dumps([common.text_of(f"{path}.kahn"), text])))
         texts = [f"{path}.kahn", *(["--input", f"{path}.input"] if text else [])]
         for k, (processes, streams) in enumerate(steps):
             ran = subprocess.run([kahn, "--workers", "1", "--bound", str(k), *texts], capture_output=True, timeout=60, text=True)
@@ -151,16 +148,16 @@ def compare_steps(page, tried, kahn, explain):
 def main(program, path, *words):
     tried = common.Tried()
     try:
-        kind = firefox.Firefox if "firefox" in program else browser.Browser
-        with kind(program, path, SECONDS_TO_OPEN if words[0] == "--opens" else SECONDS) as page:
+        kind = browser.Firefox if "firefox" in program else browser.Chromium
+        with kind(program, path, SECONDS_TO_OPEN if words[0] == "--opens" else SECONDS, web_tries.SCRIPT) as page:
+            page.value("until(settled)")
+            tried.same("a report when it opens", page.value("at('report').textContent"), common.text_of(f"{TOP}/examples/squares.report"))
             if words[0] == "--pictures":
-                web_looks.take_pictures(page, words[1])
-                return 0
-            web_tries.try_opening(page, tried)
-            if words[0] != "--opens":
-                web_tries.try_page(page, path, tried)
-            if words[0] not in ("--opens", "--tries"):
-                page.open(path)
+                web_tries.take_pictures(page, words[1])
+            elif words[0] != "--opens":
+                web_tries.try_page(page, tried)
+            if not words[0].startswith("--"):
+                page.open()
                 compare_steps(page, tried, words[0], words[2])
                 compare_rows(page, tried, *words)
     except (RuntimeError, TimeoutError) as error:

@@ -1,0 +1,155 @@
+// What the sessions here, and checks/web.py, call in the page. `programs` has the texts of the programs here by their names.
+Object.assign(globalThis, {
+  // Waits until a test holds.
+  async until(test) {
+    const end = performance.now() + 40000;
+    while (!test()) {
+      if (performance.now() > end) throw new Error(`waited for ${test}`);
+      await new Promise((done) => setTimeout(done, 20));
+    }
+  },
+  settled: () => !document.body.classList.contains("busy") && !!page.moment && !page.isOld,
+
+  // Texts that replace those of the page, by their run.
+  begins(program, { input = "", bound = "1000000", name = "" } = {}) {
+    page.moment = undefined;
+    at("verdict").className = "";
+    put({ program, input, bound }, name);
+  },
+  async puts(program, more) {
+    begins(program, more);
+    await until(() => settled() || at("verdict").className === "refused");
+  },
+  async shows(name) {
+    begins(example(name).program, { ...example(name), name });
+    await until(settled);
+  },
+
+  told: () => [at("verdict").className, at("status").textContent],
+  eachText: (selector) => [...document.querySelectorAll(selector)].map((it) => it.textContent),
+
+  // A network of so many processes, one behind the other.
+  rowOf(length) {
+    const names = Array.from({ length: length - 1 }, (_, i) => `C${i + 1}`);
+    const middle = names.slice(1).map((it, i) => ` par add(${names[i]}, ${it}, ${i + 2})`).join("");
+    return `begin integer channel ${names.join(", ")}; integer output channel LAST;
+  process count(integer out W; integer N); begin integer I; while I < N do begin send I on W; I := I + 1 end end;
+  process add(integer in U; integer out W; integer N); begin repeat send wait(U) + N on W end;
+  count(C1, 5)${middle} par add(${names.at(-1)}, LAST, 0)
+end
+`;
+  },
+
+  // How often `--` stands in what the page says of itself; a program and a report may have it.
+  options: () => (document.querySelector("#verdict").innerText + at("problems").innerText + at("waits").innerText + at("network").innerText).split("--").length - 1,
+  // Whether no arrow reaches out of the picture.
+  arrowsFit: () => [...document.querySelectorAll("#picture .line")].map((it) => it.getBBox())
+    .every(({ x, y, width, height }) => x >= 0 && y >= 0 && x + width <= picture.laid.width && y + height <= picture.laid.height),
+  pictureFits: () => at("picture").scrollWidth <= at("picture").clientWidth + 1,
+  lettersAreLarge: () => Math.min(...[...document.querySelectorAll("#picture text")].map((it) => parseFloat(getComputedStyle(it).fontSize) * picture.scale)) >= 9.99,
+  // Buttons that reach out of the window.
+  cut: () => [...document.querySelectorAll("header button, #transport button, #panes button, .strip button")].filter((it) => it.checkVisibility())
+    .map((it) => [it.id || it.textContent, it.getBoundingClientRect()])
+    .filter(([, { left, right, top, bottom }]) => left < 0 || right > innerWidth + 0.5 || top < 0 || bottom > innerHeight + 0.5)
+    .map(([name]) => name),
+
+  // Who did each event and by which event each value came, at 33 bounds, beside the module's reports.
+  async orderOf() {
+    const { run } = page, { timeline, steps } = run;
+    if (!(await run.learnOrder(() => true)) || !(await run.learnTimes(() => true))) return "not known";
+    for (let k = 0; k <= steps; k += Math.max(1, steps >> 5)) {
+      const report = await run.reportAt(k), counts = report.ends.map((_, i) => timeline.order.slice(0, k).filter((it) => it === i).length);
+      if (String(counts) !== String(report.ends.map((it) => it.events))) return `order at ${k}`;
+      const came = timeline.times.map((it) => it.filter((at) => at <= k).length);
+      if (String(came) !== String(report.streams.map((it, i) => cameOf(run.streams[i], it)))) return `times at ${k}`;
+    }
+    const row = cameOf(run.streams[0], run.end.streams[0]) - 1;
+    return (await run.eventOf(0, row)) === timeline.times[0][row] ? "agrees" : "event of the last value";
+  },
+  // Whether from each step to the next one process does one event and one number of values goes up by one, or none at a turn of a loop;
+  // whether all events add up, no channel has more taken than sent, and all values begin those of the end.
+  async flowsOf() {
+    const { run } = page, total = (numbers) => numbers.reduce((sum, it) => sum + it, 0), { channels } = run.wiring;
+    const numbers = ({ ends, streams }) => [ends.map((it) => it.events), streams.flatMap((it) => [it.count, it.taken ?? 0])];
+    let before;
+    for (let k = 0; k <= run.steps; k++) {
+      const report = await run.reportAt(k), now = numbers(report), { event, streams } = await run.momentAt(k);
+      if (total(now[0]) !== k || report.verdict.events !== k) return `events at ${k}`;
+      const wrong = report.streams.find((it, i) => it.count < (it.taken ?? 0) || String(it.values) !== String(run.streams[i].values.slice(0, it.count)) || it.values.length !== it.count);
+      if (wrong) return `${wrong.name} at ${k}`;
+      if (before) {
+        const grown = before.map((part, i) => part.flatMap((it, j) => (now[i][j] === it ? [] : [now[i][j] - it])));
+        if (String(grown[0]) !== "1" || !["", "1"].includes(String(grown[1])) || (event.kind === "turn") !== (grown[1].length === 0)) return `event ${k}`;
+        const { writer, reader } = channels[event.channel] ?? {}, who = now[0].findIndex((it, i) => it !== before[0][i]);
+        if ((event.kind === "send" && writer !== who) || (event.kind === "take" && reader !== who)) return `who did event ${k}`;
+        if (event.stream >= 0 && !event.words.includes(` ${run.streams[event.stream].values[event.row]}`)) return `words of event ${k}`;
+      }
+      before = now;
+    }
+    return "agrees";
+  },
+  // To what a run came.
+  cameTo: () => JSON.stringify([page.run.last, page.run.end.ends, page.run.end.streams.map((it) => [it.name, it.count, it.taken, it.text])]),
+  // With other turns of the processes: whether the run comes to the same, what `flowsOf` says, and the most events of a process in a row.
+  async turned(turns) {
+    const before = cameTo();
+    at("turns").value = turns;
+    await takeTurns();
+    await until(() => page.moment.isEnd);
+    const same = cameTo() === before, flows = await flowsOf();
+    await until(() => !!page.run.timeline.order);
+    return [same, flows, Math.max(...String.fromCharCode(...page.run.timeline.order.map((it) => it + 65)).match(/(.)\1*/g).map((it) => it.length))];
+  },
+
+  // For each text its first mistake's place, and the changes that are offered with what is said of the text behind each.
+  async changesOf(texts) {
+    const found = [], firstOf = async (program) => (await checked(checker, { program, input: "", bound: "0" })).why.marks.find((it) => it.severity === "error");
+    for (const program of texts) {
+      const first = await firstOf(program), fixes = first?.from === undefined ? [] : fixesOf(first, program), behind = [];
+      for (const it of fixes) behind.push(await firstOf(applied(program, it)));
+      const offers = first?.helps.some((it) => /^fix: /.test(it)) || / did you mean `/.test(first?.words ?? "");
+      const said = first ? [first.words, ...first.helps, ...first.notes.map((it) => it.words)] : [];
+      found.push([first?.from, fixes.map((it) => it.words), behind.map((it) => it && [it.from, it.words]), said, Boolean(offers)]);
+    }
+    return found;
+  },
+  // What becomes of a text by words of a change beside a place in it.
+  becomes(text, place, help, words = "expected others, found it") {
+    const [fix] = fixesOf({ where: "program", severity: "error", from: text.indexOf(place), words, helps: help ? [help] : [] }, text);
+    return fix ? applied(text, fix) : text;
+  },
+
+  // Whether the module has as much memory after 20 runs as after two.
+  async keepsItsSize(program) {
+    const sizes = [];
+    for (let i = 0; i < 20; i++) sizes.push((await checker.ask("run", { program, input: "", bound: "300000" })).memory);
+    return sizes[1] === sizes.at(-1);
+  },
+  // A file that is dropped on the page.
+  async drops(text, name, test) {
+    const dataTransfer = new DataTransfer();
+    dataTransfer.items.add(new File([text], name));
+    document.body.dispatchEvent(new DragEvent("drop", { dataTransfer, bubbles: true, cancelable: true }));
+    await until(test);
+  },
+  types(text) {
+    at("program").focus();
+    at("program").setSelectionRange(0, 0);
+    document.execCommand("insertText", false, text);
+  },
+  // Milliseconds from a key to what it shows, the median of nine.
+  async keyTime() {
+    const times = [];
+    at("program").focus();
+    at("program").setSelectionRange(5000, 5000);
+    for (let i = 0; i < 9; i++) {
+      const start = performance.now();
+      document.execCommand("insertText", false, "x");
+      await new Promise((done) => requestAnimationFrame(() => setTimeout(done)));
+      times.push(performance.now() - start);
+    }
+    return times.sort((a, b) => a - b)[4];
+  },
+});
+new MutationObserver((_, it) => { if (document.querySelector("#picture svg")) { globalThis.pictured = performance.now(); it.disconnect(); } })
+  .observe(document, { childList: true, subtree: true });
