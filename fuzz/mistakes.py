@@ -5,46 +5,28 @@
 Right: the first remark, or the heading if there is none, names the repair. Misled: there is a remark, and the word of the repair is nowhere.
 Silent: nothing is said. One: exactly one error is told. It fails if fewer are told rightly, or more mislead, than the last lines say.
 """
-import os
+import collections
+import glob
 import random
 import re
 import subprocess
 import sys
-import tempfile
 from concurrent.futures import ThreadPoolExecutor
 
 sys.dont_write_bytecode = True
-HERE = os.path.dirname(os.path.abspath(__file__))
+import fuzz
 import reference as ref
 
 LEFT_OUT = (";", "(", ")", ",", ":=", "do", "then", "on", "par")
 GUARDS = ("do", "then", "else", "repeat")
 LEAST_RIGHT, MOST_MISLED, LEAST_ONE = 96, 2, 97
-
-
-class Mistake:
-    """sort: which; text: with the mistake; at: the line of it; words: any of these names the repair."""
-
-    def __init__(self, sort, text, line, *words):
-        self.sort, self.text, self.line, self.words = sort, text, line, [word.lower() for word in words]
+# sort: which; text: with the mistake; line: of it; words: any of these names the repair.
+Mistake = collections.namedtuple("Mistake", "sort text line words")
 
 
 def lexemes(text):
     """Each lexeme with its place, but those of comments."""
     return [(what, text[a:b], a, b) for what, _, a, b in ref.lex(text.encode())]
-
-
-def slip(word, rng):
-    """The word with a letter left out, doubled or put in place of another, or two interchanged."""
-    i = rng.randrange(len(word))
-    how = rng.randrange(4)
-    if how == 0 and len(word) > 2:
-        return word[:i] + word[i + 1:]
-    if how == 1:
-        return word[:i] + word[i] + word[i:]
-    if how == 2 and i + 1 < len(word) and word[i] != word[i + 1]:
-        return word[:i] + word[i + 1] + word[i] + word[i + 2:]
-    return word[:i] + rng.choice("abcdefghijklmnopqrstuvwxyz") + word[i + 1:]
 
 
 def line_of(text, at):
@@ -53,6 +35,18 @@ def line_of(text, at):
 
 def place_of(text, at):
     return f"{line_of(text, at)}:{at - text.rfind(chr(10), 0, at)}"
+
+
+def slip(word, rng):
+    """The word with a letter left out, doubled or put in place of another, or two interchanged."""
+    i, how = rng.randrange(len(word)), rng.randrange(4)
+    if how == 0 and len(word) > 2:
+        return word[:i] + word[i + 1:]
+    if how == 1:
+        return word[:i] + word[i] + word[i:]
+    if how == 2 and i + 1 < len(word) and word[i] != word[i + 1]:
+        return word[:i] + word[i + 1] + word[i] + word[i + 2:]
+    return word[:i] + rng.choice("abcdefghijklmnopqrstuvwxyz") + word[i + 1:]
 
 
 def other_of(one, other):
@@ -78,14 +72,11 @@ def of_one(sort):
     which, put, words = ONE[sort]
 
     def made(text, lex, rng):
-        some = [x for i, x in enumerate(lex) if which(i, x, lex)]
-        if not some:
-            return None
-        _, word, a, b = rng.choice(some)
+        _, word, a, b = rng.choice([x for i, x in enumerate(lex) if which(i, x, lex)])
         new = put(word, rng)
         if put is slip and (new.lower() in ref.KEYWORDS or any(x[1].lower() == new.lower() for x in lex)):
             return None
-        return Mistake(sort, text[:a] + new + text[b:], line_of(text, a), *words.replace("{}", word).split("|"))
+        return Mistake(sort, text[:a] + new + text[b:], line_of(text, a), words.replace("{}", word).split("|"))
 
     return made
 
@@ -101,31 +92,24 @@ def block_of(lex, i):
 
 
 def lost_end(text, lex, rng):
-    begins = [i for i, x in enumerate(lex) if x[1] == "begin" and i]
-    if not begins:
-        return None
-    i = rng.choice(begins)
+    i = rng.choice([i for i, x in enumerate(lex) if x[1] == "begin" and i])
     _, _, a, b = lex[block_of(lex, i)]
     place = place_of(text, lex[i][2])
-    return Mistake("lost end", text[:a] + text[b:], line_of(text, lex[i][2]), f"p:{place}: error: `begin` has no `end`", place)
+    return Mistake("lost end", text[:a] + text[b:], line_of(text, lex[i][2]), [f"p:{place}: error: `begin` has no `end`", place])
 
 
 def lost_begin(text, lex, rng):
-    begins = [i for i, x in enumerate(lex) if x[1] == "begin" and i and lex[i - 1][1] in GUARDS]
-    i = rng.choice(begins) if begins else None
-    if i is None or not any(x[1] == ";" for x in lex[i:block_of(lex, i)]):
+    i = rng.choice([i for i, x in enumerate(lex) if x[1] == "begin" and i and lex[i - 1][1] in GUARDS])
+    if not any(x[1] == ";" for x in lex[i:block_of(lex, i)]):
         return None
     _, guard, at, _ = lex[i - 1]
-    words = f"p:{place_of(text, at)}: error: several statements", f"insert `begin` after `{guard}`", f"`then` at {place_of(text, at)}"
-    return Mistake("lost begin", text[:lex[i][2]] + text[lex[i][3]:], line_of(text, at), *words)
+    words = [f"p:{place_of(text, at)}: error: several statements", f"insert `begin` after `{guard}`", f"`then` at {place_of(text, at)}"]
+    return Mistake("lost begin", text[:lex[i][2]] + text[lex[i][3]:], line_of(text, at), words)
 
 
 def late_else(text, lex, rng):
-    elses = [x for i, x in enumerate(lex) if x[1] == "else" and any(y[1] in ("send", ":=", "print", "end") for y in lex[max(0, i - 6):i])]
-    if not elses:
-        return None
-    a = rng.choice(elses)[2]
-    return Mistake("; before else", text[:a].rstrip() + "; " + text[a:], line_of(text, a), "remove `;`")
+    a = rng.choice([x for i, x in enumerate(lex) if x[1] == "else" and any(y[1] in ("send", ":=", "print", "end") for y in lex[max(0, i - 6):i])])[2]
+    return Mistake("; before else", text[:a].rstrip() + "; " + text[a:], line_of(text, a), ["remove `;`"])
 
 
 def commas_of(lex):
@@ -135,113 +119,87 @@ def commas_of(lex):
 
 
 def arguments(text, lex, rng):
-    commas = [i for i in commas_of(lex) if lex[i - 1][1] != lex[i + 1][1]]
-    if not commas:
-        return None
-    i = rng.choice(commas)
+    i = rng.choice([i for i in commas_of(lex) if lex[i - 1][1] != lex[i + 1][1]])
     (_, one, a, _), (_, other, _, b) = lex[i - 1], lex[i + 1]
-    return Mistake("arguments", f"{text[:a]}{other}, {one}{text[b:]}", line_of(text, a), one, other, "interchanged", "expected")
+    return Mistake("arguments", f"{text[:a]}{other}, {one}{text[b:]}", line_of(text, a), [one, other, "interchanged", "expected"])
 
 
 def argument_lost(text, lex, rng):
-    commas = commas_of(lex)
-    if not commas:
-        return None
-    i = rng.choice(commas)
-    return Mistake("argument lost", text[:lex[i][2]] + text[lex[i + 1][3]:], line_of(text, lex[i][2]), "number of arguments", "wanted", "not declared")
+    i = rng.choice(commas_of(lex))
+    return Mistake("argument lost", text[:lex[i][2]] + text[lex[i + 1][3]:], line_of(text, lex[i][2]), ["number of arguments", "wanted", "not declared"])
 
 
 MADE = {sort: of_one(sort) for sort in ONE}
 FIRST = [MADE[sort] for sort in ("misspelt keyword", "lost", "doubled", "= and :=")]
-SORTS = [*MADE.values(), MADE["misspelt keyword"], MADE["lost"], lost_end, lost_begin, late_else, arguments, argument_lost]
 
 
 def two(text, lex, rng):
     """Two mistakes: the first is to be told."""
-    half = len(lex) // 2
-    one = rng.choice(FIRST)(text, lex[:half], rng)
+    one = rng.choice(FIRST)(text, lex[:len(lex) // 2], rng)
     if one is None:
         return None
-    try:
-        rest = lexemes(one.text)
-    except ref.Fault:
-        return None
-    far = [x for x in rest if line_of(one.text, x[2]) > one.line + 3]
-    if not far:
-        return None
+    far = [x for x in lexemes(one.text) if line_of(one.text, x[2]) > one.line + 3]
     other = rng.choice(FIRST)(one.text, far, rng)
-    return other and Mistake("two mistakes", other.text, one.line, *one.words)
+    return other and Mistake("two mistakes", other.text, one.line, one.words)
 
 
-def is_right(text):
-    """Whether the text is a program without a fault."""
-    try:
-        data = text.encode()
-        return not ref.Parts(ref.Parser(ref.lex(data), len(data)).program()).told
-    except ref.Fault:
-        return False
+SORTS = [*MADE.values(), MADE["misspelt keyword"], MADE["lost"], lost_end, lost_begin, late_else, arguments, argument_lost, two, two]
+
+
+def made(count, seed):
+    """So many mistakes; a sort for which a text has no place makes none."""
+    rng = random.Random(seed)
+    texts = [fuzz.read(path) for path in sorted(glob.glob(f"{fuzz.TOP}/examples/*.kahn"))]
+    texts = [text.decode() for text in texts if len(text) < 6000 and text.isascii() and ref.told(text) == []]
+    out = []
+    while len(out) < count:
+        text = rng.choice(texts)
+        try:
+            one = rng.choice(SORTS)(text, lexemes(text), rng)
+        except (IndexError, ref.Fault):
+            continue
+        if one and ref.told(one.text.encode()) != []:
+            out.append(one)
+    return out
 
 
 # The first line of what a run tells.
 VERDICT = re.compile(r"(?m)^(?:no deadlock and no fault|deadlock: |\d+ deadlocks|\d+ process(?:es have| has) a fault|stopped (?:by the bound|for want))")
 
 
-def told(explain, text):
+def said_of(explain, text):
     """What is said of the text, but what a run tells."""
-    with tempfile.NamedTemporaryFile("w", suffix=".kahn", delete=False) as it:
-        it.write(text)
-    try:
-        ran = subprocess.run([explain, it.name, "--bound", "1"], capture_output=True, text=True, stdin=subprocess.DEVNULL)
-    finally:
-        os.unlink(it.name)
-    return VERDICT.split(ran.stdout.replace(it.name, "p"), maxsplit=1)[0]
+    ran = subprocess.run([explain, "--bound", "1"], input=text, capture_output=True, text=True)
+    return VERDICT.split(ran.stdout.replace("<stdin>", "p"), maxsplit=1)[0]
 
 
 def judged(mistake, said):
     """right, misled, and whether it is one error."""
-    errors = re.findall(r"^p:(\d+):\d+: error: (.*)", said, re.M)
-    warnings = re.findall(r"^p:(\d+):\d+: warning: (.*)", said, re.M)
+    errors, warnings = (re.findall(rf"^p:\d+:\d+: {kind}: (.*)", said, re.M) for kind in ("error", "warning"))
     if not errors and not warnings:
         return "silent", 1
-    first = re.split(r"\n\np:", said)[0]
+    first = re.split(r"\n\np:", said.lower())[0]
     remarks = re.findall(r"^ +\d* *= (.*)", first, re.M)
-    heads = [words for _, words in (errors or warnings)[:1]] + re.findall(r"^p:\d+:\d+: note: (.*)", first, re.M)
-    first = first.lower()
-    remarks, heads, whole = [it.lower() for it in remarks], [it.lower() for it in heads], first.split("\n")[0]
-    good = any(word in line for word in mistake.words for line in [whole] + (remarks[:1] or heads))
+    heads = [*(errors or warnings)[:1], *re.findall(r"^p:\d+:\d+: note: (.*)", first, re.M)]
+    places = [first.split("\n")[0], *(remarks[:1] or heads)]
     if mistake.sort in ("kind", "direction", "arguments", "misspelt name", "argument lost"):
-        good = any(word in line for word in mistake.words for line in heads + remarks)
-    if good:
+        places = heads + remarks
+    words = [word.lower() for word in mistake.words]
+    if any(word in line.lower() for word in words for line in places):
         return "right", len(errors)
-    return "misled" if remarks and not any(word in first for word in mistake.words) else "meh", len(errors)
-
-
-def made(count, seed):
-    rng = random.Random(seed)
-    folder = os.path.join(os.path.dirname(HERE), "examples")
-    texts = [open(os.path.join(folder, name)).read() for name in sorted(os.listdir(folder)) if name.endswith(".kahn")]
-    texts = [text for text in texts if len(text) < 6000 and text.isascii() and is_right(text)]
-    out = []
-    while len(out) < count:
-        text = rng.choice(texts)
-        one = rng.choice(SORTS + [two, two])(text, lexemes(text), rng)
-        if one and not is_right(one.text):
-            out.append(one)
-    return out
+    return "misled" if remarks and not any(word in first for word in words) else "meh", len(errors)
 
 
 def main(explain, count="1500", seed=None, *rest):
     seed = seed if seed is not None else str(random.randrange(10**9))
-    mistakes = made(int(count), seed)
+    mistakes, sorts, ones = made(int(count), seed), collections.defaultdict(list), 0
     with ThreadPoolExecutor(4) as pool:
-        said = list(pool.map(lambda m: told(explain, m.text), mistakes))
-    sorts, ones = {}, 0
-    for mistake, words in zip(mistakes, said):
-        verdict, errors = judged(mistake, words)
-        sorts.setdefault(mistake.sort, []).append(verdict)
-        ones += errors <= 1
-        if "-v" in rest and verdict != "right":
-            print(f"--- {verdict}: {mistake.sort}, line {mistake.line}, {mistake.words}\n{words[:900]}")
+        for mistake, said in zip(mistakes, pool.map(lambda m: said_of(explain, m.text), mistakes)):
+            verdict, errors = judged(mistake, said)
+            sorts[mistake.sort].append(verdict)
+            ones += errors <= 1
+            if "-v" in rest and verdict != "right":
+                print(f"--- {verdict}: {mistake.sort}, line {mistake.line}, {mistake.words}\n{said[:900]}")
     every = [verdict for verdicts in sorts.values() for verdict in verdicts]
     for sort, verdicts in [*sorted(sorts.items()), (f"seed {seed}", every)]:
         print(f"{sort:18} {len(verdicts):5}" + "".join(f"  {name} {100 * verdicts.count(name) / len(verdicts):5.1f}" for name in ("right", "meh", "misled", "silent")))
