@@ -33,7 +33,7 @@ DRIVEN = {"key": lambda page, name, *control: page.key(name, bool(control)), "cl
 def try_session(page, path, tried):
     """A session, whose commands are expressions of JavaScript, or what one does with a keyboard, a mouse and the address. What is wanted is
     JSON."""
-    for row in sessions.rows_of(path):
+    for row in list(sessions.rows_of(path)):
         command, wanted = "\n".join(row.command), "".join(row.wanted)
         word, *rest = command.split()
         given = DRIVEN[word](page, *rest) if word in DRIVEN else page.value(f"(async () => {{ const it = await ({command}); {'return it' * bool(wanted)}; }})()")
