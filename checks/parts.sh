@@ -91,12 +91,11 @@ try_programs() {
   beside "rows" python3 tests/run.py rows
   beside "sessions, and commands of the pages" python3 tests/run.py sessions pages
   beside "notes" python3 tests/run.py notes
-  beside "the release" bash checks/release.sh
-  beside "the first ten minutes" bash checks/newcomer.sh
+  beside "the release, the Debian package, and the first ten minutes" python3 tests/run.py tests/release
   beside "attacks on the launcher" python3 tests/run.py launcher
-  beside "the page in a browser" bash checks/web.sh
+  beside "the page in a browser" python3 checks/web.py
   beside "places and changes in editors" python3 checks/editors.py "$KAHN_EXPLAIN"
-  beside "the Debian package" bash checks/package.sh
+  beside "manual pages and completions" python3 checks/manuals.py "$KAHN" "$KAHN_LIVE" "$KAHN_DRAW" "$KAHN_EXPLAIN"
   beside "threads and growths of memory that are refused" python3 tests/run.py refusals
   beside "worst texts" python3 tests/run.py worst
   beside "machine instructions of the workloads" python3 bench/counts.py "$KAHN"

@@ -1,5 +1,6 @@
 """The page, in a headless Chromium or Firefox: what the module in it answers compared byte for byte with the programs, and what the page makes of it.
 
+    web.py                                            tries release/kahn.html, or the one that the variable PAGE names, in the browsers that are there
     web.py BROWSER PAGE KAHN KAHN_DRAW KAHN_EXPLAIN   runs the rows of checks/rows, the examples and what is refused, and tries the page
     web.py BROWSER PAGE --tries                       tries the page alone
     web.py BROWSER PAGE --opens                       opens the page, which shows a report at once
@@ -7,6 +8,8 @@
 """
 import json
 import os
+import re
+import shutil
 import subprocess
 import sys
 import tempfile
@@ -145,6 +148,34 @@ def compare_steps(page, tried, kahn, explain):
             tried.same(f"{name} at {k}, histories", dict(streams), traced(explain, str(k), *texts))
 
 
+def try_in(program, path, *words):
+    """Tries the page in one browser, and gives how much passed and failed. One start in fifty or so doesn't come to an answer on a machine that
+    is full of work, so a run has a second try."""
+    for _ in range(2):
+        ran = subprocess.run(["timeout", "340", sys.executable, __file__, program, path, *words], stdout=subprocess.PIPE, stderr=subprocess.STDOUT, text=True)
+        if not re.search("no answer in time|waited for", ran.stdout):
+            break
+    print(ran.stdout, end="", flush=True)
+    counted = re.search(r"(\d+) passed, (\d+) failed\Z", ran.stdout.rstrip())
+    return map(int, counted.groups()) if counted else (0, 1)
+
+
+def try_browsers():
+    """The page in Chromium (Debian's package chromium, or the one that BROWSER names) against the programs; alone in Debian's firefox-esr. What
+    isn't there, or isn't of these sources, is said, and counts as one pass."""
+    path, chromium, tried = os.environ.get("PAGE", f"{TOP}/release/kahn.html"), shutil.which(os.environ.get("BROWSER", "chromium")), common.Tried()
+    is_ours = "PAGE" in os.environ or not subprocess.run(["bash", "-c", 'top=$1; source "$top/web/page.sh"; is_page_released', "bash", TOP]).returncode
+    runs = [(chromium, path, *map(common.program, ("kahn", "kahn_draw", "kahn_explain")))] if chromium and is_ours else []
+    runs += [(it, path, "--tries") for it in [shutil.which("firefox-esr")] if runs and it]
+    for run in runs:
+        passed, failed = try_in(*run)
+        tried.passed, tried.failed = tried.passed + passed, tried.failed + failed
+    if not runs:
+        print("the page is not tried: " + ("it isn't of these sources: `bash web/build.sh` makes it" if chromium else "there is no browser (Debian's package chromium)"))
+        tried.passed += 1
+    return tried.finish()
+
+
 def main(program, path, *words):
     tried = common.Tried()
     try:
@@ -166,4 +197,4 @@ def main(program, path, *words):
 
 
 if __name__ == "__main__":
-    sys.exit(main(*sys.argv[1:]))
+    sys.exit(main(*sys.argv[1:]) if sys.argv[1:] else try_browsers())

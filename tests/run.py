@@ -9,7 +9,7 @@ run.py [-k WORD] [--write] [--here] [PART ..]
     pages       the commands of the README and of docs/; with --here in this tree, by its own programs
     notes       kahn_explain on checks/mistakes and checks/warnings (notes.py)
     worst       texts of the most bytes, against limits on time and memory (worst.py)
-    NAME        the tests of tests/test_NAME.py, or a session or page by its path from the top
+    NAME        the tests of tests/test_NAME.py, or sessions or a page by the path from the top (tests/release)
 
 Without a part it tries rows, sessions, pages, notes and every test_NAME.py. -k takes only what has the word in its name; --write puts
 what the commands of sessions, and kahn_explain, give in place of what is wanted. The last line says how much passed and failed.
@@ -90,8 +90,8 @@ def try_part(part, work, words, tried):
             os.mkdir(folder)
             sessions.copy_tree(programs, folder)
         sessions.try_pages(folder, sessions.pages() if part == "pages" else [part], words.only, tried)
-    elif part == "sessions" or part.endswith(".t"):
-        paths = sessions.sessions() if part == "sessions" else [os.path.join(common.TOP, part)]
+    elif part == "sessions" or part.startswith("tests/"):
+        paths = sessions.sessions() if part == "sessions" else [os.path.join(common.TOP, part)] if part.endswith(".t") else sessions.sessions_in(part)
         try_sessions(paths, work, programs, words, tried)
     elif part == "notes":
         notes.try_notes(f"{programs}/kahn_explain", words, tried)
@@ -113,6 +113,7 @@ def main():
     tried = common.Tried()
     for part in words.parts or ["rows", "sessions", "pages", "notes", *TESTS]:
         with tempfile.TemporaryDirectory() as work:
+            os.chmod(work, 0o755)
             try_part(part, work, words, tried)
     return tried.finish()
 

@@ -10,7 +10,7 @@ before a command names it:
       [7]
 
 `$ ` begins a command for bash, `> ` continues it, `! ` begins a line of standard error, and the status is in brackets, unless it is 0.
-Other lines are standard output. Commands run in a folder with the files that are beside the session, the repository's examples, and the
+Where a command after `% ` fails, its output says why the rest isn't tried. Other lines are standard output. Commands run in a folder with the files that are beside the session, the repository's examples, and the
 programs on the path. (This is the format of cram, but that standard error is kept apart.)
 
 A page (the README, CONTRIBUTING, and those of docs/) has commands between lines of three backticks, of which the first one begins with `$ `; one
@@ -36,8 +36,8 @@ NAMED = re.compile(r"\b(?:docs/[\w/-]+\.md|(?:checks|tests|fuzz|bench|web)/[a-z0
 class Row:
     """A command with its name, its place, and what is wanted of it."""
 
-    def __init__(self, name, start):
-        self.name, self.start, self.command, self.wanted = name, start, [], []
+    def __init__(self, name, start, is_condition):
+        self.name, self.start, self.is_condition, self.command, self.wanted = name, start, is_condition, [], []
 
     def wants(self):
         """Standard output, standard error and status."""
@@ -52,8 +52,8 @@ def rows_of(path):
     """The rows of a session."""
     name, row = "", None
     for number, line in enumerate(read(path).decode().split("\n"), 1):
-        if line.startswith("  $ "):
-            row = Row(name, number)
+        if line.startswith(("  $ ", "  % ")):
+            row = Row(name, number, line[2] == "%")
             row.command.append(line[4:])
             yield row
         elif line.startswith("  > ") or line == "  >":
@@ -84,8 +84,12 @@ def try_session(path, programs, folder, only, tried, **variables):
     begin, given = ["source ./begin.sh"] * os.path.exists(f"{folder}/begin.sh"), []
     for row in list(rows_of(path)):
         result = ran("\n".join(begin + row.command), folder, programs, **variables)
+        if row.is_condition and result[2]:
+            print(result[0].decode(), end="", flush=True)
+            tried.passed += 1
+            break
         given.append((row, result))
-        if only in row.name:
+        if only in row.name and not row.is_condition:
             tried.same(f"{os.path.relpath(path, TOP)}:{row.start}: {row.name}", result, row.wants())
     return given
 
@@ -100,8 +104,12 @@ def rewrite(path, given):
     write(path, "\n".join(lines))
 
 
+def sessions_in(folders):
+    return sorted(glob.glob(f"{TOP}/{folders}/*.t"))
+
+
 def sessions():
-    return sorted(glob.glob(f"{TOP}/tests/kahn*/*.t"))
+    return sessions_in("tests/kahn*")
 
 
 def pages():
