@@ -104,7 +104,6 @@ try_programs() {
   beside "mistakes with known repairs" python3 fuzz/mistakes.py "$KAHN_EXPLAIN" 600 "$seed"
   beside "what is said of random texts" python3 fuzz/grammar.py "$KAHN_EXPLAIN" 250 "$seed"
   beside "why random networks stop" python3 fuzz/causes.py "$KAHN_EXPLAIN" "$KAHN" 150 "$seed"
-  beside "what values of random networks need" python3 fuzz/needs.py "$KAHN_EXPLAIN" "$KAHN" 150 "$seed"
   beside "random programs, line by line" python3 fuzz/live.py "$KAHN_LIVE" "$KAHN" 200 "$seed"
   if [ -x "${KAHN_CROWD:-}" ]; then
     beside "rows, by workers that begin at once" python3 tests/run.py crowd

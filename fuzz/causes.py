@@ -60,7 +60,7 @@ def case(seed):
         maker = Maker(rng)
         text = maker.program()
         try:
-            checked = ref.Checker(ref.Parser(ref.lex(text.encode()), len(text.encode())).program())
+            checked = ref.checked_of(text.encode())
             source = maker.input()
             inputs = ref.input_of(checked, source.encode())
         except ref.Fault:

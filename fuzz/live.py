@@ -19,62 +19,41 @@ ENOUGH = 100000
 
 def case(seed):
     """A program with values on its input channels, these as an input text, and as lines in which they come one after the other."""
-    rng = random.Random(seed)
-    while True:
+    rng, lines = random.Random(seed), []
+    while not lines:
         maker = rng.choice((causes.Maker, fuzz.Maker))(rng)
-        text = maker.program()
+        text, source = maker.program(), maker.input()
         try:
-            checked = ref.Checker(ref.Parser(ref.lex(text.encode()), len(text.encode())).program())
-            source = maker.input()
-            left = {c: [str(v).lower() for v in values] for c, values in ref.input_of(checked, source.encode()).items() if values}
+            checked = ref.checked_of(text.encode())
+            left = {checked.channels[c][0]: [str(v).lower() for v in values] for c, values in ref.input_of(checked, source.encode()).items()}
         except ref.Fault:
             continue
-        lines = []
-        while left:
-            c, most = rng.choice(list(left)), rng.randint(1, 4)
-            lines.append(f"{checked.channels[c][0]}: {' '.join(left[c][:most])}\n")
-            left[c] = left[c][most:]
-            left = {c: values for c, values in left.items() if values}
-        if lines:
-            return text, source, "".join(lines), rng.choice((ENOUGH, ENOUGH, 1000, 3))
+        while names := [name for name, values in left.items() if values]:
+            name, most = rng.choice(names), rng.randint(1, 4)
+            lines.append(f"{name}: {' '.join(left[name][:most])}\n")
+            del left[name][:most]
+    return text, source, "".join(lines), rng.choice((ENOUGH, ENOUGH, 1000, 3))
 
 
-def read(report):
-    """The values of each stream by what stands before the colon, the ends, and the last line."""
-    streams, ends, last = {}, [], ""
-    for line in report.split("\n"):
-        if line.startswith("end "):
-            ends.append(line)
-        elif line.startswith(("finished", "stopped")):
-            last = line
-        elif ":" in line:
-            name, values = line.split(":", 1)
-            streams.setdefault(name, []).extend(values.split())
-    return {name: values for name, values in streams.items() if values}, ends, last
-
-
-def lived(ran):
-    """The streams that a live run printed, and the ends and the last line that it told."""
-    streams, stray, last = read(ran.stdout.decode())
-    _, ends, told = read(ran.stderr.decode())
-    return streams, ends, told or ("finished" if ran.returncode == 0 else ""), [*stray, last] if last else stray
+def read(text):
+    """The values of each stream by what stands before the colon, and the lines of a report's ends."""
+    streams, lines = {}, text.decode().splitlines()
+    ends = [line for line in lines if line.startswith(("end ", "finished", "stopped"))]
+    for name, _, values in (line.partition(":") for line in lines if line not in ends):
+        streams.setdefault(name, []).extend(values.split())
+    return {name: values for name, values in streams.items() if values}, ends
 
 
 def difference(ran, whole, step):
     """What is wrong with a live run, or None."""
-    (streams, ends, last, stray), (solution, ends_then, last_then) = lived(ran), read(whole)
-    finished = [it.startswith("finished") for it in (last, last_then)]
-    if stray or ran.returncode not in ((0, 1) if finished[0] else (3,)):
-        return f"status {ran.returncode}, {stray}, {ran.stderr[:300]!r}"
-    if all(finished) and (streams != solution or (ends and (ends, last) != (ends_then, last_then))):
-        return f"{streams} {ends} {last}, not {solution} {ends_then} {last_then}"
-    if finished[1] and step == ENOUGH and not finished[0]:
-        return f"{last}, not {last_then}"
+    (streams, stray), (_, told), (solution, ends) = map(read, (ran.stdout, ran.stderr, whole))
+    finished = [not lines or lines[-1].startswith("finished") for lines in (told, ends)]
+    good = not stray and ran.returncode in ((0, 1) if finished[0] else (3,)) and (finished[0] or not finished[1] or step < ENOUGH)
+    if all(finished):
+        good = good and streams == solution and told in ([], ends)
     for name in streams.keys() & solution.keys():
-        shorter = min(len(streams[name]), len(solution[name]))
-        if streams[name][:shorter] != solution[name][:shorter]:
-            return f"{name}: {streams[name]}, not {solution[name]}"
-    return None
+        good = good and all(one == other for one, other in zip(streams[name], solution[name]))
+    return None if good else f"status {ran.returncode}, {streams} {stray} {told}, not {solution} {ends}"
 
 
 def one(live, kahn, at, seed):
@@ -82,10 +61,10 @@ def one(live, kahn, at, seed):
     text, source, lines, step = case(seed)
     path = fuzz.write(f"{at}.kahn", text)
     fuzz.write(f"{at}.lines", lines)
-    whole = fuzz.asked(kahn, path, "--input", fuzz.write(f"{at}.input", source), "--bound", str(ENOUGH), "--workers", "1").stdout.decode()
+    whole = fuzz.asked(kahn, path, "--input", fuzz.write(f"{at}.input", source), "--bound", str(ENOUGH), "--workers", "1").stdout
     ran = fuzz.asked(live, path, "--step", str(step), text=lines.encode() + b"refused\n")
     what = difference(ran, whole, step)
-    return what, lived(ran)[2].split()[0] if what is None else f"{path} --step {step} < {at}.lines"
+    return what, "finished" if what is None and ran.returncode < 2 else f"{path} --step {step} < {at}.lines" if what else "stopped"
 
 
 if __name__ == "__main__":

@@ -16,7 +16,7 @@ programs on the path. (This is the format of cram, but that standard error is ke
 A page (the README, CONTRIBUTING, and those of docs/) has commands between lines of three backticks, of which the first one begins with `$ `; one
 that has `<< END` goes on through the line END, and one that ends with a backslash in the next line. They run in a copy of this tree, and what
 they print on both streams has to be as the page shows it. A command by one of TOOLS is left out if that isn't installed, and what comes from
-ADDRESS is left to checks/newcomer.sh.
+ADDRESS is left to tests/release/newcomer.t.
 """
 import glob
 import os
