@@ -4,11 +4,9 @@
 
 For each workload it prints the events; the milliseconds with 1, 2, 4 and 16 workers; for these the time by the clock and that of all
 processors as multiples of those of one worker; and, if there is an interpreter by hand of it (one thread, built by rustc if it
-is there), its milliseconds, the speed of each as a multiple of that by hand, and with `perf` or `valgrind` the machine instructions an
-event, of one worker and by hand.
+is there), its milliseconds, the speed of each as a multiple of that by hand, and with `valgrind` the machine instructions an event, of one
+worker and by hand.
 """
-import os
-import re
 import shutil
 import statistics
 import subprocess
@@ -22,61 +20,24 @@ import workloads
 sys.path.append(f"{workloads.HERE}/../tests")
 from common import program as program_of
 
-HERE = workloads.HERE
 WORKERS = (1, 2, 4, 16)
 BOUND = str(2**48 - 1)
 BY_HAND = ("pipeline", "sample", "pipelines", "arithmetic")
-
-
-def example(name):
-    with open(f"{HERE}/../examples/{name}.kahn", encoding="utf-8") as it:
-        return it.read()
-
-
+# name: the workload, its sizes, and further words of the command line
 WORKLOADS = {
-    "counting": example("count"),
-    "pipeline": workloads.pipeline(1_000_000),
-    "sample": workloads.sample(200_000),
-    "pipelines": workloads.pipelines(10_000),
-    "arithmetic": workloads.arithmetic(10_000_000),
-    "ring": workloads.ring(4_000),
-    "ring-against": workloads.ring(4_000, against=True),
-    "chain": workloads.chain(4_000),
-    "farm": workloads.farm(4_000_000),
-    "farm-7": (workloads.farm(4_000_000), "--quantum", "7"),
-    "farm-63": (workloads.farm(4_000_000), "--quantum", "63"),
-    "two": workloads.farm(8_000_000, 2),
-    "late": workloads.serial(120_000, 8_000_000),
-    "later": workloads.serial(2_000_000, 8_000_000),
-    "stages": workloads.stages(60_000),
-    "operators": workloads.operators(400_000),
-    "dealt": workloads.dealt(30_000),
-    "star-40": workloads.star(50_000, 40),
-    "star-200": workloads.star(10_000, 200),
+    "counting": ("../examples/count.kahn",), "pipeline": ("pipeline", 1_000_000), "sample": ("sample", 200_000), "pipelines": ("pipelines", 10_000),
+    "arithmetic": ("arithmetic", 10_000_000), "ring": ("ring", 4_000), "ring-against": ("ring_against", 4_000), "chain": ("chain", 4_000),
+    "farm": ("farm", 4_000_000), "farm-7": ("farm", 4_000_000, "--quantum", "7"), "farm-63": ("farm", 4_000_000, "--quantum", "63"),
+    "two": ("farm", 8_000_000, 2), "late": ("serial", 120_000, 8_000_000), "later": ("serial", 2_000_000, 8_000_000), "stages": ("stages", 60_000),
+    "operators": ("operators", 400_000), "dealt": ("dealt", 30_000), "star-40": ("star", 50_000, 40), "star-200": ("star", 10_000, 200),
 }
 
 
 def milliseconds(words):
     """The time of a run by the clock, and of all processors together."""
     start = time.perf_counter()
-    ran = subprocess.Popen(words, stdout=subprocess.DEVNULL)
-    used = os.wait4(ran.pid, 0)[2]
+    used = workloads.used(words, stdout=subprocess.DEVNULL)
     return (time.perf_counter() - start) * 1000, (used.ru_utime + used.ru_stime) * 1000
-
-
-def instructions(words, room):
-    """How many machine instructions a run takes, or None if nothing here counts them."""
-    if shutil.which("perf"):
-        ran = subprocess.run(["perf", "stat", "-x,", "-e", "instructions:u", *words], capture_output=True, text=True)
-        found = re.search(r"^(\d+),", ran.stderr, re.M)
-        if found:
-            return int(found[1])
-    if shutil.which("valgrind"):
-        ran = subprocess.run(["valgrind", "--tool=callgrind", f"--callgrind-out-file={room}/calls", *words], capture_output=True, text=True)
-        found = re.search(r"refs:\s+([\d,]+)", ran.stderr)
-        if found:
-            return int(found[1].replace(",", ""))
-    return None
 
 
 def measure(name, program, options, kahn, by_hand, runs, room):
@@ -96,29 +57,26 @@ def measure(name, program, options, kahn, by_hand, runs, room):
         line += " |" + "".join(f" {of[way] / of[1]:5.2f}" for way in WORKERS[1:])
     if "by hand" in ways:
         line += f" | {clock['by hand']:8.1f}" + "".join(f" {clock['by hand'] / clock[way]:5.2f}" for way in WORKERS)
-        line += " |" + "".join(f" {it / events:5.0f}" for it in (instructions(ways[way], room) for way in (1, "by hand")) if it)
+        if shutil.which("valgrind"):
+            line += " |" + "".join(f" {workloads.instructions(ways[way], room) / events:5.0f}" for way in (1, "by hand"))
     print(line, flush=True)
 
 
 def main(*words):
-    kahn = program_of("kahn")
-    runs = int(words[1]) if words[:1] == ("--runs",) else 9
-    wanted = words[2:] if words[:1] == ("--runs",) else words
-    unknown = [name for name in wanted if name not in WORKLOADS]
+    kahn, (runs, names) = program_of("kahn"), workloads.runs_of(words)
+    unknown = [name for name in names if name not in WORKLOADS]
     if unknown:
         sys.exit(f"no workload {unknown[0]}: there are {', '.join(WORKLOADS)}")
     with tempfile.TemporaryDirectory() as room:
         by_hand = f"{room}/by_hand" if shutil.which("rustc") else None
         if by_hand:
-            subprocess.run(["rustc", "-C", "opt-level=3", "-o", by_hand, f"{HERE}/by_hand.rs"], check=True, stderr=subprocess.DEVNULL)
+            subprocess.run(["rustc", "-C", "opt-level=3", "-o", by_hand, f"{workloads.HERE}/by_hand.rs"], check=True, stderr=subprocess.DEVNULL)
         print(f"{'':13} {'events':>10} {'1 worker':>8} {'2':>8} {'4':>8} {'16':>8} | clock: 2, 4, 16 | processors | by hand, speeds of 1, 2, 4, 16 | instructions")
-        for name, workload in WORKLOADS.items():
-            if not wanted or name in wanted:
-                text, *options = (workload,) if isinstance(workload, str) else workload
-                program = f"{room}/{name}.kahn"
-                with open(program, "w", encoding="utf-8") as it:
-                    it.write(text)
-                measure(name, program, options, kahn, by_hand, runs, room)
+        for name in names or WORKLOADS:
+            workload, *more = WORKLOADS[name]
+            sizes = [it for it in more if isinstance(it, int)]
+            text = workloads.made(workload, *sizes) if sizes else workloads.text_of(workload)
+            measure(name, workloads.put(room, name, text), more[len(sizes):], kahn, by_hand, runs, room)
 
 
 if __name__ == "__main__":

@@ -5,7 +5,6 @@
 What isn't on the machine is left out: go, ghc, luajit, lua5.4, pypy3 (Debian's packages golang, ghc, luajit, lua5.4, pypy3). What
 each prints for a workload must be what kahn prints for it, but for the ends of its processes.
 """
-import os
 import shutil
 import subprocess
 import sys
@@ -17,48 +16,38 @@ import workloads
 HERE = workloads.HERE
 SIZES = {"pipeline": 1_000_000, "sample": 200_000, "pipelines": 10_000, "arithmetic": 10_000_000}
 BOUND = str(2**48 - 1)
-
-
-def built(room):
-    """The peers that are here: name to the words of a run."""
-    found = {}
-    if shutil.which("ghc"):
-        subprocess.run(["ghc", "-v0", "-O2", "-outputdir", f"{room}/hs", "-o", f"{room}/haskell", f"{HERE}/beside.hs"], check=True)
-        found["Haskell's lists"] = lambda name, size: [f"{room}/haskell", name, size]
-    if shutil.which("go"):
-        subprocess.run(["go", "build", "-o", f"{room}/go", f"{HERE}/beside.go"], check=True)
-        found["Go, room 1,024"] = lambda name, size: [f"{room}/go", name, size, "1024"]
-        found["Go, no room"] = lambda name, size: [f"{room}/go", name, size, "0"]
-    for name, title in (("luajit", "LuaJIT"), ("lua5.4", "Lua")):
-        if shutil.which(name):
-            found[title] = lambda workload, size, name=name: [name, f"{HERE}/beside.lua", workload, size]
-    if shutil.which("pypy3"):
-        found["PyPy"] = lambda name, size: ["pypy3", f"{HERE}/beside.py", name, size]
-    return found
+# A peer: its tool, how it is built, and the words of a run before and behind the workload's name and size.
+PEERS = {
+    "Haskell's lists": ("ghc", ["ghc", "-v0", "-O2", "-outputdir", "ROOM/hs", "-o", "ROOM/haskell", f"{HERE}/beside.hs"], ["ROOM/haskell"], []),
+    "Go, room 1,024": ("go", ["go", "build", "-o", "ROOM/go", f"{HERE}/beside.go"], ["ROOM/go"], ["1024"]),
+    "Go, no room": ("go", [], ["ROOM/go"], ["0"]),
+    "LuaJIT": ("luajit", [], ["luajit", f"{HERE}/beside.lua"], []),
+    "Lua": ("lua5.4", [], ["lua5.4", f"{HERE}/beside.lua"], []),
+    "PyPy": ("pypy3", [], ["pypy3", f"{HERE}/beside.py"], []),
+}
 
 
 def seconds(words):
     """The processor time of a run, and what it printed on channels."""
     with tempfile.TemporaryFile() as out:
-        ran = subprocess.Popen(words, stdout=out)
-        _, status, used = os.wait4(ran.pid, 0)
-        if status:
-            sys.exit(f"{words[0]} ended with {status}")
+        used = workloads.used(words, stdout=out)
         out.seek(0)
         return used.ru_utime + used.ru_stime, [line for line in out if line.startswith(b"W")]
 
 
 def main(kahn, *words):
-    runs = int(words[1]) if words[:1] == ("--runs",) else 9
+    runs, _ = workloads.runs_of(words)
     with tempfile.TemporaryDirectory() as room:
-        peers = built(room)
+        def put(words):
+            return [word.replace("ROOM", room) for word in words]
+
+        peers = {name: peer for name, peer in PEERS.items() if shutil.which(peer[0])}
+        for _, build, _, _ in peers.values():
+            subprocess.run(put(build) or ["true"], check=True)
         print(f"{'':12}" + "".join(f" {name:>16}" for name in ("kahn", *peers)))
         for name, size in SIZES.items():
-            program = f"{room}/{name}.kahn"
-            with open(program, "w", encoding="utf-8") as it:
-                it.write(getattr(workloads, name)(size))
-            ways = {"kahn": [kahn, program, "--workers", "1", "--bound", BOUND]}
-            ways.update((peer, words_of(name, str(size))) for peer, words_of in peers.items())
+            ways = {"kahn": [kahn, workloads.put(room, name, workloads.made(name, size)), "--workers", "1", "--bound", BOUND]}
+            ways |= {peer: [*put(before), name, str(size), *behind] for peer, (_, _, before, behind) in peers.items()}
             least, wanted = dict.fromkeys(ways, float("inf")), None
             for _ in range(runs):
                 for peer, way in ways.items():

@@ -1,177 +1,66 @@
-"""The workloads of bench/, as texts of programs by their size."""
+"""The workloads of bench/, as texts of programs by their size: NAME(SIZE ..) for each of workloads.txt, and for arithmetic.kahn (turns),
+pipeline.kahn (values) and sample.kahn (turns)."""
+import functools
 import os
+import re
+import subprocess
 
 HERE = os.path.dirname(os.path.abspath(__file__))
-
-COUNT = """  process count(integer out W; integer N);
-  begin integer I; while I < N do begin send I on W; I := I + 1 end end;
-"""
-COPY = """  process copy(integer in U; integer out W);
-  begin repeat send wait(U) on W end;
-"""
+KEPT = {"arithmetic": 10_000_000, "pipeline": 1_000_000, "sample": 200_000}
 
 
-def kept(name, was, size):
-    """A program of this folder with another size."""
-    with open(f"{HERE}/{name}.kahn", encoding="utf-8") as it:
-        return it.read().replace(str(was), str(size))
+def text_of(name):
+    with open(f"{HERE}/{name}", encoding="utf-8") as it:
+        return it.read()
 
 
-def arithmetic(turns):
-    """One process with so many turns of arithmetic, six flat instructions each."""
-    return kept("arithmetic", 10000000, turns)
+TEXTS = {words.split()[0]: (words.split()[1:], text) for words, text in re.findall(r"(?m)^== (.*)\n((?:.+\n)+)", text_of("workloads.txt"))}
 
 
-def polynomial(turns):
-    """One process with so many turns of eight flat instructions."""
-    return f"""begin integer output channel W;
-  process sum(integer out W; integer N);
-  begin integer I, J, S;
-    I := 5;
-    while J < N do begin S := (S * 3 + I * J + 7) mod 1000003; J := J + 1 end;
-    send S on W
-  end;
-  sum(W, {turns})
-end
-"""
+def repeated(found, values):
+    """The text for each number from one to another."""
+    first, last = (eval(it, {}, values) for it in found.group(1, 2))
+    numbers = range(first, last + 1) if first <= last else range(first, last - 1, -1)
+    return found[3].join(re.sub(r"#([+-]1)?", lambda it: str(number + int(it[1] or 0)), found[4]) for number in numbers)
 
 
-def pipeline(values):
-    """So many values through three copies."""
-    return kept("pipeline", 1000000, values)
+def made(name, *given):
+    """The text of a workload of this size."""
+    if name in KEPT:
+        return text_of(f"{name}.kahn").replace(str(KEPT[name]), str(*given))
+    words, text = TEXTS[name]
+    text = re.sub(r"@(\w+)\n", lambda it: TEXTS[it[1]][1], text)
+    values = {word.split("=")[0]: given[at] if at < len(given) else int(word.split("=")[1]) for at, word in enumerate(words)}
+    text = re.sub(r"\$(\w+)", lambda it: str(values[it[1]]), text)
+    return re.sub(r"(?s)\[\[(\S+?)\.\.(\S+) (.*?)\|(.*?)\]\]", lambda it: repeated(it, values), text)
 
 
-def sample(turns):
-    """The sample network, two values round a ring, for so many turns."""
-    return kept("sample", 200000, turns)
+def __getattr__(name):
+    if name in KEPT or name in TEXTS:
+        return functools.partial(made, name)
+    raise AttributeError(name)
 
 
-def pipelines(values, number=64):
-    """Pipelines of one source and one copy, independent of one another, each of so many values."""
-    channels = "".join(f"  integer channel X{k}; integer output channel W{k};\n" for k in range(number))
-    calls = " par\n  ".join(f"count(X{k}, {values}) par copy(X{k}, W{k})" for k in range(number))
-    return f"begin\n{channels}{COUNT}{COPY}  {calls}\nend\n"
+def instructions(words, room):
+    """How many machine instructions a run takes, by `valgrind`."""
+    ran = subprocess.run(["valgrind", "--tool=callgrind", f"--callgrind-out-file={room}/calls", *words], capture_output=True, text=True, check=True)
+    return int(re.search(r"refs:\s+([\d,]+)", ran.stderr)[1].replace(",", ""))
 
 
-def ring(rounds, number=256, against=False):
-    """One value round a ring of so many processes, declared along its way or against it."""
-    channels = ", ".join(f"X{k}" for k in range(number))
-    calls = [f"first(X{number - 1}, X0, {rounds})"] + [f"copy(X{k - 1}, X{k})" for k in range(1, number)]
-    calls = calls[::-1] if against else calls
-    return f"""begin integer channel {channels};
-  process first(integer in U; integer out W; integer N);
-  begin integer I; send 0 on W; while I < N do begin send wait(U) on W; I := I + 1 end end;
-{COPY}  {" par ".join(calls)}
-end
-"""
+def runs_of(words):
+    """The number of runs that the words of a command line begin with, as `--runs N`, or nine; and the other words."""
+    return (int(words[1]), words[2:]) if words[:1] == ("--runs",) else (9, words)
 
 
-def chain(values, number=256):
-    """So many values through a pipeline of so many processes, declared from its end."""
-    channels = ", ".join(f"X{k}" for k in range(1, number))
-    calls = [f"count(X1, {values})"] + [f"copy(X{k}, X{k + 1})" for k in range(1, number - 1)] + [f"copy(X{number - 1}, W)"]
-    return f"begin integer channel {channels}; integer output channel W;\n{COUNT}{COPY}  {' par '.join(calls[::-1])}\nend\n"
+def put(room, name, text):
+    """A file for a program."""
+    with open(f"{room}/{name}.kahn", "w", encoding="utf-8") as it:
+        it.write(text)
+    return it.name
 
 
-WORK = """  process work(integer out W; integer N);
-  begin integer I, S;
-    while I < N do begin S := (S * 3 + I + 7) mod 1000003; I := I + 1 end;
-    send S on W
-  end;
-"""
-
-
-def outputs(number, name="W"):
-    return "integer output channel " + ", ".join(f"{name}{k}" for k in range(number)) + ";"
-
-
-def farm(turns, number=8):
-    """So many processes of arithmetic, independent of one another, of so many turns each."""
-    return f"begin {outputs(number)}\n{WORK}  {' par '.join(f'work(W{k}, {turns})' for k in range(number))}\nend\n"
-
-
-def serial(first, turns, number=4):
-    """One process of so many turns, which then starts others that take so many each."""
-    channels = ", ".join(f"X{k}" for k in range(number))
-    sends = "; ".join(f"send S on A{k}" for k in range(number))
-    heads = "; ".join(f"integer out A{k}" for k in range(number))
-    calls = [f"first({channels}, {first})"] + [f"work(X{k}, W{k}, {turns})" for k in range(number)]
-    return f"""begin integer channel {channels}; {outputs(number)}
-  process first({heads}; integer N);
-  begin integer I, S;
-    while I < N do begin S := (S * 3 + I + 7) mod 1000003; I := I + 1 end;
-    {sends}
-  end;
-  process work(integer in U; integer out W; integer N);
-  begin integer I, S;
-    S := wait(U);
-    while I < N do begin S := (S * 3 + I + 7) mod 1000003; I := I + 1 end;
-    send S on W
-  end;
-  {" par ".join(calls)}
-end
-"""
-
-
-def stages(values, number=4, assignments=300):
-    """So many values through processes that do so many assignments for each, and a copy behind them."""
-    channels = ", ".join(f"X{k}" for k in range(number + 1))
-    body = "; ".join(["S := S + V"] * assignments)
-    calls = [f"count(X0, {values})"] + [f"stage(X{k}, X{k + 1})" for k in range(number)] + [f"copy(X{number}, W)"]
-    return f"""begin integer channel {channels}; integer output channel W;
-{COUNT}{COPY}  process stage(integer in U; integer out W);
-  begin integer S, V;
-    repeat begin V := wait(U); S := V mod 1000; {body}; send S mod 1000 on W end
-  end;
-  {" par ".join(calls)}
-end
-"""
-
-
-def operators(values, number=7, operators=20):
-    """So many values through a pipeline of so many processes; all but the source apply so many operators to each."""
-    channels = ", ".join(f"X{k}" for k in range(number - 1))
-    body = " + 1" * operators
-    calls = [f"count(X0, {values})"] + [f"stage(X{k}, X{k + 1})" for k in range(number - 2)] + [f"stage(X{number - 2}, W)"]
-    return f"""begin integer channel {channels}; integer output channel W;
-{COUNT}  process stage(integer in U; integer out W);
-  begin repeat send wait(U){body} on W end;
-  {" par ".join(calls)}
-end
-"""
-
-
-def dealt(rounds, number=8, assignments=100):
-    """One process deals values to so many, which do so many assignments for each, and one gathers the results."""
-    names = [", ".join(f"{letter}{k}" for k in range(number)) for letter in "XY"]
-    deals, gathers = ("; ".join(f"integer {way} A{k}" for k in range(number)) for way in ("out", "in"))
-    sends = "; ".join(f"send I + {k} on A{k}" for k in range(number))
-    sums = " + ".join(f"wait(A{k})" for k in range(number))
-    body = "; ".join(["S := S + V"] * assignments)
-    calls = [f"deal({names[0]}, {rounds})", f"gather({names[1]}, W)"] + [f"work(X{k}, Y{k})" for k in range(number)]
-    return f"""begin integer channel {names[0]}, {names[1]}; integer output channel W;
-  process deal({deals}; integer N);
-  begin integer I; while I < N do begin {sends}; I := I + 1 end end;
-  process gather({gathers}; integer out W);
-  begin repeat send ({sums}) mod 1000 on W end;
-  process work(integer in U; integer out W);
-  begin integer S, V; repeat begin V := wait(U); S := V mod 1000; {body}; send S mod 1000 on W end end;
-  {" par ".join(calls)}
-end
-"""
-
-
-def star(rounds, number):
-    """One process that sends so many values to each of so many readers."""
-    channels = ", ".join(f"X{k}" for k in range(number))
-    heads = "; ".join(f"integer out A{k}" for k in range(number))
-    sends = "; ".join(f"send I on A{k}" for k in range(number))
-    calls = [f"deal({channels}, {rounds})"] + [f"read(X{k})" for k in range(number)]
-    return f"""begin integer channel {channels};
-  process deal({heads}; integer N);
-  begin integer I; while I < N do begin {sends}; I := I + 1 end end;
-  process read(integer in U);
-  begin integer S; repeat S := S + wait(U) end;
-  {" par ".join(calls)}
-end
-"""
+def used(words, **more):
+    """What a run took, as `wait4` tells it; one that fails ends this script."""
+    ran = subprocess.Popen(words, **more)
+    _, status, took = os.wait4(ran.pid, 0)
+    return took if status == 0 else exit(f"{words[0]} ended with {status}")
