@@ -47,26 +47,17 @@ class Maker:
         if depth <= 0 or self.chance(0.3):
             return self.leaf(kind)
         if self.chance(0.12):
-            return f"if {self.expr('logical', depth - 1)} then {self.expr(kind, depth - 1)} else {self.expr(kind, depth - 1)}" if self.chance(0.3) else \
-                f"(if {self.expr('logical', depth - 1)} then {self.expr(kind, depth - 1)} else {self.expr(kind, depth - 1)})"
+            text = f"if {self.expr('logical', depth - 1)} then {self.expr(kind, depth - 1)} else {self.expr(kind, depth - 1)}"
+            return text if self.chance(0.3) else f"({text})"
         if kind == "integer":
-            form = self.r.random()
-            if form < 0.15:
+            if self.chance(0.15):
                 return f"-{self.part('integer', depth)}"
-            sign = self.pick("+", "-", "*", "div", "mod", "+", "-")
-            out = self.part("integer", depth)
-            for _ in range(self.r.randint(1, 3)):
-                out += f" {sign} {self.part('integer', depth)}"
-                sign = self.pick("+", "-", "*", "div", "mod")
-            return out
-        form = self.r.random()
-        if form < 0.2:
+            signs = [self.pick("+", "-", "*", "div", "mod", "+", "-") for _ in range(self.r.randint(1, 3))]
+            return self.part("integer", depth) + "".join(f" {sign} {self.part('integer', depth)}" for sign in signs)
+        if self.chance(0.2):
             return f"{self.pick('not ', 'NOT ', '¬', '¬ ')}{self.part('logical', depth)}"
-        if form < 0.4:
-            return f"{self.part('logical', depth)} {self.pick('and', 'or')} {self.part('logical', depth)}"
-        if form < 0.55:
-            return f"{self.part('logical', depth)} {self.pick('=', '<>')} {self.part('logical', depth)}"
-        return f"{self.part('integer', depth)} {self.pick('=', '<>', '<', '<=', '>', '>=')} {self.part('integer', depth)}"
+        kind, sign = self.pick(("logical", self.pick("and", "or", "=", "<>")), ("integer", self.pick(*ref.COMPARISONS)))
+        return f"{self.part(kind, depth)} {sign} {self.part(kind, depth)}"
 
     def part(self, kind, depth):
         if self.chance(0.5):
@@ -215,25 +206,15 @@ def broken(rng, text):
         dark = [i for i, p in enumerate(parts) if p.strip()]
         if not dark:
             break
-        i = rng.choice(dark)
-        if form < 0.2:
-            del parts[i]
-        elif form < 0.4:
-            parts.insert(i, rng.choice(ODD) + " ")
-        elif form < 0.6:
-            parts[i] = rng.choice(ODD)
-        elif form < 0.75:
-            j = rng.choice(dark)
-            parts[i], parts[j] = parts[j], parts[i]
+        i, j = rng.choice(dark), rng.choice(dark)
+        if form < 0.75:
+            parts[i : i + (not 0.2 < form < 0.4)] = [] if form < 0.2 else [rng.choice(ODD) + " " * (form < 0.4)] if form < 0.6 else [parts[j]]
         elif form < 0.85:
             parts.insert(i, parts[i] + " ")
         elif form < 0.9:
             del parts[i:]
         else:
-            # a name for another name
-            names = [p for p in parts if p[0].isalpha() and p.lower() not in ref.KEYWORDS]
-            if names and parts[i] in names:
-                parts[i] = rng.choice(names)
+            parts[i], parts[j] = parts[j], parts[i]
     return "".join(parts)
 
 
@@ -253,29 +234,16 @@ def renamed(rng, text):
 def deep(rng):
     """A text near the limit of nesting."""
     n = rng.randint(62, 66)
-    form = rng.randint(0, 6)
-    if form == 0:
-        e = "(" * n + "1" + ")" * n
-        return f"begin process p(); begin print {e} end; p() end"
-    if form == 1:
-        return f"begin process p(); begin logical B; B := {'not ' * n}true end; p() end"
-    if form == 2:
-        return f"begin process p(); begin integer I; I := {'-' * n}1 end; p() end"
-    if form == 3:
-        return f"begin process p(); begin {'begin ' * n}{'end ' * n} end; p() end"
-    if form == 4:
-        return f"begin process p(); begin {'if true then ' + ' else if false then ' * (n - 1)} end; p() end"
-    if form == 5:
-        return f"begin process p(); begin print {'if true then ' * n}1{' else 2' * n} end; p() end"
-    return f"begin process p(); begin {'while false do ' * n} end; p() end"
+    body = rng.choice((f"print {'(' * n}1{')' * n}", f"logical B; B := {'not ' * n}true", f"integer I; I := {'-' * n}1", f"{'begin ' * n}{'end ' * n}",
+                       f"if true then {' else if false then ' * (n - 1)}", f"print {'if true then ' * n}1{' else 2' * n}", "while false do " * n))
+    return f"begin process p(); begin {body} end; p() end"
 
 
 def bytes_of(rng, text):
-    data = text.encode()
+    data = bytearray(text.encode())
     if rng.random() < 0.01 and data:
-        at = rng.randrange(len(data))
-        data = data[:at] + bytes([rng.randrange(128, 256)]) + data[at + 1:]
-    return data
+        data[rng.randrange(len(data))] = rng.randrange(128, 256)
+    return bytes(data)
 
 
 def case(seed):
@@ -299,14 +267,6 @@ def case(seed):
             rng.choice((None, 1, 2, 3, 8, 16)), rng.choice((None, 1, 2, 7, 1000000)), rng.random() < 0.5)
 
 
-def words_of(watch, bound, workers, quantum):
-    out = ["--bound", str(bound)]
-    for name, value in (("--watch", watch), ("--workers", workers), ("--quantum", quantum)):
-        if value is not None:
-            out += [name, str(value)]
-    return out
-
-
 def asked(*words, text=b""):
     """What a program gives."""
     return subprocess.run(words, input=text, capture_output=True, timeout=600)
@@ -315,7 +275,8 @@ def asked(*words, text=b""):
 def one(program, at, seed):
     """Runs a case, with its texts in files that begin so: (None, what kind of case it was), or (what differs, the words)."""
     text, source, watch, bound, workers, quantum, piped = case(seed)
-    words = [program, *words_of(watch, bound, workers, quantum)]
+    options = {"--bound": bound, "--watch": watch, "--workers": workers, "--quantum": quantum}
+    words = [program, *(str(it) for option, value in options.items() if value is not None for it in (option, value))]
     write(at + ".kahn", text)
     if source is not None:
         words += ["--input", write(at + ".input", source)]
@@ -330,15 +291,11 @@ def difference(ran, wanted):
     """What is wrong with a run, or None. A run that is too long to follow has no wanted status."""
     if wanted.status is None:
         return None
-    if ran.returncode != wanted.status:
-        return f"status {ran.returncode}, not {wanted.status}: {ran.stderr[:200]!r} not {(wanted.err or b'')[:200]!r}"
-    if ran.stderr != wanted.err:
-        return f"standard error {ran.stderr!r}, not {wanted.err!r}"
+    if (ran.returncode, ran.stderr) != (wanted.status, wanted.err):
+        return f"status {ran.returncode}, not {wanted.status}: {ran.stderr!r} not {wanted.err!r}"
     if wanted.stopped:
         return wanted.stopped(ran.stdout)
-    if ran.stdout != wanted.out:
-        return f"standard output {ran.stdout!r}, not {wanted.out!r}"
-    return None
+    return f"standard output {ran.stdout!r}, not {wanted.out!r}" if ran.stdout != wanted.out else None
 
 
 def kind_of(wanted):
