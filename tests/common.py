@@ -13,30 +13,17 @@ YARDSTICK = [sys.executable, "-c", "x = list(range(2_000_000)); x.sort(key=lambd
 NAMES = ("kahn", "kahn_live", "kahn_draw", "kahn_explain")
 
 
-def launcher(*words):
-    """The status of a function of release/program.sh, and what it prints."""
-    done = subprocess.run(["bash", "-c", 'top=$1; source "$top/release/program.sh"; "${@:2}"', "bash", TOP, *words], stdout=subprocess.PIPE,
-                          stderr=subprocess.STDOUT, check=False)
-    return done.returncode, done.stdout
+FIND = 'top=$1; source "$top/release/program.sh"; find_built "$2" && echo "$program"'
+# The program whose workers all begin at once, which isn't released.
+CROWD = os.path.realpath(os.environ.get("KAHN_CROWD", f"{TOP}/crates/kahn_crowd/out/kahn_crowd"))
 
 
 def program(name):
     """The path of a program: the one that a variable such as KAHN_LIVE names, or else that of this tree, as ./kahn_live finds it."""
     path = os.environ.get(name.upper())
     if not path:
-        status, said = launcher("eval", f'find_built {name} && echo "$program"')
-        if status:
-            sys.exit(said.decode())
-        path = said.decode().splitlines()[-1]
+        path = subprocess.run(["bash", "-c", FIND, "bash", TOP, name], stdout=subprocess.PIPE, text=True).stdout.strip()
     path = os.path.realpath(path)
-    if not os.access(path, os.X_OK):
-        sys.exit(f"there is no program {path}")
-    return path
-
-
-def crowd():
-    """The program whose workers all begin at once, which isn't released."""
-    path = os.path.realpath(os.environ.get("KAHN_CROWD", f"{TOP}/crates/kahn_crowd/out/kahn_crowd"))
     return path if os.access(path, os.X_OK) else sys.exit(f"there is no program {path}")
 
 

@@ -72,8 +72,15 @@ def try_sessions(paths, work, programs, words, tried):
             sessions.rewrite(path, given)
 
     with concurrent.futures.ThreadPoolExecutor(os.cpu_count()) as pool:
-        for done in [pool.submit(one, number, path) for number, path in enumerate(paths)]:
-            done.result()
+        list(pool.map(one, range(len(paths)), paths))
+
+
+def try_pages(pages, work, programs, words, tried):
+    folder = common.TOP if words.here else f"{work}/tree"
+    if not words.here:
+        os.mkdir(folder)
+        sessions.copy_tree(programs, folder)
+    sessions.try_pages(folder, pages, words.only, tried)
 
 
 def try_part(part, work, words, tried):
@@ -82,25 +89,19 @@ def try_part(part, work, words, tried):
     os.mkdir(programs)
     for name in common.NAMES:
         os.symlink(common.program(name), f"{programs}/{name}")
-    if part in ("rows", "crowd"):
-        rows.try_rows(common.crowd() if part == "crowd" else f"{programs}/kahn", work, words.only, tried)
-    elif part == "pages" or part.endswith(".md"):
-        folder = common.TOP if words.here else f"{work}/tree"
-        if not words.here:
-            os.mkdir(folder)
-            sessions.copy_tree(programs, folder)
-        sessions.try_pages(folder, sessions.pages() if part == "pages" else [part], words.only, tried)
-    elif part == "sessions" or part.startswith("tests/"):
-        paths = sessions.sessions() if part == "sessions" else [os.path.join(common.TOP, part)] if part.endswith(".t") else sessions.sessions_in(part)
-        try_sessions(paths, work, programs, words, tried)
+    if part in TESTS:
+        try_module(part, words.only, tried)
+    elif part in ("rows", "crowd"):
+        rows.try_rows(common.CROWD if part == "crowd" else f"{programs}/kahn", work, words.only, tried)
     elif part == "notes":
         notes.try_notes(f"{programs}/kahn_explain", words, tried)
     elif part == "worst":
         worst.try_worst({name: os.path.realpath(f"{programs}/{name}") for name in common.NAMES}, work, words.only, tried)
-    elif part in TESTS:
-        try_module(part, words.only, tried)
+    elif part == "pages" or part.endswith(".md"):
+        try_pages(sessions.pages() if part == "pages" else [part], work, programs, words, tried)
     else:
-        tried.fail(f"there is no part {part}")
+        paths = sessions.sessions_in("tests/kahn*" if part == "sessions" else part)
+        try_sessions(paths, work, programs, words, tried) if paths else tried.fail(f"there is no part {part}")
 
 
 def main():

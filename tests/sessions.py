@@ -104,12 +104,9 @@ def rewrite(path, given):
     write(path, "\n".join(lines))
 
 
-def sessions_in(folders):
-    return sorted(glob.glob(f"{TOP}/{folders}/*.t"))
-
-
-def sessions():
-    return sessions_in("tests/kahn*")
+def sessions_in(place):
+    """The sessions of folders, or the one, by the path from the top."""
+    return sorted(glob.glob(f"{TOP}/{place}" if place.endswith(".t") else f"{TOP}/{place}/*.t"))
 
 
 def pages():

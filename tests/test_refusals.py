@@ -10,10 +10,9 @@ import itertools
 import os
 
 import common
-from common import TOP, Room, read
+from common import CROWD, TOP, Room, read
 
 KAHN, LIVE = common.program("kahn"), common.program("kahn_live")
-CROWD = os.path.realpath(os.environ.get("KAHN_CROWD", f"{TOP}/crates/kahn_crowd/out/kahn_crowd"))
 HAS_CROWD = os.access(CROWD, os.X_OK)
 COPIES = """begin integer channel X0, X1, X2; integer output channel W;
   process count(integer out W; integer N);
