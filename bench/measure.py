@@ -16,8 +16,6 @@ import time
 
 sys.dont_write_bytecode = True
 import workloads
-
-sys.path.append(f"{workloads.HERE}/../tests")
 from common import program as program_of
 
 WORKERS = (1, 2, 4, 16)

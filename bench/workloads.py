@@ -4,8 +4,12 @@ import functools
 import os
 import re
 import subprocess
+import sys
 
 HERE = os.path.dirname(os.path.abspath(__file__))
+sys.path.append(f"{HERE}/../tests")
+import texts
+
 KEPT = {"arithmetic": 10_000_000, "pipeline": 1_000_000, "sample": 200_000}
 
 
@@ -14,14 +18,7 @@ def text_of(name):
         return it.read()
 
 
-TEXTS = {words.split()[0]: (words.split()[1:], text) for words, text in re.findall(r"(?m)^== (.*)\n((?:.+\n)+)", text_of("workloads.txt"))}
-
-
-def repeated(found, values):
-    """The text for each number from one to another."""
-    first, last = (eval(it, {}, values) for it in found.group(1, 2))
-    numbers = range(first, last + 1) if first <= last else range(first, last - 1, -1)
-    return found[3].join(re.sub(r"#([+-]1)?", lambda it: str(number + int(it[1] or 0)), found[4]) for number in numbers)
+TEXTS = {heading.split()[0]: (heading.split()[1:], lines[""]) for heading, lines in texts.sections(f"{HERE}/workloads.txt")}
 
 
 def made(name, *given):
@@ -29,10 +26,8 @@ def made(name, *given):
     if name in KEPT:
         return text_of(f"{name}.kahn").replace(str(KEPT[name]), str(*given))
     words, text = TEXTS[name]
-    text = re.sub(r"@(\w+)\n", lambda it: TEXTS[it[1]][1], text)
     values = {word.split("=")[0]: given[at] if at < len(given) else int(word.split("=")[1]) for at, word in enumerate(words)}
-    text = re.sub(r"\$(\w+)", lambda it: str(values[it[1]]), text)
-    return re.sub(r"(?s)\[\[(\S+?)\.\.(\S+) (.*?)\|(.*?)\]\]", lambda it: repeated(it, values), text)
+    return texts.expanded(text, values, texts={other: it for other, (_, it) in TEXTS.items()}) + "\n"
 
 
 def __getattr__(name):
