@@ -15,7 +15,7 @@ TOP = os.path.dirname(os.path.dirname(os.path.abspath(__file__)))
 
 def valued(text, values):
     text = re.sub(r"\$([a-z_]+)", lambda it: str(values[it[1]]), text)
-    return re.sub(r"<<(.*?)>>", lambda it: str(eval(it[1], {}, values)), text)
+    return re.sub(r"<<(.*?)>>", lambda it: str(eval(it[1], {**values})), text)
 
 
 def included(name, texts):
@@ -26,7 +26,7 @@ def included(name, texts):
 
 
 def repeated(first, last, separator, text, values):
-    first, last = (eval(it, {}, values) for it in (first, last))
+    first, last = (eval(it, {**values}) for it in (first, last))
     text = valued(text, values) if "#" not in text or "<<" not in text else text
     numbers = range(first, last + 1) if first <= last else range(first, last - 1, -1)
     return separator.join(valued(text.replace("#", str(number)), values) if "<<" in text else text.replace("#", str(number)) for number in numbers)
@@ -36,7 +36,7 @@ def expanded(text, values, most=0, texts={}):
     """The text; `values` gets the number of `units` with which it was filled up to the most bytes."""
     text = re.sub(r"@([\w./-]+)", lambda it: included(it[1], texts), text.replace("\\n", "\n"))
     text = re.sub(r"(?s)\[\[([^\s\[\]|*]+?)\.\.(\S+) (.*?)\|(.*?)\]\]", lambda it: repeated(*it.groups(), values), text)
-    fill = re.search(r"\[\[\*(\+1)? (.*?)\|(.*?)\]\]", text)
+    fill = re.search(r"(?s)\[\[\*(\+1)? (.*?)\|(.*?)\]\]", text)
     if not fill:
         return valued(text, values)
     before, behind, unit = (valued(it, values) for it in (text[:fill.start()], text[fill.end():], fill[3]))
