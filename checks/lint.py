@@ -26,6 +26,7 @@ FUNCTION = re.compile(r"^( *)(?:pub(?:\([a-z]+\))? )?(?:unsafe )?fn (\w+)")
 PUBLIC = re.compile(r"^ *pub (?:unsafe )?(fn|struct|enum|trait|type|const|static) (\w+)")
 TAKEN = re.compile(r"^ *(?:ghost |pub )?use Rattle\.kahn_\w+\.[\w.]*\.\{[^}]*◌", re.M)
 DEFINED = re.compile(r"^(?: *abbrev pub |(?:abbrev |unfoldable )?(?:pub )?(?:record |data )?)([^\s:(={]+)(?: [^=]*)?:")
+SOURCES, SPECS, PROOFS = "src/**/*.rt", "specs/**/*.antt", "proofs/**/*.antt"
 
 
 def files(*patterns):
@@ -39,20 +40,14 @@ def line_of(text, at):
     return text.count("\n", 0, at) + 1
 
 
-def clause_from(text, start, opened):
-    """The clause that begins there and whose brace was opened before the second place, in one line."""
-    depth = 1
-    for at in range(opened, len(text)):
-        depth += {"{": 1, "}": -1}.get(text[at], 0)
-        if depth == 0:
-            return " ".join(text[start : at + 1].split())
-    return ""
-
-
 def long_clauses():
-    for path, text in files("src/**/*.rt"):
+    for path, text in files(SOURCES):
         for found in CLAUSE.finditer(text):
-            length = len(clause_from(text, found.start(), found.end()))
+            depth, at = 1, found.end()
+            while depth:
+                depth += {"{": 1, "}": -1}.get(text[at], 0)
+                at += 1
+            length = len(" ".join(text[found.start() : at].split()))
             if length > LONG_CLAUSE:
                 yield f"{path}:{line_of(text, found.start())}: {length} characters"
 
@@ -70,59 +65,51 @@ def body_from(lines, start, indent):
     return [line for line in body if line.strip() and not line.strip().startswith("//")]
 
 
-def long_bodies():
-    for path, text in files("src/**/*.rt"):
+def found_lines(pattern, *patterns):
+    """The lines of files that fit: (path, all lines, number from 0, match)."""
+    for path, text in files(*patterns):
         lines = text.split("\n")
         for at, line in enumerate(lines):
-            found = FUNCTION.match(line)
-            if found:
-                length = len(body_from(lines, at, found.group(1)))
-                if length > LONG_BODY:
-                    yield f"{path}:{at + 1}: {found.group(2)}, {length} lines"
+            if found := pattern.match(line):
+                yield path, lines, at, found
+
+
+def long_bodies():
+    for path, lines, at, found in found_lines(FUNCTION, SOURCES):
+        length = len(body_from(lines, at, found[1]))
+        if length > LONG_BODY:
+            yield f"{path}:{at + 1}: {found[2]}, {length} lines"
 
 
 def long_files():
-    for path, text in files("src/**/*.rt", "specs/**/*.antt", "proofs/**/*.antt"):
-        length = text.count("\n")
-        if length > LONG_FILE:
-            yield f"{path}: {length} lines"
+    lengths = ((path, text.count("\n")) for path, text in files(SOURCES, SPECS, PROOFS))
+    return (f"{path}: {length} lines" for path, length in lengths if length > LONG_FILE)
 
 
 def without_head():
     """Sources and definitions whose first line doesn't say what they are; lists of modules say nothing."""
-    for path, text in files("src/**/*.rt", "specs/**/*.antt"):
-        if not text.startswith(("//!", "-- ")) and os.path.basename(path) not in ("Lib.antt", "inner.antt"):
-            yield path
+    return (path for path, text in files(SOURCES, SPECS) if not text.startswith(("//!", "-- ")) and os.path.basename(path) not in ("Lib.antt", "inner.antt"))
 
 
 def without_words():
-    for path, text in files("src/**/*.rt"):
-        lines = text.split("\n")
-        for at, line in enumerate(lines):
-            found = PUBLIC.match(line)
-            before = at - 1
-            while before >= 0 and lines[before].strip().startswith("#["):
-                before -= 1
-            if found and not (before >= 0 and lines[before].strip().startswith("///")):
-                yield f"{path}:{at + 1}: {found.group(2)}"
+    for path, lines, at, found in found_lines(PUBLIC, SOURCES):
+        before = [line.strip() for line in lines[:at] if not line.strip().startswith("#[")][-1:]
+        if not before or not before[0].startswith("///"):
+            yield f"{path}:{at + 1}: {found[2]}"
 
 
 def names_twice():
     """Names that specs/ of the crates define in more places than one."""
     places = collections.defaultdict(list)
-    for path, text in files("specs/**/*.antt"):
-        for at, line in enumerate(text.split("\n")):
-            found = DEFINED.match(line)
-            if found and not line.startswith(("--", "pub use ", "use ", "module ")):
-                places[found.group(1)].append(f"{path}:{at + 1}")
-    for name, where in sorted(places.items()):
-        if len(where) > 1:
-            yield f"{name}: {', '.join(where)}"
+    for path, lines, at, found in found_lines(DEFINED, SPECS):
+        if not lines[at].startswith(("--", "pub use ", "use ", "module ")):
+            places[found[1]].append(f"{path}:{at + 1}")
+    return (f"{name}: {', '.join(where)}" for name, where in sorted(places.items()) if len(where) > 1)
 
 
 def strange_operators():
     """Operators of the library that a clause or a definition takes from a file of ours, at which rt ci stops and rt check doesn't."""
-    for path, text in files("src/**/*.rt", "specs/**/*.antt"):
+    for path, text in files(SOURCES, SPECS):
         for found in TAKEN.finditer(text):
             yield f"{path}:{line_of(text, found.start())}: take it from Rattle.std.specs.Prelude"
 
@@ -145,10 +132,9 @@ def unfit_edits():
 
 def not_laid_out():
     """Files that `rt fmt` would change: rt ci takes the crate of such a file for one that isn't proved."""
-    rt = shutil.which("rt")
-    if rt:
+    if rt := shutil.which("rt"):
         rattle = f"{os.path.dirname(os.path.realpath(rt))}/rattle"
-        all_files = [f"{TOP}/{path}" for path, _ in files("src/**/*.rt", "specs/**/*.antt", "proofs/**/*.antt")]
+        all_files = [f"{TOP}/{path}" for path, _ in files(SOURCES, SPECS, PROOFS)]
         said = subprocess.run([rattle, "fmt", "--check", *all_files], stderr=subprocess.PIPE, text=True, check=False).stderr
         yield from (line.replace(f"{TOP}/", "") for line in said.splitlines() if line.endswith(" is not in the layout"))
 
@@ -166,23 +152,13 @@ PARTS = {
 }
 
 
-def limits():
-    found = {}
-    for line in read(LIMITS).splitlines():
-        if line and not line.startswith("#"):
-            number, part = line.split(" ", 1)
-            found[part] = int(number)
-    return found
-
-
 def main():
-    allowed, failed = limits(), 0
+    limits = (line.split(" ", 1) for line in read(LIMITS).splitlines() if line and not line.startswith("#"))
+    allowed, failed = {part: int(number) for number, part in limits}, 0
     for part, places in PARTS.items():
         found, most = list(places()), allowed.get(part, 0)
-        good = len(found) == most
-        failed += not good
-        what = "" if good else " FAILED: may not grow" if len(found) > most else " FAILED: lower the limit in checks/limits.txt"
-        print(f"{len(found):4} of {most:4} {part}{what}")
+        failed += len(found) != most
+        print(f"{len(found):4} of {most:4} {part}{['', ' FAILED: may not grow', ' FAILED: lower the limit in checks/limits.txt'][(len(found) > most) - (len(found) < most)]}")
         if "--all" in sys.argv or len(found) > most:
             print("".join(f"          {place}\n" for place in found), end="")
     print(f"{len(PARTS) - failed} passed, {failed} failed")
