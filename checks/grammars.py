@@ -25,38 +25,36 @@ ODD = """Begin comment: while; COMMENT 7; Integer i7, input_2; x := 7end <>-1¬t
   lines with begin and 12;
 end
 """
+PAGE = " ".join(text_of(f"{TOP}/docs/language.md").split())
+KEYWORDS = re.search(r"any letter case is a keyword: `([a-z ]+)`", PAGE)[1].split()
+SIGNS = re.findall(r"`([^`]+)`", re.search(r"\*\*Signs\*\* are (.*?) and the character U\+00AC", PAGE)[1])
+SIGN = "|".join(map(re.escape, sorted(SIGNS, key=len, reverse=True)))
+LEXEME = re.compile(rf"[ \t\r\n]+|(?P<comment>comment\b[^;]*;)|(?P<word>[A-Za-z]\w*)|(?P<number>[0-9]+)|(?P<keyword>¬)|(?P<sign>{SIGN})", re.I | re.A)
+# Writes the groups of all characters of a text, line by line.
+ASKED = """set nocompatible encoding=utf-8 synmaxcol=0
+edit text.kahn
+syntax on
+source SYNTAX
+let groups = []
+for row in range(1, line('$'))
+  call add(groups, join(map(range(strchars(getline(row))), {_, it -> synIDattr(synID(g:row, byteidx(getline(g:row), it) + 1, 1), 'name')}), ','))
+endfor
+call writefile(groups, 'groups')
+qall!
+"""
 
 
-def lists():
-    """The keywords and the signs of docs/language.md."""
-    page = " ".join(text_of(f"{TOP}/docs/language.md").split())
-    keywords = re.search(r"any letter case is a keyword: `([a-z ]+)`", page).group(1).split()
-    signs = re.findall(r"`([^`]+)`", re.search(r"\*\*Signs\*\* are (.*?) and the character U\+00AC", page).group(1))
-    return keywords, signs
-
-
-def lexemes(text, keywords, signs):
-    """The lexemes and comments of a text: (class, from, to)."""
-    at = 0
-    longest = sorted(signs, key=len, reverse=True)
+def lexemes(text):
+    """The lexemes and comments of a text: (class, from, to); or None if something in it is none."""
+    at, found = 0, []
     while at < len(text):
-        word = re.compile(r"[A-Za-z][A-Za-z0-9_]*").match(text, at)
-        number = re.compile(r"[0-9]+").match(text, at)
-        if text[at] in " \t\r\n":
-            at += 1
-            continue
-        if word and word.group().lower() == "comment":
-            what, to = "comment", text.index(";", at) + 1
-        elif word:
-            what, to = "keyword" if word.group().lower() in keywords else "name", word.end()
-        elif number:
-            what, to = "number", number.end()
-        elif text[at] == "\u00ac":
-            what, to = "keyword", at + 1
-        else:
-            what, to = "sign", at + len(next(sign for sign in longest if text.startswith(sign, at)))
-        yield what, at, to
-        at = to
+        it = LEXEME.match(text, at)
+        if not it or it[0].lower() == "comment":
+            return None
+        what, at = it.lastgroup, it.end()
+        if what:
+            found.append(("keyword" if what == "word" and it[0].lower() in KEYWORDS else "name" if what == "word" else what, *it.span()))
+    return found
 
 
 def textmate(text):
@@ -86,52 +84,28 @@ def textmate(text):
 def vim(text):
     """The group of each character, by Vim."""
     with tempfile.TemporaryDirectory() as folder:
-        path = write(f"{folder}/text.kahn", text)
-        write(f"{folder}/ask.vim", "\n".join([
-            "set nocompatible encoding=utf-8 synmaxcol=0", f"edit {path}", "syntax on", f"source {TOP}/editors/vim/syntax/kahn.vim",
-            "let groups = []", "for row in range(1, line('$'))", "  let names = []", "  for place in range(0, strchars(getline(row)) - 1)",
-            "    let column = byteidx(getline(row), place) + 1",
-            "    call add(names, synIDattr(synID(row, column, 1), 'name'))", "  endfor", "  call add(groups, join(names, ','))", "endfor",
-            f"call writefile(groups, '{folder}/groups')", "qall!", ""]))
-        subprocess.run(["vim", "-es", "-u", "NONE", "-i", "NONE", "-S", f"{folder}/ask.vim"], stdin=subprocess.DEVNULL, timeout=600)
+        write(f"{folder}/text.kahn", text)
+        write(f"{folder}/ask.vim", ASKED.replace("SYNTAX", f"{TOP}/editors/vim/syntax/kahn.vim"))
+        subprocess.run(["vim", "-es", "-u", "NONE", "-i", "NONE", "-S", "ask.vim"], cwd=folder, stdin=subprocess.DEVNULL, timeout=600)
         rows = [line.split(",") for line in text_of(f"{folder}/groups").split("\n")]
     return [name for row, line in zip(rows, text.splitlines()) for name in [*row[: len(line)], ""]]
 
 
-def differences(text, classes, names):
-    """The lexemes whose characters have another class than theirs: lines."""
-    for what, start, to in lexemes(text, *lists()):
-        wrong = [classes[k] for k in range(start, to) if text[k] != "\n" and classes[k] != names[what]]
-        if wrong:
-            yield f"{text[start:to]!r} at {start} is {wrong[0]}, wanted {names[what]}"
-
-
 def main():
-    texts = {"odd lexemes": ODD}
-    for path in sorted(glob.glob(f"{TOP}/examples/*.kahn") + glob.glob(f"{TOP}/checks/rows/*/program.kahn")):
-        text = re.sub("\r\n?", "\n", text_of(path))
-        if not path.startswith(f"{TOP}/examples") and not is_lexed(text):
-            continue
-        texts[os.path.relpath(path, TOP)] = text
-    grammars = [("TextMate", textmate, TEXTMATE)]
-    if shutil.which("vim"):
-        grammars.append(("Vim", vim, VIM))
-    else:
+    rows = {path: re.sub("\r\n?", "\n", text_of(path)) for path in sorted(glob.glob(f"{TOP}/checks/rows/*/program.kahn"))}
+    texts = {"odd lexemes": ODD, **{path: text_of(path) for path in sorted(glob.glob(f"{TOP}/examples/*.kahn"))}}
+    texts.update({path: text for path, text in rows.items() if lexemes(text)})
+    grammars = [("TextMate", textmate, TEXTMATE)] + [("Vim", vim, VIM)] * bool(shutil.which("vim"))
+    if not grammars[1:]:
         print("vim is not there (Debian's package vim): its grammar is not tested")
     tried = Tried()
     for grammar, classes_of, names in grammars:
-        for name, text in texts.items():
-            tried.same(f"{grammar}, {name}", list(differences(text, classes_of(text), names)), [])
+        for path, text in texts.items():
+            classes = classes_of(text)
+            wrong = [(text[start:to], start, classes[k], names[what]) for what, start, to in lexemes(text) for k in range(start, to)
+                     if text[k] != "\n" and classes[k] != names[what]]
+            tried.same(f"{grammar}, {os.path.relpath(path, TOP)}", wrong, [])
     return tried.finish()
-
-
-def is_lexed(text):
-    """Whether a text has lexemes: those of rows that are refused may have none."""
-    try:
-        list(lexemes(text, *lists()))
-    except (StopIteration, ValueError, RuntimeError):
-        return False
-    return True
 
 
 if __name__ == "__main__":

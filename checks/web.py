@@ -24,33 +24,8 @@ import web_tries
 SECONDS = 330
 SECONDS_TO_OPEN = 60
 
-# Runs cases, one after the other, and gives what the module answers for each: status, report, picture, why, and the run that keeps all channels.
-ANSWERS = """(async () => {
-    const answers = [], isKept = (report) => isReport(report) && report.length <= MOST_LETTERS_KEPT;
-    for (const [program, input, bound] of CASES) {
-        const { status, report } = await checker.ask("run", { program, input, bound });
-        const picture = await checker.ask("draw", { program, input });
-        const isShort = new TextEncoder().encode(program).length <= 32768 && status <= 4;
-        const whole = isKept(report) ? await checker.ask("whole", { program, input, quantum: QUANTUM, bound }) : "";
-        answers.push([status, report, picture, isShort ? await checker.ask("explain", { program, input, bound }) : "", whole]);
-    }
-    return answers;
-})()"""
-
 # So long a report may have its histories compared.
 MOST_LETTERS_KEPT = 200000
-
-# What the page shows at each bound of a slider: how each process stands, and the values of each stream.
-STEPS = """(async () => {
-    const [program, input] = TEXTS, about = await ran(checker, { program, input, bound: "1000000" }, () => {});
-    const steps = [];
-    for (let k = 0; k <= about.last; k += 1) {
-        const { processes, streams } = await about.momentAt(k);
-        const states = processes.map((it) => [it.number, it.name, it.state, it.on, it.events]);
-        steps.push([states, streams.map((it) => [it.process ? `print ${it.name}` : it.name, it.values])]);
-    }
-    return steps;
-})()"""
 STATES = {"ended": "ended", "wants": "ready", "waits": "waits", "fault": "fault"}
 STEPPED = ["count", "squares", "filter", "double", "pipeline", "rates"]
 
@@ -106,14 +81,10 @@ def histories_of(whole):
     return found
 
 
-def asked(some):
-    return ANSWERS.replace("CASES", json.dumps([it[1:] for it in some])).replace("MOST_LETTERS_KEPT", str(MOST_LETTERS_KEPT))
-
-
 def compare_rows(page, tried, *programs):
     """Runs the rows in the page, and compares what its module answers with what the programs answer."""
     every = list(cases())
-    answers = [it for at in range(0, len(every), 50) for it in page.value(asked(every[at : at + 50]))]
+    answers = [it for at in range(0, len(every), 50) for it in page.value(f"answersOf({json.dumps([it[1:] for it in every[at : at + 50]])}, {MOST_LETTERS_KEPT})")]
     with tempfile.TemporaryDirectory() as folder:
         for (name, *case), (status, *texts, whole) in zip(every, answers, strict=True):
             given = status, *(it.encode() for it in texts), histories_of(whole)
@@ -140,7 +111,7 @@ def compare_steps(page, tried, kahn, explain):
     for name in STEPPED:
         path = f"{TOP}/examples/{name}"
         text = common.text_of(f"{path}.input") if os.path.exists(f"{path}.input") else ""
-        steps = page.value(STEPS.replace("TEXTS", json.dumps([common.text_of(f"{path}.kahn"), text])))
+        steps = page.value(f"stepsOf(...{json.dumps([common.text_of(f'{path}.kahn'), text])})")
         texts = [f"{path}.kahn", *(["--input", f"{path}.input"] if text else [])]
         for k, (processes, streams) in enumerate(steps):
             ran = subprocess.run([kahn, "--workers", "1", "--bound", str(k), *texts], capture_output=True, timeout=60, text=True)

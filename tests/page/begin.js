@@ -119,6 +119,28 @@ end
     return fix ? applied(text, fix) : text;
   },
 
+  // What the module answers for each of some cases: status, report, picture, why, and the run that keeps all channels.
+  async answersOf(cases, mostLetters) {
+    const answers = [], isKept = (report) => isReport(report) && report.length <= mostLetters;
+    for (const [program, input, bound] of cases) {
+      const { status, report } = await checker.ask("run", { program, input, bound });
+      const picture = await checker.ask("draw", { program, input });
+      const isShort = new TextEncoder().encode(program).length <= 32768 && status <= 4;
+      const whole = isKept(report) ? await checker.ask("whole", { program, input, quantum: QUANTUM, bound }) : "";
+      answers.push([status, report, picture, isShort ? await checker.ask("explain", { program, input, bound }) : "", whole]);
+    }
+    return answers;
+  },
+  // What the page shows at each bound of a slider: how each process stands, and the values of each stream.
+  async stepsOf(program, input) {
+    const about = await ran(checker, { program, input, bound: "1000000" }, () => {}), steps = [];
+    for (let k = 0; k <= about.last; k += 1) {
+      const { processes, streams } = await about.momentAt(k);
+      const states = processes.map((it) => [it.number, it.name, it.state, it.on, it.events]);
+      steps.push([states, streams.map((it) => [it.process ? `print ${it.name}` : it.name, it.values])]);
+    }
+    return steps;
+  },
   // Whether the module has as much memory after 20 runs as after two.
   async keepsItsSize(program) {
     const sizes = [];
