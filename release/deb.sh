@@ -43,40 +43,17 @@ put "$doc/docs/pictures" "$top"/docs/pictures/*.{svg,png}
 put "$doc/examples" "$top"/examples/*
 gzip -9n < "$top/CHANGELOG.md" > "$root/usr/$doc/NEWS.gz"
 install -m 644 "$top/LICENSE" "$root/usr/$doc/copyright"
-maintainer="the maintainers of kahn <kahn@localhost>"
-gzip -9n > "$root/usr/$doc/changelog.gz" << END
-kahn ($version) unstable; urgency=medium
-
-  * Version $version: NEWS.gz tells what is new.
-
- -- $maintainer  $(LC_ALL=C date -u -R -d "@$SOURCE_DATE_EPOCH")
-END
-mkdir -p "$root/usr/share/lintian/overrides"
-cat > "$root/usr/share/lintian/overrides/kahn" << 'END'
-# The programs are, byte for byte, those whose hashes stand beside the hash of the proved sources.
-kahn: unstripped-binary-or-object
-# There is no address of a maintainer.
-kahn: bogus-mail-host
-kahn: bogus-mail-host-in-debian-changelog
-END
-
-mkdir "$root/DEBIAN"
+# filled FILE: a file of release/debian with what it leaves open.
+filled() {
+  sed "s/VERSION/$version/g; s/MAINTAINER/the maintainers of kahn <kahn@localhost>/; s/DATE/$(LC_ALL=C date -u -R -d "@$SOURCE_DATE_EPOCH")/; s/SIZE/${size:-}/" \
+    "$top/release/debian/$1"
+}
+filled changelog | gzip -9n > "$root/usr/$doc/changelog.gz"
+mkdir -p "$root/usr/share/lintian/overrides" "$root/DEBIAN"
+cp "$top/release/debian/overrides" "$root/usr/share/lintian/overrides/kahn"
+size=$(find "$root/usr" -type f -printf '%s\n' | awk '{ sum += $1 } END { print int((sum + 1023) / 1024) }')
 (cd "$root" && find usr -type f | LC_ALL=C sort | xargs -d '\n' md5sum) > "$root/DEBIAN/md5sums"
-cat > "$root/DEBIAN/control" << END
-Package: kahn
-Version: $version
-Architecture: amd64
-Section: interpreters
-Priority: optional
-Installed-Size: $(find "$root/usr" -type f -printf '%s\n' | awk '{ sum += $1 } END { print int((sum + 1023) / 1024) }')
-Depends: libc6 (>= 2.34)
-Suggests: graphviz
-Maintainer: $maintainer
-Description: proved parallel interpreter of Kahn's process networks
- Runs networks of processes that send one another values over channels, in
- the language of G. Kahn, on several threads. What a channel carries doesn't
- depend on the speeds of the processes; that is proved of the program itself.
-END
+filled control > "$root/DEBIAN/control"
 find "$root" -exec touch -h -d "@$SOURCE_DATE_EPOCH" {} +
 mkdir -p -- "$to"
 DPKG_DEB_THREADS_MAX=1 dpkg-deb --root-owner-group -Zxz -z9 --build "$root" "$to/kahn_${version}_amd64.deb" > /dev/null
