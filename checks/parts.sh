@@ -87,7 +87,7 @@ try_texts() {
 try_programs() {
   local seed=${SEED:-1}
   beside "lines that come through pipes" python3 tests/run.py live
-  beside "streams, and the examples explained" python3 tests/run.py streams explain
+  beside "streams" python3 tests/run.py streams
   beside "rows" python3 tests/run.py rows
   beside "sessions, and commands of the pages" python3 tests/run.py sessions pages
   beside "notes" python3 tests/run.py notes
