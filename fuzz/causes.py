@@ -113,7 +113,7 @@ def spots(checked, text, channel):
     """The places of the waits on a channel."""
     number, k = checked.reader[channel]
     _, _, params, _, body = checked.globals[checked.instances[number][0][1]][1]
-    return ["{}:{}".format(*ref.place(text.encode(), at)) for at in waits_in(body, params[k][2][1])]
+    return [ref.spot(text.encode(), at) for at in waits_in(body, params[k][2][1])]
 
 
 def named(checked, z):
@@ -232,12 +232,12 @@ def lasts(checked, inputs, ends, causes, text, places, rng):
     for p, (why, _) in causes.items():
         if why in FOR_EVER:
             it = network.processes[p]
-            now = it.state if it.state != "more" else "wants more" if it.waits() is None else "waits on " + checked.channels[it.waits()][0]
+            now = network.state(it)
             if it.events > ends[p][2] or finished and (now, it.events) != (ends[p][0], ends[p][2]):
                 return f"{p + 1} {ends[p]}, and with a longer input {now} after {it.events}"
             told, all_told = places.get(p, ([], True))
-            if it.failed_at is not None and (all_told or len(told) != 20) and "{}:{}".format(*ref.place(text.encode(), it.failed_at)) not in told:
-                return f"{p + 1} {now} at {ref.place(text.encode(), it.failed_at)}, which isn't told"
+            if it.failed_at is not None and (all_told or len(told) != 20) and ref.spot(text.encode(), it.failed_at) not in told:
+                return f"{p + 1} {now} at {ref.spot(text.encode(), it.failed_at)}, which isn't told"
             count += finished
     return count
 

@@ -147,20 +147,14 @@ def comment(text, lexemes, at):
         for it in re.compile(rb"[^ \t\r\n;][^;]*;").finditer(text, start, stop):
             rest, inner = text[it.end():begins[-1]], it[0].partition(b"\n")[2]
             if b"\n" not in rest or not rest.strip(b" \t\r\n") or CODE.search(inner):
-                first, last = ("{}:{}".format(*ref.place(text, at)) for at in (it.start(), it.end() - 1))
-                told = f"the comment at {first} {'goes on to' if inner else 'ends with'} the `;` at {last}"
+                told = f"the comment at {ref.spot(text, it.start())} {'goes on to' if inner else 'ends with'} the `;` at {ref.spot(text, it.end() - 1)}"
     return told
-
-
-def byte_of(text, line, column):
-    """The byte at a place."""
-    return sum(len(row) + 1 for row in text.split(b"\n")[:int(line) - 1]) + int(column) - 1
 
 
 def mended(text, fix, place):
     """Whether a change can be made, and takes the fault away or brings it nearer to the end."""
     how, one, other, *spot = fix.groups(default="")
-    start = byte_of(text, *(spot if spot[0] else place))
+    start = ref.byte_of(text, *(spot if spot[0] else place))
     one, other = one.encode(), other.encode()
     if how == "insert" and not text[:start].endswith(other) and not text[start:].startswith(other) or how != "insert" and not text[start:].startswith(one):
         return False
@@ -177,7 +171,7 @@ def is_true(text, lexemes, at, place, line):
     if told := FIX.fullmatch(line):
         return mended(text, told, place)
     if told := re.fullmatch(r"`(\w+)` is no keyword; did you mean `(\w+)`\?", line):
-        return text[byte_of(text, *place):].startswith(told[1].encode()) and told[2] in {"comment", *ref.KEYWORDS} and told[1].lower() not in ref.KEYWORDS
+        return text[ref.byte_of(text, *place):].startswith(told[1].encode()) and told[2] in {"comment", *ref.KEYWORDS} and told[1].lower() not in ref.KEYWORDS
     if line == "the second `begin` has no `end`":
         return ends < begins
     if told := re.fullmatch(r"`begin` has no `end`: (?:it ends before \d+:\d+|by its indentation it ends (?:before line (\d+)|at the end of the text))", line):

@@ -34,7 +34,7 @@ def line_of(text, at):
 
 
 def place_of(text, at):
-    return f"{line_of(text, at)}:{at - text.rfind(chr(10), 0, at)}"
+    return ref.spot(text.encode(), at)
 
 
 def slip(word, rng):

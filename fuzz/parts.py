@@ -6,13 +6,11 @@ Each is an example of examples/ with some names, numbers and words put in the pl
 alone, if its change leaves no fault.
 """
 import glob
-import os
 import random
 import re
 import sys
 
 sys.dont_write_bytecode = True
-TOP = os.path.dirname(os.path.dirname(os.path.abspath(__file__)))
 import fuzz
 import reference as ref
 
@@ -37,15 +35,11 @@ def broken(rng, text):
     return text
 
 
-def at(text, line, column):
-    return sum(len(it) + 1 for it in text.split(b"\n")[:int(line) - 1]) + int(column) - 1
-
-
 def changes(text, out):
     """The texts with the change that a lone note tells, at each place where it may be meant."""
-    places = [at(text, line, column) for line, column in PLACE.findall(out)]
+    places = [ref.byte_of(text, line, column) for line, column in PLACE.findall(out)]
     for old, new, _, line, column in FIX.findall(out):
-        begin = at(text, line, column) if line else places[0]
+        begin = ref.byte_of(text, line, column) if line else places[0]
         yield text[:begin] + new.encode() + text[begin + len(old):]
     for name in MEANT.findall(out):
         for begin in places:
@@ -63,20 +57,14 @@ def difference(text, ran, wanted):
         return f"status {ran.returncode}, {ran.stderr[:200]!r}"
     if len(got) == 1 and got[0] in wanted and any(ref.told(it) == [] for it in changes(text, out)):
         return None
-    if got != wanted[:MOST]:
-        return f"{got}, not {wanted[:MOST]}"
-    if int(more.group(1)) if more else 0:
-        if len(wanted) - MOST != int(more.group(1)):
-            return f"{more.group(1)} more, not {len(wanted) - MOST}"
-    elif len(wanted) > MOST:
-        return "no word of more"
-    return None
+    given, right = (got, int(more[1]) if more else 0), (wanted[:MOST], max(0, len(wanted) - MOST))
+    return f"{given}, not {right}" if given != right else None
 
 
 def one(explain, _, seed):
     """(None, how many faults there are, if several), or (what differs, the text)."""
     rng = random.Random(seed)
-    text = broken(rng, rng.choice([open(path, "rb").read() for path in sorted(glob.glob(f"{TOP}/examples/*.kahn"))]))
+    text = broken(rng, fuzz.read(rng.choice(sorted(glob.glob(f"{fuzz.TOP}/examples/*.kahn")))))
     wanted = ref.told(text)
     if not wanted:
         return None, "skipped"

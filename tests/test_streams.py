@@ -1,5 +1,4 @@
-"""Lines of standard error: each goes out by one write, and paths and words in them drive no terminal. Streams that don't block, and want of
-memory for the arguments of kahn."""
+"""Lines of standard error: each goes out by one write. Streams that don't block, and want of memory for the arguments of kahn."""
 import contextlib
 import fcntl
 import os
@@ -17,9 +16,6 @@ SUM = """begin integer input channel A; integer output channel S;
   sum(A, S)
 end
 """
-# an escape, a line feed, a right-to-left override and a zero width space
-STRANGE = "a\x1b[31m\n\u202e\u200b.kahn"
-SHOWN = "a\ufffd[31m\ufffd\ufffd\ufffd.kahn"
 WHOLE = re.compile(r"(sum: input line \d+: (not a value: `x`; values are numbers, `true` and `false`|no such channel: `Q`; input channels: `A`)|end 1 sum: waits on A after 1|finished 1)\n")
 
 
@@ -74,16 +70,6 @@ class Streams(Room):
         self.put(lines="A: x\nQ: 1\n" * 500_000)
         status, seconds, room, quick = measured_well(6, [LIVE, "sum"], f"{self.folder}/lines", f"{self.folder}/told", folder=self.folder)
         self.same(f"a million refused lines: {seconds:.2f} s, {room} kB", (status, quick, room <= 300 * 1024), (1, True, True))
-
-    def test_paths_and_words_that_drive_no_terminal(self):
-        self.put(**{STRANGE: "begin end\n", "plain": "begin end\n"})
-        for name, program in (("live", LIVE), ("draw", DRAW), ("explain", EXPLAIN)):
-            told, other = ("".join(self.ran(program, path)[:2]) for path in (STRANGE, "plain"))
-            self.same(f"a path, {name}", (STRANGE in told, SHOWN in told, told.count("\n")), (False, True, other.count("\n")))
-            self.same(f"a path that isn't there, {name}", self.ran(program, f"no{STRANGE}")[1].split("\n")[0], f"kahn: cannot read no{SHOWN}")
-        self.same("a path that isn't there, byte for byte", self.ran(KAHN, f"no{STRANGE}")[1], f"kahn: cannot read no{STRANGE}\n")
-        told = self.ran(LIVE, "sum", text="A: 1\u202e2\nA\u200b: 1\n".encode())[1]
-        self.same("words", [c for c in told if c in "\u202e\u200b"], [])
 
     def test_streams_that_do_not_block(self):
         read_end, write_end = os.pipe()

@@ -1,0 +1,30 @@
+Paths and words drive no terminal: here an escape, a line feed, a right-to-left override and a zero width space.
+
+A file of that name, and one that isn't there.
+  $ name=$'a\x1b[31m\n\u202e\u200b.kahn'; echo begin end > "$name"
+  > for it in live draw explain; do kahn_$it "$name" 2>&1; kahn_$it "no$name" 2>&1; done
+  kahn: 1:7: this cannot stand here
+  kahn_explain a�[31m���.kahn says more
+  kahn: cannot read noa�[31m���.kahn
+  kahn_live: there is no such file
+  kahn: 1:7: this cannot stand here
+  kahn_explain a�[31m���.kahn says more
+  kahn: cannot read noa�[31m���.kahn
+  a�[31m���.kahn:1:7: error: expected a declaration or a name, found `end`
+   1 | begin end
+     |       ^^^
+     = a program ends with its instances: `p(A, B) par q(B, C)`
+  kahn: cannot read noa�[31m���.kahn
+  kahn_explain: there is no such file
+  [5]
+
+What kahn says of it is byte for byte.
+  $ name=$'no\x1b[31m\n\u202e\u200b.kahn'; kahn "$name" 2>&1 | cmp - <(echo "kahn: cannot read $name")
+
+Words of a line.
+  $ printf 'A: 1\u202e2\nA\u200b: 1\n' | kahn_live examples/double.kahn 2>&1
+  examples/double.kahn: input line 1: not a value: `1..`; values are numbers, `true` and `false`
+  examples/double.kahn: input line 2: not a name and a colon: `..`; a colon stands behind the name
+  end 1 double: waits on A after 1
+  finished 1
+  [1]
