@@ -46,7 +46,7 @@ PROGRAMS = [
 SCRIPT = """set nocp
 set rtp^=EDITORS/vim
 filetype plugin indent on
-edit PROGRAM
+edit a\\ program.kahn
 normal G
 silent make!
 let places = map(filter(getqflist(), 'v:val.valid'), {_, it -> it.lnum . ':' . it.col . ' ' . it.type})
@@ -63,38 +63,35 @@ def place_of(program, words):
     return f"{before.count(chr(10)) + 1}:{len(before.rpartition(chr(10))[2].encode()) + 1}"
 
 
-def try_vim(vim, path, name, places, tried):
-    folder = os.path.dirname(path)
-    write(f"{folder}/script.vim", SCRIPT.replace("EDITORS", EDITORS).replace("PROGRAM", os.path.basename(path).replace(" ", "\\ ")))
-    subprocess.run([vim, "-es", "-u", "NONE", "-i", "NONE", "-S", "script.vim"], cwd=folder, stdin=subprocess.DEVNULL, capture_output=True, timeout=600)
+def ran(folder, *words):
+    """What a command in the folder prints; kahn_explain is the one there."""
+    return subprocess.run(words, cwd=folder, stdin=subprocess.DEVNULL, capture_output=True, timeout=600, text=True,
+                          env={**os.environ, "PATH": f"{folder}:{os.environ['PATH']}"}).stdout
+
+
+def try_vim(folder, name, places, marked, changed, tried):
+    write(f"{folder}/script.vim", SCRIPT.replace("EDITORS", EDITORS))
+    ran(folder, "vim", "-es", "-u", "NONE", "-i", "NONE", "-S", "script.vim")
     tried.same(f"Vim, {name}", text_of(f"{folder}/places").splitlines(), [*(f"{place} {kind}" for place, kind in places), f"{places[0][0]} comment %s;"])
 
 
-def try_extension(node, explain, path, name, places, marked, changed, tried):
-    words = [node, f"{TOP}/checks/editors.js", f"{EDITORS}/vscode", explain, path]
-    ran = subprocess.run(words, capture_output=True, timeout=600, text=True)
-    told = json.loads(ran.stdout or "{}")
-    tried.same(f"Visual Studio Code, {name}", [it[0] for it in told.get("diagnostics", [ran.stderr])], marked)
-    tried.same(f"its problem matcher, {name}", [it[0] for it in told.get("matched", [])], [place for place, _ in places])
-    tried.same(f"its changes, {name}", [it[1] for it in told.get("changed", [])], changed)
+def try_extension(folder, name, places, marked, changed, tried):
+    told = json.loads(ran(folder, "node", f"{TOP}/checks/editors.js", f"{EDITORS}/vscode", f"{folder}/kahn_explain", f"{folder}/a program.kahn"))
+    given = [it[0] for it in told["diagnostics"]], [it[0] for it in told["matched"]], [it[1] for it in told["changed"]]
+    tried.same(f"Visual Studio Code, its problem matcher and its changes, {name}", given, (marked, [place for place, _ in places], changed))
 
 
 def main(explain):
-    tried, path_before = Tried(), os.environ["PATH"]
-    vim, node = shutil.which("vim"), shutil.which("node")
-    for name, there in (("vim", vim), ("nodejs", node)):
-        if not there:
-            print(f"{name} isn't there: what it shows of editors/ is not tried (Debian's package {name})")
-    for name, program, stands, marked, changed in PROGRAMS:
-        places = [(place_of(program, words), kind) for words, kind in stands]
-        with tempfile.TemporaryDirectory() as folder:
-            os.symlink(explain, f"{folder}/kahn_explain")
-            os.environ["PATH"] = f"{folder}:{path_before}"
-            path = write(f"{folder}/a program.kahn", program)
-            if vim:
-                try_vim(vim, path, name, places, tried)
-            if node:
-                try_extension(node, explain, path, name, places, marked, changed, tried)
+    tried = Tried()
+    for editor, package, look in (("vim", "vim", try_vim), ("node", "nodejs", try_extension)):
+        if not shutil.which(editor):
+            print(f"{editor} isn't there: what it shows of editors/ is not tried (Debian's package {package})")
+            continue
+        for name, program, stands, marked, changed in PROGRAMS:
+            with tempfile.TemporaryDirectory() as folder:
+                os.symlink(explain, f"{folder}/kahn_explain")
+                write(f"{folder}/a program.kahn", program)
+                look(folder, name, [(place_of(program, words), kind) for words, kind in stands], marked, changed, tried)
     return tried.finish()
 
 
