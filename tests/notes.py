@@ -8,7 +8,7 @@ import os
 import re
 import subprocess
 
-from common import TOP, read, write
+from common import TOP, read, text_of, write
 
 ROW = re.compile(r'^    \("(.*)", "(.*)"\),$', re.M)
 FIX = re.compile(r"fix: (?:replace|remove) `(.*?)`(?: with `(.*)`)?(?: at \d+:\d+)?$", re.M)
@@ -25,8 +25,8 @@ def explain(program, folder, *words):
     return done.returncode, done.stdout, done.stderr
 
 
-def names_in(folder, end):
-    return sorted(os.path.basename(path)[: -len(end)] for path in glob.glob(f"{folder}/*{end}"))
+def names_in(folder, end, only=""):
+    return [name for path in sorted(glob.glob(f"{folder}/*{end}")) if only in (name := os.path.basename(path)[: -len(end)])]
 
 
 def note_of(path, given, words):
@@ -37,19 +37,16 @@ def note_of(path, given, words):
 
 
 def try_mistakes(program, words, tried):
-    cases = [(MISTAKES, name, (f"{name}.kahn",)) for name in names_in(MISTAKES, ".kahn")]
+    cases = [(MISTAKES, name, (f"{name}.kahn",)) for name in names_in(MISTAKES, ".kahn", words.only)]
     inputs = f"{MISTAKES}/inputs"
-    cases += [(inputs, name, ("program.kahn", "--input", f"{name}.input")) for name in names_in(inputs, ".input")]
+    cases += [(inputs, name, ("program.kahn", "--input", f"{name}.input")) for name in names_in(inputs, ".input", words.only)]
     for folder, name, line in cases:
-        if words.only in name:
-            given = explain(program, folder, *line)
-            tried.same(f"mistakes: {name}", given, (1, note_of(f"{folder}/{name}.note", given[1], words), b""))
+        given = explain(program, folder, *line)
+        tried.same(f"mistakes: {name}", given, (1, note_of(f"{folder}/{name}.note", given[1], words), b""))
 
 
 def try_warnings(program, words, tried):
-    for name in names_in(WARNINGS, ".kahn"):
-        if words.only not in name:
-            continue
+    for name in names_in(WARNINGS, ".kahn", words.only):
         status, out, err = explain(program, WARNINGS, f"{name}.kahn")
         strict, alone, more = explain(program, WARNINGS, f"{name}.kahn", "--strict")
         note = note_of(f"{WARNINGS}/{name}.note", alone if strict == 1 else b"", words)
@@ -60,29 +57,16 @@ def try_warnings(program, words, tried):
 
 def try_rows(program, words, tried):
     """What is warned of in the rows of checks/rows, all in one note."""
-    told = []
-    for name in sorted(os.listdir(ROWS)):
-        if os.path.exists(f"{ROWS}/{name}/program.kahn"):
-            told += [line for line in explain(program, ROWS, f"{name}/program.kahn", "--bound", "100")[1].splitlines(True) if b": warning: " in line]
-    tried.same("warnings of the rows", b"".join(told), note_of(f"{WARNINGS}/rows.note", b"".join(told), words))
+    outputs = [explain(program, ROWS, path, "--bound", "100")[1] for path in sorted(glob.glob("*/program.kahn", root_dir=ROWS))]
+    told = b"".join(line for out in outputs for line in out.splitlines(True) if b": warning: " in line)
+    tried.same("warnings of the rows", told, note_of(f"{WARNINGS}/rows.note", told, words))
 
 
 def is_told(pattern, template, fixes):
     """Whether one of some changes is made by a row of the table of patterns."""
     pieces = (f"(?P<{it}>{'.+?' if it in 'EFGT' else '[A-Za-z0-9_]+'})" if re.fullmatch("[A-Z]", it) else re.escape(it) for it in pattern.split())
-    shape = re.compile(r"\s*".join(pieces), re.I)
-    for old, new in fixes:
-        found = shape.fullmatch(old)
-        if found and re.sub("[A-Z]", lambda it: KINDS.get(found[it[0]].lower(), found[it[0]]), template) == new:
-            return True
-    return False
-
-
-def try_patterns(tried):
-    """Each row of the table of patterns is told in a note of checks/mistakes."""
-    rows = ROW.findall(read(f"{TOP}/crates/kahn_notes/src/patterns.rt").decode())
-    fixes = FIX.findall("\n".join(read(path).decode() for path in glob.glob(f"{MISTAKES}/*.note")))
-    tried.same("patterns that no note tells", [row for row in rows if not is_told(*row, fixes)], [])
+    found = [(re.fullmatch(r"\s*".join(pieces), old, re.I), new) for pieces in [list(pieces)] for old, new in fixes]
+    return any(it and re.sub("[A-Z]", lambda letter: KINDS.get(it[letter[0]].lower(), it[letter[0]]), template) == new for it, new in found)
 
 
 def try_notes(program, words, tried):
@@ -91,4 +75,6 @@ def try_notes(program, words, tried):
     if words.only in "rows":
         try_rows(program, words, tried)
     if words.only in "patterns":
-        try_patterns(tried)
+        fixes = FIX.findall("\n".join(map(text_of, glob.glob(f"{MISTAKES}/*.note"))))
+        rows = ROW.findall(text_of(f"{TOP}/crates/kahn_notes/src/patterns.rt"))
+        tried.same("patterns that no note of checks/mistakes tells", [row for row in rows if not is_told(*row, fixes)], [])
