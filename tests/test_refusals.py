@@ -8,6 +8,8 @@ import collections
 import glob
 import itertools
 import os
+import re
+import tempfile
 
 import common
 from common import CROWD, TOP, Room, read
@@ -71,24 +73,21 @@ class Memory(Room):
         print(f"{name}: {kinds['memory']} want memory, {kinds['thread']} want a thread, {kinds['stopped']} are stopped or go on later")
 
     def growths_of_run(self, runner, program, workers, quantum, enough=25):
-        whole, _, _ = self.ran(KAHN, program, "--workers", str(workers), "--quantum", str(quantum))
+        words = [program, "--workers", str(workers), "--quantum", str(quantum)]
+        whole, _, _ = self.ran(KAHN, *words)
+        kinds = {(whole, "", 0): "alike", **({} if runner == KAHN else {("", "kahn: no thread\n", 6): "thread"})}
 
         def judged(out, err, status):
-            if (out, err, status) == (whole, "", 0):
-                return "alike"
-            if runner != KAHN and (out, err, status) == ("", "kahn: no thread\n", 6):
-                return "thread"
-            return "stopped" if (err, status) == ("", 4) and is_stopped(out, whole) else None
+            return kinds.get((out, err, status)) or ("stopped" if (err, status) == ("", 4) and is_stopped(out, whole) else None)
 
-        words = [runner, program, "--workers", str(workers), "--quantum", str(quantum)]
-        self.growths(" ".join(map(os.path.basename, words)), words, judged, workers, enough)
+        self.growths(" ".join(map(os.path.basename, [runner, *words])), [runner, *words], judged, workers, enough)
 
     def growths_of_held(self, program, workers, quantum):
         """A held run may take just as many events as the run has in all its parts, and nothing that is refused stops it."""
-        whole, _, _ = self.ran(KAHN, program, "--workers", str(workers), "--quantum", str(quantum))
-        words = [CROWD, "held", program, "--workers", str(workers), "--quantum", str(quantum), "--bound", events(whole)]
+        words = [program, "--workers", str(workers), "--quantum", str(quantum)]
+        whole, _, _ = self.ran(KAHN, *words)
         kinds = {(whole, "", 0): "alike", (whole, "again\n", 0): "stopped"}
-        self.growths(f"held {program} by {workers} with quantum {quantum}", words, lambda *given: kinds.get(given), workers)
+        self.growths(f"held {' '.join(words)}", [CROWD, "held", *words, "--bound", events(whole)], lambda *given: kinds.get(given), workers)
 
     def counted(self, *words):
         """How many growths a run has."""
@@ -107,17 +106,14 @@ class Memory(Room):
                 self.same(name, many - few <= 2000 // 8)
 
     def test_runs(self):
-        for workers in (1, 2, 8):
-            for quantum in (1, 1000):
-                for program in ("copies.kahn", "examples/sample-four-turns.kahn"):
-                    self.growths_of_run(CROWD if HAS_CROWD else KAHN, program, workers, quantum)
+        for workers, quantum, program in itertools.product((1, 2, 8), (1, 1000), ("copies.kahn", "examples/sample-four-turns.kahn")):
+            self.growths_of_run(CROWD if HAS_CROWD else KAHN, program, workers, quantum)
 
     def test_held_runs(self):
         if not HAS_CROWD:
             self.skipTest("there is no kahn_crowd")
-        for workers in (1, 2, 8):
-            for quantum in (1, 1000):
-                self.growths_of_held("copies.kahn", workers, quantum)
+        for workers, quantum in itertools.product((1, 2, 8), (1, 1000)):
+            self.growths_of_held("copies.kahn", workers, quantum)
 
     def test_parts_of_a_live_run(self):
         """The first part may take just as many events as the run has. A blank line begins the next, and one more comes at the end. An input
@@ -130,9 +126,7 @@ class Memory(Room):
 
         def judged(out, err, status):
             # how the run ended may be told
-            lines = err.splitlines(keepends=True)
-            told = "".join(line for line in lines if not line.startswith(("end ", "finished ")))
-            ended = "".join(line for line in lines if line.startswith(("end ", "finished ")))
+            told, ended = re.fullmatch(r"((?:(?!end |finished ).*\n)*)((?:.*\n)*)", err).groups()
             kind = {"": "alike"}.get(told, "stopped" if told.startswith("parts.kahn: input line ") and told.endswith("memory\n") else None)
             # a line for which memory was refused is passed over, and the status may say so
             is_well = status == 0 or (status, told) == (1, "parts.kahn: input line 1: no memory\n")
@@ -170,11 +164,9 @@ class Threads(Room):
 
     def refused(self, number, *words):
         """What a run gives with that thread refused, and whether one was."""
-        mark = f"{self.folder}/refused"
-        if os.path.exists(mark):
-            os.remove(mark)
-        given = self.ran(*words, FAIL_AT=str(number), REFUSED=mark, LD_PRELOAD=self.library)
-        return given, os.path.exists(mark)
+        with tempfile.TemporaryDirectory() as folder:
+            given = self.ran(*words, FAIL_AT=str(number), REFUSED=f"{folder}/mark", LD_PRELOAD=self.library)
+            return given, os.path.exists(f"{folder}/mark")
 
     def each(self, runner, program, report, workers, started):
         """Refuses each of so many threads that run the network, and of the next eight, which write a long report or aren't started: how many
