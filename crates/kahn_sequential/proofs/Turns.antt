@@ -1,5 +1,5 @@
 -- Rounds over cells.
-use Rattle.std.proofs.Common.{true≢false, arith, ◌≡◌, ◌⊎◌, inl, inr, ℕ, suc, ◌+◌, ◌^◌, ◌<◌, ◌≤◌, [], ◌∷◌, ◌++◌, length, sum_by, refl, sym, ap, ◌∙◌, subst, Some, slice_get, slice_set, length-append, Bool, true, false, cond, min, vec_capacity}
+use Rattle.std.proofs.Common.{arith, ◌≡◌, ◌⊎◌, inl, inr, ℕ, suc, ◌+◌, ◌^◌, ◌<◌, ◌≤◌, [], ◌∷◌, ◌++◌, length, sum_by, refl, sym, ap, ◌∙◌, subst, Some, slice_get, slice_set, length-append, Bool, true, false, cond, min, vec_capacity}
 use Rattle.kahn_sequential.proofs.Common.{Store, at_last, Pause, More, Reads, actual_at, instance_at, view_at, IsOutcomeOf, TookAll, Round, RunState, IsPaused, HasEndIn, events_at, view_events, all_events, weight, AreEnds, HasAdvanced, HasTakenTurn, HasRunCell, IsInRound, LacksMemory, Marked, MayRun, PausedAt, no_view, Table, sight_of, sum_by-set, HasWorked, turn_of}
 use Rattle.std.proofs.lemmas.List.{length-set}
 use Rattle.kahn_streams.specs.declared.answer.End.{End}
@@ -99,7 +99,7 @@ module _ {b d : Table} {r r' : Round} {p : ℕ} {z : Pause} (may : MayRun (sight
   lighter_on : weight r' ≤ weight r
   lighter_on = by v.marked.marks
     where
-      by : Marked v.done z r r' → weight r' ≤ weight r
+      by : Marked z r r' → weight r' ≤ weight r
       by (inl h) = rw h.1 (let l = v.marked.left in omega (arith, l))
       by (inr h) = rw h.1 (let l = v.marked.left in omega (arith, l))
 
@@ -111,7 +111,7 @@ module _ {b d : Table} {r r' : Round} {p : ℕ} {z : Pause} (may : MayRun (sight
   lacks_on : LacksMemory s' r'.left r'.memory
   lacks_on m = by v.marked.marks
     where
-      by : Marked v.done z r r' → (0 < r'.left) × ((k : ℕ) × (k < length s'.cells) × PausedAt s' k pause.NoMemory)
+      by : Marked z r r' → (0 < r'.left) × ((k : ℕ) × (k < length s'.cells) × PausedAt s' k pause.NoMemory)
       by (inl h) =
           let w = v.ran.wanted h.0 in
           let q = turn_most r in
@@ -148,12 +148,12 @@ module _ {b d : Table} {r r' : Round} {p : ℕ} {z : Pause} (may : MayRun (sight
 
   -- its end is noted, in a round
   module _ {x : End} (rests : HasEndIn s' p x) (more : x.outcome ≡ More → (z ≡ pause.Spent) ⊎ (z ≡ pause.NoMemory)) {b0 : Table} {r0 q : Round} (go : IsInRound b0 r0 b r p)
-      (same : IsOtherwise r' q) (progressed : q.progressed ≡ r'.progressed) (items : q.ends.items ≡ r.ends.items ++ x ∷ []) where
+      (same : IsOtherwise r' q) (items : q.ends.items ≡ r.ends.items ++ x ∷ []) where
     size : length q.ends.items ≡ suc p
     size = ap length items ∙ length-append r.ends.items (x ∷ []) ∙ (let a = go.size in omega (arith, a))
 
     -- where all turns so far did nothing each end stands
-    still : v.done ≡ 0 → (z ≡ pause.NoMemory → ⊥) → r'.memory ≡ r.memory → r.progressed ≡ false → AreEnds s' r'.left r'.memory (r.ends.items ++ x ∷ [])
+    still : v.done ≡ 0 → (z ≡ pause.NoMemory → ⊥) → r'.memory ≡ r.memory → weight r ≡ weight r0 → AreEnds s' r'.left r'.memory (r.ends.items ++ x ∷ [])
     still d never m f k y h = by (at_last r.ends.items x k y h)
       where
         same_left : r'.left ≡ r.left
@@ -176,11 +176,6 @@ module _ {b d : Table} {r r' : Round} {p : ℕ} {z : Pause} (may : MayRun (sight
             subst (λ u. HasEndIn s' k u × (u.outcome ≡ More → (r'.left ≡ 0) ⊎ (r'.memory ≡ true))) e.1
             (subst (λ j. HasEndIn s' j x × (x.outcome ≡ More → (r'.left ≡ 0) ⊎ (r'.memory ≡ true))) (sym (e.0 ∙ go.size)) (rests, one))
 
-    still_by : Marked v.done z r r' → r'.progressed ≡ false → AreEnds s' r'.left r'.memory (r.ends.items ++ x ∷ [])
-    still_by (inl h) f = absurd (true≢false (sym h.2 ∙ f))
-    still_by (inr (never, m, inl h)) f = absurd (true≢false (sym h.1 ∙ f))
-    still_by (inr (never, m, inr h)) f = still h.0 never m (sym h.1 ∙ f)
-
     -- memory is refused only in a turn of some event
     lighter : (m : Bool) → r.memory ≡ m → r'.memory ≡ true → events_at s' p < events_at s p + turn_of r → weight r' < weight r
     lighter true e h f =
@@ -189,20 +184,21 @@ module _ {b d : Table} {r r' : Round} {p : ℕ} {z : Pause} (may : MayRun (sight
         absurd (omega (arith, u, none, f))
     lighter false e h f = rw (h, e) (let l = v.marked.left in omega (arith, l))
 
-    falls_by : Marked v.done z r r' → r'.progressed ≡ true → weight r' < weight r0
-    falls_by (inl h) f = let a = lighter r.memory refl h.1 (v.ran.wanted h.0) in let w = go.advanced.lighter in omega (arith, a, w)
-    falls_by (inr (never, m, inl h)) f =
-        let a : weight r' < weight r = rw m (let d = h.0 in let l = v.marked.left in omega (arith, l, d)) in
+    still_by : Marked z r r' → weight r' ≡ weight r0 → AreEnds s' r'.left r'.memory (r.ends.items ++ x ∷ [])
+    still_by (inl h) f = absurd (let a = lighter r.memory refl h.1 (v.ran.wanted h.0) in let w = go.advanced.lighter in omega (arith, f, a, w))
+    still_by (inr (never, m)) f =
+        let a : weight r' ≡ r'.left + cond r.memory 0 1 = ap (λ b. r'.left + cond b 0 1) m in
+        let l = v.marked.left in
         let w = go.advanced.lighter in
-        omega (arith, a, w)
-    falls_by (inr (never, m, inr h)) f = let a = lighter_on in let w = go.falls (sym h.1 ∙ f) in omega (arith, a, w)
+        still (omega (arith, f, a, l, w)) never m (omega (arith, f, a, l, w))
 
     pub noted : IsInRound b0 r0 d q (suc p)
     noted = record {
       advanced = moved_on go.advanced (as_well same turned);
       size = size;
-      still = λ f. rw (same.left, same.memory, items) (still_by v.marked.marks (sym progressed ∙ f));
-      falls = λ f. rw (same.left, same.memory) (falls_by v.marked.marks (sym progressed ∙ f));
+      still = λ f.
+          let w : weight q ≡ weight r' = rw (same.left, same.memory) refl in
+          rw (same.left, same.memory, items) (still_by v.marked.marks (sym w ∙ f));
     }
 
 pub advanced_none : {b d : Table} (r : Round) → MayRun (sight_of b) r → HasWorked b d → sight_of d ≡ sight_of b → HasAdvanced b d r r

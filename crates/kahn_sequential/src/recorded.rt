@@ -178,7 +178,6 @@ impl<'g, L: Ledger, G: Gate> Driver<'g, L, G> {
         ensures recorded { OnOk result (AreRecorded bench.new streams.new.items) }
     {
         let count = bench.instance_count();
-        round.progressed = false;
         round.idle_turns = 0;
         round.ends.clear();
         for instance in 0..count {
@@ -208,8 +207,9 @@ impl<'g, L: Ledger, G: Gate> Driver<'g, L, G> {
     {
         let mut round = first;
         'rounds: loop {
+            let before = round.weight();
             self.recorded_round(network, bench, &mut round, streams)?;
-            if !round.progressed {
+            if round.weight() == before {
                 return Ok(round);
             }
         }

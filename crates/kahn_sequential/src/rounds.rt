@@ -6,7 +6,7 @@
 
 ghost use Rattle.kahn_sequential.specs.inner.Bench.{HasRunCell, PausedAt, HasEndIn, IsVerdict, all_events, events_at};
 ghost use Rattle.kahn_sequential.specs.inner.FlowBench.{IsPartEnd};
-ghost use Rattle.kahn_sequential.specs.inner.Workbench.{HasAdvanced, HasComeToRest, HasTakenTurn, HasVisited, HasWorked, IsInRound, IsMarked, MayGoOn, MayRun, sight_of, turn_of};
+ghost use Rattle.kahn_sequential.specs.inner.Workbench.{HasAdvanced, HasComeToRest, HasTakenTurn, HasVisited, HasWorked, IsInRound, IsMarked, MayGoOn, MayRun, sight_of, turn_of, weight};
 ghost use Rattle.kahn_streams.specs.declared.answer.Outcome.TheVariants as outcome;
 ghost use Rattle.kahn_code.specs.declared.progress.Pause.TheVariants as pause;
 ghost use Rattle.std.specs.Prelude.{◌≡◌, ◌⊎◌, ◌<◌, ◌≤◌, ◌+◌, ◌^◌, length, true, vec_capacity, IfErr, IfOk, IfSome, MatchOption, MatchResult};
@@ -34,7 +34,6 @@ pub struct Round {
     pub left: u64,
     // Whether memory was refused.
     pub memory: bool,
-    pub progressed: bool,
     // How many turns did nothing.
     pub idle_turns: usize,
     // How each instance stood after its turn.
@@ -90,7 +89,6 @@ impl Round {
             quantum,
             left: bound,
             memory: false,
-            progressed: false,
             idle_turns: 0,
             ends,
         }
@@ -103,12 +101,8 @@ impl Round {
     {
         self.left -= done;
         self.idle_turns = self.idle_turns.wrapping_add(usize::from(done == 0));
-        if done > 0 {
-            self.progressed = true;
-        }
         if matches!(stopped, Pause::NoMemory) {
             self.memory = true;
-            self.progressed = true;
         }
     }
 
@@ -128,9 +122,15 @@ impl Round {
         self.memory || self.left == 0
     }
 
-    // Whether nothing was done, or most turns did nothing.
-    fn is_quiet(&self) -> bool {
-        !self.progressed || self.is_sparse()
+    /// How much there is to do.
+    pub fn weight(&self) -> u64
+        requires { self.now.left + 1 < 2 ^ 64 }
+        ensures { result ≡ weight self.now }
+    {
+        if self.memory {
+            return self.left;
+        }
+        self.left + 1
     }
 
     // Whether most turns did nothing.
@@ -206,7 +206,6 @@ impl<'g, L: Ledger, G: Gate> Driver<'g, L, G> {
         ensures { HasAdvanced bench.old bench.new round.old round.new }
     {
         let count = bench.instance_count();
-        round.progressed = false;
         round.idle_turns = 0;
         for instance in 0..count {
             self.visit_brief(bench, round, instance);
@@ -219,7 +218,6 @@ impl<'g, L: Ledger, G: Gate> Driver<'g, L, G> {
         ensures { IsInRound bench.old round.old bench.new round.new (length (sight_of bench.new).network.instances) }
     {
         let count = bench.instance_count();
-        round.progressed = false;
         round.idle_turns = 0;
         round.ends.clear();
         for instance in 0..count {
@@ -273,10 +271,17 @@ impl<'g, L: Ledger, G: Gate> Driver<'g, L, G> {
         ensures { HasAdvanced bench.old bench.new last result }
     {
         let mut round = last;
+        let mut left = u64::MAX;
         for _ in 0..BRIEF_ROUNDS {
-            if is_first || round.is_over() || round.is_quiet() || self.leaves(bench) {
+            if round.left == left {
+                // Nothing was done, so that no one is known to go on.
+                round.idle_turns = 0;
                 return round;
             }
+            if is_first || round.is_over() || round.is_sparse() || self.leaves(bench) {
+                return round;
+            }
+            left = round.left;
             self.brief_round(bench, &mut round);
         }
         round
@@ -292,7 +297,7 @@ impl<'g, L: Ledger, G: Gate> Driver<'g, L, G> {
             return last;
         }
         let round = self.brief_rounds(bench, last, is_first);
-        if round.progressed && round.is_sparse() {
+        if round.is_sparse() {
             return self.awake_turns(bench, round);
         }
         round
@@ -309,8 +314,9 @@ impl<'g, L: Ledger, G: Gate> Driver<'g, L, G> {
         let mut round = first;
         let mut rounds = 0_usize;
         'rounds: loop {
+            let before = round.weight();
             self.noted_round(bench, &mut round);
-            if !round.progressed {
+            if round.weight() == before {
                 return Ok(round);
             }
             rounds = rounds.saturating_add(1);

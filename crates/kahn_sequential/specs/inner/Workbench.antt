@@ -68,16 +68,14 @@ weight r = r.left + cond r.memory 0 1
 abbrev pub turn_of : Round → ℕ
 turn_of r = cond r.memory 0 (min r.quantum r.left)
 
--- a turn of so many events progressed, and wants memory, or didn't
-abbrev pub Marked : ℕ → Pause → Round → Round → Type 0
-Marked done z old new =
-    ((z ≡ pause.NoMemory) × (new.memory ≡ true) × (new.progressed ≡ true)) ⊎
-    ((z ≡ pause.NoMemory → ⊥) × (new.memory ≡ old.memory) × (((0 < done) × (new.progressed ≡ true)) ⊎ ((done ≡ 0) × (new.progressed ≡ old.progressed))))
+-- a turn wants memory, or not
+abbrev pub Marked : Pause → Round → Round → Type 0
+Marked z old new = ((z ≡ pause.NoMemory) × (new.memory ≡ true)) ⊎ ((z ≡ pause.NoMemory → ⊥) × (new.memory ≡ old.memory))
 
 -- a turn did so many events until this pause: they are taken from what is left
 pub record IsMarked (done : ℕ) (z : Pause) (old new : Round) : Type 0 where
   pub left : new.left + done ≡ old.left
-  pub marks : Marked done z old new
+  pub marks : Marked z old new
   pub quantum : new.quantum ≡ old.quantum
   pub ends : new.ends ≡ old.ends
 
@@ -105,12 +103,11 @@ pub record HasAdvanced (b d : Table) (old new : Round) : Type 0 where
   pub quantum : new.quantum ≡ old.quantum
   pub room : vec_capacity new.ends ≡ vec_capacity old.ends
 
--- a round from its beginning, in which the first k instances had their turns: it has their ends, unless it progressed
+-- a round from its beginning, in which the first k instances had their turns: it has their ends, if there is as much to do as before
 pub record IsInRound (b : Table) (old : Round) (d : Table) (new : Round) (k : ℕ) : Type 0 where
   pub advanced : HasAdvanced b d old new
   pub size : length new.ends.items ≡ k
-  pub still : new.progressed ≡ false → AreEnds (sight_of d) new.left new.memory new.ends.items
-  pub falls : new.progressed ≡ true → weight new < weight old
+  pub still : weight new ≡ weight old → AreEnds (sight_of d) new.left new.memory new.ends.items
 
 -- rounds came to an end, with the last one in which nothing was done
 pub record HasComeToRest (b d : Table) (old new : Round) : Type 0 where

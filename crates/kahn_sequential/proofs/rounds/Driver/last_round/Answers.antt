@@ -1,4 +1,4 @@
-use Rattle.std.proofs.Common.{◌∙◌, refl, rules}
+use Rattle.std.proofs.Common.{arith, ◌∙◌, refl, rules}
 use Rattle.kahn_sequential.proofs.Turns.{advanced_none, moved_on}
 use Rattle.kahn_sequential.proofs.rounds.Driver.last_round.Goals as goal
 
@@ -8,8 +8,8 @@ rounds-init g c = advanced_none c.args.first c.requires (search rules) refl
 pub rounds-preserved : goal.rounds-preserved
 rounds-preserved g c = moved_on (moved_on c.rounds.invariant c.noted_round.ensures.advanced) c.between_rounds-round.ensures
 
-pub returns-then-not-round-clause-last : goal.returns-then-not-round-clause-last
-returns-then-not-round-clause-last g c =
+pub returns-then-weight-before-clause-last : goal.returns-then-weight-before-clause-last
+returns-then-weight-before-clause-last g c =
     let i = c.rounds.invariant in
     let noted = c.noted_round.ensures in
     record {
@@ -18,6 +18,6 @@ returns-then-not-round-clause-last g c =
         known = noted.advanced.may.known;
         total = noted.advanced.total ∙ i.total;
         size = noted.size;
-        ends = noted.still (search rules);
+        ends = noted.still (omega arith);
       };
     }

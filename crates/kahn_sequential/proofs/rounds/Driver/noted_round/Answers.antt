@@ -9,7 +9,6 @@ loop-instance-init g c =
       advanced = begun c.requires (search rules) (record { quantum = refl; left = refl; memory = refl; room = c.clear.ensures.capacity });
       size = ap length c.clear.ensures.items;
       still = λ f k y h. absurd (let e : slice_get [] k ≡ Some y = rw c.clear.ensures.items at h in cc);
-      falls = λ f. absurd cc;
     }
 
 pub visit-end-requires-clause-may : goal.visit-end-requires-clause-may
@@ -34,5 +33,4 @@ loop-instance-preserved g c =
     rw (add-one c.loop-instance.instance)
     (noted i.advanced.may here v.turn v.rests v.more i
     (record { quantum = refl; left = refl; memory = refl; room = c.push_reserved.ensures.capacity })
-    refl
     (rw c.push_reserved.ensures.items (rw v.turn.marked.ends refl)))

@@ -13,7 +13,6 @@ loop-instance-init g c =
         advanced = begun c.requires.may (search rules) (record { quantum = refl; left = refl; memory = refl; room = c.clear.ensures.capacity });
         size = ap length c.clear.ensures.items;
         still = λ f k y h. absurd (let e : slice_get [] k ≡ Some y = rw c.clear.ensures.items at h in cc);
-        falls = λ f. absurd cc;
       };
       recorded = c.requires.recorded;
     }
@@ -78,7 +77,6 @@ loop-instance-preserved g c =
       inside = rw (add-one c.loop-instance.instance)
           (noted i.advanced.may here v.turn v.rests v.more i
           (record { quantum = refl; left = refl; memory = refl; room = c.push_reserved.ensures.capacity })
-          refl
           (rw c.push_reserved.ensures.items (rw v.turn.marked.ends refl)));
       recorded = subst (λ (k : Program × Queues). AreRecordedOf k.0 k.1 c.add_sent.new.streams.items)
           (λ j. (sym (v.turn.worked.network ∙ (i.advanced.worked.network ∙ c.requires.network)) j, c.queues.ensures j)) c.in_ok-add_sent.ensures;

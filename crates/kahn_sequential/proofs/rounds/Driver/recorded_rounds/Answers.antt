@@ -1,4 +1,4 @@
-use Rattle.std.proofs.Common.{◌∙◌, refl, rules, subst, sym}
+use Rattle.std.proofs.Common.{arith, ◌∙◌, refl, rules, subst, sym}
 use Rattle.kahn_sequential.proofs.Common.{Program, network_of}
 use Rattle.kahn_sequential.proofs.Turns.{advanced_none, moved_on}
 use Rattle.kahn_sequential.specs.inner.Recording.{TakesTurns}
@@ -22,8 +22,8 @@ rounds-preserved g c = record {
   recorded = c.in_ok-recorded_round.ensures.recorded;
 }
 
-pub returns-then-not-round-clause-last : goal.returns-then-not-round-clause-last
-returns-then-not-round-clause-last g c =
+pub returns-then-weight-before-clause-last : goal.returns-then-weight-before-clause-last
+returns-then-weight-before-clause-last g c =
     let i = c.rounds.invariant.advanced in
     let noted = c.in_ok-recorded_round.ensures.round in
     record {
@@ -32,6 +32,6 @@ returns-then-not-round-clause-last g c =
         known = noted.advanced.may.known;
         total = noted.advanced.total ∙ i.total;
         size = noted.size;
-        ends = noted.still (search rules);
+        ends = noted.still (omega arith);
       };
     }
