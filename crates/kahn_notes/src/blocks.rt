@@ -7,14 +7,13 @@ use crate::indent::{Misfit, first_misfit};
 use crate::layout::{PlacedLexeme, seats};
 use crate::mending::mending;
 use crate::place::{Place, found, front};
-use crate::said::{Told, insertion, joined, replacement};
+use crate::said::{Told, Words, insertion, joined, replacement};
 use crate::table::finds;
 use crate::words::class_word;
 use itoa::Buffer;
 use kahn_marks::{add, add_spot};
 use kahn_syntax::{Class, Keyword, Lexeme, Sign, Span};
 use kahn_wanted::open_behind;
-use std::alloc::AllocError;
 
 /// The `begin` there, if its block is open.
 fn open_there(begins: &[Lexeme], span: Span) -> Option<Lexeme>
@@ -29,11 +28,7 @@ fn open_there(begins: &[Lexeme], span: Span) -> Option<Lexeme>
 }
 
 /// What is said of a block that ends before a lexeme: by its indentation before the line of this, or on that of its `begin`.
-fn ending_words(
-    place: Place,
-    begin: PlacedLexeme,
-    end: Option<PlacedLexeme>,
-) -> Result<String, AllocError> {
+fn ending_words(place: Place, begin: PlacedLexeme, end: Option<PlacedLexeme>) -> Words {
     let mut words = String::from_str(place.alloc, "`begin` has no `end`: ")?;
     match end {
         Some(end) if begin.line == end.line => {

@@ -3,12 +3,11 @@
 ghost use Rattle.std.specs.Prelude.{IfOk, IfSome};
 ghost use Rattle.kahn_notes.specs.Notes.{Mends};
 
-use crate::mending::mending;
+use crate::mending::{Fixed, mending};
 use crate::rewriting::rewritten;
 use crate::said::replacement;
 use crate::table::cell;
 use kahn_marks::Fix;
-use kahn_streams::NoMemory;
 use kahn_syntax::{Span, SyntaxFault};
 use std::alloc::Global;
 
@@ -87,13 +86,7 @@ fn place_help(bytes: &[u8], at: usize) -> &'static str {
 }
 
 /// A change, if it mends a place, also where such characters behind it are passed over.
-fn told(
-    alloc: Global,
-    text: &str,
-    plain: &str,
-    span: Span,
-    fix: Option<Fix>,
-) -> Result<Option<Fix>, NoMemory>
+fn told(alloc: Global, text: &str, plain: &str, span: Span, fix: Option<Fix>) -> Fixed
     ensures { IfOk result (λ fix. IfSome fix (Mends text.now span)) }
 {
     let fix = mending(alloc, plain, span, fix)?;
@@ -102,12 +95,7 @@ fn told(
 
 /// What is put in the place of a character that isn't of the language: the first that mends the place, in the text and in that with blanks
 /// for such characters.
-pub(crate) fn character_fix(
-    alloc: Global,
-    text: &str,
-    plain: &str,
-    span: Span,
-) -> Result<Option<Fix>, NoMemory>
+pub(crate) fn character_fix(alloc: Global, text: &str, plain: &str, span: Span) -> Fixed
     ensures { IfOk result (λ fix. IfSome fix (Mends text.now span)) }
 {
     let rewritten = rewritten(alloc, text, plain, span.from)?;

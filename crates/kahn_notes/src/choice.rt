@@ -43,14 +43,10 @@ pub(crate) struct Offers {
 }
 
 /// Those of all changes that are offered where so many lexemes stand before the place.
-pub(crate) fn offers_of(
-    alloc: Global,
-    all: Vec<Reach>,
-    number: usize,
-) -> Result<Offers, AllocError> {
+pub(crate) fn offers_of(alloc: Global, all: Vec<Reach>, at: usize) -> Result<Offers, AllocError> {
     let whole = all.iter().any(|reach| reach.whole);
     let most = all.iter().map(|reach| reach.to).max().unwrap_or(0);
-    let far = most.max(number.saturating_add(3));
+    let far = most.max(at.saturating_add(3));
     let mut best = Vec::new(alloc);
     for reach in &all {
         if reach.whole || (!whole && reach.to == far) {

@@ -5,18 +5,15 @@ ghost use Rattle.kahn_notes.specs.Notes.{Mends};
 
 use crate::characters::character_fix;
 use crate::earlier::{blanked, said_before};
+use crate::said::Words;
 use kahn_marks::{Note, Sort, add, add_spot, place, simple};
 use kahn_streams::NoMemory;
 use kahn_syntax::Span;
 use kahn_wanted::comment_before;
-use std::alloc::{AllocError, Global};
+use std::alloc::Global;
 
 /// What is said of a comment: where it begins, and where it ends, on the same line or further on.
-pub(crate) fn comment_words(
-    alloc: Global,
-    text: &str,
-    comment: Span,
-) -> Result<String, AllocError> {
+pub(crate) fn comment_words(alloc: Global, text: &str, comment: Span) -> Words {
     let end = comment.to.saturating_sub(1);
     let is_one_line = place(text, comment.from).0 == place(text, end).0;
     let verb = if is_one_line {

@@ -2,18 +2,18 @@
 
 ghost use Rattle.kahn_syntax.specs.Texts.{IsTextFault};
 
-use crate::said::changed_words;
+use crate::said::{Words, changed_words};
 use crate::unexpected::unexpected_note;
 use kahn_marks::{Note, Other, add_repeated, part_of};
 use kahn_streams::NoMemory;
 use kahn_syntax::{Span, SyntaxFault, lex, parse};
-use std::alloc::{AllocError, Global};
+use std::alloc::Global;
 
 /// How many such characters are passed over at most.
 const PASSED: usize = 16;
 
 /// A text with blanks in the place of a part.
-fn without(alloc: Global, text: &str, span: Span) -> Result<String, AllocError> {
+fn without(alloc: Global, text: &str, span: Span) -> Words {
     let mut new = String::from_str(alloc, text.get(..span.from).unwrap_or(text))?;
     add_repeated(&mut new, " ", span.to.saturating_sub(span.from))?;
     new.push_str(text.get(span.to..).unwrap_or(""))?;
@@ -34,7 +34,7 @@ pub(crate) fn blanked(alloc: Global, text: &str) -> Result<String, NoMemory> {
 }
 
 /// What a note says in a line: what it puts in the place of something, or else its heading.
-fn words_of(alloc: Global, plain: &str, note: &Note) -> Result<String, AllocError> {
+fn words_of(alloc: Global, plain: &str, note: &Note) -> Words {
     match &note.fix {
         Some(fix) if fix.span.from < fix.span.to => {
             changed_words(alloc, part_of(plain, fix.span), fix.put.as_str())

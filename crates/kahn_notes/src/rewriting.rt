@@ -1,11 +1,10 @@
 //! Several words and signs round a place that are written for something else, and what is put in their place.
 
-use crate::mending::mending;
+use crate::mending::{Fixed, mending};
 use crate::patterns::PATTERNS;
-use crate::said::replacement;
+use crate::said::{Words, replacement};
 use crate::table::{cell, has_word, row_of};
 use kahn_marks::{Fix, part_of};
-use kahn_streams::NoMemory;
 use kahn_syntax::{Keyword, Span};
 use kahn_wanted::is_of_word;
 use std::alloc::{AllocError, Global};
@@ -195,7 +194,7 @@ fn matched(
 }
 
 /// What is put there, with what the letters stand for: a kind as the language calls it.
-fn filled(window: Window, template: &str, bindings: &[Binding]) -> Result<String, AllocError> {
+fn filled(window: Window, template: &str, bindings: &[Binding]) -> Words {
     let mut put = String::new(window.alloc);
     for character in template.chars() {
         let bound = bindings
@@ -219,9 +218,9 @@ fn change_at(
     window: Window,
     start: usize,
     pattern: &[&str],
-    template: &str,
+    put: &str,
     tries: &mut usize,
-) -> Result<Option<Fix>, NoMemory> {
+) -> Fixed {
     let mut bindings = Vec::new(window.alloc);
     let end = match matched(window, start, pattern, &mut bindings)? {
         Some(end) if window.number <= end => end,
@@ -235,19 +234,14 @@ fn change_at(
         Some(behind) => behind.from,
         None => window.text.len(),
     };
-    let put = filled(window, template, &bindings)?;
+    let put = filled(window, put, &bindings)?;
     let fix = replacement(window.alloc, part, put.as_str())?;
     let behind = Span { from, to: from };
     mending(window.alloc, window.plain, behind, Some(fix))
 }
 
 /// What is put in the place of several words and signs round a place: the first pattern that fits and with which the text is read past it.
-pub(crate) fn rewritten(
-    alloc: Global,
-    text: &str,
-    plain: &str,
-    at: usize,
-) -> Result<Option<Fix>, NoMemory> {
+pub(crate) fn rewritten(alloc: Global, text: &str, plain: &str, at: usize) -> Fixed {
     let rest = text.get(at..).unwrap_or("");
     let line_end = at.saturating_add(rest.find("\n").unwrap_or(rest.len()).min(BEHIND));
     let to = text.len().min(line_end.saturating_add(BEHIND));

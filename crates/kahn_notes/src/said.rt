@@ -17,8 +17,11 @@ pub(crate) type Said = (Heading, Option<Fix>, Option<String>);
 /// What is said, where something is.
 pub(crate) type Told = Result<Option<Said>, NoMemory>;
 
+/// What is put together of pieces.
+pub(crate) type Words = Result<String, AllocError>;
+
 /// Pieces, one behind another.
-pub(crate) fn joined(alloc: Global, pieces: &[&str]) -> Result<String, AllocError> {
+pub(crate) fn joined(alloc: Global, pieces: &[&str]) -> Words {
     let mut words = String::new(alloc);
     add(&mut words, pieces)?;
     Ok(words)
@@ -63,13 +66,13 @@ pub(crate) fn fix_of(place: Place, change: Change) -> Result<Option<Fix>, AllocE
 }
 
 /// What is said of a name that is no keyword.
-pub(crate) fn meant(alloc: Global, name: &str, word: &str) -> Result<String, AllocError> {
+pub(crate) fn meant(alloc: Global, name: &str, word: &str) -> Words {
     let pieces = ["`", name, "` is no keyword; did you mean `", word, "`?"];
     joined(alloc, &pieces)
 }
 
 /// What is said of a part of a text that a change replaces or leaves out.
-pub(crate) fn changed_words(alloc: Global, old: &str, put: &str) -> Result<String, AllocError> {
+pub(crate) fn changed_words(alloc: Global, old: &str, put: &str) -> Words {
     if put.is_empty() {
         return joined(alloc, &["unexpected `", old, "`"]);
     }

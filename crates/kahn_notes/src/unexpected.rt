@@ -12,7 +12,7 @@ use crate::listing::add_wanted;
 use crate::mending::mending;
 use crate::place::Place;
 use crate::rules::grammar_said;
-use crate::said::{Heading, Told, joined};
+use crate::said::{Heading, Told, Words, joined};
 use kahn_marks::{Fix, Note, Other, Sort, add, part_of};
 use kahn_streams::NoMemory;
 use kahn_syntax::{Lexeme, Span, What};
@@ -23,7 +23,7 @@ use std::alloc::{AllocError, Global};
 const MOST: usize = 8192;
 
 /// What stands at a place, in words.
-fn found_words(alloc: Global, text: &str, found: Option<Lexeme>) -> Result<String, AllocError> {
+fn found_words(alloc: Global, text: &str, found: Option<Lexeme>) -> Words {
     match found {
         Some(lexeme) => joined(alloc, &["`", part_of(text, lexeme.span), "`"]),
         None => String::from_str(alloc, "the end of the text"),
@@ -31,12 +31,7 @@ fn found_words(alloc: Global, text: &str, found: Option<Lexeme>) -> Result<Strin
 }
 
 /// What was expected at a place, and what was found there.
-fn expected_words(
-    alloc: Global,
-    text: &str,
-    what: What,
-    unexpected: &Unexpected,
-) -> Result<String, AllocError>
+fn expected_words(alloc: Global, text: &str, what: What, unexpected: &Unexpected) -> Words
     ensures { IfOk result (λ words. IsExpected what unexpected.now (string_bytes words)) }
 {
     let found = found_words(alloc, text, unexpected.found)?;
