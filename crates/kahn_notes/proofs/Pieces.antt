@@ -27,3 +27,7 @@ pub last_listed : (w : What) → listed (text_end_words w) ≡ concat (text_end_
 last_listed Nothing = refl
 last_listed More = refl
 last_listed Other = refl
+
+-- three parts of a piece
+pub regrouped : (old a b c sep : List ℕ) → old ++ (a ++ (b ++ (c ++ sep))) ≡ old ++ ((a ++ (b ++ c)) ++ sep)
+regrouped old a b c sep = ap (λ l. old ++ l) (sym (append_assoc a (b ++ c) sep ∙ ap (λ l. a ++ l) (append_assoc b c sep)))

@@ -7,63 +7,44 @@ use crate::indent::{Misfit, first_misfit};
 use crate::layout::{PlacedLexeme, seats};
 use crate::mending::mending;
 use crate::place::{Place, found, front};
-use crate::said::{Said, insertion, joined, replacement, saying};
+use crate::said::{Told, Words, insertion, joined, replacement};
 use crate::table::finds;
-use crate::words::class_words;
+use crate::words::class_word;
 use itoa::Buffer;
 use kahn_marks::{add, add_spot};
-use kahn_streams::NoMemory;
 use kahn_syntax::{Class, Keyword, Lexeme, Sign, Span};
-use kahn_wanted::{Block, open_behind};
-use std::alloc::{AllocError, Global};
+use kahn_wanted::open_behind;
 
-/// The block with this `begin`, where it is open.
-fn open_there(blocks: &[Block], span: Span) -> Option<Block>
-    ensures { IfSome result (Contains blocks.now) }
+/// The `begin` there, if its block is open.
+fn open_there(begins: &[Lexeme], span: Span) -> Option<Lexeme>
+    ensures { IfSome result (Contains begins.now) }
 {
-    for block in blocks {
-        if block.begin.span == span {
-            return Some(*block);
+    for begin in begins {
+        if begin.span == span {
+            return Some(*begin);
         }
     }
     None
 }
 
-/// Adds where a block ends: by its indentation before a line, or else on the line of its `begin`.
-fn add_where(
-    words: &mut String,
-    text: &str,
-    begin: PlacedLexeme,
-    seat: Option<PlacedLexeme>,
-) -> Result<(), AllocError> {
-    match seat {
-        Some(seat) if begin.line == seat.line => {
-            add_spot(words, "it ends before ", text, seat.span.from)
+/// What is said of a block that ends before a lexeme: by its indentation before the line of this, or on that of its `begin`.
+fn ending_words(place: Place, begin: PlacedLexeme, end: Option<PlacedLexeme>) -> Words {
+    let mut words = String::from_str(place.alloc, "`begin` has no `end`: ")?;
+    match end {
+        Some(end) if begin.line == end.line => {
+            add_spot(&mut words, "it ends before ", place.text, end.span.from)?;
         }
-        Some(seat) => {
+        Some(end) => {
             let mut buffer = Buffer::new();
-            let line = buffer.format(seat.line);
-            add(words, &["by its indentation it ends before line ", line])
+            let line = buffer.format(end.line);
+            add(
+                &mut words,
+                &["by its indentation it ends before line ", line],
+            )?;
         }
-        None => words.push_str("by its indentation it ends at the end of the text"),
+        None => words.push_str("by its indentation it ends at the end of the text")?,
     }
-}
-
-/// What is said of a block that ends before a lexeme by its indentation, if it is open there.
-fn unclosed_said(
-    alloc: Global,
-    place: Place,
-    all: &[PlacedLexeme],
-    begin: PlacedLexeme,
-    number: usize,
-) -> Result<Option<Said>, AllocError> {
-    let blocks = open_behind(alloc, front(place.lexemes, number))?;
-    let Some(block) = open_there(&blocks, begin.span) else {
-        return Ok(None);
-    };
-    let mut words = String::from_str(alloc, "`begin` has no `end`: ")?;
-    add_where(&mut words, place.text, begin, all.get(number).copied())?;
-    Ok(Some(saying(Some((block.begin.span, words)), None, None)))
+    Ok(words)
 }
 
 /// Whether the lexeme with a number is a `begin`.
@@ -74,46 +55,26 @@ fn is_begin(place: Place, number: Option<usize>) -> bool {
     }
 }
 
-/// The same of the `begin` with a number; one that stands beside another one is left out.
-fn unclosed(
-    alloc: Global,
-    place: Place,
-    all: &[PlacedLexeme],
-    begin: usize,
-    number: usize,
-) -> Result<Option<Said>, NoMemory> {
-    let Some(seat) = all.get(begin) else {
+/// What is said of the `begin` with a number, whose block ends before the lexeme with another number, if it is open there; one that
+/// stands beside another one is left out.
+fn unclosed(place: Place, all: &[PlacedLexeme], number: usize, end: usize) -> Told {
+    let alloc = place.alloc;
+    let Some(begin) = all.get(number) else {
         return Ok(None);
     };
-    if is_begin(place, begin.checked_sub(1)) || is_begin(place, begin.checked_add(1)) {
-        let fix = replacement(alloc, seat.span, "")?;
+    if is_begin(place, number.checked_sub(1)) || is_begin(place, number.checked_add(1)) {
+        let fix = replacement(alloc, begin.span, "")?;
         if let Some(fix) = mending(alloc, place.text, place.span, Some(fix))? {
             let words = String::from_str(alloc, "the second `begin` has no `end`")?;
-            return Ok(Some(saying(Some((seat.span, words)), Some(fix), None)));
+            return Ok(Some((Some((begin.span, words)), Some(fix), None)));
         }
     }
-    Ok(unclosed_said(alloc, place, all, *seat, number)?)
-}
-
-/// What is said of statements without a block behind what leads to them, to an `end` that has no `begin`.
-fn several_said(alloc: Global, text: &str, end: Span, guard: Lexeme) -> Result<Said, AllocError> {
-    let before = ["several statements stand behind ", class_words(guard.what)];
-    let mut words = joined(alloc, &before)?;
-    add_spot(
-        &mut words,
-        " without `begin`, to the `end` at ",
-        text,
-        end.from,
-    )?;
-    let fix = insertion(alloc, guard.span, "begin")?;
-    Ok(saying(Some((guard.span, words)), Some(fix), None))
-}
-
-/// What is said of an `end` that is one too many.
-fn surplus_said(alloc: Global, end: Span) -> Result<Said, AllocError> {
-    let words = "`end` has no `begin`: an `if`, a `while` or a `repeat` has no `end` of its own";
-    let head = Some((end, String::from_str(alloc, words)?));
-    Ok(saying(head, Some(replacement(alloc, end, "")?), None))
+    let open = open_behind(alloc, front(place.lexemes, end))?;
+    let Some(one) = open_there(&open, begin.span) else {
+        return Ok(None);
+    };
+    let words = ending_words(place, *begin, all.get(end).copied())?;
+    Ok(Some((Some((one.span, words)), None, None)))
 }
 
 /// The lexeme that leads to several statements, to the `end` with a number.
@@ -126,20 +87,28 @@ fn guard_before(place: Place, all: &[PlacedLexeme], number: usize) -> Option<Lex
     None
 }
 
-/// The same of the `end` with a number.
-fn surplus(
-    alloc: Global,
-    place: Place,
-    all: &[PlacedLexeme],
-    number: usize,
-) -> Result<Option<Said>, AllocError> {
+/// What is said of the `end` with a number: it is one too many, or closes several statements without a block behind what leads to them.
+fn surplus(place: Place, all: &[PlacedLexeme], number: usize) -> Told {
+    let alloc = place.alloc;
     let Some(end) = all.get(number) else {
         return Ok(None);
     };
-    match guard_before(place, all, number) {
-        Some(guard) => Ok(Some(several_said(alloc, place.text, end.span, guard)?)),
-        None => Ok(Some(surplus_said(alloc, end.span)?)),
-    }
+    let Some(guard) = guard_before(place, all, number) else {
+        let words =
+            "`end` has no `begin`: an `if`, a `while` or a `repeat` has no `end` of its own";
+        let head = Some((end.span, String::from_str(alloc, words)?));
+        return Ok(Some((head, Some(replacement(alloc, end.span, "")?), None)));
+    };
+    let before = [
+        "several statements stand behind `",
+        class_word(guard.what),
+        "`",
+    ];
+    let mut words = joined(alloc, &before)?;
+    words.push_str(" without `begin`")?;
+    add_spot(&mut words, ", to the `end` at ", place.text, end.span.from)?;
+    let fix = insertion(alloc, guard.span.to, guard.span, "begin")?;
+    Ok(Some((Some((guard.span, words)), Some(fix), None)))
 }
 
 /// How many lexemes are this keyword.
@@ -151,7 +120,7 @@ fn count_of(place: Place, word: Keyword) -> usize {
 }
 
 /// What is said of blocks at a place, by the indentation of the lines up to it.
-pub(crate) fn blocks_said(alloc: Global, place: Place) -> Result<Option<Said>, NoMemory> {
+pub(crate) fn blocks_said(place: Place) -> Told {
     let (begins, ends) = (
         count_of(place, Keyword::Begin),
         count_of(place, Keyword::End),
@@ -159,12 +128,12 @@ pub(crate) fn blocks_said(alloc: Global, place: Place) -> Result<Option<Said>, N
     if begins == ends {
         return Ok(None);
     }
-    let all = seats(alloc, place.text, place.lexemes)?;
+    let all = seats(place.alloc, place.text, place.lexemes)?;
     let here = found(place);
     let late = here.is_none() || finds("( process par integer logical", here);
-    match first_misfit(alloc, &all, place.number, ends < begins, late)? {
-        Some(Misfit::Unclosed(begin, number)) => unclosed(alloc, place, &all, begin, number),
-        Some(Misfit::Surplus(number)) => Ok(surplus(alloc, place, &all, number)?),
+    match first_misfit(place.alloc, &all, place.number, ends < begins, late)? {
+        Some(Misfit::Unclosed(begin, number)) => unclosed(place, &all, begin, number),
+        Some(Misfit::Surplus(number)) => surplus(place, &all, number),
         None => Ok(None),
     }
 }

@@ -3,12 +3,11 @@
 ghost use Rattle.std.specs.Prelude.{IfOk, IfSome};
 ghost use Rattle.kahn_notes.specs.Notes.{Mends};
 
-use crate::mending::mending;
+use crate::mending::{Fixed, mending};
 use crate::rewriting::rewritten;
 use crate::said::replacement;
 use crate::table::cell;
 use kahn_marks::Fix;
-use kahn_streams::NoMemory;
 use kahn_syntax::{Span, SyntaxFault};
 use std::alloc::Global;
 
@@ -23,6 +22,7 @@ _ |  | ; a name begins with a letter
 ! | not | ; a value is sent by `send E on C`, and `not` is a word
 % | mod | ; a remainder is `mod`
 / | div | ; a quotient is `div`, and a comment goes from `comment` to `;`
+#define |  | ; there are no constants: an instance hands a number over, `P(A, 10)`
 # |  | ; a comment goes from `comment` to `;`
 \" \u{2018} \u{2019} \u{201C} \u{201D} |  | ; there are no texts
 ' |  | ; there are no texts, and a name has letters, digits and `_`
@@ -30,13 +30,14 @@ _ |  | ; a name begins with a letter
 { | begin | ; a block goes from `begin` to `end`, a comment from `comment` to `;`
 } | end | ; a block goes from `begin` to `end`, a comment from `comment` to `;`
 && | and | ; it is the word `and`, and between instances `par`
-& | and par | ; `and` is a word, and of logicals; a remainder is `X mod 8`, and between instances stands `par`
+& | and par nothing | ; `and` is a word, and of logicals; a remainder is `X mod 8`, and between instances stands `par`
 ^ |  | ; there is no power and no exclusive or: of logicals it is `<>`
 || | or par | ; it is the word `or`, and between instances `par`
 | | or par | ; it is the word `or`, and between instances `par`
 ~ | not | ; it is the word `not`
 ? |  | ; a value is taken by `X := wait(C)`, and a choice is `if .. then .. else ..`
 : | ; then do | ; `:` stands before `=` alone; behind a test stands `then` or `do`, and a kind before its names
+$ @ |  | ; a name begins with a letter, and has letters, digits and `_`
 ` |  | ; the lines of a fence are no part of a program
 \u{A0} |  | ; a no-break space (U+00A0) isn't a blank here
 \u{D7} | * | ; a product is `*`
@@ -84,12 +85,21 @@ fn place_help(bytes: &[u8], at: usize) -> &'static str {
     }
 }
 
-/// What is put in the place of a character that isn't of the language: the first that mends the place.
-pub(crate) fn character_fix(alloc: Global, text: &str, span: Span) -> Result<Option<Fix>, NoMemory>
+/// A change, if it mends a place, also where such characters behind it are passed over.
+fn told(alloc: Global, text: &str, plain: &str, span: Span, fix: Option<Fix>) -> Fixed
     ensures { IfOk result (λ fix. IfSome fix (Mends text.now span)) }
 {
-    let rewritten = rewritten(alloc, text, span.from)?;
-    if let Some(fix) = mending(alloc, text, span, rewritten)? {
+    let fix = mending(alloc, plain, span, fix)?;
+    mending(alloc, text, span, fix)
+}
+
+/// What is put in the place of a character that isn't of the language: the first that mends the place, in the text and in that with blanks
+/// for such characters.
+pub(crate) fn character_fix(alloc: Global, text: &str, plain: &str, span: Span) -> Fixed
+    ensures { IfOk result (λ fix. IfSome fix (Mends text.now span)) }
+{
+    let rewritten = rewritten(alloc, text, plain, span.from)?;
+    if let Some(fix) = told(alloc, text, plain, span, rewritten)? {
         return Ok(Some(fix));
     }
     let Some((row, key)) = row_at(text.as_bytes(), span.from) else {
@@ -99,7 +109,7 @@ pub(crate) fn character_fix(alloc: Global, text: &str, span: Span) -> Result<Opt
     for put in cell(row, 1).split_whitespace() {
         let put = if put == "nothing" { "" } else { put };
         let fix = replacement(alloc, Span { to, ..span }, put)?;
-        if let Some(fix) = mending(alloc, text, span, Some(fix))? {
+        if let Some(fix) = told(alloc, text, plain, span, Some(fix))? {
             return Ok(Some(fix));
         }
     }

@@ -2,7 +2,7 @@
 
 use crate::place::{Place, back, before, behind, found, is_declared, lexeme_at, name_at};
 use crate::split::is_late_else;
-use crate::table::{cell, class_of, finds};
+use crate::table::{are_joined, cell, class_of, finds};
 use kahn_marks::part_of;
 use kahn_syntax::Lexeme;
 use kahn_wanted::{Change, Reach, Spot};
@@ -43,14 +43,10 @@ pub(crate) struct Offers {
 }
 
 /// Those of all changes that are offered where so many lexemes stand before the place.
-pub(crate) fn offers_of(
-    alloc: Global,
-    all: Vec<Reach>,
-    number: usize,
-) -> Result<Offers, AllocError> {
+pub(crate) fn offers_of(alloc: Global, all: Vec<Reach>, at: usize) -> Result<Offers, AllocError> {
     let whole = all.iter().any(|reach| reach.whole);
     let most = all.iter().map(|reach| reach.to).max().unwrap_or(0);
-    let far = most.max(number.saturating_add(3));
+    let far = most.max(at.saturating_add(3));
     let mut best = Vec::new(alloc);
     for reach in &all {
         if reach.whole || (!whole && reach.to == far) {
@@ -100,7 +96,9 @@ fn is_product(place: Place) -> bool {
 /// Whether something that is often left out is looked for at a place.
 fn may_lack(place: Place, word: &str) -> bool {
     match word {
+        "begin" if place.number == 0 => true,
         "begin" | "end" => place.offers.whole,
+        "," => !are_joined(place),
         ":=" => !is_call(place),
         "*" => is_product(place),
         "channel" => finds(ROLES, before(place)),
@@ -144,17 +142,14 @@ fn add_others(changes: &mut Vec<Change>, place: Place, spot: Spot) -> Result<(),
 
 /// The changes that are looked for first, in their order: leaving out one of two same lexemes, what one is often written for, and leaving
 /// out a `;` before an `else`, where one statement stands before that.
-pub(crate) fn likely(alloc: Global, place: Place) -> Result<Vec<Change>, AllocError> {
-    let mut changes = Vec::new(alloc);
+pub(crate) fn likely(place: Place) -> Result<Vec<Change>, AllocError> {
+    let mut changes = Vec::new(place.alloc);
     let (one, here, next) = (before(place), found(place), behind(place));
     let is_role = finds(ROLES, here) && (finds(ROLES, one) || finds(ROLES, next));
     let is_late = finds(";", here) && finds("else", next);
+    let is_twice = are_twice(place.text, back(place, 2), one);
     add_less(&mut changes, Spot::Here, are_twice(place.text, one, here))?;
-    add_less(
-        &mut changes,
-        Spot::Before,
-        are_twice(place.text, back(place, 2), one),
-    )?;
+    add_less(&mut changes, Spot::Before, is_twice)?;
     add_less(&mut changes, Spot::Here, is_role)?;
     add_others(&mut changes, place, Spot::Here)?;
     add_others(&mut changes, place, Spot::Before)?;
@@ -164,15 +159,15 @@ pub(crate) fn likely(alloc: Global, place: Place) -> Result<Vec<Change>, AllocEr
 }
 
 /// What is often left out there.
-pub(crate) fn left_out(alloc: Global, place: Place) -> Result<Vec<Change>, AllocError> {
-    let mut changes = Vec::new(alloc);
+pub(crate) fn left_out(place: Place) -> Result<Vec<Change>, AllocError> {
+    let mut changes = Vec::new(place.alloc);
     add_more(&mut changes, place, Spot::Between, LEFT_OUT)?;
     Ok(changes)
 }
 
 /// The changes that are looked for behind it: leaving out what is too many.
-pub(crate) fn too_many(alloc: Global, place: Place) -> Result<Vec<Change>, AllocError> {
-    let mut changes = Vec::new(alloc);
+pub(crate) fn too_many(place: Place) -> Result<Vec<Change>, AllocError> {
+    let mut changes = Vec::new(place.alloc);
     add_less(&mut changes, Spot::Here, finds(TOO_MANY, found(place)))?;
     add_less(&mut changes, Spot::Before, finds(TOO_MANY, before(place)))?;
     Ok(changes)

@@ -4,18 +4,16 @@ ghost use Rattle.std.specs.Prelude.{◌≡◌, IfOk, IfSome, string_bytes};
 ghost use Rattle.kahn_notes.specs.Notes.{Mends};
 
 use crate::characters::character_fix;
+use crate::earlier::{blanked, said_before};
+use crate::said::Words;
 use kahn_marks::{Note, Sort, add, add_spot, place, simple};
 use kahn_streams::NoMemory;
 use kahn_syntax::Span;
 use kahn_wanted::comment_before;
-use std::alloc::{AllocError, Global};
+use std::alloc::Global;
 
 /// What is said of a comment: where it begins, and where it ends, on the same line or further on.
-pub(crate) fn comment_words(
-    alloc: Global,
-    text: &str,
-    comment: Span,
-) -> Result<String, AllocError> {
+pub(crate) fn comment_words(alloc: Global, text: &str, comment: Span) -> Words {
     let end = comment.to.saturating_sub(1);
     let is_one_line = place(text, comment.from).0 == place(text, end).0;
     let verb = if is_one_line {
@@ -30,36 +28,27 @@ pub(crate) fn comment_words(
     Ok(words)
 }
 
-/// Adds what is said of a comment, where there is one.
-fn add_comment(
-    note: &mut Note,
-    alloc: Global,
-    text: &str,
-    comment: Option<Span>,
-) -> Result<(), AllocError>
-    ensures span { IfOk result (λ _. note.new.span ≡ note.old.span) }
-    ensures words { IfOk result (λ _. note.new.words ≡ note.old.words) }
-    ensures fix { IfOk result (λ _. note.new.fix ≡ note.old.fix) }
-{
-    match comment {
-        Some(comment) => {
-            let words = comment_words(alloc, text, comment)?;
-            Ok(note.below.push(words)?)
-        }
-        None => Ok(()),
+/// The same of the comment before a byte that has to do with what stands there.
+fn lines_before(alloc: Global, text: &str, at: usize) -> Result<Vec<String>, NoMemory> {
+    let mut lines = Vec::new(alloc);
+    if let Some(comment) = comment_before(alloc, text, at)? {
+        lines.push(comment_words(alloc, text, comment)?)?;
     }
+    Ok(lines)
 }
 
 /// A note on a part of a text where its lexemes go wrong, with these words; and below it the comment before the part that ends right
-/// before it or on its line, or goes on over what reads like a statement. It refuses only where memory was refused.
+/// before it or on its line, or goes on over what reads like a statement; and the first lexeme that can't stand, if that is before the part.
+/// It refuses only where memory was refused.
 pub fn commented_note(alloc: Global, text: &str, span: Span, words: &str) -> Result<Note, NoMemory>
     ensures span { IfOk result (λ note. note.span ≡ span) }
     ensures words { IfOk result (λ note. string_bytes note.words ≡ words.now) }
     ensures fix { IfOk result (λ note. IfSome note.fix (Mends text.now span)) }
 {
-    let comment = comment_before(alloc, text, span.from)?;
+    let plain = blanked(alloc, text)?;
     let mut note = simple(alloc, Sort::Error, span, words)?;
-    note.fix = character_fix(alloc, text, span)?;
-    add_comment(&mut note, alloc, text, comment)?;
+    note.fix = character_fix(alloc, text, plain.as_str(), span)?;
+    note.below = lines_before(alloc, text, span.from)?;
+    note.others = said_before(alloc, plain.as_str(), span, note.fix.is_some())?;
     Ok(note)
 }

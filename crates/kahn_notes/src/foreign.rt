@@ -1,8 +1,7 @@
 //! Words of other languages, and what this one has in their place.
 
 use crate::place::{Place, back, found, is_declared, name_at};
-use crate::table::{cell, finds, may_stand, row_of};
-use kahn_syntax::Keyword;
+use crate::table::{finds, may_stand, row_of};
 use kahn_wanted::Spot;
 
 /// Words of other languages, the keyword in their place if the text goes on with it, and what is said of them wherever they stand.
@@ -12,14 +11,14 @@ loop forever | repeat | a loop is `while E do S`, or `repeat S`, which has no en
 break exit continue | none | a loop ends where the test of its `while` is false
 return yield | none | a process has no result: `send E on C` gives a value to another one
 elif elsif elseif | none | it is two words: `else if`
-int integers ints | integer | the kinds are `integer` and `logical`; one stands before its names
+int integers ints long short unsigned | integer | the kinds are `integer` and `logical`; one stands before its names
 bool boolean logicals booleans | logical | the kinds are `integer` and `logical`; one stands before its names
 var real float | none | the kinds are `integer` and `logical`; one stands before its names
 channels chan chans | channel | a channel is `integer channel C`
 inputs | input | an input is `integer input channel C`
 outputs | output | an output is `integer output channel C`
 let local | none | a kind declares variables, right behind the `begin` of a process: `integer X`
-function func procedure proc def fn processes | process | a process is `process P(integer in U; integer out W); begin .. end`
+function func procedure proc def fn void thread task processes | process | a process is `process P(integer in U; integer out W); begin .. end`
 endif endwhile endfor fi od done tel | end | an `if`, a `while` or a `repeat` has no `end` of its own
 const constant | none | there are no constants: an instance hands a number over, `P(A, 10)`
 xor | none | there is no exclusive or: of logicals it is `<>`
@@ -28,16 +27,17 @@ seq | none | statements stand one behind another, with `;` between: `begin S; T 
 pre fby | none | a variable keeps what came before: `J := I; I := wait(C)`
 inout | none | one process reads a channel, and another one writes it: `in U`, `out W`
 to into | on | a value is sent by `send E on C`
-go call spawn start run cobegin parbegin | none | nothing starts an instance: it is `p(A, B)`, and `par` stands between two
+go call spawn start run cobegin parbegin doco closeco coend parend | none | nothing starts an instance: it is `p(A, B)`, and `par` stands between two
 ";
 
 /// Those that are told of where they begin a statement.
 const ACTING: &str = "
 select alt | none | there is no choice among channels, since timing can't matter: a process waits on one at a time
 case switch | none | a choice is `if E then S else if F then T else ..`
-recv receive get read take await waits | none | a statement takes a value by `X := wait(C)`
+recv receive get read take await waits scanf getline readln | none | a statement takes a value by `X := wait(C)`
 put emit write push sends give | send | a statement sends a value by `send E on C`
 writeln println printf echo prints | print | a statement prints a value by `print E`
+close | none | a channel has no end that is told: a process just sends no more
 skip pass null nop | none | a statement that does nothing is empty, or `begin end`
 ";
 
@@ -46,24 +46,16 @@ const GIVING: &str = "
 recv receive read get take await | wait | a value is taken by `wait(C)`
 ";
 
-/// A word of another language at a place, or before it.
-#[derive(Clone, Copy)]
-pub(crate) struct Foreign {
-    /// Where it stands.
-    pub(crate) spot: Spot,
-    /// The keyword in its place.
-    pub(crate) put: Option<Keyword>,
-    /// What is said of it.
-    pub(crate) words: &'static str,
-}
+/// A word of another language, at a place or before it, with its row.
+pub(crate) type Foreign = (Spot, &'static str);
 
 /// Whether a word is of another language.
 pub(crate) fn is_foreign(word: &str) -> bool {
     row_of(FOREIGN, word).is_some() || row_of(ACTING, word).is_some()
 }
 
-/// The name at a place or before it, if the text doesn't declare it; not one that has a value given to it, nor that of a process.
-fn free_name<'p>(place: Place<'p>, spot: Spot) -> Option<&'p str> {
+/// One of these words there, if the text doesn't declare it; not one that has a value given to it, nor the name of a process.
+fn foreign_in(table: &'static str, place: Place, spot: Spot) -> Option<Foreign> {
     let name = name_at(place, spot)?;
     let is_here = spot == Spot::Here;
     let is_given = !is_here && finds("= :=", found(place));
@@ -71,14 +63,7 @@ fn free_name<'p>(place: Place<'p>, spot: Spot) -> Option<&'p str> {
     if is_given || is_head || is_declared(place, 1, name) {
         return None;
     }
-    Some(name)
-}
-
-/// One of these words there.
-fn foreign_in(table: &'static str, place: Place, spot: Spot) -> Option<Foreign> {
-    let row = row_of(table, free_name(place, spot)?)?;
-    let (put, words) = (Keyword::named(cell(row, 1).as_bytes()), cell(row, 2));
-    Some(Foreign { spot, put, words })
+    Some((spot, row_of(table, name)?))
 }
 
 /// A name that begins a statement, or stands before a bracket among values.

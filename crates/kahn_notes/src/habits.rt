@@ -25,6 +25,7 @@ repeat | number | always | `repeat` goes on for ever: `while I < 10 do begin ..;
 par | end else | always | `par` stands between instances: `p(A) par q(B)`
 par | begin | always | instances stand without `begin`: `p(A) par q(B)`
 wait | any | always | brackets stand round the channel: `wait(C)`
+( | if wait not true false number ( - | +name -) | one channel's name stands between these brackets: `if B then wait(U) else wait(V)`
 on | any | always | a channel's name stands behind `on`: `send E on C`
 print | ; end else on | always | a value stands behind `print`: `print E`
 any | on | +operator +end | `on` stands behind the value of a `send`: `send E on C`; `print E` needs no channel
@@ -56,7 +57,7 @@ any | ; | +:= | a statement that begins with a name assigns to it, `X := E`; nam
 send | on | always | `on` and a channel stand behind the value: `send E on C`
 any | ; end else par | +on | `on` and a channel stand behind the value: `send E on C`
 any | ; end else par | +( | brackets stand behind the name of a process, also where they are empty: `p()`
-any | ; end else par | +else -end | an `if` among values has its `else`: `if E then E else E`
+any | ; end else par on do then ) , | +else -end | an `if` among values has its `else`: `if E then E else E`
 any | ; end else par | +:= | a statement that begins with a name assigns to it, `X := E`; `send E on C` sends a value
 any | + | +value | no `+` stands before a value: leave it out
 any | + - * < > <> <= >= and div mod or = := | +, +) | an instance hands over channels and literals, by their places: `P(A, -1, true)`
@@ -64,11 +65,13 @@ any | + - * < > <> <= >= and div mod or = | -, +arithmetic | a comparison has tw
 any | + - * < > <> <= >= and div mod or | -, +:= | a statement that begins with a name assigns to it, `X := E`; `send E on C` sends a value
 name | + - * < > <> <= >= and div mod or | -, +) | one channel alone stands between these brackets: `wait(C) + 1`
 any | = := | +, -arithmetic | a variable begins as 0 or `false`; a statement assigns to it, `X := E`
-any | := | -, +( | an instance is `P(A, B)`: its brackets hand over the channels; statements stand in processes alone
+any | = | -, +( | there are no constants and no equations: an instance is `P(A, B)`, and hands over channels and numbers, `P(A, 10)`
+any | := < > - | -, +( | an instance is `P(A, B)`: its brackets hand over the channels; statements stand in processes alone
 any | , | +) | one value or one channel stands between these brackets; `print E` and `send E on C` have one value
 any | , | +:= | a statement assigns to one name: `X := E; Y := F`
 any | , | +; +operator | a statement has one value: `print E; print F`
 name | , | +; | a value goes on one channel: `send E on C; send E on D`
+name | name number | +( known | an instance is `P(A, B)`: brackets stand round what it hands over
 name | ( | +:= | a body calls nothing and starts nothing: `send E on C` sends a value, and instances stand behind all processes
 name | ( | +operator | a body calls nothing: there are no functions, `wait(C)` takes a value, and nothing tells whether one is there
 name | ( | +, +) | an instance hands over channels and literals, by their places: `P(A, -1, true)`

@@ -41,6 +41,11 @@ struct BlockWalk {
     doubt: Option<usize>,
 }
 
+/// What is said, where a test holds.
+fn said_if(holds: bool, misfit: Misfit) -> Option<Misfit> {
+    if holds { Some(misfit) } else { None }
+}
+
 /// What an `end` says: it is less indented than its block, where `end`s are missing; or where there are too many, it is deeper, closes
 /// statements without a block, or closes the last one.
 fn at_end(
@@ -51,20 +56,12 @@ fn at_end(
 ) -> Option<Misfit> {
     let (missing, first, doubt) = (walk.missing, seat.first, walk.doubt.unwrap_or(number));
     let Some(top) = walk.open.pop() else {
-        return if missing {
-            None
-        } else {
-            Some(Misfit::Surplus(doubt))
-        };
+        return said_if(!missing, Misfit::Surplus(doubt));
     };
     let far = top.begin.line != seat.line;
     if missing {
         let is_shallow = far && first && seat.deep < top.begin.deep;
-        return if is_shallow {
-            Some(Misfit::Unclosed(top.number, number))
-        } else {
-            None
-        };
+        return said_if(is_shallow, Misfit::Unclosed(top.number, number));
     }
     let is_sure = first && seat.deep > top.begin.deep;
     let is_deep = far && (is_sure || (!first && guard_of(seats, number, seat).is_some()));
@@ -79,11 +76,8 @@ fn at_end(
 
 /// Whether a line is the first within a block, and deeper than that of its `begin`, or no line of it needs to be.
 fn is_inner(walk: &BlockWalk, top: OpenBlock, number: usize, seat: PlacedLexeme) -> bool {
-    let kinds = [Class::Word(Keyword::Integer), Class::Word(Keyword::Logical)];
-    let is_body = match top.next {
-        Some(class) => class == seat.what || kinds.contains(&class),
-        None => false,
-    };
+    let is_kind = matches!(seat.what, Class::Word(Keyword::Integer | Keyword::Logical));
+    let is_body = top.next == Some(seat.what) || (top.next.is_some() && is_kind);
     let is_within = number.saturating_add(1) < walk.number;
     let is_process = seat.what == Class::Word(Keyword::Process);
     top.inner.is_none() && (seat.deep > top.begin.deep || (is_within && is_body && !is_process))
@@ -110,10 +104,8 @@ fn at_line(walk: &mut BlockWalk, number: usize, seat: PlacedLexeme) -> Option<Mi
         }
         return None;
     }
-    if walk.missing && is_past(top, seat) {
-        return Some(Misfit::Unclosed(top.number, number));
-    }
-    None
+    let is_unclosed = walk.missing && is_past(top, seat);
+    said_if(is_unclosed, Misfit::Unclosed(top.number, number))
 }
 
 /// What a lexeme says, and which blocks are open then.
@@ -124,7 +116,7 @@ fn at_seat(
     begin: PlacedLexeme,
 ) -> Result<Option<Misfit>, AllocError> {
     match begin.what {
-        Class::Word(Keyword::End) => return Ok(at_end(walk, seats, number, begin)),
+        Class::Word(Keyword::End) => Ok(at_end(walk, seats, number, begin)),
         Class::Word(Keyword::Begin) => {
             let next = seats.get(number.saturating_add(1)).map(|seat| seat.what);
             walk.open.push(OpenBlock {
@@ -133,31 +125,19 @@ fn at_seat(
                 next,
                 inner: None,
             })?;
-            return Ok(None);
+            Ok(None)
         }
-        _ => {}
-    }
-    let found = at_line(walk, number, begin);
-    if begin.what == Class::Word(Keyword::Process) {
-        walk.doubt = None;
-    }
-    Ok(found)
-}
-
-/// What is said where nothing was found: at what may not stand in a block, that the innermost one is open; at the end of the text that of
-/// the program may be.
-fn at_place(walk: &BlockWalk, late: bool, count: usize) -> Option<Misfit> {
-    let outer = if walk.number < count { 1 } else { 0 };
-    match walk.open.last() {
-        Some(top) if late && walk.missing && walk.open.len() > outer => {
-            Some(Misfit::Unclosed(top.number, walk.number))
+        Class::Word(Keyword::Process) => {
+            let found = at_line(walk, number, begin);
+            walk.doubt = None;
+            Ok(found)
         }
-        _ => walk.doubt.map(Misfit::Surplus),
+        _ => Ok(at_line(walk, number, begin)),
     }
 }
 
-/// What the indentation says of blocks up to a place, where `end`s are missing, or too many: `late` tells that what stands at the place
-/// may not stand in a block.
+/// What the indentation says of blocks up to a place, where `end`s are missing, or too many. Where it says nothing: at what may not stand in
+/// a block, as `late` tells, that the innermost one is open; at the end of the text that of the program may be.
 pub(crate) fn first_misfit(
     alloc: Global,
     seats: &[PlacedLexeme],
@@ -176,5 +156,11 @@ pub(crate) fn first_misfit(
             return Ok(Some(found));
         }
     }
-    Ok(at_place(&walk, late, seats.len()))
+    let outer = if number < seats.len() { 1 } else { 0 };
+    match walk.open.last() {
+        Some(top) if late && missing && walk.open.len() > outer => {
+            Ok(Some(Misfit::Unclosed(top.number, number)))
+        }
+        _ => Ok(walk.doubt.map(Misfit::Surplus)),
+    }
 }

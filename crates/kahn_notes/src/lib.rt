@@ -6,6 +6,7 @@ mod blocks;
 mod characters;
 mod choice;
 mod commented;
+mod earlier;
 mod foreign;
 mod guards;
 mod habits;

@@ -5,7 +5,7 @@ ghost use Rattle.std.specs.List.{concat};
 ghost use Rattle.kahn_notes.specs.Notes.{listed, pieces_of, text_end_words};
 ghost use Rattle.kahn_notes.specs.Words.{separator};
 
-use crate::words::{class_words, group_words};
+use crate::words::{class_parts, group_words};
 use kahn_marks::add;
 use kahn_syntax::What;
 use kahn_wanted::Wanted;
@@ -46,7 +46,8 @@ pub(crate) fn add_wanted(words: &mut String, wanted: &Wanted, what: What) -> Res
     }
     for class in &wanted.others {
         left -= 1;
-        add(words, &[class_words(*class), separator(left)])?;
+        let ((open, word), close) = class_parts(*class);
+        add(words, &[open, word, close, separator(left)])?;
     }
     add(words, &[end])
 }

@@ -64,13 +64,11 @@ fn is_mended(alloc: Global, text: &str, span: Span, fix: &Fix) -> Result<bool, N
     }
 }
 
+/// A change, where there is one.
+pub(crate) type Fixed = Result<Option<Fix>, NoMemory>;
+
 /// A change, if it mends a place.
-pub(crate) fn mending(
-    alloc: Global,
-    text: &str,
-    span: Span,
-    fix: Option<Fix>,
-) -> Result<Option<Fix>, NoMemory>
+pub(crate) fn mending(alloc: Global, text: &str, span: Span, fix: Option<Fix>) -> Fixed
     ensures { IfOk result (λ fix. IfSome fix (Mends text.now span)) }
 {
     let Some(fix) = fix else {

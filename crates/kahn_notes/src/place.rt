@@ -1,13 +1,17 @@
 //! The place where a text goes wrong, with the lexemes round it.
 
 use crate::choice::Offers;
+use crate::table::finds;
 use kahn_marks::part_of;
-use kahn_syntax::{Class, Keyword, Lexeme, Sign, Span};
+use kahn_syntax::{Class, Lexeme, Sign, Span};
 use kahn_wanted::{Spot, Wanted};
+use std::alloc::Global;
 
 /// The place where a text goes wrong.
 #[derive(Clone, Copy)]
 pub(crate) struct Place<'p> {
+    /// For what is said.
+    pub(crate) alloc: Global,
     /// The text.
     pub(crate) text: &'p str,
     /// Its lexemes.
@@ -51,11 +55,6 @@ pub(crate) fn lexeme_at(place: Place, spot: Spot) -> Option<Lexeme> {
     }
 }
 
-/// The lexemes before a place, without so many of the last.
-pub(crate) fn ahead<'p>(place: Place<'p>, less: usize) -> &'p [Lexeme] {
-    front(place.lexemes, place.number.saturating_sub(less))
-}
-
 /// The first so many of some.
 pub(crate) fn front<T>(items: &[T], count: usize) -> &[T] {
     items.get(..count).unwrap_or(items)
@@ -75,39 +74,24 @@ fn is_named(text: &str, lexeme: Lexeme, name: &str) -> bool {
     lexeme.what == Class::Name && part_of(text, lexeme.span) == name
 }
 
-/// Whether names are declared behind a lexeme.
-fn declares(class: Class) -> bool {
-    matches!(
-        class,
-        Class::Word(
-            Keyword::Integer
-                | Keyword::Logical
-                | Keyword::In
-                | Keyword::Out
-                | Keyword::Channel
-                | Keyword::Process
-        )
-    )
-}
-
 /// Whether the lexemes before a place, without so many of the last, declare a name.
 pub(crate) fn is_declared(place: Place, less: usize, name: &str) -> bool {
     let mut naming = false;
-    for lexeme in ahead(place, less) {
+    for lexeme in front(place.lexemes, place.number.saturating_sub(less)) {
         if naming && is_named(place.text, *lexeme, name) {
             return true;
         }
         let goes_on = matches!(lexeme.what, Class::Name | Class::Sign(Sign::Comma));
-        naming = declares(lexeme.what) || (naming && goes_on);
+        let begins = finds("integer logical in out channel process", Some(*lexeme));
+        naming = begins || (naming && goes_on);
     }
     false
 }
 
 /// Whether a name stands once in a text.
 pub(crate) fn stands_once(place: Place, name: &str) -> bool {
-    place
-        .lexemes
-        .iter()
+    let lexemes = place.lexemes.iter();
+    lexemes
         .filter(|lexeme| is_named(place.text, **lexeme, name))
         .count()
         == 1

@@ -1,11 +1,10 @@
 //! Several words and signs round a place that are written for something else, and what is put in their place.
 
-use crate::mending::mending;
+use crate::mending::{Fixed, mending};
 use crate::patterns::PATTERNS;
-use crate::said::replacement;
-use crate::table::has_word;
+use crate::said::{Words, replacement};
+use crate::table::{cell, has_word, row_of};
 use kahn_marks::{Fix, part_of};
-use kahn_streams::NoMemory;
 use kahn_syntax::{Keyword, Span};
 use kahn_wanted::is_of_word;
 use std::alloc::{AllocError, Global};
@@ -28,10 +27,16 @@ const WAITS: &str = "wait receive recv read get take await";
 
 const SENDS: &str = "send put emit write push give output";
 
-const STARTS: &str = "go call spawn start run launch new exec";
+const STARTS: &str = "go call spawn start run launch new exec doco";
 
 /// Where no expression goes on.
 const ENDS: &str = "; ) ] } begin end else";
+
+/// The kinds, by what they are called elsewhere.
+const KINDS: &str = "
+int integer | integer
+logical bool boolean | logical
+";
 
 /// What a capital letter of a pattern stands for.
 #[derive(Clone, Copy)]
@@ -43,35 +48,32 @@ struct Binding {
 /// The words and signs round a place.
 #[derive(Clone, Copy)]
 struct Window<'p> {
+    alloc: Global,
     text: &'p str,
+    /// The text with blanks for characters that aren't of the language.
+    plain: &'p str,
     pieces: &'p [Span],
     /// How many of them stand before the place.
     number: usize,
-    /// Where the line of the place ends.
-    line_end: usize,
+    /// How many stand before the end of its line.
+    line: usize,
 }
 
 /// The words and signs of a part of a text; each sign has one byte.
-fn pieces_of(alloc: Global, text: &str, from: usize, to: usize) -> Result<Vec<Span>, AllocError> {
+fn pieces_of(alloc: Global, text: &str, start: usize, end: usize) -> Result<Vec<Span>, AllocError> {
     let mut pieces = Vec::new(alloc);
-    let mut word = from;
-    for number in from..to.saturating_add(1) {
-        let byte = text.as_bytes().get(number).copied().unwrap_or(b' ');
-        if number < to && is_of_word(byte) {
+    let mut from = start;
+    for to in start..end.saturating_add(1) {
+        let byte = text.as_bytes().get(to).copied().unwrap_or(b' ');
+        if to < end && is_of_word(byte) {
             continue;
         }
-        if word < number {
-            pieces.push(Span {
-                from: word,
-                to: number,
-            })?;
+        if from < to {
+            pieces.push(Span { from, to })?;
         }
-        word = number.saturating_add(1);
-        if number < to && !byte.is_ascii_whitespace() {
-            pieces.push(Span {
-                from: number,
-                to: word,
-            })?;
+        from = to.saturating_add(1);
+        if to < end && !byte.is_ascii_whitespace() {
+            pieces.push(Span { from: to, to: from })?;
         }
     }
     Ok(pieces)
@@ -105,17 +107,6 @@ fn is_written(window: Window, word: &str) -> bool {
     false
 }
 
-/// The kind that a word stands for.
-fn kind_of(word: &str) -> Option<&'static str> {
-    if has_word("integer int", word) {
-        Some("integer")
-    } else if has_word("logical bool boolean", word) {
-        Some("logical")
-    } else {
-        None
-    }
-}
-
 /// The capital letter that a piece of a pattern is.
 fn letter_of(piece: &str) -> Option<u8> {
     match piece.as_bytes() {
@@ -127,7 +118,7 @@ fn letter_of(piece: &str) -> Option<u8> {
 /// Whether a piece of a pattern fits at a word, one for several words aside.
 fn fits(window: Window, piece: &str, word: &str) -> bool {
     match piece {
-        "K" => kind_of(word).is_some(),
+        "K" => row_of(KINDS, word).is_some(),
         "D" => has_word("in out", word),
         "R" => has_word("input output", word),
         "V" => has_word(WAITS, word),
@@ -146,20 +137,11 @@ fn is_ended(window: Window, number: usize, is_line: bool, next: &str) -> bool {
     is_next || (!is_line && has_word(ENDS, word))
 }
 
-/// Whether a number is behind the line of the place.
-fn is_past(window: Window, number: usize) -> bool {
-    match window.pieces.get(number) {
-        Some(span) => span.from >= window.line_end,
-        None => true,
-    }
-}
-
-/// Where a run of words ends that a number begins.
+/// Where a run of words ends that a number begins, on the line of the place.
 fn end_of_run(window: Window, from: usize, is_line: bool, next: &str) -> usize {
     let mut depth = 0usize;
-    for number in from..window.pieces.len() {
-        let is_end = depth == 0 && is_ended(window, number, is_line, next);
-        if is_end || is_past(window, number) {
+    for number in from..window.line {
+        if depth == 0 && is_ended(window, number, is_line, next) {
             return number;
         }
         depth = match word_of(window, number) {
@@ -168,7 +150,7 @@ fn end_of_run(window: Window, from: usize, is_line: bool, next: &str) -> usize {
             _ => depth,
         };
     }
-    window.pieces.len()
+    window.line
 }
 
 /// How many words and signs stand before what is behind a piece of a pattern, where that fits at a number of them.
@@ -183,12 +165,9 @@ fn end_of(window: Window, from: usize, piece: &str, next: &str) -> Option<usize>
 
 /// The part between two numbers of words and signs, if it is on one line.
 fn part_between(window: Window, from: usize, to: usize) -> Option<Span> {
-    let first = window.pieces.get(from)?;
-    let last = window.pieces.get(to.checked_sub(1)?)?;
-    let part = Span {
-        from: first.from,
-        to: last.to,
-    };
+    let from = window.pieces.get(from)?.from;
+    let to = window.pieces.get(to.checked_sub(1)?)?.to;
+    let part = Span { from, to };
     let is_shown = part_of(window.text, part).bytes().all(|byte| byte >= b' ');
     if is_shown { Some(part) } else { None }
 }
@@ -215,13 +194,8 @@ fn matched(
 }
 
 /// What is put there, with what the letters stand for: a kind as the language calls it.
-fn filled(
-    alloc: Global,
-    text: &str,
-    template: &str,
-    bindings: &[Binding],
-) -> Result<String, AllocError> {
-    let mut put = String::new(alloc);
+fn filled(window: Window, template: &str, bindings: &[Binding]) -> Words {
+    let mut put = String::new(window.alloc);
     for character in template.chars() {
         let bound = bindings
             .iter()
@@ -230,9 +204,9 @@ fn filled(
             put.push(character)?;
             continue;
         };
-        let found = part_of(text, binding.span);
-        match kind_of(found) {
-            Some(kind) if binding.letter == b'K' => put.push_str(kind)?,
+        let found = part_of(window.text, binding.span);
+        match row_of(KINDS, found) {
+            Some(row) if binding.letter == b'K' => put.push_str(cell(row, 1))?,
             _ => put.push_str(found)?,
         }
     }
@@ -241,14 +215,13 @@ fn filled(
 
 /// The change of a pattern that fits from a number on, if the text is read past it then.
 fn change_at(
-    alloc: Global,
     window: Window,
     start: usize,
     pattern: &[&str],
-    template: &str,
+    put: &str,
     tries: &mut usize,
-) -> Result<Option<Fix>, NoMemory> {
-    let mut bindings = Vec::new(alloc);
+) -> Fixed {
+    let mut bindings = Vec::new(window.alloc);
     let end = match matched(window, start, pattern, &mut bindings)? {
         Some(end) if window.number <= end => end,
         _ => return Ok(None),
@@ -261,46 +234,34 @@ fn change_at(
         Some(behind) => behind.from,
         None => window.text.len(),
     };
-    let put = filled(alloc, window.text, template, &bindings)?;
-    let fix = replacement(alloc, part, put.as_str())?;
-    mending(alloc, window.text, Span { from, to: from }, Some(fix))
-}
-
-/// The first change of a pattern beside a place.
-fn change_of(
-    alloc: Global,
-    window: Window,
-    pattern: &[&str],
-    template: &str,
-    tries: &mut usize,
-) -> Result<Option<Fix>, NoMemory> {
-    let first = window.number.saturating_sub(BEFORE);
-    for start in first..window.number.saturating_add(1) {
-        if let Some(fix) = change_at(alloc, window, start, pattern, template, tries)? {
-            return Ok(Some(fix));
-        }
-    }
-    Ok(None)
+    let put = filled(window, put, &bindings)?;
+    let fix = replacement(window.alloc, part, put.as_str())?;
+    let behind = Span { from, to: from };
+    mending(window.alloc, window.plain, behind, Some(fix))
 }
 
 /// What is put in the place of several words and signs round a place: the first pattern that fits and with which the text is read past it.
-pub(crate) fn rewritten(alloc: Global, text: &str, at: usize) -> Result<Option<Fix>, NoMemory> {
+pub(crate) fn rewritten(alloc: Global, text: &str, plain: &str, at: usize) -> Fixed {
     let rest = text.get(at..).unwrap_or("");
-    let line = rest.find("\n").unwrap_or(rest.len()).min(BEHIND);
-    let line_end = at.saturating_add(line);
+    let line_end = at.saturating_add(rest.find("\n").unwrap_or(rest.len()).min(BEHIND));
     let to = text.len().min(line_end.saturating_add(BEHIND));
     let pieces = pieces_of(alloc, text, at.saturating_sub(NEAR), to)?;
     let window = Window {
+        alloc,
         text,
+        plain,
         pieces: &pieces,
         number: pieces.partition_point(|piece| piece.from < at),
-        line_end,
+        line: pieces.partition_point(|piece| piece.from < line_end),
     };
+    let first = window.number.saturating_sub(BEFORE);
     let mut tries = TRIES.min(MOST_READ.checked_div(text.len()).unwrap_or(0));
     for (pattern, template) in &PATTERNS {
         let words = pattern.split_whitespace().collect::<Vec<&str>>(alloc)?;
-        if let Some(fix) = change_of(alloc, window, &words, template, &mut tries)? {
-            return Ok(Some(fix));
+        for start in first..window.number.saturating_add(1) {
+            if let Some(fix) = change_at(window, start, &words, template, &mut tries)? {
+                return Ok(Some(fix));
+            }
         }
     }
     Ok(None)

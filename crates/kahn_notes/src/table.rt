@@ -1,9 +1,9 @@
 //! Tables of words, a row a line, with cells between bars; and what stands at a place, by such words.
 
-use crate::place::{Place, before, found};
+use crate::place::{Place, before, found, is_declared, name_at};
 use crate::words::class_word;
 use kahn_syntax::{Class, Lexeme};
-use kahn_wanted::{CLASSES, LexemeGroup, Wanted};
+use kahn_wanted::{CLASSES, LexemeGroup, Spot, Wanted};
 
 /// A cell of a row; nothing where there is none.
 pub(crate) fn cell(row: &'static str, number: usize) -> &'static str {
@@ -60,10 +60,18 @@ pub(crate) fn may_stand(word: &str, wanted: &Wanted) -> bool {
 }
 
 /// Whether no byte stands between the lexemes before a place and at it.
-fn are_joined(place: Place) -> bool {
+pub(crate) fn are_joined(place: Place) -> bool {
     match (before(place), found(place)) {
         (Some(one), Some(other)) => one.span.to == other.span.from,
         (_, _) => false,
+    }
+}
+
+/// Whether the name before a place is declared.
+fn is_known(place: Place) -> bool {
+    match name_at(place, Spot::Before) {
+        Some(name) => is_declared(place, 1, name),
+        None => false,
     }
 }
 
@@ -81,7 +89,8 @@ fn holds(test: &str, place: Place) -> bool {
     match (test.strip_prefix("+"), test.strip_prefix("-")) {
         (Some(word), _) => may_stand(word, place.wanted),
         (_, Some(word)) => !may_stand(word, place.wanted),
-        (_, _) => test != "joined" || are_joined(place),
+        (_, _) if test == "joined" => are_joined(place),
+        (_, _) => test != "known" || is_known(place),
     }
 }
 

@@ -12,7 +12,7 @@ use crate::listing::add_wanted;
 use crate::mending::mending;
 use crate::place::Place;
 use crate::rules::grammar_said;
-use crate::said::{Heading, Said, joined};
+use crate::said::{Heading, Told, Words, joined};
 use kahn_marks::{Fix, Note, Other, Sort, add, part_of};
 use kahn_streams::NoMemory;
 use kahn_syntax::{Lexeme, Span, What};
@@ -23,7 +23,7 @@ use std::alloc::{AllocError, Global};
 const MOST: usize = 8192;
 
 /// What stands at a place, in words.
-fn found_words(alloc: Global, text: &str, found: Option<Lexeme>) -> Result<String, AllocError> {
+fn found_words(alloc: Global, text: &str, found: Option<Lexeme>) -> Words {
     match found {
         Some(lexeme) => joined(alloc, &["`", part_of(text, lexeme.span), "`"]),
         None => String::from_str(alloc, "the end of the text"),
@@ -31,12 +31,7 @@ fn found_words(alloc: Global, text: &str, found: Option<Lexeme>) -> Result<Strin
 }
 
 /// What was expected at a place, and what was found there.
-fn expected_words(
-    alloc: Global,
-    text: &str,
-    what: What,
-    unexpected: &Unexpected,
-) -> Result<String, AllocError>
+fn expected_words(alloc: Global, text: &str, what: What, unexpected: &Unexpected) -> Words
     ensures { IfOk result (λ words. IsExpected what unexpected.now (string_bytes words)) }
 {
     let found = found_words(alloc, text, unexpected.found)?;
@@ -46,44 +41,30 @@ fn expected_words(
     Ok(words)
 }
 
-/// Whether a comment before a place is what is wrong: it goes on over what reads like a part of a program, or nothing but comments stands
-/// before the place, and no change of one lexeme makes a program.
-fn is_cause(place: Place, comment: Option<Span>) -> bool {
-    match comment {
-        Some(comment) if comment.to <= place.text.len() => {
-            (place.number == 0 && !place.offers.whole)
-                || swallows(place.text.as_bytes(), comment.from, comment.to, true)
-        }
-        _ => false,
-    }
-}
-
-/// What is said of a place, beside what was expected there.
-fn said_of(
-    alloc: Global,
-    text: &str,
-    span: Span,
-    at: &FaultPlace,
-    comment: Option<Span>,
-) -> Result<Option<Said>, NoMemory> {
+/// What is said of a place, beside what was expected there; nothing where the comment before it is what is wrong: it goes on over what reads
+/// like a part of a program, or nothing but comments stands before the place, and no change of one lexeme makes a program.
+fn said_of(alloc: Global, text: &str, span: Span, at: &FaultPlace, comment: Option<Span>) -> Told {
     let all = if at.lexemes.len() <= MOST {
         reaches(alloc, &at.lexemes, at.number)?
     } else {
         Vec::new(alloc)
     };
     let offers = offers_of(alloc, all, at.number)?;
-    let place = Place {
+    if let Some(it) = comment {
+        let is_first = at.number == 0 && !offers.whole;
+        if is_first || swallows(text.as_bytes(), it.from, it.to.min(text.len()), true) {
+            return Ok(None);
+        }
+    }
+    grammar_said(Place {
+        alloc,
         text,
         lexemes: &at.lexemes,
         number: at.number,
         span,
         wanted: &at.unexpected.wanted,
         offers: &offers,
-    };
-    if is_cause(place, comment) {
-        return Ok(None);
-    }
-    grammar_said(alloc, place)
+    })
 }
 
 /// Where the heading stands: where a change is made, or at the place itself.
@@ -135,19 +116,8 @@ fn note_at(
     }
 }
 
-/// A heading of its own; one that would stand at the place itself stands below.
-fn own_head(below: &mut Vec<String>, span: Span, head: Heading) -> Result<Heading, AllocError> {
-    let Some((at, words)) = head else {
-        return Ok(None);
-    };
-    if at != span {
-        return Ok(Some((at, words)));
-    }
-    below.push(words)?;
-    Ok(None)
-}
-
-/// What a note has beside what was expected: a heading of its own, a change, and sentences, of which one is on the comment before it.
+/// What a note has beside what was expected: a heading of its own, a change, and sentences, of which one is on the comment before it. A
+/// heading that would stand at the place itself stands below.
 fn parts_at(
     alloc: Global,
     text: &str,
@@ -155,14 +125,18 @@ fn parts_at(
     place: &FaultPlace,
 ) -> Result<(Heading, Option<Fix>, Vec<String>), NoMemory> {
     let comment = comment_before(alloc, text, span.from)?;
+    let said = said_of(alloc, text, span, place, comment)?;
+    let (mut head, fix, sentence) = said.unwrap_or((None, None, None));
     let mut below = Vec::new(alloc);
-    let (mut head, mut fix) = (None, None);
-    if let Some(said) = said_of(alloc, text, span, place, comment)? {
-        head = own_head(&mut below, span, said.head)?;
-        fix = said.fix;
-        if let Some(sentence) = said.below {
-            below.push(sentence)?;
+    if let Some((at, words)) = head.take() {
+        if at == span {
+            below.push(words)?;
+        } else {
+            head = Some((at, words));
         }
+    }
+    if let Some(sentence) = sentence {
+        below.push(sentence)?;
     }
     if let Some(comment) = comment {
         below.push(comment_words(alloc, text, comment)?)?;

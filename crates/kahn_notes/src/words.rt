@@ -1,81 +1,52 @@
 //! The words for lexemes and for groups of them.
 
-ghost use Rattle.std.specs.Prelude.{◌≡◌};
+ghost use Rattle.std.specs.Prelude.{◌≡◌, ◌++◌};
+ghost use Rattle.kahn_syntax.specs.Texts.{bytes_of_sign};
 ghost use Rattle.kahn_notes.specs.Notes.{wanted_words};
-ghost use Rattle.kahn_notes.specs.Words.{any_words, keyword_words, sign_words};
+ghost use Rattle.kahn_notes.specs.Words.{any_words};
 
-use kahn_syntax::{Class, Keyword, Sign};
+use kahn_syntax::{Class, Sign};
 use kahn_wanted::LexemeGroup;
 
-/// A keyword between quotes.
-pub(crate) fn keyword_words(keyword: Keyword) -> &'static str
-    ensures { result.now ≡ keyword_words keyword }
-{
-    match keyword {
-        Keyword::And => "`and`",
-        Keyword::Begin => "`begin`",
-        Keyword::Channel => "`channel`",
-        Keyword::Div => "`div`",
-        Keyword::Do => "`do`",
-        Keyword::Else => "`else`",
-        Keyword::End => "`end`",
-        Keyword::False => "`false`",
-        Keyword::If => "`if`",
-        Keyword::In => "`in`",
-        Keyword::Input => "`input`",
-        Keyword::Integer => "`integer`",
-        Keyword::Logical => "`logical`",
-        Keyword::Mod => "`mod`",
-        Keyword::Not => "`not`",
-        Keyword::On => "`on`",
-        Keyword::Or => "`or`",
-        Keyword::Out => "`out`",
-        Keyword::Output => "`output`",
-        Keyword::Par => "`par`",
-        Keyword::Print => "`print`",
-        Keyword::Process => "`process`",
-        Keyword::Repeat => "`repeat`",
-        Keyword::Send => "`send`",
-        Keyword::Then => "`then`",
-        Keyword::True => "`true`",
-        Keyword::Wait => "`wait`",
-        Keyword::While => "`while`",
-    }
-}
-
-/// A sign between quotes.
-pub(crate) fn sign_words(sign: Sign) -> &'static str
-    ensures { result.now ≡ sign_words sign }
+/// How a sign is written.
+fn sign_word(sign: Sign) -> &'static str
+    ensures { result.now ≡ bytes_of_sign sign }
 {
     match sign {
-        Sign::Becomes => "`:=`",
-        Sign::Open => "`(`",
-        Sign::Close => "`)`",
-        Sign::Comma => "`,`",
-        Sign::Semicolon => "`;`",
-        Sign::Plus => "`+`",
-        Sign::Minus => "`-`",
-        Sign::Times => "`*`",
-        Sign::Equal => "`=`",
-        Sign::Unequal => "`<>`",
-        Sign::Less => "`<`",
-        Sign::AtMost => "`<=`",
-        Sign::Greater => "`>`",
-        Sign::AtLeast => "`>=`",
-        Sign::Not => "`\u{AC}`",
+        Sign::Becomes => ":=",
+        Sign::Open => "(",
+        Sign::Close => ")",
+        Sign::Comma => ",",
+        Sign::Semicolon => ";",
+        Sign::Plus => "+",
+        Sign::Minus => "-",
+        Sign::Times => "*",
+        Sign::Equal => "=",
+        Sign::Unequal => "<>",
+        Sign::Less => "<",
+        Sign::AtMost => "<=",
+        Sign::Greater => ">",
+        Sign::AtLeast => ">=",
+        Sign::Not => "\u{AC}",
     }
 }
 
-/// What any lexeme of a class is called.
-pub(crate) fn class_words(class: Class) -> &'static str
-    ensures { result.now ≡ any_words class }
+/// What any lexeme of a class is called: what stands before its letters, these, and what stands behind them.
+pub(crate) fn class_parts(class: Class) -> ((&'static str, &'static str), &'static str)
+    ensures { result.0.0.now ++ (result.0.1.now ++ result.1.now) ≡ any_words class }
 {
     match class {
-        Class::Word(keyword) => keyword_words(keyword),
-        Class::Name => "a name",
-        Class::Number(_) => "a number",
-        Class::Sign(sign) => sign_words(sign),
+        Class::Word(keyword) => (("`", keyword.letters()), "`"),
+        Class::Name => (("a ", "name"), ""),
+        Class::Number(_) => (("a ", "number"), ""),
+        Class::Sign(sign) => (("`", sign_word(sign)), "`"),
     }
+}
+
+/// How a class is written in the tables: the letters of a keyword or a sign, or what any of the class is.
+pub(crate) fn class_word(class: Class) -> &'static str {
+    let ((_, word), _) = class_parts(class);
+    word
 }
 
 /// What a group is called.
@@ -92,15 +63,4 @@ pub(crate) fn group_words(group: LexemeGroup) -> &'static str
         LexemeGroup::Arithmetic => "an arithmetic operator",
         LexemeGroup::Comparison => "a comparison",
     }
-}
-
-/// How a class is written in the tables: the letters of a keyword or a sign, or what any of the class is.
-pub(crate) fn class_word(class: Class) -> &'static str {
-    let words = match class {
-        Class::Word(keyword) => return keyword.letters(),
-        Class::Sign(sign) => sign_words(sign),
-        Class::Name => return "name",
-        Class::Number(_) => return "number",
-    };
-    words.get(1..words.len().saturating_sub(1)).unwrap_or("")
 }

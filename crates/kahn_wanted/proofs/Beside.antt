@@ -1,10 +1,9 @@
 -- From which byte of a text on no line ends, or blanks alone stand.
-use Rattle.std.proofs.Common.{◌≡◌, ◌==◌, ℕ, zero, suc, ◌+◌, ◌-◌, ◌≤◌, ◌<◌, Bool, true, false, ◌||◌, ◌&&◌, not, List, [], ◌∷◌, drop, drop_of_length-le, get_or, length, IsTrue, nat_le, refl, sym, ap, subst, ◌∙◌, arith}
+use Rattle.std.proofs.Common.{◌≡◌, ℕ, zero, suc, ◌+◌, ◌-◌, ◌≤◌, ◌<◌, Bool, true, false, ◌||◌, ◌&&◌, List, [], ◌∷◌, drop, drop_of_length-le, get_or, length, IsTrue, nat_le, refl, sym, ap, subst, ◌∙◌, arith}
 use Rattle.std.proofs.lemmas.Bool.{leb-false, leb-true}
 use Rattle.std.proofs.lemmas.List.{at_drop_more}
-use Rattle.std.specs.List.{list_all, list_any}
-use Rattle.kahn_wanted.specs.Comments.{is_beside}
-use Rattle.kahn_wanted.specs.Swallowing.{is_space}
+use Rattle.std.specs.List.{list_all}
+use Rattle.kahn_wanted.specs.Comments.{is_beside, is_kept}
 use Rattle.kahn_wanted.specs.inner.Passing.{HoldsFrom}
 
 -- ---- tests of what is left of a text: one that fails there fails with a byte more before it
@@ -62,25 +61,15 @@ one_place P a n none not_here i low high is = by (nat_le n i) refl
 
 -- ---- the two tests
 
-abbrev pub lines : List ℕ → Bool
-lines t = not (list_any (λ b. b == 10) t)
-
-nor : (a b : Bool) → not b ≡ false → not (a || b) ≡ false
-nor true b h = refl
-nor false b h = h
-
 nand : (a b : Bool) → b ≡ false → (a && b) ≡ false
 nand true b h = h
 nand false b h = refl
 
-pub lines_fail : Fails lines
-lines_fail x t h = nor (x == 10) (list_any (λ b. b == 10) t) h
+pub kept_fail : (w : Bool) → Fails (list_all (is_kept w))
+kept_fail w x t h = nand (is_kept w x) (list_all (is_kept w) t) h
 
-pub blanks_fail : Fails (list_all is_space)
-blanks_fail x t h = nand (is_space x) (list_all is_space t) h
-
-pub no_line : (b : ℕ) (t : List ℕ) → b ≡ 10 → lines (b ∷ t) ≡ false
-no_line b t h = ap (λ c. not (c == 10 || list_any (λ b. b == 10) t)) h
+pub not_kept : (w : Bool) (b : ℕ) (t : List ℕ) → is_kept w b ≡ false → list_all (is_kept w) (b ∷ t) ≡ false
+not_kept w b t h = ap (λ c. c && list_all (is_kept w) t) h
 
 -- ---- either of them
 
@@ -94,17 +83,20 @@ or_right false q h = h
 neither : (p q : Bool) → p ≡ false → q ≡ false → (p || q) ≡ false
 neither p q h k = ap (λ b. b || q) h ∙ k
 
-pub by_line : (text : List ℕ) (a b : ℕ) → a ≤ b → HoldsFrom (λ i. lines (drop i text)) a → HoldsFrom (λ i. list_all is_space (drop i text)) b → HoldsFrom (is_beside text) a
+abbrev LinesFrom : List ℕ → ℕ → Type 0
+LinesFrom text n = HoldsFrom (λ i. list_all (is_kept false) (drop i text)) n
+
+abbrev BlanksFrom : List ℕ → ℕ → Type 0
+BlanksFrom text n = HoldsFrom (λ i. list_all (is_kept true) (drop i text)) n
+
+pub by_line : (text : List ℕ) (a b : ℕ) → a ≤ b → LinesFrom text a → BlanksFrom text b → HoldsFrom (is_beside text) a
 by_line text a b low (on, off) (blank, dark) = (
-  λ i h. or_left (lines (drop i text)) (list_all is_space (drop i text)) (on i h),
-  λ i h. neither (lines (drop i text)) (list_all is_space (drop i text)) (off i h) (dark i (omega (arith, low, h))),
+  λ i h. or_left (list_all (is_kept false) (drop i text)) (list_all (is_kept true) (drop i text)) (on i h),
+  λ i h. neither (list_all (is_kept false) (drop i text)) (list_all (is_kept true) (drop i text)) (off i h) (dark i (omega (arith, low, h))),
 )
 
-pub by_blanks : (text : List ℕ) (a b : ℕ) → b ≤ a → HoldsFrom (λ i. lines (drop i text)) a → HoldsFrom (λ i. list_all is_space (drop i text)) b → HoldsFrom (is_beside text) b
+pub by_blanks : (text : List ℕ) (a b : ℕ) → b ≤ a → LinesFrom text a → BlanksFrom text b → HoldsFrom (is_beside text) b
 by_blanks text a b low (on, off) (blank, dark) = (
-  λ i h. or_right (lines (drop i text)) (list_all is_space (drop i text)) (blank i h),
-  λ i h. neither (lines (drop i text)) (list_all is_space (drop i text)) (off i (omega (arith, low, h))) (dark i h),
+  λ i h. or_right (list_all (is_kept false) (drop i text)) (list_all (is_kept true) (drop i text)) (blank i h),
+  λ i h. neither (list_all (is_kept false) (drop i text)) (list_all (is_kept true) (drop i text)) (off i (omega (arith, low, h))) (dark i h),
 )
-
-pub no_blank : (b : ℕ) (t : List ℕ) → is_space b ≡ false → list_all is_space (b ∷ t) ≡ false
-no_blank b t h = ap (λ c. c && list_all is_space t) h

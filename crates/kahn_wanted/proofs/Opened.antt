@@ -1,59 +1,55 @@
 -- One lexeme more, and which blocks are open then.
-use Rattle.std.proofs.Common.{◌≡◌, ◌≤◌, ◌<◌, ◌-◌, ◌+◌, ◌∙◌, ℕ, zero, suc, List, [], ◌∷◌, ◌++◌, Option, Some, None, append-nil, append_assoc, ap, arith, drop, get_or, length, length-append, length-take, refl, sym, take}
+use Rattle.std.proofs.Common.{◌≡◌, ◌≤◌, ◌<◌, ◌-◌, ◌+◌, ◌∙◌, ℕ, zero, suc, List, [], ◌∷◌, ◌++◌, append-nil, append_assoc, ap, arith, drop, get_or, length, length-append, length-take, refl, sym, take}
 use Rattle.std.proofs.lemmas.List.{at_drop_all, at_drop_more, take_all}
 use Rattle.kahn_syntax.specs.declared.lexeme.Class.{Class}
 use Rattle.kahn_syntax.specs.declared.lexeme.Class.TheVariants as class
 use Rattle.kahn_syntax.specs.declared.lexeme.Keyword.TheVariants as word
 use Rattle.kahn_syntax.specs.declared.lexeme.Lexeme.{Lexeme}
-use Rattle.kahn_wanted.specs.declared.blocks.Block.{Block}
 use Rattle.kahn_wanted.specs.Blocks.{block_of, closed_from, closed_in, open_blocks}
 use Rattle.kahn_wanted.specs.inner.Open.{blocks_after, open_on}
 
 -- the front of a longer list, and of a shorter one
-of_longer : (bs more : List Block) (n : ℕ) → n ≤ length bs → take n (bs ++ more) ≡ take n bs
+of_longer : (bs more : List Lexeme) (n : ℕ) → n ≤ length bs → take n (bs ++ more) ≡ take n bs
 of_longer bs more zero few = refl
 of_longer [] more (suc n) few = absurd (omega (arith, few))
 of_longer (b ∷ bs) more (suc n) few = ap (λ l. b ∷ l) (of_longer bs more n (omega (arith, few)))
 
-of_front : (bs : List Block) (m n : ℕ) → n ≤ m → take n (take m bs) ≡ take n bs
+of_front : (bs : List Lexeme) (m n : ℕ) → n ≤ m → take n (take m bs) ≡ take n bs
 of_front bs m zero few = refl
 of_front bs zero (suc n) few = absurd (omega (arith, few))
 of_front [] (suc m) (suc n) few = refl
 of_front (b ∷ bs) (suc m) (suc n) few = ap (λ l. b ∷ l) (of_front bs m n (omega (arith, few)))
 
 -- one lexeme on, where those behind it close so many
-one_on : (bs rest : List Block) (last : Option Lexeme) (x : Lexeme) (c : Class) (n : ℕ)
-    → take (length (blocks_after bs last x c) - n) (blocks_after bs last x c) ++ rest ≡ take (length bs - closed_from c n) bs ++ (block_of last x c n ++ rest)
-one_on bs rest last x (class.Word word.Begin) zero =
-    let b : Block = record { before = last; begin = x } in
-    ap (λ l. l ++ rest) (take_all (length (bs ++ b ∷ []) - 0) (bs ++ b ∷ []) (omega arith)) ∙ append_assoc bs (b ∷ []) rest
-    ∙ ap (λ l. l ++ (b ∷ rest)) (sym (take_all (length bs - 0) bs (omega arith)))
-one_on bs rest last x (class.Word word.Begin) (suc n) =
-    let b : Block = record { before = last; begin = x } in
-    let one = length-append bs (b ∷ []) in
-    let same : length (bs ++ b ∷ []) - suc n ≡ length bs - (suc n - 1) = omega (arith, one) in
-    ap (λ l. l ++ rest) (of_longer bs (b ∷ []) (length (bs ++ b ∷ []) - suc n) (omega (arith, one)) ∙ ap (λ k. take k bs) same)
-one_on bs rest last x (class.Word word.End) n =
+one_on : (bs rest : List Lexeme) (x : Lexeme) (c : Class) (n : ℕ)
+    → take (length (blocks_after bs x c) - n) (blocks_after bs x c) ++ rest ≡ take (length bs - closed_from c n) bs ++ (block_of x c n ++ rest)
+one_on bs rest x (class.Word word.Begin) zero =
+    ap (λ l. l ++ rest) (take_all (length (bs ++ x ∷ []) - 0) (bs ++ x ∷ []) (omega arith)) ∙ append_assoc bs (x ∷ []) rest
+    ∙ ap (λ l. l ++ (x ∷ rest)) (sym (take_all (length bs - 0) bs (omega arith)))
+one_on bs rest x (class.Word word.Begin) (suc n) =
+    let one = length-append bs (x ∷ []) in
+    let same : length (bs ++ x ∷ []) - suc n ≡ length bs - (suc n - 1) = omega (arith, one) in
+    ap (λ l. l ++ rest) (of_longer bs (x ∷ []) (length (bs ++ x ∷ []) - suc n) (omega (arith, one)) ∙ ap (λ k. take k bs) same)
+one_on bs rest x (class.Word word.End) n =
     let less = length-take (length bs - 1) bs in
     let same : length (take (length bs - 1) bs) - n ≡ length bs - suc n = omega (arith, less) in
     ap (λ l. l ++ rest) (of_front bs (length bs - 1) (length (take (length bs - 1) bs) - n) (omega (arith, less)) ∙ ap (λ k. take k bs) same)
-one_on bs rest last x c n = refl
+one_on bs rest x c n = refl
 
-module _ (xs : List Lexeme) (i : ℕ) (d : Lexeme) (bs new all : List Block) (last : Option Lexeme) where
-  pub open_more : i < length xs → new ≡ blocks_after bs last (get_or xs i d) (get_or xs i d).what → open_on bs last (drop i xs) ≡ all
-      → open_on new (Some (get_or xs i d)) (drop (i + 1) xs) ≡ all
-  open_more below is so_far =
-      let x = get_or xs i d in
-      let rest = drop (i + 1) xs in
-      ap (λ l. open_on l (Some x) rest) is ∙ one_on bs (open_blocks (Some x) rest) last x x.what (closed_in rest) ∙ sym (at_drop_more (open_on bs last) xs i d below) ∙ so_far
+pub open_more : (xs : List Lexeme) (i : ℕ) (d : Lexeme) (bs new all : List Lexeme) → i < length xs → new ≡ blocks_after bs (get_or xs i d) (get_or xs i d).what
+    → open_on bs (drop i xs) ≡ all → open_on new (drop (i + 1) xs) ≡ all
+open_more xs i d bs new all below is so_far =
+    let x = get_or xs i d in
+    let rest = drop (i + 1) xs in
+    ap (λ l. open_on l rest) is ∙ one_on bs (open_blocks rest) x x.what (closed_in rest) ∙ sym (at_drop_more (open_on bs) xs i d below) ∙ so_far
 
-no_front : (n : ℕ) → ◌≡◌ {A = List Block} (take n []) []
+no_front : (n : ℕ) → ◌≡◌ {A = List Lexeme} (take n []) []
 no_front zero = refl
 no_front (suc n) = refl
 
-pub open_none : (bs : List Block) (xs : List Lexeme) → bs ≡ [] → open_on bs None xs ≡ open_blocks None xs
-open_none bs xs none = ap (λ l. open_on l None xs) none ∙ ap (λ l. l ++ open_blocks None xs) (no_front (0 - closed_in xs))
+pub open_none : (bs xs : List Lexeme) → bs ≡ [] → open_on bs xs ≡ open_blocks xs
+open_none bs xs none = ap (λ l. open_on l xs) none ∙ ap (λ l. l ++ open_blocks xs) (no_front (0 - closed_in xs))
 
-pub open_done : (xs : List Lexeme) (i : ℕ) (bs all : List Block) (last : Option Lexeme) → length xs ≤ i → open_on bs last (drop i xs) ≡ all → bs ≡ all
-open_done xs i bs all last past so_far =
-    sym (append-nil bs) ∙ ap (λ l. l ++ []) (sym (take_all (length bs - 0) bs (omega arith))) ∙ sym (at_drop_all (open_on bs last) xs i past) ∙ so_far
+pub open_done : (xs : List Lexeme) (i : ℕ) (bs all : List Lexeme) → length xs ≤ i → open_on bs (drop i xs) ≡ all → bs ≡ all
+open_done xs i bs all past so_far =
+    sym (append-nil bs) ∙ ap (λ l. l ++ []) (sym (take_all (length bs - 0) bs (omega arith))) ∙ sym (at_drop_all (open_on bs) xs i past) ∙ so_far

@@ -1,10 +1,9 @@
 -- Believed. Which blocks are open behind lexemes.
-use Rattle.std.specs.Prelude.{◌-◌, ℕ, zero, suc, ◌&&◌, List, [], ◌∷◌, ◌++◌, Option, Some, None, if◌then◌else◌, length, nat_le, slice_range}
+use Rattle.std.specs.Prelude.{◌-◌, ℕ, zero, suc, ◌&&◌, List, [], ◌∷◌, ◌++◌, if◌then◌else◌, length, nat_le, slice_range}
 use Rattle.kahn_syntax.specs.declared.lexeme.Class.{Class}
 use Rattle.kahn_syntax.specs.declared.lexeme.Class.TheVariants as class
 use Rattle.kahn_syntax.specs.declared.lexeme.Keyword.TheVariants as word
 use Rattle.kahn_syntax.specs.declared.lexeme.Lexeme.{Lexeme}
-use Rattle.kahn_wanted.specs.declared.blocks.Block.{Block}
 
 -- how many of the blocks that are open before lexemes are closed in these: an `end` closes the last one that is open
 abbrev pub closed_from : Class → ℕ → ℕ
@@ -16,14 +15,14 @@ abbrev pub closed_in : List Lexeme → ℕ
 closed_in [] = 0
 closed_in (x ∷ xs) = closed_from x.what (closed_in xs)
 
--- the block of a lexeme, where it opens one that none of so many closes; and those of lexemes, behind what stands before them
-abbrev pub block_of : Option Lexeme → Lexeme → Class → ℕ → List Block
-block_of last x (class.Word word.Begin) zero = record { before = last; begin = x } ∷ []
-block_of last x _ n = []
+-- a lexeme that opens a block which none of so many closes; and those of lexemes
+abbrev pub block_of : Lexeme → Class → ℕ → List Lexeme
+block_of x (class.Word word.Begin) zero = x ∷ []
+block_of x _ n = []
 
-abbrev pub open_blocks : Option Lexeme → List Lexeme → List Block
-open_blocks last [] = []
-open_blocks last (x ∷ xs) = block_of last x x.what (closed_in xs) ++ open_blocks (Some x) xs
+abbrev pub open_blocks : List Lexeme → List Lexeme
+open_blocks [] = []
+open_blocks (x ∷ xs) = block_of x x.what (closed_in xs) ++ open_blocks xs
 
 -- what stands from one place of a text to another
 abbrev pub bytes_between : List ℕ → ℕ → ℕ → List ℕ

@@ -1,6 +1,6 @@
 -- Believed. The comments of a text, and which of them has to do with what stands at a place behind it.
-use Rattle.std.specs.Prelude.{◌≡◌, ℕ, ◌+◌, ◌<◌, ◌⊎◌, Bool, ◌||◌, ◌==◌, not, IsTrue, true, List, [], ◌∷◌, Option, Some, None, drop, length, slice_get, slice_index, take}
-use Rattle.std.specs.List.{list_all, list_any}
+use Rattle.std.specs.Prelude.{◌≡◌, ℕ, ◌+◌, ◌<◌, ◌⊎◌, Bool, ◌||◌, ◌==◌, not, IsTrue, true, false, List, [], ◌∷◌, Option, Some, None, drop, length, slice_get, slice_index, take}
+use Rattle.std.specs.List.{list_all}
 use Rattle.std.specs.Str.{IsCharBoundary}
 use Rattle.kahn_syntax.specs.Texts.{IsBlank, IsComment, IsLexemeAt}
 use Rattle.kahn_syntax.specs.declared.lexeme.Lexeme.{Lexeme}
@@ -17,9 +17,14 @@ pub data AreComments (text : List ℕ) : ℕ → List Span → Type 0 where
   behind_a_lexeme : {cs : List Span} (x : Lexeme) → IsLexemeAt text x → AreComments text x.span.to cs → AreComments text x.span.from cs
   behind_a_comment : {a b : ℕ} {cs : List Span} → IsComment text a b → AreComments text b cs → AreComments text a (span_of a b ∷ cs)
 
+-- a byte is a blank, or ends no line
+abbrev pub is_kept : Bool → ℕ → Bool
+is_kept true b = is_space b
+is_kept false b = not (b == 10)
+
 -- behind byte i no line ends, or blanks alone stand there
 abbrev pub is_beside : List ℕ → ℕ → Bool
-is_beside text i = not (list_any (λ b. b == 10) (drop i text)) || list_all is_space (drop i text)
+is_beside text i = list_all (is_kept false) (drop i text) || list_all (is_kept true) (drop i text)
 
 -- a comment that ends right before the end of the text, or goes on over what reads like a part of a program
 abbrev pub IsSuspect : List ℕ → Span → Type 0

@@ -1,11 +1,10 @@
 //! The comments of a text, and which of them has to do with what stands at a place behind it.
 
-ghost use Rattle.std.specs.Prelude.{◌≡◌, ◌↔◌, ◌==◌, ℕ, ◌≤◌, IfOk, IsTrue, drop, length, not, take};
-ghost use Rattle.std.specs.List.{list_all, list_any};
+ghost use Rattle.std.specs.Prelude.{◌≡◌, ◌↔◌, ℕ, ◌≤◌, IfOk, IsTrue, drop, length, take};
+ghost use Rattle.std.specs.List.{list_all};
 ghost use Rattle.std.specs.Str.{IsCharBoundary};
 ghost use Rattle.kahn_syntax.specs.Texts.{Gap, IsComment};
-ghost use Rattle.kahn_wanted.specs.Comments.{AreComments, IsCommentBefore, IsLastSuspect, IsSuspect, is_beside};
-ghost use Rattle.kahn_wanted.specs.Swallowing.{is_space};
+ghost use Rattle.kahn_wanted.specs.Comments.{AreComments, IsCommentBefore, IsLastSuspect, IsSuspect, is_beside, is_kept};
 ghost use Rattle.kahn_wanted.specs.inner.Passing.{EndWithin, HoldsFrom, Passed};
 
 use crate::swallowing::{is_blank, swallows};
@@ -63,27 +62,24 @@ pub fn comments_of(alloc: Global, text: &str) -> Result<Vec<Span>, NoMemory>
     Ok(comments)
 }
 
-/// The byte behind the last line feed of a text.
-fn line_start(text: &[u8]) -> usize
-    ensures { HoldsFrom (λ i. not (list_any (λ b. b == 10) (drop i text.now))) result }
+/// Whether a byte is a blank, where these are looked for; else whether it ends no line.
+fn is_kept(byte: u8, blanks: bool) -> bool
+    ensures { result ≡ is_kept blanks byte }
 {
-    let mut at = text.len();
-    'bytes: while 0 < at {
-        if text[at - 1] == b'\n' {
-            return at;
-        }
-        at -= 1;
+    if blanks {
+        is_blank(byte)
+    } else {
+        byte != b'\n'
     }
-    0
 }
 
-/// The byte from which on blanks alone stand.
-fn blanks_start(text: &[u8]) -> usize
-    ensures { HoldsFrom (λ i. list_all is_space (drop i text.now)) result }
+/// The byte from which on all are such bytes.
+fn kept_from(text: &[u8], blanks: bool) -> usize
+    ensures { HoldsFrom (λ i. list_all (is_kept blanks) (drop i text.now)) result }
 {
     let mut at = text.len();
     'bytes: while 0 < at {
-        if !is_blank(text[at - 1]) {
+        if !is_kept(text[at - 1], blanks) {
             return at;
         }
         at -= 1;
@@ -95,8 +91,8 @@ fn blanks_start(text: &[u8]) -> usize
 fn beside_from(text: &[u8]) -> usize
     ensures { HoldsFrom (is_beside text.now) result }
 {
-    let line = line_start(text);
-    let blanks = blanks_start(text);
+    let line = kept_from(text, false);
+    let blanks = kept_from(text, true);
     if line < blanks {
         return line;
     }

@@ -4,7 +4,7 @@ ghost use Rattle.std.specs.Prelude.{◌≡◌, ◌≤◌, ◌<◌, List, ℕ, If
 ghost use Rattle.kahn_syntax.specs.declared.fault.SyntaxFault.TheVariants.{Expected};
 ghost use Rattle.kahn_syntax.specs.declared.lexeme.Lexeme.{Lexeme};
 ghost use Rattle.kahn_syntax.specs.Texts.{BeginsWithin, IsFault, IsTextFault, terminals};
-ghost use Rattle.kahn_wanted.specs.Wanted.{AreWanted, IsAtFault, IsPlace, IsUnexpected};
+ghost use Rattle.kahn_wanted.specs.Wanted.{AreWanted, IsPlace, IsUnexpected};
 
 use crate::asked::{CLASSES, coming};
 use crate::groups::{Wanted, grouped};
@@ -75,25 +75,6 @@ fn place_of(_text: &str, lexemes: &[Lexeme], span: Span, what: What) -> usize
     }
 }
 
-/// What stands where lexemes go wrong, and what may stand there.
-fn wanted_of(
-    alloc: Global,
-    text: &str,
-    lexemes: &[Lexeme],
-    span: Span,
-    what: What,
-) -> Result<Unexpected, NoMemory>
-    requires { IsFault text.now lexemes.now (Expected span what) }
-    ensures { IfOk result (IsAtFault text.now lexemes.now span what) }
-{
-    let number = place_of(text, lexemes, span, what);
-    let wanted = wanted_behind(alloc, &lexemes[..number])?;
-    Ok(Unexpected {
-        found: lexeme_at(lexemes, number),
-        wanted,
-    })
-}
-
 /// The place where a text goes wrong, which is read into lexemes once. It refuses only where memory was refused.
 pub fn place_at(alloc: Global, text: &str, span: Span, what: What) -> Result<FaultPlace, NoMemory>
     requires { IsTextFault text.now (Expected span what) }
@@ -102,11 +83,13 @@ pub fn place_at(alloc: Global, text: &str, span: Span, what: What) -> Result<Fau
     let Ok(lexemes) = lex(alloc, text) else {
         return Err(NoMemory);
     };
-    let unexpected = wanted_of(alloc, text, &lexemes, span, what)?;
-    let number = place_of(text, &lexemes, span, what);
+    let items = lexemes.as_slice();
+    let number = place_of(text, items, span, what);
+    let wanted = wanted_behind(alloc, &items[..number])?;
+    let found = lexeme_at(items, number);
     Ok(FaultPlace {
         lexemes,
         number,
-        unexpected,
+        unexpected: Unexpected { found, wanted },
     })
 }

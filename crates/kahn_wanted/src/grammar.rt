@@ -11,9 +11,7 @@ use crate::awaited::Awaited::{
     Simple, Statement, Sum, Term, Variables,
 };
 use crate::awaited::Lead::{Either, Word};
-use crate::awaited::Single::{
-    Becomes, Begin, Channel, Close, Do, Else, End, Name, Number, On, Open, Semicolon, Then,
-};
+use crate::awaited::Single::{Becomes, Begin, Channel, Do, Else, End, Number, On, Semicolon, Then};
 use crate::awaited::{Awaited, Lead, LeadRule, Single};
 use kahn_syntax::{Keyword, Operator, Sign};
 
@@ -29,11 +27,11 @@ const MINUS: Lead = Lead::Sign(Sign::Minus);
 const LEFT: Lead = Lead::Sign(Sign::Open);
 
 /// Single lexemes.
-const CLOSING: Awaited = Just(Close);
+const NAME: Awaited = Just(Single::Name);
 
-const PARTING: Awaited = Just(Semicolon);
+const OPEN: Awaited = Just(Single::Open);
 
-const BODY: Awaited = Just(Begin);
+const CLOSE: Awaited = Just(Single::Close);
 
 static PROGRAM: [LeadRule; 1] = [(
     Word(Keyword::Begin),
@@ -45,9 +43,9 @@ static DECLARATIONS: [LeadRule; 2] = [
         KIND,
         &[
             Declarations,
-            PARTING,
+            Just(Semicolon),
             MoreNames,
-            Just(Name),
+            NAME,
             Just(Channel),
             Role,
         ],
@@ -56,30 +54,30 @@ static DECLARATIONS: [LeadRule; 2] = [
         Word(Keyword::Process),
         &[
             Declarations,
-            PARTING,
+            Just(Semicolon),
             Just(End),
             MoreStatements,
             Statement,
             Variables,
-            BODY,
-            PARTING,
-            CLOSING,
+            Just(Begin),
+            Just(Semicolon),
+            CLOSE,
             Groups,
-            Just(Open),
-            Just(Name),
+            OPEN,
+            NAME,
         ],
     ),
 ];
 
 static ROLE: [LeadRule; 1] = [(Either(Keyword::Input, Keyword::Output), &[])];
 
-static GROUPS: [LeadRule; 1] = [(KIND, &[MoreGroups, MoreNames, Just(Name), Direction])];
+static GROUPS: [LeadRule; 1] = [(KIND, &[MoreGroups, MoreNames, NAME, Direction])];
 
-static GROUP: [LeadRule; 1] = [(KIND, &[MoreNames, Just(Name), Direction])];
+static GROUP: [LeadRule; 1] = [(KIND, &[MoreNames, NAME, Direction])];
 
 static DIRECTION: [LeadRule; 1] = [(Either(Keyword::In, Keyword::Out), &[])];
 
-static VARIABLES: [LeadRule; 1] = [(KIND, &[Variables, PARTING, MoreNames, Just(Name)])];
+static VARIABLES: [LeadRule; 1] = [(KIND, &[Variables, Just(Semicolon), MoreNames, NAME])];
 
 static STATEMENT: [LeadRule; 7] = [
     (
@@ -92,17 +90,7 @@ static STATEMENT: [LeadRule; 7] = [
     ),
     (Word(Keyword::Repeat), &[Level, Statement]),
     (Lead::Name, &[Expression, Just(Becomes)]),
-    (Word(Keyword::Send), &[Just(Name), Just(On), Expression]),
-    (Word(Keyword::Print), &[Expression]),
-    (
-        Word(Keyword::Begin),
-        &[Level, Just(End), MoreStatements, Statement],
-    ),
-];
-
-static SIMPLE: [LeadRule; 4] = [
-    (Lead::Name, &[Expression, Just(Becomes)]),
-    (Word(Keyword::Send), &[Just(Name), Just(On), Expression]),
+    (Word(Keyword::Send), &[NAME, Just(On), Expression]),
     (Word(Keyword::Print), &[Expression]),
     (
         Word(Keyword::Begin),
@@ -128,16 +116,7 @@ static EXPRESSION: [LeadRule; 8] = [
     (Lead::Name, &[Ors, Ands, Comparison, Signs, Products]),
     (
         WAIT,
-        &[
-            Ors,
-            Ands,
-            Comparison,
-            Signs,
-            Products,
-            CLOSING,
-            Just(Name),
-            Just(Open),
-        ],
+        &[Ors, Ands, Comparison, Signs, Products, CLOSE, NAME, OPEN],
     ),
     (
         MINUS,
@@ -146,7 +125,7 @@ static EXPRESSION: [LeadRule; 8] = [
     (
         LEFT,
         &[
-            Ors, Ands, Comparison, Signs, Products, Level, CLOSING, Expression,
+            Ors, Ands, Comparison, Signs, Products, Level, CLOSE, Expression,
         ],
     ),
 ];
@@ -158,22 +137,12 @@ static CONJUNCTION: [LeadRule; 7] = [
     (Lead::Name, &[Ands, Comparison, Signs, Products]),
     (
         WAIT,
-        &[
-            Ands,
-            Comparison,
-            Signs,
-            Products,
-            CLOSING,
-            Just(Name),
-            Just(Open),
-        ],
+        &[Ands, Comparison, Signs, Products, CLOSE, NAME, OPEN],
     ),
     (MINUS, &[Ands, Comparison, Signs, Products, Level, Factor]),
     (
         LEFT,
-        &[
-            Ands, Comparison, Signs, Products, Level, CLOSING, Expression,
-        ],
+        &[Ands, Comparison, Signs, Products, Level, CLOSE, Expression],
     ),
 ];
 
@@ -182,14 +151,11 @@ static DENIAL: [LeadRule; 7] = [
     (Lead::Number, &[Comparison, Signs, Products]),
     (TRUTH, &[Comparison, Signs, Products]),
     (Lead::Name, &[Comparison, Signs, Products]),
-    (
-        WAIT,
-        &[Comparison, Signs, Products, CLOSING, Just(Name), Just(Open)],
-    ),
+    (WAIT, &[Comparison, Signs, Products, CLOSE, NAME, OPEN]),
     (MINUS, &[Comparison, Signs, Products, Level, Factor]),
     (
         LEFT,
-        &[Comparison, Signs, Products, Level, CLOSING, Expression],
+        &[Comparison, Signs, Products, Level, CLOSE, Expression],
     ),
 ];
 
@@ -197,27 +163,27 @@ static SUM: [LeadRule; 6] = [
     (Lead::Number, &[Signs, Products]),
     (TRUTH, &[Signs, Products]),
     (Lead::Name, &[Signs, Products]),
-    (WAIT, &[Signs, Products, CLOSING, Just(Name), Just(Open)]),
+    (WAIT, &[Signs, Products, CLOSE, NAME, OPEN]),
     (MINUS, &[Signs, Products, Level, Factor]),
-    (LEFT, &[Signs, Products, Level, CLOSING, Expression]),
+    (LEFT, &[Signs, Products, Level, CLOSE, Expression]),
 ];
 
 static TERM: [LeadRule; 6] = [
     (Lead::Number, &[Products]),
     (TRUTH, &[Products]),
     (Lead::Name, &[Products]),
-    (WAIT, &[Products, CLOSING, Just(Name), Just(Open)]),
+    (WAIT, &[Products, CLOSE, NAME, OPEN]),
     (MINUS, &[Products, Level, Factor]),
-    (LEFT, &[Products, Level, CLOSING, Expression]),
+    (LEFT, &[Products, Level, CLOSE, Expression]),
 ];
 
 static FACTOR: [LeadRule; 6] = [
     (Lead::Number, &[]),
     (TRUTH, &[]),
     (Lead::Name, &[]),
-    (WAIT, &[CLOSING, Just(Name), Just(Open)]),
+    (WAIT, &[CLOSE, NAME, OPEN]),
     (MINUS, &[Level, Factor]),
-    (LEFT, &[Level, CLOSING, Expression]),
+    (LEFT, &[Level, CLOSE, Expression]),
 ];
 
 static ORS: [LeadRule; 1] = [(Lead::Operator(Operator::Or), &[Ors, Conjunction])];
@@ -230,14 +196,14 @@ static SIGNS: [LeadRule; 1] = [(Lead::Operator(Operator::Add), &[Signs, Term])];
 
 static PRODUCTS: [LeadRule; 1] = [(Lead::Operator(Operator::Multiply), &[Products, Factor])];
 
-static INSTANCE: [LeadRule; 1] = [(Lead::Name, &[Arguments, Just(Open)])];
+static INSTANCE: [LeadRule; 1] = [(Lead::Name, &[Arguments, OPEN])];
 
 static ARGUMENTS: [LeadRule; 5] = [
     (Lead::Sign(Sign::Close), &[]),
-    (Lead::Name, &[CLOSING, MoreArguments]),
-    (Lead::Number, &[CLOSING, MoreArguments]),
-    (TRUTH, &[CLOSING, MoreArguments]),
-    (MINUS, &[CLOSING, MoreArguments, Just(Number)]),
+    (Lead::Name, &[CLOSE, MoreArguments]),
+    (Lead::Number, &[CLOSE, MoreArguments]),
+    (TRUTH, &[CLOSE, MoreArguments]),
+    (MINUS, &[CLOSE, MoreArguments, Just(Number)]),
 ];
 
 static ARGUMENT: [LeadRule; 4] = [
@@ -247,7 +213,7 @@ static ARGUMENT: [LeadRule; 4] = [
     (MINUS, &[Just(Number)]),
 ];
 
-static MORE_NAMES: [LeadRule; 1] = [(Lead::Sign(Sign::Comma), &[MoreNames, Just(Name)])];
+static MORE_NAMES: [LeadRule; 1] = [(Lead::Sign(Sign::Comma), &[MoreNames, NAME])];
 
 static MORE_STATEMENTS: [LeadRule; 1] = [(
     Lead::Sign(Sign::Semicolon),
@@ -266,50 +232,41 @@ static LAST: [LeadRule; 1] = [(Lead::Sign(Sign::Semicolon), &[])];
 
 static LEVEL: [LeadRule; 0] = [];
 
-static NAME: [LeadRule; 1] = [(Lead::Name, &[])];
-
-static NUMBER: [LeadRule; 1] = [(Lead::Number, &[])];
-
-static OPEN: [LeadRule; 1] = [(Lead::Sign(Sign::Open), &[])];
-
-static CLOSE: [LeadRule; 1] = [(Lead::Sign(Sign::Close), &[])];
-
-static SEMICOLON: [LeadRule; 1] = [(Lead::Sign(Sign::Semicolon), &[])];
-
-static BECOMES: [LeadRule; 1] = [(Lead::Sign(Sign::Becomes), &[])];
-
-static BEGIN: [LeadRule; 1] = [(Word(Keyword::Begin), &[])];
-
-static END: [LeadRule; 1] = [(Word(Keyword::End), &[])];
-
-static CHANNEL: [LeadRule; 1] = [(Word(Keyword::Channel), &[])];
-
-static ON: [LeadRule; 1] = [(Word(Keyword::On), &[])];
-
-static THEN: [LeadRule; 1] = [(Word(Keyword::Then), &[])];
-
-static DO: [LeadRule; 1] = [(Word(Keyword::Do), &[])];
-
-static ELSE: [LeadRule; 1] = [(Word(Keyword::Else), &[])];
+/// Single lexemes, in their order.
+static SINGLES: [LeadRule; 13] = [
+    (Lead::Name, &[]),
+    (Lead::Number, &[]),
+    (Lead::Sign(Sign::Open), &[]),
+    (Lead::Sign(Sign::Close), &[]),
+    (Lead::Sign(Sign::Semicolon), &[]),
+    (Lead::Sign(Sign::Becomes), &[]),
+    (Word(Keyword::Begin), &[]),
+    (Word(Keyword::End), &[]),
+    (Word(Keyword::Channel), &[]),
+    (Word(Keyword::On), &[]),
+    (Word(Keyword::Then), &[]),
+    (Word(Keyword::Do), &[]),
+    (Word(Keyword::Else), &[]),
+];
 
 /// What a single lexeme begins with: itself.
 fn single_rules(single: Single) -> &'static [LeadRule]
     ensures { rules_as result.now ≡ (single_token single, []) ∷ [] }
 {
     match single {
-        Single::Name => &NAME,
-        Single::Number => &NUMBER,
-        Single::Open => &OPEN,
-        Single::Close => &CLOSE,
-        Single::Semicolon => &SEMICOLON,
-        Single::Becomes => &BECOMES,
-        Single::Begin => &BEGIN,
-        Single::End => &END,
-        Single::Channel => &CHANNEL,
-        Single::On => &ON,
-        Single::Then => &THEN,
-        Single::Do => &DO,
-        Single::Else => &ELSE,
+        Single::Name => &SINGLES[..1],
+        Single::Number => &SINGLES[1..2],
+        Single::Open => &SINGLES[2..3],
+        Single::Close => &SINGLES[3..4],
+        Single::Semicolon => &SINGLES[4..5],
+        Single::Becomes => &SINGLES[5..6],
+        Single::Begin => &SINGLES[6..7],
+        Single::End => &SINGLES[7..8],
+        Single::Channel => &SINGLES[8..9],
+        Single::On => &SINGLES[9..10],
+        Single::Then => &SINGLES[10..11],
+        Single::Do => &SINGLES[11..12],
+        Single::Else => &SINGLES[12..13],
     }
 }
 
@@ -326,7 +283,7 @@ pub(crate) fn rules(part: Awaited) -> &'static [LeadRule]
         Awaited::Direction => &DIRECTION,
         Awaited::Variables => &VARIABLES,
         Awaited::Statement => &STATEMENT,
-        Awaited::Simple => &SIMPLE,
+        Awaited::Simple => &STATEMENT[3..],
         Awaited::Expression => &EXPRESSION,
         Awaited::Conjunction => &CONJUNCTION,
         Awaited::Denial => &DENIAL,

@@ -13,7 +13,7 @@ mod reached;
 mod swallowing;
 mod walk;
 
-pub use blocks::{Block, open_behind};
+pub use blocks::open_behind;
 pub use comments::{comment_before, comments_of};
 pub use found::{FaultPlace, Unexpected, place_at};
 pub use groups::{LexemeGroup, Wanted};

@@ -6,7 +6,11 @@ use Rattle.std.specs.Map.{lookup}
 use Rattle.std.specs.Option.{option_or}
 use Rattle.kahn_check.proofs.Alike.{alike_kept, lookup_append}
 use Rattle.kahn_check.specs.inner.Firsts.{kept_first}
+use Rattle.kahn_streams.specs.Syntax.{Stmt}
+use Rattle.kahn_streams.specs.View.{Scope}
+use Rattle.kahn_streams.specs.declared.tree.Statement.{Statement}
 use Rattle.kahn_warnings.specs.inner.Collecting.{contains}
+use Rattle.kahn_warnings.proofs.Lists.{any_in}
 
 or_true : (b : Bool) → b || true ≡ true
 or_true true = refl
@@ -31,10 +35,19 @@ kept_one names n x =
     by (Some u) true = refl
     by (Some u) false = refl
 
+-- where statements are gone through
+pub got_begun : (f : Stmt → Bool) (names : Scope) (ss items : List Statement) (whole had : Bool) → items ≡ ss → whole ≡ any_in f names ss
+    → any_in f names items || had ≡ whole || had
+got_begun f names ss items whole had same is = ap (λ l. any_in f names l || had) same ∙ sym (ap (λ b. b || had) is)
+
 -- what is left, where all is a first part and the rest, and the first part was got
 pub got_first : (all first rest had has : Bool) → all ≡ first || rest → has ≡ first || had → rest || has ≡ all || had
 got_first all true rest had has whole got = ap (λ b. rest || b) got ∙ or_true rest ∙ sym (ap (λ b. b || had) whole)
 got_first all false rest had has whole got = ap (λ b. rest || b) got ∙ sym (ap (λ b. b || had) whole)
+
+-- and where none were there
+pub got_all : (names old : List (List ℕ × Unit {0})) (x : List ℕ) (test : Bool) → contains names x ≡ test || contains old x → old ≡ [] → contains names x ≡ test
+got_all names old x test got none = got ∙ ap (λ ks. test || contains ks x) none ∙ or_false test
 
 -- the warnings of one more of a list
 pub told_next : {A B : Type 0} (f : A → List B) (xs ys : List A) (x : A) (old so_far new : List B) → ys ≡ xs ++ x ∷ []

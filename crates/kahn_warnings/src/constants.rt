@@ -4,7 +4,7 @@ ghost use Rattle.std.specs.Prelude.{◌≡◌};
 ghost use Rattle.kahn_streams.specs.View.{Scope, expression_of};
 ghost use Rattle.kahn_warnings.specs.Constants.{chosen, combined, constant_of, divides, inverted, is_true, negate_fault, negated, sure_fault};
 
-use crate::arithmetic::{apply, is_zero, negate, truth};
+use crate::arithmetic::{apply, negate, number, truth};
 use kahn_streams::{Expression, Failure, Form, Operator, Value};
 
 /// The value with the other sign.
@@ -114,7 +114,7 @@ pub(crate) fn sure_fault(
     match (left, right) {
         (_, None) => None,
         (None, Some(value)) => {
-            if divides(operator) && is_zero(value) {
+            if divides(operator) && number(value) == 0 {
                 Some(Failure::Division)
             } else {
                 None

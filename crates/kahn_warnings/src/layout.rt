@@ -4,70 +4,41 @@ use kahn_streams::{Action, Declaration, Program, Span, Statement};
 use kahn_wanted::bytes_between;
 use std::alloc::{AllocError, Global};
 
-/// A line up to some byte.
-#[derive(Clone, Copy)]
-struct LineFront {
-    /// The column behind the byte.
-    column: usize,
-    /// How deep the line is indented.
-    deep: usize,
-    /// Whether nothing but blanks stands on it so far.
-    blank: bool,
-}
-
-/// The line of a place, up to there; a tab goes to the next multiple of 8.
-fn line_before(text: &str, at: usize) -> LineFront {
+/// The line of a place, up to there: the column behind that, how deep the line is indented, and whether nothing but blanks stands on it so
+/// far. A tab goes to the next multiple of 8.
+fn line_before(text: &str, at: usize) -> (usize, usize, bool) {
     let before = bytes_between(text, 0, at);
     let from = match before.iter().rposition(|byte| *byte == b'\n') {
         Some(end) => end.saturating_add(1),
         None => 0,
     };
-    let mut line = LineFront {
-        column: 0,
-        deep: 0,
-        blank: true,
-    };
+    let (mut column, mut deep, mut blank) = (0usize, 0usize, true);
     for byte in bytes_between(text, from, at) {
-        let column = if *byte == b'\t' {
-            (line.column | 7).saturating_add(1)
-        } else {
-            line.column.saturating_add(1)
-        };
-        let blank = line.blank && (*byte == b' ' || *byte == b'\t');
-        line = LineFront {
-            column,
-            deep: if blank { column } else { line.deep },
-            blank,
-        };
+        if *byte == b'\t' {
+            column |= 7;
+        }
+        column = column.saturating_add(1);
+        blank = blank && (*byte == b' ' || *byte == b'\t');
+        if blank {
+            deep = column;
+        }
     }
-    line
-}
-
-/// Behind the last byte before a place that is no blank and ends no line.
-fn end_before(text: &str, at: usize) -> usize {
-    let before = bytes_between(text, 0, at);
-    let last = before
-        .iter()
-        .rposition(|byte| !matches!(*byte, b' ' | b'\t' | b'\r' | b'\n'));
-    match last {
-        Some(last) => last.saturating_add(1),
-        None => 0,
-    }
+    (column, deep, blank)
 }
 
 /// Whether a statement looks like a part of the `if` or the loop of one that stands behind a `then`, an `else`, a `do` or a `repeat`: that is
 /// deeper than the line of this, and the statement begins a later line in its column; or it stands on the line that the other one begins.
 fn is_under(text: &str, inner: Span, next: Span) -> bool {
-    let line = line_before(text, next.from);
-    let other = line_before(text, inner.from);
-    let guard = line_before(text, end_before(text, inner.from));
+    let (column, _, is_first) = line_before(text, next.from);
+    let (other, _, is_other_first) = line_before(text, inner.from);
+    let guard = text.get(..inner.from).unwrap_or("").trim_end().len();
     let is_later = bytes_between(text, inner.from, next.from).contains(&b'\n');
     let is_alike = if is_later {
-        line.blank && other.column == line.column
+        is_first && other == column
     } else {
-        other.blank
+        is_other_first
     };
-    is_alike && guard.deep < other.column
+    is_alike && line_before(text, guard).1 < other
 }
 
 /// Whether the next statement looks like a part of what a statement is a part of, or ends with, and what stands behind such a word there,

@@ -5,7 +5,7 @@ ghost use Rattle.std.specs.List.{list_any};
 ghost use Rattle.kahn_warnings.specs.Warnings.{is_of, name_kind, name_warnings, names_warnings, process_kind};
 ghost use Rattle.kahn_warnings.specs.inner.Collecting.{contains};
 
-use crate::collected::{NameSet, assigned, has, used};
+use crate::collected::{NameSet, add_all, has};
 use crate::warning::{Warning, WarningKind, add_warning};
 use kahn_streams::{Instance, Kind, Name, Process};
 use std::alloc::{AllocError, Global};
@@ -65,8 +65,9 @@ pub(crate) fn add_names(
 ) -> Result<(), AllocError>
     ensures { IfOk result (λ _. warnings.new.items ≡ warnings.old.items ++ names_warnings process.now) }
 {
-    let used = used(alloc, process)?;
-    let assigned = assigned(alloc, process)?;
+    let mut used = NameSet::new(alloc);
+    let mut assigned = NameSet::new(alloc);
+    add_all(&mut used, &mut assigned, process)?;
     for parameter in &process.parameters {
         add_name(warnings, &used, &assigned, None, &parameter.name)?;
     }

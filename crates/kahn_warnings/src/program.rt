@@ -10,6 +10,7 @@ use crate::loops::{is_seen, never_ends};
 use crate::names::{add_names, process_kind};
 use crate::surely::add_constants;
 use crate::uses::is_empty;
+use crate::warning::WarningKind::{BareThen, Beside, Idle, Unreached};
 use crate::warning::{Warning, WarningKind, add_warning};
 use kahn_streams::{Action, Declaration, Expression, Instance, NoMemory, Program, Span, Statement};
 use std::alloc::{AllocError, Global};
@@ -18,11 +19,7 @@ use std::alloc::{AllocError, Global};
 fn idle_kind(body: &Statement) -> Option<WarningKind>
     ensures { result ≡ idle_kind body.now.action }
 {
-    if is_seen(body) {
-        None
-    } else {
-        Some(WarningKind::Idle)
-    }
+    if is_seen(body) { None } else { Some(Idle) }
 }
 
 /// What is warned of a loop with a test, which may always be true.
@@ -40,11 +37,7 @@ fn endless_kind(test: &Expression, body: &Statement) -> Option<WarningKind>
 fn bare_kind(yes: &Statement) -> Option<WarningKind>
     ensures { result ≡ bare_kind yes.now.action }
 {
-    if is_empty(yes) {
-        Some(WarningKind::BareThen)
-    } else {
-        None
-    }
+    if is_empty(yes) { Some(BareThen) } else { None }
 }
 
 /// Where the first of these statements stands that isn't empty.
@@ -78,7 +71,7 @@ fn add_list(warnings: &mut Vec<Warning>, statements: &[Statement]) -> Result<(),
     ensures { IfOk result (λ _. warnings.new.items ≡ warnings.old.items ++ list_warnings statements.now) }
 {
     let place = first_unreached(statements);
-    add_warning(warnings, Some(WarningKind::Unreached), place)
+    add_warning(warnings, Some(Unreached), place)
 }
 
 /// Adds the warnings of a statement.
@@ -158,7 +151,7 @@ fn add_misplaced(warnings: &mut Vec<Warning>, spans: &[Span]) -> Result<(), Allo
     ensures { IfOk result (λ _. warnings.new.items ≡ warnings.old.items ++ flat_map by_layout spans.now) }
 {
     for span in spans {
-        add_warning(warnings, Some(WarningKind::Beside), Some(*span))?;
+        add_warning(warnings, Some(Beside), Some(*span))?;
     }
     Ok(())
 }

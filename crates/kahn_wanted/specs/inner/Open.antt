@@ -1,21 +1,20 @@
 -- Inner. The blocks that are open while lexemes are gone through.
-use Rattle.std.specs.Prelude.{◌-◌, List, ◌∷◌, ◌++◌, [], Option, length, take}
+use Rattle.std.specs.Prelude.{◌-◌, List, ◌∷◌, ◌++◌, [], length, take}
 use Rattle.kahn_syntax.specs.declared.lexeme.Class.{Class}
 use Rattle.kahn_syntax.specs.declared.lexeme.Class.TheVariants as class
 use Rattle.kahn_syntax.specs.declared.lexeme.Keyword.TheVariants as word
 use Rattle.kahn_syntax.specs.declared.lexeme.Lexeme.{Lexeme}
-use Rattle.kahn_wanted.specs.declared.blocks.Block.{Block}
 use Rattle.kahn_wanted.specs.Blocks.{closed_in, open_blocks}
 
 -- what a lexeme makes of the blocks that are open before it: `begin` opens one, and `end` closes the last one
-abbrev pub without_last : List Block → List Block
+abbrev pub without_last : List Lexeme → List Lexeme
 without_last bs = take (length bs - 1) bs
 
-abbrev pub blocks_after : List Block → Option Lexeme → Lexeme → Class → List Block
-blocks_after bs last x (class.Word word.Begin) = bs ++ (record { before = last; begin = x } ∷ [])
-blocks_after bs last x (class.Word word.End) = without_last bs
-blocks_after bs last x _ = bs
+abbrev pub blocks_after : List Lexeme → Lexeme → Class → List Lexeme
+blocks_after bs x (class.Word word.Begin) = bs ++ x ∷ []
+blocks_after bs x (class.Word word.End) = without_last bs
+blocks_after bs x _ = bs
 
 -- those that are open behind more lexemes
-abbrev pub open_on : List Block → Option Lexeme → List Lexeme → List Block
-open_on bs last xs = take (length bs - closed_in xs) bs ++ open_blocks last xs
+abbrev pub open_on : List Lexeme → List Lexeme → List Lexeme
+open_on bs xs = take (length bs - closed_in xs) bs ++ open_blocks xs

@@ -6,7 +6,7 @@ use Rattle.kahn_syntax.specs.declared.lexeme.Keyword.TheVariants as word
 use Rattle.kahn_wanted.specs.declared.groups.LexemeGroup.TheVariants as group
 use Rattle.kahn_notes.specs.Notes.{listed, pieces_of, text_end_words, wanted_words}
 use Rattle.kahn_notes.specs.Words.{any_words}
-use Rattle.kahn_notes.proofs.Pieces.{last_listed, listed_on}
+use Rattle.kahn_notes.proofs.Pieces.{last_listed, listed_on, regrouped}
 use Rattle.kahn_notes.proofs.listing.add_wanted.Goals as goal
 
 pub loop-group-preserved : goal.loop-group-preserved
@@ -32,10 +32,11 @@ loop-class-preserved c =
     let i = c.loop-class.class-index in
     let d = class.Word word.And in
     let same = c.deref-class-items.ensures.value in
-    let long = ap length same in (
+    let long = ap length same in
+    let parts = c.class_parts.result in (
       listed_on any_words os i d end (c.loop-class.left - 1) (string_bytes c.loop-class.words) _ _ _ _ (omega (arith, long))
-          (omega (arith, long, c.end_piece-ends.ensures.count, c.loop-class.invariant.1)) (c.class_words.ensures ∙ ap (λ l. any_words (get_or l i d)) same) c.separator-in-loop-class.ensures
-          c.in_ok-add-2.ensures c.loop-class.invariant.0,
+          (omega (arith, long, c.end_piece-ends.ensures.count, c.loop-class.invariant.1)) (c.class_parts.ensures ∙ ap (λ l. any_words (get_or l i d)) same) c.separator-in-loop-class.ensures
+          (c.in_ok-add-2.ensures ∙ regrouped (string_bytes c.loop-class.words) parts.0.0.now parts.0.1.now parts.1.now (c.separator-in-loop-class.result.now ++ [])) c.loop-class.invariant.0,
       omega (arith, long, c.loop-class.invariant.1),
     )
 

@@ -1,8 +1,8 @@
 -- What the rest of the lexemes leaves of the blocks so far.
-use Rattle.std.proofs.Common.{◌≡◌, None, drop}
+use Rattle.std.proofs.Common.{◌≡◌, drop}
 use Rattle.kahn_wanted.specs.Blocks.{open_blocks}
 use Rattle.kahn_wanted.specs.inner.Open.{open_on}
 use Rattle.kahn_wanted.proofs.blocks.open_behind.Given as goal
 
 abbrev pub invariant-loop-lexeme : goal.invariant-loop-lexeme
-invariant-loop-lexeme l = open_on l.blocks.items l.before (drop l.lexeme-index l.lexemes) ≡ open_blocks None l.lexemes
+invariant-loop-lexeme l = open_on l.blocks.items (drop l.lexeme-index l.lexemes) ≡ open_blocks l.lexemes

@@ -1,6 +1,6 @@
 use Rattle.std.proofs.Common.{◌≡◌, ◌+◌, ◌++◌, ◌∙◌, None, Some, [], ◌∷◌, ap, append-nil, arith, flat_map, sym, take}
 use Rattle.std.proofs.lemmas.Grind.{common_steps}
-use Rattle.kahn_warnings.proofs.Getting.{told_next}
+use Rattle.kahn_warnings.proofs.Getting.{got_all, told_next}
 use Rattle.kahn_warnings.specs.Warnings.{name_warnings, parameter_warnings, variable_warnings}
 use Rattle.kahn_warnings.proofs.names.add_names.Goals as goal
 
@@ -10,7 +10,8 @@ loop-parameter-preserved c =
     let q = c.parameter-item.result in
     let so_far = c.loop-parameter.warnings.items in
     let told : c.add_name.new.warnings.items ≡ so_far ++ parameter_warnings p q =
-    c.in_ok-add_name.ensures ∙ (λ i. so_far ++ name_warnings (λ x. c.in_ok-used.ensures x i) (λ x. c.in_ok-assigned.ensures x i) None q.name) in
+    c.in_ok-add_name.ensures
+    ∙ (λ i. so_far ++ name_warnings (λ x. got_all _ _ _ _ (c.in_ok-add_all.ensures.used x) c.new-used.ensures i) (λ x. got_all _ _ _ _ (c.in_ok-add_all.ensures.assigned x) c.new-assigned.ensures i) None q.name) in
     let ps = p.parameters.items in
     let i = c.loop-parameter.parameter-index in
     let more : take (i + 1) ps ≡ take i ps ++ q ∷ [] = grind (arith, common_steps) in
@@ -29,7 +30,8 @@ loop-variable-preserved c =
     let v = c.variable-item.result in
     let so_far = c.loop-variable.warnings.items in
     let told : c.add_name-in-loop-variable.new.warnings.items ≡ so_far ++ variable_warnings p v =
-    c.in_ok-add_name-2.ensures ∙ (λ i. so_far ++ name_warnings (λ x. c.in_ok-used.ensures x i) (λ x. c.in_ok-assigned.ensures x i) (Some v.kind) v.name) in
+    c.in_ok-add_name-2.ensures
+    ∙ (λ i. so_far ++ name_warnings (λ x. got_all _ _ _ _ (c.in_ok-add_all.ensures.used x) c.new-used.ensures i) (λ x. got_all _ _ _ _ (c.in_ok-add_all.ensures.assigned x) c.new-assigned.ensures i) (Some v.kind) v.name) in
     let vs = p.variables.items in
     let i = c.loop-variable.variable-index in
     let more : take (i + 1) vs ≡ take i vs ++ v ∷ [] = grind (arith, common_steps) in

@@ -1,0 +1,87 @@
+//! What goes wrong before a character that isn't of the language.
+
+ghost use Rattle.kahn_syntax.specs.Texts.{IsTextFault};
+
+use crate::said::{Words, changed_words};
+use crate::unexpected::unexpected_note;
+use kahn_marks::{Note, Other, add_repeated, part_of};
+use kahn_streams::NoMemory;
+use kahn_syntax::{Span, SyntaxFault, lex, parse};
+use std::alloc::Global;
+
+/// How many such characters are passed over at most.
+const PASSED: usize = 16;
+
+/// A text with blanks in the place of a part.
+fn without(alloc: Global, text: &str, span: Span) -> Words {
+    let mut new = String::from_str(alloc, text.get(..span.from).unwrap_or(text))?;
+    add_repeated(&mut new, " ", span.to.saturating_sub(span.from))?;
+    new.push_str(text.get(span.to..).unwrap_or(""))?;
+    Ok(new)
+}
+
+/// A text with blanks in the place of the first characters that aren't of the language.
+pub(crate) fn blanked(alloc: Global, text: &str) -> Result<String, NoMemory> {
+    let mut plain = String::from_str(alloc, text)?;
+    for _ in 0..PASSED {
+        match lex(alloc, plain.as_str()) {
+            Err(SyntaxFault::BadCharacter(span)) => plain = without(alloc, plain.as_str(), span)?,
+            Err(SyntaxFault::NoMemory) => return Err(NoMemory),
+            _ => return Ok(plain),
+        }
+    }
+    Ok(plain)
+}
+
+/// What a note says in a line: what it puts in the place of something, or else its heading.
+fn words_of(alloc: Global, plain: &str, note: &Note) -> Words {
+    match &note.fix {
+        Some(fix) if fix.span.from < fix.span.to => {
+            changed_words(alloc, part_of(plain, fix.span), fix.put.as_str())
+        }
+        _ => String::from_str(alloc, note.words.as_str()),
+    }
+}
+
+/// What is said of a lexeme that can't stand, where it stands before a place.
+fn said_of(
+    alloc: Global,
+    plain: &str,
+    fault: SyntaxFault,
+    place: Span,
+) -> Result<Option<Other>, NoMemory>
+    requires { IsTextFault plain.now fault }
+{
+    match fault {
+        SyntaxFault::Expected(span, what) => {
+            if place.from <= span.from {
+                return Ok(None);
+            }
+            let note = unexpected_note(alloc, plain, span, what)?;
+            let span = note.span;
+            let words = words_of(alloc, plain, &note)?;
+            Ok(Some(Other { span, words }))
+        }
+        SyntaxFault::NoMemory => Err(NoMemory),
+        _ => Ok(None),
+    }
+}
+
+/// What is said of the first lexeme that can't stand, where it stands before a place; nothing where a change there mends the text.
+pub(crate) fn said_before(
+    alloc: Global,
+    plain: &str,
+    place: Span,
+    is_mended: bool,
+) -> Result<Vec<Other>, NoMemory> {
+    let mut others = Vec::new(alloc);
+    if is_mended {
+        return Ok(others);
+    }
+    if let Err(fault) = parse(alloc, plain) {
+        if let Some(other) = said_of(alloc, plain, fault, place)? {
+            others.push(other)?;
+        }
+    }
+    Ok(others)
+}

@@ -1,0 +1,12 @@
+-- The names of the statements that are left, with those so far, are all.
+use Rattle.std.proofs.Common.{◌≡◌, ◌||◌, [], ◌∷◌, List, ℕ, drop}
+use Rattle.kahn_warnings.specs.inner.Collecting.{contains}
+use Rattle.kahn_streams.specs.View.{statement_of}
+use Rattle.kahn_warnings.specs.Uses.{is_assigned_in, is_used_in}
+use Rattle.kahn_warnings.proofs.Lists.{any_in}
+use Rattle.kahn_warnings.proofs.collected.+add_both.Given as goal
+
+abbrev pub invariant-loop-inner : goal.invariant-loop-inner
+invariant-loop-inner l =
+    ((x : List ℕ) → any_in (is_used_in 0) (x ∷ []) (drop l.inner-index l.inner-items) || contains l.used x ≡ is_used_in 0 (statement_of (x ∷ []) l.fn.statement) || contains l.fn.used x)
+    × ((x : List ℕ) → any_in (is_assigned_in 0) (x ∷ []) (drop l.inner-index l.inner-items) || contains l.assigned x ≡ is_assigned_in 0 (statement_of (x ∷ []) l.fn.statement) || contains l.fn.assigned x)
