@@ -1,11 +1,12 @@
 //! Which change of one word was perhaps meant: each is tried, and the one that leaves the fewest faults is told.
 
+use crate::declaring::{begin_in, forms_in, undeclared};
 use crate::mending::left_by;
 use crate::names::names_asked;
 use crate::near::nearest;
 use crate::others::{argument_span, first_passed};
 use crate::place::{
-    FaultPlace, class_of, instance_at, is_called, is_in, seen_in, text_of, word_at,
+    NetworkPlace, class_of, instance_at, is_called, is_in, seen_in, text_of, word_at,
 };
 use crate::sides::hands;
 use kahn_marks::{Fix, add, part_of};
@@ -35,6 +36,10 @@ pub(crate) enum EditKind {
     Used,
     /// A name that nothing uses is declared as the one that isn't declared.
     Renamed,
+    /// A declaration of the name is put in.
+    Declared,
+    /// A name stands without its `wait`.
+    Bare,
 }
 
 /// A change that leaves fewer faults.
@@ -74,7 +79,8 @@ fn better(best: Option<Edit>, change: Edit) -> Edit {
         };
     }
     let is_another = match (change.way, best.way) {
-        (EditKind::Unused, EditKind::Used) => return change,
+        (EditKind::Declared, _) if best.is_one_of => return change,
+        (EditKind::Unused, EditKind::Used | EditKind::Bare) => return change,
         (EditKind::Renamed, EditKind::Renamed) => true,
         (EditKind::Unused, EditKind::Unused) | (EditKind::Used, EditKind::Used) => {
             change.fix.put.as_bytes() != best.fix.put.as_bytes()
@@ -90,7 +96,7 @@ fn better(best: Option<Edit>, change: Edit) -> Edit {
 #[derive(Drop)]
 struct Trial<'p> {
     alloc: Global,
-    place: FaultPlace<'p>,
+    place: NetworkPlace<'p>,
     /// All faults of the text.
     faults: &'p [CheckFault],
     /// How many may be tried yet.
@@ -100,23 +106,23 @@ struct Trial<'p> {
 }
 
 impl<'p> Trial<'p> {
-    /// Tries these pieces in the place of what stands from the first part to the second, if some change may be tried yet.
+    /// Tries these pieces in the place of what stands from the first part to the second, or behind that, if some change may be tried yet.
     fn put(&mut self, way: EditKind, parts: (Span, Span), pieces: &[&str]) -> Result<(), NoMemory> {
         let Some(rest) = self.tries.checked_sub(1) else {
             return Ok(());
         };
         self.tries = rest;
         let (first, last) = parts;
-        let span = Span {
-            from: first.from,
-            to: last.to,
+        let from = match way {
+            EditKind::Declared => last.to,
+            _ => first.from,
         };
         let mut put = String::new(self.alloc);
         add(&mut put, pieces)?;
         let fix = Fix {
-            span,
+            span: Span { from, to: last.to },
             put,
-            beside: span,
+            beside: last,
         };
         if let Some(left) = left_by(self.alloc, self.place.text, self.faults, &fix)? {
             let change = Edit {
@@ -162,7 +168,7 @@ impl<'p> Trial<'p> {
     /// Other directions, kinds and roles, in a part and of the channels that are arguments.
     fn with_flips(
         &mut self,
-        place: FaultPlace,
+        place: NetworkPlace,
         part: Span,
         arguments: &[Argument],
     ) -> Result<(), NoMemory> {
@@ -197,6 +203,47 @@ impl<'p> Trial<'p> {
             if is_meant && !is_called(place.word(), name) && !is_used(place, name) {
                 self.put_one(EditKind::Unused, place.at, name.text.as_str())?;
                 self.put_one(EditKind::Renamed, name.span, part_of(place.text, place.at))?;
+            }
+        }
+        if near.is_none() {
+            return self.with_declared();
+        }
+        Ok(())
+    }
+
+    /// A declaration of the name at the place: of a channel; or of a variable that is assigned, with all others like it.
+    fn with_declared(&mut self) -> Result<(), NoMemory> {
+        let place = self.place;
+        let (Some(begin), Some(names)) = (begin_in(place), undeclared(self.alloc, place)?) else {
+            return Ok(());
+        };
+        for form in forms_in(place) {
+            let pieces = [*form, names.as_str(), ";"];
+            self.put(EditKind::Declared, (begin, begin), &pieces)?;
+        }
+        Ok(())
+    }
+
+    /// A name without the `wait` that takes it for a channel.
+    fn with_bare(&mut self) -> Result<(), NoMemory> {
+        let place = self.place;
+        let wait = place.lexemes.get(place.number.saturating_sub(2));
+        let close = place.lexemes.get(place.number.saturating_add(1));
+        match (wait, close) {
+            (Some(wait), Some(close)) if matches!(wait.what, Class::Word(Keyword::Wait)) => {
+                let put = part_of(place.text, place.at);
+                self.put(EditKind::Bare, (wait.span, close.span), &[put])
+            }
+            _ => Ok(()),
+        }
+    }
+
+    /// The names that aren't declared, put in the place of one that is declared twice.
+    fn with_undeclared(&mut self) -> Result<(), NoMemory> {
+        let place = self.place;
+        for fault in self.faults {
+            if let CheckFault::Unknown(span) = fault {
+                self.put_one(EditKind::Near, place.at, part_of(place.text, *span))?;
             }
         }
         Ok(())
@@ -264,7 +311,7 @@ fn flipped(class: Class) -> &'static [&'static str] {
 }
 
 /// Whether a kind or a role is that of the declaration of a channel which is one of some arguments.
-fn declares_one(place: FaultPlace, number: usize, arguments: &[Argument]) -> bool {
+fn declares_one(place: NetworkPlace, number: usize, arguments: &[Argument]) -> bool {
     let is_declaration = matches!(
         class_of(place.lexemes, number.checked_add(1)),
         Some(Class::Word(Keyword::Channel | Keyword::Input | Keyword::Output))
@@ -286,7 +333,7 @@ fn declares_one(place: FaultPlace, number: usize, arguments: &[Argument]) -> boo
 
 /// The part of a text in which a direction or a kind may be another one: of the process that has the fault, or the parameters of the one
 /// that an instance names, to the first `)`.
-fn flips_in(place: FaultPlace, called: &[u8]) -> Span {
+fn flips_in(place: NetworkPlace, called: &[u8]) -> Span {
     let nowhere = Span { from: 0, to: 0 };
     let Some(part) = text_of(place.program, called) else {
         return nowhere;
@@ -302,7 +349,7 @@ fn flips_in(place: FaultPlace, called: &[u8]) -> Span {
 }
 
 /// Whether a name stands more than once in the part of a text that sees the names at a place.
-fn is_used(place: FaultPlace, name: &Name) -> bool {
+fn is_used(place: NetworkPlace, name: &Name) -> bool {
     let part = seen_in(place);
     let mut is_there = false;
     for lexeme in place.lexemes {
@@ -318,7 +365,7 @@ fn is_used(place: FaultPlace, name: &Name) -> bool {
 }
 
 /// Where a channel is handed over first that has a side twice.
-fn first_of(place: FaultPlace, fault: CheckFault) -> Option<Span> {
+fn first_of(place: NetworkPlace, fault: CheckFault) -> Option<Span> {
     match fault {
         CheckFault::TwoWriters(_) => first_passed(place, Direction::Out),
         CheckFault::TwoReaders(_) => first_passed(place, Direction::In),
@@ -327,7 +374,7 @@ fn first_of(place: FaultPlace, fault: CheckFault) -> Option<Span> {
 }
 
 /// Whether any other name may be meant.
-fn is_of_names(place: FaultPlace, fault: CheckFault) -> bool {
+fn is_of_names(place: NetworkPlace, fault: CheckFault) -> bool {
     let class = class_of(place.lexemes, Some(place.number));
     let is_asked = match fault {
         CheckFault::TwoWriters(_)
@@ -343,7 +390,7 @@ fn is_of_names(place: FaultPlace, fault: CheckFault) -> bool {
 /// The change that leaves the fewest faults of all, and fewer than there are, of those that may be tried yet.
 pub(crate) fn change_for(
     alloc: Global,
-    place: FaultPlace,
+    place: NetworkPlace,
     faults: &[CheckFault],
     tries: &mut usize,
     fault: CheckFault,
@@ -365,8 +412,12 @@ pub(crate) fn change_for(
             trial.with_near(&names)?;
             trial.with_others(fault)?;
         }
+        CheckFault::ChannelExpected(_) => {
+            trial.with_bare()?;
+            trial.with_others(fault)?;
+        }
+        CheckFault::DeclaredTwice(_) => trial.with_undeclared()?,
         CheckFault::WrongKind(_)
-        | CheckFault::ChannelExpected(_)
         | CheckFault::ValueExpected(_)
         | CheckFault::TwoWriters(_)
         | CheckFault::TwoReaders(_) => trial.with_others(fault)?,
@@ -382,7 +433,7 @@ pub(crate) fn change_for(
 /// Whether a change is told apart from the words of a fault at a place: it is made elsewhere.
 pub(crate) fn is_elsewhere(change: &Edit, at: Span) -> bool {
     match change.way {
-        EditKind::Flip | EditKind::Renamed => true,
+        EditKind::Flip | EditKind::Renamed | EditKind::Declared | EditKind::Bare => true,
         EditKind::Unused | EditKind::Used => change.fix.span.from != at.from,
         EditKind::Near | EditKind::Swap => false,
     }
@@ -391,7 +442,7 @@ pub(crate) fn is_elsewhere(change: &Edit, at: Span) -> bool {
 /// Adds a change to the words of a fault, unless it is made elsewhere.
 pub(crate) fn add_change(
     words: &mut String,
-    place: FaultPlace,
+    place: NetworkPlace,
     change: &Edit,
 ) -> Result<(), AllocError> {
     let (first, last) = change.parts;

@@ -3,6 +3,7 @@
 #![tactic(auto)]
 
 mod changes;
+mod declaring;
 mod inputs;
 mod kept;
 mod mending;

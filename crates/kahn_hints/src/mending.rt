@@ -4,11 +4,12 @@ ghost use Rattle.std.specs.Prelude.{◌≡◌, IfOk, IfSome};
 ghost use Rattle.std.specs.List.{list_all, list_any};
 ghost use Rattle.kahn_hints.specs.Hints.{LessensFaults, HasFewerFaults, are_known, is_known, is_same_fault, letters_at};
 
-use crate::place::word_at;
+use crate::place::{NetworkPlace, is_in, word_at};
+use crate::sides::channel_called;
 use kahn_check::every;
 use kahn_fault::{check_span, check_words};
 use kahn_marks::{Fix, applied};
-use kahn_streams::{CheckFault, NoMemory};
+use kahn_streams::{CheckFault, Kind, NoMemory, Span};
 use kahn_syntax::{SyntaxFault, parse};
 use std::alloc::Global;
 
@@ -81,4 +82,31 @@ pub(crate) fn left_by(
         Some(other) => left_in(alloc, text, faults, other.as_str()),
         None => Ok(None),
     }
+}
+
+/// The kind of what stands at a place where the other one is wanted: that of a channel, or logical where a number is right.
+pub(crate) fn found_kind(alloc: Global, place: NetworkPlace) -> Result<Option<Kind>, NoMemory> {
+    let channel = channel_called(place.program, place.word());
+    if let (None, Some((kind, _))) = (place.process, channel) {
+        return Ok(Some(kind));
+    }
+    let (span, beside) = (place.at, place.at);
+    let put = String::from_str(alloc, "0")?;
+    let Some(other) = applied(alloc, place.text, &Fix { span, put, beside })? else {
+        return Ok(None);
+    };
+    let tree = match parse(alloc, other.as_str()) {
+        Ok(tree) => tree,
+        Err(SyntaxFault::NoMemory) => return Err(NoMemory),
+        Err(_) => return Ok(None),
+    };
+    let to = span.from.saturating_add(2);
+    for fault in &every(alloc, &tree)? {
+        if let CheckFault::WrongKind(at) = fault {
+            if is_in(Span { to, ..span }, *at) {
+                return Ok(Some(Kind::Integer));
+            }
+        }
+    }
+    Ok(Some(Kind::Logical))
 }

@@ -3,7 +3,7 @@
 ghost use Rattle.std.specs.Prelude.{◌≡◌, ◌++◌, IfOk, map};
 ghost use Rattle.kahn_hints.specs.Names.{channels_asked, channels_in, is_asked};
 
-use crate::place::{FaultPlace, asked_kind};
+use crate::place::{NetworkPlace, asked_kind};
 use kahn_streams::{Declaration, Direction, Name, Process, Program, Role, Taking};
 use std::alloc::{AllocError, Global};
 
@@ -25,7 +25,7 @@ pub(crate) enum NameKind {
 /// The names that may stand at the place of a fault.
 pub(crate) fn names_asked<'p>(
     alloc: Global,
-    place: FaultPlace<'p>,
+    place: NetworkPlace<'p>,
 ) -> Result<Vec<&'p Name>, AllocError> {
     names_seen(alloc, place.program, place.process, Some(asked_kind(place)))
 }

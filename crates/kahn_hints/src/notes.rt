@@ -6,15 +6,15 @@ ghost use Rattle.kahn_hints.specs.Hints.{HasOneMore, LessensFaults, TellsFault, 
 
 use crate::changes::{Edit, add_change, change_for, is_elsewhere, tries_of};
 use crate::kept::kept;
-use crate::mending::left_by;
+use crate::mending::{found_kind, left_by};
 use crate::others::others_of;
-use crate::place::{FaultPlace, place_of};
+use crate::place::{NetworkPlace, place_of};
 use crate::said::{add_advice, add_found};
 use kahn_fault::{check_span, check_words};
 use kahn_marks::{Fix, MOST_NOTES, Note, Sort, first_ones};
 use kahn_streams::{CheckFault, NoMemory, Program, Span};
 use kahn_syntax::lex;
-use std::alloc::{AllocError, Global};
+use std::alloc::Global;
 
 /// What is told of the faults of a network.
 #[derive(Drop)]
@@ -46,15 +46,19 @@ fn span_of(fault: CheckFault) -> Span
 /// The words of a fault, with what is wanted and found, and what to do.
 fn words_of(
     alloc: Global,
-    place: FaultPlace,
+    place: NetworkPlace,
     fault: CheckFault,
     change: &Option<Edit>,
-) -> Result<String, AllocError> {
+) -> Result<String, NoMemory> {
+    let kind = match fault {
+        CheckFault::WrongKind(_) => found_kind(alloc, place)?,
+        _ => None,
+    };
     let mut words = String::from_str(alloc, check_words(fault))?;
-    add_found(&mut words, place, fault)?;
+    add_found(&mut words, place, fault, kind)?;
     match change {
         Some(change) => add_change(&mut words, place, change)?,
-        None => add_advice(&mut words, alloc, place, fault)?,
+        None => add_advice(&mut words, alloc, place, fault, kind)?,
     }
     Ok(words)
 }
@@ -97,7 +101,7 @@ fn fix_of(
 fn found_at(
     alloc: Global,
     text: &str,
-    place: FaultPlace,
+    place: NetworkPlace,
     faults: &[CheckFault],
     fault: CheckFault,
     tries: &mut usize,

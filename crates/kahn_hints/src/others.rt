@@ -1,7 +1,7 @@
 //! Another place that has to do with a fault.
 
 use crate::names::{NameKind, names_seen};
-use crate::place::{FaultPlace, called_first, instance_at};
+use crate::place::{NetworkPlace, called_first, instance_at};
 use crate::sides::{channel_called, idle_process, passed, process_called};
 use kahn_marks::Other;
 use kahn_streams::{Argument, CheckFault, Direction, Name, Process, Program, Span};
@@ -13,7 +13,7 @@ type Second = Option<(Span, &'static str)>;
 /// Where the first of the names of a process, or of the program where there is none, is declared with the letters at a place.
 fn declared(
     alloc: Global,
-    place: FaultPlace,
+    place: NetworkPlace,
     process: Option<&Process>,
     asked: Option<NameKind>,
     words: &'static str,
@@ -26,7 +26,7 @@ fn declared(
 }
 
 /// The same of the program, where it may not stand.
-fn declared_outside(alloc: Global, place: FaultPlace) -> Result<Second, AllocError> {
+fn declared_outside(alloc: Global, place: NetworkPlace) -> Result<Second, AllocError> {
     let (asked, words) = match place.process {
         Some(_) => (
             None,
@@ -61,7 +61,7 @@ fn parameter_of(program: &Program, at: Span) -> Option<&Name> {
 }
 
 /// The first of the names in sight with the letters at a place, or else the parameter that takes what stands there.
-fn wanted_here(alloc: Global, place: FaultPlace) -> Result<Second, AllocError> {
+fn wanted_here(alloc: Global, place: NetworkPlace) -> Result<Second, AllocError> {
     let here = declared(alloc, place, place.process, None, "declared here")?;
     match (here, parameter_of(place.program, place.at)) {
         (None, Some(name)) => Ok(Some((name.span, "its parameter is declared here"))),
@@ -70,7 +70,7 @@ fn wanted_here(alloc: Global, place: FaultPlace) -> Result<Second, AllocError> {
 }
 
 /// Where the channel at a place is handed over first in a direction, if not there.
-pub(crate) fn first_passed(place: FaultPlace, direction: Direction) -> Option<Span> {
+pub(crate) fn first_passed(place: NetworkPlace, direction: Direction) -> Option<Span> {
     let name = passed(place.program, direction, place.word())?;
     if name.span.from == place.at.from {
         return None;
@@ -81,7 +81,7 @@ pub(crate) fn first_passed(place: FaultPlace, direction: Direction) -> Option<Sp
 /// Where a channel is handed over first, or where it is declared, if nothing hands it over before.
 fn taken_before(
     alloc: Global,
-    place: FaultPlace,
+    place: NetworkPlace,
     direction: Direction,
     first: &'static str,
     role: &'static str,
@@ -93,14 +93,18 @@ fn taken_before(
 }
 
 /// Where the first process without an instance is declared that takes the channel at a place in a direction.
-fn idle_place(place: FaultPlace, direction: Direction) -> Second {
+fn idle_place(place: NetworkPlace, direction: Direction) -> Second {
     let (kind, _) = channel_called(place.program, place.word())?;
     let process = idle_process(place.program, direction, kind)?;
     Some((process.name.span, "this process has no instance"))
 }
 
 /// Another place that has to do with a fault, and what is said of it.
-fn second_place(alloc: Global, place: FaultPlace, fault: CheckFault) -> Result<Second, AllocError> {
+fn second_place(
+    alloc: Global,
+    place: NetworkPlace,
+    fault: CheckFault,
+) -> Result<Second, AllocError> {
     let process = place.process;
     match fault {
         CheckFault::DeclaredTwice(_) => declared(
@@ -139,7 +143,7 @@ fn second_place(alloc: Global, place: FaultPlace, fault: CheckFault) -> Result<S
 /// The other places that have to do with a fault.
 pub(crate) fn others_of(
     alloc: Global,
-    place: FaultPlace,
+    place: NetworkPlace,
     fault: CheckFault,
 ) -> Result<Vec<Other>, AllocError> {
     let mut others = Vec::new(alloc);

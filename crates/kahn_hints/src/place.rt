@@ -4,8 +4,7 @@ ghost use Rattle.std.specs.Prelude.{◌≡◌};
 ghost use Rattle.kahn_hints.specs.Hints.{word_at};
 
 use crate::names::NameKind;
-use crate::sides::channel_called;
-use kahn_streams::{Declaration, Instance, Kind, Name, Process, Program, Span, Taking};
+use kahn_streams::{Declaration, Instance, Name, Process, Program, Span};
 use kahn_syntax::{Class, Keyword, Lexeme, Sign};
 
 /// The letters at a place of a text; none where it isn't within the text.
@@ -20,7 +19,7 @@ pub(crate) fn word_at(text: &str, at: Span) -> &[u8]
 
 /// The place of a fault.
 #[derive(Clone, Copy)]
-pub(crate) struct FaultPlace<'p> {
+pub(crate) struct NetworkPlace<'p> {
     /// The text.
     pub(crate) text: &'p str,
     /// Its lexemes.
@@ -35,7 +34,7 @@ pub(crate) struct FaultPlace<'p> {
     pub(crate) process: Option<&'p Process>,
 }
 
-impl<'p> FaultPlace<'p> {
+impl<'p> NetworkPlace<'p> {
     /// The letters there.
     pub(crate) fn word(&self) -> &'p [u8] {
         word_at(self.text, self.at)
@@ -121,8 +120,8 @@ pub(crate) fn place_of<'p>(
     lexemes: &'p [Lexeme],
     program: &'p Program,
     at: Span,
-) -> FaultPlace<'p> {
-    FaultPlace {
+) -> NetworkPlace<'p> {
+    NetworkPlace {
         text,
         lexemes,
         program,
@@ -133,7 +132,7 @@ pub(crate) fn place_of<'p>(
 }
 
 /// The part of a text that sees the names at a place: a process, or all of it.
-pub(crate) fn seen_in(place: FaultPlace) -> Span {
+pub(crate) fn seen_in(place: NetworkPlace) -> Span {
     let all = Span {
         from: 0,
         to: place.text.len(),
@@ -150,7 +149,7 @@ pub(crate) fn class_of(lexemes: &[Lexeme], number: Option<usize>) -> Option<Clas
 }
 
 /// The kind of the names that may stand at a place.
-pub(crate) fn asked_kind(place: FaultPlace) -> NameKind {
+pub(crate) fn asked_kind(place: NetworkPlace) -> NameKind {
     let number = place.number;
     if place.process.is_none() {
         return match class_of(place.lexemes, number.checked_add(1)) {
@@ -163,97 +162,5 @@ pub(crate) fn asked_kind(place: FaultPlace) -> NameKind {
         (Some(Class::Word(Keyword::On)), _) => NameKind::Target,
         (Some(Class::Sign(Sign::Open)), Some(Class::Word(Keyword::Wait))) => NameKind::Source,
         _ => NameKind::Value,
-    }
-}
-
-/// The kind of the values of what a name stands for at a place.
-fn kind_named(place: FaultPlace, span: Span) -> Option<Kind> {
-    let word = word_at(place.text, span);
-    let Some(process) = place.process else {
-        let (kind, _) = channel_called(place.program, word)?;
-        return Some(kind);
-    };
-    for parameter in &process.parameters {
-        if is_called(word, &parameter.name) {
-            return match parameter.taking {
-                Taking::Channel(_, kind) | Taking::Value(kind) => Some(kind),
-            };
-        }
-    }
-    for variable in &process.variables {
-        if is_called(word, &variable.name) {
-            return Some(variable.kind);
-        }
-    }
-    None
-}
-
-/// The kind of a lexeme that gives a value.
-fn kind_alone(place: FaultPlace, lexeme: Lexeme) -> Option<Kind> {
-    match lexeme.what {
-        Class::Number(_) => Some(Kind::Integer),
-        Class::Word(Keyword::True | Keyword::False) => Some(Kind::Logical),
-        Class::Name => kind_named(place, lexeme.span),
-        Class::Word(_) | Class::Sign(_) => None,
-    }
-}
-
-/// The kind that an operator gives.
-fn kind_given(class: Class) -> Option<Kind> {
-    match class {
-        Class::Word(Keyword::Div | Keyword::Mod) => Some(Kind::Integer),
-        Class::Sign(Sign::Plus | Sign::Minus | Sign::Times) => Some(Kind::Integer),
-        Class::Word(Keyword::And | Keyword::Or | Keyword::Not) => Some(Kind::Logical),
-        Class::Sign(Sign::Equal | Sign::Unequal | Sign::Not) => Some(Kind::Logical),
-        Class::Sign(Sign::Less | Sign::AtMost | Sign::Greater | Sign::AtLeast) => {
-            Some(Kind::Logical)
-        }
-        _ => None,
-    }
-}
-
-/// In how many brackets the operator stands that decides, and the kind that it gives, behind a lexeme in so many: the one in fewer, or a
-/// logical one.
-fn decided(decides: Option<(usize, Kind)>, depth: usize, class: Class) -> Option<(usize, Kind)> {
-    let Some(kind) = kind_given(class) else {
-        return decides;
-    };
-    match (decides, kind) {
-        (Some((least, _)), Kind::Logical) if depth > least => decides,
-        (Some((least, _)), Kind::Integer) if depth >= least => decides,
-        _ => Some((depth, kind)),
-    }
-}
-
-/// How many brackets are open behind a lexeme, and how many tests, between `if` and `then`.
-fn nested(depth: usize, tests: usize, class: Class) -> (usize, usize) {
-    match class {
-        Class::Sign(Sign::Open) => (depth.saturating_add(1), tests),
-        Class::Sign(Sign::Close) => (depth.saturating_sub(1), tests),
-        Class::Word(Keyword::If) => (depth, tests.saturating_add(1)),
-        Class::Word(Keyword::Then) => (depth, tests.saturating_sub(1)),
-        _ => (depth, tests),
-    }
-}
-
-/// The kind of what stands at a place: the one that the outermost operator gives, or else that of the first value.
-pub(crate) fn found_kind(place: FaultPlace) -> Option<Kind> {
-    let end = place
-        .lexemes
-        .partition_point(|lexeme| lexeme.span.to <= place.at.to);
-    let mut open = (0usize, 0usize);
-    let mut decides: Option<(usize, Kind)> = None;
-    let mut first: Option<Kind> = None;
-    for lexeme in place.lexemes.get(place.number..end)? {
-        let (depth, tests) = open;
-        if tests == 0 {
-            decides = decided(decides, depth, lexeme.what);
-            first = first.or(kind_alone(place, *lexeme));
-        }
-        open = nested(depth, tests, lexeme.what);
-    }
-    match decides {
-        Some((_, kind)) => Some(kind),
-        None => first,
     }
 }

@@ -4,19 +4,19 @@ use crate::names::{NameKind, names_asked, names_seen};
 use crate::near::nearest;
 use crate::others::argument_span;
 use crate::place::{
-    FaultPlace, asked_kind, called_first, class_of, found_kind, instance_at, is_called, word_at,
+    NetworkPlace, asked_kind, called_first, class_of, instance_at, is_called, word_at,
 };
 use crate::sides::{channel_called, passed, process_called};
 use crate::sight::{add_meant, add_names, first_once};
 use itoa::Buffer;
-use kahn_marks::{add, add_spot};
+use kahn_marks::{add, add_spot, part_of};
 use kahn_streams::{CheckFault, Direction, Instance, Kind, Role};
 use kahn_syntax::Class;
 use std::alloc::{AllocError, Global};
 
 /// The kind that is wanted and the one that is found.
-fn kind_words(place: FaultPlace) -> &'static str {
-    match found_kind(place) {
+fn kind_words(found: Option<Kind>) -> &'static str {
+    match found {
         Some(Kind::Integer) => ": wanted logical, found integer",
         Some(Kind::Logical) => ": wanted integer, found logical",
         None => "",
@@ -24,9 +24,9 @@ fn kind_words(place: FaultPlace) -> &'static str {
 }
 
 /// How a value of the wanted kind is made of an expression in a body, and what an instance hands over for one.
-fn made_words(place: FaultPlace) -> &'static str {
+fn made_words(place: NetworkPlace, found: Option<Kind>) -> &'static str {
     let class = class_of(place.lexemes, Some(place.number));
-    match (found_kind(place), place.process.is_some(), class) {
+    match (found, place.process.is_some(), class) {
         (Some(Kind::Integer), true, _) => "; `X <> 0` is a truth value of `X`",
         (Some(Kind::Logical), true, _) => "; `if T then 1 else 0` is a number of `T`",
         (_, false, Some(Class::Name)) => "",
@@ -37,7 +37,7 @@ fn made_words(place: FaultPlace) -> &'static str {
 }
 
 /// The direction that is wanted and the one that is found.
-fn direction_words(place: FaultPlace) -> &'static str {
+fn direction_words(place: NetworkPlace) -> &'static str {
     match asked_kind(place) {
         NameKind::Source => ": wanted `in`, found `out`",
         NameKind::Target => ": wanted `out`, found `in`",
@@ -46,7 +46,7 @@ fn direction_words(place: FaultPlace) -> &'static str {
 }
 
 /// What is found where a channel is wanted.
-fn channel_words(place: FaultPlace) -> &'static str {
+fn channel_words(place: NetworkPlace) -> &'static str {
     match (place.process, process_called(place.program, place.word())) {
         (None, Some(_)) => ", found a process",
         _ => ", found a value",
@@ -54,7 +54,7 @@ fn channel_words(place: FaultPlace) -> &'static str {
 }
 
 /// What is found where a value is wanted.
-fn value_words(place: FaultPlace) -> &'static str {
+fn value_words(place: NetworkPlace) -> &'static str {
     if place.process.is_some() || channel_called(place.program, place.word()).is_some() {
         ", found a channel"
     } else if process_called(place.program, place.word()).is_some() {
@@ -65,7 +65,7 @@ fn value_words(place: FaultPlace) -> &'static str {
 }
 
 /// As what a name is declared that should be that of a process.
-fn other_words(place: FaultPlace) -> &'static str {
+fn other_words(place: NetworkPlace) -> &'static str {
     let channel = channel_called(place.program, place.word());
     match (asked_kind(place), channel) {
         (NameKind::Process, Some(_)) => " as a process, but as a channel",
@@ -74,7 +74,7 @@ fn other_words(place: FaultPlace) -> &'static str {
 }
 
 /// Adds how many arguments are wanted and found at an instance.
-fn add_counts(words: &mut String, place: FaultPlace) -> Result<(), AllocError> {
+fn add_counts(words: &mut String, place: NetworkPlace) -> Result<(), AllocError> {
     let process = process_called(place.program, place.word());
     let instance = instance_at(&place.program.instances, place.at.from);
     let (Some(process), Some(instance)) = (process, instance) else {
@@ -87,16 +87,17 @@ fn add_counts(words: &mut String, place: FaultPlace) -> Result<(), AllocError> {
     add(words, &[": wanted ", wanted, ", found ", found])
 }
 
-/// Adds what is wanted and what is found.
+/// Adds what is wanted and what is found; of a fault of kinds this one.
 pub(crate) fn add_found(
     words: &mut String,
-    place: FaultPlace,
+    place: NetworkPlace,
     fault: CheckFault,
+    kind: Option<Kind>,
 ) -> Result<(), AllocError> {
     let found = match fault {
         CheckFault::Unknown(_) => other_words(place),
         CheckFault::WrongCount(_) => return add_counts(words, place),
-        CheckFault::WrongKind(_) => kind_words(place),
+        CheckFault::WrongKind(_) => kind_words(kind),
         CheckFault::WrongDirection(_) => direction_words(place),
         CheckFault::ChannelExpected(_) => channel_words(place),
         CheckFault::ValueExpected(_) => value_words(place),
@@ -106,13 +107,41 @@ pub(crate) fn add_found(
     words.push_str(found)
 }
 
+/// Adds how a process takes a channel of the program, where it is used as if it had it; answers whether it does.
+fn add_taken(words: &mut String, place: NetworkPlace) -> Result<bool, AllocError> {
+    let channel = channel_called(place.program, place.word());
+    let (Some(process), Some((kind, _))) = (place.process, channel) else {
+        return Ok(false);
+    };
+    let way = match (kind, asked_kind(place)) {
+        (Kind::Integer, NameKind::Target) => "integer out ",
+        (Kind::Logical, NameKind::Target) => "logical out ",
+        (Kind::Integer, _) => "integer in ",
+        (Kind::Logical, _) => "logical in ",
+    };
+    let name = part_of(place.text, place.at);
+    let parts = [
+        "; add `",
+        way,
+        name,
+        "` to the parameters of `",
+        process.name.text.as_str(),
+        "`, and hand `",
+        name,
+        "` to it",
+    ];
+    add(words, &parts)?;
+    Ok(true)
+}
+
 /// Adds which name was perhaps meant: the nearest of those that may stand there, unless it is the very name, declared a second time; or
-/// else the first five of them, each once.
-fn add_unknown(words: &mut String, alloc: Global, place: FaultPlace) -> Result<(), AllocError> {
+/// else how it can be one of them, or the first five of them, each once.
+fn add_unknown(words: &mut String, alloc: Global, place: NetworkPlace) -> Result<(), AllocError> {
     let names = names_asked(alloc, place)?;
     match nearest(place.word(), &names) {
         Some(name) if is_called(place.word(), name) => Ok(()),
         Some(name) => add_meant(words, name),
+        None if add_taken(words, place)? => Ok(()),
         None => {
             let list = first_once(alloc, &names)?;
             if !list.is_empty() {
@@ -124,7 +153,7 @@ fn add_unknown(words: &mut String, alloc: Global, place: FaultPlace) -> Result<(
 }
 
 /// Adds how the next value is taken, where a parameter to be read stands for a value, or how one is sent, where one to be written does.
-fn add_used(words: &mut String, alloc: Global, place: FaultPlace) -> Result<(), AllocError> {
+fn add_used(words: &mut String, alloc: Global, place: NetworkPlace) -> Result<(), AllocError> {
     if place.process.is_none() {
         return Ok(());
     }
@@ -142,7 +171,7 @@ fn add_used(words: &mut String, alloc: Global, place: FaultPlace) -> Result<(), 
 }
 
 /// What to do about a channel without a writer.
-fn unwritten_words(place: FaultPlace) -> &'static str {
+fn unwritten_words(place: NetworkPlace) -> &'static str {
     let is_read = passed(place.program, Direction::In, place.word()).is_some();
     match (channel_called(place.program, place.word()), is_read) {
         (Some((_, Role::Inner)), true) => {
@@ -155,7 +184,7 @@ fn unwritten_words(place: FaultPlace) -> &'static str {
 }
 
 /// What to do about a channel without a reader.
-fn unread_words(place: FaultPlace) -> &'static str {
+fn unread_words(place: NetworkPlace) -> &'static str {
     match channel_called(place.program, place.word()) {
         Some((_, Role::Inner)) =>
             "; hand it to an `in` parameter, or declare it `output` where its values are to be reported",
@@ -177,7 +206,7 @@ fn are_equal(text: &str, one: &Instance, other: &Instance) -> bool {
 }
 
 /// Adds where an instance stands before the one at a place that is spelled alike; or else what to do about a channel with such a side twice.
-fn add_twice(words: &mut String, place: FaultPlace, advice: &str) -> Result<(), AllocError> {
+fn add_twice(words: &mut String, place: NetworkPlace, advice: &str) -> Result<(), AllocError> {
     let instances = &place.program.instances;
     if let Some(one) = instance_at(instances, place.at.from) {
         for other in instances {
@@ -195,12 +224,13 @@ fn add_twice(words: &mut String, place: FaultPlace, advice: &str) -> Result<(), 
 pub(crate) fn add_advice(
     words: &mut String,
     alloc: Global,
-    place: FaultPlace,
+    place: NetworkPlace,
     fault: CheckFault,
+    kind: Option<Kind>,
 ) -> Result<(), AllocError> {
     match fault {
         CheckFault::Unknown(_) | CheckFault::WrongDirection(_) => add_unknown(words, alloc, place),
-        CheckFault::WrongKind(_) => words.push_str(made_words(place)),
+        CheckFault::WrongKind(_) => words.push_str(made_words(place, kind)),
         CheckFault::ValueExpected(_) => add_used(words, alloc, place),
         CheckFault::TwoWriters(_) => add_twice(
             words,

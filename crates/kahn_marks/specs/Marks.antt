@@ -100,13 +100,3 @@ marked_at sort path text from bytes words =
 
 abbrev pub marked_as : List ℕ → List ℕ → List ℕ → Span → List ℕ → List ℕ
 marked_as sort path text span words = marked_at sort path text span.from (span.to - span.from) words
-
--- the part that is at fault, one that has to do with it, and one that is allowed, and seldom meant
-abbrev pub marked : List ℕ → List ℕ → Span → List ℕ → List ℕ
-marked path text span words = marked_as (codes "error") path text span words
-
-abbrev pub marked_too : List ℕ → List ℕ → Span → List ℕ → List ℕ
-marked_too path text span words = marked_as (codes "note") path text span words
-
-abbrev pub marked_warning : List ℕ → List ℕ → Span → List ℕ → List ℕ
-marked_warning path text span words = marked_as (codes "warning") path text span words

@@ -14,7 +14,6 @@ mod told;
 // For the crates above.
 pub use applying::{applied, padded};
 pub use near::is_within;
-pub use note::{marked, marked_too, marked_warning};
 pub use pieces::{add, add_repeated};
 pub use places::{add_spot, place};
 pub use rendering::{Fix, Note, Other, Sort, part_of, render, simple};

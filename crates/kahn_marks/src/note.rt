@@ -1,7 +1,7 @@
 //! A note on a part of a text.
 
 ghost use Rattle.std.specs.Prelude.{◌≡◌, ◌-◌, ◌++◌, IfOk, slice_index_or, string_bytes};
-ghost use Rattle.kahn_marks.specs.Marks.{carets_text, carets_of, heading, line_at, marked, marked_as, marked_too, marked_warning, rows_text};
+ghost use Rattle.kahn_marks.specs.Marks.{carets_text, carets_of, heading, line_at, marked_as, rows_text};
 
 use crate::columns::{Row, add_row, near_part};
 use crate::pieces::{add, add_repeated};
@@ -81,7 +81,8 @@ fn add_heading<'a>(
     )
 }
 
-/// A note of a sort on a part of the text of a file.
+/// A note of a sort on a part of the text of a file, in three lines: `PATH:LINE:COLUMN: SORT: WORDS`, the line where the part begins, and
+/// carets under the part. A part that begins beyond the text is told as the text's end. It refuses only where memory was refused.
 pub(crate) fn marked_as(
     alloc: Global,
     sort: &str,
@@ -102,45 +103,4 @@ pub(crate) fn marked_as(
     let source = line_at(text, line - 1);
     add_rows(&mut note, alloc, source, number, column - 1, bytes)?;
     Ok(note)
-}
-
-/// A note on a part of the text of a file, in three lines: `PATH:LINE:COLUMN: error: WORDS`, the line where the part begins,
-/// and carets under the part. A part that begins beyond the text is told as the text's end. It refuses only where memory was
-/// refused.
-pub fn marked(
-    alloc: Global,
-    path: &str,
-    text: &str,
-    span: Span,
-    words: &str,
-) -> Result<String, AllocError>
-    ensures { IfOk result (λ note. string_bytes note ≡ marked path.now text.now span words.now) }
-{
-    marked_as(alloc, "error", path, text, span, words)
-}
-
-/// The same of another part, which has to do with the one that is at fault: `PATH:LINE:COLUMN: note: WORDS`.
-pub fn marked_too(
-    alloc: Global,
-    path: &str,
-    text: &str,
-    span: Span,
-    words: &str,
-) -> Result<String, AllocError>
-    ensures { IfOk result (λ note. string_bytes note ≡ marked_too path.now text.now span words.now) }
-{
-    marked_as(alloc, "note", path, text, span, words)
-}
-
-/// The same of what is allowed, and seldom meant: `PATH:LINE:COLUMN: warning: WORDS`.
-pub fn marked_warning(
-    alloc: Global,
-    path: &str,
-    text: &str,
-    span: Span,
-    words: &str,
-) -> Result<String, AllocError>
-    ensures { IfOk result (λ note. string_bytes note ≡ marked_warning path.now text.now span words.now) }
-{
-    marked_as(alloc, "warning", path, text, span, words)
 }
