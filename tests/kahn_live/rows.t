@@ -63,3 +63,50 @@ The same channel twice: two of its values in each row.
   3
   6
   10
+Rows of output, by --out with several names: each goes out once all its values are there, the streams in any order.
+  $ cat > both.kahn << END
+  > begin integer input channel A, B; integer output channel X, Y; logical output channel Z; integer channel S;
+  > process twice(integer in U; integer out W); begin repeat send 2 * wait(U) on W end;
+  > process odd(integer in U; integer out S; logical out W);
+  > begin integer N; repeat begin N := wait(U); send N on S; send N mod 2 = 1 on W end end;
+  > odd(A, S, Z) par twice(S, X) par twice(B, Y)
+  > end
+  > END
+  $ printf '1,10\n-2,20\n' | kahn_live both.kahn --in A,B --out X,Z,Y
+  2,true,20
+  -4,false,40
+  $ printf 'A: 1 2 3\nB: 10\nB: 20 30\nA: 4\nB: 40 50\n' | kahn_live both.kahn --plain ,Y,X
+  20,2
+  40,4
+  60,6
+  80,8
+  ! both.kahn: values are left without the others of their row
+An inner channel as the first, an input, and the same one twice; a blank behind a comma.
+  $ printf 'A: 1 2\n' | kahn_live both.kahn --out 'S, X'
+  1,2
+  2,4
+  $ printf '1\n2\n' | kahn_live both.kahn --plain A,A,X,X
+  1,2,2
+  2,4,4
+  ! both.kahn: --plain feeds A alone; no line feeds B
+Values without their row are left, and those of a run that is stopped short come later.
+  $ printf 'A: 1\nB: 10 20\nB 30\nB 40\n' | kahn_live both.kahn --out X,Y --keep-going
+  2,20
+  ! both.kahn: input line 3: not a name and a colon: `B`; a colon stands behind the name
+  ! both.kahn: and 1 line more like it
+  ! both.kahn: values are left without the others of their row
+  $ printf 'A: 1 2 3\nB: 10 20 30\n\n\n\n\n\n' | kahn_live both.kahn --out X,Y --step 4
+  2,20
+  4,40
+  6,60
+  ! both.kahn: input line 1: wants more events than --step allows, and goes on with the next line
+No stream of one of them, and no name.
+  $ yes 1 | kahn_live both.kahn --in A --out X,Q
+  ! both.kahn: --plain: no such channel: `X,Q`; channels: `A`, `B`, `X`, `Y`, `Z`, and 1 channel more
+  [6]
+  $ yes 1 | kahn_live both.kahn --in A --out X,S
+  ! both.kahn: --plain: no such channel: `X,S`; channels: `A`, `B`, `X`, `Y`, `Z`, and 1 channel more
+  [6]
+  $ yes 1 | kahn_live both.kahn --in A --out ,
+  ! both.kahn: --plain: no such channel: `,`; channels: `A`, `B`, `X`, `Y`, `Z`, and 1 channel more
+  [6]

@@ -20,7 +20,7 @@ static ABOUT: &str =
     "Runs a network of processes on the lines of its standard input, and shows after each line what is new.";
 
 // The usage line.
-static USAGE: &str = "kahn_live PROGRAM [--in NAMES] [--out NAME] [OPTIONS] < LINES";
+static USAGE: &str = "kahn_live PROGRAM [--in NAMES] [--out NAMES] [OPTIONS] < LINES";
 
 // The text after the options in the help.
 static MORE: &str = "\
@@ -45,7 +45,8 @@ with the next line, even a blank one. The run uses one thread. It doesn't keep w
 With `--in A` a line has only values of that channel, separated by blanks. With `--in A,B` a line is a row: one value for
 each of these channels, with blanks, tabs or commas between. A row that can't be taken whole feeds nothing. Other input
 channels get no values; where one is named, kahn_live says so. With `--out X` it writes only the new values of that channel,
-one a line; with `--in` alone those of the first stream. `--plain A,X` is short for `--in A --out X`.
+one a line; with `--in` alone those of the first stream. With `--out X,Y` it writes rows, with commas between: the next value
+of each of these channels, once all have it. `--plain A,X` is short for `--in A --out X`.
 
   printf '1\\n2 3\\n' | kahn_live double.kahn --in A --out B
 
@@ -97,7 +98,7 @@ fn at_end_arg<'a>(alloc: Global) -> Arg<'a>
     .action(ArgAction::Append)
 }
 
-/// Makes the option of the channel whose values stand alone in the lines of input.
+/// Makes the option of the channels whose values stand alone in the lines of input.
 fn in_arg<'a>(alloc: Global) -> Arg<'a>
     ensures rule { rule_of result ≡ text_rule (codes "in") }
     ensures local { result.global ≡ false }
@@ -110,7 +111,7 @@ fn in_arg<'a>(alloc: Global) -> Arg<'a>
     )
 }
 
-/// Makes the option of the channel whose values stand alone in the lines of output.
+/// Makes the option of the channels whose values stand alone in the lines of output.
 fn out_arg<'a>(alloc: Global) -> Arg<'a>
     ensures rule { rule_of result ≡ text_rule (codes "out") }
     ensures local { result.global ≡ false }
@@ -118,8 +119,8 @@ fn out_arg<'a>(alloc: Global) -> Arg<'a>
     text_arg(
         alloc,
         "out",
-        "NAME",
-        "Writes bare values of this channel alone, one a line; with --in and without it, those of the first stream",
+        "NAME[,NAME..]",
+        "Writes bare values of this channel alone, one a line, or rows of these; with --in alone, those of the first stream",
     )
 }
 

@@ -1,5 +1,5 @@
 -- What went out of each stream begins the history of its line.
-use Rattle.std.proofs.Common.{◌≡◌, ◌∙◌, ℕ, zero, suc, List, [], ◌∷◌, ◌++◌, map, Some, sym, ap, subst, slice_get, slice_index_or}
+use Rattle.std.proofs.Common.{◌≡◌, ◌∙◌, ℕ, false, append_assoc, List, [], ◌++◌, Some, sym, ap, subst, slice_get, slice_index_or}
 use Rattle.std.proofs.lemmas.Option.{same_Some}
 use Rattle.kahn_streams.specs.declared.value.Value.{Value}
 use Rattle.kahn_streams.specs.declared.value.Line.{Line}
@@ -11,6 +11,8 @@ use Rattle.kahn_sequential.specs.HeldRuns.{HeldRun, IsRightSoFar, so_far}
 use Rattle.kahn_streams.specs.declared.answer.End.{End}
 use Rattle.kahn_streams.specs.declared.answer.Verdict.{Verdict}
 use Rattle.kahn_streams.specs.declared.answer.Verdict.TheVariants.{Finished}
+use Rattle.kahn_session.proofs.Showing.{mapped}
+use Rattle.kahn_session.specs.Forms.{are_rows}
 use Rattle.kahn_session.specs.Live.{Live}
 use Rattle.kahn_live.specs.Histories.{HasHistories, IsShown}
 
@@ -22,18 +24,15 @@ module _ (h : HeldRun) (v : Verdict) (ends : List End) (right : IsRightSoFar h v
       let (n, (rest, is)) = right.right.others c in
       (n, (rest, is ∙ ap (λ (vs : List Value). vs ++ rest) (sym (right.values c (j, at)))))
 
-mapped : (f : Line → List Value) (ls : List Line) (j : ℕ) (c : Line) → slice_get ls j ≡ Some c → slice_index_or (map f ls) j [] ≡ f c
-mapped f [] j c at = absurd cc
-mapped f (l ∷ ls) zero c at = ap f (same_Some l c at)
-mapped f (l ∷ ls) (suc j) c at = mapped f ls j c at
-
 pub histories : (s : Live) → IsShown s → HasHistories s
-histories s (v, is, (ends, right), gone) = record {
-  begin =
-      λ j c at. let (n, before) = begins s.flow.run v ends right c j at in (n, subst (λ (vs : List Value). IsPrefix vs (iterate (network_of s.flow.run.network) (inputs_of s.flow.run.input) n c)) (sym (went j c at)) before);
-  whole =
-      λ done j c at. subst (λ (vs : List Value). IsWhole (network_of s.flow.run.network) (inputs_of s.flow.run.input) c vs) (sym (went j c at)) (right.whole (same_Some v Finished (sym is ∙ done)) c (j, at));
+histories s (v, is, (ends, right), begun, gone) = record {
+  begin = λ j c at.
+      let (news, more) = begun j c at in
+      let (n, (rest, whole)) = begins s.flow.run v ends right c j at in
+      (n, (news ++ rest, whole ∙ ap (λ (vs : List Value). vs ++ rest) more ∙ append_assoc (slice_index_or s.flow.out j []) news rest));
+  whole = λ none done j c at.
+      subst (λ (vs : List Value). IsWhole (network_of s.flow.run.network) (inputs_of s.flow.run.input) c vs) (sym (went none j c at)) (right.whole (same_Some v Finished (sym is ∙ done)) c (j, at));
 }
   where
-    went : (j : ℕ) (c : Line) → slice_get (flow_lines s.flow.run) j ≡ Some c → slice_index_or s.flow.out j [] ≡ so_far s.flow.run c
-    went j c at = ap (λ (l : List (List Value)). slice_index_or l j []) gone ∙ mapped (so_far s.flow.run) (flow_lines s.flow.run) j c at
+    went : are_rows s.columns ≡ false → (j : ℕ) (c : Line) → slice_get (flow_lines s.flow.run) j ≡ Some c → slice_index_or s.flow.out j [] ≡ so_far s.flow.run c
+    went none j c at = ap (λ (l : List (List Value)). slice_index_or l j []) (gone none) ∙ mapped (so_far s.flow.run) (flow_lines s.flow.run) j c at

@@ -1,13 +1,16 @@
 -- Lines that are fed behind those of the input, and that what went out stays right.
-use Rattle.std.proofs.Common.{arith, ◌≡◌, ◌<◌, inl, inr, ℕ, zero, suc, Bool, true, false, true≢false, List, [], ◌∷◌, length, take, Option, None, Some, Result, Ok, Err, refl, sym, ap, subst}
+use Rattle.std.proofs.Common.{arith, ◌≡◌, ◌∙◌, ◌<◌, inl, inr, ℕ, zero, suc, Bool, true, false, true≢false, List, [], ◌∷◌, length, take, Option, None, Some, Result, Ok, Err, refl, sym, ap, subst}
 use Rattle.kahn_streams.specs.declared.answer.Verdict.{Verdict}
 use Rattle.kahn_fault.specs.declared.fault.Fault.{Fault}
-use Rattle.kahn_session.specs.Live.{IsMeantLine, IsTakenLine, IsUnfedBy, Live}
+use Rattle.std.specs.List.{list_any}
+use Rattle.std.specs.Prelude.{◌&&◌, nat_lt}
+use Rattle.kahn_session.specs.Forms.{are_rows, left_out, news_on, row_count}
+use Rattle.kahn_session.specs.Live.{HasTaken, IsMeantLine, IsTakenLine, IsUnfedBy, Live, is_waiting_row}
 use Rattle.kahn_session.specs.declared.fault.TakeFault.{TakeFault}
 use Rattle.kahn_session.specs.declared.fault.TakeFault.TheVariants.{TooLong, NotUtf8, BadLine, BadValue, BadRow, Feed, NoMemory, Write}
 use Rattle.kahn_session.specs.Refusals.{at_end_number}
-use Rattle.kahn_live.specs.Course.{HasMissed, IsAloneMet, IsBrokenOff, IsToldBy, LiveTelling, Point, WasAnswered, WasMet}
-use Rattle.kahn_live.specs.InputMet.{AreFed, AreRead, AreTaken, IsAnyMet, IsCutOff, IsFirstPart, IsFirstUnmeant, IsReadIn, IsReadMet}
+use Rattle.kahn_live.specs.Course.{HasMissed, IsBrokenOff, IsToldBy, LiveTelling, Point, WasAnswered, WasMet}
+use Rattle.kahn_live.specs.InputMet.{AreFed, AreRead, AreTaken, IsAnyMet, IsCutOff, IsFirstPart, IsFirstUnmeant, IsReadIn}
 use Rattle.kahn_live.specs.Lines.{fed_text, most_kept, unmarked}
 use Rattle.kahn_live.specs.Rows.{AreMeant, row_names}
 use Rattle.kahn_live.specs.LinesMet.{AreEachMet, LinesGiven}
@@ -37,9 +40,17 @@ begun_there input old new false there begun = absurd (true≢false (sym there))
 stays : (old new : Live) → new ≡ old → IsShown old → IsShown new
 stays old new same was = subst (λ (s : Live). IsShown s) (sym same) was
 
+-- a line that was taken shows all that isn't in rows, whatever was shown before
+let_go : (line : List ℕ) (old new : Live) (before after : Option (List ℕ)) (v : Verdict) → HasTaken line old new before after v → IsShown new
+let_go line old new before after v t =
+    (v, t.answered.verdict, t.answered.ends, t.begun, λ none. t.out ∙ ap (λ b. left_out b (record new.flow { out = old.flow.out })) (even (sym (ap are_rows t.answered.gone_on.columns) ∙ none)))
+  where
+    even : are_rows old.columns ≡ false → is_waiting_row old t.news ≡ false
+    even none = ap (λ b. b && list_any (λ c. nat_lt (row_count t.news old.columns) (length (news_on c t.news))) old.columns) none
+
 taken : (number : ℕ) (line : List ℕ) (p q : LiveTelling) (old new : Live) (before after : Option (List ℕ)) (answer : Result Verdict TakeFault) → IsToldBy new number line answer p q
     → IsTakenLine line old new before after answer → IsShown old → IsShown new
-taken number line p q old new before after (Ok v) told t was = (v, t.answered.verdict, t.answered.ends, t.out)
+taken number line p q old new before after (Ok v) told t was = let_go line old new before after v t
 taken number line p q old new before after (Err TooLong) told t was = stays old new t.same was
 taken number line p q old new before after (Err NotUtf8) told t was = stays old new t.same was
 taken number line p q old new before after (Err BadLine) told t was = stays old new t.same was
@@ -55,9 +66,8 @@ answered number line old new (answer, (told, (sent, t, kept))) was = taken numbe
 missed : (number : ℕ) (old new : Point) → HasMissed number old new → IsShown old.session → IsShown new.session
 missed number old new (told, (same, kept)) was = stays old.session new.session same was
 
--- a line that was taken shows all, whatever was shown before
 shown : (number : ℕ) (line : List ℕ) (v : Verdict) (old new : Point) → WasMet number line (Ok v) old new → IsShown new.session
-shown number line v old new (told, (sent, t, kept)) = (v, t.answered.verdict, t.answered.ends, t.out)
+shown number line v old new (told, (sent, t, kept)) = let_go line old.session new.session old.out sent v t
 
 -- and so do lines that were all taken
 row_shown : (number : ℕ) (lines : List (List ℕ)) (old new : Point) → AreTaken number lines old new → IsShown old.session → IsShown new.session

@@ -2,7 +2,8 @@
 use Rattle.std.proofs.Common.{arith, not, ◌≡◌, ◌∙◌, ◌<◌, inl, inr, ℕ, Bool, true, List, [], ◌∷◌, ◌++◌, length, map, take, drop, Option, None, Some, Result, Ok, Err, refl, sym, ap, ap₂, subst}
 use Rattle.kahn_streams.specs.declared.answer.Verdict.{Verdict}
 use Rattle.kahn_fault.specs.declared.fault.Fault.{Fault}
-use Rattle.kahn_session.specs.Live.{IsMeantLine, Live}
+use Rattle.kahn_sequential.specs.HeldRuns.{HeldRun}
+use Rattle.kahn_session.specs.Live.{IsMeantLine, IsStreamOf, Live}
 use Rattle.kahn_session.specs.declared.fault.TakeFault.{TakeFault}
 use Rattle.kahn_live.specs.Course.{IsAloneMet, IsBrokenOff, IsLineMet, Point, WasMet, no_memory}
 use Rattle.kahn_live.specs.InputMet.{AreTaken, IsTornOff}
@@ -11,7 +12,7 @@ use Rattle.std.specs.declared.vec.Vec.{Vec}
 use Rattle.std.proofs.lemmas.List.{length-drop, length-take}
 use Rattle.std.specs.List.{list_any, position_or_len}
 use Rattle.std.specs.Prelude.{◌==◌, if◌then◌else◌}
-use Rattle.kahn_live.specs.Rows.{AreCells, AreMeant, IsRowFront, bare_of, behind_word, bytes_in, row_line, row_names, first_word, from_word, is_row_gap, is_wordless}
+use Rattle.kahn_live.specs.Rows.{AreCells, AreMeant, HaveStreams, IsRowFront, bare_of, behind_word, bytes_in, row_line, row_names, first_word, from_word, is_row_gap, is_wordless}
 
 -- one line more
 cells_more : (blank : Bool) (names words : List ℕ) (cells : List (List ℕ)) (rest left cell : List ℕ) → AreCells blank names words cells rest left → 0 < length (first_word rest)
@@ -38,6 +39,16 @@ pub front_more : (s : Live) (names row : List ℕ) (cells new : List (List ℕ))
     → IsRowFront s names row new (behind_word rest) (behind_word left)
 front_more s names row cells new rest left cell (are, meant) some fits is one grown = subst (λ (cs : List (List ℕ)). IsRowFront s names row cs (behind_word rest) (behind_word left)) (sym grown)
     (cells_more (is_wordless row) names row cells rest left cell are some fits is, meant_last s cells cell meant one)
+
+-- the stream of one name more
+pub streams_more : (h : HeldRun) (names : List ℕ) (numbers new : List ℕ) (rest : List ℕ) (number : ℕ) → HaveStreams h names numbers rest → 0 < length (first_word rest)
+    → IsStreamOf h number (first_word rest) → new ≡ numbers ++ (number ∷ []) → HaveStreams h names new (behind_word rest)
+streams_more h names numbers new rest number are some here grown =
+    subst (λ (ns : List ℕ). HaveStreams h names ns (behind_word rest)) (sym grown) (by names numbers are)
+  where
+    by : (names numbers : List ℕ) → HaveStreams h names numbers rest → HaveStreams h names (numbers ++ (number ∷ [])) (behind_word rest)
+    by names [] is = (subst (λ (n : List ℕ). 0 < length (first_word n)) is some, subst (λ (n : List ℕ). IsStreamOf h number (first_word n)) is here, ap behind_word is)
+    by names (n ∷ ns) (some0, here0, more) = (some0, here0, by (behind_word names) ns more)
 
 -- a line that isn't one of a row
 pub alone_met : (number : ℕ) (line fed : List ℕ) (old new : Point) (r : Result (Option TakeFault) Fault) → fed ≡ line → IsLineMet number fed old new r → IsAloneMet number line old new r

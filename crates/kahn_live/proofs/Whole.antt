@@ -1,21 +1,17 @@
 -- What a whole run is made of.
-use Rattle.std.proofs.Common.{◌≡◌, ◌∙◌, inr, ℕ, Bool, true, false, true≢false, eqb, List, [], None, Some, Option, MatchOption, Result, Ok, Err, if◌then◌else◌, refl, sym, ap, subst}
-use Rattle.std.specs.Prelude.{string_bytes}
+use Rattle.std.proofs.Common.{◌≡◌, ◌∙◌, inr, ℕ, Bool, true, false, true≢false, eqb, List, [], None, Some, Option, Result, Ok, Err, if◌then◌else◌, refl, sym, ap, subst}
 use Rattle.std.specs.Io.Buffered.{reader_buffer, reader_capacity, reader_inner, reader_remaining}
 use Rattle.std.specs.Io.KnownBytes.{prepend_known}
 use Rattle.std.specs.declared.io.buffered.BufReader.{BufReader}
-use Rattle.std.specs.declared.alloc.Global.{Global}
-use Rattle.std.specs.declared.string.String.{String}
 use Rattle.kahn_streams.specs.declared.config.Config.{Config}
 use Rattle.kahn_streams.specs.declared.tree.Program.{Program}
-use Rattle.kahn_sequential.specs.HeldRuns.{HeldRun}
 use Rattle.kahn_streams.specs.declared.fault.RunFault.{RunFault}
 use Rattle.kahn_fault.specs.declared.fault.Fault.{Fault}
 use Rattle.kahn_line.specs.declared.parts.Plain.{Plain}
-use Rattle.kahn_session.specs.Live.{HasOpened, IsStreamOf, Live}
+use Rattle.kahn_session.specs.Live.{HasOpened, Live}
 use Rattle.kahn_live.specs.Course.{Point, LiveTelling}
 use Rattle.kahn_live.specs.LinesMet.{AreAllMet, LinesGiven}
-use Rattle.kahn_live.specs.Running.{HasServed, IsInForm, IsPlainStream, IsSetUp}
+use Rattle.kahn_live.specs.Running.{HasServed, IsInForm, IsSetUp}
 use Rattle.kahn_live.specs.declared.serving.RunEnding.{RunEnding}
 
 -- there is an input channel of the name
@@ -33,12 +29,6 @@ pub fresh : {I A : Type 0} (left : I → Option (List ℕ)) (r : BufReader I A) 
 fresh left r input inner empty room =
     ap (λ (k : ℕ). if eqb k 0 then None else prepend_known (reader_buffer r) (left (reader_inner r))) room
     ∙ ap (λ (b : List ℕ). prepend_known b (left (reader_inner r))) empty ∙ prepend_none (left (reader_inner r)) ∙ ap left inner
-
--- the stream that is named
-pub named_stream : (h : HeldRun) (name : String Global) (bytes : List ℕ) (r : Option ℕ) → bytes ≡ string_bytes name
-    → MatchOption r ((n : ℕ) → ¬ IsStreamOf h n bytes) (λ number. IsStreamOf h number bytes) → IsPlainStream h (Some name) r
-named_stream h name bytes None is none = subst (λ (l : List ℕ). (n : ℕ) → ¬ IsStreamOf h n l) is none
-named_stream h name bytes (Some number) is some = subst (λ (l : List ℕ). IsStreamOf h number l) is some
 
 -- a session that was opened, in a form
 pub set_up : (plain : Option Plain) (t : Program) (config : Config) (first : Live) (r : Result Live RunFault) → HasOpened t config first → IsInForm plain first r → IsSetUp plain t config r

@@ -24,7 +24,7 @@ use Rattle.std.specs.Str.{bytes_eq}
 use Rattle.kahn_session.specs.Live.{IsFirstFault, IsFirstInput, IsTakenLine, Live, breaks}
 use Rattle.kahn_session.specs.Refusals.{alike_text, failed_text, is_want, refusal_text, stepped_text, take_words, waiting_text}
 use Rattle.kahn_session.specs.declared.fault.TakeFault.{TakeFault}
-use Rattle.kahn_session.specs.declared.fault.TakeFault.TheVariants.{TooLong, NotUtf8, BadLine, BadValue, BadRow, Feed, NoMemory, Write}
+use Rattle.kahn_session.specs.declared.fault.TakeFault.TheVariants.{BadLine, BadValue, Feed, NoMemory}
 use Rattle.kahn_live.specs.Lines.{is_bare_line}
 use Rattle.kahn_live.specs.declared.stage.LiveStage.{LiveStage}
 use Rattle.kahn_live.specs.declared.telling.Teller.{Teller}
@@ -179,18 +179,13 @@ abbrev pub IsFedPart : Tree → List ℕ → FeedFault → List ℕ → List ℕ
 IsFedPart t line feed.UnknownName part more = IsNamePart t line feed.UnknownName part more
 IsFedPart t line feed.NotAnInput part more = IsNamePart t line feed.NotAnInput part more
 IsFedPart t line feed.WrongKind part more = IsKindPart t (content line) part more
-IsFedPart t line feed.TooMany part more = IsNoPart part more
-IsFedPart t line feed.NoMemory part more = IsNoPart part more
+IsFedPart t line f part more = IsNoPart part more
 
 abbrev pub IsRefusedPart : Tree → List ℕ → TakeFault → List ℕ → List ℕ → Type 0
 IsRefusedPart t line BadLine part more = IsHeadPart (content line) part more
 IsRefusedPart t line BadValue part more = IsValuePart (content line) part more
-IsRefusedPart t line BadRow part more = IsNoPart part more
 IsRefusedPart t line (Feed f) part more = IsFedPart t line f part more
-IsRefusedPart t line TooLong part more = IsNoPart part more
-IsRefusedPart t line NotUtf8 part more = IsNoPart part more
-IsRefusedPart t line NoMemory part more = IsNoPart part more
-IsRefusedPart t line (Write f) part more = IsNoPart part more
+IsRefusedPart t line f part more = IsNoPart part more
 
 abbrev pub is_bad_line : TakeFault → Bool
 is_bad_line BadLine = true

@@ -1,10 +1,13 @@
--- Believed. Rows: lines of input that have one value for each of several channels (this project's profile).
+-- Believed. Rows: lines that have one value for each of several channels (this project's profile).
 use Rattle.std.specs.Prelude.{◌≡◌, ◌≢◌, ◌⊎◌, ◌==◌, ◌||◌, ◌<◌, not, ℕ, Bool, true, false, List, [], ◌∷◌, ◌++◌, length, map, take, drop, Option, None, Some, Result, Ok, Err, if◌then◌else◌}
 use Rattle.std.specs.List.{list_any, position_or_len}
 use Rattle.std.specs.declared.alloc.Global.{Global}
 use Rattle.std.specs.declared.vec.Vec.{Vec}
 use Rattle.kahn_texts.specs.Formats.{is_blank}
-use Rattle.kahn_session.specs.Live.{IsMeantLine, IsUnfedBy, Live}
+use Rattle.kahn_streams.specs.declared.fault.RunFault.{RunFault}
+use Rattle.kahn_streams.specs.declared.fault.RunFault.TheVariants.{NoMemory as NoMemoryRun, UnknownWatch}
+use Rattle.kahn_sequential.specs.HeldRuns.{HeldRun}
+use Rattle.kahn_session.specs.Live.{IsMeantLine, IsStreamOf, IsUnfedBy, Live}
 use Rattle.kahn_session.specs.declared.fault.TakeFault.{TakeFault}
 use Rattle.kahn_session.specs.declared.fault.TakeFault.TheVariants.{BadRow, NoMemory}
 
@@ -81,3 +84,17 @@ IsBadRow s names row f line = ((f ≡ NoMemory) × (line ≡ []))
 abbrev pub IsRowTried : Live → List ℕ → List ℕ → Result (Vec (Vec ℕ Global) Global) (TakeFault × Vec ℕ Global) → Type 0
 IsRowTried s names row (Ok cells) = AreRowCells s names row (map bytes_in cells.items)
 IsRowTried s names row (Err r) = IsBadRow s names row r.0 (bytes_in r.1)
+
+-- ---- rows of output
+
+-- the streams of these numbers are those of the channels of these names, up to the names that are left
+abbrev pub HaveStreams : HeldRun → List ℕ → List ℕ → List ℕ → Type 0
+HaveStreams h names [] rest = rest ≡ names
+HaveStreams h names (number ∷ numbers) rest =
+    (0 < length (first_word names)) × IsStreamOf h number (first_word names) × HaveStreams h (behind_word names) numbers rest
+
+-- these are all of them; or there is no name, or behind the first ones there is no stream of the next; or memory was refused
+abbrev pub AreNumbered : HeldRun → List ℕ → Result (Vec ℕ Global) RunFault → Type 0
+AreNumbered h names (Ok numbers) = (is_wordless names ≡ false) × ((rest : List ℕ) × HaveStreams h names numbers.items rest × (is_wordless rest ≡ true))
+AreNumbered h names (Err f) = (f ≡ NoMemoryRun) ⊎ ((f ≡ UnknownWatch) × ((is_wordless names ≡ true)
+    ⊎ ((numbers : List ℕ) × (rest : List ℕ) × HaveStreams h names numbers rest × ((n : ℕ) → ¬ IsStreamOf h n (first_word rest)))))

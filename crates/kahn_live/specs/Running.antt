@@ -1,6 +1,8 @@
 -- Believed. A run on lines, from the program text to the status (this project's profile).
-use Rattle.std.specs.Prelude.{◌≡◌, ◌⊎◌, ℕ, Bool, true, false, List, [], ◌∷◌, map, Option, None, Some, Result, Ok, Err, option_map, option_copied, codes, is_some, string_bytes}
+use Rattle.std.specs.Prelude.{◌≡◌, ◌⊎◌, ◌==◌, ℕ, Bool, true, false, List, [], ◌∷◌, map, Option, None, Some, Result, Ok, Err, option_map, option_copied, codes, is_some, string_bytes}
+use Rattle.std.specs.List.{before_first}
 use Rattle.std.specs.declared.alloc.Global.{Global}
+use Rattle.std.specs.declared.vec.Vec.{Vec}
 use Rattle.std.specs.declared.string.String.{String}
 use Rattle.std.specs.Io.KnownBytes.{Keeps}
 use Rattle.kahn_streams.specs.declared.config.Config.{Config}
@@ -9,7 +11,7 @@ use Rattle.kahn_sequential.specs.HeldRuns.{HeldRun}
 use Rattle.kahn_streams.specs.declared.answer.Verdict.{Verdict}
 use Rattle.kahn_streams.specs.declared.answer.Verdict.TheVariants.{Finished}
 use Rattle.kahn_streams.specs.declared.fault.RunFault.{RunFault}
-use Rattle.kahn_streams.specs.declared.fault.RunFault.TheVariants.{UnknownWatch}
+use Rattle.kahn_streams.specs.declared.fault.RunFault.TheVariants.{NoMemory as NoMemoryRun, UnknownWatch}
 use Rattle.kahn_fault.specs.Work.{IsChecked, IsUnchecked}
 use Rattle.kahn_fault.specs.declared.work.WorkFault.{WorkFault}
 use Rattle.kahn_fault.specs.declared.work.WorkFault.TheVariants.{Run as RunWork, Write as WriteWork}
@@ -21,10 +23,11 @@ use Rattle.kahn_fault.specs.declared.fault.Fault.TheVariants.{Work}
 use Rattle.kahn_line.specs.declared.live.LiveOptions.{LiveOptions}
 use Rattle.kahn_line.specs.declared.parts.Plain.{Plain}
 use Rattle.kahn_hints.specs.Inputs.{names_of_channels, unknown_channel}
-use Rattle.kahn_session.specs.Refusals.{unknown_text}
-use Rattle.kahn_session.specs.Live.{HasOpened, IsFaulty, IsLastText, IsRinged, IsStreamOf, IsUnopened, Live}
+use Rattle.kahn_session.specs.Refusals.{left_text, unknown_text}
+use Rattle.kahn_session.specs.Live.{HasOpened, IsFaulty, IsLastText, IsRinged, IsUnopened, Live, has_left}
 use Rattle.kahn_live.specs.Course.{HasSent, HasWaited, IsMoreTold, IsWriteFault, Point, LiveTelling, WasTold, no_memory, telling_of}
 use Rattle.kahn_live.specs.LinesMet.{AreAllMet, LinesGiven}
+use Rattle.kahn_live.specs.Rows.{AreNumbered}
 use Rattle.kahn_live.specs.declared.running.Requested.{Requested}
 use Rattle.kahn_live.specs.declared.running.Returned.{Returned}
 use Rattle.kahn_live.specs.declared.serving.Amiss.{Amiss}
@@ -35,26 +38,42 @@ use Rattle.kahn_live.specs.declared.telling.Teller.{Teller}
 
 -- ---- the start
 
--- the name of the channel that is watched: that of `--watch`; where values stand alone the one whose values are shown, and no other
+-- the first of several names, with commas (44) between
+abbrev pub first_name : List ℕ → List ℕ
+first_name names = before_first (λ b. b == 44) names
+
+abbrev pub first_shown : Plain → Option (List ℕ)
+first_shown p = option_map (λ names. first_name (string_bytes names)) p.output
+
+-- the name of the channel that is watched: that of `--watch`; where values stand alone the first one whose values are shown, and no other
 abbrev pub name_watched : Option Plain → Option (String Global) → Option (List ℕ)
 name_watched None watch = option_map string_bytes watch
-name_watched (Some p) watch = option_map string_bytes p.output
+name_watched (Some p) watch = first_shown p
+
+-- the names of the channels that have to have streams
+abbrev pub names_shown : Option Plain → Option (String Global) → Option (List ℕ)
+names_shown None watch = option_map string_bytes watch
+names_shown (Some p) watch = option_map string_bytes p.output
 
 -- the channel of this name is watched, and nothing else differs
 abbrev pub Watches : Option (List ℕ) → Config → Config → Type 0
 Watches name old new = (option_map string_bytes new.watch ≡ name) × (new ≡ record old { watch = new.watch })
 
--- the number of the stream whose values alone are shown: that of the channel that is named, or else the first
-abbrev pub IsPlainStream : HeldRun → Option (String Global) → Option ℕ → Type 0
-IsPlainStream h None number = number ≡ Some 0
-IsPlainStream h (Some name) None = (n : ℕ) → ¬ IsStreamOf h n (string_bytes name)
-IsPlainStream h (Some name) (Some number) = IsStreamOf h number (string_bytes name)
+-- the first stream alone, or memory was refused
+abbrev pub IsFirstStream : Result (Vec ℕ Global) RunFault → Type 0
+IsFirstStream (Ok columns) = columns.items ≡ 0 ∷ []
+IsFirstStream (Err f) = f ≡ NoMemoryRun
 
--- the session in the form that is asked for; or there is no stream of the channel that is named
+-- the numbers of the streams whose values alone are shown: those of the channels that are named, or else the first
+abbrev pub ArePlainStreams : HeldRun → Option (String Global) → Result (Vec ℕ Global) RunFault → Type 0
+ArePlainStreams h None r = IsFirstStream r
+ArePlainStreams h (Some names) r = AreNumbered h (string_bytes names) r
+
+-- the session in the form that is asked for; or why there is none
 abbrev pub IsInForm : Option Plain → Live → Result Live RunFault → Type 0
 IsInForm None s r = r ≡ Ok s
-IsInForm (Some p) s (Ok shown) = (number : ℕ) × IsPlainStream s.flow.run p.output (Some number) × (shown ≡ record s { plain = Some number })
-IsInForm (Some p) s (Err f) = (f ≡ UnknownWatch) × IsPlainStream s.flow.run p.output None
+IsInForm (Some p) s (Ok shown) = (columns : Vec ℕ Global) × ArePlainStreams s.flow.run p.output (Ok columns) × (shown ≡ record s { columns = columns.items })
+IsInForm (Some p) s (Err f) = ArePlainStreams s.flow.run p.output (Err f)
 
 -- a session of the network before its first part, in that form, or why there is none
 abbrev pub IsSetUp : Option Plain → Program → Config → Result Live RunFault → Type 0
@@ -91,9 +110,15 @@ IsEndTold h old new false = new ≡ old
 abbrev pub IsVerdictMet : HeldRun → Option Amiss → LiveTelling → LiveTelling → Verdict → Type 0
 IsVerdictMet h amiss old new v = (h.verdict ≡ Some v) × ((told : Bool) × IsEndWanted h amiss old.refused v told × IsEndTold h old new told)
 
--- what is new went out, and how the run ended is told
+-- that values are left without the others of their row was told, behind how many lines more were refused
+abbrev pub IsLeftTold : Bool → LiveTelling → LiveTelling → Type 0
+IsLeftTold true old new = (mid : LiveTelling) × IsMoreTold old mid × WasTold (left_text mid.path) mid new
+IsLeftTold false old new = new ≡ old
+
+-- what is new went out; what is left, and how the run ended, is told
 abbrev pub IsEnded : Option Amiss → Point → Point → Result Verdict Fault → Type 0
-IsEnded amiss old new (Ok v) = HasWaited old new × IsVerdictMet old.session.flow.run amiss old.told new.told v
+IsEnded amiss old new (Ok v) = HasWaited old new
+    × ((mid : LiveTelling) × IsLeftTold (has_left old.session) old.told mid × IsVerdictMet old.session.flow.run amiss mid new.told v)
 IsEnded amiss old new (Err fault) = IsWriteFault fault × HasSent old new
 
 -- ---- the lines and the end
@@ -154,16 +179,16 @@ abbrev pub HasRunSession : Bool → LinesGiven → Live → Option (List ℕ) �
 HasRunSession strict f s text out made old new r = (last : Point) × (ending : Result RunEnding Fault)
     × HasServed strict f ending text (record { session = s; out = out; told = old }) last × WasSent ending r × Keeps last.out made × (new ≡ last.told)
 
--- what is asked for: the channels whose values stand alone, the channel that is watched, the lines behind those of the input, and whether
+-- what is asked for: the channels whose values stand alone, those that have to have streams, the lines behind those of the input, and whether
 -- the run is judged
 pub record Request : Type 0 where
   pub plain : Option Plain
-  pub watch : Option (List ℕ)
+  pub shown : Option (List ℕ)
   pub at_end : List (List ℕ)
   pub strict : Bool
 
 abbrev pub request_of : Requested → Request
-request_of a = record { plain = option_copied a.plain; watch = option_copied a.watch; at_end = map string_bytes a.at_end.now; strict = a.strict }
+request_of a = record { plain = option_copied a.plain; shown = option_copied a.shown; at_end = map string_bytes a.at_end.now; strict = a.strict }
 
 -- the channel whose values stand alone in the lines of input, where one is named
 abbrev pub named_input : List ℕ → Option (List ℕ)
@@ -174,10 +199,10 @@ abbrev pub input_of : Option Plain → Option (List ℕ)
 input_of None = None
 input_of (Some p) = named_input (string_bytes p.input)
 
--- the name of the channel that is to be watched, where a run is refused since none has it
-abbrev pub unknown_watch : RunFault → Option (List ℕ) → Option (List ℕ)
-unknown_watch UnknownWatch name = name
-unknown_watch f name = None
+-- the names of the channels that have to have streams, where a run is refused since one has none
+abbrev pub unknown_shown : RunFault → Option (List ℕ) → Option (List ℕ)
+unknown_shown UnknownWatch names = names
+unknown_shown f names = None
 
 -- what is said of it: the nearest channel, or else which there are; or nothing where memory was refused for it
 abbrev pub IsChannelWords : Program → List ℕ → List ℕ → Type 0
@@ -190,7 +215,7 @@ IsUnknownTold of_plain (Some name) t f old new r =
     (r ≡ Ok Refused) × ((words : List ℕ) × IsChannelWords t name words × WasTold (unknown_text old.path of_plain name words) old new)
 
 abbrev pub IsUnstartedTold : Request → Program → RunFault → LiveTelling → LiveTelling → Result RunEnding Fault → Type 0
-IsUnstartedTold a t f old new r = IsUnknownTold (is_some a.plain) (unknown_watch f a.watch) t f old new r
+IsUnstartedTold a t f old new r = IsUnknownTold (is_some a.plain) (unknown_shown f a.shown) t f old new r
 
 -- a session of the network was set up and run, or why not: the run is refused, and nothing went out
 abbrev pub HasRunNetwork : Request → Program → Config → Option (List ℕ) → Option (List ℕ) → Option (List ℕ) → LiveTelling → LiveTelling → Result RunEnding Fault → Type 0
@@ -203,7 +228,7 @@ abbrev pub HasRunText : List ℕ → LiveOptions → Option (List ℕ) → Optio
 HasRunText program o text out made old new r = (IsLacking r old new × (made ≡ out))
     ⊎ (((f : WorkFault) × IsUnchecked program f × (r ≡ Err (Work f)) × (new ≡ old) × (made ≡ out))
     ⊎ ((t : Program) × (config : Config) × IsChecked program t × Watches (name_watched o.plain o.config.watch) o.config config
-    × HasRunNetwork (record { plain = o.plain; watch = name_watched o.plain o.config.watch; at_end = map string_bytes o.at_end.items; strict = o.strict }) t config text out made old new r))
+    × HasRunNetwork (record { plain = o.plain; shown = names_shown o.plain o.config.watch; at_end = map string_bytes o.at_end.items; strict = o.strict }) t config text out made old new r))
 
 -- ---- the status
 

@@ -1,11 +1,12 @@
-//! Rows: lines of input that have one value for each of several channels.
+//! Rows: lines that have one value for each of several channels.
 
 ghost use Rattle.std.specs.Prelude.{◌≡◌, ◌==◌, ◌≤◌, IfOk, length, not, option_copied};
 ghost use Rattle.std.specs.List.{list_any, position, position_or_len};
-ghost use Rattle.kahn_live.specs.Rows.{IsRowTried, bare_of, behind_word, bytes_in, row_line, first_word, from_word, is_row_gap, row_names};
+ghost use Rattle.kahn_live.specs.Rows.{AreNumbered, IsRowTried, bare_of, behind_word, bytes_in, row_line, first_word, from_word, is_row_gap, row_names};
 ghost use Rattle.kahn_live.specs.inner.Parts.{IsTriedCell};
 
 use kahn_session::{Session, TakeFault};
+use kahn_streams::RunFault;
 use std::alloc::{AllocError, Global};
 
 /// Whether commas stand between names.
@@ -166,4 +167,30 @@ pub(crate) fn row_cells(
         return Err((TakeFault::BadRow, Vec::new(alloc)));
     }
     Ok(cells)
+}
+
+/// The numbers of the streams of the channels of these names; or `UnknownWatch` where there is no name, or no stream of one.
+pub(crate) fn stream_numbers(
+    alloc: Global,
+    session: &Session<'_>,
+    names: &[u8],
+) -> Result<Vec<usize>, RunFault>
+    ensures { AreNumbered session.now.flow.run names.now result }
+{
+    if first_word(names).is_empty() {
+        return Err(RunFault::UnknownWatch);
+    }
+    let mut numbers = Vec::new(alloc);
+    let mut rest = names;
+    'names: while !first_word(rest).is_empty() {
+        let word = first_word(rest);
+        let Some(number) = session.stream_of(word) else {
+            return Err(RunFault::UnknownWatch);
+        };
+        if numbers.push(number).is_err() {
+            return Err(RunFault::NoMemory);
+        }
+        rest = behind_word(rest);
+    }
+    Ok(numbers)
 }

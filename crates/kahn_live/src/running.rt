@@ -2,10 +2,11 @@
 
 ghost use Rattle.std.specs.Prelude.{◌≡◌, IfOk, false, is_some, option_copied, option_map, string_bytes};
 ghost use Rattle.kahn_live.specs.Course.{telling_of};
-ghost use Rattle.kahn_live.specs.Running.{EndsAs, Gives, HasRunAs, HasRunNetwork, HasRunText, IsChannelWords, IsInForm, IsPlainStream, IsSetUp, Tells, Watches, name_watched};
-ghost use Rattle.kahn_live.specs.Running.{IsEndingTold, IsUnstartedTold, ending_status, input_of, named_input, request_of, unknown_watch};
+ghost use Rattle.kahn_live.specs.Running.{EndsAs, Gives, HasRunAs, HasRunNetwork, HasRunText, ArePlainStreams, IsChannelWords, IsFirstStream, IsInForm, IsSetUp, Tells, Watches, first_name, first_shown, name_watched, names_shown};
+ghost use Rattle.kahn_live.specs.Running.{IsEndingTold, IsUnstartedTold, ending_status, input_of, named_input, request_of, unknown_shown};
 
 use crate::outlet::DeferredWriter;
+use crate::rows::stream_numbers;
 use crate::serving::{RunEnding, reached_status, sent, work};
 use crate::stage::LiveStage;
 use crate::taking::{Fed, wants_memory};
@@ -39,10 +40,40 @@ fn named(name: &Option<String>) -> Option<&str>
     }
 }
 
-/// The name of the channel that is watched: where values stand alone, of the one whose values are shown, so that it has a stream, and
-/// of no other one, whose stream may be the first.
+/// The first of several names, with commas between.
+fn first_name(names: &str) -> &str
+    ensures { result.now ≡ first_name names.now }
+{
+    match names.split_once(',') {
+        Some((first, _)) => first,
+        None => names,
+    }
+}
+
+/// The first of the names of the channels whose values are shown, where they stand alone and there are names.
+fn first_shown(plain: &Plain) -> Option<&str>
+    ensures { option_copied result ≡ first_shown plain.now }
+{
+    match &plain.output {
+        Some(output) => Some(first_name(output.as_str())),
+        None => None,
+    }
+}
+
+/// The name of the channel that is watched: where values stand alone, of the first one whose values are shown, so that it has a
+/// stream, and of no other one, whose stream may be the first.
 fn name_watched<'o>(watch: &'o Option<String>, plain: Option<&'o Plain>) -> Option<&'o str>
     ensures { option_copied result ≡ name_watched (option_copied plain.entry) watch.entry.now }
+{
+    match plain {
+        Some(plain) => first_shown(plain),
+        None => named(watch),
+    }
+}
+
+/// The names of the channels that have to have streams.
+fn names_shown<'o>(watch: &'o Option<String>, plain: Option<&'o Plain>) -> Option<&'o str>
+    ensures { option_copied result ≡ names_shown (option_copied plain.entry) watch.entry.now }
 {
     match plain {
         Some(plain) => named(&plain.output),
@@ -72,28 +103,49 @@ fn watching(alloc: Global, config: &Config, name: Option<&str>) -> Result<Config
     })
 }
 
-/// The number of the stream of which the values alone are shown.
-fn plain_stream(session: &Session<'_>, plain: &Plain) -> Option<usize>
-    ensures { IsPlainStream session.now.flow.run plain.now.output result }
+/// The first stream alone.
+fn first_stream(alloc: Global) -> Result<Vec<usize>, RunFault>
+    ensures { IsFirstStream result }
 {
-    match &plain.output {
-        Some(output) => session.stream_of(output.as_str()),
-        None => Some(0),
+    let mut columns = Vec::new(alloc);
+    match columns.push(0) {
+        Ok(()) => Ok(columns),
+        Err(_) => Err(RunFault::NoMemory),
     }
 }
 
-/// The session, which shows the values of one stream alone where these channels are named.
-fn in_form<'n>(mut session: Session<'n>, plain: Option<&Plain>) -> Result<Session<'n>, RunFault>
+/// The numbers of the streams of which the values alone are shown.
+fn plain_streams(
+    alloc: Global,
+    session: &Session<'_>,
+    plain: &Plain,
+) -> Result<Vec<usize>, RunFault>
+    ensures { ArePlainStreams session.now.flow.run plain.now.output result }
+{
+    match &plain.output {
+        Some(output) => stream_numbers(alloc, session, output.as_bytes()),
+        None => first_stream(alloc),
+    }
+}
+
+/// The session, which shows the values of streams alone where these channels are named.
+fn in_form<'n>(
+    alloc: Global,
+    mut session: Session<'n>,
+    plain: Option<&Plain>,
+) -> Result<Session<'n>, RunFault>
     ensures { IsInForm (option_copied plain.entry) session.entry result }
 {
     let Some(plain) = plain else {
         return Ok(session);
     };
-    let Some(number) = plain_stream(&session, plain) else {
-        return Err(RunFault::UnknownWatch);
-    };
-    session.show_plain(number);
-    Ok(session)
+    match plain_streams(alloc, &session, plain) {
+        Ok(columns) => {
+            session.show_columns(columns);
+            Ok(session)
+        }
+        Err(fault) => Err(fault),
+    }
 }
 
 /// A session of the network before its first part.
@@ -105,7 +157,7 @@ fn started<'n>(
 ) -> Result<Session<'n>, RunFault>
     ensures { IsSetUp (option_copied plain.entry) network.now config result }
 {
-    in_form(Session::start(alloc, network, config)?, plain)
+    in_form(alloc, Session::start(alloc, network, config)?, plain)
 }
 
 /// What the command line asks for of a run that is set up.
@@ -113,20 +165,20 @@ fn started<'n>(
 struct Requested<'a> {
     /// The channels whose values stand alone in the lines of input and output, where they do.
     plain: Option<&'a Plain>,
-    /// The name of the channel that is watched.
-    watch: Option<&'a str>,
+    /// The names of the channels that have to have streams.
+    shown: Option<&'a str>,
     /// The lines behind those of the input.
     at_end: &'a [String],
     /// Whether the run is judged.
     strict: bool,
 }
 
-/// The name of the channel that is to be watched, where a run is refused since none has it.
-fn unknown_watch<'o>(fault: RunFault, watch: Option<&'o str>) -> Option<&'o str>
-    ensures { option_copied result ≡ unknown_watch fault (option_copied watch.entry) }
+/// The names of the channels that have to have streams, where a run is refused since one has none.
+fn unknown_shown<'o>(fault: RunFault, names: Option<&'o str>) -> Option<&'o str>
+    ensures { option_copied result ≡ unknown_shown fault (option_copied names.entry) }
 {
     match fault {
-        RunFault::UnknownWatch => watch,
+        RunFault::UnknownWatch => names,
         _ => None,
     }
 }
@@ -152,7 +204,7 @@ fn is_plain(plain: Option<&Plain>) -> bool
     }
 }
 
-/// How a run without a session ends. That there is no channel of the name that is to be watched is told.
+/// How a run without a session ends. That a channel that is to be shown has no stream is told.
 fn unstarted<E: Write + Drop>(
     network: &Network,
     fault: RunFault,
@@ -161,7 +213,7 @@ fn unstarted<E: Write + Drop>(
 ) -> (Result<RunEnding, Fault>, Teller<E>)
     ensures { Tells E.contents teller result (IsUnstartedTold (request_of asked.entry) network.now fault) }
 {
-    match unknown_watch(fault, asked.watch) {
+    match unknown_shown(fault, asked.shown) {
         None => (Err(Fault::Work(WorkFault::Run(fault))), teller),
         Some(name) => {
             let words = channel_words(teller.alloc, network, name);
@@ -256,7 +308,7 @@ fn run<I: Read + Drop, W: Write + Drop, E: Write + Drop>(
     let watch = name_watched(&config.watch, columns);
     let asked = Requested {
         plain: columns,
-        watch,
+        shown: names_shown(&config.watch, columns),
         at_end: &at_end,
         strict,
     };

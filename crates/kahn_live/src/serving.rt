@@ -2,10 +2,10 @@
 
 ghost use Rattle.std.specs.Prelude.{◌≡◌, IfErr, false, is_err};
 ghost use Rattle.std.specs.Io.KnownBytes.{Keeps};
-ghost use Rattle.kahn_session.specs.Live.{HasVerdict};
+ghost use Rattle.kahn_session.specs.Live.{HasVerdict, has_left};
 ghost use Rattle.kahn_live.specs.Course.{Across, AcrossStage, IsWriteFault, point_of, telling_of};
 ghost use Rattle.kahn_live.specs.LinesMet.{lines_given};
-ghost use Rattle.kahn_live.specs.Running.{HasServed, HasServedAll, IsEndWanted, IsEnded, IsJudged, IsSent, IsVerdictMet, WasSent, is_unwritten, reached_status};
+ghost use Rattle.kahn_live.specs.Running.{HasServed, HasServedAll, IsEndWanted, IsEnded, IsJudged, IsLeftTold, IsSent, IsVerdictMet, WasSent, is_unwritten, reached_status};
 
 use crate::outlet::DeferredWriter;
 use crate::stage::LiveStage;
@@ -104,7 +104,16 @@ fn tell_verdict<E: Write>(
     verdict
 }
 
-/// Sends what is new, and tells how the run ended where it isn't as it should be.
+/// Tells that values are left without the others of their row, where some are.
+fn tell_left<E: Write>(session: &Session<'_>, teller: &mut Teller<E>)
+    ensures { IsLeftTold (has_left session.now) (telling_of E.contents teller.old) (telling_of E.contents teller.new) }
+{
+    if session.has_left() {
+        teller.tell_left();
+    }
+}
+
+/// Sends what is new, tells what is left, and how the run ended where it isn't as it should be.
 fn close<W: Write, E: Write>(
     stage: &mut LiveStage<'_, W, E>,
     amiss: Option<Amiss>,
@@ -113,6 +122,7 @@ fn close<W: Write, E: Write>(
     ensures { IsEnded amiss (point_of W.contents E.contents stage.old) (point_of W.contents E.contents stage.new) result }
 {
     stage.outlet.send()?;
+    tell_left(&stage.session, &mut stage.teller);
     Ok(tell_verdict(&stage.session, amiss, &mut stage.teller))
 }
 

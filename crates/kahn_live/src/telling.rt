@@ -2,19 +2,19 @@
 
 ghost use Rattle.std.specs.Prelude.{◌≡◌, false, option_copied, string_bytes, true};
 ghost use Rattle.std.specs.Option.{is_none};
-ghost use Rattle.kahn_session.specs.Refusals.{unknown_text};
+ghost use Rattle.kahn_session.specs.Refusals.{left_text, unknown_text};
 ghost use Rattle.kahn_session.specs.Live.{HasVerdict};
 ghost use Rattle.kahn_fault.specs.Status.{live_status_of};
 ghost use Rattle.kahn_fault.specs.Telling.{pointer_text, told_text};
 ghost use Rattle.kahn_live.specs.Course.{IsTallied, IsMoreTold, IsNewPut, IsNewTold, IsNextTold, IsFaultPut, IsNewFault, IsStepPut, IsVerdictPut, IsVerdictTold, IsWaitPut, WasTold, complaints_of, does_count, is_again, is_alike, is_hinted, is_next, is_step_new, is_verdict_new, telling_of};
 ghost use Rattle.kahn_live.specs.InputMet.{IsAlonePut};
-ghost use Rattle.kahn_live.specs.Running.{IsEndPut, IsEndTold, IsLastTold, untold};
+ghost use Rattle.kahn_live.specs.Running.{IsEndPut, IsEndTold, IsLastTold, IsLeftTold, untold};
 
 use kahn_fault::{Fault, live_status, tell, tell_explain};
 use kahn_inputs::Part;
 use kahn_session::{
-    Session, TakeFault, is_want, take_words, write_alone, write_fault, write_more, write_refusal,
-    write_stopped, write_unknown, write_waiting,
+    Session, TakeFault, is_want, take_words, write_alone, write_fault, write_left, write_more,
+    write_refusal, write_stopped, write_unknown, write_waiting,
 };
 use kahn_streams::{Failure, Network, Verdict};
 use std::alloc::Global;
@@ -284,6 +284,22 @@ impl<E: Write> Teller<E> {
         let told = write_fault(&mut self.errors, path, number, network, instance, kind);
         self.failed |= told.is_err();
         self.faulted = true;
+    }
+
+    /// Tells that values are left without the others of their row.
+    fn put_left(&mut self)
+        ensures { WasTold (left_text (string_bytes self.old.path)) (telling_of E.contents self.old) (telling_of E.contents self.new) }
+    {
+        let told = write_left(&mut self.errors, self.path.as_str());
+        self.failed |= told.is_err();
+    }
+
+    /// Tells it, behind how many lines more were refused.
+    pub(crate) fn tell_left(&mut self)
+        ensures { IsLeftTold true (telling_of E.contents self.old) (telling_of E.contents self.new) }
+    {
+        self.tell_more();
+        self.put_left();
     }
 
     /// Tells how the run of a session ended, in the last lines of a report.

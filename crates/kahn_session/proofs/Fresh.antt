@@ -12,7 +12,7 @@ use Rattle.kahn_sequential.specs.Flows.{AreNew, Flowing, flow_lines}
 use Rattle.kahn_texts.specs.News.{more_text, news_text}
 use Rattle.kahn_texts.specs.Formats.{IsLine}
 use Rattle.kahn_texts.proofs.Answer_lines.{streamed_lines}
-use Rattle.kahn_session.specs.inner.Shown.{values_behind}
+use Rattle.kahn_session.specs.Forms.{values_behind}
 
 -- what is new on one stream
 abbrev pub news_line : Program → HeldRun → List ℕ → ℕ → Line → List ℕ

@@ -3,3 +3,4 @@ pub mod Showing
 pub mod Fresh
 pub mod Taking
 pub mod Named
+pub mod Rows

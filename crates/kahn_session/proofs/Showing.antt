@@ -1,5 +1,5 @@
 -- What went out of the streams begins what they have later, so what is new stands behind it.
-use Rattle.std.proofs.Common.{arith, ◌≡◌, ◌∙◌, ◌⊎◌, inl, inr, ℕ, zero, suc, ◌+◌, ◌<◌, ◌≤◌, subst, List, [], ◌∷◌, ◌++◌, length, map, drop, Option, Some, refl, sym, ap, ap₂}
+use Rattle.std.proofs.Common.{arith, ◌≡◌, ◌∙◌, ◌⊎◌, inl, inr, ℕ, zero, suc, ◌+◌, ◌<◌, ◌≤◌, Bool, true, false, append-nil, subst, List, [], ◌∷◌, ◌++◌, length, map, drop, Some, refl, sym, ap, ap₂}
 use Rattle.std.specs.Prelude.{slice_get, slice_index_or}
 use Rattle.std.proofs.lemmas.Option.{same_Some}
 use Rattle.kahn_streams.specs.Network.{network_of}
@@ -12,8 +12,8 @@ use Rattle.kahn_streams.specs.Tokens.{token_value}
 use Rattle.kahn_streams.specs.declared.token.Token.{Token}
 use Rattle.kahn_streams.specs.Answers.{stream_lines}
 use Rattle.kahn_texts.specs.News.{joined}
-use Rattle.kahn_session.specs.Live.{form_text}
-use Rattle.kahn_session.specs.inner.Shown.{OutBegins, news_of, values_behind}
+use Rattle.kahn_session.specs.Forms.{form_text, left_out, news_of, values_behind}
+use Rattle.kahn_session.specs.Live.{OutBegins}
 
 -- both have the same lines
 pub lines_stay : (a b : HeldRun) → GoesOn a b → flow_lines b ≡ flow_lines a
@@ -23,9 +23,10 @@ pub kept_lines : (a b : HeldRun) (lines : List Line) → lines ≡ flow_lines a 
 kept_lines a b lines e g = e ∙ sym (lines_stay a b g)
 
 -- the text of the news, by what it is of
-pub news_texts : (form : Option ℕ) (t : Program) (f : Flowing) (lines : List Line) → t ≡ f.run.network → lines ≡ flow_lines f.run →
-    form_text form t lines (news_of f lines) ≡ form_text form f.run.network (flow_lines f.run) (news_of f (flow_lines f.run))
-news_texts form t f lines e is = ap (λ u. form_text form u lines (news_of f lines)) e ∙ ap (λ l. form_text form f.run.network l (news_of f l)) is
+pub news_texts : (columns : List ℕ) (shown : ℕ) (t : Program) (f : Flowing) (lines : List Line) → t ≡ f.run.network → lines ≡ flow_lines f.run →
+    form_text columns shown t lines (news_of f lines) ≡ form_text columns shown f.run.network (flow_lines f.run) (news_of f (flow_lines f.run))
+news_texts columns shown t f lines e is =
+    ap (λ u. form_text columns shown u lines (news_of f lines)) e ∙ ap (λ l. form_text columns shown f.run.network l (news_of f l)) is
 
 behind : (vs zs : List Value) → drop (length vs) (vs ++ zs) ≡ zs
 behind [] zs = refl
@@ -76,3 +77,14 @@ within_lines lines j c i there past = by (below lines j there)
 
     by : j < length lines → j < i
     by l = omega (arith, l, past)
+
+-- the member of the same place
+pub mapped : (f : Line → List Value) (ls : List Line) (j : ℕ) (c : Line) → slice_get ls j ≡ Some c → slice_index_or (map f ls) j [] ≡ f c
+mapped f [] j c at = absurd cc
+mapped f (l ∷ ls) zero c at = ap f (same_Some l c at)
+mapped f (l ∷ ls) (suc j) c at = mapped f ls j c at
+
+-- what was let go of begins what there is
+pub left_begins : (b : Bool) (f : Flowing) → OutBegins f → OutBegins (record f { out = left_out b f })
+left_begins true f begun = begun
+left_begins false f begun = λ j c at. ([], sym (append-nil _ ∙ mapped (so_far f.run) (flow_lines f.run) j c at))

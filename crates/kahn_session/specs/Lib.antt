@@ -1,3 +1,4 @@
+pub mod Forms
 pub mod Pace
 pub mod Live
 pub mod Refusals

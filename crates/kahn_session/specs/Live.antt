@@ -1,5 +1,5 @@
 -- Believed. A session: a run that is fed line by line, and what it has shown of its streams (this project's profile).
-use Rattle.std.specs.Prelude.{◌≡◌, ◌⊎◌, ℕ, suc, ◌<◌, ◌≤◌, Bool, true, false, List, [], ◌∷◌, map, length, replicate, slice_get, slice_index_or, Option, None, Some, is_some, Result, Ok, Err, ◌&&◌, not, nat_lt}
+use Rattle.std.specs.Prelude.{◌≡◌, ◌⊎◌, ℕ, suc, ◌<◌, ◌≤◌, Bool, true, false, List, [], ◌∷◌, map, length, replicate, slice_get, slice_index_or, Option, None, Some, is_some, Result, Ok, Err, ◌&&◌, not, nat_lt, ◌++◌, if◌then◌else◌}
 use Rattle.std.specs.Io.KnownBytes.{Appends}
 use Rattle.std.specs.List.{list_any}
 use Rattle.std.specs.Str.{IsUtf8, bytes_eq}
@@ -26,7 +26,8 @@ use Rattle.kahn_streams.specs.declared.answer.Verdict.TheVariants.{Finished}
 use Rattle.kahn_streams.specs.declared.fault.RunFault.{RunFault}
 use Rattle.kahn_streams.specs.declared.fault.RunFault.TheVariants as fault
 use Rattle.kahn_texts.specs.Formats.{AreBlanks, IsEntry, HasNoHead, HasNoValues, content, most_input_bytes, channel_name}
-use Rattle.kahn_texts.specs.News.{closing_text, joined, news_text, plain_text}
+use Rattle.kahn_texts.specs.News.{closing_text, joined}
+use Rattle.kahn_session.specs.Forms.{form_text, is_uneven, left_out, news_of, row_count}
 use Rattle.kahn_streams.specs.Written.{AppendsFront}
 use Rattle.kahn_texts.specs.declared.bytes.WriteFault.{WriteFault}
 use Rattle.kahn_session.specs.Pace.{events_of, part_bound}
@@ -40,8 +41,10 @@ pub record Live : Type 0 where
   pub step : ℕ
   -- whether a write failed: then more may have gone out
   pub broken : Bool
-  -- the number of the stream whose values alone are shown, one a line; else all streams are
-  pub plain : Option ℕ
+  -- the numbers of the streams whose values alone are shown, of several in rows; where there are none, all streams are
+  pub columns : List ℕ
+  -- how many rows went out of what wasn't let go of
+  pub shown : ℕ
 
 -- the run has a verdict for its input so far and its bound so far, and no write failed
 abbrev pub HasVerdict : Live → Type 0
@@ -54,7 +57,8 @@ pub record HasOpened (t : Program) (config : Config) (s : Live) : Type 0 where
   pub flow : HasFlowed t (replicate (length (network_of t).channels) []) config s.flow
   pub step : s.step ≡ config.bound
   pub broken : s.broken ≡ false
-  pub plain : s.plain ≡ None
+  pub columns : s.columns ≡ []
+  pub shown : s.shown ≡ 0
 
 abbrev pub IsUnopened : Program → Config → RunFault → Type 0
 IsUnopened t config fault.BadConfig = IsUnstarted t config fault.BadConfig
@@ -106,10 +110,10 @@ pub record HasGoneOn (line : List ℕ) (old new : Live) : Type 0 where
   pub fed : (h : Flowing) × IsFedBy line old.flow h × (new.flow.run.input ≡ h.run.input)
   pub goes_on : GoesOn old.flow.run new.flow.run
   pub step : new.step ≡ old.step
-  pub plain : new.plain ≡ old.plain
+  pub columns : new.columns ≡ old.columns
 
 -- the part has this verdict, and the ends that are right for the input so far and the bound so far; and what is new on each
--- stream, behind what went out of it, is its stream so far
+-- stream, behind what was let go of it, is its stream so far
 pub record HasAnswered (line : List ℕ) (old new : Live) (v : Verdict) (news : List (List Value)) : Type 0 where
   pub gone_on : HasGoneOn line old new
   pub bound : new.flow.run.bound ≡ part_bound old.step old.flow.run
@@ -118,39 +122,42 @@ pub record HasAnswered (line : List ℕ) (old new : Live) (v : Verdict) (news : 
   pub exact : Settles (network_of new.flow.run.network) (inputs_of new.flow.run.input) new.flow.run.bound v
   pub joined : joined old.flow.out news ≡ map (so_far new.flow.run) (flow_lines new.flow.run)
 
--- the text of the news of streams: a line for each that has some, or the values alone of one of them
-abbrev pub form_text : Option ℕ → Program → List Line → List (List Value) → List ℕ
-form_text None program lines news = news_text program lines news
-form_text (Some number) program lines news = plain_text (slice_index_or news number [])
+-- the text of the news, behind the rows that went out before
+abbrev pub news_written : Live → Live → List (List Value) → List ℕ
+news_written old new news = form_text old.columns old.shown new.flow.run.network (flow_lines new.flow.run) news
 
--- the text of the news
-abbrev pub news_written : Live → List (List Value) → List ℕ
-news_written s news = form_text s.plain s.flow.run.network (flow_lines s.flow.run) news
+-- what was let go of each stream begins what there is of it
+abbrev pub OutBegins : Flowing → Type 0
+OutBegins f = (j : ℕ) (c : Line) → slice_get (flow_lines f.run) j ≡ Some c → (news : List Value) × (so_far f.run c ≡ slice_index_or f.out j [] ++ news)
 
--- the news went out
+-- whether values stand behind the rows that went out
+abbrev pub has_left : Live → Bool
+has_left s = is_uneven (news_of s.flow (flow_lines s.flow.run)) s.shown s.columns
+
+-- whether a value waits for the others of its row
+abbrev pub is_waiting_row : Live → List (List Value) → Bool
+is_waiting_row s news = is_uneven news (row_count news s.columns) s.columns
+
+-- the news went out; it is let go of, unless a value waits for the others of its row
 pub record HasTaken (line : List ℕ) (old new : Live) (before after : Option (List ℕ)) (v : Verdict) : Type 0 where
   pub news : List (List Value)
   pub answered : HasAnswered line old new v news
-  pub out : new.flow.out ≡ map (so_far new.flow.run) (flow_lines new.flow.run)
-  pub text : Appends before after (news_written new news)
+  pub out : new.flow.out ≡ left_out (is_waiting_row old news) (record new.flow { out = old.flow.out })
+  pub shown : new.shown ≡ (if is_waiting_row old news then row_count news old.columns else 0)
+  pub begun : OutBegins new.flow
+  pub text : Appends before after (news_written old new news)
 
 -- a fault of the writer: a prefix of the news went out
 pub record HasBroken (line : List ℕ) (old new : Live) (before after : Option (List ℕ)) : Type 0 where
   pub verdict : Verdict
   pub news : List (List Value)
   pub answered : HasAnswered line old new verdict news
-  pub text : AppendsFront before after (news_written new news)
+  pub text : AppendsFront before after (news_written old new news)
 
 -- whether the session is broken by a fault
 abbrev pub breaks : TakeFault → Bool
-breaks TooLong = false
-breaks NotUtf8 = false
-breaks BadLine = false
-breaks BadValue = false
-breaks BadRow = false
-breaks (Feed f) = false
-breaks NoMemory = false
 breaks (Write f) = true
+breaks f = false
 
 -- nothing changed, and why
 pub record IsRefusedLine (line : List ℕ) (old new : Live) (before after : Option (List ℕ)) (f : TakeFault) : Type 0 where
@@ -161,14 +168,8 @@ pub record IsRefusedLine (line : List ℕ) (old new : Live) (before after : Opti
 -- what a line of input made of a session and of the bytes that were written
 abbrev pub IsTakenLine : List ℕ → Live → Live → Option (List ℕ) → Option (List ℕ) → Result Verdict TakeFault → Type 0
 IsTakenLine line old new before after (Ok v) = HasTaken line old new before after v
-IsTakenLine line old new before after (Err TooLong) = IsRefusedLine line old new before after TooLong
-IsTakenLine line old new before after (Err NotUtf8) = IsRefusedLine line old new before after NotUtf8
-IsTakenLine line old new before after (Err BadLine) = IsRefusedLine line old new before after BadLine
-IsTakenLine line old new before after (Err BadValue) = IsRefusedLine line old new before after BadValue
-IsTakenLine line old new before after (Err BadRow) = IsRefusedLine line old new before after BadRow
-IsTakenLine line old new before after (Err (Feed f)) = IsRefusedLine line old new before after (Feed f)
-IsTakenLine line old new before after (Err NoMemory) = IsRefusedLine line old new before after NoMemory
 IsTakenLine line old new before after (Err (Write f)) = HasBroken line old new before after
+IsTakenLine line old new before after (Err f) = IsRefusedLine line old new before after f
 
 -- ---- the end
 
@@ -212,23 +213,6 @@ abbrev pub IsDeaf : HeldRun → Bool → Type 0
 IsDeaf h deaf =
     (v : Verdict) × (h.verdict ≡ Some v)
     × ((ends : List End) × IsRightSoFar h v ends × (deaf ≡ (is_finished v && not (list_any (waits_on_input (network_of h.network)) ends))))
-
--- it waits
-abbrev pub is_wait_outcome : Outcome → Bool
-is_wait_outcome (Waits c) = true
-is_wait_outcome _ = false
-
-abbrev pub is_waiting : End → Bool
-is_waiting x = is_wait_outcome x.outcome
-
--- it has finished, no process waits on an input channel, and one waits
-abbrev pub is_stuck : Network → Verdict → List End → Bool
-is_stuck N v ends = (is_finished v && not (list_any (waits_on_input N) ends)) && list_any is_waiting ends
-
--- whether no input can change the run any more, and a process waits
-abbrev pub IsStuck : HeldRun → Bool → Type 0
-IsStuck h stuck =
-    (v : Verdict) × (h.verdict ≡ Some v) × ((ends : List End) × IsRightSoFar h v ends × (stuck ≡ is_stuck (network_of h.network) v ends))
 
 -- whether processes wait on one another in a ring, of the ends that are right for the input so far and the bound so far
 abbrev pub IsRinged : HeldRun → Bool → Type 0

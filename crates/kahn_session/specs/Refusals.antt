@@ -109,6 +109,10 @@ more_words count = if count == 1 then codes " line more like it\n" else codes " 
 abbrev pub alike_text : List ℕ → ℕ → List ℕ
 alike_text path count = if count == 0 then [] else concat (path ∷ codes ": and " ∷ decimal count ∷ more_words count ∷ [])
 
+-- values are left without the others of their row
+abbrev pub left_text : List ℕ → List ℕ
+left_text path = concat (path ∷ codes ": " ∷ codes "values are left without the others of their row" ∷ codes "\n" ∷ [])
+
 -- words about a line that was taken
 abbrev pub line_note : List ℕ → ℕ → List ℕ → List ℕ
 line_note path number words = said_text path (origin false number) (digits false number) words [] []

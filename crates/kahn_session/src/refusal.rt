@@ -3,7 +3,7 @@
 ghost use Rattle.std.specs.Prelude.{◌≡◌, [], ◌∷◌, option_copied};
 ghost use Rattle.std.specs.List.{concat};
 ghost use Rattle.kahn_streams.specs.Written.{Writes};
-ghost use Rattle.kahn_session.specs.Refusals.{alike_text, alone_line, alone_text, behind_part, digits, failure_words, failed_text, feed_words, hint_text, is_of_plain, is_want, more_words, before_part, line_note, origin, pieces, refusal_line, refusal_text, said_text, showing_option, stepped_text, take_words, unknown_text, waiting_text};
+ghost use Rattle.kahn_session.specs.Refusals.{alike_text, alone_line, alone_text, behind_part, digits, failure_words, failed_text, feed_words, hint_text, is_of_plain, is_want, left_text, more_words, before_part, line_note, origin, pieces, refusal_line, refusal_text, said_text, showing_option, stepped_text, take_words, unknown_text, waiting_text};
 
 use crate::fault::TakeFault;
 use itoa::Buffer;
@@ -314,6 +314,14 @@ pub fn write_more<W: Write>(writer: &mut W, path: &str, count: u64) -> Result<()
         buffer.format(count),
         more_words(count),
     )
+}
+
+/// Writes that values are left without the others of their row, and flushes; as `write_refusal` does.
+pub fn write_left<W: Write>(writer: &mut W, path: &str) -> Result<(), WriteFault>
+    ensures { Writes (W.contents writer.old) (W.contents writer.new) result (left_text path.now) }
+{
+    let words = "values are left without the others of their row";
+    put_words(writer, path, ": ", words, "\n")
 }
 
 /// Writes words about the line of that number, which was taken.

@@ -1,24 +1,23 @@
 //! Sessions: what a line of input makes of a run, and what goes out after it.
 
-ghost use Rattle.std.specs.Prelude.{◌≡◌, ◌↔◌, ◌&&◌, not, ℕ, List, Some, false, slice_index_or, true, [], IsTrue, MatchOption, MatchResult, option_copied};
+ghost use Rattle.std.specs.Prelude.{◌≡◌, ◌↔◌, ◌&&◌, not, ℕ, Some, false, true, IsTrue, MatchOption, MatchResult, option_copied};
 ghost use Rattle.std.specs.List.{list_any};
 ghost use Rattle.kahn_streams.specs.Network.{network_of};
 ghost use Rattle.kahn_sequential.specs.Flows.{flow_lines};
 ghost use Rattle.kahn_texts.specs.Formats.{channel_name};
-ghost use Rattle.kahn_texts.specs.News.{news_text, plain_text};
-ghost use Rattle.kahn_streams.specs.Written.{Writes};
-ghost use Rattle.kahn_session.specs.Live.{HasOpened, IsClosed, IsDeaf, IsFaulty, IsFirstFault, IsFirstInput, IsMeantLine, IsOtherInput, HasVerdict, IsNamedAt, IsNamedLine, IsRinged, IsStreamOf, IsStuck, IsTakenLine, IsUnfedBy, IsUnopened, breaks, first_faulted, form_text, is_finished, is_input, is_other_input, is_stuck, is_waiting, waits_on_input, wants_input};
+ghost use Rattle.kahn_session.specs.Live.{HasOpened, IsClosed, IsDeaf, IsFaulty, IsFirstFault, IsFirstInput, IsMeantLine, IsOtherInput, HasVerdict, IsNamedAt, IsNamedLine, IsRinged, IsStreamOf, IsTakenLine, IsUnfedBy, IsUnopened, breaks, first_faulted, has_left, is_finished, is_input, is_other_input, waits_on_input, wants_input};
 ghost use Rattle.kahn_session.specs.Pace.{MayBeSlow};
-ghost use Rattle.kahn_session.specs.inner.Shown.{IsFirstOf, OutBegins, news_of};
+ghost use Rattle.kahn_session.specs.inner.Shown.{IsFirstOf};
 
 use crate::fault::TakeFault;
 use crate::feeding::{feed_line, line_meant};
+use crate::forms::{begun, is_uneven, let_go, row_count, show};
 use crate::pace::Paced;
 use kahn_chain::has_ring;
 use kahn_streams::{
     Config, End, Failure, Gate, Input, Line, Network, Outcome, Role, RunFault, Verdict,
 };
-use kahn_texts::{WriteFault, channel_name, write_closing, write_news, write_plain};
+use kahn_texts::{WriteFault, channel_name, write_closing};
 use std::alloc::Global;
 use std::io::Write;
 use std::marker::Model;
@@ -34,8 +33,10 @@ pub struct Session<'n> {
     input: Option<usize>,
     // Whether a write failed, after which nothing tells what went out.
     broken: bool,
-    // The number of the stream whose values alone are shown.
-    plain: Option<usize>,
+    // The numbers of the streams whose values alone are shown; where there are none, all streams are.
+    columns: Vec<usize>,
+    // How many rows went out of what wasn't let go of.
+    shown: usize,
 }
 
 impl<'n> Model for Session<'n> {
@@ -51,23 +52,23 @@ impl<'n> Model for Session<'n> {
 
     ghost coded = { Prim.hlevel (codes, action.the_row.coded, form.the_row.coded) };
 
-    ghost view = { λ s. record { flow = s.paced.flow; step = s.paced.step; broken = s.broken; plain = s.plain } };
+    ghost view = { λ s. record { flow = s.paced.flow; step = s.paced.step; broken = s.broken; columns = s.columns.items; shown = s.shown } };
 
     ghost invariant = { λ s. (s.paced.flow.run.network ≡ s.network.now) × (s.lines.items ≡ flow_lines s.paced.flow.run) × IsFirstOf s.network.now s.input };
 }
 
 /// Whether the line is that of a channel of that name.
-fn is_of(network: &Network, line: Line, name: &str) -> bool
+fn is_of(network: &Network, line: Line, name: &[u8]) -> bool
     ensures { (result ≡ true) ↔ IsNamedLine network.now line name.now }
 {
     match line {
-        Line::Channel(channel) => channel_name(network, channel) == name,
+        Line::Channel(channel) => channel_name(network, channel).as_bytes() == name,
         Line::Print(_) => false,
     }
 }
 
 /// The number of the first line that is that of a channel of that name.
-fn line_of(network: &Network, lines: &[Line], name: &str) -> Option<usize>
+fn line_of(network: &Network, lines: &[Line], name: &[u8]) -> Option<usize>
     ensures { MatchOption result ((n : ℕ) → ¬ IsNamedAt network.now lines.now n name.now) (λ number. IsNamedAt network.now lines.now number name.now) }
 {
     for number in 0..lines.len() {
@@ -76,87 +77,6 @@ fn line_of(network: &Network, lines: &[Line], name: &str) -> Option<usize>
         }
     }
     None
-}
-
-/// Writes what is new on each stream.
-fn put_news<W: Write>(
-    writer: &mut W,
-    network: &Network,
-    run: &Paced<'_>,
-    lines: &[Line],
-) -> Result<(), WriteFault>
-    requires network { run.now.flow.run.network ≡ network.now }
-    requires lines { lines.now ≡ flow_lines run.now.flow.run }
-    ensures { Writes (W.contents writer.old) (W.contents writer.new) result (news_text network.now lines.now (news_of run.now.flow lines.now)) }
-{
-    let _program = network.program();
-    for line in lines {
-        write_news(writer, network, *line, run.fresh(*line))?;
-    }
-    Ok(())
-}
-
-/// Writes the values alone that are new on the stream of that number, and nothing where there is none.
-fn put_plain<W: Write>(
-    writer: &mut W,
-    network: &Network,
-    run: &Paced<'_>,
-    lines: &[Line],
-    number: usize,
-) -> Result<(), WriteFault>
-    requires network { run.now.flow.run.network ≡ network.now }
-    requires lines { lines.now ≡ flow_lines run.now.flow.run }
-    ensures { Writes (W.contents writer.old) (W.contents writer.new) result (plain_text (slice_index_or (news_of run.now.flow lines.now) number [])) }
-{
-    let _program = network.program();
-    if number >= lines.len() {
-        return Ok(());
-    }
-    write_plain(writer, run.fresh(lines[number]))
-}
-
-/// Writes what is new, in the form of the session.
-fn put_form<W: Write>(
-    writer: &mut W,
-    network: &Network,
-    run: &Paced<'_>,
-    lines: &[Line],
-    plain: Option<usize>,
-) -> Result<(), WriteFault>
-    requires network { run.now.flow.run.network ≡ network.now }
-    requires lines { lines.now ≡ flow_lines run.now.flow.run }
-    ensures { Writes (W.contents writer.old) (W.contents writer.new) result (form_text plain network.now lines.now (news_of run.now.flow lines.now)) }
-{
-    match plain {
-        None => put_news(writer, network, run, lines),
-        Some(number) => put_plain(writer, network, run, lines, number),
-    }
-}
-
-/// Writes what is new, and flushes.
-fn show<W: Write>(
-    writer: &mut W,
-    network: &Network,
-    run: &Paced<'_>,
-    lines: &[Line],
-    plain: Option<usize>,
-) -> Result<(), WriteFault>
-    requires network { run.now.flow.run.network ≡ network.now }
-    requires lines { lines.now ≡ flow_lines run.now.flow.run }
-    ensures { Writes (W.contents writer.old) (W.contents writer.new) result (form_text plain network.now lines.now (news_of run.now.flow lines.now)) }
-{
-    put_form(writer, network, run, lines, plain)?;
-    writer.flush().map_err(|_| WriteFault::Failed)
-}
-
-/// What went out of each stream begins what there is of it, as each stream says. It changes nothing.
-fn begun(run: &Paced<'_>, lines: &[Line])
-    requires { lines.now ≡ flow_lines run.now.flow.run }
-    ensures { OutBegins run.now.flow }
-{
-    for line in lines {
-        let _fresh = run.fresh(*line);
-    }
 }
 
 /// The number from 1 of the first instance whose end is a fault, and which one.
@@ -173,18 +93,6 @@ fn first_fault(ends: &[End]) -> Option<(usize, Failure)>
         rest = behind;
     }
     None
-}
-
-/// Whether one of the ends is a wait.
-fn has_wait(ends: &[End]) -> bool
-    ensures { result ≡ list_any is_waiting ends.now }
-{
-    for end in ends {
-        if let Outcome::Waits(_) = end.outcome {
-            return true;
-        }
-    }
-    false
 }
 
 /// Whether a channel of that role is an input.
@@ -275,13 +183,6 @@ fn is_over(verdict: Verdict, waits: bool) -> bool
     }
 }
 
-/// Whether a run with this verdict and these ends can't go on, though one of its processes waits.
-fn is_stuck_by(network: &Network, verdict: Verdict, ends: &[End]) -> bool
-    ensures { result ≡ is_stuck (network_of network.now) verdict ends.now }
-{
-    is_over(verdict, has_input_wait(network, ends)) && has_wait(ends)
-}
-
 impl<'n> Session<'n> {
     /// A session of a network before its first part, whose input channels have no values. The bound of the configuration is
     /// how many events each part may take.
@@ -305,23 +206,25 @@ impl<'n> Session<'n> {
             lines,
             input: first_input(network),
             broken: false,
-            plain: None,
+            columns: Vec::new(alloc),
+            shown: 0,
         })
     }
 
     /// The number of the stream of a channel of that name, or nothing where it has none.
-    pub fn stream_of(&self, channel: &str) -> Option<usize>
+    pub fn stream_of(&self, channel: &[u8]) -> Option<usize>
         ensures { MatchOption result ((n : ℕ) → ¬ IsStreamOf self.now.flow.run n channel.now) (λ number. IsStreamOf self.now.flow.run number channel.now) }
     {
         line_of(self.network, self.lines.as_slice(), channel)
     }
 
-    /// From now on shows the stream of that number alone, as in a report from 0, and of it the values alone, one a line; and
-    /// nothing where there is no such stream.
-    pub fn show_plain(&mut self, number: usize)
-        ensures { self.new ≡ record self.old { plain = Some number } }
+    /// From now on shows the streams of these numbers alone, as in a report from 0, and of them the values alone: one a line of one
+    /// stream, and of several a row, the values of one place with commas between, once each of the streams has its own. A number that
+    /// no stream has stands for one without values. It may be called only before the first part.
+    pub fn show_columns(&mut self, columns: Vec<usize>)
+        ensures { self.new ≡ record self.old { columns = columns.items } }
     {
-        self.plain = Some(number);
+        self.columns = columns;
     }
 
     /// Whether the values of a line of input are meant for an input channel, or why `take` would refuse it now. That too many values
@@ -334,7 +237,7 @@ impl<'n> Session<'n> {
 
     /// Feeds the values of a line of input, which stands without its line feed, runs a part, and writes what is new: a line
     /// for each stream that has grown, its heading as in a report and then the values behind those that went out, or after
-    /// `show_plain` the values alone of its stream; and flushes. A blank line feeds nothing. The part goes on until nothing
+    /// `show_columns` the values alone of its streams; and flushes. A blank line feeds nothing. The part goes on until nothing
     /// can, or until it took as many events as each part may, or memory was refused.
     ///
     /// The line is refused with `TooLong`, `NotUtf8`, `BadLine`, `BadValue`, `Feed` and `NoMemory`, in this order: then
@@ -357,11 +260,21 @@ impl<'n> Session<'n> {
         let verdict = self.paced.part(gate);
         let _ends = self.paced.ends();
         begun(&self.paced, &self.lines);
-        if let Err(fault) = show(writer, self.network, &self.paced, &self.lines, self.plain) {
+        let count = row_count(&self.paced, &self.lines, &self.columns);
+        if let Err(fault) = show(
+            writer,
+            self.network,
+            &self.paced,
+            &self.lines,
+            &self.columns,
+            self.shown,
+            count,
+        ) {
             self.broken = true;
             return Err(TakeFault::Write(fault));
         }
-        self.paced.forget();
+        let shown = let_go(&mut self.paced, &self.lines, &self.columns, count);
+        self.shown = shown;
         Ok(verdict)
     }
 
@@ -409,17 +322,6 @@ impl<'n> Session<'n> {
         is_over(verdict, waits)
     }
 
-    /// Whether no line can change the run any more, and a process waits. It is asked only where the session is settled.
-    pub fn is_stuck(&self) -> bool
-        requires { HasVerdict self.now }
-        ensures { IsStuck self.now.flow.run result }
-    {
-        let Some(verdict) = self.paced.verdict() else {
-            unreachable!()
-        };
-        is_stuck_by(self.network, verdict, self.paced.ends())
-    }
-
     /// Whether processes wait on one another in a ring. It is asked only where the session is settled. It takes no memory.
     pub fn has_ring(&self) -> bool
         requires { HasVerdict self.now }
@@ -448,6 +350,13 @@ impl<'n> Session<'n> {
         ensures { IsOtherInput self.now.flow.run.network name.now (option_copied result) }
     {
         other_input(self.network, name)
+    }
+
+    /// Whether values are left that wait for the others of their row.
+    pub fn has_left(&self) -> bool
+        ensures { result ≡ has_left self.now }
+    {
+        is_uneven(&self.paced, &self.lines, &self.columns, self.shown)
     }
 
     /// The network that is run.

@@ -4,7 +4,7 @@ use Rattle.std.specs.declared.alloc.Global.{Global}
 use Rattle.std.specs.declared.string.String.{String}
 use Rattle.kahn_line.specs.declared.parts.Plain.{Plain}
 use Rattle.kahn_live.specs.Course.{telling_of}
-use Rattle.kahn_live.specs.Running.{HasRunNetwork, Watches, name_watched}
+use Rattle.kahn_live.specs.Running.{HasRunNetwork, Watches, name_watched, names_shown}
 use Rattle.kahn_live.proofs.running.run.Goals as goal
 
 pub returns-in-Ok-checked : goal.returns-in-Ok-checked
@@ -18,10 +18,11 @@ returns-in-Ok-checked g c =
     let made = g.W.Write.contents c.run_network.result.output in
     let new = telling_of g.E.Write.contents c.run_network.result.teller in
     let r = c.run_network.result.ending in
-    let name = name_watched o.plain o.config.watch in
     let is = c.name_watched-watch.ensures ∙ ap (λ (p : Option Plain). name_watched p o.config.watch) c.as_ref-columns.ensures.value in
     let watches = subst (λ (n : Option (List ℕ)). Watches n o.config config) is c.in-Ok.ensures in
-    let named = subst (λ (p : Option Plain). HasRunNetwork (record { plain = p; watch = option_copied c.name_watched-watch.result; at_end = map string_bytes c.deref.result.now; strict = o.strict }) t config text out made old new r) c.as_ref-columns.ensures.value c.run_network.ensures in
-    let watched = subst (λ (n : Option (List ℕ)). HasRunNetwork (record { plain = o.plain; watch = n; at_end = map string_bytes c.deref.result.now; strict = o.strict }) t config text out made old new r) is named in
-    let ran = subst (λ (ls : List (String Global)). HasRunNetwork (record { plain = o.plain; watch = name; at_end = map string_bytes ls; strict = o.strict }) t config text out made old new r) c.deref.ensures.value watched in
+    let shown = names_shown o.plain o.config.watch in
+    let are = c.names_shown.ensures ∙ ap (λ (p : Option Plain). names_shown p o.config.watch) c.as_ref-columns.ensures.value in
+    let named = subst (λ (p : Option Plain). HasRunNetwork (record { plain = p; shown = option_copied c.names_shown.result; at_end = map string_bytes c.deref.result.now; strict = o.strict }) t config text out made old new r) c.as_ref-columns.ensures.value c.run_network.ensures in
+    let watched = subst (λ (n : Option (List ℕ)). HasRunNetwork (record { plain = o.plain; shown = n; at_end = map string_bytes c.deref.result.now; strict = o.strict }) t config text out made old new r) are named in
+    let ran = subst (λ (ls : List (String Global)). HasRunNetwork (record { plain = o.plain; shown = shown; at_end = map string_bytes ls; strict = o.strict }) t config text out made old new r) c.deref.ensures.value watched in
     inr (inr (t, config, c.in-Ok-checked.ensures, watches, ran))

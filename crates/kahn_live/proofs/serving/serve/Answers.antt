@@ -1,4 +1,4 @@
-use Rattle.std.proofs.Common.{◌≡◌, inl, inr, refl, rules, true}
+use Rattle.std.proofs.Common.{◌≡◌, inl, inr, rules, true}
 use Rattle.std.proofs.lemmas.Result.{err_from_is_err_and}
 use Rattle.std.specs.Io.Buffered.{reader_remaining}
 use Rattle.kahn_live.specs.Course.{point_of}

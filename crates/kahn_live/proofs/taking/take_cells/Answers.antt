@@ -1,7 +1,7 @@
-use Rattle.std.proofs.Common.{arith, ◌≡◌, ◌+◌, ◌∷◌, List, ℕ, Err, None, Ok, Option, Result, Some, drop, map, ap, refl, subst}
+use Rattle.std.proofs.Common.{arith, ◌≡◌, ◌+◌, ◌∷◌, List, ℕ, Err, None, Ok, Option, Some, drop, map, ap, subst}
 use Rattle.std.proofs.lemmas.Grind.{common_steps}
 use Rattle.kahn_session.specs.declared.fault.TakeFault.{TakeFault}
-use Rattle.kahn_live.specs.Course.{IsLineMet, no_memory, point_of}
+use Rattle.kahn_live.specs.Course.{IsLineMet, point_of}
 use Rattle.kahn_live.specs.Rows.{bytes_in}
 use Rattle.kahn_live.proofs.Rowing.{taken_more, torn_more, torn_off, torn_refused}
 use Rattle.kahn_live.proofs.taking.take_cells.Goals as goal

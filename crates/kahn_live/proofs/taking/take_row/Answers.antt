@@ -1,4 +1,4 @@
-use Rattle.std.proofs.Common.{inl, inr, List, ℕ, map, subst}
+use Rattle.std.proofs.Common.{inr, List, ℕ, map, subst}
 use Rattle.std.proofs.lemmas.Result.{err_from_is_err_and}
 use Rattle.std.specs.declared.alloc.Global.{Global}
 use Rattle.std.specs.declared.vec.Vec.{Vec}

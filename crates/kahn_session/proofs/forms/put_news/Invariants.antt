@@ -2,9 +2,9 @@
 use Rattle.std.proofs.Common.{◌≡◌, ℕ, List, ◌++◌, length, map}
 use Rattle.std.specs.Io.KnownBytes.{Appends}
 use Rattle.kahn_texts.specs.News.{news_text}
-use Rattle.kahn_session.specs.inner.Shown.{news_of}
+use Rattle.kahn_session.specs.Forms.{news_of}
 use Rattle.kahn_session.proofs.Fresh.{rest_text}
-use Rattle.kahn_session.proofs.session.put_news.Given as goal
+use Rattle.kahn_session.proofs.forms.put_news.Given as goal
 
 abbrev pub invariant-loop-line : goal.invariant-loop-line
 invariant-loop-line g l = (done : List ℕ)

@@ -8,7 +8,7 @@ use Rattle.kahn_streams.specs.declared.value.Line.TheVariants.{Channel}
 use Rattle.kahn_streams.specs.Written.{AppendsFront}
 use Rattle.kahn_texts.proofs.Writing.{fails, goes_on_front, stops}
 use Rattle.kahn_session.proofs.Fresh.{is_line, news_line, news_moved, news_split, tokens_new}
-use Rattle.kahn_session.proofs.session.put_news.Goals as goal
+use Rattle.kahn_session.proofs.forms.put_news.Goals as goal
 
 pub write_news-requires : goal.write_news-requires
 write_news-requires g c =

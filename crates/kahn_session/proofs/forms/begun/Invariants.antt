@@ -4,7 +4,7 @@ use Rattle.std.specs.Prelude.{slice_get, slice_index_or}
 use Rattle.kahn_streams.specs.declared.value.Line.{Line}
 use Rattle.kahn_streams.specs.declared.value.Value.{Value}
 use Rattle.kahn_sequential.specs.HeldRuns.{so_far}
-use Rattle.kahn_session.proofs.session.begun.Given as goal
+use Rattle.kahn_session.proofs.forms.begun.Given as goal
 
 abbrev pub invariant-loop-line : goal.invariant-loop-line
 invariant-loop-line l = record {

@@ -1,0 +1,8 @@
+use Rattle.std.proofs.Common.{List, subst}
+use Rattle.kahn_streams.specs.declared.value.Value.{Value}
+use Rattle.kahn_streams.specs.Written.{Writes}
+use Rattle.kahn_texts.specs.News.{plain_text}
+use Rattle.kahn_session.proofs.forms.put_plain.Goals as goal
+
+pub returns : goal.returns
+returns g c = subst (λ (vs : List Value). Writes (g.W.Write.contents c.args.writer.now) (g.W.Write.contents c.write_plain.new.writer) c.write_plain.result (plain_text vs)) c.fresh_of.ensures c.write_plain.ensures
