@@ -1,4 +1,5 @@
 pub mod Left
+pub mod Planned
 pub mod Tasks
 pub mod Turns
 pub mod Words

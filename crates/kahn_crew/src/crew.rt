@@ -3,12 +3,14 @@
 ghost use Rattle.std.specs.Prelude.{◌≡◌, ◌↔◌, ◌+◌, ◌<◌, ◌≤◌, ◌^◌};
 ghost use Rattle.kahn_crew.specs.inner.Words.{[], true, false, Err, length, map, All, IfOk, IfErr, OnOk, vec_capacity, events_told, IsLoneSeat, parts_of, raised_of};
 ghost use Rattle.kahn_crew.specs.inner.Turns.{HasCause, HasGone, HasSeat, WantsNone, seat_of, table_id_of};
+ghost use Rattle.kahn_crew.specs.inner.Planned.{IsCrew};
 ghost use Rattle.kahn_crew.specs.inner.Left.{AreUntouched, IsLack, IsLeftOf, IsOver};
 ghost use Rattle.kahn_crew.specs.inner.Tasks.{AreReadyTasks, told_tale};
 ghost use Rattle.kahn_crew.specs.declared.closing.CrewFault.TheVariants.{NoMemory as NoMemoryFault, NoThread as NoThreadFault};
 
 use crate::boxes::{Boxed, unbox_all};
 use crate::closing::{CrewFault, Left};
+use crate::crewing::Crewing;
 use crate::hints::Hints;
 use crate::opening::open_board;
 use crate::parallel::{Parallel, run_all};
@@ -17,7 +19,7 @@ use crate::worker::{Worker, turns};
 use kahn_board::{Closed, Seat, join_all, split_all};
 use kahn_code::Code;
 use kahn_job::Task;
-use kahn_streams::{Gate, Input, Network, Plan};
+use kahn_streams::{Gate, Input, Network};
 use std::alloc::Global;
 use std::marker::Brand;
 use std::sync::Wait;
@@ -115,12 +117,12 @@ fn work_all<R: Threads + Wait + Sync, G: Gate + Sync>(
     run_all(rt, &Shared { rt, run, gate }, workers)
 }
 
-// The board's one seat, once the plan's workers have worked by its quantum and left, and whether memory was refused to one
-// of them. Both come with a fault too: `NoMemory` before anybody worked, `NoThread` once those have left that were started.
+// The board's one seat, once as many workers as come have worked by turns of that length and left, and whether memory was refused to
+// one of them. Both come with a fault too: `NoMemory` before anybody worked, `NoThread` once those have left that were started.
 fn run_workers<R: Threads + Wait + Sync, G: Gate + Sync>(
     rt: &R,
     alloc: Global,
-    _plan: Plan,
+    _crewing: Crewing,
     run: &Run<'_>,
     gate: &G,
     seat: Seat<Boxed>,
@@ -128,7 +130,7 @@ fn run_workers<R: Threads + Wait + Sync, G: Gate + Sync>(
 ) -> (Result<(), CrewFault>, Seat<Boxed>, bool)
     requires seat { IsLoneSeat (table_id_of run.now) seat }
     requires calm { seat.seat.me.0.raised ≡ 0 }
-    requires plan { (run.now.quantum ≡ _plan.quantum) × (length hints.items ≡ _plan.workers) }
+    requires asked { (run.now.quantum ≡ _crewing.turn) × (length hints.items ≡ _crewing.come) }
     requires few { (1 ≤ length hints.items) × (length hints.items ≤ 16) }
     ensures seat { IsLoneSeat (table_id_of run.now) result.1 }
     ensures left { OnOk result.0 (result.1.seat.me.0.stage ≡ 1) }
@@ -158,9 +160,9 @@ fn run_workers<R: Threads + Wait + Sync, G: Gate + Sync>(
     }
 }
 
-/// Runs tasks that may go on by several workers, until every worker has left: the run was halted since memory was refused to
-/// a worker, or the bound is used up, or every instance has ended or waits on a channel of which it took all. One worker
-/// has the caller's thread, each other one a thread of its own.
+/// Runs tasks that may go on by as many workers as come, with turns of that length, until every worker has left: the run was halted
+/// since memory was refused to a worker, or so many events are done as `bound`, or every instance has ended or waits on a channel of which
+/// it took all. One worker has the caller's thread, each other one a thread of its own.
 ///
 /// Fails with `NoMemory` only if memory was refused before the first event: each process is then as it was, and nothing of
 /// the bound is used. If a thread can't be started, which one worker never needs, the run is left to the threads that came
@@ -172,31 +174,33 @@ pub fn run_tasks<R: Threads + Wait + Sync, G: Gate + Sync>(
     network: &Network,
     input: &Input,
     code: &Code,
-    plan: Plan,
+    crewing: Crewing,
+    bound: u64,
     tasks: Vec<Task>,
     gate: &G,
 ) -> Result<Left, (CrewFault, Left)>
     requires code { code.now.network.value ≡ network.now }
-    requires few { (1 ≤ plan.workers) × (plan.workers ≤ 16) }
-    requires quantum { 0 < plan.quantum }
-    requires ready { AreReadyTasks network.now input.now plan.watch tasks.items }
-    requires bound { plan.bound + events_told told_tale tasks.items < 2 ^ 48 }
-    ensures gone { IfOk result (IsLeftOf network.now input.now plan.watch plan.bound tasks.items) }
+    requires crew { IsCrew crewing }
+    requires ready { AreReadyTasks network.now input.now crewing.watch tasks.items }
+    requires total { bound + events_told told_tale tasks.items < 2 ^ 48 }
+    ensures gone { IfOk result (IsLeftOf network.now input.now crewing.watch bound tasks.items) }
     ensures over { IfOk result (λ left. IsOver network.now input.now left.tasks.items left.budget left.halted) }
     ensures cause { IfOk result (λ left. left.halted ≡ true → left.wanted ≡ true) }
     ensures heard { IfOk result (λ left. left.wanted ≡ true → left.halted ≡ true) }
-    ensures wants { IfErr result (λ e. IsLack plan.workers e.0) }
+    ensures wants { IfErr result (λ e. IsLack crewing.workers e.0) }
     ensures halted { IfErr result (λ e. e.0 ≡ NoThreadFault → e.1.halted ≡ true) }
-    ensures refused { IfErr result (λ e. IsLeftOf network.now input.now plan.watch plan.bound tasks.items e.1) }
-    ensures untouched { IfErr result (λ e. e.0 ≡ NoMemoryFault → AreUntouched plan.bound tasks.items e.1.tasks.items e.1.budget) }
+    ensures refused { IfErr result (λ e. IsLeftOf network.now input.now crewing.watch bound tasks.items e.1) }
+    ensures untouched { IfErr result (λ e. e.0 ≡ NoMemoryFault → AreUntouched bound tasks.items e.1.tasks.items e.1.budget) }
 {
     let _program = network.program();
-    let (board, seat, hints, room) = match open_board(alloc, network, input, plan, tasks) {
+    let (board, seat, hints, room) = match open_board(
+        alloc, network, input, crewing, bound, tasks,
+    ) {
         Ok(opened) => opened,
         Err(tasks) => {
             let left = Left {
                 tasks,
-                budget: plan.bound,
+                budget: bound,
                 halted: false,
                 wanted: false,
             };
@@ -208,9 +212,9 @@ pub fn run_tasks<R: Threads + Wait + Sync, G: Gate + Sync>(
         network,
         input,
         code,
-        quantum: plan.quantum,
+        quantum: crewing.plan(bound).quantum,
     };
-    let (outcome, seat, wanted) = run_workers(rt, alloc, plan, &run, gate, seat, hints);
+    let (outcome, seat, wanted) = run_workers(rt, alloc, crewing, &run, gate, seat, hints);
     let Closed {
         cells,
         budget,

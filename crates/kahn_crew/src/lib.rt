@@ -4,6 +4,7 @@
 mod boxes;
 mod closing;
 mod crew;
+mod crewing;
 mod hints;
 mod opening;
 mod parallel;
@@ -17,5 +18,6 @@ mod worker;
 // For the crates above.
 pub use closing::{CrewFault, Left, rest_all};
 pub use crew::run_tasks;
+pub use crewing::Crewing;
 pub use kahn_streams::{Gate, Open, Plan};
 pub use opening::{first_tasks, wake_all};

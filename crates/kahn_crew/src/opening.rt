@@ -6,11 +6,12 @@ ghost use Rattle.kahn_board.specs.Wires.{wires};
 ghost use Rattle.kahn_crew.specs.inner.Tasks.{AreReadyTasks, HasBegun, IsNumber, told_tale};
 
 use crate::boxes::{Boxed, box_all, unbox_all};
+use crate::crewing::Crewing;
 use crate::hints::{Hints, first_hints};
 use kahn_board::{Board, Seat};
 use kahn_code::Code;
 use kahn_job::{Idle, Task, jobs};
-use kahn_streams::{Input, Network, NoMemory, Plan, Role};
+use kahn_streams::{Input, Network, NoMemory, Role};
 use std::alloc::Global;
 
 /// The tasks of idle jobs that go on with an input for which their ends have settled. The list that is given has room for all. Never allocates.
@@ -73,16 +74,17 @@ pub(crate) fn open_board(
     alloc: Global,
     network: &Network,
     input: &Input,
-    plan: Plan,
+    crewing: Crewing,
+    bound: u64,
     tasks: Vec<Task>,
 ) -> Result<(Board<Boxed>, Seat<Boxed>, Vec<Hints>, Vec<Task>), Vec<Task>>
-    requires some { 0 < plan.workers }
-    requires ready { AreReadyTasks network.now input.now plan.watch tasks.items }
-    requires few { plan.bound + events_told told_tale tasks.items < 2 ^ 48 }
+    requires some { 0 < crewing.come }
+    requires ready { AreReadyTasks network.now input.now crewing.watch tasks.items }
+    requires few { bound + events_told told_tale tasks.items < 2 ^ 48 }
     ensures seat { IfOk result (λ r. (r.1.seat.table_id ≡ r.0.table.shared.table_id) × (r.1.seat.me ≡ (opening_view (wires network.now), []))) }
-    ensures begun { IfOk result (λ r. HasBegun network.now input.now plan.watch r.0.table.shared.key) }
-    ensures key { IfOk result (λ r. (r.0.table.shared.key.bound ≡ plan.bound) × (r.0.table.shared.key.cells.value.items ≡ tasks.items)) }
-    ensures hints { IfOk result (λ r. length r.2.items ≡ plan.workers) }
+    ensures begun { IfOk result (λ r. HasBegun network.now input.now crewing.watch r.0.table.shared.key) }
+    ensures key { IfOk result (λ r. (r.0.table.shared.key.bound ≡ bound) × (r.0.table.shared.key.cells.value.items ≡ tasks.items)) }
+    ensures hints { IfOk result (λ r. length r.2.items ≡ crewing.come) }
     ensures room { IfOk result (λ r. (r.3.items ≡ []) × (length (network_of network.now).instances ≤ vec_capacity r.3)) }
     ensures refused { IfErr result (λ given. given.items ≡ tasks.items) }
 {
@@ -93,11 +95,11 @@ pub(crate) fn open_board(
     for channel in 0..network.channels() {
         numbers.push_reserved(number(network, input, &tasks, channel));
     }
-    let Ok(hints) = first_hints(alloc, plan.workers, network.instances()) else {
+    let Ok(hints) = first_hints(alloc, crewing.plan(bound).workers, network.instances()) else {
         return Err(tasks);
     };
     let (boxes, room) = box_all(alloc, tasks)?;
-    match Board::new(alloc, network, &numbers, boxes, plan.bound) {
+    match Board::new(alloc, network, &numbers, boxes, bound) {
         Ok((board, seat)) => Ok((board, seat, hints, room)),
         Err((_fault, boxes)) => Err(unbox_all(boxes, room)),
     }

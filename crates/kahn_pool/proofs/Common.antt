@@ -12,8 +12,9 @@ pub use Rattle.kahn_code.specs.inner.Tapped.{Tapped}
 pub use Rattle.kahn_crew.proofs.Ended.{all_told, untouched_gone}
 pub use Rattle.kahn_crew.proofs.Started.{at_mapped, at_most_all, woken_ready}
 pub use Rattle.kahn_streams.proofs.By_number.{mapped_at}
-pub use Rattle.kahn_crew.specs.declared.{closing.CrewFault.CrewFault, closing.CrewFault.TheVariants.NoMemory, closing.CrewFault.TheVariants.NoThread}
+pub use Rattle.kahn_crew.specs.declared.{crewing.Crewing.Crewing, closing.CrewFault.CrewFault, closing.CrewFault.TheVariants.NoMemory, closing.CrewFault.TheVariants.NoThread}
 pub use Rattle.kahn_streams.specs.declared.plan.Plan.{Plan}
+pub use Rattle.kahn_crew.specs.inner.Planned.{IsAsked, IsCrew, crew_of}
 pub use Rattle.kahn_crew.specs.inner.Left.{AreAll, AreUntouched, HaveGone, IsLack, IsOver, IsQuietTask, task_events}
 pub use Rattle.kahn_crew.specs.inner.Tasks.{AreReadyTasks, handed_to_task, is_over, task_rows, told_tale, work_of}
 pub use Rattle.kahn_job.proofs.Berthed.{past_none}
@@ -28,11 +29,11 @@ pub use Rattle.kahn_job.specs.inner.Ways.{no_end}
 pub use Rattle.kahn_job.specs.inner.Works.{IsJob, Work, width_of}
 pub use Rattle.kahn_sequential.specs.HeldRuns.{GoesOn, HasFed, HasResumed, HeldRun, IsAnswerOf, IsLineOf, IsResumed, IsRightSoFar, IsUnfed, Seen, given_so_far, seen_at, seen_events, seen_of, so_far, unseen}
 pub use Rattle.kahn_sequential.specs.declared.{rounds.Round.Round}
-pub use Rattle.kahn_pool.specs.declared.{part.Stopped.Stopped, plan.Part.Part}
+pub use Rattle.kahn_pool.specs.declared.{part.Stopped.Stopped, plan.RunPart.RunPart}
 pub use Rattle.kahn_sequential.specs.inner.Bench.{AreStreams, HasEndIn, IsConcluded, IsVerdict, RunState, all_events, events_at, view_events}
 pub use Rattle.kahn_sequential.specs.inner.Gathered.{IsFrom, IsGiven, IsOutcomeOf, TookNoMore, no_view, view_at}
 pub use Rattle.kahn_sequential.specs.inner.Parts.{AreEnded, HasRisen, HaveRisen}
-pub use Rattle.kahn_pool.specs.inner.Holding.{AreHeld, AreHeldBy, HasEnded, HasStopped, HasStoppedPart, IsHolding, cell_alone, cell_for, held_state, run_of}
+pub use Rattle.kahn_pool.specs.inner.Holding.{AreHeld, AreHeldBy, HasEnded, HasStopped, HasStoppedPart, IsHolding, cell_alone, cell_for, held_state, planned, run_of}
 pub use Rattle.kahn_pool.specs.inner.Rested.{AreEndsOfTasks, AreTold, IsDryOf, IsEndOf, IsSaid, IsSettledTask, IsToldAs, SettlesTo, cell_of}
 pub use Rattle.kahn_sequential.specs.inner.Streams.{AreAllGiven, AreGiven, AreLists, HaveChanged}
 pub use Rattle.kahn_sequential.specs.inner.Workbench.{AllStandBy, AreKeptOf, AreWhole, IsLaid, IsWide, MayRun, Table, gone_in, seated_with, sight_of, told_in, vacant_of}

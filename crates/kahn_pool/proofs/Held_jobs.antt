@@ -1,6 +1,6 @@
 -- The jobs of a held run: how they become tasks, and how tasks come to rest.
 use Rattle.std.proofs.Common.{false, true, IsOk, arith, ◌≡◌, ℕ, ◌+◌, List, length, map, sum_by, sym, ap, ◌∙◌, subst, Some, slice_get, Bool, Option, Result, Err}
-use Rattle.kahn_pool.proofs.Common.{length-map, Program, network_of, AreInputsExtended, Lists, inputs_of, StoodBy, Told, told_view, AreIdle, AreJoinedJobs, HaveMet, cells_of, rows_of, AreJoinedOn, IsJob, Work, all_idle, idle_grown, idle_met, events_told, woken_task, Tasked, AreUntouched, HaveGone, task_events, told_tale, work_of, all_told, at_mapped, mapped_at, IsConcluded, seen_of, AreEnded, AreHeld, AreHeldBy, HasEnded, HasRisen, HasStoppedPart, HaveRisen, cell_alone, cell_for, held_state, cell_of, RunState, Verdict, Part, Stopped, IsLack, CrewFault, NoMemory, IsWellWired, HaveChanged, SettlesTo, view_events, seen_events, same_Some, prefix_refl, AllStandBy}
+use Rattle.kahn_pool.proofs.Common.{length-map, Program, network_of, AreInputsExtended, Lists, inputs_of, StoodBy, Told, told_view, AreIdle, AreJoinedJobs, HaveMet, cells_of, rows_of, AreJoinedOn, IsJob, Work, all_idle, idle_grown, idle_met, events_told, woken_task, Tasked, AreUntouched, HaveGone, task_events, told_tale, work_of, all_told, at_mapped, mapped_at, IsConcluded, seen_of, AreEnded, AreHeld, AreHeldBy, HasEnded, HasRisen, HasStoppedPart, HaveRisen, cell_alone, cell_for, held_state, cell_of, RunState, Verdict, RunPart, Stopped, IsLack, CrewFault, NoMemory, IsWellWired, HaveChanged, SettlesTo, view_events, seen_events, same_Some, prefix_refl, AllStandBy}
 use Rattle.kahn_streams.specs.declared.answer.End.{End as RunEnd}
 use Rattle.kahn_sequential.proofs.Righted.{events_seen}
 use Rattle.kahn_sequential.proofs.Lists.{map_map, sum_over, map_changed}
@@ -133,8 +133,8 @@ module _ {t : Program} {lists : Lists} {watch : Option ℕ} {bound : ℕ} {ws : 
 -- ---- how a part stopped
 
 -- it ended, with these jobs
-pub ended_so : (part : Part) (old : List Work) (r : Stopped) → AreHeldBy part r.idles.items r.budget →
-    HasEnded part.network.now part.input.now part.plan.watch part.plan.workers part.plan.bound r → IsOk r.outcome → HaveRisen (cells_of old) (cells_of r.idles.items) → HasStoppedPart part old r
+pub ended_so : (part : RunPart) (old : List Work) (r : Stopped) → AreHeldBy part r.idles.items r.budget →
+    HasEnded part.network.now part.input.now part.crew.watch part.crew.workers part.bound r → IsOk r.outcome → HaveRisen (cells_of old) (cells_of r.idles.items) → HasStoppedPart part old r
 ended_so part old r held ended one risen = record {
   held = held;
   risen = risen;
@@ -143,8 +143,8 @@ ended_so part old r held ended one risen = record {
 }
 
 -- it was refused, with the jobs as they are
-pub refused_so : (part : Part) (old : List Work) (r : Stopped) → AreHeldBy part r.idles.items r.budget → HaveRisen (cells_of old) (cells_of r.idles.items) → (fault : CrewFault) →
-    IsLack part.plan.workers fault → r.outcome ≡ Err fault →
+pub refused_so : (part : RunPart) (old : List Work) (r : Stopped) → AreHeldBy part r.idles.items r.budget → HaveRisen (cells_of old) (cells_of r.idles.items) → (fault : CrewFault) →
+    IsLack part.crew.workers fault → r.outcome ≡ Err fault →
     (fault ≡ NoMemory → (r.budget ≡ part.left) × (map cell_alone (cells_of r.idles.items) ≡ map cell_alone (cells_of old))) → HasStoppedPart part old r
 refused_so part old r held risen fault want e still = record {
   held = held;
@@ -154,7 +154,7 @@ refused_so part old r held risen fault want e still = record {
 }
 
 -- jobs whose cells are the same
-pub stopped_since : (part : Part) (ws us : List Work) (r : Stopped) → cells_of us ≡ cells_of ws → HasStoppedPart part us r → HasStoppedPart part ws r
+pub stopped_since : (part : RunPart) (ws us : List Work) (r : Stopped) → cells_of us ≡ cells_of ws → HasStoppedPart part us r → HasStoppedPart part ws r
 stopped_since part ws us r cells h = record {
   held = h.held;
   risen = subst (λ cs. HaveRisen cs (cells_of r.idles.items)) cells h.risen;

@@ -42,7 +42,7 @@ module _ (t : Program) {compiled : Program} (lists : Lists) (plan : Plan) (ws : 
     holding_fed size begun = record {
       code = h.code;
       fits = size ∙ h.fits;
-      range = h.range;
+      few = h.few;
       held = held_grown h.held after grown;
       ended = tt;
       begun = begun;
@@ -59,7 +59,7 @@ module _ (t : Program) {compiled : Program} (lists : Lists) (plan : Plan) (ws : 
     s = subst (λ l. HasStopped t lists plan.watch plan.workers (plan.bound + more) l (budget + more) r) same part
 
     pub few : plan.bound + more < 2 ^ 48
-    few = let b = h.range.4 in omega (arith, below, b)
+    few = let b = h.few in omega (arith, below, b)
 
     pub resumed : (next : Option Verdict) → HasResumed more (held_run plan.bound ws verdict) (held_run (plan.bound + more) r.idles.items next)
     resumed next = record {
@@ -83,7 +83,7 @@ module _ (t : Program) {compiled : Program} (lists : Lists) (plan : Plan) (ws : 
         record {
           code = h.code;
           fits = h.fits;
-          range = h.range;
+          few = h.few;
           held = held_again s.held more plan.bound budget refl (sym u.0);
           ended = ended_alike r.idles.items ws u.1 t lists plan.watch plan.bound budget ends verdict h.ended;
           begun = begun;

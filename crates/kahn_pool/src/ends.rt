@@ -4,13 +4,13 @@ ghost use Rattle.std.specs.Prelude.{◌≡◌, ◌<◌, ◌≤◌, length, Some,
 ghost use Rattle.kahn_pool.specs.inner.Below.{AreAll, Tasked, network_of};
 ghost use Rattle.kahn_pool.specs.inner.Rested.{AreEndsOfTasks, AreTold, IsDryOf, IsDryTold, IsEndOf};
 
-use crate::plan::Part;
+use crate::plan::RunPart;
 use kahn_job::{Standing, Task};
 use kahn_sequential::channel_read;
 use kahn_streams::{End, Outcome};
 
 // How many tokens were given to a channel: its writer sent them, or the input has them.
-fn given(part: &Part<'_>, tasks: &[Task], channel: usize) -> u64
+fn given(part: &RunPart<'_>, tasks: &[Task], channel: usize) -> u64
     requires here { channel < length (network_of part.now.network.now).channels }
     requires told { AreTold part.now.network.now tasks.now }
     ensures { AreAll part.now.network.now part.now.input.now tasks.now channel result }
@@ -27,7 +27,7 @@ fn given(part: &Part<'_>, tasks: &[Task], channel: usize) -> u64
 }
 
 // What stands in the answer for an instance that is dry on a parameter.
-fn dry_outcome(part: &Part<'_>, tasks: &[Task], instance: usize, parameter: usize) -> Outcome
+fn dry_outcome(part: &RunPart<'_>, tasks: &[Task], instance: usize, parameter: usize) -> Outcome
     requires here { instance < length tasks.now }
     requires told { AreTold part.now.network.now tasks.now }
     requires reads { IsDryOf part.now.network.now instance parameter }
@@ -46,7 +46,7 @@ fn dry_outcome(part: &Part<'_>, tasks: &[Task], instance: usize, parameter: usiz
 }
 
 // The end of an instance.
-fn end_of(part: &Part<'_>, tasks: &[Task], instance: usize) -> End
+fn end_of(part: &RunPart<'_>, tasks: &[Task], instance: usize) -> End
     requires here { instance < length tasks.now }
     requires told { AreTold part.now.network.now tasks.now }
     ensures { (x : Tasked) → slice_get tasks.now instance ≡ Some x → IsEndOf part.now.network.now part.now.input.now tasks.now x result }
@@ -63,7 +63,7 @@ fn end_of(part: &Part<'_>, tasks: &[Task], instance: usize) -> End
 }
 
 /// The ends of all instances. The list that is given has room for all.
-pub(crate) fn ends_of(part: &Part<'_>, tasks: &[Task], mut ends: Vec<End>) -> Vec<End>
+pub(crate) fn ends_of(part: &RunPart<'_>, tasks: &[Task], mut ends: Vec<End>) -> Vec<End>
     requires told { AreTold part.now.network.now tasks.now }
     requires room { length tasks.now ≤ vec_capacity ends }
     ensures { AreEndsOfTasks part.now.network.now part.now.input.now tasks.now result.items (length tasks.now) }

@@ -6,14 +6,14 @@ ghost use Rattle.kahn_sequential.specs.HeldRuns.{HasFed, HasStarted, IsAnswerOf,
 ghost use Rattle.kahn_sequential.specs.inner.Workbench.{AreKeptOf};
 
 use crate::part::{PartRoom, first_idles, run_part};
-use crate::plan::Part;
+use crate::plan::RunPart;
 use kahn_code::{Code, Kept, compile};
-use kahn_crew::CrewFault;
+use kahn_crew::{CrewFault, Crewing};
 use kahn_job::Idle;
 use kahn_sequential::{HeldFault, fill, give_watched, lines_of, opening_streams, plan_of};
 use kahn_streams::{
     Answer, Carried, Config, End, FeedFault, Gate, Input, Line, MOST_BOUND, Network, NoMemory,
-    Plan, RunFault, Value, Verdict,
+    RunFault, Value, Verdict,
 };
 use std::alloc::Global;
 use std::marker::Model;
@@ -30,7 +30,8 @@ pub struct Held<'n> {
     alloc: Global,
     network: &'n Network,
     input: Input,
-    plan: Plan,
+    crew: Crewing,
+    bound: u64,
     budget: u64,
     code: Code,
     idles: Vec<Idle>,
@@ -45,15 +46,17 @@ impl<'n> Model for Held<'n> {
     ghost use Rattle.kahn_streams.specs.contracts.tree.Form as form;
     ghost use Rattle.std.specs.Coded.{codes};
     ghost use Rattle.kahn_sequential.specs.HeldRuns.{HeldRun};
-    ghost use Rattle.kahn_pool.specs.inner.Holding.{IsHolding, run_of};
+    ghost use Rattle.kahn_pool.specs.inner.Below.{IsAsked, IsCrew};
+    ghost use Rattle.kahn_pool.specs.inner.Holding.{IsHolding, planned, run_of};
 
     ghost Value = { HeldRun };
 
     ghost coded = { Prim.hlevel (codes, action.the_row.coded, form.the_row.coded) };
 
-    ghost view = { λ h. run_of h.network.now h.input h.plan h.idles.items h.verdict };
+    ghost view = { λ h. run_of h.network.now h.input (planned h.crew h.bound) h.idles.items h.verdict };
 
-    ghost invariant = { λ h. IsHolding h.network.now h.code.network.value h.input h.plan h.idles.items h.budget h.ends.items h.given.items h.verdict };
+    ghost invariant = { λ h. IsHolding h.network.now h.code.network.value h.input (planned h.crew h.bound) h.idles.items h.budget h.ends.items h.given.items h.verdict
+        × (IsCrew h.crew × IsAsked h.crew) };
 }
 
 // Copies of what the cell of each job kept.
@@ -84,11 +87,13 @@ impl<'n> Held<'n> {
     {
         let plan = plan_of(network, &config)?;
         let code = compile(alloc, network)?;
-        let part = Part {
+        let crew = Crewing::of(&config, plan.watch);
+        let part = RunPart {
             network,
             input: &input,
             code: &code,
-            plan,
+            crew,
+            bound: plan.bound,
             left: plan.bound,
         };
         let idles = first_idles(alloc, &part)?;
@@ -96,7 +101,8 @@ impl<'n> Held<'n> {
             alloc,
             network,
             input,
-            plan,
+            crew,
+            bound: plan.bound,
             budget: plan.bound,
             code,
             idles,
@@ -121,20 +127,20 @@ impl<'n> Held<'n> {
     ) -> Result<Verdict, HeldFault>
         ensures { MatchResult result (IsResumed more self.old self.new) (IsUnresumed more self.old self.new) }
     {
-        if MOST_BOUND - self.plan.bound < more {
+        if MOST_BOUND - self.bound < more {
             return Err(HeldFault::BadMore);
         }
         let room = PartRoom::new(self.alloc, self.network.instances())?;
-        give_watched(self.network, &self.input, self.plan.watch, &mut self.given)?;
+        give_watched(self.network, &self.input, self.crew.watch, &mut self.given)?;
         let idles = mem::replace(&mut self.idles, Vec::new(self.alloc));
         let _program = self.network.program();
-        let bound = self.plan.bound + more;
-        let plan = Plan { bound, ..self.plan };
-        let part = Part {
+        let bound = self.bound + more;
+        let part = RunPart {
             network: self.network,
             input: &self.input,
             code: &self.code,
-            plan,
+            crew: self.crew,
+            bound,
             left: self.budget + more,
         };
         let stopped = run_part(rt, self.alloc, &part, idles, room, gate);
@@ -142,7 +148,7 @@ impl<'n> Held<'n> {
         if let Err(CrewFault::NoMemory) = stopped.outcome {
             return Err(HeldFault::NoMemory);
         }
-        self.plan = plan;
+        self.bound = bound;
         self.budget = stopped.budget;
         self.ends = stopped.ends;
         match stopped.outcome {
@@ -197,14 +203,14 @@ impl<'n> Held<'n> {
     pub fn events(&self) -> u64
         ensures { result ≡ sum_by seen_events self.now.cells }
     {
-        self.plan.bound - self.budget
+        self.bound - self.budget
     }
 
     /// The lines of the streams of an answer, in order. Fails only if memory was refused.
     pub fn lines(&self) -> Result<Vec<Line>, NoMemory>
         ensures { IfOk result (λ lines. lines.items ≡ stream_lines (network_of self.now.network) self.now.watch) }
     {
-        lines_of(self.alloc, self.network, self.plan.watch)
+        lines_of(self.alloc, self.network, self.crew.watch)
     }
 
     /// What the stream of a line has so far, in place order. May be called only if the run is settled, and for a line of `lines`.
@@ -243,7 +249,7 @@ impl<'n> Held<'n> {
             unreachable!()
         };
         let _program = self.network.program();
-        let mut streams = opening_streams(self.alloc, self.network, &self.input, self.plan.watch)?;
+        let mut streams = opening_streams(self.alloc, self.network, &self.input, self.crew.watch)?;
         let mut lists = copied_lists(self.alloc, &self.idles)?;
         fill(self.network, &mut streams, &mut lists);
         let ends = Vec::from_slice(self.alloc, &self.ends)?;
@@ -251,7 +257,7 @@ impl<'n> Held<'n> {
             verdict,
             streams,
             ends,
-            events: self.plan.bound - self.budget,
+            events: self.bound - self.budget,
         })
     }
 }

@@ -1,18 +1,18 @@
 //! A part of a held run: idle jobs go on, and come to rest again.
 
 ghost use Rattle.std.specs.Prelude.{◌≡◌, ◌↔◌, ◌≤◌, ◌<◌, [], Err, Ok, length, map, true, vec_capacity, IfOk, IsOk};
-ghost use Rattle.kahn_pool.specs.inner.Below.{NoMemory as Refused, HaveSettled, IsOver, cells_of, network_of, rows_of};
+ghost use Rattle.kahn_pool.specs.inner.Below.{NoMemory as Refused, HaveSettled, IsAsked, IsOver, cells_of, network_of, rows_of};
 ghost use Rattle.kahn_pool.specs.inner.Holding.{AreHeldBy, HasEnded, HasStoppedPart, HaveAllLeft, IsHeldPart, IsRoomFor, cell_for};
 ghost use Rattle.kahn_pool.specs.inner.Rested.{cell_of};
 ghost use Rattle.kahn_streams.specs.declared.answer.Verdict.TheVariants as verdict;
 
 use crate::ends::ends_of;
-use crate::plan::Part;
+use crate::plan::RunPart;
 use crate::settle::settle_all;
 use kahn_crew::{CrewFault, Left, first_tasks, rest_all, run_tasks, wake_all};
 use kahn_job::{Idle, Task, meet, settle};
 use kahn_sequential::verdict_of;
-use kahn_streams::{End, Gate, NoMemory, Plan, Verdict};
+use kahn_streams::{End, Gate, NoMemory, Verdict};
 use std::alloc::Global;
 use std::sync::Wait;
 use std::thread::Threads;
@@ -48,12 +48,12 @@ pub(crate) struct Stopped {
 }
 
 /// The jobs of all instances before their first events. Fails only if memory was refused.
-pub(crate) fn first_idles(alloc: Global, part: &Part<'_>) -> Result<Vec<Idle>, NoMemory>
-    ensures { IfOk result (λ idles. AreHeldBy part.now idles.items part.now.plan.bound) }
+pub(crate) fn first_idles(alloc: Global, part: &RunPart<'_>) -> Result<Vec<Idle>, NoMemory>
+    ensures { IfOk result (λ idles. AreHeldBy part.now idles.items part.now.bound) }
 {
     let (network, input) = (part.network, part.input);
     let room = Vec::with_capacity(alloc, network.instances())?;
-    let mut tasks = first_tasks(alloc, network, input, part.code, part.plan.watch)?;
+    let mut tasks = first_tasks(alloc, network, input, part.code, part.crew.watch)?;
     let _program = network.program();
     settle_all(&mut tasks, part);
     Ok(rest_all(tasks, room))
@@ -61,7 +61,7 @@ pub(crate) fn first_idles(alloc: Global, part: &Part<'_>) -> Result<Vec<Idle>, N
 
 // The jobs, the ends and the verdict of a run that is over: `Memory` exactly if it was halted, and it was halted only if memory
 // was refused to a worker. The lists that are given have room for the jobs and for the ends. Never allocates.
-fn conclude(part: &Part<'_>, mut left: Left, idles: Vec<Idle>, ends: Vec<End>) -> Stopped
+fn conclude(part: &RunPart<'_>, mut left: Left, idles: Vec<Idle>, ends: Vec<End>) -> Stopped
     requires left { HaveAllLeft part.now left }
     requires over { IsOver part.now.network.now part.now.input.now left.tasks.items left.budget left.halted }
     requires cause { left.halted ≡ true → left.wanted ≡ true }
@@ -69,9 +69,8 @@ fn conclude(part: &Part<'_>, mut left: Left, idles: Vec<Idle>, ends: Vec<End>) -
     requires ends { length (network_of part.now.network.now).instances ≤ vec_capacity ends }
     ensures held { AreHeldBy part.now result.idles.items result.budget }
     ensures cells { cells_of result.idles.items ≡ map cell_of left.tasks.items }
-    ensures ended { HasEnded part.now.network.now part.now.input.now part.now.plan.watch part.now.plan.workers part.now.plan.bound result }
+    ensures ended { HasEnded part.now.network.now part.now.input.now part.now.crew.watch part.now.crew.workers part.now.bound result }
     ensures verdict { result.outcome ≡ Ok verdict.Memory ↔ left.halted ≡ true }
-    ensures memory { result.outcome ≡ Ok verdict.Memory → left.wanted ≡ true }
     ensures is_one { IsOk result.outcome }
 {
     let _program = part.network.program();
@@ -90,7 +89,7 @@ fn conclude(part: &Part<'_>, mut left: Left, idles: Vec<Idle>, ends: Vec<End>) -
 // The jobs of a run that was given up.
 fn give_up(
     fault: CrewFault,
-    part: &Part<'_>,
+    part: &RunPart<'_>,
     mut left: Left,
     idles: Vec<Idle>,
     ends: Vec<End>,
@@ -116,7 +115,7 @@ fn give_up(
 pub(crate) fn run_settled<R: Threads + Wait + Sync, G: Gate + Sync>(
     rt: &R,
     alloc: Global,
-    part: &Part<'_>,
+    part: &RunPart<'_>,
     idles: Vec<Idle>,
     room: PartRoom,
     gate: &G,
@@ -130,26 +129,28 @@ pub(crate) fn run_settled<R: Threads + Wait + Sync, G: Gate + Sync>(
     let (network, input) = (part.network, part.input);
     let _program = network.program();
     let tasks = wake_all(network, input, idles, room.tasks);
-    let bound = part.left;
-    let plan = Plan { bound, ..part.plan };
-    match run_tasks(rt, alloc, network, input, part.code, plan, tasks, gate) {
+    match run_tasks(
+        rt, alloc, network, input, part.code, part.crew, part.left, tasks, gate,
+    ) {
         Ok(left) => conclude(part, left, room.idles, room.ends),
         Err((fault, left)) => give_up(fault, part, left, room.idles, room.ends),
     }
 }
 
-/// Runs idle jobs for as many events as are left for the part, until every worker has left.
+/// Runs idle jobs for as many events as are left for the part, by the workers and the quantum that were asked for, until every worker has
+/// left.
 ///
 /// If memory was refused before the first event, each job is as it was. If a thread couldn't be started, those that were are
 /// halted and gathered, and the jobs stand where they were left.
 pub(crate) fn run_part<R: Threads + Wait + Sync, G: Gate + Sync>(
     rt: &R,
     alloc: Global,
-    part: &Part<'_>,
+    part: &RunPart<'_>,
     mut idles: Vec<Idle>,
     room: PartRoom,
     gate: &G,
 ) -> Stopped
+    requires asked { IsAsked part.now.crew }
     requires part { IsHeldPart part.now idles.items }
     requires room { IsRoomFor (length (network_of part.now.network.now).instances) room }
     ensures { HasStoppedPart part.now idles.items result }

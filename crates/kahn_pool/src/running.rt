@@ -1,21 +1,21 @@
 //! Runs of a network.
 
-ghost use Rattle.kahn_pool.specs.inner.Below.{IsCutShort, IsInRange, IsRight, IsRightRun, IsUnrun, Settles, inputs_of, network_of};
+ghost use Rattle.kahn_pool.specs.inner.Below.{IsCrew, IsCutShort, IsRight, IsRightRun, IsUnrun, Settles, inputs_of, network_of};
 ghost use Rattle.kahn_sequential.specs.HeldRuns.{IsWant};
 ghost use Rattle.kahn_sequential.specs.inner.Workbench.{MayRun, sight_of};
 ghost use Rattle.kahn_pool.specs.inner.Holding.{IsHandRoomFor};
 ghost use Rattle.kahn_sequential.specs.declared.rounds.Round.{Round as RoundOf};
-ghost use Rattle.std.specs.Prelude.{◌≡◌, length, IfOk, MatchResult};
+ghost use Rattle.std.specs.Prelude.{◌≡◌, ◌<◌, ◌^◌, length, IfOk, MatchResult};
 
 use crate::handover::lanes;
 use crate::part::PartRoom;
-use crate::plan::crew_plan;
 use crate::workers::{HandRoom, run_on_workers, run_workers};
+use kahn_crew::Crewing;
 use kahn_sequential::{
     Bench, QUANTUM, answered, finished_exactly, plan_of, room_for_answer, run_on_alone,
     run_until_wide, run_watched,
 };
-use kahn_streams::{Answer, Config, Gate, Input, Network, NoMemory, Plan, RunFault};
+use kahn_streams::{Answer, Config, Gate, Input, Network, NoMemory, RunFault};
 use std::alloc::Global;
 use std::marker::Brand;
 use std::sync::Wait;
@@ -50,36 +50,38 @@ fn hand_room(
     })
 }
 
-// Runs a network by several workers if the gate is open: at first on the caller's thread alone, over plain queues. If there is work for
-// several, they go on from there, as many as have work. If memory is refused for that, the run goes on alone.
+// Runs a network at an open gate: at first on the caller's thread alone, over plain queues. If there is work for several, they go on from
+// there, as many as have work. If memory is refused for that, the run goes on alone.
 fn run_first<R: Threads + Wait + Sync, G: Gate + Sync>(
     rt: &R,
     alloc: Global,
     network: &Network,
     input: &Input,
-    plan: Plan,
+    most: Crewing,
+    bound: u64,
     gate: &G,
 ) -> Result<Answer, RunFault>
     requires fits { length input.now ≡ length (network_of network.now).channels }
-    requires range { IsInRange plan.workers plan.quantum plan.bound }
-    ensures { MatchResult result (IsRight (network_of network.now) (inputs_of input.now) plan.bound plan.watch) (IsWant plan.workers) }
+    requires crew { IsCrew most × (bound < 2 ^ 48) }
+    ensures { MatchResult result (IsRight (network_of network.now) (inputs_of input.now) bound most.watch) (IsWant most.workers) }
 {
     let Ok(ends) = Vec::with_capacity(alloc, network.instances()) else {
         return Err(RunFault::NoMemory);
     };
-    let mut bench = Bench::new(alloc, network, input, plan.watch)?;
-    let (streams, kept) = room_for_answer(alloc, network, input, plan.watch)?;
+    let mut bench = Bench::new(alloc, network, input, most.watch)?;
+    let (streams, kept) = room_for_answer(alloc, network, input, most.watch)?;
+    let plan = most.plan(bound);
     let blank = Blank::new(1);
     let run = run_until_wide::<G, Brand>(blank, &mut bench, gate, true, ends, plan);
     let round = match run {
-        Ok(part) => return Ok(answered(bench, part, streams, kept, plan.bound)),
+        Ok(part) => return Ok(answered(bench, part, streams, kept, bound)),
         Err(round) => round,
     };
-    let crew = crew_plan(plan, bench.wide());
+    let crew = most.at_open_gate(gate, bench.wide(), QUANTUM);
     match hand_room(alloc, network, input, &bench) {
         Err(_) => Ok(run_on_alone(gate, bench, round, streams, kept, plan)),
         Ok(room) => run_on_workers(
-            rt, alloc, network, input, bench, round, streams, kept, room, crew, gate,
+            rt, alloc, network, input, bench, round, streams, kept, room, crew, bound, gate,
         ),
     }
 }
@@ -91,22 +93,21 @@ fn run_open<R: Threads + Wait + Sync, G: Gate + Sync>(
     alloc: Global,
     network: &Network,
     input: &Input,
-    plan: Plan,
+    crew: Crewing,
+    bound: u64,
     gate: &G,
 ) -> Result<Answer, RunFault>
     requires fits { length input.now ≡ length (network_of network.now).channels }
-    requires range { IsInRange plan.workers plan.quantum plan.bound }
-    ensures { MatchResult result (IsRight (network_of network.now) (inputs_of input.now) plan.bound plan.watch) (IsWant plan.workers) }
+    requires crew { IsCrew crew × (bound < 2 ^ 48) }
+    ensures { MatchResult result (IsRight (network_of network.now) (inputs_of input.now) bound crew.watch) (IsWant crew.workers) }
 {
-    let most = crew_plan(plan, network.instances().min(processors(rt)));
-    let open = Plan {
-        quantum: QUANTUM,
-        ..most
-    };
-    if open.workers == 1 {
-        return Ok(run_watched(alloc, gate, network, input, open)?);
+    let side_by_side = network.instances().min(processors(rt));
+    let most = crew.at_open_gate(gate, side_by_side, QUANTUM);
+    let plan = most.plan(bound);
+    if plan.workers == 1 {
+        return Ok(run_watched(alloc, gate, network, input, plan)?);
     }
-    run_first(rt, alloc, network, input, open, gate)
+    run_first(rt, alloc, network, input, most, bound, gate)
 }
 
 /// Runs a network with an input that fits it. Its answer is right, whatever the number of workers and the quantum are. If its
@@ -140,8 +141,9 @@ pub fn run<R: Threads + Wait + Sync, G: Gate + Sync>(
     if plan.workers == 1 {
         return Ok(run_watched(alloc, gate, network, &input, plan)?);
     }
+    let crew = Crewing::of(&config, plan.watch);
     if gate.is_open() {
-        return run_open(rt, alloc, network, &input, plan, gate);
+        return run_open(rt, alloc, network, &input, crew, plan.bound, gate);
     }
-    run_workers(rt, alloc, network, &input, plan, gate)
+    run_workers(rt, alloc, network, &input, crew, plan.bound, gate)
 }

@@ -6,7 +6,7 @@ ghost use Rattle.kahn_sequential.specs.inner.Streams.{HaveChanged};
 ghost use Rattle.kahn_pool.specs.inner.Rested.{IsLentTo, IsSettledTask, SettlesTo};
 ghost use Rattle.kahn_job.specs.declared.standing.Standing.TheVariants as standing;
 
-use crate::plan::Part;
+use crate::plan::RunPart;
 use kahn_code::Steps;
 use kahn_job::{Standing, Task};
 use std::marker::Brand;
@@ -32,7 +32,7 @@ fn keep(task: &Task)
 }
 
 // Asks a task that may go on what comes next. No event is done, and it never allocates.
-fn ask<L: Ledger>(blank: Blank, task: &mut Task, part: &Part<'_>)
+fn ask<L: Ledger>(blank: Blank, task: &mut Task, part: &RunPart<'_>)
     requires blank { (blank.name ≡ L.name) × (blank.parts ≡ L.parts) × (0 < blank.parts) }
     requires going { task.old.standing ≡ standing.Going }
     requires lent { IsLentTo part.now task.old }
@@ -45,7 +45,7 @@ fn ask<L: Ledger>(blank: Blank, task: &mut Task, part: &Part<'_>)
 }
 
 // Asks a task what comes next, if it may go on.
-fn settle(task: &mut Task, part: &Part<'_>)
+fn settle(task: &mut Task, part: &RunPart<'_>)
     requires { IsLentTo part.now task.old }
     ensures { SettlesTo task.old task.new }
 {
@@ -57,7 +57,7 @@ fn settle(task: &mut Task, part: &Part<'_>)
 }
 
 /// Asks each task that may go on what comes next.
-pub(crate) fn settle_all(tasks: &mut Vec<Task>, part: &Part<'_>)
+pub(crate) fn settle_all(tasks: &mut Vec<Task>, part: &RunPart<'_>)
     requires { (p : ℕ) (x : Tasked) → slice_get tasks.old.items p ≡ Some x → IsLentTo part.now x }
     ensures { HaveChanged SettlesTo tasks.old.items tasks.new.items }
 {

@@ -1,19 +1,19 @@
 //! A run by several workers: a held run in one part.
 
-ghost use Rattle.std.specs.Prelude.{◌≡◌, ◌<◌, ◌≤◌, [], length, vec_capacity, IfErr, IfOk, MatchResult};
-ghost use Rattle.kahn_pool.specs.inner.Below.{IsInRange, IsLack, IsRight, cells_of, inputs_of, network_of};
+ghost use Rattle.std.specs.Prelude.{◌≡◌, ◌<◌, ◌≤◌, ◌^◌, [], length, vec_capacity, MatchResult};
+ghost use Rattle.kahn_pool.specs.inner.Below.{IsAsked, IsCrew, IsLack, IsRight, cells_of, inputs_of, network_of};
 ghost use Rattle.kahn_sequential.specs.HeldRuns.{IsWant};
-ghost use Rattle.kahn_pool.specs.inner.Holding.{AreHeldBy, HasEnded, IsHandRoomFor};
+ghost use Rattle.kahn_pool.specs.inner.Holding.{AreHeldBy, HasEnded, IsHandRoomFor, IsHeldPart, IsRoomFor};
 ghost use Rattle.kahn_sequential.specs.inner.Workbench.{AreKeptOf, AreStreamsReady, IsBenchOf, IsWide};
 
 use crate::handover::{hand_over, taken_back};
 use crate::part::{PartRoom, Stopped, first_idles, run_part, run_settled};
-use crate::plan::Part;
+use crate::plan::RunPart;
 use kahn_code::{Kept, Tap, compile};
-use kahn_crew::CrewFault;
+use kahn_crew::{CrewFault, Crewing};
 use kahn_job::Idle;
 use kahn_sequential::{Bench, Round, fill, room_for_answer, run_on_alone};
-use kahn_streams::{Answer, Gate, Input, Network, Plan, RunFault, Stream};
+use kahn_streams::{Answer, Gate, Input, Network, RunFault, Stream};
 use std::alloc::Global;
 use std::sync::Wait;
 use std::thread::Threads;
@@ -32,16 +32,15 @@ fn all_kept(idles: Vec<Idle>, mut kept: Vec<Kept>) -> Vec<Kept>
 
 // The answer of a part that is a whole run. Never allocates: the room is given.
 fn answered(
-    part: &Part<'_>,
+    part: &RunPart<'_>,
     stopped: Stopped,
     mut streams: Vec<Stream>,
     kept: Vec<Kept>,
 ) -> Result<Answer, CrewFault>
     requires held { AreHeldBy part.now stopped.idles.items stopped.budget }
-    requires ended { HasEnded part.now.network.now part.now.input.now part.now.plan.watch part.now.plan.workers part.now.plan.bound stopped }
-    requires ready { AreStreamsReady part.now.network.now part.now.input.now part.now.plan.watch streams.items kept.items (vec_capacity kept) }
-    ensures right { IfOk result (IsRight (network_of part.now.network.now) (inputs_of part.now.input.now) part.now.plan.bound part.now.plan.watch) }
-    ensures lack { IfErr result (IsLack part.now.plan.workers) }
+    requires ended { HasEnded part.now.network.now part.now.input.now part.now.crew.watch part.now.crew.workers part.now.bound stopped }
+    requires ready { AreStreamsReady part.now.network.now part.now.input.now part.now.crew.watch streams.items kept.items (vec_capacity kept) }
+    ensures { MatchResult result (IsRight (network_of part.now.network.now) (inputs_of part.now.input.now) part.now.bound part.now.crew.watch) (IsLack part.now.crew.workers) }
 {
     match stopped.outcome {
         Ok(verdict) => {
@@ -51,39 +50,63 @@ fn answered(
                 verdict,
                 streams,
                 ends: stopped.ends,
-                events: part.plan.bound - stopped.budget,
+                events: part.bound - stopped.budget,
             })
         }
         Err(fault) => Err(fault),
     }
 }
 
-/// Runs a network by several workers, one in the caller's thread and each other in one of its own, and answers right. Fails only
-/// if memory was refused before the first event, or if a thread couldn't be started for one of several.
+/// Runs idle jobs to the end of the run, by the workers and the quantum that were asked for, and answers right. All that the answer wants
+/// is at hand before the first worker.
+fn run_whole<R: Threads + Wait + Sync, G: Gate + Sync>(
+    rt: &R,
+    alloc: Global,
+    part: &RunPart<'_>,
+    idles: Vec<Idle>,
+    room: PartRoom,
+    streams: Vec<Stream>,
+    kept: Vec<Kept>,
+    gate: &G,
+) -> Result<Answer, CrewFault>
+    requires asked { IsAsked part.now.crew }
+    requires part { IsHeldPart part.now idles.items }
+    requires room { IsRoomFor (length (network_of part.now.network.now).instances) room }
+    requires ready { AreStreamsReady part.now.network.now part.now.input.now part.now.crew.watch streams.items kept.items (vec_capacity kept) }
+    ensures { MatchResult result (IsRight (network_of part.now.network.now) (inputs_of part.now.input.now) part.now.bound part.now.crew.watch) (IsLack part.now.crew.workers) }
+{
+    let stopped = run_part(rt, alloc, part, idles, room, gate);
+    answered(part, stopped, streams, kept)
+}
+
+/// Runs a network by the workers that were asked for, one in the caller's thread and each other in one of its own, and answers right.
+/// Fails only if memory was refused before the first event, or if a thread couldn't be started for one of several.
 pub(crate) fn run_workers<R: Threads + Wait + Sync, G: Gate + Sync>(
     rt: &R,
     alloc: Global,
     network: &Network,
     input: &Input,
-    plan: Plan,
+    crew: Crewing,
+    bound: u64,
     gate: &G,
 ) -> Result<Answer, RunFault>
-    requires range { IsInRange plan.workers plan.quantum plan.bound }
-    ensures { MatchResult result (IsRight (network_of network.now) (inputs_of input.now) plan.bound plan.watch) (IsWant plan.workers) }
+    requires asked { IsAsked crew }
+    requires crew { IsCrew crew × (bound < 2 ^ 48) }
+    ensures { MatchResult result (IsRight (network_of network.now) (inputs_of input.now) bound crew.watch) (IsWant crew.workers) }
 {
     let code = compile(alloc, network)?;
-    let (streams, kept) = room_for_answer(alloc, network, input, plan.watch)?;
+    let (streams, kept) = room_for_answer(alloc, network, input, crew.watch)?;
     let room = PartRoom::new(alloc, network.instances())?;
-    let part = Part {
+    let part = RunPart {
         network,
         input,
         code: &code,
-        plan,
-        left: plan.bound,
+        crew,
+        bound,
+        left: bound,
     };
     let idles = first_idles(alloc, &part)?;
-    let stopped = run_part(rt, alloc, &part, idles, room, gate);
-    Ok(answered(&part, stopped, streams, kept)?)
+    Ok(run_whole(rt, alloc, &part, idles, room, streams, kept, gate)?)
 }
 
 /// What is wanted of memory where a run is handed over: jobs that stand where the bench stands, room for what a part wants, and room for
@@ -96,7 +119,7 @@ pub(crate) struct HandRoom {
 }
 
 /// The answer of a run that was left there, once several workers went on from where its processes stand. If memory is refused before
-/// their first event, the run goes on alone from there. The plan has the bound of the whole run. Fails only if a thread couldn't be
+/// their first event, the run goes on alone from there. The bound is that of the whole run. Fails only if a thread couldn't be
 /// started.
 pub(crate) fn run_on_workers<R: Threads + Wait + Sync, G: Gate + Sync>(
     rt: &R,
@@ -108,27 +131,30 @@ pub(crate) fn run_on_workers<R: Threads + Wait + Sync, G: Gate + Sync>(
     streams: Vec<Stream>,
     kept: Vec<Kept>,
     room: HandRoom,
-    plan: Plan,
+    crew: Crewing,
+    bound: u64,
     gate: &G,
 ) -> Result<Answer, RunFault>
-    requires range { IsInRange plan.workers plan.quantum plan.bound }
-    requires names { IsBenchOf bench network.now input.now plan.watch }
-    requires wide { IsWide bench plan.bound round }
+    requires crew { IsCrew crew × (bound < 2 ^ 48) }
+    requires names { IsBenchOf bench network.now input.now crew.watch }
+    requires wide { IsWide bench bound round }
     requires room { IsHandRoomFor bench room }
-    requires ready { AreStreamsReady network.now input.now plan.watch streams.items kept.items (vec_capacity kept) }
-    ensures { MatchResult result (IsRight (network_of network.now) (inputs_of input.now) plan.bound plan.watch) (IsWant plan.workers) }
+    requires ready { AreStreamsReady network.now input.now crew.watch streams.items kept.items (vec_capacity kept) }
+    ensures { MatchResult result (IsRight (network_of network.now) (inputs_of input.now) bound crew.watch) (IsWant crew.workers) }
 {
     let (vacant, idles) = hand_over(bench, room.idles);
-    let part = Part {
+    let part = RunPart {
         network,
         input,
         code: vacant.code(),
-        plan,
+        crew,
+        bound,
         left: round.left,
     };
     let stopped = run_settled(rt, alloc, &part, idles, room.part, gate);
     if let Err(CrewFault::NoMemory) = stopped.outcome {
         let bench = taken_back(vacant, stopped.idles, room.taps);
+        let plan = crew.plan(bound);
         return Ok(run_on_alone(gate, bench, round, streams, kept, plan));
     }
     Ok(answered(&part, stopped, streams, kept)?)

@@ -1,8 +1,8 @@
 -- Inner. The jobs of a held run.
 use Rattle.std.specs.Prelude.{◌≡◌, ℕ, ◌+◌, ◌<◌, ◌≤◌, ◌^◌, List, [], length, map, sum_by, Option, Some, Err, MatchResult, slice_get, vec_capacity}
-use Rattle.kahn_pool.specs.inner.Below.{AreIdle, AreJobsAt, End, HaveGone, IsInRange, IsLack, Left, Lists, NoMemory, Plan, Program, Tasked, Token, Told, Verdict, Work, cells_of, inputs_of, network_of, told_view}
+use Rattle.kahn_pool.specs.inner.Below.{AreIdle, AreJobsAt, Crewing, End, HaveGone, IsCrew, IsLack, Left, Lists, NoMemory, Plan, Program, Tasked, Token, Told, Verdict, Work, cells_of, inputs_of, network_of, told_view}
 use Rattle.kahn_sequential.specs.HeldRuns.{HeldRun, seen_events, seen_of}
-use Rattle.kahn_pool.specs.{declared.part.PartRoom.PartRoom, declared.part.Stopped.Stopped, declared.plan.Part.Part, declared.workers.HandRoom.HandRoom}
+use Rattle.kahn_pool.specs.{declared.part.PartRoom.PartRoom, declared.part.Stopped.Stopped, declared.plan.RunPart.RunPart, declared.workers.HandRoom.HandRoom}
 use Rattle.kahn_sequential.specs.{inner.Bench.RunState, inner.Parts.AreEnded, inner.Parts.HaveRisen, inner.Parts.run_with, inner.Streams.AreAllGiven, inner.Streams.AreGiven, inner.Workbench.AllStandBy, inner.Workbench.Table}
 
 -- the cell without its input
@@ -24,6 +24,10 @@ pub record AreHeld (t : Program) (lists : Lists) (watch : Option ℕ) (bound : �
   pub stood : AllStandBy t watch (cells_of ws)
   pub events : budget + sum_by seen_events (map seen_of (cells_of ws)) ≡ bound
 
+-- what a held run goes by: as it was asked for, with the sum of all bounds
+abbrev pub planned : Crewing → ℕ → Plan
+planned c bound = record { watch = c.watch; workers = c.workers; quantum = c.quantum; bound = bound }
+
 -- of a held run with these jobs
 abbrev pub run_of : Program → Lists → Plan → List Work → Option Verdict → HeldRun
 run_of t lists plan ws verdict = run_with t lists plan.watch plan (cells_of ws) verdict
@@ -32,26 +36,27 @@ run_of t lists plan ws verdict = run_with t lists plan.watch plan (cells_of ws) 
 pub record IsHolding (t compiled : Program) (lists : Lists) (plan : Plan) (ws : List Work) (budget : ℕ) (ends : List End) (given : List Token) (verdict : Option Verdict) : Type 0 where
   pub code : compiled ≡ t
   pub fits : length lists ≡ length (network_of t).channels
-  pub range : IsInRange plan.workers plan.quantum plan.bound
+  pub few : plan.bound < 2 ^ 48
   pub held : AreHeld t lists plan.watch plan.bound ws budget
   pub ended : AreEnded (held_state t lists plan.watch ws) plan.bound budget ends verdict
   pub begun : AreGiven (network_of t) (inputs_of lists) plan.watch given
   pub all : (v : Verdict) → verdict ≡ Some v → AreAllGiven (network_of t) (inputs_of lists) plan.watch given
 
 -- the jobs of a part at rest, with so much left of the bound of all
-abbrev pub AreHeldBy : Part → List Work → ℕ → Type 0
-AreHeldBy part ws budget = AreHeld part.network.now part.input.now part.plan.watch part.plan.bound ws budget
+abbrev pub AreHeldBy : RunPart → List Work → ℕ → Type 0
+AreHeldBy part ws budget = AreHeld part.network.now part.input.now part.crew.watch part.bound ws budget
 
 -- such a part may run: the numbers are within their limits, and the jobs are those of a held run
-pub record IsHeldPart (part : Part) (ws : List Work) : Type 0 where
-  pub range : IsInRange part.plan.workers part.plan.quantum part.plan.bound
+pub record IsHeldPart (part : RunPart) (ws : List Work) : Type 0 where
+  pub crew : IsCrew part.crew
+  pub few : part.bound < 2 ^ 48
   pub held : AreHeldBy part ws part.left
 
 -- all workers have left the part
-pub record HaveAllLeft (part : Part) (left : Left) : Type 0 where
-  pub bounded : part.plan.bound < 2 ^ 48
+pub record HaveAllLeft (part : RunPart) (left : Left) : Type 0 where
+  pub bounded : part.bound < 2 ^ 48
   pub first : List Tasked
-  pub gone : HaveGone part.network.now part.input.now part.plan.watch part.plan.bound first left.tasks.items left.budget
+  pub gone : HaveGone part.network.now part.input.now part.crew.watch part.bound first left.tasks.items left.budget
 
 -- so it ended: with a verdict, it and the ends are those of the jobs, or else it was refused
 abbrev pub HasEnded : Program → Lists → Option ℕ → ℕ → ℕ → Stopped → Type 0
@@ -67,8 +72,8 @@ pub record HasStopped (t : Program) (lists : Lists) (watch : Option ℕ) (worker
   pub untouched : r.outcome ≡ Err NoMemory → (r.budget ≡ more) × (map cell_alone (cells_of r.idles.items) ≡ map cell_alone (cells_of old))
 
 -- so of this part
-abbrev pub HasStoppedPart : Part → List Work → Stopped → Type 0
-HasStoppedPart part old r = HasStopped part.network.now part.input.now part.plan.watch part.plan.workers part.plan.bound old part.left r
+abbrev pub HasStoppedPart : RunPart → List Work → Stopped → Type 0
+HasStoppedPart part old r = HasStopped part.network.now part.input.now part.crew.watch part.crew.workers part.bound old part.left r
 
 -- there is room for so many tasks, jobs and ends
 pub record IsRoomFor (n : ℕ) (r : PartRoom) : Type 0 where

@@ -1,7 +1,7 @@
 -- Inner. How tasks stand when no more is run, and what stands in the answer for each.
 use Rattle.std.specs.Prelude.{◌≡◌, ◌⊎◌, ℕ, ◌<◌, ◌^◌, List, length, Some, slice_get}
 use Rattle.kahn_pool.specs.inner.Below.{AreAll, Continues, Cut, Dry, End, IsJob, IsReady, IsWithinInput, Lists, Outcome, Paused, Program, Reads, Standing, Store, Tasked, TellsOutcome, Told, Work, actual_at, count, end_at, handed_to_task, inputs_of, instance_at, network_of, told_view}
-use Rattle.kahn_pool.specs.declared.plan.Part.{Part}
+use Rattle.kahn_pool.specs.declared.plan.RunPart.{RunPart}
 use Rattle.kahn_streams.specs.Script as script
 use Rattle.kahn_job.specs.declared.standing.Standing.TheVariants as standing
 use Rattle.kahn_streams.specs.declared.answer.Outcome.TheVariants as outcome
@@ -16,7 +16,7 @@ IsSaid w standing.Going o = (o ≡ Cut) ⊎ ((q d : ℕ) × (handed_to_task w q 
 IsSaid w s o = TellsOutcome s o
 
 -- the network and the input of the part are those of the task, and it did few events
-abbrev pub IsLentTo : Part → Tasked → Type 0
+abbrev pub IsLentTo : RunPart → Tasked → Type 0
 IsLentTo part x = (part.network.now ≡ x.work.cell.network) × (part.input.now ≡ x.work.cell.input) × (x.work.cell.events < 2 ^ 48)
 
 pub record IsSettledTask (x : Tasked) : Type 0 where
@@ -56,7 +56,7 @@ IsToldAs t lists tasks x outcome.More =
     ⊎ ((q d : ℕ) × (x.standing ≡ standing.Dry q) × (handed_to_task x.work q ≡ Reads d) × (AreAll t lists tasks d (count x.work.cell.taken q) → ⊥))
 
 -- so for that of instance p, where it is dry on parameter q
-abbrev pub IsDryTold : Part → List Tasked → ℕ → ℕ → Outcome → Type 0
+abbrev pub IsDryTold : RunPart → List Tasked → ℕ → ℕ → Outcome → Type 0
 IsDryTold part tasks p q o = (x : Tasked) → slice_get tasks p ≡ Some x → x.standing ≡ standing.Dry q → IsToldAs part.network.now part.input.now tasks x o
 
 -- the end of a task among these

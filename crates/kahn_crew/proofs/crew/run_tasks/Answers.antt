@@ -1,19 +1,20 @@
 use Rattle.kahn_crew.proofs.Common.{arith, length, refl, ap, ◌∙◌, ◌≡◌, subst, Err, OnOk, Sat, Tasked}
 use Rattle.kahn_crew.proofs.Ended.{have_gone, instances_of, is_over, unboxed, untouched, untouched_gone, untouched_here}
 use Rattle.kahn_crew.proofs.Started.{fits_of}
+use Rattle.kahn_streams.specs.declared.plan.Plan.{Plan}
 use Rattle.kahn_crew.proofs.crew.run_tasks.Goals as goal
 
 pub returns-in-Err-clause-refused : goal.returns-in-Err-clause-refused
 returns-in-Err-clause-refused g c =
-    untouched_gone c.args.network.now c.args.input.now c.args.plan.watch c.args.plan.bound c.args.tasks.items c.in-Err.tasks.items c.args.plan.bound c.requires.ready c.in-Err.ensures.refused refl
+    untouched_gone c.args.network.now c.args.input.now c.args.crewing.watch c.args.bound c.args.tasks.items c.in-Err.tasks.items c.args.bound c.requires.ready c.in-Err.ensures.refused refl
 
 pub returns-in-Err-clause-untouched : goal.returns-in-Err-clause-untouched
 returns-in-Err-clause-untouched g c none = untouched_here c.in-Err.ensures.refused refl
 
 pub invariant_of-run : goal.invariant_of-run
 invariant_of-run g c = record {
-  fits = fits_of c.args.network.now c.args.input.now c.args.plan.watch c.in-Ok.opened.0.table.shared.key c.in-Ok.ensures.begun _ c.requires.code;
-  some = c.requires.quantum;
+  fits = fits_of c.args.network.now c.args.input.now c.args.crewing.watch c.in-Ok.opened.0.table.shared.key c.in-Ok.ensures.begun _ c.requires.code;
+  some = omega (arith, c.requires.crew.3, ap (λ (p : Plan). p.quantum) c.plan.ensures);
 }
 
 pub unbox_all-requires : goal.unbox_all-requires

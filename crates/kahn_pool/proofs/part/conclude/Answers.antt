@@ -14,7 +14,7 @@ ends_of-ends-requires-clause-told c =
     let l = c.requires.left in
     let asked = c.settle_all.ensures in
     subst (AreTold t.network.now) (sym c.deref.ensures.value)
-    (rests.are_told t.network.now c.program-program.ensures.wired t.input.now t.plan.watch c.settle_all.new.tasks.items (tasks_new l.gone asked) (settled_new l.gone asked))
+    (rests.are_told t.network.now c.program-program.ensures.wired t.input.now t.crew.watch c.settle_all.new.tasks.items (tasks_new l.gone asked) (settled_new l.gone asked))
 
 pub ends_of-ends-requires-clause-room : goal.ends_of-ends-requires-clause-room
 ends_of-ends-requires-clause-room c =

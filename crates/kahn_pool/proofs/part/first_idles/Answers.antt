@@ -15,6 +15,6 @@ returns c =
     let part = c.args.part.now in
     let tasks = c.in_ok-tasks.tasks.items in
     let none = c.in_ok-tasks.ensures.none in
-    let all : part.plan.bound + events_told told_tale tasks ≡ part.plan.bound = omega (arith, none) in
-    subst (λ b. AreHeld part.network.now part.input.now part.plan.watch b c.rest_all.result.items part.plan.bound) all
-    (held_after c.program-program.ensures.wired (untouched_gone part.network.now part.input.now part.plan.watch part.plan.bound tasks tasks part.plan.bound c.in_ok-tasks.ensures.ready refl refl) c.settle_all.ensures c.rest_all.ensures.same)
+    let all : part.bound + events_told told_tale tasks ≡ part.bound = omega (arith, none) in
+    subst (λ b. AreHeld part.network.now part.input.now part.crew.watch b c.rest_all.result.items part.bound) all
+    (held_after c.program-program.ensures.wired (untouched_gone part.network.now part.input.now part.crew.watch part.bound tasks tasks part.bound c.in_ok-tasks.ensures.ready refl refl) c.settle_all.ensures c.rest_all.ensures.same)

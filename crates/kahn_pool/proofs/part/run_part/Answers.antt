@@ -10,7 +10,8 @@ run_settled-requires-clause-part g c κs within =
     let e = c.settle-settled.ensures in
     let us = c.settle-settled.new.idles.items in
     record {
-      range = p.range;
+      crew = p.crew;
+      few = p.few;
       held = held_alike p.held us e.cells (idle_still t.network.now t.input.now c.args.idles.items p.held.idle us e.cells e.stood e.resting);
     }
 

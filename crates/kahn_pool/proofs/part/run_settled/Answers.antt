@@ -14,13 +14,13 @@ run_tasks-requires-clause-ready g c κs within =
     let t = c.args.part.now in
     let held = c.requires.part.held in
     let ws = c.args.idles.items in
-    subst (AreReadyTasks t.network.now t.input.now t.plan.watch) (sym c.wake_all-tasks.ensures)
-    (woken_ready t.network.now t.input.now ws held.idle c.requires.settled t.plan.watch (λ p w e. held.watched p w.cell (at_mapped (λ (z : Work). z.cell) ws p w e)))
+    subst (AreReadyTasks t.network.now t.input.now t.crew.watch) (sym c.wake_all-tasks.ensures)
+    (woken_ready t.network.now t.input.now ws held.idle c.requires.settled t.crew.watch (λ p w e. held.watched p w.cell (at_mapped (λ (z : Work). z.cell) ws p w e)))
 
-pub run_tasks-requires-clause-bound : goal.run_tasks-requires-clause-bound
-run_tasks-requires-clause-bound g c =
+pub run_tasks-requires-clause-total : goal.run_tasks-requires-clause-total
+run_tasks-requires-clause-total g c =
     let all = woken_events c.requires.part.held c.wake_all-tasks.ensures in
-    let b = c.requires.part.range.4 in
+    let b = c.requires.part.few in
     omega (arith, all, b)
 
 pub conclude-requires-clause-left : goal.conclude-requires-clause-left
@@ -29,9 +29,9 @@ conclude-requires-clause-left g c =
     let left = c.in-Ok.left in
     let all = woken_events c.requires.part.held c.wake_all-tasks.ensures in
     record {
-      bounded = c.requires.part.range.4;
+      bounded = c.requires.part.few;
       first = c.wake_all-tasks.result.items;
-      gone = subst (λ b. HaveGone t.network.now t.input.now t.plan.watch b c.wake_all-tasks.result.items left.tasks.items left.budget) all c.in-Ok.ensures.gone;
+      gone = subst (λ b. HaveGone t.network.now t.input.now t.crew.watch b c.wake_all-tasks.result.items left.tasks.items left.budget) all c.in-Ok.ensures.gone;
     }
 
 pub give_up-requires-clause-left : goal.give_up-requires-clause-left
@@ -40,9 +40,9 @@ give_up-requires-clause-left g c =
     let left = c.in-Err.left in
     let all = woken_events c.requires.part.held c.wake_all-tasks.ensures in
     record {
-      bounded = c.requires.part.range.4;
+      bounded = c.requires.part.few;
       first = c.wake_all-tasks.result.items;
-      gone = subst (λ b. HaveGone t.network.now t.input.now t.plan.watch b c.wake_all-tasks.result.items left.tasks.items left.budget) all c.in-Err.ensures.refused;
+      gone = subst (λ b. HaveGone t.network.now t.input.now t.crew.watch b c.wake_all-tasks.result.items left.tasks.items left.budget) all c.in-Err.ensures.refused;
     }
 
 pub returns-in-Ok-clause-stopped : goal.returns-in-Ok-clause-stopped

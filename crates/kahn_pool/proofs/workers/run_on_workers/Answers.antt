@@ -1,5 +1,5 @@
 use Rattle.std.proofs.Common.{arith, rules, ◌≡◌, ℕ, ◌+◌, ◌∙◌, Option, Err, ap, length, map, sym, subst}
-use Rattle.kahn_pool.proofs.Common.{AreHeld, IsLaid, IsWide, Lists, NoMemory, Program, Table, Told, all_events, cell_for, cells_of, network_of, seated_with, sight_of, vacant_of}
+use Rattle.kahn_pool.proofs.Common.{AreHeld, IsLaid, IsWide, Lists, NoMemory, Plan, Program, Table, Told, all_events, cell_for, cells_of, network_of, seated_with, sight_of, vacant_of}
 use Rattle.kahn_pool.proofs.Handing.{same_input, seated_again}
 use Rattle.kahn_pool.specs.inner.Holding.{IsRoomFor}
 use Rattle.kahn_pool.proofs.workers.run_on_workers.Goals as goal
@@ -16,10 +16,11 @@ run_settled-stopped-requires-clause-part g c κs within =
     let ws = c.hand_over-vacant.result.1.items in
     let left = c.args.round.left in
     let sum = c.requires.wide.total in
-    let all : left + all_events (sight_of b) ≡ c.args.plan.bound = omega (arith, sum) in
+    let all : left + all_events (sight_of b) ≡ c.args.bound = omega (arith, sum) in
     record {
-      range = c.requires.range;
-      held = subst (λ (x : Program × Lists × Option ℕ). AreHeld x.0 x.1 x.2 c.args.plan.bound ws left) (λ i. (n.0 i, n.1 i, n.2 i))
+      crew = c.requires.crew.0;
+      few = c.requires.crew.1;
+      held = subst (λ (x : Program × Lists × Option ℕ). AreHeld x.0 x.1 x.2 c.args.bound ws left) (λ i. (n.0 i, n.1 i, n.2 i))
           (subst (λ k. AreHeld b.network b.input b.watch k ws left) all (c.hand_over-vacant.ensures.held left));
     }
 
@@ -47,5 +48,6 @@ run_on_alone-requires-clause-wide g c =
     let refused : c.run_settled-stopped.result.outcome ≡ Err NoMemory = search rules in
     let cells : cells_of us ≡ b.cells = c.run_settled-stopped.ensures.untouched refused ∙ ap (map (cell_for lists)) h.cells
     ∙ same_input lists b.cells (λ p d e. (h.laid.each p d e).input ∙ c.requires.names.1) in
-    subst (λ x. IsWide x c.args.plan.bound c.args.round)
-    (sym (c.taken_back-bench.ensures ∙ ap (λ v. seated_with v (cells_of us)) h.vacant ∙ seated_again b h.laid c.requires.wide.whole (cells_of us) cells)) c.requires.wide
+    subst (λ k. IsWide c.taken_back-bench.result k c.args.round) (sym (ap (λ (p : Plan). p.bound) c.plan-plan.ensures))
+    (subst (λ x. IsWide x c.args.bound c.args.round)
+    (sym (c.taken_back-bench.ensures ∙ ap (λ v. seated_with v (cells_of us)) h.vacant ∙ seated_again b h.laid c.requires.wide.whole (cells_of us) cells)) c.requires.wide)

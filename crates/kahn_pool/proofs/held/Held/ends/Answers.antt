@@ -1,5 +1,5 @@
 use Rattle.std.proofs.Common.{◌≡◌, List, Some, sym, subst}
-use Rattle.kahn_pool.proofs.Common.{HeldRun, IsRightSoFar, AreEnded, held_state, cells_of}
+use Rattle.kahn_pool.proofs.Common.{HeldRun, IsRightSoFar, AreEnded, held_state, cells_of, planned}
 use Rattle.kahn_streams.specs.declared.answer.End.{End}
 use Rattle.kahn_sequential.proofs.Righted.{right_with}
 use Rattle.kahn_pool.proofs.held.Held.ends.Goals as goal
@@ -10,7 +10,7 @@ returns c v e =
     let t = i.network.now in
     let ws = i.idles.items in
     let is : i.verdict ≡ Some v = subst (λ (r : HeldRun). r.verdict ≡ Some v) (sym c.self.view_is) e in
-    let ended = subst (AreEnded (held_state t i.input i.plan.watch ws) i.plan.bound i.budget i.ends.items) is c.self.invariant.ended in
+    let ended = subst (AreEnded (held_state t i.input i.crew.watch ws) i.bound i.budget i.ends.items) is c.self.invariant.0.ended in
     subst (λ (xs : List End). IsRightSoFar c.args.self.now v xs) (sym c.deref.ensures.value)
     (subst (λ (r : HeldRun). IsRightSoFar r v i.ends.items) c.self.view_is
-    (right_with t i.input i.plan.watch i.plan (cells_of ws) i.verdict ended.1))
+    (right_with t i.input i.crew.watch (planned i.crew i.bound) (cells_of ws) i.verdict ended.1))

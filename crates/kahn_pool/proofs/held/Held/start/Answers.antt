@@ -1,5 +1,6 @@
-use Rattle.std.proofs.Common.{arith, rules, refl}
-use Rattle.kahn_pool.proofs.Common.{network_of, inputs_of, cells_of}
+use Rattle.std.proofs.Common.{arith, rules, refl, sym, ap, ◌∙◌, subst}
+use Rattle.kahn_pool.proofs.Common.{Crewing, IsAsked, IsCrew, network_of, inputs_of, cells_of}
+use Rattle.kahn_streams.specs.Answers.{IsWatched}
 use Rattle.kahn_sequential.proofs.Giving.{begun_none}
 use Rattle.kahn_sequential.proofs.Righted.{none_done}
 use Rattle.kahn_pool.proofs.held.Held.start.Goals as goal
@@ -7,15 +8,19 @@ use Rattle.kahn_pool.proofs.held.Held.start.Goals as goal
 pub invariant_of-result : goal.invariant_of-result
 invariant_of-result c =
     let p = c.in_ok-plan.ensures in
-    let I = inputs_of c.args.input in record {
-      code = c.in_ok-code.ensures;
-      fits = c.requires.fits;
-      range = rw (p.workers, p.rest.0, p.rest.1) p.allowed;
-      held = c.in_ok-idles.ensures;
-      ended = tt;
-      begun = λ channel e. begun_none (network_of c.args.network.now) I channel (I channel) c.new-2.result.items (search rules);
-      all = λ v e. absurd cc;
-    }
+    let a = p.allowed in
+    let I = inputs_of c.args.input in (
+      record {
+        code = c.in_ok-code.ensures;
+        fits = c.requires.fits;
+        few = rw p.rest.1 a.4;
+        held = c.in_ok-idles.ensures;
+        ended = tt;
+        begun = λ channel e. begun_none (network_of c.args.network.now) I channel (I channel) c.new-2.result.items (search rules);
+        all = λ v e. absurd cc;
+      },
+      subst (λ (k : Crewing). IsCrew k × IsAsked k) (sym c.of-crew.ensures) ((a.0, omega arith, a.1, a.2), (refl, refl)),
+    )
 
 pub returns : goal.returns
 returns c =
@@ -23,11 +28,11 @@ returns c =
     let none = c.in_ok-idles.ensures.events in
     record {
       allowed = p.allowed;
-      watched = p.watched;
+      watched = subst (IsWatched c.args.network.now c.args.config.watch) (sym (ap (λ (k : Crewing). k.watch) c.of-crew.ensures)) p.watched;
       network = refl;
       input = refl;
-      workers = p.workers;
-      quantum = p.rest.0;
+      workers = ap (λ (k : Crewing). k.workers) c.of-crew.ensures;
+      quantum = ap (λ (k : Crewing). k.quantum) c.of-crew.ensures;
       bound = p.rest.1;
       none = none_done (cells_of c.in_ok-idles.idles.items) (omega (arith, none));
       unsettled = refl;
