@@ -6,11 +6,13 @@ ghost use Rattle.kahn_needs.specs.Laws.{AreDone, AreEnough, AreExact, NeedsAreFo
 ghost use Rattle.kahn_needs.specs.Example.{SecondDoubled};
 
 /// A larger cut holds longer histories, and each of them begins the solution's.
+#[tactic(auto, using(crate::proofs::Told::parts))]
 pub fn parts()
     ensures { (N : Network) (I : Inputs) → AreParts N I }
 {}
 
 /// A value that stands has needs.
+#[tactic(auto, using(crate::proofs::Told::have_needs))]
 pub fn have_needs()
     ensures { (N : Network) (I : Inputs) → HaveNeeds N I }
 {}
@@ -52,12 +54,14 @@ pub fn tight()
 
 /// Needs are found by going back: a value of an input wants so many values, and one that an instance sends wants the events of its shortest
 /// run to it, and what each value wants that this run takes.
+#[tactic(auto, using(crate::proofs::Back::go_back))]
 pub fn go_back()
     ensures { (N : Network) (I : Inputs) → GoBack N I }
 {}
 
 /// A program finds them: it begins with the value, goes on with the shortest run of a writer to a value that is wanted and with what this run
 /// takes, and ends where each instance sends what is wanted and takes nothing else.
+#[tactic(auto, using(crate::proofs::Worked::are_found))]
 pub fn are_found()
     ensures { (N : Network) (I : Inputs) → NeedsAreFound N I }
 {}
@@ -68,6 +72,7 @@ pub fn in_order()
 {}
 
 /// The needs of the second doubled value.
+#[tactic(auto, using(crate::proofs::Doubled::second_doubled))]
 pub fn second_doubled()
     ensures { SecondDoubled }
 {}
