@@ -33,7 +33,7 @@ def lacks(page, *words):
 
 DRIVEN = {"key": lambda page, name, *control: page.key(name, bool(control)), "click": lambda page, *words: page.click(" ".join(words)),
           "open": lambda page, *words: page.open(*words), "size": lambda page, width, height, *scheme: page.size(int(width), int(height), *scheme),
-          "refused": refused, "lacks": lacks}
+          "refused": refused, "lacks": lacks, "shot": lambda page, name: page.shot(f"{TOP}/docs/pictures/{name}")}
 
 
 def try_session(page, path, tried):
@@ -154,24 +154,3 @@ def try_page(page, tried):
         try_print(page, tried)
     try_quickness(page, tried)
     tried.same("errors of the page's script, and what its policy refused", page.told, [])
-
-
-HEAT = "HEAT: 12 13 12 14 15 30 16 15 17 19 22 24 26 27 27 26 24 22 19 17 15 14 12 12\n"
-
-
-def take_pictures(page, folder):
-    """Steps, plots, a deadlock and a phone."""
-    page.size(1300, 840)
-    page.value("shows('hamming').then(() => until(() => !!page.run.timeline.order)).then(() => go(200))")
-    page.value("(choose({ process: 5 }), document.activeElement.blur())")
-    page.shot(f"{folder}/page-steps.png")
-    page.size(1200, 760, "dark")
-    page.value(f"(showTab('plots'), puts(programs.plotted, {{ input: {json.dumps(HEAT)} }})).then(() => until(() => !!page.run.timeline.order))")
-    page.value("(at('toast').replaceChildren(), document.activeElement.blur(), page.run.eventOf(2, 13).then(go))")
-    page.shot(f"{folder}/page-plots.png")
-    page.size(1200, 760)
-    page.value("(showTab('waits'), puts(example('small-buffer').program.replace('DONE, 3)', 'DONE, 2)')))")
-    page.value("(at('toast').replaceChildren(), document.activeElement.blur())")
-    page.shot(f"{folder}/page-deadlock.png")
-    page.size(390, 800, "dark")
-    page.shot(f"{folder}/page-phone.png")
