@@ -95,13 +95,6 @@ class Browser:
         self.push(x + width / 2, y + height / 2)
         self.pause(60)
 
-    def shot(self, path):
-        """A picture of the page as a file; with a palette, in a third of the bytes, if Debian's pngquant is there."""
-        with open(path, "wb") as file:
-            file.write(base64.b64decode(self.picture()["data"]))
-        if shutil.which("pngquant"):
-            subprocess.run(["pngquant", "--force", "--ext", ".png", path], check=True)
-
 
 class Chromium(Browser):
     session = None
@@ -166,8 +159,12 @@ class Chromium(Browser):
         for kind in ("mousePressed", "mouseReleased"):
             self.call("Input.dispatchMouseEvent", type=kind, x=x, y=y, button="left", clickCount=1)
 
-    def picture(self):
-        return self.call("Page.captureScreenshot", format="png")
+    def shot(self, path):
+        """A picture of the page as a file; with a palette, in a third of the bytes, if Debian's pngquant is there."""
+        with open(path, "wb") as file:
+            file.write(base64.b64decode(self.call("Page.captureScreenshot", format="png")["data"]))
+        if shutil.which("pngquant"):
+            subprocess.run(["pngquant", "--force", "--ext", ".png", path], check=True)
 
 
 class Firefox(Browser):
@@ -252,5 +249,3 @@ class Firefox(Browser):
         move = {"type": "pointerMove", "x": round(x), "y": round(y)}
         self.act("pointer", [move, {"type": "pointerDown", "button": 0}, {"type": "pointerUp", "button": 0}], parameters={"pointerType": "mouse"})
 
-    def picture(self):
-        return self.call("browsingContext.captureScreenshot", context=self.target)

@@ -4,7 +4,7 @@
     web.py BROWSER PAGE KAHN KAHN_DRAW KAHN_EXPLAIN   runs the rows of checks/rows, the examples and what is refused, and tries the page
     web.py BROWSER PAGE --tries                       tries the page alone
     web.py BROWSER PAGE --opens                       opens the page, which shows a report at once
-    web.py BROWSER PAGE --pictures FOLDER             takes pictures of the page: steps, plots, a deadlock, a phone
+    web.py BROWSER PAGE --pictures                    takes the pictures of the page in docs/pictures
 """
 import json
 import os
@@ -155,7 +155,7 @@ def main(program, path, *words):
             page.value("until(settled)")
             tried.same("a report when it opens", page.value("at('report').textContent"), common.text_of(f"{TOP}/examples/squares.report"))
             if words[0] == "--pictures":
-                web_tries.take_pictures(page, words[1])
+                web_tries.try_session(page, f"{TOP}/docs/pictures/page.t", tried)
             elif words[0] != "--opens":
                 web_tries.try_page(page, tried)
             if not words[0].startswith("--"):

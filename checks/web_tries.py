@@ -15,7 +15,6 @@ EXAMPLES = sorted(os.path.basename(it)[:-5] for it in glob.glob(f"{TOP}/examples
 # Bytes of the page, milliseconds to the first picture, milliseconds from a key to what it shows in a text of 100 kB. The times are
 # twice what the page keeps on a machine with nothing else, since other tests go on beside this one.
 MOST_BYTES, MOST_TO_OPEN, MOST_FOR_A_KEY = 400000, 1000, 400
-WIDTHS = ((1400, 900), (820, 700), (390, 844), (320, 568))
 TREE = f"{TOP}/checks/page-tree.txt"
 
 
@@ -26,8 +25,15 @@ def refused(page, word):
     return bool(found)
 
 
+def lacks(page, *words):
+    """Opens the page behind a script that takes something from the browser."""
+    page.script = f"{SCRIPT}\n{' '.join(words)};"
+    page.open()
+
+
 DRIVEN = {"key": lambda page, name, *control: page.key(name, bool(control)), "click": lambda page, *words: page.click(" ".join(words)),
-          "open": lambda page, *words: page.open(*words), "refused": refused}
+          "open": lambda page, *words: page.open(*words), "size": lambda page, width, height, *scheme: page.size(int(width), int(height), *scheme),
+          "refused": refused, "lacks": lacks, "shot": lambda page, name: page.shot(f"{TOP}/docs/pictures/{name}")}
 
 
 def try_session(page, path, tried):
@@ -39,10 +45,6 @@ def try_session(page, path, tried):
         given = DRIVEN[word](page, *rest) if word in DRIVEN else page.value(f"(async () => {{ const it = await ({command}); {'return it' * bool(wanted)}; }})()")
         if wanted:
             tried.same(f"{os.path.basename(path)}:{row.start}: {row.name}", given, json.loads(wanted))
-
-
-def put_refused(page):
-    page.value('puts(programs.endless.replace("I + 1;", "I + 1"))')
 
 
 def try_examples(page, tried):
@@ -70,37 +72,6 @@ def try_changes(page, tried):
             offered += 1
             tried.same(f"{name}, {change}", left != [place, said[0]])
     tried.same("changes that are offered", offered > 10)
-
-
-def try_widths(page, tried):
-    page.value("shows('hamming')")
-    for width, height in WIDTHS:
-        page.size(width, height)
-        for pane in ("texts", "network", "values"):
-            page.value(f"show('{pane}')")
-            page.pause(150)
-            tried.same(f"no scroll at {width}, {pane}", page.value("[document.documentElement.scrollWidth, document.body.scrollHeight]"), [width, height])
-            tried.same(f"the picture and its letters at {width}", pane != "network" or page.value("pictureFits() && lettersAreLarge()"))
-        for tab in ("plots", "waits", "report", "table"):
-            page.value(f"showTab('{tab}')")
-            tried.same(f"no sideways scroll at {width}, {tab}, and nothing is cut off", page.value("[document.documentElement.scrollWidth, cut()]"), [width, []])
-    page.size(1400, 900)
-    page.value("show('network')")
-
-
-def try_contrast(page, tried):
-    measured = f"{text_of(f'{TOP}/checks/contrast.js')}([4.5, 3])"
-    settled = [f"puts({it}, {{ bound: '1000' }})" for it in ("programs.deadlock", "programs.fault", "programs.endless.replace('send I', 'send I mod 0')", "programs.endless")]
-    tabs = [f"showTab('{tab}')" for tab in ("plots", "waits", "report", "table")]
-    for scheme in ("light", "dark"):
-        page.size(1400, 900, scheme)
-        for shown in (*settled, "shows('alarm').then(() => go(30)).then(() => choose({ process: 0 }))", *tabs, "gallery()", "at('sheet').showModal()"):
-            page.value(f"(async () => {{ await {shown}; }})()")
-            tried.same(f"contrast, {scheme}, {shown}", page.value(measured), [])
-            page.value("document.querySelector('dialog[open]')?.close()")
-        put_refused(page)
-        tried.same(f"contrast, {scheme}, a mistake", page.value(measured), [])
-    page.size(1400, 900)
 
 
 LEFT_OUT = {"none", "generic", "InlineTextBox", "LineBreak", "RootWebArea", "paragraph", "LabelText", "rowgroup"}
@@ -150,31 +121,6 @@ def try_print(page, tried):
     page.call("Emulation.setEmulatedMedia", media="")
 
 
-LACKING = {
-    "delete globalThis.DecompressionStream": "This browser has no DecompressionStream. A newer one has it.",
-    "delete globalThis.WebAssembly": "This browser has no WebAssembly. A newer one has it.",
-    "globalThis.Worker = class { constructor() { throw new Error('The worker was refused') } }":
-        "The worker was refused. Reload the page; if it stays so, another browser may run it.",
-}
-BLOCKED = "for (const it of ['localStorage', 'sessionStorage']) Object.defineProperty(globalThis, it, { get() { throw new Error('blocked') } })"
-
-
-def try_failures(page, tried):
-    for script, words in LACKING.items():
-        page.script = f"{SCRIPT}\n{script};"
-        page.open()
-        page.value("until(() => at('verdict').className === 'refused')")
-        tried.same(script, page.value("[at('status').textContent, at('details').textContent]"), ["The interpreter did not start", words])
-    page.script = f"{SCRIPT}\n{BLOCKED};"
-    page.open()
-    page.value("until(settled).then(() => puts(programs.deadlock))")
-    tried.same("where nothing is kept it is said", page.value("at('toast').textContent"), "This browser keeps no texts: download yours.")
-    page.value("void (globalThis.confirm = () => false, put(example('squares'), 'squares'))")
-    tried.same("and asked", page.value("[program.text === example('squares').program, !!onbeforeunload]"), [False, True])
-    page.value("void (onbeforeunload = null)")
-    page.script = SCRIPT
-
-
 def least(measured, fewest, most, limit):
     """The least of some times: of so many, or of more if these are above the limit."""
     times = []
@@ -203,32 +149,8 @@ def try_page(page, tried):
     try_changes(page, tried)
     for path in sorted(glob.glob(f"{HERE}/*.t")):
         try_session(page, path, tried)
-    try_widths(page, tried)
-    try_contrast(page, tried)
     if isinstance(page, browser.Chromium):
         try_reader(page, tried)
         try_print(page, tried)
-    try_failures(page, tried)
     try_quickness(page, tried)
     tried.same("errors of the page's script, and what its policy refused", page.told, [])
-
-
-HEAT = "HEAT: 12 13 12 14 15 30 16 15 17 19 22 24 26 27 27 26 24 22 19 17 15 14 12 12\n"
-
-
-def take_pictures(page, folder):
-    """Steps, plots, a deadlock and a phone."""
-    page.size(1300, 840)
-    page.value("shows('hamming').then(() => until(() => !!page.run.timeline.order)).then(() => go(200))")
-    page.value("(choose({ process: 5 }), document.activeElement.blur())")
-    page.shot(f"{folder}/page-steps.png")
-    page.size(1200, 760, "dark")
-    page.value(f"(showTab('plots'), puts(programs.plotted, {{ input: {json.dumps(HEAT)} }})).then(() => until(() => !!page.run.timeline.order))")
-    page.value("(at('toast').replaceChildren(), document.activeElement.blur(), page.run.eventOf(2, 13).then(go))")
-    page.shot(f"{folder}/page-plots.png")
-    page.size(1200, 760)
-    page.value("(showTab('waits'), puts(example('small-buffer').program.replace('DONE, 3)', 'DONE, 2)')))")
-    page.value("(at('toast').replaceChildren(), document.activeElement.blur())")
-    page.shot(f"{folder}/page-deadlock.png")
-    page.size(390, 800, "dark")
-    page.shot(f"{folder}/page-phone.png")

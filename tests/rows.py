@@ -21,68 +21,22 @@ from concurrent.futures import ThreadPoolExecutor
 
 import families
 import reference
-from common import TOP, difference, read
+from common import TOP, read, text_of, write
 
 FILES = {"program.kahn", "input", "words", "report", "fault", "status", "limits"}
 WAYS = [["--workers", str(workers), "--quantum", str(quantum)] for workers in (1, 4, 16) for quantum in (1, 1000)]
-
-
-class Row:
-    """A row, from files by their names; it is run in a folder that holds its program and its input."""
-
-    def __init__(self, name, files, folder):
-        self.name, self.folder = name, folder
-        self.unknown = sorted(set(files) - FILES)
-        self.program, self.input = files.get("program.kahn"), files.get("input")
-        self.words = files.get("words", b"").decode().splitlines()
-        self.status = int(files.get("status", b"0"))
-        self.report, self.fault = files.get("report", b""), files.get("fault", b"")
-        self.is_open = self.status == 3 and "report" not in files
-        self.limits = files.get("limits", b"").decode().split()
-
-    def ways(self):
-        is_told = any(word.startswith(("--workers", "--quantum")) for word in self.words)
-        return [[]] if is_told or self.status in (1, 2) else WAYS
-
-    def within(self, given):
-        """The words that run these within the row's limits."""
-        if not self.limits:
-            return given
-        memory, seconds = map(int, self.limits)
-        return ["sh", "-c", f'ulimit -v {1024 * memory} && ulimit -t {seconds} && exec "$@"', "sh", *given]
-
-    def option(self, name, default):
-        return self.words[self.words.index(name) + 1] if name in self.words else default
-
-    def differences(self, ran):
-        """What differs from what is wanted: lines."""
-        pairs = [("status", ran.returncode, self.status)]
-        pairs += [("report", ran.stdout, self.report)] if not self.is_open else []
-        pairs += [("fault", ran.stderr, self.fault)]
-        told = [f"{what}: {difference(*pair)}" for what, *pair in pairs if pair[0] != pair[1]]
-        return told or (self.judged(ran.stdout) if self.is_open else [])
-
-    def judged(self, report):
-        """What the interpreter of fuzz/ finds wrong with the report of a run that its bound stopped: lines."""
-        wanted = reference.run(self.program, self.input, int(self.option("--bound", 1000000)), self.option("--watch", None))
-        why = wanted.stopped(report) if wanted.stopped else "the run isn't stopped by its bound"
-        return [f"report is {report[:400]!r}: {why}"] if why else []
+ROWS = f"{TOP}/checks/rows"
 
 
 def files_of(folder):
     return {name: read(f"{folder}/{name}") for name in os.listdir(folder)}
 
 
-def lines_of(table):
-    return read(f"{TOP}/checks/rows/{table}").decode().split("\n")
-
-
 def kept_rows():
     """The folders of checks/rows, and the examples, of which one without a report is stopped by a bound: (name, files)."""
-    rows = f"{TOP}/checks/rows"
-    for name in sorted(os.listdir(rows)):
-        if os.path.isdir(f"{rows}/{name}"):
-            yield name, files_of(f"{rows}/{name}")
+    for name in sorted(os.listdir(ROWS)):
+        if os.path.isdir(f"{ROWS}/{name}"):
+            yield name, files_of(f"{ROWS}/{name}")
     examples = files_of(f"{TOP}/examples")
     for name in sorted(examples):
         stem, kind = os.path.splitext(name)
@@ -94,14 +48,14 @@ def kept_rows():
 
 def table_rows():
     """The one-line refusals: (name, files). The name of a row is its table with the number of its line."""
-    lines = lines_of("refused-programs.txt")
+    lines = text_of(f"{ROWS}/refused-programs.txt").split("\n")
     for number, (text, mark) in enumerate(zip(lines, lines[1:]), 1):
         if mark.lstrip().startswith("^ "):
             before, what = mark.split("^ ")
             column = len(text[: len(before)].encode()) + 1
             yield f"refused-programs.txt:{number}", {"program.kahn": text.encode(), "fault": f"kahn: 1:{column}: {what}\n".encode(), "status": b"1"}
     double = read(f"{TOP}/examples/double.kahn")
-    for number, line in enumerate(lines_of("refused-inputs.txt"), 1):
+    for number, line in enumerate(text_of(f"{ROWS}/refused-inputs.txt").split("\n"), 1):
         if " -> " in line:
             text, what = line.split(" -> ")
             text = text.replace("\\n", "\n").replace("\\r", "\r").replace("\\t", "\t")
@@ -110,49 +64,53 @@ def table_rows():
 
 def words_rows():
     """The command lines that are refused: (name, files)."""
-    for block in "\n".join(lines_of("refused-words.txt")).split("\n$ ")[1:]:
+    for block in text_of(f"{ROWS}/refused-words.txt").split("\n$ ")[1:]:
         words, text = block.split("\n", 1)
         fault = f"{text.rstrip()}\n\nFor more information, try '--help'.\n"
         files = {"program.kahn": "", "words": words.replace(" ", "\n"), "fault": fault, "status": "2"}
         yield f"refused-words.txt: {words}", {name: text.encode() for name, text in files.items()}
 
 
-def rows_in(work):
-    """All rows, each with its program and its input in a folder of its own below this one."""
-    for number, (name, files) in enumerate([*kept_rows(), *table_rows(), *words_rows(), *families.rows()]):
-        folder = f"{work}/{number}"
-        os.mkdir(folder)
-        for file in ("program.kahn", "input"):
-            if file in files:
-                with open(f"{folder}/{file}", "wb") as it:
-                    it.write(files[file])
-        yield Row(name, files, folder)
+def stopped_wrongly(files, words, report):
+    """What the interpreter of fuzz/ finds wrong with the report of a run that its bound stopped, or None."""
+    bound, watch = (words[words.index(name) + 1] if name in words else default for name, default in (("--bound", 1000000), ("--watch", None)))
+    wanted = reference.run(files["program.kahn"], files.get("input"), int(bound), watch)
+    return wanted.stopped(report) if wanted.stopped else "the run isn't stopped by its bound"
 
 
-def run(program, row, way):
-    """Runs a row in a way: a line if anything differs."""
-    words = [*row.words, *way]
-    given = [program, "program.kahn", *(["--input", "input"] if row.input is not None else []), *words]
-    try:
-        ran = subprocess.run(row.within(given), cwd=row.folder, stdin=subprocess.DEVNULL, capture_output=True, timeout=600)
-        told = row.differences(ran)
-    except (OSError, subprocess.TimeoutExpired) as error:
-        told = [str(error)]
-    return [f"{' '.join([row.name, *words])}: {'; '.join(told)}"] if told else []
+def tasks_of(name, files, folder):
+    """A row's runs, in a folder of its own: (name with the words, files, the command, its folder)."""
+    os.mkdir(folder)
+    for file in {"program.kahn", "input"} & set(files):
+        write(f"{folder}/{file}", files[file])
+    words, limits = (files.get(file, b"").decode() for file in ("words", "limits"))
+    memory, seconds = (limits or "0 0").split()
+    limited = ["sh", "-c", f'ulimit -v {1024 * int(memory)} && ulimit -t {seconds} && exec "$@"', "sh"] if limits else []
+    is_told = "--workers" in words or "--quantum" in words or int(files.get("status", 0)) in (1, 2)
+    for way in [[]] if is_told else WAYS:
+        given = [*words.splitlines(), *way]
+        yield " ".join([name, *given]), files, [*limited, "PROGRAM", "program.kahn", *(["--input", "input"] if "input" in files else []), *given], folder
+
+
+def run(program, task, tried):
+    """Runs a row in a way."""
+    name, files, words, folder = task
+    given = [program if word == "PROGRAM" else word for word in words]
+    ran = subprocess.run(given, cwd=folder, stdin=subprocess.DEVNULL, capture_output=True, timeout=600)
+    status = int(files.get("status", 0))
+    is_open = status == 3 and "report" not in files
+    wanted = status, b"" if is_open else files.get("report", b""), files.get("fault", b"")
+    tried.same(name, (ran.returncode, b"" if is_open else ran.stdout, ran.stderr), wanted)
+    wrong = is_open and stopped_wrongly(files, given, ran.stdout)
+    if wrong:
+        tried.fail(f"{name}: report is {ran.stdout[:400]!r}: {wrong}")
 
 
 def try_rows(program, work, only, tried):
     """Runs all rows, or those that have the word in their names."""
-    every = [row for row in rows_in(work) if only in row.name]
-    for row in every:
-        for file in row.unknown:
-            tried.fail(f"{row.name}: no file of a row is called {file}")
-        if row.program is None:
-            tried.fail(f"{row.name}: it has no program.kahn")
-    tasks = [(row, way) for row in every for way in row.ways()]
+    every = [(name, files) for name, files in [*kept_rows(), *table_rows(), *words_rows(), *families.rows()] if only in name]
+    tried.same("files that no row has, and rows without a program", [name for name, files in every if set(files) - FILES or "program.kahn" not in files], [])
+    tasks = [task for number, (name, files) in enumerate(every) if "program.kahn" in files for task in tasks_of(name, files, f"{work}/{number}")]
     with ThreadPoolExecutor(os.cpu_count()) as pool:
-        for lines in pool.map(lambda task: run(program, *task), tasks):
-            tried.passed += not lines
-            for line in lines:
-                tried.fail(line)
+        list(pool.map(lambda task: run(program, task, tried), tasks))
     print(f"{len(every)} rows")

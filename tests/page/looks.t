@@ -1,0 +1,51 @@
+How the page looks: at four widths, by day and by night; and what a browser may lack.
+
+Nothing scrolls, nothing is cut off.
+  $ size 1400 900
+  $ shows("hamming").then(unfit)
+  []
+  $ size 820 700
+  $ unfit()
+  []
+  $ size 390 844
+  $ unfit()
+  []
+  $ size 320 568
+  $ unfit()
+  []
+
+Contrast, by day and by night.
+  $ size 1400 900
+  $ allFaint()
+  []
+  $ size 1400 900 dark
+  $ allFaint()
+  []
+  $ size 1400 900
+
+A browser that lacks something is told so.
+  $ lacks delete globalThis.DecompressionStream
+  $ until(() => at("verdict").className === "refused")
+  $ [at("status").textContent, at("details").textContent]
+  ["The interpreter did not start", "This browser has no DecompressionStream. A newer one has it."]
+  $ lacks delete globalThis.WebAssembly
+  $ until(() => at("verdict").className === "refused")
+  $ [at("status").textContent, at("details").textContent]
+  ["The interpreter did not start", "This browser has no WebAssembly. A newer one has it."]
+  $ lacks globalThis.Worker = class { constructor() { throw new Error("The worker was refused") } }
+  $ until(() => at("verdict").className === "refused")
+  $ [at("status").textContent, at("details").textContent]
+  ["The interpreter did not start", "The worker was refused. Reload the page; if it stays so, another browser may run it."]
+
+Where nothing is kept it is said, and asked.
+  $ lacks for (const it of ["localStorage", "sessionStorage"]) Object.defineProperty(globalThis, it, { get() { throw new Error("blocked") } })
+  $ until(settled)
+  $ puts(programs.deadlock)
+  $ at("toast").textContent
+  "This browser keeps no texts: download yours."
+  $ void (globalThis.confirm = () => false, put(example("squares"), "squares"))
+  $ [program.text === example("squares").program, !!onbeforeunload]
+  [false, true]
+  $ void (onbeforeunload = null)
+  $ lacks ;
+  $ shows("squares")
