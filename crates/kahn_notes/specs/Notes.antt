@@ -1,5 +1,5 @@
 -- Believed. What is said of a place where a text goes wrong: what stands there, what may stand there, and a change that mends it.
-use Rattle.std.specs.Prelude.{◌≡◌, ◌<◌, ◌-◌, ◌⊎◌, ℕ, List, [], ◌∷◌, ◌++◌, Option, Some, None, Contains, IfSome, codes, length, map, string_bytes}
+use Rattle.std.specs.Prelude.{◌≡◌, ◌<◌, ◌-◌, ◌⊎◌, ℕ, List, [], ◌∷◌, ◌++◌, Option, Some, Contains, IfSome, codes, length, map, string_bytes}
 use Rattle.std.specs.List.{concat}
 use Rattle.kahn_streams.specs.declared.span.Span.{Span}
 use Rattle.kahn_streams.specs.declared.tree.Program.{Program}

@@ -56,8 +56,7 @@ fn is_word(word: Keyword, class: Class) -> bool
     match class {
         Class::Word(found) => same_word(word, found),
         Class::Sign(found) => same_sign(Sign::Not, found) && same_word(word, Keyword::Not),
-        Class::Name => false,
-        Class::Number(_) => false,
+        Class::Name | Class::Number(_) => false,
     }
 }
 
@@ -69,8 +68,7 @@ fn is_sign(sign: Sign, class: Class) -> bool
     match class {
         Class::Word(_) => false,
         Class::Sign(found) => !same_sign(Sign::Not, found) && same_sign(sign, found),
-        Class::Name => false,
-        Class::Number(_) => false,
+        Class::Name | Class::Number(_) => false,
     }
 }
 
@@ -107,12 +105,8 @@ fn rank(operator: Operator) -> u8
     match operator {
         Operator::Or => 1,
         Operator::And => 2,
-        Operator::Equal
-        | Operator::Unequal
-        | Operator::Less
-        | Operator::AtMost
-        | Operator::Greater
-        | Operator::AtLeast => 4,
+        Operator::Equal | Operator::Unequal | Operator::Less | Operator::AtMost => 4,
+        Operator::Greater | Operator::AtLeast => 4,
         Operator::Add | Operator::Subtract => 5,
         Operator::Multiply | Operator::Divide | Operator::Remainder => 6,
     }
@@ -126,30 +120,11 @@ fn word_rank(word: Keyword) -> u8
         Keyword::Or => 1,
         Keyword::And => 2,
         Keyword::Div | Keyword::Mod => 6,
-        Keyword::Begin
-        | Keyword::Channel
-        | Keyword::Do
-        | Keyword::Else
-        | Keyword::End
-        | Keyword::False
-        | Keyword::If
-        | Keyword::In
-        | Keyword::Input
-        | Keyword::Integer
-        | Keyword::Logical
-        | Keyword::Not
-        | Keyword::On
-        | Keyword::Out
-        | Keyword::Output
-        | Keyword::Par
-        | Keyword::Print
-        | Keyword::Process
-        | Keyword::Repeat
-        | Keyword::Send
-        | Keyword::Then
-        | Keyword::True
-        | Keyword::Wait
-        | Keyword::While => 0,
+        Keyword::Begin | Keyword::Channel | Keyword::Do | Keyword::Else | Keyword::End => 0,
+        Keyword::False | Keyword::If | Keyword::In | Keyword::Input | Keyword::Integer => 0,
+        Keyword::Logical | Keyword::Not | Keyword::On | Keyword::Out | Keyword::Output => 0,
+        Keyword::Par | Keyword::Print | Keyword::Process | Keyword::Repeat | Keyword::Send => 0,
+        Keyword::Then | Keyword::True | Keyword::Wait | Keyword::While => 0,
     }
 }
 
@@ -173,8 +148,7 @@ fn rank_of(class: Class) -> u8
     match class {
         Class::Word(word) => word_rank(word),
         Class::Sign(sign) => sign_rank(sign),
-        Class::Name => 0,
-        Class::Number(_) => 0,
+        Class::Name | Class::Number(_) => 0,
     }
 }
 

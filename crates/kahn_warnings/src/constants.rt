@@ -11,20 +11,14 @@ use kahn_streams::{Expression, Failure, Form, Operator, Value};
 pub(crate) fn negated(value: Option<Value>) -> Option<Value>
     ensures { result ≡ negated value }
 {
-    match value {
-        None => None,
-        Some(value) => negate(value).ok(),
-    }
+    negate(value?).ok()
 }
 
 /// The other truth value.
 pub(crate) fn inverted(value: Option<Value>) -> Option<Value>
     ensures { result ≡ inverted value }
 {
-    match value {
-        None => None,
-        Some(value) => Some(Value::Logical(!truth(value))),
-    }
+    Some(Value::Logical(!truth(value?)))
 }
 
 /// The value of an operator on two operands.
@@ -35,21 +29,14 @@ pub(crate) fn combined(
 ) -> Option<Value>
     ensures { result ≡ combined operator left right }
 {
-    match (left, right) {
-        (None, _) => None,
-        (Some(_), None) => None,
-        (Some(left), Some(right)) => apply(operator, left, right).ok(),
-    }
+    apply(operator, left?, right?).ok()
 }
 
 /// That of one of two branches.
 pub(crate) fn chosen(test: Option<Value>, yes: Option<Value>, no: Option<Value>) -> Option<Value>
     ensures { result ≡ chosen test yes no }
 {
-    match test {
-        None => None,
-        Some(value) => { if truth(value) { yes } else { no } }
-    }
+    if truth(test?) { yes } else { no }
 }
 
 /// The value that an expression has wherever it is reached, by the constants in it.
@@ -90,10 +77,7 @@ pub(crate) fn is_true(value: Option<Value>) -> bool
 pub(crate) fn negate_fault(value: Option<Value>) -> Option<Failure>
     ensures { result ≡ negate_fault value }
 {
-    match value {
-        None => None,
-        Some(value) => negate(value).err(),
-    }
+    negate(value?).err()
 }
 
 /// Whether an operator divides.
