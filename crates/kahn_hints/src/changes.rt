@@ -426,8 +426,14 @@ pub(crate) fn change_for(
     *tries = trial.tries;
     match trial.best {
         Some(change) if change.is_one_of => Ok(None),
+        Some(change) if is_unsure(place, &change) => Ok(None),
         found => Ok(found),
     }
+}
+
+/// Whether a change declares a channel and leaves a fault: as long as there is one, nothing is known of its sides.
+fn is_unsure(place: NetworkPlace, change: &Edit) -> bool {
+    matches!(change.way, EditKind::Declared) && place.process.is_none() && change.left > 0
 }
 
 /// Whether a change is told apart from the words of a fault at a place: it is made elsewhere.

@@ -39,10 +39,29 @@ pub(crate) fn begin_in(place: NetworkPlace) -> Option<Span> {
     None
 }
 
+/// Whether a comment has the name at a place, and a kind.
+fn is_held(place: NetworkPlace) -> bool {
+    let word = part_of(place.text, place.at);
+    let mut from = 0;
+    for lexeme in place.lexemes {
+        let to = lexeme.span.from;
+        let comment = part_of(place.text, Span { from, to });
+        let has_kind = comment.find("integer").is_some() || comment.find("logical").is_some();
+        if has_kind && comment.find(word).is_some() {
+            return true;
+        }
+        from = lexeme.span.to;
+    }
+    false
+}
+
 /// The name of a channel at a place of the program; in a process the names that it assigns and doesn't declare, if the one at the place is
-/// one of them.
+/// one of them. None where a comment holds a declaration.
 pub(crate) fn undeclared(alloc: Global, place: NetworkPlace) -> Result<Option<String>, AllocError> {
     let word = part_of(place.text, place.at);
+    if is_held(place) {
+        return Ok(None);
+    }
     match (place.process.is_some(), asked_kind(place)) {
         (true, NameKind::Value) => {}
         (false, NameKind::Channel) => return Ok(Some(String::from_str(alloc, word)?)),

@@ -103,7 +103,7 @@ pub(crate) fn found_kind(alloc: Global, place: NetworkPlace) -> Result<Option<Ki
     let to = span.from.saturating_add(2);
     for fault in &every(alloc, &tree)? {
         if let CheckFault::WrongKind(at) = fault {
-            if is_in(Span { to, ..span }, *at) {
+            if is_in(Span { to, ..span }, *at) && at.to.saturating_sub(at.from) == 1 {
                 return Ok(Some(Kind::Integer));
             }
         }

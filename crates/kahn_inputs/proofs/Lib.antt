@@ -1,5 +1,3 @@
-mod Fed
 mod Fitted
-pub mod Held
 mod Placed
 mod Sought

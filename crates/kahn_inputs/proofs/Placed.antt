@@ -9,7 +9,7 @@ use Rattle.kahn_texts.specs.declared.input.TextFault.{TextFault}
 use Rattle.kahn_texts.specs.declared.input.TextFault.TheVariants.{BadLine, BadValue, Input, TooLong, NoMemory}
 use Rattle.kahn_texts.proofs.Same_inputs.{one_list}
 use Rattle.kahn_marks.specs.declared.rendering.Note.{Note}
-use Rattle.kahn_inputs.specs.Feeding.{IsInputNote, IsLineNote, IsNumberedNote, refused_number}
+use Rattle.kahn_inputs.specs.Feeding.{IsFoundNote, IsInputNote, refused_number}
 use Rattle.kahn_inputs.specs.Fitting.{parts_length}
 use Rattle.kahn_inputs.specs.Placed.{HasItsPlace}
 use Rattle.kahn_inputs.specs.Seeking.{IsFound}
@@ -82,10 +82,10 @@ no_last text from line (before, whole, after, es, e, spelt, count, (entry, is), 
 
 -- ---- the first line that is neither blank nor an entry
 
-line_placed : (text : List ℕ) (before : List (List ℕ)) (line : List ℕ) (after : List (List ℕ)) → text_lines text ≡ before ++ (line ∷ after)
-    → (IsGood line → ⊥) → IsLineNote text None → ⊥
-line_placed text before line after e bad (inl (es, spelt, less)) = no_entries text before line after es e bad spelt
-line_placed text before line after e bad (inr (from, found, is)) = no_last text from found is
+line_placed : (t : Program) (text : List ℕ) (before : List (List ℕ)) (line : List ℕ) (after : List (List ℕ)) → text_lines text ≡ before ++ (line ∷ after)
+    → (IsGood line → ⊥) → IsFoundNote t text None (length text) None → ⊥
+line_placed t text before line after e bad (inl (es, spelt, less)) = no_entries text before line after es e bad spelt
+line_placed t text before line after e bad (inr (from, found, is, none)) = no_last text from found is
 
 -- ---- the entry of a number
 
@@ -106,21 +106,18 @@ number_of t given k entry f (inr (a, inr (b, inr (c, inr (d, inl h))))) = ap ref
 number_of t given k entry f (inr (a, inr (b, inr (c, inr (d, inr (e, h)))))) = absurd h
 
 numbered_placed : (t : Program) (text : List ℕ) (f : InputFault) (es : List Entry) (k : ℕ) (entry : Entry) → AreEntries (text_lines text) es → slice_get es k ≡ Some entry
-    → IsNumberedNote t text f k None → ⊥
+    → IsFoundNote t text (Some f) k None → ⊥
 numbered_placed t text f es k entry spelt got (inl (fs, others, less)) =
     let below = got_below es k entry got in
     let same = ap length (one_list (text_lines text) es fs spelt others) in
     absurd (omega (arith, below, same, less))
-numbered_placed t text f es k entry spelt got (inr (from, line, inl (before, whole, after, gs, e, earlier, sought, is, same, first, within))) =
-    no_entries text before whole after es e (bad_head (content whole) is) spelt
-numbered_placed t text f es k entry spelt got (inr (from, line, inr (before, whole, after, gs, e, earlier, sought, is, same, first, within))) =
-    no_entries text before whole after es e (bad_values (content whole) is) spelt
+numbered_placed t text f es k entry spelt got (inr (from, line, is, none)) = absurd cc
 
 pub always_placed : (t u : Program) (text : List ℕ) (fault : TextFault) → IsInputTextFault u text fault → HasItsPlace fault → IsInputNote t text fault None → ⊥
-always_placed t u text (BadLine n) (most, (before, line, after, e, number, good, is)) place note = line_placed text before line after e (bad_head (content line) is) note
-always_placed t u text (BadValue n) (most, (before, line, after, e, number, good, is)) place note = line_placed text before line after e (bad_values (content line) is) note
+always_placed t u text (BadLine n) (most, (before, line, after, e, number, good, is)) place note = line_placed t text before line after e (bad_head (content line) is) note
+always_placed t u text (BadValue n) (most, (before, line, after, e, number, good, is)) place note = line_placed t text before line after e (bad_values (content line) is) note
 always_placed t u text (Input f) (es, (most, spelt), (k, entry, got, fit, fails)) place note =
     numbered_placed t text f es k entry spelt got
-    (subst (λ o. MatchOption o (◌≡◌ {A = Option Note} None None) (λ number. IsNumberedNote t text f number None)) (number_of u _ k entry f fails) note)
+    (subst (λ o. MatchOption o (◌≡◌ {A = Option Note} None None) (λ number. IsFoundNote t text (Some f) number None)) (number_of u _ k entry f fails) note)
 always_placed t u text TooLong h place note = absurd place
 always_placed t u text NoMemory h place note = absurd place

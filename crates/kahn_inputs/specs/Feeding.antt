@@ -15,7 +15,8 @@ use Rattle.kahn_marks.specs.declared.rendering.Other.{Other}
 use Rattle.kahn_marks.specs.declared.rendering.Sort.TheVariants.{Error}
 use Rattle.kahn_inputs.specs.Fitting.{AreAllFit, IsUnfit, colon_at, lack_of, lack_span, moved_by, line_name, name_span}
 use Rattle.kahn_inputs.specs.Seeking.{IsFirstNamed, IsFound, IsNamedNowhere, IsUnfound}
-use Rattle.kahn_inputs.specs.declared.seeking.LineKind.TheVariants.{Entry, NoHead, NoValues}
+use Rattle.kahn_inputs.specs.declared.seeking.LineKind.{LineKind}
+use Rattle.kahn_inputs.specs.declared.seeking.LineKind.TheVariants.{Blank, Entry, NoHead, NoValues}
 
 -- a note on a part of the line that begins at byte `from`
 abbrev pub IsPartNote : ℕ → Span → Note → Type 0
@@ -59,18 +60,22 @@ abbrev pub IsEntryNote : Program → List ℕ → ℕ → List ℕ → InputFaul
 IsEntryNote t text from line fault note = (kind : Option Kind) × (span : Span)
     × IsKindFor t (line_name line) kind × IsEntrySpan line kind fault span × IsPartNote from span note × AreFirstGiven text (line_name line) fault note.others.items
 
--- the note on the first line that is neither blank nor an entry, where there is one
-abbrev pub IsLineNote : List ℕ → Option Note → Type 0
-IsLineNote text note = MatchOption note
-    (IsUnfound text (length text) ⊎ ((from : ℕ) × (line : List ℕ) × IsFound text (length text) from line Entry))
-    (λ note. (from : ℕ) × (line : List ℕ) × ((IsFound text (length text) from line NoHead × IsPartNote from (lack_place line) note)
-    ⊎ (IsFound text (length text) from line NoValues × IsValueNote from line note)))
+-- the note on a line, by what it is; on an entry where a fault of it is told
+abbrev pub IsFaultNote : Program → List ℕ → Option InputFault → ℕ → List ℕ → Note → Type 0
+IsFaultNote t text None from line note = ⊥
+IsFaultNote t text (Some fault) from line note = IsEntryNote t text from line fault note
 
--- the note on the entry of this number, where all lines before it are blank or entries
-abbrev pub IsNumberedNote : Program → List ℕ → InputFault → ℕ → Option Note → Type 0
-IsNumberedNote t text fault number note = MatchOption note
-    (IsUnfound text number ⊎ ((from : ℕ) × (line : List ℕ) × (IsFound text number from line NoHead ⊎ IsFound text number from line NoValues)))
-    (λ note. (from : ℕ) × (line : List ℕ) × IsFound text number from line Entry × IsEntryNote t text from line fault note)
+abbrev pub IsLineNote : Program → List ℕ → Option InputFault → ℕ → List ℕ → LineKind → Note → Type 0
+IsLineNote t text fault from line Blank note = ⊥
+IsLineNote t text fault from line Entry note = IsFaultNote t text fault from line note
+IsLineNote t text fault from line NoHead note = IsPartNote from (lack_place line) note
+IsLineNote t text fault from line NoValues note = IsValueNote from line note
+
+-- the note on the entry of this number, or on a line before it that is neither blank nor an entry
+abbrev pub IsFoundNote : Program → List ℕ → Option InputFault → ℕ → Option Note → Type 0
+IsFoundNote t text fault number note = MatchOption note
+    (IsUnfound text number ⊎ ((from : ℕ) × (line : List ℕ) × IsFound text number from line Entry × (fault ≡ None)))
+    (λ note. (from : ℕ) × (line : List ℕ) × (kind : LineKind) × IsFound text number from line kind × IsLineNote t text fault from line kind note)
 
 -- the number of the entry that is at fault, from 0
 abbrev pub refused_number : InputFault → Option ℕ
@@ -83,8 +88,8 @@ refused_number input_fault.NoMemory = None
 
 -- the note on why an input text is refused, where that has a place
 abbrev pub IsInputNote : Program → List ℕ → TextFault → Option Note → Type 0
-IsInputNote t text (text_fault.BadLine n) note = IsLineNote text note
-IsInputNote t text (text_fault.BadValue n) note = IsLineNote text note
-IsInputNote t text (text_fault.Input fault) note = MatchOption (refused_number fault) (note ≡ None) (λ number. IsNumberedNote t text fault number note)
+IsInputNote t text (text_fault.BadLine n) note = IsFoundNote t text None (length text) note
+IsInputNote t text (text_fault.BadValue n) note = IsFoundNote t text None (length text) note
+IsInputNote t text (text_fault.Input fault) note = MatchOption (refused_number fault) (note ≡ None) (λ number. IsFoundNote t text (Some fault) number note)
 IsInputNote t text text_fault.TooLong note = note ≡ None
 IsInputNote t text text_fault.NoMemory note = note ≡ None

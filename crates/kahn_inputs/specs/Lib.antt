@@ -3,4 +3,3 @@ pub mod Fitting
 pub mod Placed
 pub mod Refused
 pub mod Seeking
-pub mod Strange

@@ -1,14 +1,14 @@
 //! Why an input text is refused, as a note on the place.
 
 ghost use Rattle.std.specs.Prelude.{◌≡◌, ◌+◌, ◌≤◌, IfOk, length};
-ghost use Rattle.kahn_inputs.specs.Feeding.{AreFirstGiven, IsEntryNote, IsEntrySpan, IsInputNote, IsKindFor, IsLineNote, IsNumberedNote, IsPartNote, IsUnfitSpan, IsValueNote, lack_place, refused_number, rest_from};
+ghost use Rattle.kahn_inputs.specs.Feeding.{AreFirstGiven, IsEntryNote, IsEntrySpan, IsFoundNote, IsInputNote, IsKindFor, IsPartNote, IsUnfitSpan, IsValueNote, lack_place, refused_number, rest_from};
 
 use crate::fitting::{
     Lack, behind, colon_at, first_unfit, lack_of, lack_span, line_name, moved_by, name_span,
     part_of,
 };
 use crate::seeking::{FoundLine, LineKind, find_line, first_named};
-use crate::strange::{no_comment_words, numeral_words, strange_words};
+use crate::strange::{NO_COMMENTS, is_number, no_comment_words, numeral_words, strange_words};
 use kahn_hints::{add_inputs, add_unknown_input};
 use kahn_marks::{Note, Other, Sort, add, simple};
 use kahn_streams::{InputFault, Kind, Network, NoMemory, Span, channel_named};
@@ -72,6 +72,18 @@ fn part_note(
     )
 }
 
+/// What more is said of it, by its name and the part that is at fault.
+fn lack_more(line: &[u8], part: &[u8]) -> &'static str {
+    let name = line_name(line);
+    if name.eq_ignore_ascii_case(b"integer") || name.eq_ignore_ascii_case(b"logical") {
+        return "; no kind stands before the name";
+    }
+    if is_number(part) {
+        return "; all values of a channel stand on one line, behind its name";
+    }
+    no_comment_words(part)
+}
+
 /// The note on a line that doesn't begin with a name and a colon.
 fn lack_note(alloc: Global, text: &str, found: FoundLine<'_>) -> Result<Note, AllocError>
     requires { found.from + length found.line.now ≤ length text.now }
@@ -81,7 +93,7 @@ fn lack_note(alloc: Global, text: &str, found: FoundLine<'_>) -> Result<Note, Al
     let span = lack_span(found.line, lack);
     let part = part_of(found.line, span);
     let strange = strange_words(found.from + span.from, part);
-    let more = no_comment_words(part);
+    let more = lack_more(found.line, part);
     part_note(alloc, text, found, span, &[lack_words(lack), more, strange])
 }
 
@@ -114,7 +126,11 @@ fn value_note(alloc: Global, text: &str, found: FoundLine<'_>) -> Result<Note, A
     let span = unfit_span(None, found.line);
     let part = part_of(found.line, span);
     let strange = strange_words(found.from + span.from, part);
-    let more = numeral_words(part);
+    let more = if line_name(found.line).eq_ignore_ascii_case(b"comment") {
+        NO_COMMENTS
+    } else {
+        numeral_words(part)
+    };
     part_note(alloc, text, found, span, &[NO_VALUE, more, strange])
 }
 
@@ -206,39 +222,28 @@ fn entry_note(
     Ok(note)
 }
 
-/// The note on the first line that is neither blank nor an entry.
-fn line_note(alloc: Global, text: &str) -> Result<Option<Note>, NoMemory>
-    ensures { IfOk result (IsLineNote text.now) }
-{
-    let Some(found) = find_line(alloc, text, text.len())? else {
-        return Ok(None);
-    };
-    match found.kind {
-        LineKind::Blank => Ok(None),
-        LineKind::Entry => Ok(None),
-        LineKind::NoHead => Ok(Some(lack_note(alloc, text, found)?)),
-        LineKind::NoValues => Ok(Some(value_note(alloc, text, found)?)),
-    }
-}
-
-/// The note on the entry with that number, counted from 0.
-fn numbered_note(
+/// The note on the entry with that number, counted from 0, if it is told what its fault is; or on the first line that is neither blank nor
+/// an entry, if that comes first.
+fn found_note(
     alloc: Global,
     network: &Network,
     text: &str,
-    fault: InputFault,
+    fault: Option<InputFault>,
     number: usize,
 ) -> Result<Option<Note>, NoMemory>
-    ensures { IfOk result (IsNumberedNote network.now text.now fault number) }
+    ensures { IfOk result (IsFoundNote network.now text.now fault number) }
 {
     let Some(found) = find_line(alloc, text, number)? else {
         return Ok(None);
     };
-    match found.kind {
-        LineKind::Entry => Ok(Some(entry_note(alloc, network, text, found, fault)?)),
-        LineKind::Blank => Ok(None),
-        LineKind::NoHead => Ok(None),
-        LineKind::NoValues => Ok(None),
+    match (found.kind, fault) {
+        (LineKind::Blank, _) => Ok(None),
+        (LineKind::Entry, None) => Ok(None),
+        (LineKind::Entry, Some(fault)) => {
+            Ok(Some(entry_note(alloc, network, text, found, fault)?))
+        }
+        (LineKind::NoHead, _) => Ok(Some(lack_note(alloc, text, found)?)),
+        (LineKind::NoValues, _) => Ok(Some(value_note(alloc, text, found)?)),
     }
 }
 
@@ -268,9 +273,11 @@ pub fn input_note(
 {
     match fault {
         TextFault::TooLong | TextFault::NoMemory => Ok(None),
-        TextFault::BadLine(_) | TextFault::BadValue(_) => line_note(alloc, text),
+        TextFault::BadLine(_) | TextFault::BadValue(_) => {
+            found_note(alloc, network, text, None, text.len())
+        }
         TextFault::Input(fault) => match refused_number(fault) {
-            Some(number) => numbered_note(alloc, network, text, fault, number),
+            Some(number) => found_note(alloc, network, text, Some(fault), number),
             None => Ok(None),
         },
     }

@@ -235,6 +235,14 @@ fn is_fit_part(asked: Option<Kind>, part: &[u8]) -> bool
     is_fit_value(asked, part)
 }
 
+/// Where what follows on a piece of some bytes begins, which begins at one of them: behind a byte that ends it.
+pub(crate) fn past(_bytes: &[u8], from: usize, piece: &[u8]) -> usize
+    requires { from + length piece.now ≤ length _bytes.now }
+    ensures { result ≡ from + length piece.now + 1 }
+{
+    from + piece.len() + 1
+}
+
 /// The first word that is no such value.
 pub(crate) fn first_unfit(asked: Option<Kind>, bytes: &[u8]) -> Option<Span>
     ensures order { IfSome result (λ span. span.from ≤ span.to) }
@@ -243,11 +251,12 @@ pub(crate) fn first_unfit(asked: Option<Kind>, bytes: &[u8]) -> Option<Span>
 {
     let mut from = 0;
     for word in bytes.split(|byte| *byte == b' ' || *byte == b'\t') {
-        let to = from + word.len();
+        let further = past(bytes, from, word);
         if !is_fit_part(asked, word) {
+            let to = further - 1;
             return Some(Span { from, to });
         }
-        from = to + 1;
+        from = further;
     }
     None
 }

@@ -4,12 +4,12 @@ ghost use Rattle.std.specs.Prelude.{◌≡◌, IfOk, string_bytes};
 ghost use Rattle.kahn_texts.specs.Formats.{content as content_of};
 ghost use Rattle.kahn_hints.specs.Inputs.{input_names, inputs_words, unknown_input};
 ghost use Rattle.kahn_inputs.specs.Fitting.{line_name};
-ghost use Rattle.kahn_inputs.specs.Refused.{IsHeadPart, IsKindPart, IsValuePart, kind_wanted, lack_wanted, value_wanted, words_or};
+ghost use Rattle.kahn_inputs.specs.Refused.{IsHeadPart, IsKindPart, IsValuePart};
 
 use crate::feeding::{kind_for, unfit_span};
 use crate::fitting::{Lack, lack_of, lack_span, line_name, part_of};
 use crate::seeking::content;
-use crate::strange::{no_comment_words, numeral_words, stands_in};
+use crate::strange::{no_comment_words, numeral_words, stands_in, words_or};
 use kahn_hints::{add_inputs, add_unknown_input};
 use kahn_streams::{Kind, Network};
 use std::alloc::{AllocError, Global};
@@ -23,17 +23,8 @@ pub struct Part<'a> {
     pub words: &'a str,
 }
 
-/// The first words, or the others where these are none.
-fn words_or(first: &'static str, others: &'static str) -> &'static str
-    ensures { result.now ≡ words_or first.now others.now }
-{
-    if first.is_empty() { others } else { first }
-}
-
 /// What is wanted of a line that doesn't begin with a name and a colon.
-fn lack_wanted(lack: Lack) -> &'static str
-    ensures { result.now ≡ lack_wanted lack }
-{
+fn lack_wanted(lack: Lack) -> &'static str {
     match lack {
         Lack::Name => "; a line begins with the name of a channel",
         Lack::ShortName => "; a name has at most 64 characters",
@@ -42,10 +33,8 @@ fn lack_wanted(lack: Lack) -> &'static str
 }
 
 /// What is wanted in the place of a word that is no value.
-fn value_wanted(word: &[u8]) -> &'static str
-    ensures { result.now ≡ value_wanted word.now }
-{
-    if stands_in(b":", word) {
+fn value_wanted(word: &[u8]) -> &'static str {
+    if stands_in(":", word) {
         return "; a name stands before the values alone, and with --plain nowhere";
     }
     words_or(
@@ -55,9 +44,7 @@ fn value_wanted(word: &[u8]) -> &'static str
 }
 
 /// What is wanted in the place of a value of another kind.
-fn kind_wanted(kind: Option<Kind>) -> &'static str
-    ensures { result.now ≡ kind_wanted kind }
-{
+fn kind_wanted(kind: Option<Kind>) -> &'static str {
     match kind {
         Some(Kind::Integer) => "; wanted a number",
         Some(Kind::Logical) => "; wanted `true` or `false`",

@@ -5,7 +5,7 @@ ghost use Rattle.kahn_texts.specs.Formats.{content as content_of};
 ghost use Rattle.kahn_inputs.specs.Fitting.{moved_by, name_span};
 ghost use Rattle.kahn_inputs.specs.Seeking.{IsFirstNamed, IsFound, IsNamedNowhere, IsNotSought, IsLineKind, IsSought, IsUnfound, entries_in, has_line_name};
 
-use crate::fitting::{line_name, moved_by, name_span};
+use crate::fitting::{line_name, moved_by, name_span, past};
 use kahn_streams::{NoMemory, Span};
 use kahn_texts::{LineFault, read_line};
 use std::alloc::Global;
@@ -95,13 +95,13 @@ pub(crate) fn find_line(
     let mut entries = 0;
     for whole in text.as_bytes().split(|byte| *byte == b'\n') {
         let kind = kind_of(alloc, whole)?;
-        let to = from + whole.len();
+        let further = past(text.as_bytes(), from, whole);
         if is_sought(kind, entries, number) {
             let line = content(whole);
             return Ok(Some(FoundLine { from, line, kind }));
         }
         entries += entries_in(kind);
-        from = to + 1;
+        from = further;
     }
     Ok(None)
 }
@@ -127,11 +127,11 @@ pub(crate) fn first_named(text: &str, name: &[u8]) -> Option<Span>
 {
     let mut from = 0;
     for line in text.as_bytes().split(|byte| *byte == b'\n') {
-        let to = from + line.len();
+        let further = past(text.as_bytes(), from, line);
         if has_line_name(line, name) {
             return Some(placed_name(text, from, line));
         }
-        from = to + 1;
+        from = further;
     }
     None
 }

@@ -6,4 +6,3 @@ pub mod Right_ends
 pub mod Stands
 mod Lasting
 mod Unfed
-mod Waiting

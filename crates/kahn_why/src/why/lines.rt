@@ -98,28 +98,13 @@ fn add_waiting(
     let places = places_of(alloc, story, reason)?;
     let mut words = String::new(alloc);
     if reason.is_on_ring {
-        add_wait(
-            &mut words,
-            story,
-            reason.instance,
-            channel,
-            first_ones(&places, 0).0,
-        )?;
+        add_wait(&mut words, story, reason.instance, channel, &[])?;
         add(&mut words, &[", in a deadlock", for_ever(reason)])?;
         return add_error(text, alloc, story, words.as_str(), &places, below);
     }
     add_wait(&mut words, story, reason.instance, channel, &places)?;
     add_led(&mut words, story.network, reason)?;
     add_line(text, words.as_str(), &below)
-}
-
-/// Whether an instance has this fault.
-fn has_failed(reason: &Reason, kind: Failure) -> bool {
-    match (kind, reason.end.outcome) {
-        (Failure::Overflow, Outcome::Faulted(Failure::Overflow)) => true,
-        (Failure::Division, Outcome::Faulted(Failure::Division)) => true,
-        (_, _) => false,
-    }
 }
 
 /// The first instance of the process of an instance that has its fault, where that isn't itself.
@@ -129,7 +114,8 @@ fn told_before(story: &Story<'_>, reason: &Reason, kind: Failure) -> Option<usiz
         if other.instance == reason.instance {
             return None;
         }
-        if has_failed(other, kind) && process_name(story.network, other.instance) == name {
+        let has_failed = other.end.outcome == Outcome::Faulted(kind);
+        if has_failed && process_name(story.network, other.instance) == name {
             return Some(other.instance);
         }
     }
@@ -165,14 +151,6 @@ fn add_faulted(
     add_error(text, alloc, story, words.as_str(), &places, below)
 }
 
-/// Adds that an instance wants more than so many events.
-fn add_events(words: &mut String, events: u64) -> Result<(), AllocError> {
-    let mut buffer = Buffer::new();
-    words.push_str(" wants more, after ")?;
-    words.push_str(buffer.format(events))?;
-    words.push_str(if events == 1 { " event" } else { " events" })
-}
-
 /// Adds an instance that wants more events, or has ended.
 fn add_still(
     text: &mut String,
@@ -184,8 +162,13 @@ fn add_still(
 ) -> Result<(), AllocError> {
     let mut words = String::new(alloc);
     add_who(&mut words, story.network, instance)?;
+    let mut buffer = Buffer::new();
     match events {
-        Some(events) => add_events(&mut words, events)?,
+        Some(1) => words.push_str(" wants more, after 1 event")?,
+        Some(events) => add(
+            &mut words,
+            &[" wants more, after ", buffer.format(events), " events"],
+        )?,
         None => words.push_str(" has ended")?,
     }
     add_line(text, words.as_str(), below)
@@ -222,12 +205,12 @@ fn add_ring(
     let members = led_to(alloc, story.reasons, first, true)?;
     let (told, more) = first_ones(&members, MOST_NOTES);
     for reason in told {
-        let most = if reason.instance == first {
-            waiting.len()
+        let below = if reason.instance == first {
+            waiting
         } else {
-            0
+            &[]
         };
-        add_reason(text, alloc, story, reason, first_ones(waiting, most).0)?;
+        add_reason(text, alloc, story, reason, below)?;
     }
     add_more(text, "", "wait", more.len())
 }
@@ -283,7 +266,7 @@ pub(crate) fn add_each(
     story: &Story<'_>,
 ) -> Result<(), AllocError> {
     for reason in story.reasons {
-        add_reason(text, alloc, story, reason, first_ones(story.reasons, 0).0)?;
+        add_reason(text, alloc, story, reason, &[])?;
     }
     Ok(())
 }

@@ -30,12 +30,10 @@ pub(crate) fn source_of(cause: Cause) -> usize {
 
 /// Why an instance goes no further, where it hasn't ended.
 pub(crate) fn reason_of(reasons: &[Reason], instance: usize) -> Option<Reason> {
-    for reason in reasons {
-        if reason.instance == instance {
-            return Some(*reason);
-        }
-    }
-    None
+    reasons
+        .iter()
+        .find(|reason| reason.instance == instance)
+        .copied()
 }
 
 /// Whether the waits of an instance lead to another one: on its ring, or from outside of it.

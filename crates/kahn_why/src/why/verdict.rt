@@ -1,6 +1,6 @@
 //! What came of a run, in one line.
 
-use crate::why::story::{Story, led_to, source_of};
+use crate::why::story::{Story, led_to};
 use crate::why::words::{add_count, add_those};
 use kahn_chain::{Cause, Reason};
 use kahn_streams::{Outcome, Verdict};
@@ -13,46 +13,40 @@ fn go_on(text: &mut String) -> Result<(), AllocError> {
 
 /// Adds how many instances have a fault, if any has.
 fn add_faults(text: &mut String, reasons: &[Reason]) -> Result<(), AllocError> {
-    let mut count: usize = 0;
-    for reason in reasons {
-        if matches!(reason.end.outcome, Outcome::Faulted(_)) {
-            count = count.saturating_add(1);
-        }
+    let count = reasons
+        .iter()
+        .filter(|reason| matches!(reason.end.outcome, Outcome::Faulted(_)))
+        .count();
+    match count {
+        0 => Ok(()),
+        _ => add_count(
+            text,
+            count,
+            " process has a fault",
+            " processes have a fault",
+        ),
     }
-    if count == 0 {
-        return Ok(());
-    }
-    add_count(
-        text,
-        count,
-        " process has a fault",
-        " processes have a fault",
-    )
-}
-
-/// The instances that have the least number of a ring.
-fn first_of_rings(alloc: Global, reasons: &[Reason]) -> Result<Vec<usize>, AllocError> {
-    let mut firsts = Vec::new(alloc);
-    for reason in reasons {
-        if matches!(reason.cause, Cause::Ring(one) if one == reason.instance) {
-            firsts.push(reason.instance)?;
-        }
-    }
-    Ok(firsts)
 }
 
 /// Adds who wait on one another in a ring, if there is one, or how many rings there are.
 fn add_rings(text: &mut String, alloc: Global, story: &Story<'_>) -> Result<(), AllocError> {
-    let firsts = first_of_rings(alloc, story.reasons)?;
-    let Some(first) = firsts.first() else {
+    let mut first = None;
+    let mut count: usize = 0;
+    for reason in story.reasons {
+        if matches!(reason.cause, Cause::Ring(one) if one == reason.instance) {
+            first = first.or(Some(reason.instance));
+            count = count.saturating_add(1);
+        }
+    }
+    let Some(first) = first else {
         return Ok(());
     };
     go_on(text)?;
-    if firsts.len() > 1 {
-        return add_count(text, firsts.len(), "", " deadlocks");
+    if count > 1 {
+        return add_count(text, count, "", " deadlocks");
     }
     text.push_str("deadlock: ")?;
-    let those = led_to(alloc, story.reasons, *first, true)?;
+    let those = led_to(alloc, story.reasons, first, true)?;
     add_those(
         text,
         story.network,
@@ -64,12 +58,10 @@ fn add_rings(text: &mut String, alloc: Global, story: &Story<'_>) -> Result<(), 
 
 /// Adds how many instances want more events, if any does.
 fn add_wanting(text: &mut String, reasons: &[Reason]) -> Result<(), AllocError> {
-    let mut count: usize = 0;
-    for reason in reasons {
-        if matches!(reason.end.outcome, Outcome::More) {
-            count = count.saturating_add(1);
-        }
-    }
+    let count = reasons
+        .iter()
+        .filter(|reason| matches!(reason.end.outcome, Outcome::More))
+        .count();
     if count == 0 {
         return Ok(());
     }
@@ -96,12 +88,7 @@ fn add_stop(text: &mut String, story: &Story<'_>) -> Result<(), AllocError> {
 
 /// Whether an instance waits on a channel.
 fn is_awaited(reasons: &[Reason], channel: usize) -> bool {
-    for reason in reasons {
-        if matches!(reason.end.outcome, Outcome::Waits(one) if one == channel) {
-            return true;
-        }
-    }
-    false
+    reasons.iter().any(|reason| matches!(reason.end.outcome, Outcome::Waits(one) if one == channel))
 }
 
 /// Whether it is known that there was input, and that all was taken.

@@ -1,5 +1,4 @@
-use Rattle.std.proofs.Common.{rules, tests, ◌<◌, ◌+◌, ◌≤◌, Fits, w64, All, length, take, drop, [], ◌∷◌, ◌++◌, arith, refl, subst}
-use Rattle.std.proofs.Math.Facts.{Fits-le}
+use Rattle.std.proofs.Common.{rules, tests, ◌<◌, ◌+◌, All, length, take, drop, [], ◌∷◌, ◌++◌, arith, refl, subst}
 use Rattle.std.proofs.lemmas.List.{length_push, take_all}
 use Rattle.std.proofs.lemmas.Iterator.Splits.{YieldsList-from_slice_split}
 use Rattle.std.proofs.lemmas.Iterator.Consumers.{YieldsList-turn, YieldsList-end}
@@ -9,26 +8,13 @@ use Rattle.kahn_inputs.specs.Fitting.{IsFitPart, IsUnfitWord}
 use Rattle.kahn_inputs.proofs.Fitted.{all_more, cut_here, from_part, length_more, reaches}
 use Rattle.kahn_inputs.proofs.fitting.first_unfit.Goals as goal
 
-pub overflow_add-to : goal.overflow_add-to
-overflow_add-to c =
+pub past-further-requires : goal.past-further-requires
+past-further-requires c =
     let k = length c.loop-word.yielded in
     let part = c.in-Some.word.now in
     let t = YieldsList-turn (YieldsList-from_slice_split {s = c.into_iter-word-iterator.result} _ is_blank {f = c.split-word-items.result.pred} c.args.bytes.now (search rules) (search rules) (search rules) (λ x b q k. search (rules, tests)))
     c.loop-word.yielded _ c.loop-word.yielded_by _ _ c.in-Some.word c.in-Some.is c.next.ensures.steps in
-    let below : c.loop-word.from + length part ≤ length c.args.bytes.now = reaches is_blank c.args.bytes.now k _ part t c.loop-word.invariant.from in
-    let fits : Fits w64 (length c.args.bytes.now) = search rules in
-    Fits-le below fits
-
-pub overflow_add-from : goal.overflow_add-from
-overflow_add-from c =
-    let k = length c.loop-word.yielded in
-    let part = c.in-Some.word.now in
-    let t = YieldsList-turn (YieldsList-from_slice_split {s = c.into_iter-word-iterator.result} _ is_blank {f = c.split-word-items.result.pred} c.args.bytes.now (search rules) (search rules) (search rules) (λ x b q k. search (rules, tests)))
-    c.loop-word.yielded _ c.loop-word.yielded_by _ _ c.in-Some.word c.in-Some.is c.next.ensures.steps in
-    let below : c.loop-word.from + length part ≤ length c.args.bytes.now = reaches is_blank c.args.bytes.now k _ part t c.loop-word.invariant.from in
-    let fits : Fits w64 (length c.args.bytes.now + 1) = search rules in
-    let more : c.loop-word.from + length part + 1 ≤ length c.args.bytes.now + 1 = omega (arith, below) in
-    Fits-le more fits
+    reaches is_blank c.args.bytes.now k _ part t c.loop-word.invariant.from
 
 pub returns-then-not-is_fit_part-clause-within : goal.returns-then-not-is_fit_part-clause-within
 returns-then-not-is_fit_part-clause-within c =
@@ -36,7 +22,8 @@ returns-then-not-is_fit_part-clause-within c =
     let part = c.in-Some.word.now in
     let t = YieldsList-turn (YieldsList-from_slice_split {s = c.into_iter-word-iterator.result} _ is_blank {f = c.split-word-items.result.pred} c.args.bytes.now (search rules) (search rules) (search rules) (λ x b q k. search (rules, tests)))
     c.loop-word.yielded _ c.loop-word.yielded_by _ _ c.in-Some.word c.in-Some.is c.next.ensures.steps in
-    reaches is_blank c.args.bytes.now k _ part t c.loop-word.invariant.from
+    let below = reaches is_blank c.args.bytes.now k _ part t c.loop-word.invariant.from in
+    omega (arith, below, c.past-further.ensures)
 
 pub returns-then-not-is_fit_part-clause-first : goal.returns-then-not-is_fit_part-clause-first
 returns-then-not-is_fit_part-clause-first c =
@@ -48,7 +35,7 @@ returns-then-not-is_fit_part-clause-first c =
     let here = from_part parts k part t in
     let some : 0 < length part = search rules in
     let other : IsUnfitWord c.args.asked part = search rules in
-    (take k parts, part, drop (k + 1) parts, cut_here parts k (k + 1) part refl here, c.loop-word.invariant.fit, some, other, c.loop-word.invariant.from, refl)
+    (take k parts, part, drop (k + 1) parts, cut_here parts k (k + 1) part refl here, c.loop-word.invariant.fit, some, other, c.loop-word.invariant.from, omega (arith, c.past-further.ensures))
 
 pub loop-word-preserved : goal.loop-word-preserved
 loop-word-preserved c =
@@ -65,7 +52,7 @@ loop-word-preserved c =
     record {
       next = search rules;
       ends = search rules;
-      from = omega (arith, longer, c.loop-word.invariant.from);
+      from = omega (arith, longer, c.loop-word.invariant.from, c.past-further.ensures);
       fit = all_more parts k m part e here (IsFitPart c.args.asked) c.loop-word.invariant.fit fit;
     }
 

@@ -13,5 +13,4 @@ returns c =
       subst (λ n. IsKindFor c.args.network.now n kind) (c.line_name.ensures ∙ ap line_name is) c.kind_for-kind.ensures,
       subst (λ l. IsUnfitSpan kind l span) is c.unfit_span-span.ensures.span,
       c.part_of-word.ensures ∙ ap (λ l. part_of l span) is,
-      c.kind_wanted-words.ensures,
     )

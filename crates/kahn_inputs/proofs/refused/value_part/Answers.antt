@@ -7,4 +7,4 @@ pub returns : goal.returns
 returns c =
     let is = c.content-line.ensures.line in
     let span = c.unfit_span-span.result in
-    (span, subst (λ l. IsUnfitSpan None l span) is c.unfit_span-span.ensures.span, c.part_of-word.ensures ∙ ap (λ l. part_of l span) is, c.value_wanted-words.ensures)
+    (span, subst (λ l. IsUnfitSpan None l span) is c.unfit_span-span.ensures.span, c.part_of-word.ensures ∙ ap (λ l. part_of l span) is)

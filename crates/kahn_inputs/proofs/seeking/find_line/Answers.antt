@@ -1,4 +1,4 @@
-use Rattle.std.proofs.Common.{rules, tests, ◌+◌, ◌≤◌, ◌==◌, Fits, w64, length, take, drop, [], ◌∷◌, ◌++◌, arith, refl, sym, subst}
+use Rattle.std.proofs.Common.{rules, tests, ◌+◌, ◌≤◌, ◌==◌, length, take, drop, [], ◌∷◌, ◌++◌, arith, refl, sym, subst}
 use Rattle.std.proofs.Math.Facts.{Fits-le}
 use Rattle.std.proofs.lemmas.List.{length_push, take_all}
 use Rattle.std.proofs.lemmas.Iterator.Splits.{YieldsList-from_slice_split}
@@ -9,26 +9,14 @@ use Rattle.kahn_inputs.proofs.Fitted.{cut_here, from_part, length_more, one_more
 use Rattle.kahn_inputs.proofs.Sought.{one_on, still}
 use Rattle.kahn_inputs.proofs.seeking.find_line.Goals as goal
 
-pub overflow_add-to : goal.overflow_add-to
-overflow_add-to c =
+pub past-further-requires : goal.past-further-requires
+past-further-requires c =
     let k = length c.loop-whole.yielded in
     let part = c.in-Some.whole.now in
     let t = YieldsList-turn (YieldsList-from_slice_split {s = c.into_iter-whole-iterator.result} _ (λ b. b == 10) {f = c.split-whole-items.result.pred} c.args.text.now (search rules) (search rules) (search rules) (λ x b q k. search (rules, tests)))
     c.loop-whole.yielded _ c.loop-whole.yielded_by _ _ c.in-Some.whole c.in-Some.is c.next.ensures.steps in
-    let below : c.loop-whole.from + length part ≤ length c.args.text.now = reaches (λ b. b == 10) c.args.text.now k _ part t c.loop-whole.invariant.from in
-    let fits : Fits w64 (length c.args.text.now) = search rules in
-    Fits-le below fits
-
-pub overflow_add-from : goal.overflow_add-from
-overflow_add-from c =
-    let k = length c.loop-whole.yielded in
-    let part = c.in-Some.whole.now in
-    let t = YieldsList-turn (YieldsList-from_slice_split {s = c.into_iter-whole-iterator.result} _ (λ b. b == 10) {f = c.split-whole-items.result.pred} c.args.text.now (search rules) (search rules) (search rules) (λ x b q k. search (rules, tests)))
-    c.loop-whole.yielded _ c.loop-whole.yielded_by _ _ c.in-Some.whole c.in-Some.is c.next.ensures.steps in
-    let below : c.loop-whole.from + length part ≤ length c.args.text.now = reaches (λ b. b == 10) c.args.text.now k _ part t c.loop-whole.invariant.from in
-    let fits : Fits w64 (length c.args.text.now + 1) = search rules in
-    let more : c.loop-whole.from + length part + 1 ≤ length c.args.text.now + 1 = omega (arith, below) in
-    Fits-le more fits
+    subst (λ l. c.loop-whole.from + length part ≤ length l) (sym c.as_bytes-in-loop-whole.ensures.value)
+    (reaches (λ b. b == 10) c.args.text.now k _ part t c.loop-whole.invariant.from)
 
 pub overflow_add-entries : goal.overflow_add-entries
 overflow_add-entries c =
@@ -81,7 +69,7 @@ loop-whole-preserved c =
     record {
       next = search rules;
       ends = search rules;
-      from = omega (arith, longer, c.loop-whole.invariant.from);
+      from = omega (arith, longer, c.loop-whole.invariant.from, c.past-further.ensures);
       count = (es, spelt, omega (arith, count, same));
       few = omega (arith, few, same);
     }

@@ -1,5 +1,4 @@
-use Rattle.std.proofs.Common.{rules, tests, ◌≡◌, ◌∙◌, ◌+◌, ◌≤◌, ◌==◌, Fits, w64, All, ap, length, take, drop, [], ◌∷◌, ◌++◌, arith, refl, subst, true, false}
-use Rattle.std.proofs.Math.Facts.{Fits-le}
+use Rattle.std.proofs.Common.{rules, tests, ◌≡◌, ◌∙◌, ◌+◌, ◌==◌, All, ap, ◌≤◌, sym, length, take, drop, [], ◌∷◌, ◌++◌, arith, refl, subst, true, false}
 use Rattle.std.proofs.lemmas.List.{length_push, take_all}
 use Rattle.std.proofs.lemmas.Iterator.Splits.{YieldsList-from_slice_split}
 use Rattle.std.proofs.lemmas.Iterator.Consumers.{YieldsList-turn, YieldsList-end}
@@ -9,26 +8,14 @@ use Rattle.kahn_inputs.specs.Seeking.{has_line_name}
 use Rattle.kahn_inputs.proofs.Fitted.{all_more, cut_here, from_part, length_more, reaches}
 use Rattle.kahn_inputs.proofs.seeking.first_named.Goals as goal
 
-pub overflow_add-to : goal.overflow_add-to
-overflow_add-to c =
+pub past-further-requires : goal.past-further-requires
+past-further-requires c =
     let k = length c.loop-line.yielded in
     let part = c.in-Some.line.now in
     let t = YieldsList-turn (YieldsList-from_slice_split {s = c.into_iter-line-iterator.result} _ (λ b. b == 10) {f = c.split-line-items.result.pred} c.args.text.now (search rules) (search rules) (search rules) (λ x b q k. search (rules, tests)))
     c.loop-line.yielded _ c.loop-line.yielded_by _ _ c.in-Some.line c.in-Some.is c.next.ensures.steps in
-    let below : c.loop-line.from + length part ≤ length c.args.text.now = reaches (λ b. b == 10) c.args.text.now k _ part t c.loop-line.invariant.from in
-    let fits : Fits w64 (length c.args.text.now) = search rules in
-    Fits-le below fits
-
-pub overflow_add-from : goal.overflow_add-from
-overflow_add-from c =
-    let k = length c.loop-line.yielded in
-    let part = c.in-Some.line.now in
-    let t = YieldsList-turn (YieldsList-from_slice_split {s = c.into_iter-line-iterator.result} _ (λ b. b == 10) {f = c.split-line-items.result.pred} c.args.text.now (search rules) (search rules) (search rules) (λ x b q k. search (rules, tests)))
-    c.loop-line.yielded _ c.loop-line.yielded_by _ _ c.in-Some.line c.in-Some.is c.next.ensures.steps in
-    let below : c.loop-line.from + length part ≤ length c.args.text.now = reaches (λ b. b == 10) c.args.text.now k _ part t c.loop-line.invariant.from in
-    let fits : Fits w64 (length c.args.text.now + 1) = search rules in
-    let more : c.loop-line.from + length part + 1 ≤ length c.args.text.now + 1 = omega (arith, below) in
-    Fits-le more fits
+    subst (λ l. c.loop-line.from + length part ≤ length l) (sym c.as_bytes-in-loop-line.ensures.value)
+    (reaches (λ b. b == 10) c.args.text.now k _ part t c.loop-line.invariant.from)
 
 pub placed_name-requires : goal.placed_name-requires
 placed_name-requires c =
@@ -65,7 +52,7 @@ loop-line-preserved c =
     record {
       next = search rules;
       ends = search rules;
-      from = omega (arith, longer, c.loop-line.invariant.from);
+      from = omega (arith, longer, c.loop-line.invariant.from, c.past-further.ensures);
       others = all_more parts k m part e here (λ l. has_line_name c.args.name.now l ≡ false) c.loop-line.invariant.others other;
     }
 
