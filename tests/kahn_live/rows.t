@@ -92,21 +92,21 @@ An inner channel as the first, an input, and the same one twice; a blank behind 
 Values without their row are left, and those of a run that is stopped short come later.
   $ printf 'A: 1\nB: 10 20\nB 30\nB 40\n' | kahn_live both.kahn --out X,Y --keep-going
   2,20
-  ! both.kahn: input line 3: not a name and a colon: `B`; a colon stands behind the name
+  ! both.kahn: input line 3: not a name and a colon: `30`; a colon stands behind the name
   ! both.kahn: and 1 line more like it
   ! both.kahn: values are left without the others of their row
-  $ printf 'A: 1 2 3\nB: 10 20 30\n\n\n\n\n\n' | kahn_live both.kahn --out X,Y --step 4
+  $ printf 'A: 1 2 3\nB: 10 20 30\n\n\n\n\n\n\n\n' | kahn_live both.kahn --out X,Y --step 4
   2,20
   4,40
   6,60
   ! both.kahn: input line 1: wants more events than --step allows, and goes on with the next line
 No stream of one of them, and no name.
   $ yes 1 | kahn_live both.kahn --in A --out X,Q
-  ! both.kahn: --plain: no such channel: `X,Q`; channels: `A`, `B`, `X`, `Y`, `Z`, and 1 channel more
+  ! both.kahn: --plain: no such channel: `X,Q`; channels: `A`, `B`, `X`, `Y` and `Z`, and 1 channel more
   [6]
   $ yes 1 | kahn_live both.kahn --in A --out X,S
-  ! both.kahn: --plain: no such channel: `X,S`; channels: `A`, `B`, `X`, `Y`, `Z`, and 1 channel more
+  ! both.kahn: --plain: no such channel: `X,S`; channels: `A`, `B`, `X`, `Y` and `Z`, and 1 channel more
   [6]
   $ yes 1 | kahn_live both.kahn --in A --out ,
-  ! both.kahn: --plain: no such channel: `,`; channels: `A`, `B`, `X`, `Y`, `Z`, and 1 channel more
+  ! both.kahn: --plain: no such channel: `,`; channels: `A`, `B`, `X`, `Y` and `Z`, and 1 channel more
   [6]
