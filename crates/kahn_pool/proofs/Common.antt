@@ -14,7 +14,7 @@ pub use Rattle.kahn_crew.proofs.Started.{at_mapped, at_most_all, woken_ready}
 pub use Rattle.kahn_streams.proofs.By_number.{mapped_at}
 pub use Rattle.kahn_crew.specs.declared.{crewing.Crewing.Crewing, closing.CrewFault.CrewFault, closing.CrewFault.TheVariants.NoMemory, closing.CrewFault.TheVariants.NoThread}
 pub use Rattle.kahn_streams.specs.declared.plan.Plan.{Plan}
-pub use Rattle.kahn_crew.specs.inner.Planned.{IsAsked, IsCrew, crew_of}
+pub use Rattle.kahn_crew.specs.inner.Planned.{IsAsConfigured, IsCrew, crew_of}
 pub use Rattle.kahn_crew.specs.inner.Left.{AreAll, AreUntouched, HaveGone, IsLack, IsOver, IsQuietTask, task_events}
 pub use Rattle.kahn_crew.specs.inner.Tasks.{AreReadyTasks, handed_to_task, is_over, task_rows, told_tale, work_of}
 pub use Rattle.kahn_job.proofs.Berthed.{past_none}

@@ -46,8 +46,7 @@ impl<'n> Model for Held<'n> {
     ghost use Rattle.kahn_streams.specs.contracts.tree.Form as form;
     ghost use Rattle.std.specs.Coded.{codes};
     ghost use Rattle.kahn_sequential.specs.HeldRuns.{HeldRun};
-    ghost use Rattle.kahn_pool.specs.inner.Below.{IsAsked, IsCrew};
-    ghost use Rattle.kahn_pool.specs.inner.Holding.{IsHolding, planned, run_of};
+    ghost use Rattle.kahn_pool.specs.inner.Holding.{IsHeldAs, planned, run_of};
 
     ghost Value = { HeldRun };
 
@@ -55,8 +54,7 @@ impl<'n> Model for Held<'n> {
 
     ghost view = { λ h. run_of h.network.now h.input (planned h.crew h.bound) h.idles.items h.verdict };
 
-    ghost invariant = { λ h. IsHolding h.network.now h.code.network.value h.input (planned h.crew h.bound) h.idles.items h.budget h.ends.items h.given.items h.verdict
-        × (IsCrew h.crew × IsAsked h.crew) };
+    ghost invariant = { λ h. IsHeldAs h.network.now h.code.network.value h.input h.crew h.bound h.idles.items h.budget h.ends.items h.given.items h.verdict };
 }
 
 // Copies of what the cell of each job kept.

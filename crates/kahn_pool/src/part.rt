@@ -1,7 +1,7 @@
 //! A part of a held run: idle jobs go on, and come to rest again.
 
 ghost use Rattle.std.specs.Prelude.{◌≡◌, ◌↔◌, ◌≤◌, ◌<◌, [], Err, Ok, length, map, true, vec_capacity, IfOk, IsOk};
-ghost use Rattle.kahn_pool.specs.inner.Below.{NoMemory as Refused, HaveSettled, IsAsked, IsOver, cells_of, network_of, rows_of};
+ghost use Rattle.kahn_pool.specs.inner.Below.{NoMemory as Refused, HaveSettled, IsAsConfigured, IsOver, cells_of, network_of, rows_of};
 ghost use Rattle.kahn_pool.specs.inner.Holding.{AreHeldBy, HasEnded, HasStoppedPart, HaveAllLeft, IsHeldPart, IsRoomFor, cell_for};
 ghost use Rattle.kahn_pool.specs.inner.Rested.{cell_of};
 ghost use Rattle.kahn_streams.specs.declared.answer.Verdict.TheVariants as verdict;
@@ -150,7 +150,7 @@ pub(crate) fn run_part<R: Threads + Wait + Sync, G: Gate + Sync>(
     room: PartRoom,
     gate: &G,
 ) -> Stopped
-    requires asked { IsAsked part.now.crew }
+    requires asked { IsAsConfigured part.now.crew }
     requires part { IsHeldPart part.now idles.items }
     requires room { IsRoomFor (length (network_of part.now.network.now).instances) room }
     ensures { HasStoppedPart part.now idles.items result }

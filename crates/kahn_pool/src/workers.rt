@@ -1,9 +1,9 @@
 //! A run by several workers: a held run in one part.
 
 ghost use Rattle.std.specs.Prelude.{◌≡◌, ◌<◌, ◌≤◌, ◌^◌, [], length, vec_capacity, MatchResult};
-ghost use Rattle.kahn_pool.specs.inner.Below.{IsAsked, IsCrew, IsLack, IsRight, cells_of, inputs_of, network_of};
+ghost use Rattle.kahn_pool.specs.inner.Below.{IsAsConfigured, IsCrew, IsRight, cells_of, inputs_of, network_of};
 ghost use Rattle.kahn_sequential.specs.HeldRuns.{IsWant};
-ghost use Rattle.kahn_pool.specs.inner.Holding.{AreHeldBy, HasEnded, IsHandRoomFor, IsHeldPart, IsRoomFor};
+ghost use Rattle.kahn_pool.specs.inner.Holding.{AreHeldBy, IsWholeAnswer, HasEnded, IsHandRoomFor, IsHeldPart, IsRoomFor};
 ghost use Rattle.kahn_sequential.specs.inner.Workbench.{AreKeptOf, AreStreamsReady, IsBenchOf, IsWide};
 
 use crate::handover::{hand_over, taken_back};
@@ -40,7 +40,7 @@ fn answered(
     requires held { AreHeldBy part.now stopped.idles.items stopped.budget }
     requires ended { HasEnded part.now.network.now part.now.input.now part.now.crew.watch part.now.crew.workers part.now.bound stopped }
     requires ready { AreStreamsReady part.now.network.now part.now.input.now part.now.crew.watch streams.items kept.items (vec_capacity kept) }
-    ensures { MatchResult result (IsRight (network_of part.now.network.now) (inputs_of part.now.input.now) part.now.bound part.now.crew.watch) (IsLack part.now.crew.workers) }
+    ensures { IsWholeAnswer part.now result }
 {
     match stopped.outcome {
         Ok(verdict) => {
@@ -69,11 +69,11 @@ fn run_whole<R: Threads + Wait + Sync, G: Gate + Sync>(
     kept: Vec<Kept>,
     gate: &G,
 ) -> Result<Answer, CrewFault>
-    requires asked { IsAsked part.now.crew }
+    requires asked { IsAsConfigured part.now.crew }
     requires part { IsHeldPart part.now idles.items }
     requires room { IsRoomFor (length (network_of part.now.network.now).instances) room }
     requires ready { AreStreamsReady part.now.network.now part.now.input.now part.now.crew.watch streams.items kept.items (vec_capacity kept) }
-    ensures { MatchResult result (IsRight (network_of part.now.network.now) (inputs_of part.now.input.now) part.now.bound part.now.crew.watch) (IsLack part.now.crew.workers) }
+    ensures { IsWholeAnswer part.now result }
 {
     let stopped = run_part(rt, alloc, part, idles, room, gate);
     answered(part, stopped, streams, kept)
@@ -90,7 +90,7 @@ pub(crate) fn run_workers<R: Threads + Wait + Sync, G: Gate + Sync>(
     bound: u64,
     gate: &G,
 ) -> Result<Answer, RunFault>
-    requires asked { IsAsked crew }
+    requires asked { IsAsConfigured crew }
     requires crew { IsCrew crew × (bound < 2 ^ 48) }
     ensures { MatchResult result (IsRight (network_of network.now) (inputs_of input.now) bound crew.watch) (IsWant crew.workers) }
 {

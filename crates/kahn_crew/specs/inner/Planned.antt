@@ -8,8 +8,8 @@ abbrev pub crew_of : Config → Option ℕ → Crewing
 crew_of config watch = record { watch = watch; workers = config.workers; quantum = config.quantum; come = config.workers; turn = config.quantum }
 
 -- as many come as were asked for, with turns of the quantum
-abbrev pub IsAsked : Crewing → Type 0
-IsAsked c = (c.come ≡ c.workers) × (c.turn ≡ c.quantum)
+abbrev pub IsAsConfigured : Crewing → Type 0
+IsAsConfigured c = (c.come ≡ c.workers) × (c.turn ≡ c.quantum)
 
 -- some come, and no more than may
 abbrev pub IsCrew : Crewing → Type 0

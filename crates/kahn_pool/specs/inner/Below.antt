@@ -1,9 +1,9 @@
 -- Inner. The words of the crates below that clauses and definitions of this crate use, passed on from one place.
 pub use Rattle.kahn_code.specs.{Progress.Paused, Standing.count}
 pub use Rattle.kahn_code.specs.Progress.{Told, told_view}
-pub use Rattle.kahn_crew.specs.{declared.closing.Left.Left, declared.closing.CrewFault.TheVariants.NoMemory, declared.crewing.Crewing.Crewing, inner.Tasks.handed_to_task}
+pub use Rattle.kahn_crew.specs.{declared.closing.Left.Left, declared.closing.CrewFault.CrewFault, declared.closing.CrewFault.TheVariants.NoMemory, declared.crewing.Crewing.Crewing, inner.Tasks.handed_to_task}
 pub use Rattle.kahn_streams.specs.declared.plan.Plan.{Plan}
-pub use Rattle.kahn_crew.specs.inner.Planned.{IsAsked, IsCrew, plan_of_crew}
+pub use Rattle.kahn_crew.specs.inner.Planned.{IsAsConfigured, IsCrew, plan_of_crew}
 pub use Rattle.kahn_crew.specs.inner.Left.{AreAll, HaveGone, IsLack, IsOver}
 pub use Rattle.kahn_job.specs.{declared.standing.Standing.Standing, inner.Berths.IsWithinInput, inner.Berths.end_at, inner.Ends.IsReady, inner.Settling.AreResting, inner.Settling.HaveStood, inner.Works.IsJob, inner.Works.Work}
 pub use Rattle.kahn_job.specs.inner.Idles.{AreIdle, AreJobsAt, HaveSettled, cells_of, rows_of}
@@ -13,4 +13,4 @@ pub use Rattle.kahn_streams.specs.Inputs.{Lists, inputs_of}
 pub use Rattle.kahn_streams.specs.{Meaning.Store, Script.Cut, Script.Dry, Tokens.token_value}
 pub use Rattle.kahn_streams.specs.Network.{Reads, actual_at, instance_at, network_of}
 pub use Rattle.kahn_streams.specs.Solution.{AreInputsExtended}
-pub use Rattle.kahn_streams.specs.declared.{answer.End.End, answer.Outcome.Outcome, answer.Verdict.Verdict, fault.RunFault.TheVariants.UnknownWatch, token.Token.Token, tree.Program.Program}
+pub use Rattle.kahn_streams.specs.declared.{answer.Answer.Answer, answer.End.End, answer.Outcome.Outcome, answer.Verdict.Verdict, fault.RunFault.TheVariants.UnknownWatch, token.Token.Token, tree.Program.Program}

@@ -1,6 +1,6 @@
 -- Inner. The jobs of a held run.
-use Rattle.std.specs.Prelude.{◌≡◌, ℕ, ◌+◌, ◌<◌, ◌≤◌, ◌^◌, List, [], length, map, sum_by, Option, Some, Err, MatchResult, slice_get, vec_capacity}
-use Rattle.kahn_pool.specs.inner.Below.{AreIdle, AreJobsAt, Crewing, End, HaveGone, IsCrew, IsLack, Left, Lists, NoMemory, Plan, Program, Tasked, Token, Told, Verdict, Work, cells_of, inputs_of, network_of, told_view}
+use Rattle.std.specs.Prelude.{◌≡◌, ℕ, ◌+◌, ◌<◌, ◌≤◌, ◌^◌, List, [], length, map, sum_by, Option, Some, Err, Result, MatchResult, slice_get, vec_capacity}
+use Rattle.kahn_pool.specs.inner.Below.{Answer, AreIdle, AreJobsAt, CrewFault, Crewing, End, HaveGone, IsAsConfigured, IsCrew, IsLack, IsRight, Left, Lists, NoMemory, Plan, Program, Tasked, Token, Told, Verdict, Work, cells_of, inputs_of, network_of, told_view}
 use Rattle.kahn_sequential.specs.HeldRuns.{HeldRun, seen_events, seen_of}
 use Rattle.kahn_pool.specs.{declared.part.PartRoom.PartRoom, declared.part.Stopped.Stopped, declared.plan.RunPart.RunPart, declared.workers.HandRoom.HandRoom}
 use Rattle.kahn_sequential.specs.{inner.Bench.RunState, inner.Parts.AreEnded, inner.Parts.HaveRisen, inner.Parts.run_with, inner.Streams.AreAllGiven, inner.Streams.AreGiven, inner.Workbench.AllStandBy, inner.Workbench.Table}
@@ -42,6 +42,11 @@ pub record IsHolding (t compiled : Program) (lists : Lists) (plan : Plan) (ws : 
   pub begun : AreGiven (network_of t) (inputs_of lists) plan.watch given
   pub all : (v : Verdict) → verdict ≡ Some v → AreAllGiven (network_of t) (inputs_of lists) plan.watch given
 
+-- and they are those of the configuration
+abbrev pub IsHeldAs : Program → Program → Lists → Crewing → ℕ → List Work → ℕ → List End → List Token → Option Verdict → Type 0
+IsHeldAs t compiled lists crew bound ws budget ends given verdict =
+    IsHolding t compiled lists (planned crew bound) ws budget ends given verdict × (IsCrew crew × IsAsConfigured crew)
+
 -- the jobs of a part at rest, with so much left of the bound of all
 abbrev pub AreHeldBy : RunPart → List Work → ℕ → Type 0
 AreHeldBy part ws budget = AreHeld part.network.now part.input.now part.crew.watch part.bound ws budget
@@ -74,6 +79,11 @@ pub record HasStopped (t : Program) (lists : Lists) (watch : Option ℕ) (worker
 -- so of this part
 abbrev pub HasStoppedPart : RunPart → List Work → Stopped → Type 0
 HasStoppedPart part old r = HasStopped part.network.now part.input.now part.crew.watch part.crew.workers part.bound old part.left r
+
+-- the right answer of a part that is a whole run, or why there is none
+abbrev pub IsWholeAnswer : RunPart → Result Answer CrewFault → Type 0
+IsWholeAnswer part r =
+    MatchResult r (IsRight (network_of part.network.now) (inputs_of part.input.now) part.bound part.crew.watch) (IsLack part.crew.workers)
 
 -- there is room for so many tasks, jobs and ends
 pub record IsRoomFor (n : ℕ) (r : PartRoom) : Type 0 where

@@ -1,5 +1,5 @@
 use Rattle.std.proofs.Common.{arith, rules, refl, sym, ap, ◌∙◌, subst}
-use Rattle.kahn_pool.proofs.Common.{Crewing, IsAsked, IsCrew, network_of, inputs_of, cells_of}
+use Rattle.kahn_pool.proofs.Common.{Crewing, IsAsConfigured, IsCrew, network_of, inputs_of, cells_of}
 use Rattle.kahn_streams.specs.Answers.{IsWatched}
 use Rattle.kahn_sequential.proofs.Giving.{begun_none}
 use Rattle.kahn_sequential.proofs.Righted.{none_done}
@@ -19,7 +19,7 @@ invariant_of-result c =
         begun = λ channel e. begun_none (network_of c.args.network.now) I channel (I channel) c.new-2.result.items (search rules);
         all = λ v e. absurd cc;
       },
-      subst (λ (k : Crewing). IsCrew k × IsAsked k) (sym c.of-crew.ensures) ((a.0, omega arith, a.1, a.2), (refl, refl)),
+      subst (λ (k : Crewing). IsCrew k × IsAsConfigured k) (sym c.of-crew.ensures) ((a.0, omega arith, a.1, a.2), (refl, refl)),
     )
 
 pub returns : goal.returns
