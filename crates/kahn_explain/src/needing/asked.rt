@@ -7,14 +7,14 @@ ghost use Rattle.kahn_streams.specs.Network.{Given, network_of};
 ghost use Rattle.kahn_streams.specs.Solution.{source};
 ghost use Rattle.kahn_streams.specs.declared.value.Line.{Line};
 ghost use Rattle.kahn_needs.specs.Finding.{IsNetworkLine};
-ghost use Rattle.kahn_explain.specs.inner.Replied.{IsGivenAs};
+ghost use Rattle.kahn_explain.specs.inner.Told.{IsGivenAs};
 ghost use Rattle.kahn_explain.specs.Needing.{IsWordFor, IsLineNamed, IsPlaceWord, IsQuestion, IsUnasked};
 
 use kahn_streams::{Line, Network, channel_named};
 
 /// A line of a network, and a place of it, counted from 0, or all of them.
 #[derive(Clone, Copy)]
-pub struct Asked {
+pub struct Question {
     pub line: Line,
     pub place: Option<u64>,
 }
@@ -109,7 +109,7 @@ fn is_given(network: &Network, line: Line) -> bool
 
 /// What a word asks for that an instance sends, or why not.
 #[tactic(auto, using(crate::proofs::Worded::line_listed))]
-pub(crate) fn sought(network: &Network, word: &str) -> Result<Asked, AskFault>
+pub(crate) fn sought(network: &Network, word: &str) -> Result<Question, AskFault>
     ensures sought { MatchResult result (IsQuestion network.now word.now) (IsUnasked network.now word.now) }
     ensures listed { IfOk result (λ x. IsNetworkLine (network_of network.now) x.line) }
     ensures small { IfOk result (λ x. IfSome x.place (λ k. k + 1 < 2 ^ 64)) }
@@ -122,7 +122,7 @@ pub(crate) fn sought(network: &Network, word: &str) -> Result<Asked, AskFault>
         return Err(AskFault::GivenLine);
     }
     match place_given(place) {
-        Some(place) => Ok(Asked { line, place }),
+        Some(place) => Ok(Question { line, place }),
         None => Err(AskFault::NoPlace),
     }
 }
