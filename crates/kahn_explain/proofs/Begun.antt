@@ -7,7 +7,6 @@ use Rattle.kahn_streams.specs.Solution.{Inputs, IsPrefix, IsWhole, iterate}
 use Rattle.kahn_streams.specs.Answers.{HasStream, IsRight, values_of}
 use Rattle.kahn_streams.specs.declared.answer.Answer.{Answer}
 use Rattle.kahn_streams.specs.declared.answer.Stream.{Stream}
-use Rattle.kahn_streams.specs.declared.answer.Verdict.TheVariants.{Finished}
 use Rattle.kahn_streams.specs.declared.value.Line.TheVariants.{Channel}
 use Rattle.kahn_sequential.specs.Recordings.{IsHistoryIn}
 use Rattle.kahn_explain.specs.Histories.{IsHistory}
