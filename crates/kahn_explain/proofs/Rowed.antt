@@ -1,8 +1,7 @@
 -- Rows of tables.
-use Rattle.std.proofs.Common.{◌≡◌, ◌∙◌, ℕ, suc, ◌+◌, ◌++◌, IfSome, List, Option, None, Some, ap, append_assoc, sym, subst, add-one}
+use Rattle.std.proofs.Common.{◌≡◌, ◌∙◌, ℕ, suc, ◌+◌, ◌++◌, List, ap, append_assoc, sym, subst, add-one}
 use Rattle.kahn_streams.specs.Inputs.{Lists, inputs_of}
-use Rattle.kahn_streams.specs.Network.{IsOnly, IsWithin, Network, network_of}
-use Rattle.kahn_streams.specs.declared.sides.Side.{Side}
+use Rattle.kahn_streams.specs.Network.{network_of}
 use Rattle.kahn_streams.specs.declared.tree.Program.{Program}
 use Rattle.kahn_streams.specs.declared.value.Line.{Line}
 use Rattle.kahn_needs.specs.Finding.{AreNeedsFound, IsSeeking, Seeking}
@@ -39,8 +38,3 @@ appended P n piece first old new step before is =
 -- two pieces, one behind the other
 pub grown : (old mid new a b : List ℕ) → mid ≡ old ++ a → new ≡ mid ++ b → new ≡ old ++ (a ++ b)
 grown old mid new a b e g = g ∙ ap (λ l. l ++ b) e ∙ append_assoc old a b
-
--- the side of a channel is one of the network
-pub side_within : (N : Network) (P : Side → Type 0) (o : Option Side) → ((s : Side) → P s → IsWithin N s) → IsOnly P o → IfSome o (IsWithin N)
-side_within N P None each only = tt
-side_within N P (Some s) each only = each s only.0

@@ -1,6 +1,6 @@
 //! What is told of what a word asks for, and how the search for it ended.
 
-ghost use Rattle.std.specs.Prelude.{◌≡◌, ◌<◌, ◌+◌, ◌^◌, IfOk, IfSome, MatchResult};
+ghost use Rattle.std.specs.Prelude.{◌≡◌, IfOk, MatchResult};
 ghost use Rattle.kahn_streams.specs.Inputs.{inputs_of};
 ghost use Rattle.kahn_streams.specs.Network.{Given, network_of};
 ghost use Rattle.kahn_streams.specs.Solution.{source};
@@ -49,7 +49,6 @@ fn place_told(
 ) -> Result<(String, Verdict), WorkFault>
     requires line { IsNetworkLine (network_of network.now) line }
     requires written { source (network_of network.now) line ≡ Given → ⊥ }
-    requires place { place + 1 < 2 ^ 64 }
     ensures { MatchResult result (IsReplyIn (IsPlaceTold network.now text.now config line place)) (IsUntraced network.now text.now config) }
 {
     let bound = config.bound;
@@ -94,7 +93,6 @@ pub(crate) fn replied(
 ) -> Result<(String, Verdict), WorkFault>
     requires line { IsNetworkLine (network_of network.now) question.line }
     requires written { source (network_of network.now) question.line ≡ Given → ⊥ }
-    requires place { IfSome question.place (λ k. k + 1 < 2 ^ 64) }
     ensures { MatchResult result (IsReplyIn (IsReply network.now text.now config question.line question.place)) (IsUntraced network.now text.now config) }
 {
     match question.place {

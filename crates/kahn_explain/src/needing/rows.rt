@@ -1,6 +1,6 @@
 //! The table of what the values of a line need: a row for each place.
 
-ghost use Rattle.std.specs.Prelude.{◌≡◌, ◌<◌, ◌++◌, IfOk, string_bytes};
+ghost use Rattle.std.specs.Prelude.{◌≡◌, ◌++◌, IfOk, string_bytes};
 ghost use Rattle.kahn_streams.specs.Network.{Given, network_of};
 ghost use Rattle.kahn_streams.specs.Solution.{source};
 ghost use Rattle.kahn_needs.specs.Finding.{IsNetworkLine};
@@ -42,11 +42,10 @@ fn needs_head(alloc: Global, network: &Network) -> Result<String, AllocError>
 
 /// Adds the row of a place.
 fn add_row(text: &mut String, place: u64, needs: &Needs) -> Result<(), AllocError>
-    requires { place < u64.MAX }
     ensures { IfOk result (λ _. string_bytes text.new ≡ string_bytes text.old ++ needs_row place needs.now) }
 {
     let mut digits = Buffer::new();
-    text.push_str(digits.format(place + 1))?;
+    text.push_str(digits.format(place as u128 + 1))?;
     text.push_str(",")?;
     add_value(text, needs.value)?;
     add_numbers(text, needs.values.as_slice())?;

@@ -1,10 +1,9 @@
 //! What is told of the needs of a value, in words.
 
-ghost use Rattle.std.specs.Prelude.{◌≡◌, ◌<◌, ◌+◌, ◌++◌, ◌^◌, IfOk, string_bytes};
+ghost use Rattle.std.specs.Prelude.{◌≡◌, ◌++◌, IfOk, string_bytes};
 ghost use Rattle.kahn_explain.specs.Needing.{AreAllCounts, IsFoundTold, whole_count, needed_count, found_end, name_of_line, of_all, place_name};
 ghost use Rattle.kahn_explain.specs.inner.Told.{IsAdded, IsPutBehind};
 ghost use Rattle.kahn_needs.specs.declared.needs.Found.TheVariants.{Needs as FoundNeeds};
-ghost use Rattle.kahn_texts.specs.Formats.{IsLine};
 
 use crate::tracing::{add_name, add_value};
 use itoa::Buffer;
@@ -12,29 +11,25 @@ use kahn_marks::add;
 use kahn_needs::{Found, Needs};
 use kahn_pool::{Recorded, Verdict};
 use kahn_streams::{Line, Network};
-use kahn_texts::channel_name;
 use std::alloc::{AllocError, Global};
 
 /// Adds the name of a line.
 fn add_line(text: &mut String, network: &Network, line: Line) -> Result<(), AllocError>
-    requires { IsLine network.now line }
     ensures { IfOk result (λ _. string_bytes text.new ≡ string_bytes text.old ++ name_of_line network.now line) }
 {
     match line {
-        Line::Channel(channel) => text.push_str(channel_name(network, channel)),
+        Line::Channel(channel) => add_name(text, network, true, channel),
         Line::Print(instance) => add_name(text, network, false, instance),
     }
 }
 
 /// Adds the name of a place of a line.
 fn add_place(text: &mut String, network: &Network, line: Line, place: u64) -> Result<(), AllocError>
-    requires line { IsLine network.now line }
-    requires place { place + 1 < 2 ^ 64 }
     ensures { IfOk result (λ _. string_bytes text.new ≡ string_bytes text.old ++ place_name network.now line place) }
 {
     add_line(text, network, line)?;
     let mut digits = Buffer::new();
-    add(text, &[":", digits.format(place + 1)])
+    add(text, &[":", digits.format(place as u128 + 1)])
 }
 
 /// Adds of how many there are in the whole run, where it has finished.
@@ -76,7 +71,6 @@ fn counted(
     number: usize,
     count: u64,
 ) -> Result<String, AllocError>
-    requires { number < usize.MAX }
     ensures { IfOk result (λ text. string_bytes text ≡ needed_count network.now run.now channels number count) }
 {
     let mut text = String::new(alloc);
@@ -195,8 +189,6 @@ pub(crate) fn found_text(
     place: u64,
     found: &Found,
 ) -> Result<String, AllocError>
-    requires line { IsLine network.now line }
-    requires place { place + 1 < 2 ^ 64 }
     ensures { IfOk result (λ text. IsAdded (IsFoundTold network.now run.now found.now) (place_name network.now line place) (string_bytes text)) }
 {
     let mut text = String::new(alloc);

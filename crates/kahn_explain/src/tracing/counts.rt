@@ -1,7 +1,7 @@
 //! The text of a table of counts: a row for each channel.
 
-ghost use Rattle.std.specs.Prelude.{◌≡◌, ◌<◌, ◌++◌, IfOk, IfSome, length, string_bytes};
-ghost use Rattle.kahn_streams.specs.Network.{IsWithin, network_of};
+ghost use Rattle.std.specs.Prelude.{◌≡◌, ◌<◌, ◌++◌, IfOk, length, string_bytes};
+ghost use Rattle.kahn_streams.specs.Network.{network_of};
 ghost use Rattle.kahn_explain.specs.Table.{AreCountRows, IsCountRow, side_name};
 ghost use Rattle.kahn_explain.specs.inner.Told.{IsAdded};
 
@@ -13,10 +13,8 @@ use std::alloc::{AllocError, Global};
 
 /// Adds the number and the name of the process on a side of a channel; nothing where none is there.
 fn add_side(text: &mut String, network: &Network, side: Option<Side>) -> Result<(), AllocError>
-    requires { IfSome side (IsWithin (network_of network.now)) }
     ensures { IfOk result (λ _. string_bytes text.new ≡ string_bytes text.old ++ side_name network.now side) }
 {
-    let _instances = network.instances();
     match side {
         Some(side) => add_name(text, network, false, side.instance),
         None => Ok(()),

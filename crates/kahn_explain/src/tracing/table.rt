@@ -1,9 +1,8 @@
 //! The text of a table of histories: a column for each line, and a row for each place.
 
-ghost use Rattle.std.specs.Prelude.{◌≡◌, ◌<◌, ◌++◌, All, IfOk, codes, flat_map, length, string_bytes};
-ghost use Rattle.kahn_texts.specs.Formats.{IsLine};
+ghost use Rattle.std.specs.Prelude.{◌≡◌, ◌++◌, IfOk, string_bytes};
 ghost use Rattle.kahn_streams.specs.Written.{value_text};
-ghost use Rattle.kahn_explain.specs.Table.{cell, cell_text, cells, cells_text, head_row, head_text, heads_text, longest, name_at, row_text, place_rows, trace_text};
+ghost use Rattle.kahn_explain.specs.Table.{cell, cell_text, cells, cells_text, head_text, heads_text, longest, name_at, row_text, place_rows, trace_text};
 
 use crate::tracing::column::Column;
 use itoa::Buffer;
@@ -37,7 +36,6 @@ pub(crate) fn add_name(
     channels: bool,
     number: usize,
 ) -> Result<(), AllocError>
-    requires { number < usize.MAX }
     ensures { IfOk result (λ _. string_bytes text.new ≡ string_bytes text.old ++ name_at network.now channels number) }
 {
     if channels {
@@ -47,7 +45,7 @@ pub(crate) fn add_name(
     add(
         text,
         &[
-            digits.format(number + 1),
+            digits.format(number as u128 + 1),
             " ",
             process_name(network, number),
         ],
@@ -56,13 +54,12 @@ pub(crate) fn add_name(
 
 /// Adds what heads the column of a line.
 fn add_head(text: &mut String, network: &Network, line: Line) -> Result<(), AllocError>
-    requires { IsLine network.now line }
     ensures { IfOk result (λ _. string_bytes text.new ≡ string_bytes text.old ++ head_text network.now line) }
 {
     match line {
         Line::Channel(channel) => {
             text.push_str(",")?;
-            text.push_str(channel_name(network, channel))
+            add_name(text, network, true, channel)
         }
         Line::Print(instance) => {
             text.push_str(",print ")?;
@@ -73,7 +70,6 @@ fn add_head(text: &mut String, network: &Network, line: Line) -> Result<(), Allo
 
 /// Adds what heads the columns.
 fn add_heads(text: &mut String, network: &Network, columns: &[Column]) -> Result<(), AllocError>
-    requires { All (λ x. IsLine network.now x.line) columns.now }
     ensures { IfOk result (λ _. string_bytes text.new ≡ string_bytes text.old ++ heads_text network.now columns.now) }
 {
     for column in columns {
@@ -117,11 +113,10 @@ fn add_cells(text: &mut String, columns: &[Column], place: usize) -> Result<(), 
 
 /// Adds the row of a place, which is counted from 1.
 fn add_row(text: &mut String, columns: &[Column], place: usize) -> Result<(), AllocError>
-    requires { place < usize.MAX }
     ensures { IfOk result (λ _. string_bytes text.new ≡ string_bytes text.old ++ row_text columns.now place) }
 {
     let mut buffer = Buffer::new();
-    text.push_str(buffer.format(place + 1))?;
+    text.push_str(buffer.format(place as u128 + 1))?;
     add_cells(text, columns, place)?;
     text.push_str("\n")
 }
@@ -155,7 +150,6 @@ pub fn trace_text(
     network: &Network,
     columns: &[Column],
 ) -> Result<String, AllocError>
-    requires { All (λ x. IsLine network.now x.line) columns.now }
     ensures { IfOk result (λ text. string_bytes text ≡ trace_text network.now columns.now) }
 {
     let mut text = String::from_str(alloc, "place")?;

@@ -1,20 +1,11 @@
-use Rattle.std.proofs.Common.{◌∙◌, All, ap, string_bytes, subst, sym}
-use Rattle.kahn_streams.specs.Inputs.{inputs_of}
-use Rattle.kahn_texts.specs.Formats.{IsLine}
+use Rattle.std.proofs.Common.{◌∙◌, ap, string_bytes, subst, sym}
 use Rattle.kahn_explain.specs.Histories.{IsRunTable}
 use Rattle.kahn_explain.specs.Table.{trace_text}
 use Rattle.kahn_explain.proofs.Kept_columns.{how_many_counts}
-use Rattle.kahn_explain.proofs.Tables.{all_lines}
 use Rattle.kahn_explain.proofs.replying.run_table.Goals as goal
 
 pub counts_text-requires : goal.counts_text-requires
 counts_text-requires c = how_many_counts c.args.network.now c.args.run.now c.requires
-
-pub trace_text-requires : goal.trace_text-requires
-trace_text-requires c =
-    let (lists, config, ran) = c.requires in
-    subst (All (λ y. IsLine c.args.network.now y.line)) (sym c.deref.ensures.value)
-    (all_lines c.args.network.now (inputs_of lists) c.args.run.now.answer.verdict c.in_ok-columns.columns.items (c.in_ok-columns.ensures lists config ran))
 
 pub returns-then-counts : goal.returns-then-counts
 returns-then-counts c lists config ran =

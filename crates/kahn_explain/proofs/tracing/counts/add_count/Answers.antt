@@ -1,19 +1,10 @@
 use Rattle.std.specs.Prelude.{codes}
 use Rattle.std.proofs.Common.{◌++◌, ◌-◌, [], ◌∷◌, refl, string_bytes}
-use Rattle.kahn_streams.specs.Network.{IsReader, IsWriter, network_of}
 use Rattle.kahn_streams.specs.Written.{line_feed}
 use Rattle.kahn_texts.specs.Formats.{channel_name}
 use Rattle.kahn_explain.specs.Table.{cells, side_name}
-use Rattle.kahn_explain.proofs.Rowed.{grown, side_within}
+use Rattle.kahn_explain.proofs.Rowed.{grown}
 use Rattle.kahn_explain.proofs.tracing.counts.add_count.Goals as goal
-
-pub add_side-requires : goal.add_side-requires
-add_side-requires c =
-    side_within (network_of c.args.network.now) (IsWriter (network_of c.args.network.now) c.args.channel) c.writer-writer.result (λ s h. h.0) c.writer-writer.ensures.only
-
-pub add_side-requires-2 : goal.add_side-requires-2
-add_side-requires-2 c =
-    side_within (network_of c.args.network.now) (IsReader (network_of c.args.network.now) c.args.channel) c.reader-reader.result (λ s h. h.0) c.reader-reader.ensures.only
 
 pub returns : goal.returns
 returns c =
