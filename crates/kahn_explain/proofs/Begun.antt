@@ -7,8 +7,6 @@ use Rattle.kahn_streams.specs.Solution.{Inputs, IsPrefix, IsWhole, iterate}
 use Rattle.kahn_streams.specs.Answers.{HasStream, IsRight, values_of}
 use Rattle.kahn_streams.specs.declared.answer.Answer.{Answer}
 use Rattle.kahn_streams.specs.declared.answer.Stream.{Stream}
-use Rattle.kahn_streams.specs.declared.answer.Verdict.{Verdict}
-use Rattle.kahn_streams.specs.declared.answer.Verdict.TheVariants.{Finished}
 use Rattle.kahn_streams.specs.declared.value.Line.TheVariants.{Channel}
 use Rattle.kahn_sequential.specs.Recordings.{IsHistoryIn}
 use Rattle.kahn_explain.specs.Histories.{IsHistory}
@@ -22,11 +20,11 @@ begun N I c d vs ws line values h =
 whole : (N : Network) (I : Inputs) (c d : Line) (vs ws : List Value) → c ≡ d → vs ≡ ws → IsWhole N I d ws → IsWhole N I c vs
 whole N I c d vs ws line values h = subst (λ e. IsWhole N I e vs) (sym line) (subst (IsWhole N I d) (sym values) h)
 
-pub history : (N : Network) (I : Inputs) (bound : ℕ) (watch : Option ℕ) (a : Answer) (v : Verdict) (s : Stream) (x : Column) → IsRight N I bound watch a
-    → (v ≡ Finished → a.verdict ≡ Finished) → HasStream a s → HasValuesOf s x → IsHistory N I v x
-history N I bound watch a v s x right done has is = record {
+pub history : (N : Network) (I : Inputs) (bound : ℕ) (watch : Option ℕ) (a : Answer) (s : Stream) (x : Column) → IsRight N I bound watch a → HasStream a s → HasValuesOf s x
+    → IsHistory N I a.verdict x
+history N I bound watch a s x right has is = record {
   begins = begun N I x.line s.line x.values.items (right.run.tapes s.line) is.line (is.values ∙ right.values s has) (right.run.others s.line);
-  whole = λ e. whole N I x.line s.line x.values.items (values_of s) is.line is.values (right.whole (done e) s has);
+  whole = λ e. whole N I x.line s.line x.values.items (values_of s) is.line is.values (right.whole e s has);
 }
 
 -- and of a stream that was kept beside the answer

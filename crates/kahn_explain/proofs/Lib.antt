@@ -1,9 +1,8 @@
 mod Begun
 mod Cells
-mod Tables
-mod Parts
-mod Replies
-mod Rowed
-mod Traced_texts
-mod Worded
 mod Kept_columns
+mod Parts
+mod Rowed
+mod Sheets
+mod Tables
+mod Worded

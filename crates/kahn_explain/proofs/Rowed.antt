@@ -1,5 +1,5 @@
--- One row more of what the values of a line need.
-use Rattle.std.proofs.Common.{◌≡◌, ◌∙◌, ℕ, suc, ◌+◌, ◌++◌, Bool, true, false, List, ap, append_assoc, sym, subst, add-one}
+-- Rows of tables.
+use Rattle.std.proofs.Common.{◌≡◌, ◌∙◌, ℕ, suc, ◌+◌, ◌++◌, List, ap, append_assoc, sym, subst, add-one}
 use Rattle.kahn_streams.specs.Inputs.{Lists, inputs_of}
 use Rattle.kahn_streams.specs.Network.{network_of}
 use Rattle.kahn_streams.specs.declared.tree.Program.{Program}
@@ -9,34 +9,21 @@ use Rattle.kahn_needs.specs.declared.needs.Found.{Found}
 use Rattle.kahn_needs.specs.declared.needs.Found.TheVariants as found
 use Rattle.kahn_needs.specs.declared.needs.Needs.{Needs}
 use Rattle.kahn_explain.specs.Needing.{AreRows, IsNeedsTable, IsNone, needs_row}
-use Rattle.kahn_explain.specs.inner.Replied.{IsRowAdded}
 
 -- what was found for the same network, input and line
 pub found_on : (t s : Program) (i j : Lists) (c d : Line) (n : ℕ) (f : Found) → s ≡ t → j ≡ i → d ≡ c → AreNeedsFound (network_of s) (inputs_of j) d n f
     → AreNeedsFound (network_of t) (inputs_of i) c n f
 found_on t s i j c d n f e g h is = subst (λ (k : Program × Lists × Line). AreNeedsFound (network_of k.0) (inputs_of k.1) k.2 n f) (λ x. (e x, g x, h x)) is
 
-pub rows_more : (t s : Program) (i j : Lists) (c d : Line) (n : ℕ) (f : Found) (before after : List ℕ) (more : Bool) → s ≡ t → j ≡ i → d ≡ c → AreRows t (inputs_of i) c n before
-    → AreNeedsFound (network_of s) (inputs_of j) d n f → IsRowAdded n f before after more → more ≡ true → AreRows t (inputs_of i) c (n + 1) after
-rows_more t s i j c d n (found.Needs x) before after more e g h rows is (yes_more, added) there =
+pub rows_more : (t s : Program) (i j : Lists) (c d : Line) (n : ℕ) (x : Needs) (before after : List ℕ) → s ≡ t → j ≡ i → d ≡ c → AreRows t (inputs_of i) c n before
+    → AreNeedsFound (network_of s) (inputs_of j) d n (found.Needs x) → after ≡ before ++ needs_row n x → AreRows t (inputs_of i) c (n + 1) after
+rows_more t s i j c d n x before after e g h rows is added =
     subst (λ m. AreRows t (inputs_of i) c m after) (sym (add-one n)) (before, x, rows, found_on t s i j c d n (found.Needs x) e g h is, added)
-rows_more t s i j c d n found.Never before after more e g h rows is (no_more, same) there = let f : false ≡ true = sym no_more ∙ there in absurd cc
-rows_more t s i j c d n found.Ring before after more e g h rows is (no_more, same) there = let f : false ≡ true = sym no_more ∙ there in absurd cc
-rows_more t s i j c d n found.Bound before after more e g h rows is (no_more, same) there = let f : false ≡ true = sym no_more ∙ there in absurd cc
-
--- and none, where there is no value
-pub no_row : (n : ℕ) (f : Found) (before after : List ℕ) (more : Bool) → IsRowAdded n f before after more → more ≡ false → IsNone f × (after ≡ before)
-no_row n (found.Needs x) before after more (yes_more, added) gone = let f : true ≡ false = sym yes_more ∙ gone in absurd cc
-no_row n found.Never before after more (no_more, same) gone = (tt, same)
-no_row n found.Ring before after more (no_more, same) gone = (tt, same)
-no_row n found.Bound before after more (no_more, same) gone = (tt, same)
 
 -- the whole table
-pub table_is : (t s : Program) (i j : Lists) (c d : Line) (n : ℕ) (f : Found) (before after : List ℕ) (more : Bool) → s ≡ t → j ≡ i → d ≡ c → AreRows t (inputs_of i) c n before
-    → AreNeedsFound (network_of s) (inputs_of j) d n f → IsRowAdded n f before after more → more ≡ false → IsNeedsTable t i c after f
-table_is t s i j c d n f before after more e g h rows is added gone =
-    let none = no_row n f before after more added gone in
-    (n, subst (AreRows t (inputs_of i) c n) (sym none.1) rows, found_on t s i j c d n f e g h is, none.0)
+pub table_is : (t s : Program) (i j : Lists) (c d : Line) (n : ℕ) (f : Found) (text : List ℕ) → s ≡ t → j ≡ i → d ≡ c → AreRows t (inputs_of i) c n text
+    → AreNeedsFound (network_of s) (inputs_of j) d n f → IsNone f → IsNeedsTable t i c text f
+table_is t s i j c d n f text e g h rows is none = (n, rows, found_on t s i j c d n f e g h is, none)
 
 -- what holds of a search holds of what it was begun with
 pub table_for : (t : Program) (i : Lists) (c : Line) (s : Seeking) (text : List ℕ) (f : Found) → IsSeeking t i c 0 s → IsNeedsTable s.network s.input s.line text f
@@ -47,3 +34,7 @@ table_for t i c s text f (e, g, h, z) is = subst (λ (k : Program × Lists × Li
 pub appended : (P : ℕ → List ℕ) (n : ℕ) (piece first old new : List ℕ) → P (suc n) ≡ P n ++ piece → old ≡ first ++ P n → new ≡ old ++ piece → new ≡ first ++ P (n + 1)
 appended P n piece first old new step before is =
     is ∙ ap (λ l. l ++ piece) before ∙ append_assoc first (P n) piece ∙ ap (λ l. first ++ l) (sym step ∙ ap P (sym (add-one n)))
+
+-- two pieces, one behind the other
+pub grown : (old mid new a b : List ℕ) → mid ≡ old ++ a → new ≡ mid ++ b → new ≡ old ++ (a ++ b)
+grown old mid new a b e g = g ∙ ap (λ l. l ++ b) e ∙ append_assoc old a b

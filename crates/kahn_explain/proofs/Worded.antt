@@ -1,5 +1,5 @@
 -- What words name.
-use Rattle.std.proofs.Common.{arith, ◌≡◌, ℕ, ◌<◌, List, length, Option, Some, None, subst}
+use Rattle.std.proofs.Common.{arith, ◌≡◌, ℕ, List, Option, Some, None, subst}
 use Rattle.kahn_streams.proofs.Entered.{names_count}
 use Rattle.kahn_streams.specs.Inputs.{IsNoName}
 use Rattle.kahn_streams.specs.Network.{network_of}

@@ -1,7 +1,5 @@
-pub mod Explaining
 pub mod Histories
 pub mod Needing
 pub mod Running
 pub mod Table
-pub mod Tracing
 pub mod inner

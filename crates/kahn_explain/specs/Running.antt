@@ -1,20 +1,166 @@
--- Believed. A run of the program, from the bytes of the two texts to the bytes that go out and the exit status (this project's profile).
-use Rattle.std.specs.Prelude.{◌≡◌, ℕ, Bool, true, List, Option, Result, Ok, Err, string_bytes}
+-- Believed. A run of the program, from the bytes of the two texts to the bytes that go out, those beside them and the exit status (this project's
+-- profile).
+use Rattle.std.specs.Prelude.{◌≡◌, ◌⊎◌, ◌++◌, ℕ, Bool, true, false, List, [], Option, Some, None, Result, Ok, Err, codes, string_bytes}
+use Rattle.std.specs.Io.KnownBytes.{Appends}
+use Rattle.std.specs.declared.alloc.Global.{Global}
+use Rattle.std.specs.declared.string.String.{String}
+use Rattle.kahn_streams.specs.Answers.{IsUnrun}
+use Rattle.kahn_streams.specs.Inputs.{Lists}
+use Rattle.kahn_streams.specs.Written.{AppendsFront}
+use Rattle.kahn_streams.specs.declared.answer.Answer.{Answer}
+use Rattle.kahn_streams.specs.declared.answer.Verdict.TheVariants.{Finished, Bound, Memory}
 use Rattle.kahn_streams.specs.declared.config.Config.{Config}
-use Rattle.kahn_fault.specs.declared.work.WorkFault.{WorkFault}
-use Rattle.kahn_fault.specs.declared.work.WorkFault.TheVariants.{Text, Write}
+use Rattle.kahn_streams.specs.declared.fault.RunFault.{RunFault}
+use Rattle.kahn_streams.specs.declared.fault.RunFault.TheVariants.{NoMemory}
+use Rattle.kahn_streams.specs.declared.tree.Program.{Program}
+use Rattle.kahn_texts.specs.Formats.{StandsFor, IsInputTextFault}
+use Rattle.kahn_texts.specs.declared.input.TextFault.{TextFault}
 use Rattle.kahn_fault.specs.Status.{status_of}
 use Rattle.kahn_fault.specs.Telling.{WasWritten, told_text}
+use Rattle.kahn_fault.specs.Work.{IsAnswered, IsChecked, IsUnchecked}
 use Rattle.kahn_fault.specs.declared.fault.Fault.TheVariants.{Work}
 use Rattle.kahn_fault.specs.declared.texts.Texts.{Texts}
+use Rattle.kahn_fault.specs.declared.work.WorkFault.{WorkFault}
+use Rattle.kahn_fault.specs.declared.work.WorkFault.TheVariants.{Syntax, Check, Text, Run, Write}
+use Rattle.kahn_marks.specs.Marks.{shown_text}
+use Rattle.kahn_sequential.specs.Recordings.{IsRecordedRun}
+use Rattle.kahn_sequential.specs.declared.recorded.Recorded.{Recorded}
+use Rattle.kahn_why.specs.Refusing.{AreAllowed, IsRefusal, IsRefusedFor}
 use Rattle.kahn_why.specs.Telling.{HasToldInput}
+use Rattle.kahn_why.specs.Why.{IsExplained}
 use Rattle.kahn_why.specs.declared.explaining.Came.{Came}
-use Rattle.kahn_explain.specs.Explaining.{HasExplained, HasLooked, came_status}
-use Rattle.kahn_explain.specs.Tracing.{HasTraced}
-use Rattle.kahn_explain.specs.declared.outlet.Outlet.{Outlet}
+use Rattle.kahn_why.specs.declared.explaining.Came.TheVariants.{Stopped, Refused}
+use Rattle.kahn_why.specs.declared.why.told.Explanation.{Explanation}
+use Rattle.kahn_why.specs.declared.why.told.Told.{Told}
+use Rattle.kahn_why.specs.declared.why.told.Told.TheVariants as told
+use Rattle.kahn_explain.specs.Histories.{IsRunTable}
+use Rattle.kahn_explain.specs.Needing.{AreNeedsTold, IsUnaskedOf}
+use Rattle.kahn_explain.specs.declared.pipe.Pipe.{Pipe}
+use Rattle.kahn_explain.specs.declared.replying.Sheet.{Sheet}
+use Rattle.kahn_explain.specs.declared.replying.Sheet.TheVariants as sheet
 use Rattle.kahn_explain.specs.declared.running.Paths.{Paths}
-use Rattle.kahn_explain.specs.declared.running.Task.{Task}
-use Rattle.kahn_explain.specs.declared.running.Task.TheVariants as task
+use Rattle.kahn_explain.specs.declared.running.Wish.{Wish}
+use Rattle.kahn_explain.specs.declared.running.Wish.TheVariants as wish
+
+-- ---- why a run stopped, or what is wrong with the texts
+
+-- why the input text of an allowed program stands for no input
+abbrev pub IsInputless : List ℕ → List ℕ → List ℕ → Bool → TextFault → Type 0
+IsInputless path program input strict f =
+    ((t : Program) × IsChecked program t × IsInputTextFault t input f) × ((notes : List ℕ) × AreAllowed path program strict notes)
+
+-- what is told: of a run that stopped so, as P says; or why the program text is refused
+abbrev pub TellsOf : List ℕ → List ℕ → Bool → (Told → List ℕ → Type 0) → Came → List ℕ → Type 0
+TellsOf path program strict P (Stopped x) text = P x text
+TellsOf path program strict P Refused text = IsRefusedFor path program strict text
+
+-- That went out; or why not: the first of the faults in this order, after which nothing was written, or of a run that is refused so, behind what U
+-- says; or the writer's, after which a prefix was of that, or of what N says. A fault of the program text is answered where it has no place.
+abbrev pub HasComeTo : List ℕ → List ℕ → List ℕ → Bool → (Told → List ℕ → Type 0) → (RunFault → List ℕ → Type 0) → (List ℕ → Type 0)
+    → Option (List ℕ) → Option (List ℕ) → Result Came WorkFault → Type 0
+HasComeTo path program input strict P U N old new (Ok came) = (text : List ℕ) × TellsOf path program strict P came text × Appends old new text
+HasComeTo path program input strict P U N old new (Err (Syntax f)) = IsUnchecked program (Syntax f) × IsRefusal path program (Syntax f) None × (new ≡ old)
+HasComeTo path program input strict P U N old new (Err (Check f)) = IsUnchecked program (Check f) × IsRefusal path program (Check f) None × (new ≡ old)
+HasComeTo path program input strict P U N old new (Err (Text f)) = IsInputless path program input strict f × (new ≡ old)
+HasComeTo path program input strict P U N old new (Err (Run f)) =
+    ((f ≡ NoMemory) × (new ≡ old)) ⊎ ((text : List ℕ) × U f text × Appends old new text)
+HasComeTo path program input strict P U N old new (Err (Write f)) =
+    (text : List ℕ) × (((came : Came) × TellsOf path program strict P came text) ⊎ N text) × AppendsFront old new text
+
+-- the notes on what is warned of in an allowed program whose input text stands for lists
+abbrev pub AreNotesBefore : List ℕ → List ℕ → List ℕ → Bool → Program → Lists → List ℕ → Type 0
+AreNotesBefore path program input strict t lists notes = IsChecked program t × StandsFor t input lists × AreAllowed path program strict notes
+
+abbrev pub AreNotes : List ℕ → List ℕ → List ℕ → Bool → List ℕ → Type 0
+AreNotes path program input strict notes = (t : Program) × (lists : Lists) × AreNotesBefore path program input strict t lists notes
+
+-- they are the notes before a run that is refused so
+abbrev pub AreNotesOfUnrun : List ℕ → List ℕ → List ℕ → Config → Bool → RunFault → List ℕ → Type 0
+AreNotesOfUnrun path program input config strict f notes =
+    (t : Program) × (lists : Lists) × AreNotesBefore path program input strict t lists notes × IsUnrun t config f
+
+-- why the run of a right answer of these texts stopped
+abbrev pub IsExplanationOf : List ℕ → List ℕ → Config → Explanation → Type 0
+IsExplanationOf program input config e = (t : Program) × (lists : Lists) × (a : Answer) × IsAnswered program input config t lists a × IsExplained t a e
+
+-- the notes and the explanation
+abbrev pub IsToldOf : List ℕ → List ℕ → List ℕ → Config → Bool → Told → List ℕ → Type 0
+IsToldOf path program input config strict x text =
+    (notes : List ℕ) × (e : Explanation) × AreAllowed path program strict notes × IsExplanationOf program input config e × (e.told ≡ x) × (text ≡ notes ++ string_bytes e.text)
+
+-- a run was explained
+abbrev pub HasExplained : List ℕ → List ℕ → List ℕ → Config → Bool → Option (List ℕ) → Option (List ℕ) → Result Came WorkFault → Type 0
+HasExplained path program input config strict old new r =
+    HasComeTo path program input strict (IsToldOf path program input config strict) (AreNotesOfUnrun path program input config strict)
+    (AreNotes path program input strict) old new r
+
+-- nothing was run
+abbrev pub IsLookedAt : List ℕ → List ℕ → List ℕ → Bool → Told → List ℕ → Type 0
+IsLookedAt path program input strict x notes = (x ≡ told.Stop Finished) × AreNotes path program input strict notes
+
+abbrev pub HasLooked : List ℕ → List ℕ → List ℕ → Bool → Option (List ℕ) → Option (List ℕ) → Result Came WorkFault → Type 0
+HasLooked path program input strict old new r =
+    HasComeTo path program input strict (IsLookedAt path program input strict) (λ f text. ⊥) (λ text. ⊥) old new r
+
+-- ---- sheets
+
+-- what is told beside a table of a run that came to that: its explanation, where the status isn't 0
+abbrev pub beside : Told → List ℕ → List ℕ
+beside told.Fault text = text
+beside told.Deadlock text = text
+beside (told.Stop Finished) text = []
+beside (told.Stop Bound) text = text
+beside (told.Stop Memory) text = text
+
+-- the table of a run of these texts that keeps all that is sent, of the counts of its channels or of the histories, and why it stopped
+abbrev pub IsTableOf : Bool → List ℕ → List ℕ → Config → Told → List ℕ → List ℕ → Type 0
+IsTableOf counts program input config x text more = (t : Program) × (lists : Lists) × (run : Recorded) × (e : Explanation) × IsChecked program t
+    × StandsFor t input lists × IsRecordedRun t lists config run × IsRunTable counts t lists run text × IsExplained t run.answer e × (e.told ≡ x)
+    × (more ≡ beside e.told (string_bytes e.text))
+
+-- what is told, and what beside it, of what is asked for
+abbrev pub IsSheet : Sheet → List ℕ → List ℕ → List ℕ → Config → Told → List ℕ → List ℕ → Type 0
+IsSheet sheet.Histories word program input config x text more = IsTableOf false program input config x text more
+IsSheet sheet.Counts word program input config x text more = IsTableOf true program input config x text more
+IsSheet sheet.Needs word program input config x text more = AreNeedsTold word program input config x text × (more ≡ [])
+
+-- or it asks for nothing
+abbrev pub IsNoSheet : Sheet → List ℕ → List ℕ → Type 0
+IsNoSheet sheet.Histories word program = ⊥
+IsNoSheet sheet.Counts word program = ⊥
+IsNoSheet sheet.Needs word program = IsUnaskedOf word program
+
+-- what goes out, and beside it with the notes; or there why the program text or the word is refused
+abbrev pub Replies : Sheet → List ℕ → List ℕ → List ℕ → List ℕ → Config → Bool → Came → List ℕ → List ℕ → Type 0
+Replies kind word path program input config strict (Stopped x) text more =
+    (notes words : List ℕ) × AreAllowed path program strict notes × IsSheet kind word program input config x text words × (more ≡ notes ++ words)
+Replies kind word path program input config strict Refused text more = (text ≡ []) × (IsRefusedFor path program strict more ⊎ IsNoSheet kind word program)
+
+-- one writer broke off in its text
+abbrev pub BreaksOff : List ℕ → List ℕ → Option (List ℕ) → Option (List ℕ) → Option (List ℕ) → Option (List ℕ) → Type 0
+BreaksOff text more out made old new = (AppendsFront out made text × (new ≡ old)) ⊎ (Appends out made text × AppendsFront old new more)
+
+-- That went out; or why not: the first of the faults in this order, after which nothing was written, or a writer's.
+abbrev pub HasReplied : Sheet → List ℕ → List ℕ → List ℕ → List ℕ → Config → Bool → Option (List ℕ) → Option (List ℕ) → Option (List ℕ) → Option (List ℕ)
+    → Result Came WorkFault → Type 0
+HasReplied kind word path program input config strict out made old new (Ok came) =
+    (text more : List ℕ) × Replies kind word path program input config strict came text more × Appends out made text × Appends old new more
+HasReplied kind word path program input config strict out made old new (Err (Syntax f)) =
+    IsUnchecked program (Syntax f) × IsRefusal path program (Syntax f) None × (made ≡ out) × (new ≡ old)
+HasReplied kind word path program input config strict out made old new (Err (Check f)) =
+    IsUnchecked program (Check f) × IsRefusal path program (Check f) None × (made ≡ out) × (new ≡ old)
+HasReplied kind word path program input config strict out made old new (Err (Text f)) = IsInputless path program input strict f × (made ≡ out) × (new ≡ old)
+HasReplied kind word path program input config strict out made old new (Err (Run f)) =
+    ((f ≡ NoMemory) ⊎ ((notes : List ℕ) × AreNotesOfUnrun path program input config strict f notes)) × (made ≡ out) × (new ≡ old)
+HasReplied kind word path program input config strict out made old new (Err (Write f)) =
+    (came : Came) × (text more : List ℕ) × Replies kind word path program input config strict came text more × BreaksOff text more out made old new
+
+-- the same of writers
+abbrev pub HasRepliedTo : {T W : Type 0} → Sheet → List ℕ → List ℕ → List ℕ → List ℕ → Config → Bool → (T → Option (List ℕ)) → T → T → (W → Option (List ℕ)) → W → W → Result Came WorkFault → Type 0
+HasRepliedTo kind word path program input config strict written out made logged old new r =
+    HasReplied kind word path program input config strict (written out) (written made) (logged old) (logged new) r
+
+-- ---- all of it
 
 -- the two texts, and what they are called
 pub record Sources : Type 0 where
@@ -26,20 +172,29 @@ pub record Sources : Type 0 where
 abbrev pub texts_of : Paths → Texts → Sources
 texts_of p t = record { path = string_bytes p.program; program = string_bytes t.program; input_path = string_bytes p.input; input = string_bytes t.input }
 
+-- what the path of the program text is called in a note
+abbrev pub path_name : Option (String Global) → List ℕ
+path_name (Some path) = shown_text (string_bytes path)
+path_name None = codes "<stdin>"
+
 -- why the input text is refused was written, if that has a place; everything else stays what it came to
 abbrev pub IsOrRefused : Sources → Result Came WorkFault → Option (List ℕ) → Option (List ℕ) → Result Came WorkFault → Type 0
 IsOrRefused s (Err (Text f)) old new r = HasToldInput s.input_path s.program s.input f old new r
 IsOrRefused s came old new r = (r ≡ came) × (new ≡ old)
 
--- a run was explained, or its table was written and it was explained beside it if the status isn't 0; or the texts were looked at
-abbrev pub HasDone : Task → Sources → Config → Bool → Option (List ℕ) → Option (List ℕ) → Option (List ℕ) → Option (List ℕ) → Result Came WorkFault → Type 0
-HasDone task.Trace s config strict out made old new r =
-    (came : Result Came WorkFault) × (mid : Option (List ℕ)) × HasTraced s.path s.program s.input config strict out made old mid came × IsOrRefused s came mid new r
-HasDone task.Run s config strict out made old new r =
+-- a run was explained; or the texts were looked at; or a sheet was written, and to the other writer what is told beside it
+abbrev pub HasDone : Wish → List ℕ → Sources → Config → Bool → Option (List ℕ) → Option (List ℕ) → Option (List ℕ) → Option (List ℕ) → Result Came WorkFault → Type 0
+HasDone wish.Reasons word s config strict out made old new r =
     (came : Result Came WorkFault) × (mid : Option (List ℕ)) × HasExplained s.path s.program s.input config strict out mid came × IsOrRefused s came mid made r
     × (new ≡ old)
-HasDone task.Look s config strict out made old new r =
+HasDone wish.Look word s config strict out made old new r =
     (came : Result Came WorkFault) × (mid : Option (List ℕ)) × HasLooked s.path s.program s.input strict out mid came × IsOrRefused s came mid made r × (new ≡ old)
+HasDone (wish.Sheet kind) word s config strict out made old new r =
+    (came : Result Came WorkFault) × (mid : Option (List ℕ)) × HasReplied kind word s.path s.program s.input config strict out made old mid came
+    × IsOrRefused s came mid new r
+
+abbrev pub HasDoneOn : {T W : Type 0} → Wish → List ℕ → Sources → Config → Bool → (T → Option (List ℕ)) → T → T → (W → Option (List ℕ)) → W → W → Result Came WorkFault → Type 0
+HasDoneOn x word s config strict written out made logged old new r = HasDone x word s config strict (written out) (written made) (logged old) (logged new) r
 
 -- the fault in the end was told, unless it is that nobody reads any more
 abbrev pub IsFaultTold : Bool → List ℕ → Result Came WorkFault → Option (List ℕ) → Option (List ℕ) → Type 0
@@ -47,13 +202,22 @@ IsFaultTold gone program (Ok came) old new = new ≡ old
 IsFaultTold true program (Err (Write f)) old new = new ≡ old
 IsFaultTold gone program (Err f) old new = WasWritten (told_text program (Err (Work f))) old new
 
--- the exit status
+-- the status for what the explaining came to
+abbrev pub came_status : Came → ℕ
+came_status (Stopped told.Fault) = 8
+came_status (Stopped told.Deadlock) = 7
+came_status (Stopped (told.Stop Finished)) = 0
+came_status (Stopped (told.Stop Bound)) = 3
+came_status (Stopped (told.Stop Memory)) = 4
+came_status Refused = 1
+
+-- and for all of it
 abbrev pub end_status : Result Came WorkFault → ℕ
 end_status (Ok came) = came_status came
 end_status (Err f) = status_of (Err (Work f))
 
--- the task was done on the texts, a fault was told, and the status says how it ended
-abbrev pub HasExplainedAs : {W : Type 0} → Task → Sources → Config → Bool → (W → Option (List ℕ)) → Outlet W → Outlet W → Option (List ℕ) → Option (List ℕ) → ℕ → Type 0
-HasExplainedAs t s config strict contents out made old new status =
-    (r : Result Came WorkFault) × (mid : Option (List ℕ)) × HasDone t s config strict (contents out.writer) (contents made.writer) old mid r
-    × IsFaultTold made.gone s.program r mid new × (status ≡ end_status r)
+-- the wish was done on the texts, a fault was told, and the status says how it ended
+abbrev pub HasExplainedAs : {T W : Type 0} → Wish → List ℕ → Sources → Config → Bool → (T → Option (List ℕ)) → Pipe T → Pipe T → (W → Option (List ℕ)) → W → W → ℕ → Type 0
+HasExplainedAs x word s config strict written out made logged old new status =
+    (r : Result Came WorkFault) × (mid : Option (List ℕ)) × HasDone x word s config strict (written out.writer) (written made.writer) (logged old) mid r
+    × IsFaultTold made.gone s.program r mid (logged new) × (status ≡ end_status r)

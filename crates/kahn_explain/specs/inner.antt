@@ -1,4 +1,3 @@
 -- What only proofs and clauses below the surface read.
 pub mod Columns
 pub mod Told
-pub mod Replied

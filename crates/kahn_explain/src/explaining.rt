@@ -1,15 +1,13 @@
-//! From a program text and an input text to why the run stopped, or to a table of all histories.
+//! From a program text and an input text to why the run stopped, or to what is wrong with them.
 
 ghost use Rattle.std.specs.Prelude.{◌≡◌, IfOk};
 ghost use Rattle.kahn_streams.specs.Network.{network_of};
 ghost use Rattle.kahn_fault.specs.Work.{IsChecked};
 ghost use Rattle.kahn_chain.specs.Chain.{AreStandings};
 ghost use Rattle.kahn_why.specs.Why.{IsExplained, standings_of};
-ghost use Rattle.kahn_explain.specs.Explaining.{HasExplained, HasLooked, came_status, told_status};
-ghost use Rattle.kahn_explain.specs.Tracing.{HasTraced, beside};
-ghost use Rattle.kahn_explain.specs.inner.Told.{HasLookedOn, HasTabled, HasToldRun};
+ghost use Rattle.kahn_explain.specs.Running.{HasExplained, HasLooked, came_status};
+ghost use Rattle.kahn_explain.specs.inner.Told.{HasLookedOn, HasToldRun};
 
-use crate::tracing::{histories_of, trace_text};
 use kahn_fault::WorkFault;
 use kahn_pool::{Answer, Config, Open, RunFault, Verdict, run};
 use kahn_streams::{Network, NoMemory};
@@ -21,7 +19,7 @@ use std::sync::Wait;
 use std::thread::Threads;
 
 /// Why the run of an answer stopped, by the input text of the run: by its causes, or for each process.
-fn explain_answer(
+pub(crate) fn explain_answer(
     alloc: Global,
     path: &str,
     program: &str,
@@ -136,100 +134,16 @@ pub fn look<W: Write>(
     }
 }
 
-/// What is told beside a table: the explanation, where the status isn't 0.
-fn beside(told: Told, text: &str) -> &str
-    ensures { result.now ≡ beside told text.now }
-{
-    match told {
-        Told::Stop(Verdict::Finished) => "",
-        _ => text,
-    }
-}
-
-/// Runs an allowed program on an input, and writes a table of all histories, and then to another writer what is warned of in it, and
-/// why the run stopped where its status isn't 0.
-fn trace_run<T: Write, W: Write>(
-    alloc: Global,
-    path: &str,
-    program: &str,
-    it: &Admitted,
-    text: &str,
-    config: &Config,
-    all: bool,
-    csv: &mut T,
-    log: &mut W,
-) -> Result<Came, WorkFault>
-    requires { IsChecked program.now it.now.network }
-    ensures { HasTabled path.now program.now it.now text.now config.now (T.contents csv.old) (T.contents csv.new) (W.contents log.old) (W.contents log.new) result }
-{
-    let found = match histories_of(alloc, &it.network, text, config) {
-        Ok(found) => found,
-        Err(fault) => return Err(fault),
-    };
-    let Ok(table) = trace_text(alloc, &it.network, &found.columns) else {
-        return Err(WorkFault::Run(RunFault::NoMemory));
-    };
-    let Ok(explanation) = explain_answer(
-        alloc,
-        path,
-        program,
-        &it.network,
-        text,
-        &found.answer,
-        all,
-    ) else {
-        return Err(WorkFault::Run(RunFault::NoMemory));
-    };
-    if let Err(fault) = write_line(csv, &[table.as_bytes()]) {
-        return Err(WorkFault::Write(fault));
-    }
-    let told = beside(explanation.told, explanation.text.as_str());
-    let came = Came::Stopped(explanation.told);
-    write_both(it.notes.as_str(), told, came, log)
-}
-
-/// Runs a program on an input, and writes a table of all histories, and then to another writer what is warned of in it, and why
-/// the run stopped where its status isn't 0; or to that writer why the program text is refused, where that has a place, and for a
-/// warning too where it is asked to be strict. Nothing is written before all that is to be written stands. Faults are found in
-/// this order: of the program text, of the network, warnings, of the input text, of the run, want of memory, of the writers.
-pub fn trace<T: Write, W: Write>(
-    alloc: Global,
-    path: &str,
-    program: &str,
-    text: &str,
-    config: Config,
-    strict: bool,
-    all: bool,
-    csv: &mut T,
-    log: &mut W,
-) -> Result<Came, WorkFault>
-    ensures { HasTraced path.now program.now text.now config strict (T.contents csv.old) (T.contents csv.new) (W.contents log.old) (W.contents log.new) result }
-{
-    match admit(alloc, path, program, strict, log) {
-        Ok(it) => trace_run(alloc, path, program, &it, text, &config, all, csv, log),
-        Err(came) => came,
-    }
-}
-
-/// The status for how a run stopped.
-fn told_status(told: Told) -> u8
-    ensures { result ≡ told_status told }
-{
-    match told {
-        Told::Fault => 8,
-        Told::Deadlock => 7,
-        Told::Stop(Verdict::Finished) => 0,
-        Told::Stop(Verdict::Bound) => 3,
-        Told::Stop(Verdict::Memory) => 4,
-    }
-}
-
 /// The status for what the explaining came to.
 pub fn status(came: Came) -> u8
     ensures { result ≡ came_status came }
 {
     match came {
-        Came::Stopped(told) => told_status(told),
+        Came::Stopped(Told::Fault) => 8,
+        Came::Stopped(Told::Deadlock) => 7,
+        Came::Stopped(Told::Stop(Verdict::Finished)) => 0,
+        Came::Stopped(Told::Stop(Verdict::Bound)) => 3,
+        Came::Stopped(Told::Stop(Verdict::Memory)) => 4,
         Came::Refused => 1,
     }
 }

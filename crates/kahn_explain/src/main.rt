@@ -3,19 +3,20 @@
 #![tactic(auto)]
 
 ghost use Rattle.std.specs.Prelude.{◌≡◌, IfOk, string_bytes};
-ghost use Rattle.kahn_explain.specs.Explaining.{path_name};
+ghost use Rattle.kahn_explain.specs.Running.{path_name};
 
 mod explaining;
 mod needing;
-mod outlet;
+mod pipe;
+mod replying;
 mod running;
 mod tracing;
 
 use kahn_fault::{read_texts, shown_path, tell_unread};
 use kahn_line::{ExplainOptions, read_explain_line, tell_line, tell_no_memory, tell_words};
-use needing::ran_needs;
-use outlet::Outlet;
-use running::{Paths, Task, ran};
+use pipe::Pipe;
+use replying::Sheet;
+use running::{Paths, Wish, ran};
 use std::alloc::{AllocError, Global};
 use std::io::Write;
 use std::process::ExitCode;
@@ -42,13 +43,25 @@ fn paths_of(alloc: Global, options: &ExplainOptions) -> Result<Paths, AllocError
 }
 
 /// What the command line asks for.
-fn task_of(options: &ExplainOptions) -> Task {
+fn wish_of(options: &ExplainOptions) -> Wish {
     if options.check {
-        Task::Look
+        Wish::Look
+    } else if options.needs.is_some() {
+        Wish::Sheet(Sheet::Needs)
     } else if options.trace {
-        Task::Trace
+        Wish::Sheet(Sheet::Histories)
+    } else if options.channels {
+        Wish::Sheet(Sheet::Counts)
     } else {
-        Task::Run
+        Wish::Reasons
+    }
+}
+
+/// The word of what values need, where one is given.
+fn word_of(needs: &Option<String>) -> &str {
+    match needs {
+        Some(word) => word.as_str(),
+        None => "",
     }
 }
 
@@ -59,25 +72,20 @@ fn answered<R: Runtime + AllocGlobal + Threads + Wait + Sync, W: Write>(
     paths: &Paths,
     writer: &mut W,
 ) -> u8 {
-    let task = task_of(&options);
+    let wish = wish_of(&options);
     let (config, strict, all) = (options.config, options.strict, options.all);
     let texts = match read_texts(rt, options.program, options.input) {
         Ok(texts) => texts,
         Err(fault) => return tell_unread(rt, "kahn_explain", fault, writer),
     };
-    let mut out = Outlet {
+    let word = word_of(&options.needs);
+    let mut out = Pipe {
         writer: io::writer(rt),
         gone: false,
     };
-    match &options.needs {
-        Some(word) if !options.check => {
-            let word = word.as_str();
-            ran_needs(rt, paths, &texts, word, config, strict, &mut out, writer)
-        }
-        _ => ran(
-            rt, paths, &texts, task, config, strict, all, &mut out, writer,
-        ),
-    }
+    ran(
+        rt, paths, &texts, wish, word, config, strict, all, &mut out, writer,
+    )
 }
 
 fn main(rt: HostRuntime) -> ExitCode {

@@ -1,10 +1,11 @@
 //! What is asked for, from the bytes of the texts to the exit status.
 
 ghost use Rattle.std.specs.Prelude.{◌≡◌};
-ghost use Rattle.kahn_explain.specs.Running.{HasDone, HasExplainedAs, IsFaultTold, IsOrRefused, end_status, texts_of};
+ghost use Rattle.kahn_explain.specs.Running.{HasDoneOn, HasExplainedAs, IsFaultTold, IsOrRefused, end_status, texts_of};
 
-use crate::explaining::{explain, look, status, trace};
-use crate::outlet::Outlet;
+use crate::explaining::{explain, look, status};
+use crate::pipe::Pipe;
+use crate::replying::{Sheet, sheet_out};
 use kahn_fault::{Fault, Texts, WorkFault, tell};
 use kahn_pool::Config;
 use kahn_why::{Came, refuse_input};
@@ -16,13 +17,13 @@ use std::thread::Threads;
 
 /// What is asked for.
 #[derive(Clone, Copy)]
-pub(crate) enum Task {
-    /// All that the channels carried, as a table.
-    Trace,
+pub(crate) enum Wish {
     /// Why a run stopped.
-    Run,
+    Reasons,
     /// What is wrong with the texts, without a run.
     Look,
+    /// A sheet.
+    Sheet(Sheet),
 }
 
 /// What the texts are called in notes.
@@ -33,7 +34,7 @@ pub(crate) struct Paths {
 }
 
 /// What running and explaining came to; why the input text is refused is told to the writer, if that has a place.
-pub(crate) fn or_refused<W: Write>(
+fn or_refused<W: Write>(
     alloc: Global,
     paths: &Paths,
     texts: &Texts,
@@ -51,46 +52,44 @@ pub(crate) fn or_refused<W: Write>(
     }
 }
 
-/// Explains the run of the program on the input; or writes what the channels carried as a table, and to the other writer what is warned
-/// of and why the run stopped, or why there is none; or looks at the texts alone.
+/// Explains the run of the program on the input; or looks at the texts alone; or writes a sheet, and to the other writer what is told beside
+/// it, or why there is none.
 fn done<R: Runtime + AllocGlobal + Threads + Wait + Sync, W: Write, E: Write>(
     rt: &R,
     paths: &Paths,
     texts: &Texts,
-    task: Task,
+    wish: Wish,
+    word: &str,
     config: Config,
     strict: bool,
     all: bool,
     out: &mut W,
     log: &mut E,
 ) -> Result<Came, WorkFault>
-    ensures { HasDone task (texts_of paths.now texts.now) config strict (W.contents out.old) (W.contents out.new) (E.contents log.old) (E.contents log.new) result }
+    ensures { HasDoneOn wish word.now (texts_of paths.now texts.now) config strict W.contents out.old out.new E.contents log.old log.new result }
 {
     let (alloc, path) = (rt.alloc(), paths.program.as_str());
     let (program, input) = (texts.program.as_str(), texts.input.as_str());
-    match task {
-        Task::Trace => {
-            let came = trace(alloc, path, program, input, config, strict, all, out, log);
-            or_refused(alloc, paths, texts, came, log)
-        }
-        Task::Run => {
+    match wish {
+        Wish::Reasons => {
             let came = explain(rt, alloc, path, program, input, config, strict, all, out);
             or_refused(alloc, paths, texts, came, out)
         }
-        Task::Look => {
+        Wish::Look => {
             let came = look(alloc, path, program, input, strict, out);
             or_refused(alloc, paths, texts, came, out)
+        }
+        Wish::Sheet(kind) => {
+            let came = sheet_out(
+                alloc, path, program, input, kind, word, config, strict, all, out, log,
+            );
+            or_refused(alloc, paths, texts, came, log)
         }
     }
 }
 
 /// The status for what the explaining came to. A fault is told to the writer, unless it is that nobody reads what is explained.
-pub(crate) fn ended<E: Write>(
-    came: Result<Came, WorkFault>,
-    program: &str,
-    gone: bool,
-    errors: &mut E,
-) -> u8
+fn ended<E: Write>(came: Result<Came, WorkFault>, program: &str, gone: bool, errors: &mut E) -> u8
     ensures told { IsFaultTold gone program.now came (E.contents errors.old) (E.contents errors.new) }
     ensures status { result ≡ end_status came }
 {
@@ -101,20 +100,24 @@ pub(crate) fn ended<E: Write>(
     }
 }
 
-/// Does what is asked for, and gives the exit status. What is told beside a table, and a fault, goes to `errors`.
+/// Does what is asked for, with a word where it is what values need, and gives the exit status. What is told beside a sheet, and a fault,
+/// goes to `errors`.
 pub(crate) fn ran<R: Runtime + AllocGlobal + Threads + Wait + Sync, W: Write, E: Write>(
     rt: &R,
     paths: &Paths,
     texts: &Texts,
-    task: Task,
+    wish: Wish,
+    word: &str,
     config: Config,
     strict: bool,
     all: bool,
-    out: &mut Outlet<W>,
+    out: &mut Pipe<W>,
     errors: &mut E,
 ) -> u8
-    ensures { HasExplainedAs task (texts_of paths.now texts.now) config strict W.contents out.old out.new (E.contents errors.old) (E.contents errors.new) result }
+    ensures { HasExplainedAs wish word.now (texts_of paths.now texts.now) config strict W.contents out.old out.new E.contents errors.old errors.new result }
 {
-    let came = done(rt, paths, texts, task, config, strict, all, out, errors);
+    let came = done(
+        rt, paths, texts, wish, word, config, strict, all, out, errors,
+    );
     ended(came, texts.program.as_str(), out.gone, errors)
 }

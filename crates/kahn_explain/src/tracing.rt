@@ -1,10 +1,13 @@
-//! The histories of all channels of a run, as a table by place.
+//! Tables of a run that keeps all that is sent: of the histories of all channels by place, and of how many values each channel carried.
 
 mod column;
+mod counts;
 mod histories;
 mod prints;
 mod recorded;
 mod table;
 
-pub(crate) use histories::{Traced, histories_of};
-pub(crate) use table::{add_value, trace_text};
+pub(crate) use counts::counts_text;
+pub(crate) use histories::columns_of;
+pub(crate) use recorded::recorded;
+pub(crate) use table::{add_name, add_numbers, add_value, trace_text};

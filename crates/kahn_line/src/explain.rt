@@ -57,6 +57,15 @@ was stopped, the columns are beginnings. With a program that doubles what comes 
   1,1,2
   2,2,4
 
+With `--channels` it writes how many values each channel carried, in the same way: who sends on it and who takes from it,
+how many values were sent and taken, and how many are left that nobody took:
+
+  kahn_explain double.kahn --input data.txt --channels
+
+  channel,from,to,sent,taken,left
+  A,,1 double,2,2,0
+  B,1 double,,2,0,2
+
 With `--check` nothing is run: it only says what is wrong with the program text and the network, and with the input text
 if there is one, and what it warns of.
 
@@ -95,6 +104,8 @@ pub struct ExplainOptions {
     pub strict: bool,
     /// Whether a table of all histories is written.
     pub trace: bool,
+    /// Whether a table of how many values each channel carried is written.
+    pub channels: bool,
     /// Whether the texts are only looked at, and no run is done.
     pub check: bool,
     /// The line or the place of a line whose needs are written, or nothing.
@@ -117,6 +128,11 @@ fn explain_command<'a>(alloc: Global) -> Result<Command<'a>, AllocError>
             alloc,
             "trace",
             "Writes all values of all channels, as a CSV table",
+        ))?
+        .arg(flag_arg(
+            alloc,
+            "channels",
+            "Writes how many values each channel carried, as a CSV table",
         ))?
         .arg(flag_arg(
             alloc,
@@ -147,6 +163,7 @@ pub fn read_explain_line<'a, S: AsStr>(
         all: was_given(matches.get_str("all")),
         strict: was_given(matches.get_str("strict")),
         trace: was_given(matches.get_str("trace")),
+        channels: was_given(matches.get_str("channels")),
         check: was_given(matches.get_str("check")),
         needs: copied(alloc, matches.get_str("needs"))?,
     })

@@ -1,6 +1,5 @@
 -- Inner. What the calls do that put columns together.
-use Rattle.std.specs.Prelude.{◌≡◌, ℕ, List, [], ◌∷◌, ◌++◌, All, flat_map, length, map}
-use Rattle.kahn_streams.specs.declared.config.Config.{Config}
+use Rattle.std.specs.Prelude.{◌≡◌, List, [], ◌∷◌, ◌++◌, All, flat_map, length, map}
 use Rattle.kahn_streams.specs.declared.tree.Program.{Program}
 use Rattle.kahn_streams.specs.declared.value.Line.{Line}
 use Rattle.kahn_streams.specs.Network.{network_of}
@@ -9,11 +8,10 @@ use Rattle.kahn_streams.specs.Inputs.{Lists, inputs_of}
 use Rattle.kahn_streams.specs.Answers.{HasStream, values_of}
 use Rattle.kahn_streams.specs.declared.answer.Answer.{Answer}
 use Rattle.kahn_streams.specs.declared.answer.Stream.{Stream}
-use Rattle.kahn_streams.specs.declared.answer.Verdict.{Verdict}
+use Rattle.kahn_streams.specs.declared.config.Config.{Config}
 use Rattle.kahn_sequential.specs.Recordings.{IsRecordedRun}
 use Rattle.kahn_sequential.specs.declared.recorded.Recorded.{Recorded}
-use Rattle.kahn_texts.specs.Formats.{StandsFor}
-use Rattle.kahn_explain.specs.Histories.{IsHistory, all_channels, column_line}
+use Rattle.kahn_explain.specs.Histories.{AreHistories, IsHistory, all_channels, column_line}
 use Rattle.kahn_explain.specs.declared.tracing.column.Column.{Column}
 
 -- the answer has a stream of the line
@@ -29,26 +27,30 @@ pub record HasValuesOf (s : Stream) (x : Column) : Type 0 where
 abbrev pub IsColumnOf : Answer → Line → Column → Type 0
 IsColumnOf a c x = (s : Stream) × HasStream a s × (s.line ≡ c) × HasValuesOf s x
 
--- the right answer for what the text stands for, with the histories of its channels
-abbrev pub IsTextRecorded : Program → List ℕ → Config → Recorded → Type 0
-IsTextRecorded t text config x = (lists : Lists) × StandsFor t text lists × IsRecordedRun t lists config x
+-- a run that keeps all that is sent
+abbrev pub IsRecord : Program → Recorded → Type 0
+IsRecord t x = (lists : Lists) × (config : Config) × IsRecordedRun t lists config x
 
--- a history, whatever lists the text stands for
-abbrev pub IsAny : Program → List ℕ → Verdict → Column → Type 0
-IsAny t text v x = (lists : Lists) → StandsFor t text lists → IsHistory (network_of t) (inputs_of lists) v x
+-- a history, whatever it was run on
+abbrev pub IsAny : Program → Recorded → Column → Type 0
+IsAny t x y = (lists : Lists) (config : Config) → IsRecordedRun t lists config x → IsHistory (network_of t) (inputs_of lists) x.answer.verdict y
 
 -- that of a line
-abbrev pub IsHistoryOf : Program → List ℕ → Verdict → Line → Column → Type 0
-IsHistoryOf t text v c x = (x.line ≡ c) × IsAny t text v x
+abbrev pub IsHistoryOf : Program → Recorded → Line → Column → Type 0
+IsHistoryOf t x c y = (y.line ≡ c) × IsAny t x y
 
 -- those of these lines
-pub record AreColumns (t : Program) (text : List ℕ) (v : Verdict) (cs : List Line) (xs : List Column) : Type 0 where
-  pub lines : map column_line xs ≡ cs
-  pub each : All (IsAny t text v) xs
+pub record AreColumns (t : Program) (x : Recorded) (cs : List Line) (ys : List Column) : Type 0 where
+  pub lines : map column_line ys ≡ cs
+  pub each : All (IsAny t x) ys
 
 -- those of all channels
-abbrev pub AreOfChannels : Program → List ℕ → Verdict → List Column → Type 0
-AreOfChannels t text v xs = AreColumns t text v (all_channels (length (network_of t).channels)) xs
+abbrev pub AreOfChannels : Program → Recorded → List Column → Type 0
+AreOfChannels t x ys = AreColumns t x (all_channels (length (network_of t).channels)) ys
+
+-- and those of the print streams
+abbrev pub AreAllHistories : Program → Recorded → List Column → Type 0
+AreAllHistories t x ys = (lists : Lists) (config : Config) → IsRecordedRun t lists config x → AreHistories (network_of t) (inputs_of lists) x.answer.verdict ys
 
 -- a stream's line, where it is one of prints
 abbrev pub print_line : Line → List Line

@@ -1,22 +1,84 @@
--- Inner. What the parts of explaining and tracing do.
-use Rattle.std.specs.Prelude.{ℕ, Bool, List, Option, Result}
+-- Inner. What the parts of explaining, of a sheet and of a reply do.
+use Rattle.std.specs.Prelude.{◌≡◌, ◌⊎◌, ◌++◌, ℕ, Bool, List, [], Option, Some, None, Result, Ok, Err, string_bytes}
+use Rattle.std.specs.Io.KnownBytes.{Appends}
+use Rattle.std.specs.declared.alloc.Global.{Global}
+use Rattle.std.specs.declared.string.String.{String}
 use Rattle.kahn_fault.specs.declared.work.WorkFault.{WorkFault}
+use Rattle.kahn_fault.specs.declared.work.WorkFault.TheVariants.{Write}
+use Rattle.kahn_streams.specs.Inputs.{Lists}
+use Rattle.kahn_streams.specs.declared.answer.Verdict.{Verdict}
 use Rattle.kahn_streams.specs.declared.config.Config.{Config}
+use Rattle.kahn_streams.specs.declared.tree.Program.{Program}
+use Rattle.kahn_texts.specs.declared.bytes.WriteFault.{WriteFault}
+use Rattle.kahn_sequential.specs.Recordings.{IsRecordedRun}
+use Rattle.kahn_sequential.specs.declared.recorded.Recorded.{Recorded}
+use Rattle.kahn_why.specs.Why.{IsExplained}
 use Rattle.kahn_why.specs.inner.Told.{IsAdmitted}
 use Rattle.kahn_why.specs.declared.explaining.Admitted.{Admitted}
 use Rattle.kahn_why.specs.declared.explaining.Came.{Came}
-use Rattle.kahn_explain.specs.Explaining.{HasExplained, HasLooked}
-use Rattle.kahn_explain.specs.Tracing.{HasTraced}
+use Rattle.kahn_why.specs.declared.explaining.Came.TheVariants.{Stopped, Refused}
+use Rattle.kahn_why.specs.declared.why.told.Explanation.{Explanation}
+use Rattle.kahn_explain.specs.Histories.{IsRecordedFor, IsRunTable}
+use Rattle.kahn_explain.specs.Needing.{IsPlaceGiven}
+use Rattle.kahn_explain.specs.Running.{BreaksOff, HasExplained, HasLooked, Replies, beside}
+use Rattle.kahn_explain.specs.declared.replying.Reply.{Reply}
+use Rattle.kahn_explain.specs.declared.replying.Sheet.{Sheet}
 
--- what became of an admitted program: of its run, of a table
+-- what became of the run of an admitted program, and where it was only looked at
 abbrev pub HasToldRun : List ℕ → List ℕ → Admitted → List ℕ → Config → Option (List ℕ) → Option (List ℕ) → Result Came WorkFault → Type 0
 HasToldRun path program x input config old new r = (strict : Bool) → IsAdmitted path program strict x → HasExplained path program input config strict old new r
 
--- and where it was only looked at
 abbrev pub HasLookedOn : Admitted → List ℕ → Option (List ℕ) → Option (List ℕ) → Result Came WorkFault → Type 0
 HasLookedOn x input old new r = (path program : List ℕ) (strict : Bool) → IsAdmitted path program strict x → HasLooked path program input strict old new r
 
-abbrev pub HasTabled :
-    List ℕ → List ℕ → Admitted → List ℕ → Config → Option (List ℕ) → Option (List ℕ) → Option (List ℕ) → Option (List ℕ) → Result Came WorkFault → Type 0
-HasTabled path program x input config table made old new r =
-    (strict : Bool) → IsAdmitted path program strict x → HasTraced path program input config strict table made old new r
+-- ---- sheets
+
+-- the table of a run, whatever it was run on
+abbrev pub IsTableFor : Bool → Program → Recorded → List ℕ → Type 0
+IsTableFor counts t run table = (lists : Lists) (config : Config) → IsRecordedRun t lists config run → IsRunTable counts t lists run table
+
+-- a table, and why its run stopped
+abbrev pub IsTableMade : Bool → Program → List ℕ → Config → Reply → Type 0
+IsTableMade counts t text config x = (run : Recorded) × (e : Explanation) × IsRecordedFor t text config run × IsTableFor counts t run (string_bytes x.text)
+    × IsExplained t run.answer e × (x.came ≡ Stopped e.told) × (string_bytes x.words ≡ beside e.told (string_bytes e.text))
+
+-- why a word asks for nothing
+abbrev pub IsNoReply : Reply → Type 0
+IsNoReply x = (string_bytes x.text ≡ []) × (x.came ≡ Refused)
+
+-- what is told beside a reply: its words behind the notes, or alone where the word is refused
+abbrev pub notes_for : Came → List ℕ → List ℕ
+notes_for (Stopped x) notes = notes
+notes_for Refused notes = []
+
+abbrev pub told_beside : List ℕ → Reply → List ℕ
+told_beside notes x = notes_for x.came notes ++ string_bytes x.words
+
+-- what a sheet of an admitted program comes to
+abbrev pub IsReplyFor : Sheet → List ℕ → Admitted → List ℕ → Config → Reply → Type 0
+IsReplyFor kind word it input config x = (path program : List ℕ) (strict : Bool) → IsAdmitted path program strict it
+    → Replies kind word path program input config strict x.came (string_bytes x.text) (told_beside (string_bytes it.notes) x)
+
+-- it was written, and that came of it; or a writer broke off
+abbrev pub HasPut : List ℕ → Reply → Option (List ℕ) → Option (List ℕ) → Option (List ℕ) → Option (List ℕ) → Result Came WorkFault → Type 0
+HasPut notes x out made old new r = ((r ≡ Ok x.came) × Appends out made (string_bytes x.text) × Appends old new (told_beside notes x))
+    ⊎ ((f : WriteFault) × (r ≡ Err (Write f)) × BreaksOff (string_bytes x.text) (told_beside notes x) out made old new)
+
+-- ---- what values need
+
+-- what is told, and how its search ended
+abbrev pub IsReplyIn : (List ℕ → Verdict → Type 0) → String Global × Verdict → Type 0
+IsReplyIn P r = P (string_bytes r.0) r.1
+
+-- the place that a word gives, or that it gives none
+abbrev pub IsGivenAs : Option (List ℕ) → Option (Option ℕ) → Type 0
+IsGivenAs word None = (k : Option ℕ) → IsPlaceGiven word k → ⊥
+IsGivenAs word (Some k) = IsPlaceGiven word k
+
+-- a text of which that is true came behind another one
+abbrev pub IsAdded : (List ℕ → Type 0) → List ℕ → List ℕ → Type 0
+IsAdded P old new = (more : List ℕ) × P more × (new ≡ old ++ more)
+
+-- words and a text came behind
+abbrev pub IsPutBehind : List ℕ → List ℕ → List ℕ → Type 0
+IsPutBehind more old new = (words : List ℕ) × (new ≡ old ++ (words ++ more))

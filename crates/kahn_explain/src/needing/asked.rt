@@ -1,20 +1,20 @@
 //! What a word of the command line asks for: a line of the network, or a place of it.
 
-ghost use Rattle.std.specs.Prelude.{◌≡◌, ◌↔◌, ◌<◌, ◌+◌, ◌^◌, ℕ, true, IfOk, IfSome, MatchOption, MatchResult, Option, option_map};
+ghost use Rattle.std.specs.Prelude.{◌≡◌, ◌↔◌, ℕ, true, IfOk, MatchOption, MatchResult, Option, option_map};
 ghost use Rattle.kahn_line.specs.Parts.{parted};
 ghost use Rattle.kahn_streams.specs.Inputs.{IsNoName};
 ghost use Rattle.kahn_streams.specs.Network.{Given, network_of};
 ghost use Rattle.kahn_streams.specs.Solution.{source};
 ghost use Rattle.kahn_streams.specs.declared.value.Line.{Line};
 ghost use Rattle.kahn_needs.specs.Finding.{IsNetworkLine};
-ghost use Rattle.kahn_explain.specs.inner.Replied.{IsGivenAs};
-ghost use Rattle.kahn_explain.specs.Needing.{IsWordFor, IsLineNamed, IsPlaceWord, IsQuestion, IsUnasked};
+ghost use Rattle.kahn_explain.specs.inner.Told.{IsGivenAs};
+ghost use Rattle.kahn_explain.specs.Needing.{IsLineNamed, IsPlaceWord, IsQuestion, IsUnasked};
 
 use kahn_streams::{Line, Network, channel_named};
 
 /// A line of a network, and a place of it, counted from 0, or all of them.
 #[derive(Clone, Copy)]
-pub struct Asked {
+pub struct Question {
     pub line: Line,
     pub place: Option<u64>,
 }
@@ -58,8 +58,7 @@ fn place_of(word: &str) -> Option<u64>
 
 /// The place that stands behind a colon, or none where there is no colon.
 fn place_given(word: Option<&str>) -> Option<Option<u64>>
-    ensures given { IsGivenAs (option_map (λ t. t.now) word.entry) result }
-    ensures small { IfSome result (λ o. IfSome o (λ k. k + 1 < 2 ^ 64)) }
+    ensures { IsGivenAs (option_map (λ t. t.now) word.entry) result }
 {
     match word {
         None => Some(None),
@@ -109,10 +108,9 @@ fn is_given(network: &Network, line: Line) -> bool
 
 /// What a word asks for that an instance sends, or why not.
 #[tactic(auto, using(crate::proofs::Worded::line_listed))]
-pub(crate) fn sought(network: &Network, word: &str) -> Result<Asked, AskFault>
+pub(crate) fn sought(network: &Network, word: &str) -> Result<Question, AskFault>
     ensures sought { MatchResult result (IsQuestion network.now word.now) (IsUnasked network.now word.now) }
     ensures listed { IfOk result (λ x. IsNetworkLine (network_of network.now) x.line) }
-    ensures small { IfOk result (λ x. IfSome x.place (λ k. k + 1 < 2 ^ 64)) }
 {
     let (name, place) = parted(word);
     let Some(line) = line_named(network, name) else {
@@ -122,7 +120,7 @@ pub(crate) fn sought(network: &Network, word: &str) -> Result<Asked, AskFault>
         return Err(AskFault::GivenLine);
     }
     match place_given(place) {
-        Some(place) => Ok(Asked { line, place }),
+        Some(place) => Ok(Question { line, place }),
         None => Err(AskFault::NoPlace),
     }
 }

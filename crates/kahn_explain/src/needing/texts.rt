@@ -1,59 +1,35 @@
 //! What is told of the needs of a value, in words.
 
-ghost use Rattle.std.specs.Prelude.{◌≡◌, ◌<◌, ◌+◌, ◌++◌, ◌^◌, IfOk, slice_get, slice_index_or, string_bytes};
-ghost use Rattle.kahn_explain.specs.Needing.{behind, column_length, needed_count, event_count, end_count, needed_events, found_end, found_words, name_of_line, of_all, or_none, place_name, cell_separator, value_count, needed_values};
-ghost use Rattle.kahn_streams.specs.declared.value.Line.TheVariants.{Print};
+ghost use Rattle.std.specs.Prelude.{◌≡◌, ◌++◌, IfOk, string_bytes};
+ghost use Rattle.kahn_explain.specs.Needing.{AreAllCounts, IsFoundTold, whole_count, needed_count, found_end, name_of_line, of_all, place_name};
+ghost use Rattle.kahn_explain.specs.inner.Told.{IsAdded, IsPutBehind};
 ghost use Rattle.kahn_needs.specs.declared.needs.Found.TheVariants.{Needs as FoundNeeds};
-ghost use Rattle.kahn_texts.specs.Formats.{IsLine};
 
-use crate::tracing::{Traced, add_value};
+use crate::tracing::{add_name, add_value};
 use itoa::Buffer;
 use kahn_marks::add;
 use kahn_needs::{Found, Needs};
-use kahn_pool::{Answer, Verdict};
+use kahn_pool::{Recorded, Verdict};
 use kahn_streams::{Line, Network};
-use kahn_texts::{channel_name, process_name};
 use std::alloc::{AllocError, Global};
 
-/// Adds the number and the name of a process.
-pub(crate) fn add_process(
-    text: &mut String,
-    network: &Network,
-    instance: usize,
-) -> Result<(), AllocError>
-    requires { instance < usize.MAX }
-    ensures { IfOk result (λ _. string_bytes text.new ≡ string_bytes text.old ++ name_of_line network.now (Print instance)) }
-{
-    let mut digits = Buffer::new();
-    let number = digits.format(instance + 1);
-    add(text, &[number, " ", process_name(network, instance)])
-}
-
 /// Adds the name of a line.
-pub(crate) fn add_line(text: &mut String, network: &Network, line: Line) -> Result<(), AllocError>
-    requires { IsLine network.now line }
+fn add_line(text: &mut String, network: &Network, line: Line) -> Result<(), AllocError>
     ensures { IfOk result (λ _. string_bytes text.new ≡ string_bytes text.old ++ name_of_line network.now line) }
 {
     match line {
-        Line::Channel(channel) => text.push_str(channel_name(network, channel)),
-        Line::Print(instance) => add_process(text, network, instance),
+        Line::Channel(channel) => add_name(text, network, true, channel),
+        Line::Print(instance) => add_name(text, network, false, instance),
     }
 }
 
 /// Adds the name of a place of a line.
-pub(crate) fn add_place(
-    text: &mut String,
-    network: &Network,
-    line: Line,
-    place: u64,
-) -> Result<(), AllocError>
-    requires line { IsLine network.now line }
-    requires place { place + 1 < 2 ^ 64 }
+fn add_place(text: &mut String, network: &Network, line: Line, place: u64) -> Result<(), AllocError>
     ensures { IfOk result (λ _. string_bytes text.new ≡ string_bytes text.old ++ place_name network.now line place) }
 {
     add_line(text, network, line)?;
     let mut digits = Buffer::new();
-    add(text, &[":", digits.format(place + 1)])
+    add(text, &[":", digits.format(place as u128 + 1)])
 }
 
 /// Adds of how many there are in the whole run, where it has finished.
@@ -70,165 +46,88 @@ fn add_of_all(text: &mut String, verdict: Verdict, all: u64) -> Result<(), Alloc
     }
 }
 
-/// Makes a name a count of what has it, or nothing where there is none.
-fn counted(
-    alloc: Global,
-    mut name: String,
-    count: u64,
-    verdict: Verdict,
-    all: u64,
-) -> Result<String, AllocError>
-    ensures { IfOk result (λ text. string_bytes text ≡ needed_count (string_bytes name) count (of_all verdict all)) }
+/// How many values a channel had in a run, or how many events a process did.
+fn whole_count(run: &Recorded, channels: bool, number: usize) -> u64
+    ensures { result ≡ whole_count run.now channels number }
 {
-    if count == 0 {
-        return Ok(String::new(alloc));
+    if channels {
+        return match run.counts.get(number) {
+            Some(count) => count.sent,
+            None => 0,
+        };
     }
-    let mut digits = Buffer::new();
-    add(&mut name, &[": ", digits.format(count)])?;
-    add_of_all(&mut name, verdict, all)?;
-    Ok(name)
-}
-
-/// What stands between counts and another one.
-fn cell_separator(text: &str) -> &'static str
-    ensures { result.now ≡ cell_separator text.now }
-{
-    if text.is_empty() { "" } else { ", " }
-}
-
-/// Adds a count behind others.
-fn add_behind(text: &mut String, more: &str) -> Result<(), AllocError>
-    ensures { IfOk result (λ _. string_bytes text.new ≡ behind (string_bytes text.old) more.now) }
-{
-    if more.is_empty() {
-        return Ok(());
-    }
-    let lead = cell_separator(text.as_str());
-    text.push_str(lead)?;
-    text.push_str(more)
-}
-
-/// How many values the whole run has on a channel.
-fn values_in(traced: &Traced, channel: usize) -> u64
-    ensures { result ≡ column_length (slice_get traced.now.columns.items channel) }
-{
-    match traced.columns.get(channel) {
-        Some(column) => column.values.len() as u64,
-        None => 0,
-    }
-}
-
-/// How many events a process does in the whole run.
-fn events_in(answer: &Answer, instance: usize) -> u64
-    ensures { result ≡ end_count (slice_get answer.now.ends.items instance) }
-{
-    match answer.ends.get(instance) {
+    match run.answer.ends.get(number) {
         Some(end) => end.events,
         None => 0,
     }
 }
 
-/// The number of a count at a place, and 0 past the last.
-fn count_at(counts: &[u64], place: usize) -> u64
-    ensures { result ≡ slice_index_or counts.now place 0 }
+/// How many of a channel or a process are needed, by its name; nothing where none is.
+fn counted(
+    alloc: Global,
+    network: &Network,
+    run: &Recorded,
+    channels: bool,
+    number: usize,
+    count: u64,
+) -> Result<String, AllocError>
+    ensures { IfOk result (λ text. string_bytes text ≡ needed_count network.now run.now channels number count) }
 {
-    match counts.get(place) {
-        Some(count) => *count,
-        None => 0,
+    let mut text = String::new(alloc);
+    if count == 0 {
+        return Ok(text);
+    }
+    add_name(&mut text, network, channels, number)?;
+    let mut digits = Buffer::new();
+    add(&mut text, &[": ", digits.format(count)])?;
+    let all = whole_count(run, channels, number);
+    add_of_all(&mut text, run.answer.verdict, all)?;
+    Ok(text)
+}
+
+/// What stands between counts and another one.
+fn separator(text: &str, more: &str) -> &'static str {
+    if text.is_empty() || more.is_empty() {
+        ""
+    } else {
+        ", "
     }
 }
 
-/// The count of the values of a channel that are needed.
-fn value_count(
-    alloc: Global,
-    network: &Network,
-    traced: &Traced,
-    counts: &[u64],
-    channel: usize,
-) -> Result<String, AllocError>
-    ensures { IfOk result (λ text. string_bytes text ≡ value_count network.now traced.now counts.now channel) }
+/// Adds a count behind others.
+fn add_behind(text: &mut String, more: &str) -> Result<(), AllocError>
+    ensures { IfOk result (λ _. IsPutBehind more.now (string_bytes text.old) (string_bytes text.new)) }
 {
-    let name = String::from_str(alloc, channel_name(network, channel))?;
-    let (verdict, all) = (traced.answer.verdict, values_in(traced, channel));
-    counted(alloc, name, count_at(counts, channel), verdict, all)
+    let between = separator(text.as_str(), more);
+    text.push_str(between)?;
+    text.push_str(more)?;
+    Ok(())
 }
 
-/// The values that are needed, by channel.
-fn needed_values(
+/// Those that are needed, of channels or of processes.
+fn counts_of(
     alloc: Global,
     network: &Network,
-    traced: &Traced,
+    run: &Recorded,
+    channels: bool,
     counts: &[u64],
 ) -> Result<String, AllocError>
-    ensures { IfOk result (λ text. string_bytes text ≡ needed_values network.now traced.now counts.now) }
+    ensures { IfOk result (λ text. AreAllCounts network.now run.now channels counts.now (string_bytes text)) }
 {
     let mut text = String::new(alloc);
-    for channel in 0..counts.len() {
-        let more = value_count(alloc, network, traced, counts, channel)?;
+    for number in 0..counts.len() {
+        let more = counted(alloc, network, run, channels, number, counts[number])?;
         add_behind(&mut text, more.as_str())?;
     }
     Ok(text)
 }
 
-/// The count of the events of a process that are needed.
-fn event_count(
-    alloc: Global,
-    network: &Network,
-    traced: &Traced,
-    counts: &[u64],
-    instance: usize,
-) -> Result<String, AllocError>
-    requires { instance < usize.MAX }
-    ensures { IfOk result (λ text. string_bytes text ≡ event_count network.now traced.now counts.now instance) }
-{
-    let mut name = String::new(alloc);
-    add_process(&mut name, network, instance)?;
-    let (verdict, all) = (traced.answer.verdict, events_in(&traced.answer, instance));
-    counted(alloc, name, count_at(counts, instance), verdict, all)
-}
-
-/// The events that are needed, by process.
-fn needed_events(
-    alloc: Global,
-    network: &Network,
-    traced: &Traced,
-    counts: &[u64],
-) -> Result<String, AllocError>
-    ensures { IfOk result (λ text. string_bytes text ≡ needed_events network.now traced.now counts.now) }
-{
-    let mut text = String::new(alloc);
-    for instance in 0..counts.len() {
-        let more = event_count(alloc, network, traced, counts, instance)?;
-        add_behind(&mut text, more.as_str())?;
-    }
-    Ok(text)
-}
-
-/// The text, or that there are no values.
-fn or_none(text: &str) -> &str
-    ensures { result.now ≡ or_none text.now }
-{
-    if text.is_empty() { "no values" } else { text }
-}
-
-/// Adds what was found of a value, behind the name of its place.
-fn add_found(
-    alloc: Global,
-    text: &mut String,
-    network: &Network,
-    traced: &Traced,
-    found: &Found,
-) -> Result<(), AllocError>
-    ensures { IfOk result (λ _. string_bytes text.new ≡ string_bytes text.old ++ found_words network.now traced.now found.now) }
-{
-    match found {
-        Found::Needs(needs) => add_needs(alloc, text, network, traced, needs),
-        Found::Never => add(text, &[" never comes", "\n"]),
-        Found::Ring => {
-            let why = " never comes: processes that it waits for wait on one another";
-            add(text, &[why, "\n"])
-        }
-        Found::Bound => add(text, &[" doesn't come within the bound", "\n"]),
+/// What stands before the values that are needed.
+fn needs_word(values: &str) -> &'static str {
+    if values.is_empty() {
+        " needs no values"
+    } else {
+        " needs "
     }
 }
 
@@ -237,39 +136,64 @@ fn add_needs(
     alloc: Global,
     text: &mut String,
     network: &Network,
-    traced: &Traced,
+    run: &Recorded,
     needs: &Needs,
 ) -> Result<(), AllocError>
-    ensures { IfOk result (λ _. string_bytes text.new ≡ string_bytes text.old ++ found_words network.now traced.now (FoundNeeds needs.now)) }
+    ensures { IfOk result (λ _. IsAdded (IsFoundTold network.now run.now (FoundNeeds needs.now)) (string_bytes text.old) (string_bytes text.new)) }
 {
-    let values = needed_values(alloc, network, traced, needs.values.as_slice())?;
-    let events = needed_events(alloc, network, traced, needs.events.as_slice())?;
+    let values = counts_of(alloc, network, run, true, needs.values.as_slice())?;
+    let events = counts_of(alloc, network, run, false, needs.events.as_slice())?;
     text.push_str(" = ")?;
     add_value(text, needs.value)?;
-    let values = or_none(values.as_str());
+    let lead = needs_word(values.as_str());
     add(
         text,
-        &[" needs ", values, "\n", "events of ", events.as_str(), "\n"],
+        &[lead, values.as_str(), "\nevents of ", events.as_str(), "\n"],
     )?;
     Ok(())
+}
+
+/// Adds what was found of a value.
+fn add_found(
+    alloc: Global,
+    text: &mut String,
+    network: &Network,
+    run: &Recorded,
+    found: &Found,
+) -> Result<(), AllocError>
+    ensures { IfOk result (λ _. IsAdded (IsFoundTold network.now run.now found.now) (string_bytes text.old) (string_bytes text.new)) }
+{
+    match found {
+        Found::Needs(needs) => add_needs(alloc, text, network, run, needs),
+        Found::Never => {
+            text.push_str(" never comes\n")?;
+            Ok(())
+        }
+        Found::Ring => {
+            text.push_str(" never comes: processes that it waits for wait on one another\n")?;
+            Ok(())
+        }
+        Found::Bound => {
+            text.push_str(" doesn't come within the bound\n")?;
+            Ok(())
+        }
+    }
 }
 
 /// What is told of a place of a line.
 pub(crate) fn found_text(
     alloc: Global,
     network: &Network,
-    traced: &Traced,
+    run: &Recorded,
     line: Line,
     place: u64,
     found: &Found,
 ) -> Result<String, AllocError>
-    requires line { IsLine network.now line }
-    requires place { place + 1 < 2 ^ 64 }
-    ensures { IfOk result (λ text. string_bytes text ≡ place_name network.now line place ++ found_words network.now traced.now found.now) }
+    ensures { IfOk result (λ text. IsAdded (IsFoundTold network.now run.now found.now) (place_name network.now line place) (string_bytes text)) }
 {
     let mut text = String::new(alloc);
     add_place(&mut text, network, line, place)?;
-    add_found(alloc, &mut text, network, traced, found)?;
+    add_found(alloc, &mut text, network, run, found)?;
     Ok(text)
 }
 

@@ -1,13 +1,10 @@
 //! The columns of a table, and the streams of which they are made.
 
-ghost use Rattle.std.specs.Prelude.{◌≡◌, IfOk, MatchOption, MatchResult};
+ghost use Rattle.std.specs.Prelude.{◌≡◌, IfOk, MatchOption};
 ghost use Rattle.kahn_streams.specs.Answers.{HasStream};
-ghost use Rattle.kahn_streams.specs.declared.fault.RunFault.TheVariants.{NoMemory as Wants};
-ghost use Rattle.kahn_fault.specs.declared.work.WorkFault.TheVariants.{Run};
 ghost use Rattle.kahn_explain.specs.inner.Columns.{HasLine, IsColumnOf, HasValuesOf};
 
-use kahn_fault::WorkFault;
-use kahn_pool::{Answer, RunFault, Stream};
+use kahn_pool::{Answer, Stream};
 use kahn_streams::{Line, NoMemory, Value};
 use std::alloc::Global;
 
@@ -45,15 +42,12 @@ pub(crate) fn column_of(alloc: Global, stream: &Stream) -> Result<Column, NoMemo
 }
 
 /// The column of a line of which an answer has a stream.
-pub(crate) fn line_column(alloc: Global, answer: &Answer, line: Line) -> Result<Column, WorkFault>
+pub(crate) fn line_column(alloc: Global, answer: &Answer, line: Line) -> Result<Column, NoMemory>
     requires { HasLine answer.now line }
-    ensures { MatchResult result (IsColumnOf answer.now line) (λ f. f ≡ Run Wants) }
+    ensures { IfOk result (IsColumnOf answer.now line) }
 {
     let Some(stream) = stream_of(answer, line) else {
         unreachable!()
     };
-    match column_of(alloc, stream) {
-        Ok(column) => Ok(column),
-        Err(NoMemory) => Err(WorkFault::Run(RunFault::NoMemory)),
-    }
+    Ok(column_of(alloc, stream)?)
 }

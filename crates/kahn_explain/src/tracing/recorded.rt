@@ -1,31 +1,19 @@
 //! The column of a channel, of a run that kept all channels.
 
-ghost use Rattle.std.specs.Prelude.{◌≡◌, ◌<◌, MatchResult, false, length};
+ghost use Rattle.std.specs.Prelude.{◌≡◌, ◌<◌, IfOk, MatchResult, false, length};
 ghost use Rattle.kahn_streams.specs.Answers.{is_output};
 ghost use Rattle.kahn_streams.specs.Network.{network_of, role_at};
 ghost use Rattle.kahn_streams.specs.declared.value.Line.TheVariants.{Channel};
 ghost use Rattle.kahn_fault.specs.Work.{IsUnanswered};
-ghost use Rattle.kahn_explain.specs.Histories.{IsUntraced, unwatched};
-ghost use Rattle.kahn_explain.specs.inner.Columns.{IsHistoryOf, IsTextRecorded};
+ghost use Rattle.kahn_explain.specs.Histories.{IsRecordedFor};
+ghost use Rattle.kahn_explain.specs.inner.Columns.{IsHistoryOf, IsRecord};
 
 use crate::tracing::column::{Column, column_of, line_column};
 use kahn_fault::WorkFault;
-use kahn_pool::{Config, Recorded, RunFault, run_recorded};
-use kahn_streams::{Line, Network, Role};
+use kahn_pool::{Config, Recorded, run_recorded};
+use kahn_streams::{Line, Network, NoMemory, Role};
 use kahn_texts::read_input;
 use std::alloc::Global;
-
-/// The same without a watched channel.
-pub(crate) fn unwatched(config: &Config) -> Config
-    ensures { result ≡ unwatched config.now }
-{
-    Config {
-        workers: config.workers,
-        quantum: config.quantum,
-        bound: config.bound,
-        watch: None,
-    }
-}
 
 /// The run of a network for an input text, with all that was sent. It refuses as `read_input` and `run_recorded` do.
 pub(crate) fn recorded(
@@ -34,7 +22,7 @@ pub(crate) fn recorded(
     text: &str,
     config: Config,
 ) -> Result<Recorded, WorkFault>
-    ensures { MatchResult result (IsTextRecorded network.now text.now config) (IsUnanswered network.now text.now config) }
+    ensures { MatchResult result (IsRecordedFor network.now text.now config) (IsUnanswered network.now text.now config) }
 {
     let input = read_input(alloc, text, network)?;
     match run_recorded(alloc, network, input, config) {
@@ -43,43 +31,36 @@ pub(crate) fn recorded(
     }
 }
 
-// The column of a channel that isn't an output.
+/// The column of a channel that isn't an output.
 fn kept_column(
     alloc: Global,
     network: &Network,
-    text: &str,
-    config: &Config,
     run: &Recorded,
     channel: usize,
-) -> Result<Column, WorkFault>
+) -> Result<Column, NoMemory>
     requires here { channel < length (network_of network.now).channels }
     requires kept { is_output (role_at (network_of network.now) channel) ≡ false }
-    requires run { IsTextRecorded network.now text.now (unwatched config.now) run.now }
-    ensures { MatchResult result (IsHistoryOf network.now text.now run.now.answer.verdict (Channel channel)) (IsUntraced network.now text.now config.now) }
+    requires run { IsRecord network.now run.now }
+    ensures { IfOk result (IsHistoryOf network.now run.now (Channel channel)) }
 {
     let stream = &run.channels[channel];
-    match column_of(alloc, stream) {
-        Ok(column) => Ok(column),
-        Err(_) => Err(WorkFault::Run(RunFault::NoMemory)),
-    }
+    column_of(alloc, stream)
 }
 
 /// The column of a channel: of the answer where it is an output, and else of what was kept.
 pub(crate) fn channel_column(
     alloc: Global,
     network: &Network,
-    text: &str,
-    config: &Config,
     run: &Recorded,
     channel: usize,
-) -> Result<Column, WorkFault>
+) -> Result<Column, NoMemory>
     requires here { channel < length (network_of network.now).channels }
-    requires run { IsTextRecorded network.now text.now (unwatched config.now) run.now }
-    ensures { MatchResult result (IsHistoryOf network.now text.now run.now.answer.verdict (Channel channel)) (IsUntraced network.now text.now config.now) }
+    requires run { IsRecord network.now run.now }
+    ensures { IfOk result (IsHistoryOf network.now run.now (Channel channel)) }
 {
     match network.channel(channel).role {
         Role::Output => line_column(alloc, &run.answer, Line::Channel(channel)),
-        Role::Inner => kept_column(alloc, network, text, config, run, channel),
-        Role::Input => kept_column(alloc, network, text, config, run, channel),
+        Role::Inner => kept_column(alloc, network, run, channel),
+        Role::Input => kept_column(alloc, network, run, channel),
     }
 }

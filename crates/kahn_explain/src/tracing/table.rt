@@ -1,9 +1,8 @@
-//! The text of a table: a column for each line, and a row for each place.
+//! The text of a table of histories: a column for each line, and a row for each place.
 
-ghost use Rattle.std.specs.Prelude.{◌≡◌, ◌<◌, ◌++◌, All, IfOk, codes, flat_map, length, string_bytes};
-ghost use Rattle.kahn_texts.specs.Formats.{IsLine};
+ghost use Rattle.std.specs.Prelude.{◌≡◌, ◌++◌, IfOk, string_bytes};
 ghost use Rattle.kahn_streams.specs.Written.{value_text};
-ghost use Rattle.kahn_explain.specs.Table.{cell_text, cells_text, head_row, head_text, heads_text, longest, row_text, place_rows, trace_text};
+ghost use Rattle.kahn_explain.specs.Table.{cell, cell_text, cells, cells_text, head_text, heads_text, longest, name_at, row_text, place_rows, trace_text};
 
 use crate::tracing::column::Column;
 use itoa::Buffer;
@@ -12,27 +11,65 @@ use kahn_streams::{Line, Network, Value};
 use kahn_texts::{channel_name, process_name};
 use std::alloc::{AllocError, Global};
 
+/// Adds a number behind a comma.
+fn add_number(text: &mut String, number: u64) -> Result<(), AllocError>
+    ensures { IfOk result (λ _. string_bytes text.new ≡ string_bytes text.old ++ cell number) }
+{
+    let mut digits = Buffer::new();
+    add(text, &[",", digits.format(number)])
+}
+
+/// Adds numbers, each behind a comma.
+pub(crate) fn add_numbers(text: &mut String, numbers: &[u64]) -> Result<(), AllocError>
+    ensures { IfOk result (λ _. string_bytes text.new ≡ string_bytes text.old ++ cells numbers.now) }
+{
+    for number in numbers {
+        add_number(text, *number)?;
+    }
+    Ok(())
+}
+
+/// Adds the name of a channel, or the number and the name of a process.
+pub(crate) fn add_name(
+    text: &mut String,
+    network: &Network,
+    channels: bool,
+    number: usize,
+) -> Result<(), AllocError>
+    ensures { IfOk result (λ _. string_bytes text.new ≡ string_bytes text.old ++ name_at network.now channels number) }
+{
+    if channels {
+        return text.push_str(channel_name(network, number));
+    }
+    let mut digits = Buffer::new();
+    add(
+        text,
+        &[
+            digits.format(number as u128 + 1),
+            " ",
+            process_name(network, number),
+        ],
+    )
+}
+
 /// Adds what heads the column of a line.
 fn add_head(text: &mut String, network: &Network, line: Line) -> Result<(), AllocError>
-    requires { IsLine network.now line }
     ensures { IfOk result (λ _. string_bytes text.new ≡ string_bytes text.old ++ head_text network.now line) }
 {
     match line {
-        Line::Channel(channel) => add(text, &[",", channel_name(network, channel)]),
+        Line::Channel(channel) => {
+            text.push_str(",")?;
+            add_name(text, network, true, channel)
+        }
         Line::Print(instance) => {
-            let mut buffer = Buffer::new();
-            let number = buffer.format(instance + 1);
-            add(
-                text,
-                &[",print ", number, " ", process_name(network, instance)],
-            )
+            text.push_str(",print ")?;
+            add_name(text, network, false, instance)
         }
     }
 }
 
 /// Adds what heads the columns.
 fn add_heads(text: &mut String, network: &Network, columns: &[Column]) -> Result<(), AllocError>
-    requires { All (λ x. IsLine network.now x.line) columns.now }
     ensures { IfOk result (λ _. string_bytes text.new ≡ string_bytes text.old ++ heads_text network.now columns.now) }
 {
     for column in columns {
@@ -76,11 +113,10 @@ fn add_cells(text: &mut String, columns: &[Column], place: usize) -> Result<(), 
 
 /// Adds the row of a place, which is counted from 1.
 fn add_row(text: &mut String, columns: &[Column], place: usize) -> Result<(), AllocError>
-    requires { place < usize.MAX }
     ensures { IfOk result (λ _. string_bytes text.new ≡ string_bytes text.old ++ row_text columns.now place) }
 {
     let mut buffer = Buffer::new();
-    text.push_str(buffer.format(place + 1))?;
+    text.push_str(buffer.format(place as u128 + 1))?;
     add_cells(text, columns, place)?;
     text.push_str("\n")
 }
@@ -114,7 +150,6 @@ pub fn trace_text(
     network: &Network,
     columns: &[Column],
 ) -> Result<String, AllocError>
-    requires { All (λ x. IsLine network.now x.line) columns.now }
     ensures { IfOk result (λ text. string_bytes text ≡ trace_text network.now columns.now) }
 {
     let mut text = String::from_str(alloc, "place")?;

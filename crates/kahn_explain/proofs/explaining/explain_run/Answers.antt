@@ -1,29 +1,37 @@
-use Rattle.std.proofs.Common.{[], string_bytes}
+use Rattle.std.proofs.Common.{[], inr, refl, string_bytes}
 use Rattle.kahn_why.proofs.Parts.{broke_off, went_out}
-use Rattle.kahn_explain.proofs.Parts.{explained_out, unexplained, unread, unrun, unwarned}
+use Rattle.kahn_explain.proofs.Parts.{explained_out, notes_before, unexplained, unfed, unrun}
 use Rattle.kahn_why.proofs.Right_ends.{answered}
 use Rattle.kahn_explain.proofs.explaining.explain_run.Goals as goal
 
 pub returns-in-Err : goal.returns-in-Err
-returns-in-Err g c strict on = unread c.args.path.now c.args.program.now c.args.input.now c.args.config strict c.args.it.now _ c.in-Err.fault on c.in-Err.ensures.read
+returns-in-Err g c strict on = (unfed c.args.path.now c.args.program.now c.args.input.now strict c.args.it.now c.in-Err.fault on c.in-Err.ensures.read, refl)
 
 pub returns-in-Err-write_line : goal.returns-in-Err-write_line
-returns-in-Err-write_line g c strict on =
-    unwarned c.args.path.now c.args.program.now c.args.input.now c.args.config strict c.args.it.now c.in-Ok.lists _ _ c.in-Err-write_line.fault on c.in-Ok.ensures.read
-    (broke_off _ _ [] (string_bytes c.args.it.now.notes) (rw c.as_bytes.ensures.value at c.in-Err-write_line.ensures))
+returns-in-Err-write_line g c strict on = (
+  string_bytes c.args.it.now.notes,
+  inr (notes_before c.args.path.now c.args.program.now c.args.input.now strict c.args.it.now c.in-Ok.lists on c.in-Ok.ensures.read),
+  broke_off _ _ [] (string_bytes c.args.it.now.notes) (rw c.as_bytes.ensures.value at c.in-Err-write_line.ensures),
+)
 
 pub returns-in-Err-run : goal.returns-in-Err-run
 returns-in-Err-run g c strict on =
-    unrun c.args.path.now c.args.program.now c.args.input.now c.args.config strict c.args.it.now c.in-Ok.lists _ _ c.in-Err-run.fault on c.in-Ok.ensures.read
-    (went_out _ _ [] (string_bytes c.args.it.now.notes) (rw c.as_bytes.ensures.value at c.in_default.ensures)) c.in-Err-run.ensures.told
+    inr (
+      string_bytes c.args.it.now.notes,
+      unrun c.args.path.now c.args.program.now c.args.input.now c.args.config strict c.args.it.now c.in-Ok.lists c.in-Err-run.fault on c.in-Ok.ensures.read c.in-Err-run.ensures.told,
+      went_out _ _ [] (string_bytes c.args.it.now.notes) (rw c.as_bytes.ensures.value at c.in_default.ensures),
+    )
 
 pub explain_answer-requires : goal.explain_answer-requires
 explain_answer-requires g c = answered c.args.program.now c.args.it.now.network c.args.config c.in-Ok.lists c.in-Ok-run.answer c.requires c.in-Ok-run.ensures.told
 
 pub returns-in_default-explain_answer : goal.returns-in_default-explain_answer
 returns-in_default-explain_answer g c strict on =
-    unexplained c.args.path.now c.args.program.now c.args.input.now c.args.config strict c.args.it.now c.in-Ok.lists c.in-Ok-run.answer _ _ on c.in-Ok.ensures.read
-    (went_out _ _ [] (string_bytes c.args.it.now.notes) (rw c.as_bytes.ensures.value at c.in_default.ensures)) c.in-Ok-run.ensures.told
+    inr (
+      string_bytes c.args.it.now.notes,
+      unexplained c.args.path.now c.args.program.now c.args.input.now c.args.config strict c.args.it.now c.in-Ok.lists c.in-Ok-run.answer on c.in-Ok.ensures.read c.in-Ok-run.ensures.told,
+      went_out _ _ [] (string_bytes c.args.it.now.notes) (rw c.as_bytes.ensures.value at c.in_default.ensures),
+    )
 
 pub returns : goal.returns
 returns g c strict on =

@@ -1,8 +1,9 @@
-use Rattle.kahn_explain.proofs.Parts.{looked_out, unread_look}
+use Rattle.std.proofs.Common.{refl}
+use Rattle.kahn_explain.proofs.Parts.{looked_out, unfed}
 use Rattle.kahn_explain.proofs.explaining.look_on.Goals as goal
 
 pub returns-in-Err : goal.returns-in-Err
-returns-in-Err g c path program strict on = unread_look path program c.args.input.now strict c.args.it.now _ c.in-Err.fault on c.in-Err.ensures.read
+returns-in-Err g c path program strict on = (unfed path program c.args.input.now strict c.args.it.now c.in-Err.fault on c.in-Err.ensures.read, refl)
 
 pub returns : goal.returns
 returns g c path program strict on =

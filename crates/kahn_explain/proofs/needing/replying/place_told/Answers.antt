@@ -1,4 +1,13 @@
 use Rattle.kahn_explain.proofs.needing.replying.place_told.Goals as goal
 
 pub returns : goal.returns
-returns c = (c.in-Ok.traced, c.in-Ok-read_input.input, c.in-Ok-found_at.found, c.in-Ok.ensures.told, c.in-Ok-read_input.ensures.read, c.in-Ok-found_at.ensures, c.in-Ok-found_text.ensures, c.found_end-end.ensures)
+returns c = (
+  c.in_ok-kept.kept,
+  c.in_ok-input.input,
+  c.in-Ok.found,
+  c.in_ok-kept.ensures,
+  c.in_ok-input.ensures.read,
+  c.in-Ok.ensures,
+  c.in-Ok-found_text.ensures,
+  c.found_end-end.ensures,
+)

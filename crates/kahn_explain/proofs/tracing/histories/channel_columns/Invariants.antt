@@ -4,4 +4,4 @@ use Rattle.kahn_explain.specs.inner.Columns.{AreColumns}
 use Rattle.kahn_explain.proofs.tracing.histories.channel_columns.Given as goal
 
 abbrev pub invariant-loop-channel : goal.invariant-loop-channel
-invariant-loop-channel l = AreColumns l.network l.text l.run.answer.verdict (all_channels l.channel) l.columns.items
+invariant-loop-channel l = AreColumns l.network l.run (all_channels l.channel) l.columns.items
