@@ -1,4 +1,4 @@
-"""The page in a headless Chromium, which is told what to do over two pipes, or in a headless Firefox, by WebDriver BiDi over a web socket."""
+"""The page in a headless Chromium or Firefox, which is told what to do over a web socket of this machine: by DevTools or by WebDriver BiDi."""
 import base64
 import json
 import os
@@ -23,11 +23,14 @@ class Browser:
     """Opens the file of the page. Each call ends within the seconds that are left, or raises TimeoutError. `told` has the errors of its
     scripts, and what its policy refused; `script` is one that runs before those of a page that is opened."""
 
+    # What stands in each message beside the call.
+    about = {}
+
     def __init__(self, program, path, seconds, script=""):
         self.end, self.number, self.kept, self.told = time.monotonic() + seconds, 0, b"", []
         self.limit, self.path, self.script, self.target, self.shape = self.end, path, script, None, None
         self.folder = tempfile.TemporaryDirectory(ignore_cleanup_errors=True)
-        self.start(program)
+        self.connect([program, *self.options(self.folder.name)])
         self.open()
 
     def __enter__(self):
@@ -41,21 +44,58 @@ class Browser:
         self.process.wait()
         self.folder.cleanup()
 
-    def begin(self, *words, **more):
-        self.process = subprocess.Popen(words, stdin=subprocess.DEVNULL, start_new_session=True, **more)
+    def connect(self, words):
+        """Begins the browser, which says on standard error at which address it listens."""
+        path = f"{self.folder.name}/said"
+        with open(path, "wb") as said:
+            home = {**os.environ, "HOME": self.folder.name}
+            self.process = subprocess.Popen(words, stdin=subprocess.DEVNULL, stdout=said, stderr=said, start_new_session=True, env=home)
+        while not (found := re.search(r"listening on ws://127\.0\.0\.1:(\d+)(/\S+)?\n", open(path, encoding="utf-8", errors="replace").read())):
+            if time.monotonic() > self.limit:
+                raise TimeoutError("the browser gave no answer in time")
+            time.sleep(0.05)
+        self.socket = socket.create_connection(("127.0.0.1", int(found[1])))
+        self.socket.sendall(f"GET {found[2] or '/session'} HTTP/1.1\r\nHost: 127.0.0.1:{found[1]}\r\nUpgrade: websocket\r\nConnection: Upgrade\r\n"
+                            "Sec-WebSocket-Key: AAAAAAAAAAAAAAAAAAAAAA==\r\nSec-WebSocket-Version: 13\r\n\r\n".encode())
+        while b"\r\n\r\n" not in self.kept:
+            self.more()
+        self.kept = self.kept.split(b"\r\n\r\n", 1)[1]
 
     def more(self):
         """Takes what comes next."""
-        if not select.select([self.come], [], [], max(0, self.limit - time.monotonic()))[0]:
+        if not select.select([self.socket], [], [], max(0, self.limit - time.monotonic()))[0]:
             raise TimeoutError("the browser gave no answer in time")
-        got = os.read(self.come, 1 << 20)
+        got = self.socket.recv(1 << 20)
         if not got:
             raise TimeoutError("the browser ended")
         self.kept += got
 
+    def send(self, message):
+        data = json.dumps(message).encode()
+        size = len(data)
+        length = struct.pack("!B", 128 + size) if size < 126 else struct.pack("!BH", 254, size) if size < 1 << 16 else struct.pack("!BQ", 255, size)
+        # a mask of zeros isn't taken
+        masked = int.from_bytes(data, "big") ^ int.from_bytes(b"\1" * size, "big")
+        self.socket.sendall(b"\x81" + length + b"\1\1\1\1" + masked.to_bytes(size, "big"))
+
+    def take(self, count):
+        while len(self.kept) < count:
+            self.more()
+        taken, self.kept = self.kept[:count], self.kept[count:]
+        return taken
+
+    def receive(self):
+        text, is_last = b"", False
+        while not is_last:
+            first, length = self.take(2)
+            if length > 125:
+                length = int.from_bytes(self.take(2 if length == 126 else 8), "big")
+            text, is_last = text + self.take(length), bool(first & 0x80)
+        return json.loads(text)
+
     def call(self, method, seconds=SECONDS_TO_ANSWER, **values):
         self.number, self.limit = self.number + 1, min(self.end, time.monotonic() + seconds)
-        self.send({"id": self.number, "method": method, "params": values})
+        self.send({"id": self.number, "method": method, "params": values, **self.about})
         while (answer := self.receive()).get("id") != self.number:
             self.note(answer.get("method"), answer.get("params"))
         if "error" in answer:
@@ -97,28 +137,10 @@ class Browser:
 
 
 class Chromium(Browser):
-    session = None
-
-    def start(self, program):
-        theirs, self.to = os.pipe()
-        self.come, back = os.pipe()
-        words = [program, "--headless=new", "--disable-gpu", "--no-first-run", f"--user-data-dir={self.folder.name}", "--remote-debugging-pipe"]
-        words += ["--no-sandbox"] if os.getuid() == 0 else []
-        shell = ["sh", "-c", f'exec "$@" 3<&{theirs} 4>&{back}', "sh", *words, "about:blank"]
-        self.begin(*shell, stdout=subprocess.DEVNULL, stderr=subprocess.DEVNULL, pass_fds=(theirs, back))
-        os.close(theirs)
-        os.close(back)
-
-    def send(self, message):
-        data = json.dumps({**message, **({"sessionId": self.session} if self.session else {})}).encode() + b"\0"
-        while data:
-            data = data[os.write(self.to, data) :]
-
-    def receive(self):
-        while b"\0" not in self.kept:
-            self.more()
-        text, self.kept = self.kept.split(b"\0", 1)
-        return json.loads(text)
+    @staticmethod
+    def options(folder):
+        sandbox = ["--no-sandbox"] if os.getuid() == 0 else []
+        return ["--headless=new", "--disable-gpu", "--no-first-run", f"--user-data-dir={folder}", "--remote-debugging-port=0", *sandbox, "about:blank"]
 
     def note(self, method, it):
         if method == "Runtime.exceptionThrown":
@@ -127,11 +149,11 @@ class Chromium(Browser):
             self.told.append(it["entry"]["text"])
 
     def attach(self):
-        self.session, before = None, self.target
+        self.about, before = {}, self.target
         self.target = self.call("Target.createTarget", url="about:blank")["targetId"]
         if before:
             self.call("Target.closeTarget", targetId=before)
-        self.session = self.call("Target.attachToTarget", targetId=self.target, flatten=True)["sessionId"]
+        self.about = {"sessionId": self.call("Target.attachToTarget", targetId=self.target, flatten=True)["sessionId"]}
         for domain in ("Page", "Runtime", "Log"):
             self.call(f"{domain}.enable")
         self.call("Page.addScriptToEvaluateOnNewDocument", source=self.script)
@@ -172,47 +194,16 @@ class Firefox(Browser):
 
     added = None
 
-    def start(self, program):
-        with open(f"{self.folder.name}/user.js", "w", encoding="utf-8") as file:
+    @staticmethod
+    def options(folder):
+        with open(f"{folder}/user.js", "w", encoding="utf-8") as file:
             file.write('user_pref("layout.css.prefers-color-scheme.content-override", 1);\nuser_pref("toolkit.telemetry.enabled", false);\n')
-        words = [program, "--headless", "--no-remote", "--profile", self.folder.name, "--remote-debugging-port", "0"]
-        with open(f"{self.folder.name}/said", "wb") as said:
-            self.begin(*words, stdout=said, stderr=said, env={**os.environ, "HOME": self.folder.name})
-        while not (found := re.search(rb"listening on ws://127\.0\.0\.1:(\d+)", open(f"{self.folder.name}/said", "rb").read())):
-            if time.monotonic() > self.limit:
-                raise TimeoutError("the browser gave no answer in time")
-            time.sleep(0.1)
-        self.socket = socket.create_connection(("127.0.0.1", int(found[1])))
-        self.come = self.socket.fileno()
-        self.socket.sendall(b"GET /session HTTP/1.1\r\nHost: 127.0.0.1:%s\r\nUpgrade: websocket\r\nConnection: Upgrade\r\n"
-                            b"Sec-WebSocket-Key: AAAAAAAAAAAAAAAAAAAAAA==\r\nSec-WebSocket-Version: 13\r\n\r\n" % found[1])
-        while b"\r\n\r\n" not in self.kept:
-            self.more()
-        self.kept = self.kept.split(b"\r\n\r\n", 1)[1]
+        return ["--headless", "--no-remote", "--profile", folder, "--remote-debugging-port", "0"]
+
+    def connect(self, words):
+        super().connect(words)
         self.call("session.new", capabilities={})
         self.call("session.subscribe", events=["log.entryAdded"])
-
-    def send(self, message):
-        data = json.dumps(message).encode()
-        size = len(data)
-        length = struct.pack("!B", 128 + size) if size < 126 else struct.pack("!BH", 254, size) if size < 1 << 16 else struct.pack("!BQ", 255, size)
-        # a mask of zeros isn't taken
-        self.socket.sendall(b"\x81" + length + b"\1\1\1\1" + bytes(it ^ 1 for it in data))
-
-    def take(self, count):
-        while len(self.kept) < count:
-            self.more()
-        taken, self.kept = self.kept[:count], self.kept[count:]
-        return taken
-
-    def receive(self):
-        text, is_last = b"", False
-        while not is_last:
-            first, length = self.take(2)
-            if length > 125:
-                length = int.from_bytes(self.take(2 if length == 126 else 8), "big")
-            text, is_last = text + self.take(length), bool(first & 0x80)
-        return json.loads(text)
 
     def note(self, method, it):
         if method == "log.entryAdded" and it["level"] == "error":
