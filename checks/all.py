@@ -46,6 +46,7 @@ PROGRAMS = {
     "mistakes with known repairs": f"{FUZZ}/mistakes.py $KAHN_EXPLAIN 600 $SEED",
     "what is said of random texts": f"{FUZZ}/grammar.py $KAHN_EXPLAIN 250 $SEED",
     "why random networks stop": f"{FUZZ}/causes.py $KAHN_EXPLAIN $KAHN 150 $SEED",
+    "what values of random networks need": f"{FUZZ}/needs.py $KAHN_EXPLAIN $KAHN 150 $SEED",
     "random programs, line by line": f"{FUZZ}/live.py $KAHN_LIVE $KAHN 200 $SEED",
 }
 # The same by workers that all begin at once, if that program, which isn't released, was built.
