@@ -1,5 +1,5 @@
 -- Each step keeps the rule.
-use Rattle.kahn_board.proofs.Common.{◌≡◌, ℕ, ◌+◌, ◌*◌, ◌%◌, ◌<◌, ◌≤◌, ◌≢◌, ◌⊎◌, inl, inr, ⊎_elim, List, length, get_or, set, sym, ap, ◌∙◌, subst, arith, Option, Some, None, length-set, dite, ℕ_discrete, some, none, some-injective, some-ne-none, get_elem?, at_set, set_here, set_else, Summary, TellsWait, TellsEvents, Wires, is_up, below, Place, held, parked, word_code, held_by, mark_of, total, St, Deal, published, budget, count, halted, IsHome, HasSlot, PlaceIs, HomeIs, SeatIs, Ruled, Whole, IsHalter, WordWas, View}
+use Rattle.kahn_board.proofs.Common.{◌≡◌, ℕ, ◌+◌, ◌*◌, ◌%◌, ◌<◌, ◌≤◌, ◌≢◌, ◌⊎◌, inl, inr, ⊎_elim, List, length, get_or, set, sym, ap, ◌∙◌, subst, arith, Option, Some, None, length-set, dite, ℕ_discrete, some, none, some-injective, some-ne-none, get_elem?, at_set, set_here, set_else, Summary, TellsWait, TellsEvents, Wires, is_up, below, Whereabouts, held, parked, word_code, held_by, mark_of, total, St, Deal, published, budget, up_count, halt_word, IsHome, HasSlot, PlaceIs, HomeIs, SeatIs, Ruled, Whole, IsHalter, WordWas, SeatView}
 use Rattle.kahn_board.proofs.Moved.{is_held, held_apart}
 use Rattle.kahn_board.proofs.Sums.{total-set, there, all_none}
 use Rattle.kahn_board.proofs.Quiet.{whole}
@@ -17,29 +17,29 @@ pub at_one : (F : ℕ → Type 0) (q p : ℕ) → F p → (q ≢ p → F q) → 
 at_one F q p mine others = dite (ℕ_discrete q p) (λ e. subst F (sym e) mine) others
 
 -- a seat that halted stays so
-pub halter_set : (vs : List View) (id : ℕ) (v v' : View) → get_elem? vs id ≡ some v → (v.seen ≡ 2 → v'.seen ≡ 2) → v.raised ≤ v'.raised → IsHalter vs → IsHalter (set vs id v')
+pub halter_set : (vs : List SeatView) (id : ℕ) (v v' : SeatView) → get_elem? vs id ≡ some v → (v.seen ≡ 2 → v'.seen ≡ 2) → v.raised ≤ v'.raised → IsHalter vs → IsHalter (set vs id v')
 halter_set vs id v v' me knows raises h = dite (ℕ_discrete h.0 id)
-    (λ is. let same = one_at vs id h.0 v h.1 is me h.2 in (id, v', here vs id v v' me, knows (ap (λ (k : View). k.seen) same ∙ h.3), omega (arith, raises, ap (λ (k : View). k.raised) same, h.4)))
+    (λ is. let same = one_at vs id h.0 v h.1 is me h.2 in (id, v', here vs id v v' me, knows (ap (λ (k : SeatView). k.seen) same ∙ h.3), omega (arith, raises, ap (λ (k : SeatView). k.raised) same, h.4)))
     (λ ne. (h.0, h.1, set_else vs id h.0 v' ne ∙ h.2, h.3, h.4))
 
 -- the same moment, in other words
-pub was_at : {T : Type 0} (holds : St T → Type 0) (id id' : ℕ) (v v' : View) (i i' r r' : ℕ) → id ≡ id' → v ≡ v' → i ≡ i' → r ≡ r' → WordWas holds id v i r → WordWas holds id' v' i' r'
-was_at holds id id' v v' i i' r r' seat view word found w = subst (λ (k : ℕ × View × ℕ × ℕ). WordWas holds k.0 k.1 k.2 k.3) (λ j. (seat j, view j, word j, found j)) w
+pub was_at : {T : Type 0} (holds : St T → Type 0) (id id' : ℕ) (v v' : SeatView) (i i' r r' : ℕ) → id ≡ id' → v ≡ v' → i ≡ i' → r ≡ r' → WordWas holds id v i r → WordWas holds id' v' i' r'
+was_at holds id id' v v' i i' r r' seat view word found w = subst (λ (k : ℕ × SeatView × ℕ × ℕ). WordWas holds k.0 k.1 k.2 k.3) (λ j. (seat j, view j, word j, found j)) w
 
 module _ {T : Type 0} where
   -- the table once the seat id has the view v
-  abbrev pub after : St T → ℕ → View → List ℕ → List (maybe.Option (Option T)) → St T
+  abbrev pub after : St T → ℕ → SeatView → List ℕ → List (maybe.Option (Option T)) → St T
   after s id v ws hs = record { words = ws; homes = hs; views = set s.views id v }
 
   -- the number published on c changes only where its writer is in the hands of the seat id, and no other instance than p is parked there
-  abbrev pub Stays : Wires → (ℕ → Place) → St T → List ℕ → ℕ → ℕ → ℕ → Type 0
+  abbrev pub Stays : Wires → (ℕ → Whereabouts) → St T → List ℕ → ℕ → ℕ → ℕ → Type 0
   Stays w place s ws id p c = (published w ws c ≡ published w s.words c)
       ⊎ ((w.writer c ≢ None) × ((q : ℕ) → q < w.instances → q ≢ p → (place q ≢ parked c) × (w.writer c ≡ Some q → place q ≡ held id)))
 
-  not_home : (s : St T) (q j : ℕ) (y : T) (x : Place) → HasSlot x (get_elem? s.homes q) → x ≡ held j → IsHome s q y → ⊥
-  not_home s q j y x stands is home = some-ne-none (Some y) (some-injective (some (Some y)) none (sym home ∙ subst (λ (k : Place). HasSlot k (get_elem? s.homes q)) is stands))
+  not_home : (s : St T) (q j : ℕ) (y : T) (x : Whereabouts) → HasSlot x (get_elem? s.homes q) → x ≡ held j → IsHome s q y → ⊥
+  not_home s q j y x stands is home = some-ne-none (Some y) (some-injective (some (Some y)) none (sym home ∙ subst (λ (k : Whereabouts). HasSlot k (get_elem? s.homes q)) is stands))
 
-module _ {T : Type 0} (told : T → Option Summary) (belongs : ℕ → T → Type 0) (w : Wires) (d : Deal) (s : St T) (place place' : ℕ → Place) (tally tally' : ℕ → ℕ) (r : Ruled told belongs w d place tally s) (id p : ℕ) (v v' : View) (ws : List ℕ) (hs : List (maybe.Option (Option T))) where
+module _ {T : Type 0} (told : T → Option Summary) (belongs : ℕ → T → Type 0) (w : Wires) (d : Deal) (s : St T) (place place' : ℕ → Whereabouts) (tally tally' : ℕ → ℕ) (r : Ruled told belongs w d place tally s) (id p : ℕ) (v v' : SeatView) (ws : List ℕ) (hs : List (maybe.Option (Option T))) where
   abbrev pub now : St T
   now = after s id v' ws hs
 
@@ -58,19 +58,19 @@ module _ {T : Type 0} (told : T → Option Summary) (belongs : ℕ → T → Typ
     pub parts : v'.parts ≡ v.parts
     pub drawing : budget w ws + v'.drawn + v'.done ≡ budget w s.words + v.drawn + v.done
     pub tallying : below tally' w.instances + v'.untold + v.done ≡ below tally w.instances + v.untold + v'.done
-    pub counting : count w ws + length v'.owed + below (λ q. is_up (place q)) w.instances + v.down ≡ count w s.words + length v.owed + below (λ q. is_up (place' q)) w.instances + v'.down
-    pub still_quiet : count w s.words ≡ 0 → count w ws ≡ 0
-    pub still_halted : halted w s.words ≢ 0 → halted w ws ≢ 0
+    pub counting : up_count w ws + length v'.owed + below (λ q. is_up (place q)) w.instances + v.down ≡ up_count w s.words + length v.owed + below (λ q. is_up (place' q)) w.instances + v'.down
+    pub still_quiet : up_count w s.words ≡ 0 → up_count w ws ≡ 0
+    pub still_halted : halt_word w s.words ≢ 0 → halt_word w ws ≢ 0
     pub knows : v.seen ≡ 2 → v'.seen ≡ 2
     pub raises : v.raised ≤ v'.raised
-    pub halter : halted w ws ≢ 0 → (halted w s.words ≢ 0) ⊎ ((v'.seen ≡ 2) × (0 < v'.raised))
-    pub leaves : v'.stage ≤ 1 → (halted w ws ≢ 0) ⊎ ((count w ws ≡ 0) ⊎ (budget w ws ≡ 0))
+    pub halter : halt_word w ws ≢ 0 → (halt_word w s.words ≢ 0) ⊎ ((v'.seen ≡ 2) × (0 < v'.raised))
+    pub leaves : v'.stage ≤ 1 → (halt_word w ws ≢ 0) ⊎ ((up_count w ws ≡ 0) ⊎ (budget w ws ≡ 0))
 
   module _ (m : Step) where
     places_kept : (q : ℕ) → q < w.instances → PlaceIs w place' now q
     places_kept q = at_one (λ k. k < w.instances → PlaceIs w place' now k) q p m.its (λ ne h. let t = m.elsewhere q h ne in let o = r.places q h in record {
       word_is = t.0 ∙ (o.word_is ∙ ap word_code (sym t.1));
-      cell_is = subst (HasSlot (place' q)) (sym t.3) (subst (λ (x : Place). HasSlot x (get_elem? s.homes q)) (sym t.1) o.cell_is);
+      cell_is = subst (HasSlot (place' q)) (sym t.3) (subst (λ (x : Whereabouts). HasSlot x (get_elem? s.homes q)) (sym t.1) o.cell_is);
       seated = λ j is. omega (arith, length-set s.views id v', o.seated j (sym t.1 ∙ is));
       reads = λ c is. o.reads c (sym t.1 ∙ is);
     })
@@ -80,13 +80,13 @@ module _ {T : Type 0} (told : T → Option Summary) (belongs : ℕ → T → Typ
       waits = λ c is. let parks = sym t.1 ∙ is in ⊎_elim (λ e. subst (TellsWait (told y) c) (sym e) (o.waits c parks)) (λ f. absurd ((f.1 q h ne).0 parks)) (m.same c ((r.places q h).reads c parks).0);
       ends = λ is. o.ends (sym t.1 ∙ is);
       flushes = λ c k tells. let u = o.flushes c k tells in (u.0, u.1, ⊎_elim (λ e. u.2 ∙ sym e) (λ f. absurd (not_home s q id y (place q) (r.places q h).cell_is ((f.1 q h ne).1 u.1) home')) (m.same c u.0));
-      flushed_all = λ z. o.flushed_all (dite (ℕ_discrete (halted w s.words) 0) (λ e. e) (λ on. absurd (m.still_halted on z)));
+      flushed_all = λ z. o.flushed_all (dite (ℕ_discrete (halt_word w s.words) 0) (λ e. e) (λ on. absurd (m.still_halted on z)));
       tells = subst (TellsEvents (told y)) (sym t.2) o.tells;
       belonging = o.belonging;
     })
 
-    seats_kept : (j : ℕ) (u : View) → get_elem? now.views j ≡ some u → SeatIs w place' tally' ws j u
-    seats_kept j u e = ⊎_elim (λ (t : (j ≡ id) × (v' ≡ u)). subst (λ (k : ℕ × View). SeatIs w place' tally' ws k.0 k.1) (λ i. (sym t.0 i, t.1 i)) m.own)
+    seats_kept : (j : ℕ) (u : SeatView) → get_elem? now.views j ≡ some u → SeatIs w place' tally' ws j u
+    seats_kept j u e = ⊎_elim (λ (t : (j ≡ id) × (v' ≡ u)). subst (λ (k : ℕ × SeatView). SeatIs w place' tally' ws k.0 k.1) (λ i. (sym t.0 i, t.1 i)) m.own)
         (λ (t : (j ≢ id) × (get_elem? s.views j ≡ some u)). let o = r.seats j u t.1 in
         let else_where : (q : ℕ) → q < w.instances → get_or u.hands q 0 ≡ 1 → q ≢ p = λ q h one is. absurd (omega (arith, one, o.hands q h, ap (λ (k : ℕ). held_by j (place k)) is, (m.theirs (omega (arith, is, h)) j t.0).0)) in record {
           hands = λ q. at_one (λ k. k < w.instances → get_or u.hands k 0 ≡ held_by j (place' k)) q p (λ h. o.hands p h ∙ ((m.theirs h j t.0).0 ∙ sym (m.theirs h j t.0).1)) (λ ne h. o.hands q h ∙ ap (held_by j) (sym (m.elsewhere q h ne).1));
@@ -103,7 +103,7 @@ module _ {T : Type 0} (told : T → Option Summary) (belongs : ℕ → T → Typ
           spends = o.spends;
         }) (at_set s.views id j v' u e)
 
-    sums : (f : View → ℕ) → total f (set s.views id v') + f v ≡ total f s.views + f v'
+    sums : (f : SeatView → ℕ) → total f (set s.views id v') + f v ≡ total f s.views + f v'
     sums f = total-set f s.views id v v' m.mine
 
     pub kept : Whole told belongs w d now

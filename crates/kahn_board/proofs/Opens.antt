@@ -1,5 +1,5 @@
 -- The rule holds of a new board.
-use Rattle.kahn_board.proofs.Common.{◌≡◌, ℕ, zero, suc, ◌+◌, ◌*◌, ◌%◌, subst, List, [], ◌∷◌, map, drop, length, get_or, sym, refl, ap, ◌∙◌, arith, Option, Some, None, some, some-injective, some-ne-none, get_elem?, length-map, opening, at_map, Summary, TellsEvents, events_past, Wires, ready, mark_of, St, all_parts, opening_view, published, SeatIs, Whole, events_told, below, AreFirstWords, View, same_Some}
+use Rattle.kahn_board.proofs.Common.{◌≡◌, ℕ, zero, suc, ◌+◌, ◌*◌, ◌%◌, subst, List, [], ◌∷◌, map, drop, length, get_or, sym, refl, ap, ◌∙◌, arith, Option, Some, None, some, some-injective, some-ne-none, get_elem?, length-map, opening, at_map, Summary, TellsEvents, events_past, Wires, ready, mark_of, St, all_parts, opening_view, published, SeatIs, Whole, events_told, below, AreFirstWords, SeatView, same_Some}
 use Rattle.kahn_board.proofs.Changes.{tells_past}
 use Rattle.kahn_board.specs.Opening.{Opens}
 use Rattle.kahn_board.proofs.Moved.{is_ready}
@@ -96,5 +96,5 @@ module _ {T : Type 0} (told : T → Option Summary) (after : T → T → Type 0)
         tallied = omega (arith, all_events told cells, ap (below (tally_of told cells)) o.cells_are);
         counted = omega (arith, b.count, at 8, below_ones w.instances);
         halter = λ ne. absurd (ne (sym (at 16) ∙ b.halted));
-        left = λ a. let some_done = a.1 in let t = at_first (opening_view w) some_done.1 some_done.0 some_done.2 in absurd (omega (arith, ap (λ (u : View). u.stage) t.1, some_done.3));
+        left = λ a. let some_done = a.1 in let t = at_first (opening_view w) some_done.1 some_done.0 some_done.2 in absurd (omega (arith, ap (λ (u : SeatView). u.stage) t.1, some_done.3));
       }

@@ -1,5 +1,5 @@
 -- A seat that told a number and set down the reader that it woke.
-use Rattle.kahn_board.proofs.Common.{◌≡◌, ◌≢◌, ℕ, ◌-◌, ◌<◌, [], ◌∷◌, ◌++◌, drop, get_or, set, inl, inr, sym, refl, ap, ◌∙◌, subst, arith, Option, Some, None, get_or-set_same, get_or-set_other, Summary, TellsEvents, events_past, Wires, Owed, Carries, Sat, IsIn, Got, after_taking, after_giving_up, after_waking, after_counting_up, View, InTurn, HasPublished}
+use Rattle.kahn_board.proofs.Common.{◌≡◌, ◌≢◌, ℕ, ◌-◌, ◌<◌, [], ◌∷◌, ◌++◌, drop, get_or, set, inl, inr, sym, refl, ap, ◌∙◌, subst, arith, Option, Some, None, get_or-set_same, get_or-set_other, Summary, TellsEvents, events_past, Wires, Owed, Carries, Sat, IsIn, Got, after_taking, after_giving_up, after_waking, after_counting_up, SeatView, InTurn, HasPublished}
 use Rattle.kahn_board.proofs.Seconds.{Fit}
 use Rattle.kahn_board.proofs.Woken.{hand_again}
 
@@ -17,7 +17,7 @@ module _ {T : Type 0} (told : T → Option Summary) (belongs : ℕ → T → Typ
       let K : Sat T = (after_counting_up N.0, N.1) in
       let k_is : k ≡ K = is ∙ ap (λ (z : Sat T). (after_counting_up z.0, z.1)) got.3 in
       let out = given y (subst (λ (z : Sat T). Carries z.1 r (Some y)) (sym k_is) (inl refl)) in
-      let J : View = after_giving_up K.0 r (told y) 0 in
+      let J : SeatView = after_giving_up K.0 r (told y) 0 in
       let j_is : j.0 ≡ J = out ∙ ap (λ (z : Sat T). after_giving_up z.0 r (told y) 0) k_is in
       let apart : p ≢ r = (λ same. absurd (omega (arith, mine, got.4, ap (λ (z : ℕ). get_or m.0.hands z 0) same))) in
       let no_loose : events_past (told y) (get_or (set m.0.events_when_got r e) r 0) - get_or (set m.0.events_when_got r e) r 0 ≡ 0 = no_more (told y) e (get_or (set m.0.events_when_got r e) r 0) got.8 (get_or-set_same m.0.events_when_got r e 0 (omega (arith, fit.got_long, reads))) in
@@ -36,8 +36,8 @@ module _ {T : Type 0} (told : T → Option Summary) (belongs : ℕ → T → Typ
         drawn = t.drawn;
         untold = omega (arith, no_loose, t.untold);
       } in (
-        (λ i l x t. subst (λ (v : View). InTurn p i l x (v, j.1)) (sym j_is) (turn i l x t)),
+        (λ i l x t. subst (λ (v : SeatView). InTurn p i l x (v, j.1)) (sym j_is) (turn i l x t)),
         subst (HasPublished w p c count m.0) (sym j_is) tells,
-        ap (λ (v : View). v.parts) j_is,
-        ap (λ (v : View). v.raised) j_is,
+        ap (λ (v : SeatView). v.parts) j_is,
+        ap (λ (v : SeatView). v.raised) j_is,
       )

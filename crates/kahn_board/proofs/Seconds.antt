@@ -1,5 +1,5 @@
 -- The steps that move no instance, that take one, and that give one up.
-use Rattle.kahn_board.proofs.Common.{◌≡◌, ℕ, zero, suc, ◌+◌, ◌*◌, ◌/◌, ◌%◌, ◌^◌, ◌<◌, ◌≤◌, ◌≢◌, ◌⊎◌, inl, ⊎_elim, List, [], ◌∷◌, length, get_or, set, sym, refl, ap, ◌∙◌, subst, arith, Option, Some, length-set, get_or-set_same, get_or-set_other, some, none, some-injective, some-ne-none, get_elem?, takes, gives, stepped, set_here, set_else, same_Some, Summary, TellsWait, TellsEnd, TellsEvents, events_past, Wires, Owed, Owes, is_up, Leaves, Place, held, parked, over, word_code, held_by, parked_on, mark_of, Sat, IsIn, SeesMore, after_step, after_taking, after_giving_up, St, Deal, published, budget, count, halted, HasSlot, IsHome, HomeIs, Ruled, Whole, View}
+use Rattle.kahn_board.proofs.Common.{◌≡◌, ℕ, zero, suc, ◌+◌, ◌*◌, ◌/◌, ◌%◌, ◌^◌, ◌<◌, ◌≤◌, ◌≢◌, ◌⊎◌, inl, ⊎_elim, List, [], ◌∷◌, length, get_or, set, sym, refl, ap, ◌∙◌, subst, arith, Option, Some, length-set, get_or-set_same, get_or-set_other, some, none, some-injective, some-ne-none, get_elem?, takes, gives, stepped, set_here, set_else, same_Some, Summary, TellsWait, TellsEnd, TellsEvents, events_past, Wires, Owed, Owes, is_up, Leaves, Whereabouts, held, parked, over, word_code, held_by, parked_on, mark_of, Sat, IsIn, SeesMore, after_step, after_taking, after_giving_up, St, Deal, published, budget, up_count, halt_word, HasSlot, IsHome, HomeIs, Ruled, Whole, SeatView}
 use Rattle.kahn_board.proofs.Moved.{moved, at_moved, moved_here, moved_else, only_yes, only_no, held_apart}
 use Rattle.kahn_board.proofs.Counting.{inside_of}
 use Rattle.kahn_board.proofs.Sums.{there}
@@ -44,8 +44,8 @@ pub record Fit {T : Type 0} (w : Wires) (m : Sat T) : Type 0 where
 -- what a step on a word of an instance or a channel leaves
 pub record SameHot (w : Wires) (ws ws' : List ℕ) : Type 0 where
   pub budget_same : budget w ws' ≡ budget w ws
-  pub count_same : count w ws' ≡ count w ws
-  pub halted_same : halted w ws' ≡ halted w ws
+  pub count_same : up_count w ws' ≡ up_count w ws
+  pub halted_same : halt_word w ws' ≡ halt_word w ws
 
 pub hot : (w : Wires) (ws : List ℕ) (i k : ℕ) → i < 8 * (w.instances + w.channels) → SameHot w ws (set ws i k)
 hot w ws i k h = record {
@@ -54,28 +54,28 @@ hot w ws i k h = record {
   halted_same = get_or-set_other ws i (8 * (w.instances + w.channels) + 16) k 0 (λ e. omega arith);
 }
 
-module _ {T : Type 0} (told : T → Option Summary) (belongs : ℕ → T → Type 0) (w : Wires) (d : Deal) (s : St T) (place : ℕ → Place) (tally : ℕ → ℕ) (r : Ruled told belongs w d place tally s) where
+module _ {T : Type 0} (told : T → Option Summary) (belongs : ℕ → T → Type 0) (w : Wires) (d : Deal) (s : St T) (place : ℕ → Whereabouts) (tally : ℕ → ℕ) (r : Ruled told belongs w d place tally s) where
   -- a step that moves no instance, and leaves the words of instances and channels as they are
-  pub record Idle (v v' : View) (ws : List ℕ) : Type 0 where
+  pub record Idle (v v' : SeatView) (ws : List ℕ) : Type 0 where
     pub wide : length ws ≡ length s.words
     pub low : (q : ℕ) → q < w.instances + w.channels → get_or ws (8 * q) 0 ≡ get_or s.words (8 * q) 0
     pub view_same : (v'.parts ≡ v.parts) × (v'.hands ≡ v.hands) × (v'.flushed ≡ v.flushed) × (v'.events_when_got ≡ v.events_when_got)
     pub drawing : budget w ws + v'.drawn + v'.done ≡ budget w s.words + v.drawn + v.done
     pub tallying : v'.untold + v.done ≡ v.untold + v'.done
-    pub counting : count w ws + length v'.owed + v.down ≡ count w s.words + length v.owed + v'.down
+    pub counting : up_count w ws + length v'.owed + v.down ≡ up_count w s.words + length v.owed + v'.down
     pub pairs : Owes v'.hands v'.owed
     pub few : v'.down ≤ 2 ^ 32 * v'.parts
-    pub still_quiet : count w s.words ≡ 0 → count w ws ≡ 0
-    pub still_halted : halted w s.words ≢ 0 → halted w ws ≢ 0
-    pub saw_quiet : v'.seen ≡ 1 → count w ws ≡ 0
-    pub saw_halted : v'.seen ≡ 2 → halted w ws ≢ 0
+    pub still_quiet : up_count w s.words ≡ 0 → up_count w ws ≡ 0
+    pub still_halted : halt_word w s.words ≢ 0 → halt_word w ws ≢ 0
+    pub saw_quiet : v'.seen ≡ 1 → up_count w ws ≡ 0
+    pub saw_halted : v'.seen ≡ 2 → halt_word w ws ≢ 0
     pub knows : v.seen ≡ 2 → v'.seen ≡ 2
     pub raises : v.raised ≤ v'.raised
-    pub halter : halted w ws ≢ 0 → (halted w s.words ≢ 0) ⊎ ((v'.seen ≡ 2) × (0 < v'.raised))
+    pub halter : halt_word w ws ≢ 0 → (halt_word w s.words ≢ 0) ⊎ ((v'.seen ≡ 2) × (0 < v'.raised))
     pub sights : (v'.seen ≤ 2) × (0 < v'.raised → v'.seen ≡ 2)
-    pub leaves : v'.stage ≤ 1 → (v'.drawn ≡ 0) × ((halted w ws ≢ 0) ⊎ ((count w ws ≡ 0) ⊎ (budget w ws ≡ 0)))
+    pub leaves : v'.stage ≤ 1 → (v'.drawn ≡ 0) × ((halt_word w ws ≢ 0) ⊎ ((up_count w ws ≡ 0) ⊎ (budget w ws ≡ 0)))
 
-  pub idles : (id : ℕ) (m : Sat T) (v' : View) (ws : List ℕ) → get_elem? s.views id ≡ some m.0 → Fit w m → Idle m.0 v' ws → Whole told belongs w d record { words = ws; homes = s.homes; views = set s.views id v' }
+  pub idles : (id : ℕ) (m : Sat T) (v' : SeatView) (ws : List ℕ) → get_elem? s.views id ≡ some m.0 → Fit w m → Idle m.0 v' ws → Whole told belongs w d record { words = ws; homes = s.homes; views = set s.views id v' }
   idles id m v' ws me fit k = let v = m.0 in let o = r.seats id v me in let pub_same : (c : ℕ) → c < w.channels → published w ws c ≡ published w s.words c = λ c h. ap half (k.low (w.instances + c) (omega arith)) in
       let held : (q : ℕ) → get_or v'.hands q 0 ≡ get_or v.hands q 0 = λ q. ap (λ (l : List ℕ). get_or l q 0) k.view_same.1 in
       kept told belongs w d s place place tally tally r id w.instances v v' ws s.homes record {
@@ -114,9 +114,9 @@ module _ {T : Type 0} (told : T → Option Summary) (belongs : ℕ → T → Typ
       }
 
   -- a step of a seat that keeps its hands, and what it saw and halted
-  pub still : (id : ℕ) (v : View) (drawn done untold : ℕ) (owed : Owed) (down : ℕ) (ws : List ℕ) → get_elem? s.views id ≡ some v → length ws ≡ length s.words → ((q : ℕ) → q < w.instances + w.channels → get_or ws (8 * q) 0 ≡ get_or s.words (8 * q) 0)
-      → budget w ws + drawn + done ≡ budget w s.words + v.drawn + v.done → untold + v.done ≡ v.untold + done → count w ws + length owed + v.down ≡ count w s.words + length v.owed + down → Owes v.hands owed → down ≤ v.down
-      → (count w s.words ≡ 0 → count w ws ≡ 0) → halted w ws ≡ halted w s.words → Idle v (record (after_step v) { drawn = drawn; done = done; untold = untold; owed = owed; down = down }) ws
+  pub still : (id : ℕ) (v : SeatView) (drawn done untold : ℕ) (owed : Owed) (down : ℕ) (ws : List ℕ) → get_elem? s.views id ≡ some v → length ws ≡ length s.words → ((q : ℕ) → q < w.instances + w.channels → get_or ws (8 * q) 0 ≡ get_or s.words (8 * q) 0)
+      → budget w ws + drawn + done ≡ budget w s.words + v.drawn + v.done → untold + v.done ≡ v.untold + done → up_count w ws + length owed + v.down ≡ up_count w s.words + length v.owed + down → Owes v.hands owed → down ≤ v.down
+      → (up_count w s.words ≡ 0 → up_count w ws ≡ 0) → halt_word w ws ≡ halt_word w s.words → Idle v (record (after_step v) { drawn = drawn; done = done; untold = untold; owed = owed; down = down }) ws
   still id v drawn done untold owed down ws me wide low drawing tallying counting pairs less quiet halts = let o = r.seats id v me in record {
     wide = wide;
     low = low;
@@ -141,10 +141,10 @@ module _ {T : Type 0} (told : T → Option Summary) (belongs : ℕ → T → Typ
   pub take_step : (i k id : ℕ) (m : Sat T) (p : ℕ) (y : T) (owed : Owed) (seen : ℕ) → get_elem? s.views id ≡ some m.0 → Fit w m → p < w.instances → IsHome s p y → i < 8 * (w.instances + w.channels) → ((j : ℕ) → held_by j (place p) ≡ 0)
       → get_or (set s.words i k) (8 * p) 0 ≡ 1 → ((q : ℕ) → q < w.instances → q ≢ p → get_or (set s.words i k) (8 * q) 0 ≡ get_or s.words (8 * q) 0)
       → ((c : ℕ) → c < w.channels → get_or (set s.words i k) (8 * (w.instances + c)) 0 % 2 ≡ mark_of (moved place p (held id)) (w.reader c) c) → ((c : ℕ) → c < w.channels → Stays w place s (set s.words i k) id p c)
-      → is_up (place p) + length owed ≡ length m.0.owed + 1 → Owes (set m.0.hands p 1) owed → SeesMore m.0.seen seen → (seen ≡ 2 → halted w s.words ≢ 0)
+      → is_up (place p) + length owed ≡ length m.0.owed + 1 → Owes (set m.0.hands p 1) owed → SeesMore m.0.seen seen → (seen ≡ 2 → halt_word w s.words ≢ 0)
       → Whole told belongs w d (stepped s i k id m.1 (record (after_taking m.0 p (halves w (set s.words i k)) (tally p) seen) { owed = owed }) (takes p (Some y)))
   take_step i k id m p y owed seen me fit inside home near free word_is words_are marks same ups pairs sees halted_is = let v = m.0 in let ws = set s.words i k in let hs : List (maybe.Option (Option T)) = set s.homes p none in let o = r.seats id v me in
-      let hots = hot w s.words i k near in let v' : View = record (after_taking v p (halves w ws) (tally p) seen) { owed = owed } in let place' = moved place p (held id) in
+      let hots = hot w s.words i k near in let v' : SeatView = record (after_taking v p (halves w ws) (tally p) seen) { owed = owed } in let place' = moved place p (held id) in
       let at_p : get_elem? hs p ≡ some none = set_here s.homes p none (omega (arith, r.deep)) in
       let is : place' p ≡ held id = moved_here place p (held id) in
       kept told belongs w d s place place' tally tally r id p v v' ws hs record {
@@ -154,7 +154,7 @@ module _ {T : Type 0} (told : T → Option Summary) (belongs : ℕ → T → Typ
         elsewhere = λ q h ne. (words_are q h ne, moved_else place p (held id) q ne, refl, set_else s.homes p q none ne);
         its = λ h. record {
           word_is = word_is ∙ ap word_code (sym is);
-          cell_is = subst (λ (x : Place). HasSlot x (get_elem? hs p)) (sym is) at_p;
+          cell_is = subst (λ (x : Whereabouts). HasSlot x (get_elem? hs p)) (sym is) at_p;
           seated = λ j e. omega (arith, length-set s.views id v', held_apart j id (sym e ∙ is), there s.views id v me);
           reads = λ c e. absurd (omega (arith, ap (parked_on c) (sym is ∙ e), only_yes c));
         };
@@ -189,14 +189,14 @@ module _ {T : Type 0} (told : T → Option Summary) (belongs : ℕ → T → Typ
       }
 
   -- the seat id gives the instance p with the cell y up, which then stands at x, with `more` counts down to pay
-  pub give_step : (i k id : ℕ) (v : View) (rest : List (ℕ × Option T)) (p : ℕ) (y : T) (x : Place) (more : ℕ) → get_elem? s.views id ≡ some v → Fit w (v, (p, Some y) ∷ rest) → p < w.instances → IsIn v p → i < 8 * (w.instances + w.channels) → place p ≡ held id → ((j : ℕ) → held_by j x ≡ 0)
+  pub give_step : (i k id : ℕ) (v : SeatView) (rest : List (ℕ × Option T)) (p : ℕ) (y : T) (x : Whereabouts) (more : ℕ) → get_elem? s.views id ≡ some v → Fit w (v, (p, Some y) ∷ rest) → p < w.instances → IsIn v p → i < 8 * (w.instances + w.channels) → place p ≡ held id → ((j : ℕ) → held_by j x ≡ 0)
       → get_or (set s.words i k) (8 * p) 0 ≡ word_code x → ((q : ℕ) → q < w.instances → q ≢ p → get_or (set s.words i k) (8 * q) 0 ≡ get_or s.words (8 * q) 0)
       → ((c : ℕ) → c < w.channels → get_or (set s.words i k) (8 * (w.instances + c)) 0 % 2 ≡ mark_of (moved place p x) (w.reader c) c) → ((c : ℕ) → c < w.channels → published w (set s.words i k) c ≡ published w s.words c)
       → HasSlot x (some (some (Some y))) → ((c : ℕ) → x ≡ parked c → (c < w.channels) × (w.reader c ≡ Some p) × TellsWait (told y) c (published w (set s.words i k) c)) → (x ≡ over → TellsEnd (told y))
       → is_up x + more ≡ 1 → Leaves told belongs w v p y → v.down < 2 ^ 32
       → Whole told belongs w d (stepped s i k id ((p, Some y) ∷ rest) (after_giving_up v p (told y) more) gives)
   give_step i k id v rest p y x more me fit inside is_in near was free word_is words_are marks same stands waits ends ups leaves few = let ws = set s.words i k in let hs : List (maybe.Option (Option T)) = set s.homes p (some (Some y)) in let o = r.seats id v me in
-      let hots = hot w s.words i k near in let v' : View = after_giving_up v p (told y) more in let place' = moved place p x in let g = get_or v.events_when_got p 0 in let e' = events_past (told y) g in let tally' : ℕ → ℕ = moved tally p e' in
+      let hots = hot w s.words i k near in let v' : SeatView = after_giving_up v p (told y) more in let place' = moved place p x in let g = get_or v.events_when_got p 0 in let e' = events_past (told y) g in let tally' : ℕ → ℕ = moved tally p e' in
       let acc = accounted (told y) g v.untold leaves.1 in let acc₀ = acc.0 in let acc₁ = acc.1 in
       let at_p : get_elem? hs p ≡ some (some (Some y)) = set_here s.homes p (some (Some y)) (omega (arith, r.deep)) in
       let is : place' p ≡ x = moved_here place p x in
@@ -207,7 +207,7 @@ module _ {T : Type 0} (told : T → Option Summary) (belongs : ℕ → T → Typ
         elsewhere = λ q h ne. (words_are q h ne, moved_else place p x q ne, moved_else tally p e' q ne, set_else s.homes p q (some (Some y)) ne);
         its = λ h. record {
           word_is = word_is ∙ ap word_code (sym is);
-          cell_is = subst (HasSlot (place' p)) (sym at_p) (subst (λ (z : Place). HasSlot z (some (some (Some y)))) (sym is) stands);
+          cell_is = subst (HasSlot (place' p)) (sym at_p) (subst (λ (z : Whereabouts). HasSlot z (some (some (Some y)))) (sym is) stands);
           seated = λ j e. absurd (omega (arith, ap (held_by j) (sym is ∙ e), free j, only_yes j));
           reads = λ c e. let t = waits c (sym is ∙ e) in (t.0, t.1);
         };

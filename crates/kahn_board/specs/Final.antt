@@ -5,7 +5,7 @@ use lib.ListN.{get_elem?}
 use Rattle.kahn_board.specs.Plays.{IsIn}
 use Rattle.kahn_board.specs.Rule.{St, budget_at, channel_at, count_at, halted_at, wired}
 use Rattle.kahn_board.specs.Wires.{Wires}
-use Rattle.kahn_board.specs.declared.{rule.Terms.Terms, view.View.View}
+use Rattle.kahn_board.specs.declared.{rule.Terms.Terms, view.SeatView.SeatView}
 
 pub data StepKind : Type 0 where
   -- `looks_ready`, `look`, `report_done`, and all that finds another number than it wants
@@ -24,7 +24,7 @@ pub data StepKind : Type 0 where
   halts : StepKind
 
 -- a seat with the view v may make such a step, where these are the words
-abbrev pub MayMake : Wires → View → List ℕ → StepKind → Type 0
+abbrev pub MayMake : Wires → SeatView → List ℕ → StepKind → Type 0
 MayMake w v words (claims p) = (p < w.instances) × (slice_index words (8 * p) ≡ 0)
 MayMake w v words (sets p k) = (p < w.instances) × IsIn v p
 MayMake w v words (tells p c k) = (p < w.instances) × IsIn v p
@@ -47,5 +47,5 @@ StaysQuiet w old new = (i : ℕ) → i ≢ budget_at w → i ≢ halted_at w →
 -- no kind of step of any seat changes another word
 abbrev pub StepsQuietly : {T : Type 0} → Terms T → St T → Type 0
 StepsQuietly key s =
-    (j : ℕ) (v : View) (k : StepKind) → get_elem? s.views j ≡ some v → MayMake (wired key) v s.words k →
+    (j : ℕ) (v : SeatView) (k : StepKind) → get_elem? s.views j ≡ some v → MayMake (wired key) v s.words k →
     StaysQuiet (wired key) s.words (words_after (wired key) s.words k)

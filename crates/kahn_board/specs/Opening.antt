@@ -4,7 +4,7 @@ use mathlib.Core.Option.{some}
 use lib.ListN.{get_elem?}
 use Rattle.kahn_board.specs.Wires.{Summary, TellsWait, TellsEnd, TellsEvents, FlushedAll, flushed_of, wrote_of, Wires}
 use Rattle.kahn_board.specs.Rule.{events_told, Deal, IsDone, KnowsHalted, below}
-use Rattle.kahn_board.specs.declared.{closing.Closed.Closed, view.View.View}
+use Rattle.kahn_board.specs.declared.{closing.Closed.Closed, view.SeatView.SeatView}
 
 module _ {T : Type 0} where
   pub record Opens (told : T → Option Summary) (after : T → T → Type 0) (w : Wires) (bound : ℕ) (published : List ℕ) (cells : List T) : Type 0 where
@@ -34,7 +34,7 @@ module _ {T : Type 0} (told : T → Option Summary) (belongs : ℕ → T → Typ
   abbrev pub IsQuietCell : ℕ → T → Type 0
   IsQuietCell p y = TellsEnd (told y) ⊎ ((c : ℕ) × (k : ℕ) × (c < w.channels) × (w.reader c ≡ Some p) × TellsWait (told y) c k × IsAllSent c k)
 
-  pub record Closes (v : View) : Type 0 where
+  pub record ClosesBoard (v : SeatView) : Type 0 where
     pub each : (length closed.cells.items ≡ w.instances) × ((p : ℕ) → p < w.instances → (y : T) × IsCell p y)
     pub belonging : (p : ℕ) (y : T) → p < w.instances → IsCell p y → belongs p y
     -- nothing is drawn: the budget and the events reported as done add up to the bound

@@ -6,7 +6,7 @@ use Rattle.atomic_table.specs.Table.{Allows, Me, Step, step}
 use Rattle.atomic_table.specs.declared.shared.Seat as shared
 use Rattle.kahn_board.specs.Wires.{Summary, TellsEvents, FlushedAll, flushed_of, events_past, Wires}
 use Rattle.kahn_board.specs.Rule.{KnowsHalted, KnowsQuiet, St, WordWas, total, only}
-use Rattle.kahn_board.specs.declared.view.View.{View}
+use Rattle.kahn_board.specs.declared.view.SeatView.{SeatView}
 
 -- each instance that the seat has is in the list, once
 abbrev pub ListsHands : List ℕ → List ℕ → Type 0
@@ -14,7 +14,7 @@ ListsHands items hands = (p : ℕ) → total (only p) items ≡ slice_index hand
 
 module _ {T : Type 0} where
   -- it isn't spent; its lists are as long as the table is; the instances are listed in the order of the slots; there is room for all of them
-  abbrev pub Facts : Me (Option T) View → TableId → List ℕ → ℕ → Type 0
+  abbrev pub Facts : Me (Option T) SeatView → TableId → List ℕ → ℕ → Type 0
   Facts m z items room = (0 < m.0.parts) × (length m.0.hands ≡ z.slots) × (8 * (z.slots + length m.0.flushed) + 24 ≡ z.words)
       × (map (λ x. x.0) m.1 ≡ items) × ListsHands items m.0.hands × ((p : ℕ) → slice_index m.0.hands p ≤ 1) × (z.slots ≤ room) × (length m.0.events_when_got ≡ z.slots)
 
@@ -24,60 +24,60 @@ module _ {T : Type 0} where
   Carries (c ∷ cs) p x = (c ≡ (p, x)) ⊎ Carries cs p x
 
 abbrev pub Sat : Type 0 → Type 0
-Sat T = Me (Option T) View
+Sat T = Me (Option T) SeatView
 
 abbrev pub Play : Type 0 → Type 1
 Play T = Step (Option T) → Sat T → ℕ → Sat T → Type 0
 
 -- the view after a step that told the seat nothing else: it is busy
-abbrev pub after_step : View → View
+abbrev pub after_step : SeatView → SeatView
 after_step v = record v { stage = 2; steps = v.steps + 1 }
 
-abbrev pub IsIn : View → ℕ → Type 0
+abbrev pub IsIn : SeatView → ℕ → Type 0
 IsIn v p = slice_index v.hands p ≡ 1
 
 -- the seat got the instance p: `flushed` is published, its cell reported `events`
-abbrev pub after_taking : View → ℕ → List ℕ → ℕ → ℕ → View
+abbrev pub after_taking : SeatView → ℕ → List ℕ → ℕ → ℕ → SeatView
 after_taking v p flushed events seen =
     record (after_step v) { hands = slice_set v.hands p 1; flushed = flushed; events_when_got = slice_set v.events_when_got p events; seen = seen }
 
 -- the seat gave up the instance p, whose cell reports t, with `more` counts down to pay
-abbrev pub after_giving_up : View → ℕ → Option Summary → ℕ → View
+abbrev pub after_giving_up : SeatView → ℕ → Option Summary → ℕ → SeatView
 after_giving_up v p t more =
     record (after_step v) { hands = slice_set v.hands p 0; untold = v.untold - (events_past t (slice_index v.events_when_got p) - slice_index v.events_when_got p); down = v.down + more }
 
 -- `count` tokens of the channel c are published
-abbrev pub with_published : View → ℕ → ℕ → View
+abbrev pub with_published : SeatView → ℕ → ℕ → SeatView
 with_published v c count = record v { flushed = slice_set v.flushed c count }
 
 -- the same, and q woke p
-abbrev pub after_waking : View → ℕ → ℕ → ℕ → ℕ → View
+abbrev pub after_waking : SeatView → ℕ → ℕ → ℕ → ℕ → SeatView
 after_waking v c count p q = record (with_published v c count) { owed = v.owed ++ (p, q) ∷ [] }
 
 -- n events of the draw were done, the others may still be done
-abbrev pub after_reporting : View → ℕ → View
+abbrev pub after_reporting : SeatView → ℕ → SeatView
 after_reporting v n = record (after_step v) { drawn = v.drawn - n; done = v.done + n; untold = v.untold + n }
 
 -- n events of the draw weren't done, the others were
-abbrev pub after_giving_back : View → ℕ → View
+abbrev pub after_giving_back : SeatView → ℕ → SeatView
 after_giving_back v n = record (after_step v) { drawn = 0; done = v.done + (v.drawn - n); untold = v.untold + (v.drawn - n) }
 
-abbrev pub after_counting_up : View → View
+abbrev pub after_counting_up : SeatView → SeatView
 after_counting_up v = record (after_step v) { owed = drop 1 v.owed }
 
-abbrev pub after_counting_down : View → View
+abbrev pub after_counting_down : SeatView → SeatView
 after_counting_down v = record (after_step v) { down = v.down - 1 }
 
 -- it halted the run
-abbrev pub after_halting : View → View
+abbrev pub after_halting : SeatView → SeatView
 after_halting v = record (after_step v) { seen = 2; raised = v.raised + 1 }
 
 -- how much it holds, drew and owes
-abbrev pub burden : View → ℕ
+abbrev pub burden : SeatView → ℕ
 burden v = total (λ x. x) v.hands + v.drawn + length v.owed + v.down
 
 -- it saw `seen`, and is done if it holds, drew and owes nothing, else busy
-abbrev pub after_looking : View → ℕ → View
+abbrev pub after_looking : SeatView → ℕ → SeatView
 after_looking v seen = record (after_step v) { seen = seen; stage = cond (burden v == 0) 1 2 }
 
 -- a seat that has seen nothing less than before, or knows that the run is halted
@@ -100,16 +100,16 @@ module _ {T : Type 0} where
   at_moment holds id then st m r n = then st m r n × WordWas holds id m.0 st.word r
 
   -- the seat may step on the word of a table, which becomes f n if it was n, and learns what the play says
-  abbrev pub MayStep : (St T → Type 0) → TableId → shared.Seat (Option T) View → ℕ → ℕ → ℕ → (ℕ → ℕ) → Play T → Type 0
+  abbrev pub MayStep : (St T → Type 0) → TableId → shared.Seat (Option T) SeatView → ℕ → ℕ → ℕ → (ℕ → ℕ) → Play T → Type 0
   MayStep holds z s word old new f play = (s.table_id ≡ z) × (word < z.words) × Allows holds z.slots s.id s.me word f (play (step z.slots word old new none) s.me)
 
   -- it stepped, and the word was r at a moment of the call
-  abbrev pub HasPlayed : (St T → Type 0) → TableId → shared.Seat (Option T) View → shared.Seat (Option T) View → ℕ → ℕ → ℕ → Play T → ℕ → Type 0
+  abbrev pub HasPlayed : (St T → Type 0) → TableId → shared.Seat (Option T) SeatView → shared.Seat (Option T) SeatView → ℕ → ℕ → ℕ → Play T → ℕ → Type 0
   HasPlayed holds z s t word old new play r =
       (t.table_id ≡ s.table_id) × (t.id ≡ s.id) × at_moment holds s.id play (step z.slots word old new none) s.me r t.me
 
   -- its view becomes f of the step's number and of what it was
-  abbrev pub becomes : (ℕ → View → View) → Play T
+  abbrev pub becomes : (ℕ → SeatView → SeatView) → Play T
   becomes f st m r n = n ≡ (f st.first m.0, m.1)
 
   abbrev pub sees_halted : Play T

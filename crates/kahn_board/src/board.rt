@@ -7,18 +7,18 @@ ghost use Rattle.kahn_board.specs.Plays.{Facts};
 ghost use Rattle.kahn_board.specs.Rule.{holds, wired, channel_at, budget_at, count_at, halted_at};
 
 use crate::plays::{CountingUp, GivingBack, Halting, Notes, SeesBudget, SeesCount, SeesHalted};
-use crate::rule::{Rule, Terms, Told};
-use crate::view::View;
+use crate::rule::{Reports, Rule, Terms};
+use crate::view::SeatView;
 use atomic_table::{Play, Table};
 use std::alloc::Global;
 use std::collections::VecDeque;
 use std::marker::Brand;
 
-type TableSeat<T> = atomic_table::Seat<Option<T>, View>;
+type TableSeat<T> = atomic_table::Seat<Option<T>, SeatView>;
 
 /// Where the cells of a network are kept.
-pub struct Board<T: Told> {
-    pub(crate) table: Table<Option<T>, View, Terms<T>, Rule<T>, Global>,
+pub struct Board<T: Reports> {
+    pub(crate) table: Table<Option<T>, SeatView, Terms<T>, Rule<T>, Global>,
     pub instances: usize,
     pub channels: usize,
     pub readers: Vec<Option<usize>, Global>,
@@ -31,12 +31,12 @@ pub struct Board<T: Told> {
     ghost read: { (length readers.items ≡ channels) × ((c : ℕ) → c < channels → slice_index_or readers.items c None ≡ (wired table.shared.key).reader c) },
 }
 
-impl<T: Told> Board<T> {
+impl<T: Reports> Board<T> {
     ghost use prog.Atomic.{either};
     ghost use Rattle.kahn_board.specs.Plays.{HasPlayed, MayStep};
 
     // A load: the word had this value at some moment of the call.
-    fn load<P: Play<Option<T>, View>>(&self, seat: &mut TableSeat<T>, word: usize) -> u64
+    fn load<P: Play<Option<T>, SeatView>>(&self, seat: &mut TableSeat<T>, word: usize) -> u64
         requires { MayStep (holds T.told T.after self.now.table.shared.key) self.now.table.shared.table_id seat.old word 0 0 (λ n. n) P.then }
         ensures { HasPlayed (holds T.told T.after self.now.table.shared.key) self.now.table.shared.table_id seat.old seat.new word 0 0 P.then result }
     {
@@ -46,7 +46,7 @@ impl<T: Told> Board<T> {
     // A load whose play names a number of the caller's.
     fn load_with<P>(&self, seat: &mut TableSeat<T>, word: usize, number: u64) -> u64
     where
-        P: Play<Option<T>, View>,
+        P: Play<Option<T>, SeatView>,
         requires { MayStep (holds T.told T.after self.now.table.shared.key) self.now.table.shared.table_id seat.old word 0 0 (λ n. n) P.then }
         ensures { HasPlayed (holds T.told T.after self.now.table.shared.key) self.now.table.shared.table_id seat.old seat.new word 0 0 P.then result }
     {
@@ -57,7 +57,7 @@ impl<T: Told> Board<T> {
     // A compare-and-exchange: the word had the value found at some moment of the call.
     fn compare_exchange<P>(&self, seat: &mut TableSeat<T>, word: usize, old: u64, new: u64) -> u64
     where
-        P: Play<Option<T>, View>,
+        P: Play<Option<T>, SeatView>,
         requires { MayStep (holds T.told T.after self.now.table.shared.key) self.now.table.shared.table_id seat.old word old new (λ n. either (n == old) new n) P.then }
         ensures { HasPlayed (holds T.told T.after self.now.table.shared.key) self.now.table.shared.table_id seat.old seat.new word old new P.then result }
     {
@@ -126,7 +126,7 @@ pub struct Seat<T> {
     ghost facts: { Facts seat.me seat.table_id held.items (deque_capacity held) },
 }
 
-impl<T: Told> Seat<T> {
+impl<T: Reports> Seat<T> {
     ghost use Rattle.kahn_board.specs.Calls.{Becomes, Claims, IsAtBoard, LooksAt, IsSameSeat, IsFirstSlot, KeepsAll, Swaps, MayLeave, OwesFew, GivesUp, Parks, Publishes, Draws, CountsDown, Looks, downs_of};
     ghost use Rattle.kahn_board.specs.Wires.{TellsEnd, TellsWait};
     ghost use Rattle.kahn_board.specs.declared.board.Rest.TheVariants.{Over};

@@ -5,21 +5,21 @@ ghost use mathlib.Core.Option.{some};
 ghost use lib.ListN.{get_elem?};
 ghost use Rattle.kahn_board.specs.Rule.{belongs, dealt, wired, all_parts};
 ghost use Rattle.kahn_board.specs.Calls.{IsAtBoard, IsSameSeat, AreCut, IsFree, after_joining};
-ghost use Rattle.kahn_board.specs.Opening.{Closes};
+ghost use Rattle.kahn_board.specs.Opening.{ClosesBoard};
 ghost use Rattle.kahn_board.specs.inner.Turn.{AddUp, IsDoneAt, IsLoneSeat, SitsAt, parts_of, done_of, raised_of};
 
 use crate::board::{Board, Seat};
-use crate::rule::Told;
-use crate::view::View;
+use crate::rule::Reports;
+use crate::view::SeatView;
 use atomic_table::{Join, Split};
 use kahn_streams::NoMemory;
 use std::alloc::Global;
 use std::collections::VecDeque;
 
 /// How a seat's view is split: the second part is an unused seat.
-pub struct Cut;
+pub struct SplitsSeat;
 
-impl Split<View> for Cut {
+impl Split<SeatView> for SplitsSeat {
     ghost use Rattle.kahn_board.specs.Calls.{after_splitting, split_off};
 
     ghost left = { after_splitting };
@@ -30,7 +30,7 @@ impl Split<View> for Cut {
 /// How the views of two seats are joined: the second is spent.
 pub struct Both;
 
-impl Join<View> for Both {
+impl Join<SeatView> for Both {
     ghost use Rattle.kahn_board.specs.Calls.{after_joining};
     ghost use Rattle.kahn_board.specs.Rule.{spent};
 
@@ -39,7 +39,7 @@ impl Join<View> for Both {
     ghost spent = { spent };
 }
 
-impl<T: Told> Board<T> {
+impl<T: Reports> Board<T> {
     /// Splits off a second seat, with one part of the first.
     pub fn split(
         &self,
@@ -53,7 +53,7 @@ impl<T: Told> Board<T> {
         let Ok(held) = VecDeque::with_capacity(alloc, self.instances) else {
             return Err((NoMemory, seat));
         };
-        let second = self.table.shared.split_seat::<Cut>(&mut seat.seat);
+        let second = self.table.shared.split_seat::<SplitsSeat>(&mut seat.seat);
         Ok((seat, Seat { seat: second, held }))
     }
 
@@ -70,7 +70,7 @@ impl<T: Told> Board<T> {
     /// Returns each cell, in order, the budget, and whether the run was halted.
     pub fn close(self, seat: Seat<T>) -> Closed<T>
         requires { IsAtBoard self seat × (seat.seat.me.0.parts ≡ all_parts) × IsFree seat.seat.me.0 }
-        ensures { Closes T.told (belongs T.after self.table.shared.key) (wired self.table.shared.key) (dealt T.told self.table.shared.key) result seat.seat.me.0 }
+        ensures { ClosesBoard T.told (belongs T.after self.table.shared.key) (wired self.table.shared.key) (dealt T.told self.table.shared.key) result seat.seat.me.0 }
     {
         let budget_word = self.budget_word();
         let halted_word = self.halted_word();
@@ -104,7 +104,7 @@ pub struct Closed<T> {
 }
 
 /// Splits one seat into `count`. `NoMemory` comes with the one seat.
-pub fn split_all<T: Told>(
+pub fn split_all<T: Reports>(
     alloc: Global,
     board: &Board<T>,
     seat: Seat<T>,
@@ -138,7 +138,11 @@ pub fn split_all<T: Told>(
 }
 
 // Joins the first seat and the others.
-fn join_rest<T: Told>(board: &Board<T>, first: Seat<T>, mut others: Vec<Seat<T>, Global>) -> Seat<T>
+fn join_rest<T: Reports>(
+    board: &Board<T>,
+    first: Seat<T>,
+    mut others: Vec<Seat<T>, Global>,
+) -> Seat<T>
     requires first { SitsAt board.now.table.shared.table_id first }
     requires others { All (SitsAt board.now.table.shared.table_id) others.items }
     ensures same { SitsAt board.now.table.shared.table_id result }
@@ -154,7 +158,7 @@ fn join_rest<T: Told>(board: &Board<T>, first: Seat<T>, mut others: Vec<Seat<T>,
 }
 
 /// Joins all seats, each of which has left.
-pub fn join_all<T: Told>(board: &Board<T>, mut seats: Vec<Seat<T>, Global>) -> Seat<T>
+pub fn join_all<T: Reports>(board: &Board<T>, mut seats: Vec<Seat<T>, Global>) -> Seat<T>
     requires some { 0 < length seats.items }
     requires each { All (IsDoneAt board.now.table.shared.table_id) seats.items }
     ensures left { IsDoneAt board.now.table.shared.table_id result }

@@ -2,13 +2,13 @@
 
 ghost use Rattle.std.specs.Prelude.{◌≡◌};
 ghost use Rattle.kahn_board.specs.Final.{StepsQuietly};
-ghost use Rattle.kahn_board.specs.Rule.{St, holds, count, wired};
+ghost use Rattle.kahn_board.specs.Rule.{St, holds, up_count, wired};
 ghost use Rattle.kahn_board.specs.declared.rule.Terms.{Terms};
 
-use crate::rule::Told;
+use crate::rule::Reports;
 
 /// A quiet run stays so: while the count is 0, no kind of step changes another word than those of the budget and of the halt, whichever seat
 /// makes it.
-pub fn quiet_is_final<T: Told>()
-    ensures { (key : Terms T) (s : St T) → holds T.told T.after key s → count (wired key) s.words ≡ 0 → StepsQuietly key s }
+pub fn quiet_is_final<T: Reports>()
+    ensures { (key : Terms T) (s : St T) → holds T.told T.after key s → up_count (wired key) s.words ≡ 0 → StepsQuietly key s }
 {}

@@ -18,7 +18,7 @@ pub use laws::quiet_is_final;
 
 // For the crates above.
 pub use closing::{join_all, split_all};
-pub use rule::{Rule, Terms, Told};
+pub use rule::{Reports, Rule, Terms};
 pub use turn::{claim, draw_some, go_on, publish, rest_dry, rest_over, rest_ready};
-pub use view::View;
+pub use view::SeatView;
 pub use wiring::{reader_of, writer_of};

@@ -9,7 +9,7 @@ ghost use Rattle.kahn_board.specs.Wires.{wires};
 ghost use Rattle.kahn_board.specs.Rule.{dealt, opening_view};
 
 use crate::board::{Board, Seat};
-use crate::rule::{Terms, Told};
+use crate::rule::{Reports, Terms};
 use crate::wiring::Wiring;
 use atomic_table::{Refused, Table};
 use kahn_streams::{Network, NoMemory};
@@ -95,7 +95,7 @@ fn reserved<T>(
     Ok((wiring, words, held, slots))
 }
 
-impl<T: Told> Board<T> {
+impl<T: Reports> Board<T> {
     /// Makes a board and its first seat. All instances are ready, `published[c]` tokens of channel c are published, the
     /// budget is the bound and the count is the number of instances. `NoMemory` comes with the cells.
     pub fn new(

@@ -3,7 +3,7 @@
 ghost use Rattle.std.specs.Prelude.{Option};
 ghost use Rattle.kahn_board.specs.Wires.{Summary};
 
-use crate::view::View;
+use crate::view::SeatView;
 use atomic_table::TableRule;
 use kahn_streams::Network;
 use std::alloc::Global;
@@ -12,7 +12,7 @@ use std::snapshot::Snapshot;
 
 /// What a cell reports to contracts: its events, what it took, sent and flushed, and whether it has ended or waits. A
 /// cell that reports nothing meets every condition.
-pub trait Told {
+pub trait Reports {
     ghost told: { Self → Option Summary };
 
     /// The second is a later state of the first. The board requires no law of it.
@@ -34,7 +34,7 @@ pub struct Rule<T> {
     cells: PhantomData<T>,
 }
 
-impl<T: Told> TableRule<Option<T>, View, Terms<T>> for Rule<T> {
+impl<T: Reports> TableRule<Option<T>, SeatView, Terms<T>> for Rule<T> {
     ghost use Rattle.kahn_board.specs.Rule.{opening_view, holds, wired};
 
     ghost holds = { holds T.told T.after };

@@ -9,14 +9,14 @@ ghost use Rattle.kahn_board.specs.declared.board.Look.TheVariants.{Go};
 ghost use Rattle.kahn_board.specs.inner.Turn.{DrawsAgain, FitsDraw, drawn_of, BeginsTurn, EndsTurn, IsBetween, IsBetweenTurns, IsSeatOf, HoldsInTurn, Knows, HasPublished, SetsLate, SetsReady, SetsStill};
 
 use crate::board::{Board, Draw, Look, Rest, Seat};
-use crate::rule::Told;
+use crate::rule::Reports;
 
 // How often it draws at most when other workers come between.
 const DRAWS: usize = 64;
 
 /// Claims the instance, if it is ready, for what is left of a draw. False if it isn't, since another worker has it, or it
 /// waits, or it is over: its word was not 0 then.
-pub fn claim<T: Told>(seat: &mut Seat<T>, board: &Board<T>, p: usize) -> bool
+pub fn claim<T: Reports>(seat: &mut Seat<T>, board: &Board<T>, p: usize) -> bool
     requires board { IsAtBoard board.now seat.old }
     requires rests { (n : ℕ) × IsBetween n seat.old }
     requires inside { p < board.now.instances }
@@ -31,7 +31,7 @@ pub fn claim<T: Told>(seat: &mut Seat<T>, board: &Board<T>, p: usize) -> bool
 
 /// Draws events from the budget, again if another worker comes between: the smaller of `quantum` and the budget at that
 /// moment. `Empty` if the budget was 0, `Lost` if another worker came between 64 times.
-pub fn draw_some<T: Told>(seat: &mut Seat<T>, board: &Board<T>, p: usize, quantum: u64) -> Draw
+pub fn draw_some<T: Reports>(seat: &mut Seat<T>, board: &Board<T>, p: usize, quantum: u64) -> Draw
     requires board { IsAtBoard board.now seat.old }
     requires holds { (x : Option T) × HoldsInTurn p 0 0 x seat.old }
     requires some { 0 < quantum }
@@ -52,7 +52,13 @@ pub fn draw_some<T: Told>(seat: &mut Seat<T>, board: &Board<T>, p: usize, quantu
 }
 
 /// Publishes `count` tokens of the channel. If its reader waited on the channel, it is ready again.
-pub fn publish<T: Told>(seat: &mut Seat<T>, board: &Board<T>, p: usize, channel: usize, count: u64)
+pub fn publish<T: Reports>(
+    seat: &mut Seat<T>,
+    board: &Board<T>,
+    p: usize,
+    channel: usize,
+    count: u64,
+)
     requires board { IsAtBoard board.now seat.old }
     requires holds { (n : ℕ) × (l : ℕ) × (x : Option T) × HoldsInTurn p n l x seat.old }
     requires writes { (channel < board.now.channels) × ((wired board.now.table.shared.key).writer channel ≡ Some p) × (count < 2 ^ 48) }
@@ -68,7 +74,7 @@ pub fn publish<T: Told>(seat: &mut Seat<T>, board: &Board<T>, p: usize, channel:
 }
 
 /// Sets the instance down, ready for another turn.
-pub fn rest_ready<T: Told>(seat: &mut Seat<T>, board: &Board<T>, p: usize)
+pub fn rest_ready<T: Reports>(seat: &mut Seat<T>, board: &Board<T>, p: usize)
     requires board { IsAtBoard board.now seat.old }
     requires holds { EndsTurn T.told T.after board.now.table.shared.key p (λ y. Unit {0}) seat.old }
     ensures same { IsSeatOf seat.old seat.new }
@@ -79,7 +85,7 @@ pub fn rest_ready<T: Told>(seat: &mut Seat<T>, board: &Board<T>, p: usize)
 }
 
 /// Sets down the instance, which has ended.
-pub fn rest_over<T: Told>(seat: &mut Seat<T>, board: &Board<T>, p: usize)
+pub fn rest_over<T: Reports>(seat: &mut Seat<T>, board: &Board<T>, p: usize)
     requires board { IsAtBoard board.now seat.old }
     requires holds { EndsTurn T.told T.after board.now.table.shared.key p (λ y. TellsEnd (T.told y)) seat.old }
     ensures same { IsSeatOf seat.old seat.new }
@@ -92,7 +98,7 @@ pub fn rest_over<T: Told>(seat: &mut Seat<T>, board: &Board<T>, p: usize)
 
 /// Parks the instance on the channel, of which it took `taken` tokens. False if another number was published: then it is
 /// ready for another turn.
-pub fn rest_dry<T: Told>(
+pub fn rest_dry<T: Reports>(
     seat: &mut Seat<T>,
     board: &Board<T>,
     p: usize,
@@ -117,7 +123,7 @@ pub fn rest_dry<T: Told>(
 
 /// Whether another turn comes. False if it saw that the run is halted, that no instance can go on, or that the budget is
 /// empty: then it has left.
-pub fn go_on<T: Told>(seat: &mut Seat<T>, board: &Board<T>) -> bool
+pub fn go_on<T: Reports>(seat: &mut Seat<T>, board: &Board<T>) -> bool
     requires board { IsAtBoard board.now seat.old }
     requires idle { IsBetweenTurns seat.old }
     ensures same { IsSeatOf seat.old seat.new }

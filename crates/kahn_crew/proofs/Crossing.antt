@@ -15,7 +15,7 @@ use denote.RawPtr.{Ptr, block_ptr, null_ptr, block_of, count_of, in_block}
 use denote.Ref.{NamedLft}
 use Rattle.std.specs.contracts.impls.GlobalAllocator.TheImpl.{ghosts}
 use Rattle.kahn_job.proofs.Crossing.{network_sync}
-use Rattle.kahn_board.specs.declared.rule.Told.{Ghosts}
+use Rattle.kahn_board.specs.declared.rule.Reports.{Ghosts}
 use denote.Struct.Declared as S
 use denote.Struct.Owning as owning
 use Rattle.std.proofs.Crossing as std
@@ -30,12 +30,12 @@ use Rattle.kahn_code.proofs.code.Code.TheSendSync as code
 use Rattle.kahn_streams.proofs.input.Input.TheSendSync as input
 use Rattle.kahn_board.specs.contracts.board.Board as Board
 use Rattle.kahn_board.specs.contracts.rule.Rule as Rule
-use Rattle.kahn_board.specs.contracts.rule.RuleTableRuleOptionViewTerms.TheImpl as rule
+use Rattle.kahn_board.specs.contracts.rule.RuleTableRuleOptionSeatViewTerms.TheImpl as rule
 use Rattle.kahn_board.specs.contracts.rule.Terms as Terms
-use Rattle.kahn_board.specs.contracts.view.View as View
+use Rattle.kahn_board.specs.contracts.view.SeatView as SeatView
 use Rattle.kahn_crew.specs.contracts.boxes.Boxed as Boxed
 use Rattle.kahn_crew.proofs.boxes.Boxed.TheSendSync as boxed
-use Rattle.kahn_crew.specs.contracts.boxes.BoxedTold.TheImpl as told
+use Rattle.kahn_crew.specs.contracts.boxes.BoxedReports.TheImpl as told
 use Rattle.kahn_crew.specs.contracts.run.Run as Run
 use Rattle.kahn_crew.specs.contracts.worker.Worker as Worker
 use Rattle.kahn_crew.proofs.worker.Worker.TheSendSync as worker
@@ -61,10 +61,10 @@ with_last R₁ R₂ R₃ R₄ R₅ s₁ s₂ s₃ s₄ a s = (s₁.shared a.0, (
 
 module _ (T : RattleType) (g : Ghosts T.Denot) (s : IsSend T) where
   abbrev in_table : RattleType
-  in_table = (Table.the_field (Option.the_row T) View.the_row (Terms.the_row T) (Rule.the_row T) Heap.the_row (rule.ghosts T g rule.no_dict) ghosts).row
+  in_table = (Table.the_field (Option.the_row T) SeatView.the_row (Terms.the_row T) (Rule.the_row T) Heap.the_row (rule.ghosts T g rule.no_dict) ghosts).row
 
   table_sync : IsSync in_table
-  table_sync = table.the_field_sync (Option.the_row T) View.the_row (Terms.the_row T) (Rule.the_row T) Heap.the_row (rule.ghosts T g rule.no_dict) ghosts (option.the_send T s) std.send std.sync std.frees
+  table_sync = table.the_field_sync (Option.the_row T) SeatView.the_row (Terms.the_row T) (Rule.the_row T) Heap.the_row (rule.ghosts T g rule.no_dict) ghosts (option.the_send T s) std.send std.sync std.frees
 
   readers_sync : IsSync (Vec.the_row (Option.the_row usize) Heap.the_row ghosts)
   readers_sync = std.Vec-sync (Option.the_row usize) (option.the_sync usize (search sendable))

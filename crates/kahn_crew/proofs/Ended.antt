@@ -1,7 +1,7 @@
 -- What a closed board says of a run.
-use Rattle.kahn_crew.proofs.Common.{append-nil, ◌++◌, reverse, arith, ◌≡◌, ◌⊎◌, inl, inr, ⊎_elim, ℕ, zero, suc, ◌+◌, ◌<◌, ◌≤◌, true, false, List, [], ◌∷◌, length, sum_by, refl, sym, ap, ◌∙◌, subst, Option, Some, slice_get, some, get_elem?, sum_by-cons, slice_get_within, Program, Network, Reads, Writes, Given, channel_source, network_of, instance_at, actual_at, role_at, IsWellWired, Lists, is_output, count, end_at, Work, belongs, dealt, wired, events_told, wires, Terms, View, AreReadyTasks, HasBegun, IsTaskOf, Tasked, Continues, IsLater, count_on, handed_to_task, read_by, reads_at, told_tale, waits_on, writes_at, wrote_by, no_writer}
+use Rattle.kahn_crew.proofs.Common.{append-nil, ◌++◌, reverse, arith, ◌≡◌, ◌⊎◌, inl, inr, ⊎_elim, ℕ, zero, suc, ◌+◌, ◌<◌, ◌≤◌, true, false, List, [], ◌∷◌, length, sum_by, refl, sym, ap, ◌∙◌, subst, Option, Some, slice_get, some, get_elem?, sum_by-cons, slice_get_within, Program, Network, Reads, Writes, Given, channel_source, network_of, instance_at, actual_at, role_at, IsWellWired, Lists, is_output, count, end_at, Work, belongs, dealt, wired, events_told, wires, Terms, SeatView, AreReadyTasks, HasBegun, IsTaskOf, Tasked, Continues, IsLater, count_on, handed_to_task, read_by, reads_at, told_tale, waits_on, writes_at, wrote_by, no_writer}
 use Rattle.kahn_streams.specs.declared.tree.Role.{Role}
-use Rattle.kahn_board.specs.Opening.{Closes}
+use Rattle.kahn_board.specs.Opening.{ClosesBoard}
 use Rattle.kahn_board.specs.Rule.{below}
 use Rattle.kahn_board.specs.declared.closing.Closed.{Closed}
 use Rattle.kahn_crew.specs.inner.Left.{AreAll, AreUntouched, HaveGone, IsQuietTask, IsOver, task_events}
@@ -57,7 +57,7 @@ module _ (t : Program) (is_wired : IsWellWired t) where
 -- ---- a run of a program
 
 module _ (lists : Lists) (watch : Option ℕ) (key : Terms Tasked) (is_wired : IsWellWired key.network.value) (begun : HasBegun key.network.value lists watch key)
-    (c : Closed Tasked) (tasks : List Tasked) (v : View) (closes : Closes told_tale (belongs IsLater key) (wired key) (dealt told_tale key) c v) (are : c.cells.items ≡ tasks) where
+    (c : Closed Tasked) (tasks : List Tasked) (v : SeatView) (closes : ClosesBoard told_tale (belongs IsLater key) (wired key) (dealt told_tale key) c v) (are : c.cells.items ≡ tasks) where
   abbrev t : Program
   t = key.network.value
 
@@ -178,7 +178,7 @@ sums_rise (z ∷ xs) (u ∷ ys) l h =
 
 -- a run on whose board nobody works, that was made of these tasks for so many events
 module _ {t : Program} {lists : Lists} {watch : Option ℕ} {key : Terms Tasked} (is_wired : IsWellWired t) (begun : HasBegun t lists watch key)
-    {c : Closed Tasked} {tasks : List Tasked} {v : View} (closes : Closes told_tale (belongs IsLater key) (wired key) (dealt told_tale key) c v) (are : c.cells.items ≡ tasks)
+    {c : Closed Tasked} {tasks : List Tasked} {v : SeatView} (closes : ClosesBoard told_tale (belongs IsLater key) (wired key) (dealt told_tale key) c v) (are : c.cells.items ≡ tasks)
     {bound : ℕ} {first : List Tasked} (of : (key.bound ≡ bound) × (key.cells.value.items ≡ first)) where
   wired_key : IsWellWired key.network.value
   wired_key = subst IsWellWired (sym begun.network) is_wired

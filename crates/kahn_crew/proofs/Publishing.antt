@@ -1,5 +1,5 @@
 -- What is published agrees with what the seat knows.
-use Rattle.kahn_crew.proofs.Common.{arith, ◌≡◌, ◌≢◌, inl, inr, ℕ, ◌+◌, ◌<◌, ◌^◌, false, length, sym, ap, ◌∙◌, subst, Some, None, slice_set, dite, ℕ_discrete, get_or-set_same, get_or-set_other, Program, Actual, Writes, network_of, instance_at, actual_at, role_at, IsWellWired, is_output, count, driven, wires, View, end_at, Work, HasPublished, SeesMore, IsJob, AreCounts, IsTaskOf, Tasked, AgreesWith, IsPublished, handed_to_task, written_by}
+use Rattle.kahn_crew.proofs.Common.{arith, ◌≡◌, ◌≢◌, inl, inr, ℕ, ◌+◌, ◌<◌, ◌^◌, false, length, sym, ap, ◌∙◌, subst, Some, None, slice_set, dite, ℕ_discrete, get_or-set_same, get_or-set_other, Program, Actual, Writes, network_of, instance_at, actual_at, role_at, IsWellWired, is_output, count, driven, wires, SeatView, end_at, Work, HasPublished, SeesMore, IsJob, AreCounts, IsTaskOf, Tasked, AgreesWith, IsPublished, handed_to_task, written_by}
 use Rattle.kahn_crew.proofs.Wirings.{so_written, writer_is, written_inside, written_so}
 use Rattle.kahn_crew.proofs.Found.{none_some}
 
@@ -22,7 +22,7 @@ module _ (t : Program) (wired : IsWellWired t) where
       absurd (none_some (sym e ∙ so_written (network_of t) (At p o) c (sym (handed_is x.work p o is.0 is.1) ∙ h) (sym (inner_is x.work c is.0) ∙ inner)))
 
   -- a number that is told
-  pub agrees_told : (x : Tasked) (p o c k : ℕ) (old new : View) → IsTaskOf t p x → written_by (network_of t) (At p o) ≡ Some c → o < length x.published →
+  pub agrees_told : (x : Tasked) (p o c k : ℕ) (old new : SeatView) → IsTaskOf t p x → written_by (network_of t) (At p o) ≡ Some c → o < length x.published →
       HasPublished (wires t) p c k old new → AgreesWith x.work x.published old.flushed → AgreesWith x.work (slice_set x.published o k) new.flushed
   agrees_told x p o c k old new is e lt tells agrees r d h inner =
       let here = written_so (network_of t) (At p o) c e in

@@ -1,5 +1,5 @@
 -- A task that is set down.
-use Rattle.kahn_crew.proofs.Common.{arith, ◌≡◌, ◌⊎◌, inl, inr, ⊎_elim, ℕ, ◌+◌, ◌<◌, ◌^◌, List, refl, sym, ap, ◌∙◌, subst, Option, Some, None, slice_index, Program, Lists, Reads, Writes, network_of, instance_at, actual_at, role_at, IsWellWired, is_output, route_of, count, AreCounts, belongs, wired, wires, SeesMore, Terms, View, Fits, Knows, end_at, Work, IsDelivered, FitTogether, IsTaskOf, IsDue, Tasked, Continues, HasStanding, AgreesWith, IsLater, IsPublished, count_on, handed_to_task, read_by, reads_at, told_tale, waits_on, writes_at, wrote_by, is_there}
+use Rattle.kahn_crew.proofs.Common.{arith, ◌≡◌, ◌⊎◌, inl, inr, ⊎_elim, ℕ, ◌+◌, ◌<◌, ◌^◌, List, refl, sym, ap, ◌∙◌, subst, Option, Some, None, slice_index, Program, Lists, Reads, Writes, network_of, instance_at, actual_at, role_at, IsWellWired, is_output, route_of, count, AreCounts, belongs, wired, wires, SeesMore, Terms, SeatView, Fits, Knows, end_at, Work, IsDelivered, FitTogether, IsTaskOf, IsDue, Tasked, Continues, HasStanding, AgreesWith, IsLater, IsPublished, count_on, handed_to_task, read_by, reads_at, told_tale, waits_on, writes_at, wrote_by, is_there}
 use Rattle.kahn_streams.proofs.Dry.{dry_reads}
 use Rattle.kahn_board.specs.Wires.{FlushedAll, flushed_of, second_of}
 use Rattle.kahn_crew.proofs.Wirings.{reads_first, writes_first, first_writes, reader_is, writer_is, read_inside, written_inside}
@@ -80,14 +80,14 @@ module _ (t : Program) (wired : IsWellWired t) where
   own w n = subst IsWellWired (sym n) wired
 
   -- what a task counts as published is known
-  pub agrees_with : (key : Terms Tasked) (p : ℕ) (y : Tasked) (v : View) → IsTaskOf t p y → ((o : ℕ) → IsPublished y o) →
+  pub agrees_with : (key : Terms Tasked) (p : ℕ) (y : Tasked) (v : SeatView) → IsTaskOf t p y → ((o : ℕ) → IsPublished y o) →
       Fits told_tale (belongs IsLater key) (wires t) p y v → AgreesWith y.work y.published v.flushed
   agrees_with key p y v is published fits o c h inner =
       let w = y.work in
       let at : writes_at w c ≡ Some o = writes_first w.cell.network (own w is.0) w.cell.instance o c h inner in
       published o c h inner ∙ (fits.published c (end_at w.ends o).flushed (ap (λ m. second_of (wrote_by w m)) at)).2
 
-  pub published_is : (p : ℕ) (x : Tasked) (v : View) → IsTaskOf t p x → AgreesWith x.work x.published v.flushed → ((o : ℕ) → IsPublished x o) →
+  pub published_is : (p : ℕ) (x : Tasked) (v : SeatView) → IsTaskOf t p x → AgreesWith x.work x.published v.flushed → ((o : ℕ) → IsPublished x o) →
       (c l : ℕ) → flushed_of (told_tale x) c ≡ Some l → (c < (wires t).channels) × ((wires t).writer c ≡ Some p) × (l ≡ slice_index v.flushed c)
   published_is p x v is agrees published c l e =
       let w = x.work in
@@ -104,7 +104,7 @@ module _ (t : Program) (wired : IsWellWired t) where
       sym f.2 ∙ (sym (delivered f.0 c h.0 h.1) ∙ f.3)
 
   -- a task that was run, flushed and published may be left
-  pub fits_after : (key : Terms Tasked) (p : ℕ) (x : Tasked) (v : View) → IsTaskOf t p x → belongs Continues key p x →
+  pub fits_after : (key : Terms Tasked) (p : ℕ) (x : Tasked) (v : SeatView) → IsTaskOf t p x → belongs Continues key p x →
       AgreesWith x.work x.published v.flushed → ((o : ℕ) → IsPublished x o) → (v.seen ≡ 2) ⊎ IsDelivered x.work →
       x.work.cell.events ≡ slice_index v.events_when_got p + v.untold → Fits told_tale (belongs IsLater key) (wires t) p x v
   fits_after key p x v is first agrees published delivered events = record {
@@ -115,7 +115,7 @@ module _ (t : Program) (wired : IsWellWired t) where
   }
 
   -- a seat that knows as much of p finds the task as fit
-  pub fits_still : (key : Terms Tasked) (p : ℕ) (y : Tasked) (old new : View) → IsTaskOf t p y → Knows (wires t) p old new → new.untold ≡ old.untold →
+  pub fits_still : (key : Terms Tasked) (p : ℕ) (y : Tasked) (old new : SeatView) → IsTaskOf t p y → Knows (wires t) p old new → new.untold ≡ old.untold →
       Fits told_tale (belongs IsLater key) (wires t) p y old → Fits told_tale (belongs IsLater key) (wires t) p y new
   fits_still key p y old new is knows untold fits = record {
     published = λ c l e. let f = fits.published c l e in (f.0, f.1, f.2 ∙ sym (knows.flushed c f.0 f.1));
@@ -163,7 +163,7 @@ agrees_later y x known l same agrees o c h inner =
     agrees o c (sym (handed_same y.work x.work o l.network l.instance) ∙ h) (ap (λ k. is_output (role_at (network_of k) c)) (sym l.network) ∙ inner)
 
 module _ (t : Program) (wired : IsWellWired t) where
-  pub agrees_known : (p : ℕ) (x : Tasked) (old new : View) → IsTaskOf t p x → Knows (wires t) p old new → AgreesWith x.work x.published old.flushed →
+  pub agrees_known : (p : ℕ) (x : Tasked) (old new : SeatView) → IsTaskOf t p x → Knows (wires t) p old new → AgreesWith x.work x.published old.flushed →
       AgreesWith x.work x.published new.flushed
   agrees_known p x old new is knows agrees o c h inner =
       let at : actual_at (instance_at (network_of t) p) o ≡ Writes c = sym (handed_is t wired x.work p o is.0 is.1) ∙ h in

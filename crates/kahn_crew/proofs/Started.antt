@@ -1,5 +1,5 @@
 -- The first tasks, and the board that is made of them.
-use Rattle.kahn_crew.proofs.Common.{arith, ◌≡◌, ℕ, zero, suc, ◌+◌, ◌<◌, ◌≤◌, ◌^◌, List, [], ◌∷◌, ◌++◌, length, map, refl, sym, ap, ◌∙◌, subst, true, false, Option, Some, None, slice_get, slice_index, slice_index_or, some, some-injective, some-ne-none, get_elem?, length-map, option_map, slice_get-map, slice_get_read, Program, Side, Writes, network_of, instance_at, actual_at, role_at, IsOnly, IsWriter, IsWellWired, side_at, Lists, inputs_of, is_output, Joins, count, AreCounts, Serves, end_at, IsDelivered, Work, events_told, Opens, wires, Terms, View, woken_task, Tasked, AreReadyTasks, HasBegun, IsNumber, IsReadyTask, FitTogether, AgreesWith, IsLater, IsPublished, task_rows, told_tale}
+use Rattle.kahn_crew.proofs.Common.{arith, ◌≡◌, ℕ, zero, suc, ◌+◌, ◌<◌, ◌≤◌, ◌^◌, List, [], ◌∷◌, ◌++◌, length, map, refl, sym, ap, ◌∙◌, subst, true, false, Option, Some, None, slice_get, slice_index, slice_index_or, some, some-injective, some-ne-none, get_elem?, length-map, option_map, slice_get-map, slice_get_read, Program, Side, Writes, network_of, instance_at, actual_at, role_at, IsOnly, IsWriter, IsWellWired, side_at, Lists, inputs_of, is_output, Joins, count, AreCounts, Serves, end_at, IsDelivered, Work, events_told, Opens, wires, Terms, SeatView, woken_task, Tasked, AreReadyTasks, HasBegun, IsNumber, IsReadyTask, FitTogether, AgreesWith, IsLater, IsPublished, task_rows, told_tale}
 use Rattle.kahn_streams.specs.declared.tree.Role.TheVariants.{Input}
 use Rattle.kahn_job.specs.inner.Idles.{AreIdle, CanGoOn, HaveSettled, rows_of}
 use Rattle.kahn_job.specs.inner.Berths.{AreJoinedOn}
@@ -149,7 +149,7 @@ module _ {t : Program} (wired : IsWellWired t) {lists : Lists} {watch : Option �
 module _ (t : Program) (wired : IsWellWired t) (lists : Lists) (watch : Option ℕ) (numbers : List ℕ) (tasks : List Tasked) (f : AreReadyTasks t lists watch tasks)
     (long : length numbers ≡ length (network_of t).channels)
     (each : (c : ℕ) → c < length numbers → IsNumber t lists tasks c (slice_index numbers c)) where
-  abbrev known : View
+  abbrev known : SeatView
   known = record spent { flushed = numbers }
 
   inner_here : (p : ℕ) (y : Tasked) (c : ℕ) → IsReadyTask t lists watch p y → is_output (role_at (network_of y.work.cell.network) c) ≡ false → is_output (role_at (network_of t) c) ≡ false

@@ -1,5 +1,5 @@
 -- A worker in a turn.
-use Rattle.kahn_crew.proofs.Common.{arith, ◌≡◌, ◌⊎◌, inl, inr, ⊎_elim, ℕ, ◌+◌, ◌-◌, ◌<◌, ◌≤◌, ◌^◌, List, length, refl, sym, ap, ◌∙◌, subst, Option, Some, None, slice_index, slice_set, Program, network_of, instance_at, actual_at, IsWellWired, Wires, Sat, InTurn, Becomes, Swaps, after_reporting, belongs, wired, Seat, Terms, View, IsDelivered, Fits, HasPublished, HoldsInTurn, Knows, Run, IsTaskOf, CanRest, IsDue, Tasked, Continues, AgreesWith, IsLater, IsPublished, told_tale, written_by, HasTask, IsAtWork, IsTaskIn, StandsStill, terms_of, is_there}
+use Rattle.kahn_crew.proofs.Common.{arith, ◌≡◌, ◌⊎◌, inl, inr, ⊎_elim, ℕ, ◌+◌, ◌-◌, ◌<◌, ◌≤◌, ◌^◌, List, length, refl, sym, ap, ◌∙◌, subst, Option, Some, None, slice_index, slice_set, Program, network_of, instance_at, actual_at, IsWellWired, Wires, Sat, InTurn, Becomes, Swaps, after_reporting, belongs, wired, Seat, Terms, SeatView, IsDelivered, Fits, HasPublished, HoldsInTurn, Knows, Run, IsTaskOf, CanRest, IsDue, Tasked, Continues, AgreesWith, IsLater, IsPublished, told_tale, written_by, HasTask, IsAtWork, IsTaskIn, StandsStill, terms_of, is_there}
 use Rattle.kahn_crew.specs.declared.turn.Due.{Due}
 use Rattle.kahn_crew.proofs.Publishing.{agrees_told}
 use Rattle.kahn_crew.proofs.Wirings.{instances_are}
@@ -7,7 +7,7 @@ use Rattle.kahn_crew.proofs.Resting.{agrees_known, agrees_later, agrees_with, co
 
 -- what was in the slot of the instance is exchanged
 pub swapped : (p n l : ℕ) (x y : Option Tasked) (s u : Seat Tasked) → Swaps s u p x y → HoldsInTurn p n l x s → HoldsInTurn p n l y u
-swapped p n l x y s u e h = subst (λ (v : View). InTurn p n l y (v, u.seat.me.1)) (sym e.1) record { mine = h.mine; alone = h.alone; slot = e.3; owed = h.owed; down = h.down; drawn = h.drawn; untold = h.untold }
+swapped p n l x y s u e h = subst (λ (v : SeatView). InTurn p n l y (v, u.seat.me.1)) (sym e.1) record { mine = h.mine; alone = h.alone; slot = e.3; owed = h.owed; down = h.down; drawn = h.drawn; untold = h.untold }
 
 -- the task is put back, and the events that it did are reported
 pub put_down : (p n k : ℕ) (x : Tasked) (w : Wires) (s m u : Seat Tasked) → Swaps s m p None (Some x) → Becomes (after_reporting m.seat.me.0 k) m u → HoldsInTurn p n 0 None s →
@@ -16,7 +16,7 @@ put_down p n k x w s m u e f h =
     let t = swapped p n 0 None (Some x) s m e h in
     subst (λ (z : Sat Tasked). InTurn p (n - k) k (Some x) z × Knows w p s.seat.me.0 z.0) (sym f.1) (
       record { mine = t.mine; alone = t.alone; slot = t.slot; owed = t.owed; down = t.down; drawn = ap (λ j. j - k) t.drawn; untold = omega (arith, t.untold) },
-      subst (λ (v : View). Knows w p s.seat.me.0 v) (λ i. after_reporting (sym e.1 i) k) record { flushed = λ c _ _. refl; events_when_got = refl; seen = inl refl },
+      subst (λ (v : SeatView). Knows w p s.seat.me.0 v) (λ i. after_reporting (sym e.1 i) k) record { flushed = λ c _ _. refl; events_when_got = refl; seen = inl refl },
     )
 
 module _ (run : Run) where
@@ -98,11 +98,11 @@ module _ (run : Run) (well : IsWellWired (terms_of run).network.value) where
       record {
         seated = table ∙ h.0;
         inside = h.1;
-        few = subst (λ (k : View). slice_index k.events_when_got p + n < 2 ^ 48) (sym view) h.2;
+        few = subst (λ (k : SeatView). slice_index k.events_when_got p + n < 2 ^ 48) (sym view) h.2;
         most = omega arith;
         holds = turn;
-        events = subst (λ (k : View). x.work.cell.events ≡ slice_index k.events_when_got p + 0) (sym view) (omega (arith, events, h.3.1.untold));
-        agrees = subst (λ (k : View). AgreesWith x.work x.published k.flushed) (sym view) (agrees_with (t run) well (key run) p x v (is_task run p x h.1 first) published fits);
+        events = subst (λ (k : SeatView). x.work.cell.events ≡ slice_index k.events_when_got p + 0) (sym view) (omega (arith, events, h.3.1.untold));
+        agrees = subst (λ (k : SeatView). AgreesWith x.work x.published k.flushed) (sym view) (agrees_with (t run) well (key run) p x v (is_task run p x h.1 first) published fits);
         first = first;
       }
 

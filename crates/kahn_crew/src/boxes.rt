@@ -2,7 +2,7 @@
 
 ghost use Rattle.std.specs.Prelude.{◌≡◌, ◌+◌, ◌≤◌, ◌++◌, [], length, reverse, IfOk, IfErr, vec_capacity};
 
-use kahn_board::Told;
+use kahn_board::Reports;
 use kahn_job::Task;
 use std::alloc::Global;
 use std::marker::Model;
@@ -25,7 +25,7 @@ impl Model for Boxed {
     ghost view = { λ b. b.task.value };
 }
 
-impl Told for Boxed {
+impl Reports for Boxed {
     ghost use Rattle.kahn_crew.specs.inner.Tasks.{IsLater, told_tale};
 
     ghost told = { told_tale };

@@ -7,7 +7,7 @@ ghost use Rattle.kahn_board.specs.Rule.{all_parts};
 ghost use Rattle.kahn_board.specs.Wires.{wires};
 ghost use Rattle.kahn_units.specs.inner.Working.{IsSquare, KeepsShare, HasCell, KeepsCells, KeepsOtherCells};
 
-use kahn_board::{Board, Closed, Draw, Look, Rest, Seat, Told, writer_of};
+use kahn_board::{Board, Closed, Draw, Look, Reports, Rest, Seat, writer_of};
 use kahn_check::{Network, check};
 use kahn_streams::NoMemory;
 use kahn_syntax::parse;
@@ -25,7 +25,7 @@ struct Counter {
     taken: u64,
 }
 
-impl Told for Counter {
+impl Reports for Counter {
     ghost told = { λ _. None };
 
     ghost after = { λ _ _. Unit {0} };

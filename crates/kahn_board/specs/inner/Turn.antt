@@ -6,7 +6,7 @@ use Rattle.kahn_board.specs.Rule.{belongs, wired, IsDone, KnowsHalted, all_parts
 use Rattle.kahn_board.specs.Wires.{Summary, FlushedAll, flushed_of, events_past, Wires, wires}
 use Rattle.kahn_board.specs.Plays.{Carries, Sat, IsIn, SeesMore, after_giving_up, after_step, after_counting_down}
 use Rattle.kahn_streams.specs.declared.tree.Program.{Program}
-use Rattle.kahn_board.specs.declared.{board.Draw.Draw, board.Seat.Seat, rule.Terms.Terms, view.View.View, wiring.Wiring.Wiring}
+use Rattle.kahn_board.specs.declared.{board.Draw.Draw, board.Seat.Seat, rule.Terms.Terms, view.SeatView.SeatView, wiring.Wiring.Wiring}
 use Rattle.kahn_board.specs.declared.board.Draw.TheVariants.{Got, Lost, Empty}
 
 -- what is kept of the network of a program
@@ -26,18 +26,18 @@ pub record AreFirstWords (n bound : ℕ) (published words : List ℕ) : Type 0 w
   pub halted : slice_index words (8 * (n + length published) + 16) ≡ 0
 
 -- it has no instance, drew n events and owes nothing, and each event that it reported as done was reported by a cell
-abbrev pub RestsWith : ℕ → View → Type 0
+abbrev pub RestsWith : ℕ → SeatView → Type 0
 RestsWith n v = (HoldsNothing v × (v.drawn ≡ n) × (v.owed ≡ []) × (v.down ≡ 0)) × (v.untold ≡ 0)
 
 -- what is known of the instance p stays: what its channels' numbers are, what its cell reported when it was got; and no less was
 -- seen
-pub record Knows (w : Wires) (p : ℕ) (old new : View) : Type 0 where
+pub record Knows (w : Wires) (p : ℕ) (old new : SeatView) : Type 0 where
   pub flushed : (c : ℕ) → c < w.channels → w.writer c ≡ Some p → slice_index new.flushed c ≡ slice_index old.flushed c
   pub events_when_got : slice_index new.events_when_got p ≡ slice_index old.events_when_got p
   pub seen : SeesMore old.seen new.seen
 
 -- k tokens of p's channel c are published
-pub record HasPublished (w : Wires) (p c k : ℕ) (old new : View) : Type 0 where
+pub record HasPublished (w : Wires) (p c k : ℕ) (old new : SeatView) : Type 0 where
   pub here : slice_index new.flushed c ≡ k
   pub others : (d : ℕ) → d ≢ c → d < w.channels → w.writer d ≡ Some p → slice_index new.flushed d ≡ slice_index old.flushed d
   pub events_when_got : slice_index new.events_when_got p ≡ slice_index old.events_when_got p
@@ -73,13 +73,13 @@ module _ {T : Type 0} where
       (t.seat.table_id ≡ s.seat.table_id) × (t.seat.id ≡ s.seat.id) × (t.seat.me.0.parts ≡ s.seat.me.0.parts) × (t.seat.me.0.raised ≡ s.seat.me.0.raised)
 
   -- p with its cell was set down ready, when the view was v
-  abbrev pub SetsReady : (T → Option Summary) → Seat T → View → Seat T → ℕ → Type 0
+  abbrev pub SetsReady : (T → Option Summary) → Seat T → SeatView → Seat T → ℕ → Type 0
   SetsReady told s v t p = (y : T) → Carries s.seat.me.1 p (Some y) → t.seat.me.0 ≡ after_giving_up v p (told y) 0
 
 module _ {T : Type 0} (told : T → Option Summary) (owns : ℕ → T → Type 0) (w : Wires) where
   -- the cell y of p may be left: what it reports as flushed is published, its events are those reported as done, it flushed all that it sent unless the run is halted, it
   -- belongs to p
-  pub record Fits (p : ℕ) (y : T) (v : View) : Type 0 where
+  pub record Fits (p : ℕ) (y : T) (v : SeatView) : Type 0 where
     pub published : (c l : ℕ) → flushed_of (told y) c ≡ Some l → (c < w.channels) × (w.writer c ≡ Some p) × (l ≡ slice_index v.flushed c)
     pub events : events_past (told y) (slice_index v.events_when_got p) ≡ slice_index v.events_when_got p + v.untold
     pub flushed : KnowsHalted v ⊎ FlushedAll (told y)

@@ -1,6 +1,6 @@
 -- Inner. What a worker has between two turns and in a turn, how a task is set down, and what the workers of a run have together.
 use Rattle.std.specs.Prelude.{◌≡◌, ◌≢◌, ◌⊎◌, ◌↔◌, ◌+◌, ◌*◌, ◌/◌, ◌^◌, ◌<◌, ◌≤◌, min}
-use Rattle.kahn_crew.specs.inner.Words.{ℕ, Bool, true, Option, None, Some, slice_index, false, List, length, slice_index_or, TableId, Was, belongs, wired, SeesMore, channel_at, TellsEnd, TellsWait, Seat, Terms, View, BeginsTurn, EndsTurn, HoldsInTurn, IsBetween, IsDoneAt, IsSeatOf, SetsStill, SitsAt, Continues, Tasked}
+use Rattle.kahn_crew.specs.inner.Words.{ℕ, Bool, true, Option, None, Some, slice_index, false, List, length, slice_index_or, TableId, Was, belongs, wired, SeesMore, channel_at, TellsEnd, TellsWait, Seat, Terms, SeatView, BeginsTurn, EndsTurn, HoldsInTurn, IsBetween, IsDoneAt, IsSeatOf, SetsStill, SitsAt, Continues, Tasked}
 use Rattle.kahn_board.specs.{Rule.budget_at, Wires.Wires}
 use Rattle.kahn_crew.specs.declared.{run.Run.Run, turn.Due.Due, worker.Worker.Worker}
 use Rattle.kahn_crew.specs.declared.turn.Due.TheVariants as due
@@ -42,7 +42,7 @@ pub record IsAtWork (run : Run) (p n k : ℕ) (x : Tasked) (s : Seat Tasked) : T
 -- so many events were drawn for a turn: the run's quantum, or all of a moment's budget if that was less
 abbrev pub IsShare : Run → ℕ → Type 0
 IsShare run n =
-    (s : Seat Tasked) × (v : View) × (a : ℕ) × (n ≡ min run.quantum a) × Was told_tale IsLater (terms_of run) s v (budget_at (wired (terms_of run))) a
+    (s : Seat Tasked) × (v : SeatView) × (a : ℕ) × (n ≡ min run.quantum a) × Was told_tale IsLater (terms_of run) s v (budget_at (wired (terms_of run))) a
 
 -- x is the task of the instance p of the run, whose number of events fits
 abbrev pub IsTaskIn : Run → ℕ → Tasked → Type 0
@@ -73,7 +73,7 @@ IsSameWorker old new = IsSeatOf old.seat new.seat × (new.hints.wanted ≡ old.h
 
 -- the instance p wasn't ready at a moment at which the seat had such a view
 abbrev pub WasNotReady : Run → Seat Tasked → ℕ → Type 0
-WasNotReady run s p = (v : View) × (r : ℕ) × (r ≢ 0) × Was told_tale IsLater (terms_of run) s v (8 * p) r
+WasNotReady run s p = (v : SeatView) × (r : ℕ) × (r ≢ 0) × Was told_tale IsLater (terms_of run) s v (8 * p) r
 
 -- between two turns it picked an instance; or none, and then each wasn't ready at a moment of the call
 abbrev pub HasPicked : Run → Option ℕ → Worker → Worker → Type 0

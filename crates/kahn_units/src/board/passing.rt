@@ -6,11 +6,11 @@ ghost use Rattle.kahn_board.specs.Rule.{wired};
 ghost use Rattle.kahn_board.specs.Plays.{Carries};
 ghost use Rattle.kahn_board.specs.Plays.{IsIn};
 
-use kahn_board::{Board, Rest, Seat, Told};
+use kahn_board::{Board, Reports, Rest, Seat};
 
 // Publishes, and if the reader was parked, pays the count up for it, sets it down ready and returns it. The seat has in
 // its hands what it had before, with the same cells, and owes and drew the same.
-pub(crate) fn pass_on<T: Told>(
+pub(crate) fn pass_on<T: Reports>(
     seat: &mut Seat<T>,
     board: &Board<T>,
     channel: usize,

@@ -3,4 +3,4 @@ use Rattle.kahn_board.proofs.Lasting.{stays_quiet}
 use Rattle.kahn_board.proofs.laws.quiet_is_final.Goals as goal
 
 pub returns : goal.returns
-returns g c key s rule zero_now j v k me may = stays_quiet g.T.Told.told (belongs g.T.Told.after key) (wired key) (dealt g.T.Told.told key) s rule zero_now j v me k may
+returns g c key s rule zero_now j v k me may = stays_quiet g.T.Reports.told (belongs g.T.Reports.after key) (wired key) (dealt g.T.Reports.told key) s rule zero_now j v me k may

@@ -17,7 +17,7 @@ loop-preserved g c = let e = c.in-Lost.ensures in let i = c.loop.invariant in
       e.0.0.0 ∙ i.0,
       e.0.0.1 ∙ i.1,
       same_noted_twice _ _ _ i.2 e.0.1,
-      subst (λ (k : ℕ). AreLost g.T.Told.told g.T.Told.after c.args.board.now.table.shared.key c.args.quantum k c.args.seat.now c.draw.new.self) again (c.loop.seat, i.3, e),
+      subst (λ (k : ℕ). AreLost g.T.Reports.told g.T.Reports.after c.args.board.now.table.shared.key c.args.quantum k c.args.seat.now c.draw.new.self) again (c.loop.seat, i.3, e),
     )
 
 pub returns-clause-draws : goal.returns-clause-draws

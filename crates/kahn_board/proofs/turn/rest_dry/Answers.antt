@@ -9,7 +9,7 @@ rest_ready-requires-clause-holds g c = let k = c.args.board.now.table.shared.key
   h.1,
   h.2,
   kept_turn _ _ _ _ m n e.1.3 e.2 h.3,
-  kept_fits g.T.Told.told (belongs g.T.Told.after k) (wired k) _ _ m n e.1.3 h.4,
+  kept_fits g.T.Reports.told (belongs g.T.Reports.after k) (wired k) _ _ m n e.1.3 h.4,
   tt,
 )
 
@@ -18,4 +18,4 @@ returns-clause-parked g c = λ _ y had.
     let up = c.if-not-park.ensures.0 refl in
     let e = up.1 y had in
     let d = c.count_down.ensures in
-    (d.1.0, was_at (holds g.T.Told.told g.T.Told.after c.args.board.now.table.shared.key) _ _ _ _ _ _ _ _ up.0.1 e refl refl d.1.1, ap (λ m. m.0) d.0.1 ∙ ap after_counting_down e)
+    (d.1.0, was_at (holds g.T.Reports.told g.T.Reports.after c.args.board.now.table.shared.key) _ _ _ _ _ _ _ _ up.0.1 e refl refl d.1.1, ap (λ m. m.0) d.0.1 ∙ ap after_counting_down e)

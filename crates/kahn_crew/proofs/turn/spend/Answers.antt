@@ -1,4 +1,4 @@
-use Rattle.kahn_crew.proofs.Common.{arith, ap, sym, ◌∙◌, subst, ℕ, Some, HoldsInTurn, IsWellWired, wired, View, IsBetween, IsDue, Tasked, IsTaskIn, terms_of}
+use Rattle.kahn_crew.proofs.Common.{arith, ap, sym, ◌∙◌, subst, ℕ, Some, HoldsInTurn, IsWellWired, wired, SeatView, IsBetween, IsDue, Tasked, IsTaskIn, terms_of}
 use Rattle.kahn_crew.proofs.Working.{can_rest, in_hand, put_down, swapped, taken}
 use Rattle.kahn_crew.proofs.turn.spend.Goals as goal
 
@@ -24,7 +24,7 @@ pub put_back-requires-clause-held : goal.put_back-requires-clause-held
 put_back-requires-clause-held g c = let h = c.run_task-done.ensures.works.holds in (h.mine, h.slot)
 
 pub report_done-requires-clause-drawn : goal.report_done-requires-clause-drawn
-report_done-requires-clause-drawn g c = let b = c.run_task-done.ensures.works in omega (arith, ap (λ (v : View). v.drawn) c.put_back.ensures.1, b.holds.drawn, b.most)
+report_done-requires-clause-drawn g c = let b = c.run_task-done.ensures.works in omega (arith, ap (λ (v : SeatView). v.drawn) c.put_back.ensures.1, b.holds.drawn, b.most)
 
 pub rest-requires : goal.rest-requires
 rest-requires g c =

@@ -7,8 +7,8 @@ use Rattle.kahn_board.proofs.Ends.{closes}
 use Rattle.kahn_board.proofs.board.Board.close.Goals as goal
 
 pub unwrap-requires : goal.unwrap-requires
-unwrap-requires g c = let b = c.args.self in let told = g.T.Told.told in let v = c.loop-i.invariant in let f = c.close_with-closed.ensures.values.2 in let k = b.table.shared.key in let i = c.loop-i.i in
-    let home = all_home told (belongs g.T.Told.after k) (wired k) (dealt told k) f.0 f.1.0 _ _ f.1.1 c.requires.1 c.requires.2.0 i (omega (arith, c.loop-i-test.true, b.counts.0)) in
+unwrap-requires g c = let b = c.args.self in let told = g.T.Reports.told in let v = c.loop-i.invariant in let f = c.close_with-closed.ensures.values.2 in let k = b.table.shared.key in let i = c.loop-i.i in
+    let home = all_home told (belongs g.T.Reports.after k) (wired k) (dealt told k) f.0 f.1.0 _ _ f.1.1 c.requires.1 c.requires.2.0 i (omega (arith, c.loop-i-test.true, b.counts.0)) in
     subst (λ o. IsSome o) (sym (some-injective c.take.result (Some home.0) (sym c.take.ensures.value ∙ (ap (λ l. get_elem? l i) v.3 ∙ f.4 i (Some home.0) home.1)))) refl
 
 pub push_reserved-requires : goal.push_reserved-requires
@@ -26,7 +26,7 @@ loop-i-preserved g c = let v = c.loop-i.invariant in let e = c.take.ensures in l
 )
 
 pub returns : goal.returns
-returns g c = let b = c.args.self in let told = g.T.Told.told in let v = c.loop-i.invariant in let f = c.close_with-closed.ensures.values.2 in let k = b.table.shared.key in let own = belongs g.T.Told.after k in let w = wired k in let d = dealt told k in
+returns g c = let b = c.args.self in let told = g.T.Reports.told in let v = c.loop-i.invariant in let f = c.close_with-closed.ensures.values.2 in let k = b.table.shared.key in let own = belongs g.T.Reports.after k in let w = wired k in let d = dealt told k in
     let xs = slots_items c.close_with-closed.result.slots in let n = b.instances in
     let long : length xs ≡ n = omega (arith, f.3, f.1.0.ruled.deep, b.counts.0) in
     let is = all_read xs (map Some c.loop-i.cells.items) c.loop-i.i n long c.loop-i.auto.i-end c.loop-i-test.false v.4 in

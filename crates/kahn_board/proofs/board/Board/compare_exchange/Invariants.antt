@@ -2,4 +2,4 @@ use Rattle.kahn_board.proofs.Common.{at_moment, holds}
 use Rattle.kahn_board.proofs.board.Board.compare_exchange.Given as goal
 
 abbrev pub ghosts-compare_exchange : goal.ghosts-compare_exchange
-ghosts-compare_exchange g a = record { then = at_moment (holds g.T.Told.told g.T.Told.after a.self.now.key) a.seat.now.id g.P.Play.then }
+ghosts-compare_exchange g a = record { then = at_moment (holds g.T.Reports.told g.T.Reports.after a.self.now.key) a.seat.now.id g.P.Play.then }

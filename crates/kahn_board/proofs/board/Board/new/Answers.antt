@@ -3,13 +3,13 @@ use Rattle.kahn_board.proofs.Opens.{given, opens, map_some_once}
 use Rattle.kahn_board.proofs.board.Board.new.Goals as goal
 
 pub new-requires : goal.new-requires
-new-requires g c = let told = g.T.Told.told in let after = g.T.Told.after in let a = c.args in let w = wires a.network.now in let b = c.in-Ok.ensures in let words = c.in-Ok.words.items in
+new-requires g c = let told = g.T.Reports.told in let after = g.T.Reports.after in let a = c.args in let w = wires a.network.now in let b = c.in-Ok.ensures in let words = c.in-Ok.words.items in
     let begin = opens told after w a.bound words a.published.now a.cells.items c.requires (subst (λ (k : ℕ). AreFirstWords k a.bound a.published.now words) b.wiring.counts.0 b.words) in
     subst (λ (k : Program × List ℕ × List ℕ × List _ × List (Option _)). Whole told (given after k.3) (wires k.0) record { bound = a.bound; events = events_told told k.3; published = published (wires k.0) k.1 } (opening k.2 k.4 (opening_view (wires k.0))))
     (λ i. (sym c.of.ensures i, ap (λ v. v.items) (sym c.of-2.ensures) i, sym c.as_slice.ensures.value i, ap (λ v. v.items) (sym c.of-3.ensures) i, sym c.into_slots-cells.ensures.2 i)) begin
 
 pub invariant_of-board : goal.invariant_of-board
-invariant_of-board g c = let told = g.T.Told.told in let t = c.in-Ok-new.ensures.ok in let b = c.in-Ok.ensures in
+invariant_of-board g c = let told = g.T.Reports.told in let t = c.in-Ok-new.ensures.ok in let b = c.in-Ok.ensures in
     let key : wired c.in-Ok-new.table.shared.key ≡ wires c.args.network.now = ap wires (ap (λ k. k.network.value) t.5 ∙ c.of.ensures) in record {
       sized = (omega (arith, t.0, ap length c.as_slice.ensures.value, b.words.long, c.requires.numbers_are, b.wiring.counts.1), t.1 ∙ (ap length c.into_slots-cells.ensures.2 ∙ (length-map c.args.cells.items Some ∙ (c.requires.cells_are ∙ sym b.wiring.counts.0))));
       counts = (ap (λ w. w.instances) key ∙ sym b.wiring.counts.0, ap (λ w. w.channels) key ∙ sym b.wiring.counts.1);

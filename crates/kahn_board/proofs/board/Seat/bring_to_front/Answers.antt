@@ -1,4 +1,4 @@
-use Rattle.kahn_board.proofs.Common.{◌≡◌, ℕ, ◌<◌, List, Option, Some, map, get_or, arith, sym, ap, ◌∙◌, subst, Carries, IsIn, Seat, View, only, total}
+use Rattle.kahn_board.proofs.Common.{◌≡◌, ℕ, ◌<◌, List, Option, Some, map, get_or, arith, sym, ap, ◌∙◌, subst, Carries, IsIn, Seat, SeatView, only, total}
 use Rattle.std.specs.Option.{option_map, unwrap_or}
 use denote.Bor.{Bor}
 use Rattle.kahn_board.proofs.Counting.{before, before_turned, some_listed}
@@ -6,8 +6,8 @@ use Rattle.kahn_board.proofs.Seats.{carries_shifted, first_is, numbers_shifted}
 use Rattle.kahn_board.proofs.board.Seat.bring_to_front.Goals as goal
 
 -- an instance in the hands is listed
-is_listed : {T : Type 0} (me : Seat T) (p : ℕ) (v : View) → me.seat.me.0 ≡ v → IsIn v p → 0 < total (only p) me.held.items
-is_listed me p v is is_in = omega (arith, me.facts.4 p, ap (λ (u : View). get_or u.hands p 0) is, is_in)
+is_listed : {T : Type 0} (me : Seat T) (p : ℕ) (v : SeatView) → me.seat.me.0 ≡ v → IsIn v p → 0 < total (only p) me.held.items
+is_listed me p v is is_in = omega (arith, me.facts.4 p, ap (λ (u : SeatView). get_or u.hands p 0) is, is_in)
 
 -- what is read at the front
 first_read : (items : List ℕ) (o : Option (Bor ℕ)) (x : Bor ℕ) → o ≡ Some x → ((d : ℕ) → unwrap_or (option_map (λ (y : Bor ℕ). y.now) o) d ≡ get_or items 0 d) → x.now ≡ get_or items 0 0

@@ -12,5 +12,5 @@ fetch_sub-requires g c = let b = c.args.board.now in (
 )
 
 pub returns : goal.returns
-returns g c = let b = c.args.board.now in let rule = holds g.T.Told.told g.T.Told.after b.table.shared.key in let e = c.fetch_sub.ensures in
+returns g c = let b = c.args.board.now in let rule = holds g.T.Reports.told g.T.Reports.after b.table.shared.key in let e = c.fetch_sub.ensures in
     (((e.0, e.1), e.2.0), (c.fetch_sub.result, was_at rule _ _ _ _ _ _ _ _ refl refl c.count_word.ensures refl e.2.1))

@@ -26,7 +26,7 @@ load-requires-3 g c = let b = c.args.board.now in let z = c.load.ensures.2.0.1 c
 )
 
 pub returns-else-load-eq0-2 : goal.returns-else-load-eq0-2
-returns-else-load-eq0-2 g c = let b = c.args.board.now in let rule = holds g.T.Told.told g.T.Told.after b.table.shared.key in let m = c.args.self.now.seat in let none = c.if-load-ne0.false in
+returns-else-load-eq0-2 g c = let b = c.args.board.now in let rule = holds g.T.Reports.told g.T.Reports.after b.table.shared.key in let m = c.args.self.now.seat in let none = c.if-load-ne0.false in
     let e = c.load.ensures in let e' = c.load-2.ensures in let e'' = c.load-3.ensures in let z = e.2.0.1 none in let z' = e'.2.0.1 c.if-load-eq0.false in
     let one : c.load.new.seat.me ≡ (after_step m.me.0, m.me.1) = z.1 in
     let two : c.load-2.new.seat.me ≡ (after_step (after_step m.me.0), m.me.1) = z'.1 ∙ ap (λ k. (after_step k.0, k.1)) one in (

@@ -24,7 +24,7 @@ push_front_reserved-requires g c = let b = c.args.board.now in let k = b.table.s
     omega (arith, me.held.ok.0, room_for me.seat.me me.seat.table_id _ _ t.0 me.facts t.6.4 (omega (arith, inside, b.counts.0, b.sized.1, ap (λ (z : TableId). z.slots) c.requires.board)))
 
 pub invariant_of-self-2 : goal.invariant_of-self-2
-invariant_of-self-2 g c = let b = c.args.board.now in let k = b.table.shared.key in let own = belongs g.T.Told.after k in let w = wired k in let f = c.swap-found.ensures in let told = g.T.Told.told in let me = c.args.self.now in
+invariant_of-self-2 g c = let b = c.args.board.now in let k = b.table.shared.key in let own = belongs g.T.Reports.after k in let w = wired k in let f = c.swap-found.ensures in let told = g.T.Reports.told in let me = c.args.self.now in
     let odd : c.swap-found.result % 2 ≡ 1 = (let ne = c.if-found-eq0.false in omega arith) in
     let reads : w.reader c.args.channel ≡ Some c.reader-reader.result = c.reader-reader.ensures in
     let t = woke told own w _ me.seat.me c.swap-found.new.seat.me _ c.args.channel c.swap-found.result c.reader-reader.result c.args.count (omega (arith, c.channel_word-word.ensures)) f.2 odd refl reads in
@@ -35,7 +35,7 @@ invariant_of-self-2 g c = let b = c.args.board.now in let k = b.table.shared.key
     }
 
 pub returns : goal.returns
-returns g c = let b = c.args.board.now in let k = b.table.shared.key in let own = belongs g.T.Told.after k in let w = wired k in let f = c.swap-found.ensures in let told = g.T.Told.told in
+returns g c = let b = c.args.board.now in let k = b.table.shared.key in let own = belongs g.T.Reports.after k in let w = wired k in let f = c.swap-found.ensures in let told = g.T.Reports.told in
     let odd : c.swap-found.result % 2 ≡ 1 = (let ne = c.if-found-eq0.false in omega arith) in
     let reads : w.reader c.args.channel ≡ Some c.reader-reader.result = c.reader-reader.ensures in
     let t = woke told own w _ c.args.self.now.seat.me c.swap-found.new.seat.me _ c.args.channel c.swap-found.result c.reader-reader.result c.args.count (omega (arith, c.channel_word-word.ensures)) f.2 odd refl reads in
