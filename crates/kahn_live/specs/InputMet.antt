@@ -149,7 +149,7 @@ IsAlonePut input other old new = WasTold (alone_text old.path input other) old n
 
 abbrev pub IsAloneSaid : Option (List ℕ) → Live → LiveTelling → LiveTelling → Type 0
 IsAloneSaid None s old new = new ≡ old
-IsAloneSaid (Some input) s old new = (other : Option (List ℕ)) × IsOtherInput s.flow.run.network input other × IsAlonePut input other old new
+IsAloneSaid (Some input) s old new = (other : Option (List ℕ)) × IsOtherInput s.flow.run.network (Some input) other × IsAlonePut input other old new
 
 abbrev pub IsAloneTold : Option (List ℕ) → Point → Point → Type 0
 IsAloneTold input old new = (new.session ≡ old.session) × (new.out ≡ old.out) × IsAloneSaid input old.session old.told new.told

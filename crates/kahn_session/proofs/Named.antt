@@ -5,8 +5,8 @@ use Rattle.std.proofs.lemmas.Bool.{cases_lt}
 use Rattle.std.proofs.lemmas.Option.{same_Some}
 use Rattle.kahn_streams.specs.declared.tree.Program.{Program}
 use Rattle.kahn_streams.specs.declared.value.Line.{Line}
-use Rattle.kahn_streams.specs.Network.{Network, channel_names, network_of, role_at}
-use Rattle.kahn_session.specs.Live.{IsNamedAt, IsNamedLine, IsNoOther, is_input, is_other_input}
+use Rattle.kahn_streams.specs.Network.{channel_names, network_of, role_at}
+use Rattle.kahn_session.specs.Live.{IsNamedAt, IsNamedLine, IsNoOther, is_other_input}
 
 pub there : (lines : List Line) (n : ℕ) (d : Line) → n < length lines → slice_get lines n ≡ Some (slice_index_or lines n d)
 there [] n d below = absurd (omega (arith, below))
@@ -33,12 +33,6 @@ further t lines name n d is below told other before j next (line, at, named) =
     here : j ≡ n → line ≡ slice_index_or lines n d
     here e = same_Some line (slice_index_or lines n d) (sym at ∙ subst (λ k. slice_get lines k ≡ Some (slice_index_or lines n d)) (sym e) (there lines n d below))
 
--- no input channel up to one that is none
-pub no_further : (N : Network) (n : ℕ) → ((d : ℕ) → d < n → is_input (role_at N d) ≡ false) → is_input (role_at N n) ≡ false
-    → (d : ℕ) → d < n + 1 → is_input (role_at N d) ≡ false
-no_further N n none here d next =
-    ⊎_elim (none d) (λ le. let same : n ≡ d = omega (arith, next, le) in subst (λ k. is_input (role_at N k) ≡ false) same here) (cases_lt d n)
-
 -- none at all
 pub nowhere : (t : Program) (lines : List Line) (name : List ℕ) (n : ℕ) → length lines ≤ n → ((j : ℕ) → j < n → IsNamedAt t lines j name → ⊥) →
     (j : ℕ) → IsNamedAt t lines j name → ⊥
@@ -52,11 +46,11 @@ pub same_found : (t u : Program) (lines rows : List Line) (name : List ℕ) (fou
 same_found t u lines rows name found e f h = subst (λ p. Found p rows name found) e (subst (λ l. Found t l name found) f h)
 
 -- none of the channels up to this one is another input
-pub no_other_further : (t : Program) (name : List ℕ) (n : ℕ) (channel : List ℕ) → ((d : ℕ) → d < n → IsNoOther t name d) → slice_get (channel_names t) n ≡ Some channel
-    → is_other_input name (role_at (network_of t) n) channel ≡ false → (d : ℕ) → d < n + 1 → IsNoOther t name d
-no_other_further t name n channel none at is d below = ⊎_elim
+pub no_other_further : (t : Program) (but : Option (List ℕ)) (n : ℕ) (channel : List ℕ) → ((d : ℕ) → d < n → IsNoOther t but d) → slice_get (channel_names t) n ≡ Some channel
+    → is_other_input but (role_at (network_of t) n) channel ≡ false → (d : ℕ) → d < n + 1 → IsNoOther t but d
+no_other_further t but n channel none at is d below = ⊎_elim
     (λ under. none d under)
     (λ over. let same : d ≡ n = omega (arith, below, over) in
-    λ other there. subst (λ c. is_other_input name (role_at (network_of t) d) c ≡ false) (same_Some channel other (sym at ∙ ap (λ k. slice_get (channel_names t) k) (sym same) ∙ there))
-    (subst (λ k. is_other_input name (role_at (network_of t) k) channel ≡ false) (sym same) is))
+    λ other there. subst (λ c. is_other_input but (role_at (network_of t) d) c ≡ false) (same_Some channel other (sym at ∙ ap (λ k. slice_get (channel_names t) k) (sym same) ∙ there))
+    (subst (λ k. is_other_input but (role_at (network_of t) k) channel ≡ false) (sym same) is))
     (cases_lt d n)

@@ -219,24 +219,25 @@ abbrev pub IsRinged : HeldRun → Bool → Type 0
 IsRinged h ringed =
     (v : Verdict) × (h.verdict ≡ Some v) × ((ends : List End) × IsRightSoFar h v ends × HasRing (network_of h.network) (map stands ends) ringed)
 
--- the first input channel has this name, or there is none
+-- whether a channel of this role and name is an input of another name than that, where there is one
+abbrev pub is_other : Option (List ℕ) → List ℕ → Bool
+is_other None channel = true
+is_other (Some name) channel = not (bytes_eq channel name)
+
+abbrev pub is_other_input : Option (List ℕ) → Role → List ℕ → Bool
+is_other_input but r channel = is_input r && is_other but channel
+
+abbrev pub IsNoOther : Program → Option (List ℕ) → ℕ → Type 0
+IsNoOther t but c = (channel : List ℕ) → slice_get (channel_names t) c ≡ Some channel → is_other_input but (role_at (network_of t) c) channel ≡ false
+
+-- the first such channel has this name, or there is none
+abbrev pub IsOtherInput : Program → Option (List ℕ) → Option (List ℕ) → Type 0
+IsOtherInput t but None = (c : ℕ) → c < length (network_of t).channels → IsNoOther t but c
+IsOtherInput t but (Some other) = (c : ℕ) × (slice_get (channel_names t) c ≡ Some other)
+    × (is_other_input but (role_at (network_of t) c) other ≡ true) × ((d : ℕ) → d < c → IsNoOther t but d)
+
 abbrev pub IsFirstInput : Program → Option (List ℕ) → Type 0
-IsFirstInput t None = (c : ℕ) → c < length (network_of t).channels → is_input (role_at (network_of t) c) ≡ false
-IsFirstInput t (Some name) =
-    (c : ℕ) × (slice_get (channel_names t) c ≡ Some name) × (is_input (role_at (network_of t) c) ≡ true)
-    × ((d : ℕ) → d < c → is_input (role_at (network_of t) d) ≡ false)
-
--- the first input channel of another name has this one, or there is none
-abbrev pub is_other_input : List ℕ → Role → List ℕ → Bool
-is_other_input name r channel = is_input r && not (bytes_eq channel name)
-
-abbrev pub IsNoOther : Program → List ℕ → ℕ → Type 0
-IsNoOther t name c = (channel : List ℕ) → slice_get (channel_names t) c ≡ Some channel → is_other_input name (role_at (network_of t) c) channel ≡ false
-
-abbrev pub IsOtherInput : Program → List ℕ → Option (List ℕ) → Type 0
-IsOtherInput t name None = (c : ℕ) → c < length (network_of t).channels → IsNoOther t name c
-IsOtherInput t name (Some other) = (c : ℕ) × (slice_get (channel_names t) c ≡ Some other)
-    × (is_other_input name (role_at (network_of t) c) other ≡ true) × ((d : ℕ) → d < c → IsNoOther t name d)
+IsFirstInput t first = IsOtherInput t None first
 
 -- the text of how the run ended: its verdict, with the ends that are right for the input so far and the bound so far
 abbrev pub IsLastText : HeldRun → Verdict → List ℕ → Type 0

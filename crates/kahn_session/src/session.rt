@@ -3,11 +3,9 @@
 ghost use Rattle.std.specs.Prelude.{◌≡◌, ◌↔◌, ◌&&◌, not, ℕ, Some, false, true, IsTrue, MatchOption, MatchResult, option_copied};
 ghost use Rattle.std.specs.List.{list_any};
 ghost use Rattle.kahn_streams.specs.Network.{network_of};
-ghost use Rattle.kahn_sequential.specs.Flows.{flow_lines};
 ghost use Rattle.kahn_texts.specs.Formats.{channel_name};
-ghost use Rattle.kahn_session.specs.Live.{HasOpened, IsClosed, IsDeaf, IsFaulty, IsFirstFault, IsFirstInput, IsMeantLine, IsOtherInput, HasVerdict, IsNamedAt, IsNamedLine, IsRinged, IsStreamOf, IsTakenLine, IsUnfedBy, IsUnopened, breaks, first_faulted, has_left, is_finished, is_input, is_other_input, waits_on_input, wants_input};
+ghost use Rattle.kahn_session.specs.Live.{HasOpened, IsClosed, IsDeaf, IsFaulty, IsFirstFault, IsFirstInput, IsMeantLine, IsOtherInput, HasVerdict, IsNamedAt, IsNamedLine, IsRinged, IsStreamOf, IsTakenLine, IsUnfedBy, IsUnopened, breaks, first_faulted, has_left, is_finished, is_input, is_other, is_other_input, waits_on_input, wants_input};
 ghost use Rattle.kahn_session.specs.Pace.{MayBeSlow};
-ghost use Rattle.kahn_session.specs.inner.Shown.{IsFirstOf};
 
 use crate::fault::TakeFault;
 use crate::feeding::{feed_line, line_meant};
@@ -29,8 +27,8 @@ pub struct Session<'n> {
     network: &'n Network,
     paced: Paced<'n>,
     lines: Vec<Line>,
-    // The number of the first input channel.
-    input: Option<usize>,
+    // The name of the first input channel.
+    input: Option<&'n str>,
     // Whether a write failed, after which nothing tells what went out.
     broken: bool,
     // The numbers of the streams whose values alone are shown; where there are none, all streams are.
@@ -43,10 +41,9 @@ impl<'n> Model for Session<'n> {
     ghost use Rattle.kahn_streams.specs.contracts.tree.Action as action;
     ghost use Rattle.kahn_streams.specs.contracts.tree.Form as form;
     ghost use Rattle.std.specs.Coded.{codes};
-    ghost use Rattle.std.specs.Prelude.{◌≡◌};
-    ghost use Rattle.kahn_sequential.specs.Flows.{flow_lines};
+    ghost use Rattle.std.specs.Prelude.{option_copied};
     ghost use Rattle.kahn_session.specs.Live.{Live};
-    ghost use Rattle.kahn_session.specs.inner.Shown.{IsFirstOf};
+    ghost use Rattle.kahn_session.specs.inner.Kept.{AreKept};
 
     ghost Value = { Live };
 
@@ -54,7 +51,7 @@ impl<'n> Model for Session<'n> {
 
     ghost view = { λ s. record { flow = s.paced.flow; step = s.paced.step; broken = s.broken; columns = s.columns.items; shown = s.shown } };
 
-    ghost invariant = { λ s. (s.paced.flow.run.network ≡ s.network.now) × (s.lines.items ≡ flow_lines s.paced.flow.run) × IsFirstOf s.network.now s.input };
+    ghost invariant = { λ s. AreKept s.paced.flow.run s.network.now s.lines.items (option_copied s.input) };
 }
 
 /// Whether the line is that of a channel of that name.
@@ -102,44 +99,30 @@ fn is_input(role: Role) -> bool
     matches!(role, Role::Input)
 }
 
-/// The number of the first input channel.
-fn first_input(network: &Network) -> Option<usize>
-    ensures { IsFirstOf network.now result }
+/// Whether a channel of that name has another one than this, where there is one.
+fn is_other(channel: &str, but: Option<&str>) -> bool
+    ensures { result ≡ is_other (option_copied but.entry) channel.now }
 {
-    for number in 0..network.channels() {
-        let channel = network.channel(number);
-        if is_input(channel.role) {
-            return Some(number);
-        }
-    }
-    None
-}
-
-/// The name of the first input channel, which has this number.
-fn first_name(network: &Network, first: Option<usize>) -> Option<&str>
-    requires { IsFirstOf network.now first }
-    ensures { IsFirstInput network.now (option_copied result) }
-{
-    match first {
-        Some(number) => Some(network.channel(number).name),
-        None => None,
+    match but {
+        None => true,
+        Some(name) => channel != name,
     }
 }
 
-/// Whether a channel of that role and name is another input than the one of this name.
-fn is_other_input(role: Role, channel: &str, name: &str) -> bool
-    ensures { result ≡ is_other_input name.now role channel.now }
+/// Whether a channel of that role and name is an input of another name than this, where there is one.
+fn is_other_input(role: Role, channel: &str, but: Option<&str>) -> bool
+    ensures { result ≡ is_other_input (option_copied but.entry) role channel.now }
 {
-    is_input(role) && channel != name
+    is_input(role) && is_other(channel, but)
 }
 
-/// The name of the first input channel of another name.
-fn other_input<'t>(network: &'t Network, name: &str) -> Option<&'t str>
-    ensures { IsOtherInput network.now name.now (option_copied result) }
+/// The name of the first such channel.
+fn other_input<'t>(network: &'t Network, but: Option<&str>) -> Option<&'t str>
+    ensures { IsOtherInput network.now (option_copied but.entry) (option_copied result) }
 {
     for number in 0..network.channels() {
         let channel = network.channel(number);
-        if is_other_input(channel.role, channel.name, name) {
+        if is_other_input(channel.role, channel.name, but) {
             return Some(channel.name);
         }
     }
@@ -204,7 +187,7 @@ impl<'n> Session<'n> {
             network,
             paced,
             lines,
-            input: first_input(network),
+            input: other_input(network, None),
             broken: false,
             columns: Vec::new(alloc),
             shown: 0,
@@ -342,14 +325,14 @@ impl<'n> Session<'n> {
     pub fn first_input(&self) -> Option<&str>
         ensures { IsFirstInput self.now.flow.run.network (option_copied result) }
     {
-        first_name(self.network, self.input)
+        self.input
     }
 
     /// The name of the first input channel that hasn't this one, where there is one.
     pub fn other_input(&self, name: &str) -> Option<&str>
-        ensures { IsOtherInput self.now.flow.run.network name.now (option_copied result) }
+        ensures { IsOtherInput self.now.flow.run.network (Some name.now) (option_copied result) }
     {
-        other_input(self.network, name)
+        other_input(self.network, Some(name))
     }
 
     /// Whether values are left that wait for the others of their row.

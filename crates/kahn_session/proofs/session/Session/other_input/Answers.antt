@@ -1,8 +1,8 @@
-use Rattle.std.proofs.Common.{◌∙◌, ap, sym, subst}
+use Rattle.std.proofs.Common.{◌∙◌, Some, ap, sym, subst}
 use Rattle.std.specs.Prelude.{option_copied}
 use Rattle.kahn_session.specs.Live.{IsOtherInput}
 use Rattle.kahn_session.proofs.session.Session.other_input.Goals as goal
 
 pub returns : goal.returns
 returns c =
-    subst (λ t. IsOtherInput t c.args.name.now (option_copied c.other_input.result)) (sym c.self.invariant.0 ∙ ap (λ s. s.flow.run.network) c.self.view_is) c.other_input.ensures
+    subst (λ t. IsOtherInput t (Some c.args.name.now) (option_copied c.other_input.result)) (sym c.self.invariant.0 ∙ ap (λ s. s.flow.run.network) c.self.view_is) c.other_input.ensures
