@@ -4,10 +4,10 @@ ghost use Rattle.std.specs.Prelude.{Contains, IfSome};
 
 use crate::guards::guard_of;
 use crate::indent::{Misfit, first_misfit};
-use crate::layout::{PlacedLexeme, seats};
+use crate::layout::{Indented, seats};
 use crate::mending::mending;
-use crate::place::{Place, found, front};
-use crate::said::{Told, Words, insertion, joined, replacement};
+use crate::place::{Place, front};
+use crate::said::{Saying, Words, insertion, joined, replacement};
 use crate::table::finds;
 use crate::words::class_word;
 use itoa::Buffer;
@@ -28,7 +28,7 @@ fn open_there(begins: &[Lexeme], span: Span) -> Option<Lexeme>
 }
 
 /// What is said of a block that ends before a lexeme: by its indentation before the line of this, or on that of its `begin`.
-fn ending_words(place: Place, begin: PlacedLexeme, end: Option<PlacedLexeme>) -> Words {
+fn ending_words(place: Place, begin: Indented, end: Option<Indented>) -> Words {
     let mut words = String::from_str(place.alloc, "`begin` has no `end`: ")?;
     match end {
         Some(end) if begin.line == end.line => {
@@ -57,7 +57,7 @@ fn is_begin(place: Place, number: Option<usize>) -> bool {
 
 /// What is said of the `begin` with a number, whose block ends before the lexeme with another number, if it is open there; one that
 /// stands beside another one is left out.
-fn unclosed(place: Place, all: &[PlacedLexeme], number: usize, end: usize) -> Told {
+fn unclosed(place: Place, all: &[Indented], number: usize, end: usize) -> Saying {
     let alloc = place.alloc;
     let Some(begin) = all.get(number) else {
         return Ok(None);
@@ -78,7 +78,7 @@ fn unclosed(place: Place, all: &[PlacedLexeme], number: usize, end: usize) -> To
 }
 
 /// The lexeme that leads to several statements, to the `end` with a number.
-fn guard_before(place: Place, all: &[PlacedLexeme], number: usize) -> Option<Lexeme> {
+fn guard_before(place: Place, all: &[Indented], number: usize) -> Option<Lexeme> {
     let guard = guard_of(all, number, *all.get(number)?)?;
     let mut lexemes = place.lexemes.get(guard..number)?.iter();
     if lexemes.any(|lexeme| lexeme.what == Class::Sign(Sign::Semicolon)) {
@@ -88,7 +88,7 @@ fn guard_before(place: Place, all: &[PlacedLexeme], number: usize) -> Option<Lex
 }
 
 /// What is said of the `end` with a number: it is one too many, or closes several statements without a block behind what leads to them.
-fn surplus(place: Place, all: &[PlacedLexeme], number: usize) -> Told {
+fn surplus(place: Place, all: &[Indented], number: usize) -> Saying {
     let alloc = place.alloc;
     let Some(end) = all.get(number) else {
         return Ok(None);
@@ -99,12 +99,8 @@ fn surplus(place: Place, all: &[PlacedLexeme], number: usize) -> Told {
         let head = Some((end.span, String::from_str(alloc, words)?));
         return Ok(Some((head, Some(replacement(alloc, end.span, "")?), None)));
     };
-    let before = [
-        "several statements stand behind `",
-        class_word(guard.what),
-        "`",
-    ];
-    let mut words = joined(alloc, &before)?;
+    let word = class_word(guard.what);
+    let mut words = joined(alloc, &["several statements stand behind `", word, "`"])?;
     words.push_str(" without `begin`")?;
     add_spot(&mut words, ", to the `end` at ", place.text, end.span.from)?;
     let fix = insertion(alloc, guard.span.to, guard.span, "begin")?;
@@ -120,18 +116,14 @@ fn count_of(place: Place, word: Keyword) -> usize {
 }
 
 /// What is said of blocks at a place, by the indentation of the lines up to it.
-pub(crate) fn blocks_said(place: Place) -> Told {
-    let (begins, ends) = (
-        count_of(place, Keyword::Begin),
-        count_of(place, Keyword::End),
-    );
+pub(crate) fn blocks_said(place: Place) -> Saying {
+    let begins = count_of(place, Keyword::Begin);
+    let ends = count_of(place, Keyword::End);
     if begins == ends {
         return Ok(None);
     }
-    let all = seats(place.alloc, place.text, place.lexemes)?;
-    let here = found(place);
-    let late = here.is_none() || finds("( process par integer logical", here);
-    match first_misfit(place.alloc, &all, place.number, ends < begins, late)? {
+    let all = seats(place)?;
+    match first_misfit(place, &all, ends < begins)? {
         Some(Misfit::Unclosed(begin, number)) => unclosed(place, &all, begin, number),
         Some(Misfit::Surplus(number)) => surplus(place, &all, number),
         None => Ok(None),

@@ -1,6 +1,6 @@
 //! Which `do`, `then`, `else` or `repeat` the statements before an `end` stand behind.
 
-use crate::layout::PlacedLexeme;
+use crate::layout::Indented;
 use crate::place::front;
 use kahn_syntax::{Class, Keyword};
 
@@ -19,7 +19,7 @@ fn leads_on(what: Class, next: Class) -> bool {
 
 /// The number of the lexeme to which the statements before an `end` belong, which has that number: on its line, or on the nearest line
 /// that is as deep.
-pub(crate) fn guard_of(seats: &[PlacedLexeme], number: usize, end: PlacedLexeme) -> Option<usize> {
+pub(crate) fn guard_of(seats: &[Indented], number: usize, end: Indented) -> Option<usize> {
     let (mut depth, mut next, mut found) = (0usize, end.what, None);
     let mut rest = front(seats, number);
     for _step in 0..FAR {

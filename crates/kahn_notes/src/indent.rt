@@ -1,10 +1,11 @@
 //! Which block has no `end`, and which `end` is one too many, by the indentation of their lines.
 
 use crate::guards::guard_of;
-use crate::layout::PlacedLexeme;
-use crate::place::front;
+use crate::layout::Indented;
+use crate::place::{Place, found, front};
+use crate::table::finds;
 use kahn_syntax::{Class, Keyword};
-use std::alloc::{AllocError, Global};
+use std::alloc::AllocError;
 
 /// An open block.
 #[derive(Clone, Copy)]
@@ -12,7 +13,7 @@ struct OpenBlock {
     /// The number of its `begin`.
     number: usize,
     /// Its `begin`.
-    begin: PlacedLexeme,
+    begin: Indented,
     /// What stands behind it.
     next: Option<Class>,
     /// How deep the first line within is indented, once there is one.
@@ -27,6 +28,9 @@ pub(crate) enum Misfit {
     /// This `end` is one too many.
     Surplus(usize),
 }
+
+/// What the indentation says, where it says something.
+type Noticed = Result<Option<Misfit>, AllocError>;
 
 /// What is looked for, and what was found so far.
 #[derive(Drop)]
@@ -48,34 +52,29 @@ fn said_if(holds: bool, misfit: Misfit) -> Option<Misfit> {
 
 /// What an `end` says: it is less indented than its block, where `end`s are missing; or where there are too many, it is deeper, closes
 /// statements without a block, or closes the last one.
-fn at_end(
-    walk: &mut BlockWalk,
-    seats: &[PlacedLexeme],
-    number: usize,
-    seat: PlacedLexeme,
-) -> Option<Misfit> {
-    let (missing, first, doubt) = (walk.missing, seat.first, walk.doubt.unwrap_or(number));
+fn at_end(walk: &mut BlockWalk, seats: &[Indented], at: usize, seat: Indented) -> Option<Misfit> {
+    let (missing, first, doubt) = (walk.missing, seat.first, walk.doubt.unwrap_or(at));
     let Some(top) = walk.open.pop() else {
         return said_if(!missing, Misfit::Surplus(doubt));
     };
     let far = top.begin.line != seat.line;
     if missing {
         let is_shallow = far && first && seat.deep < top.begin.deep;
-        return said_if(is_shallow, Misfit::Unclosed(top.number, number));
+        return said_if(is_shallow, Misfit::Unclosed(top.number, at));
     }
     let is_sure = first && seat.deep > top.begin.deep;
-    let is_deep = far && (is_sure || (!first && guard_of(seats, number, seat).is_some()));
+    let is_deep = far && (is_sure || (!first && guard_of(seats, at, seat).is_some()));
     if is_deep || walk.open.is_empty() {
-        return Some(Misfit::Surplus(if is_sure { number } else { doubt }));
+        return Some(Misfit::Surplus(if is_sure { at } else { doubt }));
     }
     if far && !first {
-        walk.doubt = Some(number);
+        walk.doubt = Some(at);
     }
     None
 }
 
 /// Whether a line is the first within a block, and deeper than that of its `begin`, or no line of it needs to be.
-fn is_inner(walk: &BlockWalk, top: OpenBlock, number: usize, seat: PlacedLexeme) -> bool {
+fn is_inner(walk: &BlockWalk, top: OpenBlock, number: usize, seat: Indented) -> bool {
     let is_kind = matches!(seat.what, Class::Word(Keyword::Integer | Keyword::Logical));
     let is_body = top.next == Some(seat.what) || (top.next.is_some() && is_kind);
     let is_within = number.saturating_add(1) < walk.number;
@@ -84,7 +83,7 @@ fn is_inner(walk: &BlockWalk, top: OpenBlock, number: usize, seat: PlacedLexeme)
 }
 
 /// Whether a block had to end before a line.
-fn is_past(top: OpenBlock, seat: PlacedLexeme) -> bool {
+fn is_past(top: OpenBlock, seat: Indented) -> bool {
     match (top.inner, seat.what) {
         (None, _) | (_, Class::Word(Keyword::Process)) => true,
         (Some(inner), Class::Word(Keyword::Else)) if seat.deep < inner => true,
@@ -93,7 +92,7 @@ fn is_past(top: OpenBlock, seat: PlacedLexeme) -> bool {
 }
 
 /// What a lexeme says that begins a line and is no `begin` or `end`.
-fn at_line(walk: &mut BlockWalk, number: usize, seat: PlacedLexeme) -> Option<Misfit> {
+fn at_line(walk: &mut BlockWalk, number: usize, seat: Indented) -> Option<Misfit> {
     let top = walk.open.last().copied()?;
     if !seat.first || top.begin.line == seat.line || walk.open.len() < 2 {
         return None;
@@ -109,12 +108,7 @@ fn at_line(walk: &mut BlockWalk, number: usize, seat: PlacedLexeme) -> Option<Mi
 }
 
 /// What a lexeme says, and which blocks are open then.
-fn at_seat(
-    walk: &mut BlockWalk,
-    seats: &[PlacedLexeme],
-    number: usize,
-    begin: PlacedLexeme,
-) -> Result<Option<Misfit>, AllocError> {
+fn at_seat(walk: &mut BlockWalk, seats: &[Indented], number: usize, begin: Indented) -> Noticed {
     match begin.what {
         Class::Word(Keyword::End) => Ok(at_end(walk, seats, number, begin)),
         Class::Word(Keyword::Begin) => {
@@ -137,26 +131,22 @@ fn at_seat(
 }
 
 /// What the indentation says of blocks up to a place, where `end`s are missing, or too many. Where it says nothing: at what may not stand in
-/// a block, as `late` tells, that the innermost one is open; at the end of the text that of the program may be.
-pub(crate) fn first_misfit(
-    alloc: Global,
-    seats: &[PlacedLexeme],
-    number: usize,
-    missing: bool,
-    late: bool,
-) -> Result<Option<Misfit>, AllocError> {
+/// a block, that the innermost one is open; at the end of the text that of the program may be.
+pub(crate) fn first_misfit(place: Place, seats: &[Indented], missing: bool) -> Noticed {
+    let (here, number) = (found(place), place.number);
     let mut walk = BlockWalk {
         missing,
         number,
-        open: Vec::new(alloc),
+        open: Vec::new(place.alloc),
         doubt: None,
     };
     for (at, seat) in front(seats, number.saturating_add(1)).iter().enumerate() {
-        if let Some(found) = at_seat(&mut walk, seats, at, *seat)? {
-            return Ok(Some(found));
+        if let Some(misfit) = at_seat(&mut walk, seats, at, *seat)? {
+            return Ok(Some(misfit));
         }
     }
-    let outer = if number < seats.len() { 1 } else { 0 };
+    let late = here.is_none() || finds("( process par integer logical", here);
+    let outer = if here.is_some() { 1 } else { 0 };
     match walk.open.last() {
         Some(top) if late && missing && walk.open.len() > outer => {
             Ok(Some(Misfit::Unclosed(top.number, number)))

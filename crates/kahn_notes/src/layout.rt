@@ -1,12 +1,13 @@
 //! How deep the lines of a text are indented.
 
-use kahn_syntax::{Class, Lexeme, Span};
+use crate::place::Place;
+use kahn_syntax::{Class, Span};
 use kahn_wanted::bytes_between;
-use std::alloc::{AllocError, Global};
+use std::alloc::AllocError;
 
 /// A lexeme, with its line.
 #[derive(Clone, Copy)]
-pub(crate) struct PlacedLexeme {
+pub(crate) struct Indented {
     /// What it is.
     pub(crate) what: Class,
     /// Its bytes.
@@ -32,20 +33,16 @@ fn passed(line: (usize, usize, bool), byte: u8) -> (usize, usize, bool) {
 }
 
 /// The lexemes of a text, each with its line.
-pub(crate) fn seats(
-    alloc: Global,
-    text: &str,
-    lexemes: &[Lexeme],
-) -> Result<Vec<PlacedLexeme>, AllocError> {
-    let mut seats = Vec::new(alloc);
-    let (mut at, mut place) = (0, (1, 0, true));
-    for lexeme in lexemes {
-        for byte in bytes_between(text, at, lexeme.span.from) {
-            place = passed(place, *byte);
+pub(crate) fn seats(place: Place) -> Result<Vec<Indented>, AllocError> {
+    let mut seats = Vec::new(place.alloc);
+    let (mut at, mut front) = (0, (1, 0, true));
+    for lexeme in place.lexemes {
+        for byte in bytes_between(place.text, at, lexeme.span.from) {
+            front = passed(front, *byte);
         }
         at = lexeme.span.from;
-        let (what, span, (line, deep, first)) = (lexeme.what, lexeme.span, place);
-        seats.push(PlacedLexeme {
+        let (what, span, (line, deep, first)) = (lexeme.what, lexeme.span, front);
+        seats.push(Indented {
             what,
             span,
             line,

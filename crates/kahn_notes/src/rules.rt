@@ -7,7 +7,7 @@ use crate::habits::{EARLY, HABITS, LAST};
 use crate::mending::mending;
 use crate::place::{Place, before, found};
 use crate::rewriting::rewritten;
-use crate::said::{Told, change_said, fix_of, joined, meant, replacement, rewriting_said};
+use crate::said::{Saying, change_said, fix_of, joined, meant, replacement, rewriting_said};
 use crate::spelling::{remark_slip, slip};
 use crate::split::split_words;
 use crate::table::{advice, cell, finds};
@@ -16,7 +16,7 @@ use kahn_syntax::{Class, Keyword};
 use kahn_wanted::{Change, Spot};
 
 /// What is said of a change, if it can be made in the text and mends the place.
-fn told_change(place: Place, change: Option<Change>) -> Told {
+fn told_change(place: Place, change: Option<Change>) -> Saying {
     let Some(change) = change else {
         return Ok(None);
     };
@@ -28,7 +28,7 @@ fn told_change(place: Place, change: Option<Change>) -> Told {
 }
 
 /// What is said of a name that is a slip away from a keyword, or from `comment`.
-fn spelling_said(place: Place) -> Told {
+fn spelling_said(place: Place) -> Saying {
     let slip = slip(place)?;
     if let Some(said) = told_change(place, slip)? {
         return Ok(Some(said));
@@ -43,12 +43,12 @@ fn spelling_said(place: Place) -> Told {
 }
 
 /// What is said of the first of some changes that is offered.
-fn offered(place: Place, looked_for: &[Change]) -> Told {
+fn offered(place: Place, looked_for: &[Change]) -> Saying {
     told_change(place, first_of(&place.offers.best, looked_for))
 }
 
 /// A sentence, where a row of a table fits.
-fn advised(table: &'static str, place: Place) -> Told {
+fn advised(table: &'static str, place: Place) -> Saying {
     match advice(table, place) {
         Some(words) => Ok(Some((None, None, Some(String::from_str(place.alloc, words)?)))),
         None => Ok(None),
@@ -56,7 +56,7 @@ fn advised(table: &'static str, place: Place) -> Told {
 }
 
 /// What is said of the changes that are most often meant.
-fn likely_said(place: Place) -> Told {
+fn likely_said(place: Place) -> Saying {
     let likely = likely(place)?;
     if let Some(said) = offered(place, &likely)? {
         return Ok(Some(said));
@@ -69,7 +69,7 @@ fn likely_said(place: Place) -> Told {
 }
 
 /// What is said of what is too many, or of the one change that there is, or that one statement or one value alone stands there.
-fn last_said(place: Place) -> Told {
+fn last_said(place: Place) -> Saying {
     let too_many = too_many(place)?;
     if let Some(said) = offered(place, &too_many)? {
         return Ok(Some(said));
@@ -96,7 +96,7 @@ fn meant_change(place: Place, spot: Spot, keyword: Option<Keyword>) -> Option<Ch
 }
 
 /// What is said of a word of another language: the keyword in its place, or else its words; and one that ends a block there is left out.
-fn foreign_said(place: Place, foreign: Foreign) -> Told {
+fn foreign_said(place: Place, foreign: Foreign) -> Saying {
     let (spot, row) = foreign;
     let keyword = Keyword::named(cell(row, 1).as_bytes());
     if let Some(said) = told_change(place, meant_change(place, spot, keyword))? {
@@ -120,7 +120,7 @@ fn foreign_said(place: Place, foreign: Foreign) -> Told {
 }
 
 /// What is said of the lexemes of a place.
-pub(crate) fn grammar_said(place: Place) -> Told {
+pub(crate) fn grammar_said(place: Place) -> Saying {
     let text = place.text;
     if let Some(fix) = rewritten(place.alloc, text, text, place.span.from)? {
         return Ok(Some(rewriting_said(place, fix)?));

@@ -15,7 +15,7 @@ pub(crate) type Heading = Option<(Span, String)>;
 pub(crate) type Said = (Heading, Option<Fix>, Option<String>);
 
 /// What is said, where something is.
-pub(crate) type Told = Result<Option<Said>, NoMemory>;
+pub(crate) type Saying = Result<Option<Said>, NoMemory>;
 
 /// What is put together of pieces.
 pub(crate) type Words = Result<String, AllocError>;

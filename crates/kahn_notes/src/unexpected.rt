@@ -12,7 +12,7 @@ use crate::listing::add_wanted;
 use crate::mending::mending;
 use crate::place::Place;
 use crate::rules::grammar_said;
-use crate::said::{Heading, Told, Words, joined};
+use crate::said::{Heading, Saying, Words, joined};
 use kahn_marks::{Fix, Note, Other, Sort, add, part_of};
 use kahn_streams::NoMemory;
 use kahn_syntax::{Lexeme, Span, What};
@@ -43,7 +43,13 @@ fn expected_words(alloc: Global, text: &str, what: What, unexpected: &Unexpected
 
 /// What is said of a place, beside what was expected there; nothing where the comment before it is what is wrong: it goes on over what reads
 /// like a part of a program, or nothing but comments stands before the place, and no change of one lexeme makes a program.
-fn said_of(alloc: Global, text: &str, span: Span, at: &FaultPlace, comment: Option<Span>) -> Told {
+fn said_of(
+    alloc: Global,
+    text: &str,
+    span: Span,
+    at: &FaultPlace,
+    comment: Option<Span>,
+) -> Saying {
     let all = if at.lexemes.len() <= MOST {
         reaches(alloc, &at.lexemes, at.number)?
     } else {

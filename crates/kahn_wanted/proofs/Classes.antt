@@ -1,8 +1,7 @@
 -- The table of classes, and lists of them.
-use Rattle.std.proofs.Common.{◌≡◌, ℕ, ◌+◌, ◌≤◌, ◌<◌, ◌↔◌, List, [], ◌∷◌, ◌++◌, length, take, get_or, refl, sym, ap, ◌∙◌, subst, append_assoc, append-nil, arith, lit<, All, Contains, IsUtf8, flat_map}
+use Rattle.std.proofs.Common.{◌≡◌, ℕ, ◌+◌, ◌≤◌, ◌<◌, ◌↔◌, List, [], ◌∷◌, ◌++◌, length, take, get_or, refl, sym, ap, ◌∙◌, subst, append_assoc, append-nil, lit<, All, Contains, flat_map}
 use Rattle.std.proofs.lemmas.List.{take_all}
-use Rattle.std.proofs.lemmas.List.Elements.{All-from_recursion, All-contains, All-more, All-push, All-weaker, All-append, Contains-append_left, Contains-append_right, Contains-push, Contains-get_or}
-use Rattle.std.proofs.lemmas.Str.{IsCharBoundary-start}
+use Rattle.std.proofs.lemmas.List.Elements.{All-contains, All-more, All-push, All-weaker, All-append, Contains-append_left, Contains-append_right, Contains-push, Contains-get_or}
 use Rattle.kahn_syntax.specs.declared.lexeme.Class.{Class}
 use Rattle.kahn_syntax.specs.declared.lexeme.Class.TheVariants as class
 use Rattle.kahn_syntax.specs.declared.lexeme.Keyword.{Keyword}
@@ -11,16 +10,13 @@ use Rattle.kahn_syntax.specs.declared.lexeme.Sign.{Sign}
 use Rattle.kahn_syntax.specs.declared.lexeme.Sign.TheVariants as mark
 use Rattle.kahn_syntax.specs.declared.lexeme.Lexeme.{Lexeme}
 use Rattle.kahn_streams.specs.declared.span.Span.{Span}
-use Rattle.kahn_syntax.specs.Texts.{terminal, terminals, sign_terminal, IsUnsigned, IsProper}
+use Rattle.kahn_syntax.specs.Texts.{terminal, terminals, sign_terminal}
 use Rattle.kahn_wanted.specs.declared.asked.TheConstants.{CLASSES}
 use Rattle.kahn_wanted.specs.declared.groups.LexemeGroup.{LexemeGroup}
 use Rattle.kahn_wanted.specs.declared.groups.Wanted.{Wanted}
 use Rattle.kahn_wanted.specs.Wanted.{AreWanted, class_of_terminal, members, told_classes}
-use Rattle.kahn_wanted.specs.inner.Asked.{AreOf, nowhere}
+use Rattle.kahn_wanted.specs.inner.Asked.{AreOf}
 use Rattle.kahn_wanted.proofs.Alike.{stands, tried}
-
-pub plain : All IsUnsigned CLASSES
-plain = All-from_recursion IsUnsigned CLASSES (tt, ((0, refl, omega arith), (tt, (tt, (tt, (tt, (tt, (tt, (tt, (tt, (tt, (tt, (tt, (tt, (tt, (tt, (tt, (tt, (tt, (tt, (tt, (tt, (tt, (tt, (tt, (tt, (tt, (tt, (tt, (tt, (tt, (tt, (tt, (tt, (tt, (tt, (tt, (tt, (tt, (tt, (tt, (tt, (tt, (tt, tt))))))))))))))))))))))))))))))))))))))))))))
 
 word_there : (w : Keyword) → Contains CLASSES (class.Word w)
 word_there keyword.And = (2, lit< tt, refl)
@@ -85,13 +81,6 @@ wanted_of text before ws w of is t x =
       (λ h. stands text t (terminals text before) x.what x.span ((of c here).0 ((is c).0 h))),
       (λ h. (is c).1 ((of c here).1 (tried text t (terminals text before) x.what x.span h))),
     )
-
--- a class of the table as it is tried
-pub plain_proper : (text : List ℕ) (c : Class) → IsUtf8 text → IsUnsigned c → IsProper text c nowhere
-plain_proper text (class.Word w) utf8 h = tt
-plain_proper text class.Name utf8 h = (omega arith, omega arith, IsCharBoundary-start text utf8, IsCharBoundary-start text utf8)
-plain_proper text (class.Number n) utf8 h = h
-plain_proper text (class.Sign s) utf8 h = tt
 
 -- ---- of the first classes of some those were told for which P holds
 

@@ -1,5 +1,5 @@
 -- The lexemes before a fault.
-use Rattle.std.proofs.Common.{◌≡◌, ℕ, ◌+◌, ◌≤◌, ◌<◌, zero, suc, List, [], ◌∷◌, ◌++◌, length, take, drop, get_or, slice_get, Some, sym, ap, ◌∙◌, subst, arith, append_assoc, append-nil, add-one, length-append, ⊎_elim}
+use Rattle.std.proofs.Common.{◌≡◌, ℕ, ◌+◌, ◌≤◌, ◌<◌, List, [], ◌∷◌, ◌++◌, length, take, drop, get_or, slice_get, Some, sym, ap, ◌∙◌, subst, arith, append_assoc, append-nil, add-one, length-append, ⊎_elim}
 use Rattle.std.proofs.Math.Seq.{drop-cons, get_or-append_seam}
 use Rattle.std.proofs.lemmas.List.{take_all, take-append-le, take-append-drop}
 use Rattle.std.proofs.lemmas.Option.{get_or_from_slice_get, slice_get-get_or, slice_get_past, slice_get_within}
@@ -8,7 +8,7 @@ use Rattle.kahn_syntax.specs.declared.lexeme.Lexeme.{Lexeme}
 use Rattle.kahn_syntax.specs.declared.fault.SyntaxFault.TheVariants.{Expected}
 use Rattle.kahn_syntax.specs.declared.fault.What.{What}
 use Rattle.kahn_syntax.specs.declared.fault.What.TheVariants.{More, Nothing, Other}
-use Rattle.kahn_syntax.specs.Texts.{terminals, AreProper, AreLexemes, IsLexFault, BeginsWithin, IsFault, IsTextFault}
+use Rattle.kahn_syntax.specs.Texts.{terminals, AreLexemes, IsLexFault, BeginsWithin, IsFault, IsTextFault}
 use Rattle.kahn_syntax.specs.Grammar.{Spells}
 use Rattle.kahn_syntax.proofs.Meaning.{terminals_append}
 use Rattle.kahn_syntax.proofs.OneList.{same_lexemes}
@@ -16,11 +16,6 @@ use Rattle.kahn_syntax.proofs.Reached.{le_or}
 use Rattle.kahn_wanted.specs.Wanted.{AreWanted, IsAtFault, IsInstead, IsPlace}
 use Rattle.kahn_wanted.specs.declared.found.Unexpected.{Unexpected}
 use Rattle.kahn_wanted.specs.inner.Asked.{StandsBehind}
-
-pub proper_front : (text : List ℕ) (n : ℕ) (xs : List Lexeme) → AreProper text xs → AreProper text (take n xs)
-proper_front text zero xs h = tt
-proper_front text (suc n) [] h = tt
-proper_front text (suc n) (x ∷ xs) h = (h.0, proper_front text n xs h.1)
 
 -- what begins with more within the limit begins with less
 within_front : (text : List ℕ) (n : ℕ) (before : List Lexeme) → BeginsWithin (terminals text before) → BeginsWithin (terminals text (take n before))
