@@ -385,7 +385,7 @@ pub fn line_counted<W: Write, L: Ledger>(
 
 /// A fault, and the program text that its spans are of.
 #[derive(Clone, Copy)]
-struct Told<'a> {
+struct PlacedFault<'a> {
     fault: &'a Fault,
     program: &'a str,
 }
@@ -394,15 +394,15 @@ struct Told<'a> {
 fn line_opened<W: Write, L: Ledger>(
     writer: &mut W,
     blank: Blank,
-    told: &Told<'_>,
+    placed: &PlacedFault<'_>,
 ) -> Result<(), WriteFault>
     requires name { blank.name ≡ L.name }
     requires parts { blank.parts ≡ L.parts }
     requires some { 0 < blank.parts }
-    ensures { Writes (W.contents writer.old) (W.contents writer.new) result (fault_text told.now.program.now told.now.fault.now) }
+    ensures { Writes (W.contents writer.old) (W.contents writer.new) result (fault_text placed.now.program.now placed.now.fault.now) }
 {
     let mut writes = Steps::<L>::open(blank);
-    line_counted(told.fault, told.program, writer, &mut writes)
+    line_counted(placed.fault, placed.program, writer, &mut writes)
 }
 
 /// Writes the line of a fault and a line feed, and flushes. A span in the fault is one of the program text; one beyond it
@@ -410,5 +410,5 @@ fn line_opened<W: Write, L: Ledger>(
 pub fn fault_line<W: Write>(fault: &Fault, program: &str, writer: &mut W) -> Result<(), WriteFault>
     ensures { Writes (W.contents writer.old) (W.contents writer.new) result (fault_text program.now fault.now) }
 {
-    line_opened::<W, Brand>(writer, Blank::new(1), &Told { fault, program })
+    line_opened::<W, Brand>(writer, Blank::new(1), &PlacedFault { fault, program })
 }

@@ -73,12 +73,12 @@ fn part_note(
 }
 
 /// What more is said of it, by its name and the part that is at fault.
-fn lack_more(line: &[u8], part: &[u8]) -> &'static str {
+fn lack_more(line: &[u8], lack: Lack, part: &[u8]) -> &'static str {
     let name = line_name(line);
     if name.eq_ignore_ascii_case(b"integer") || name.eq_ignore_ascii_case(b"logical") {
         return "; no kind stands before the name";
     }
-    if is_number(part) {
+    if matches!(lack, Lack::Name) && is_number(part) {
         return "; all values of a channel stand on one line, behind its name";
     }
     no_comment_words(part)
@@ -93,7 +93,7 @@ fn lack_note(alloc: Global, text: &str, found: FoundLine<'_>) -> Result<Note, Al
     let span = lack_span(found.line, lack);
     let part = part_of(found.line, span);
     let strange = strange_words(found.from + span.from, part);
-    let more = lack_more(found.line, part);
+    let more = lack_more(found.line, lack, part);
     part_note(alloc, text, found, span, &[lack_words(lack), more, strange])
 }
 
