@@ -243,7 +243,10 @@ fn sixteen(alloc: Global, body: &str) -> Result<String, AllocError> {
 }
 
 // A body of 14 events.
-const SHORT: &str = "integer I; while I < 6 do begin I := I + 1; print I end; print 7";
+static SHORT: &str = "integer I; while I < 6 do begin I := I + 1; print I end; print 7";
+
+// A body of 4,000 events.
+static LONG: &str = "integer I; while I < 1999 do begin I := I + 1; print I end; print 7";
 
 // Once for each of 16 instances.
 const EACH: u64 = 0x1111_1111_1111_1111;
@@ -251,9 +254,14 @@ const EACH: u64 = 0x1111_1111_1111_1111;
 // As many workers as are asked for are there at the same time and never more, and one comes to each quantum of each process.
 #[test]
 fn workers_at_once(rt: HostRuntime) -> Result<(), Fail> {
-    let program = sixteen(rt.alloc(), SHORT)?;
     for workers in 1..17u64 {
-        for (quantum, times) in [(1, 14), (2, 7), (7, 2), (1000, 1)] {
+        for (body, quantum, times) in [
+            (SHORT, 1, 14),
+            (SHORT, 2, 7),
+            (SHORT, 7, 2),
+            (LONG, 2000, 2),
+        ] {
+            let program = sixteen(rt.alloc(), body)?;
             let gate = Meeting::of(workers);
             let config = config(rt.alloc(), workers, quantum, AMPLE, None)?;
             let (verdict, _) = reported(&rt, rt.alloc(), program.as_str(), "", config, &gate)?;
@@ -271,7 +279,7 @@ fn workers_at_once_in_parts(rt: HostRuntime) -> Result<(), Fail> {
     let alloc = rt.alloc();
     let network = network_of(alloc, sixteen(alloc, "repeat begin end")?.as_str())?;
     for workers in 1..17u64 {
-        for (quantum, bound) in [(1, 64), (2, 128), (7, 448), (1000, 64_000)] {
+        for (quantum, bound) in [(1, 64), (2, 128), (7, 448), (2000, 128_000)] {
             let config = config(alloc, workers, quantum, 0, None)?;
             let mut held = begun(alloc, &network, "", config)?;
             for _ in 0..2u64 {
