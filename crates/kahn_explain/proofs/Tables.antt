@@ -9,7 +9,7 @@ use Rattle.kahn_streams.specs.Inputs.{inputs_of}
 use Rattle.kahn_streams.specs.declared.value.Line.TheVariants.{Channel}
 use Rattle.kahn_sequential.specs.Recordings.{IsRecordedRun}
 use Rattle.kahn_sequential.specs.declared.recorded.Recorded.{Recorded}
-use Rattle.kahn_explain.specs.Histories.{AreHistories, IsHistory, all_channels, column_line}
+use Rattle.kahn_explain.specs.Histories.{IsHistory, all_channels, column_line}
 use Rattle.kahn_explain.specs.inner.Columns.{AddsPrints, AreAllHistories, AreColumns, AreOfChannels, IsAny, IsHistoryOf}
 use Rattle.kahn_explain.specs.declared.tracing.column.Column.{Column}
 use Rattle.kahn_explain.proofs.Kept_columns.{of_stream}

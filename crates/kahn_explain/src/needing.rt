@@ -5,11 +5,11 @@ mod replying;
 mod rows;
 mod texts;
 
-use crate::needing::asked::parted;
 pub(crate) use crate::needing::asked::{AskFault, sought};
 pub(crate) use crate::needing::replying::replied;
 use kahn_fault::shown_path;
 use kahn_hints::add_unknown_channel;
+use kahn_line::parted;
 use kahn_marks::add;
 use kahn_streams::Network;
 use std::alloc::{AllocError, Global};
@@ -26,7 +26,7 @@ pub(crate) fn fault_text(
     match fault {
         AskFault::NoLine => {
             add(&mut text, &[shown.as_str(), ": no such channel"])?;
-            let (name, _) = parted(word);
+            let (name, _) = parted(word, ':');
             add_unknown_channel(&mut text, alloc, network.program(), name.as_bytes())?;
         }
         AskFault::GivenLine => add(

@@ -17,7 +17,7 @@ pub struct Plain {
 }
 
 /// Returns the parts of a word before and after the first such sign; a word without it has one part.
-fn parted(word: &str, sign: char) -> (&str, Option<&str>)
+pub fn parted(word: &str, sign: char) -> (&str, Option<&str>)
     requires { sign < 128 }
     ensures first { result.0.now ≡ (parted sign word.now).0 }
     ensures second { option_map (λ t. t.now) result.1 ≡ (parted sign word.now).1 }

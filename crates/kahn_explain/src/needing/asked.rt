@@ -1,7 +1,6 @@
 //! What a word of the command line asks for: a line of the network, or a place of it.
 
 ghost use Rattle.std.specs.Prelude.{◌≡◌, ◌↔◌, ℕ, true, IfOk, MatchOption, MatchResult, Option, option_map};
-ghost use Rattle.kahn_line.specs.Parts.{parted};
 ghost use Rattle.kahn_streams.specs.Inputs.{IsNoName};
 ghost use Rattle.kahn_streams.specs.Network.{Given, network_of};
 ghost use Rattle.kahn_streams.specs.Solution.{source};
@@ -10,6 +9,7 @@ ghost use Rattle.kahn_needs.specs.Finding.{IsNetworkLine};
 ghost use Rattle.kahn_explain.specs.inner.Told.{IsGivenAs};
 ghost use Rattle.kahn_explain.specs.Needing.{IsLineNamed, IsPlaceWord, IsQuestion, IsUnasked};
 
+use kahn_line::parted;
 use kahn_streams::{Line, Network, channel_named};
 
 /// A line of a network, and a place of it, counted from 0, or all of them.
@@ -28,17 +28,6 @@ pub enum AskFault {
     GivenLine,
     /// What stands behind its colon is no place.
     NoPlace,
-}
-
-/// Returns the parts of a word before and after its first colon; a word without it has one part.
-pub(crate) fn parted(word: &str) -> (&str, Option<&str>)
-    ensures first { result.0.now ≡ (parted 58 word.now).0 }
-    ensures second { option_map (λ t. t.now) result.1 ≡ (parted 58 word.now).1 }
-{
-    match word.split_once(':') {
-        Some((before, behind)) => (before, Some(behind)),
-        None => (word, None),
-    }
 }
 
 /// The place whose number from 1 a word is, counted from 0.
@@ -112,7 +101,7 @@ pub(crate) fn sought(network: &Network, word: &str) -> Result<Question, AskFault
     ensures sought { MatchResult result (IsQuestion network.now word.now) (IsUnasked network.now word.now) }
     ensures listed { IfOk result (λ x. IsNetworkLine (network_of network.now) x.line) }
 {
-    let (name, place) = parted(word);
+    let (name, place) = parted(word, ':');
     let Some(line) = line_named(network, name) else {
         return Err(AskFault::NoLine);
     };
