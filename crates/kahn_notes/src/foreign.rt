@@ -11,6 +11,7 @@ loop forever | repeat | a loop is `while E do S`, or `repeat S`, which has no en
 break exit continue | none | a loop ends where the test of its `while` is false
 return yield | none | a process has no result: `send E on C` gives a value to another one
 elif elsif elseif | none | it is two words: `else if`
+otherwise | else | behind `if E then S` stands `else`
 int integers ints long short unsigned | integer | the kinds are `integer` and `logical`; one stands before its names
 bool boolean logicals booleans | logical | the kinds are `integer` and `logical`; one stands before its names
 var real float | none | the kinds are `integer` and `logical`; one stands before its names

@@ -3,7 +3,7 @@
 /// What stands there, and what is put in its place; the first is told with which the text is read past it. Capital letters stand for what
 /// is kept: `A` to `C` names, `O` the name of a channel that is written, `K` a kind, `D` a direction, `R` a role, `V` a word for `wait`,
 /// `S` one for `send`, `P` one that starts, `E` to `G` expressions, and `T` what stands there to the end of the line.
-pub(crate) const PATTERNS: [(&str, &str); 107] = [
+pub(crate) const PATTERNS: [(&str, &str); 117] = [
     // Values are taken and sent.
     ("A : = < - B", "A := wait(B)"),
     ("V A from B", "A := wait(B)"),
@@ -24,6 +24,7 @@ pub(crate) const PATTERNS: [(&str, &str); 107] = [
     ("O . S ( E )", "send E on O"),
     ("O ! E", "send E on O"),
     ("O < - E", "send E on O"),
+    ("A < - B + E", "A := B + E"),
     ("A < - B", "A := wait(B)"),
     ("send E ? F : G on", "send if E then F else G on"),
     ("A : = E ? F : G", "A := if E then F else G"),
@@ -34,9 +35,13 @@ pub(crate) const PATTERNS: [(&str, &str); 107] = [
     ("` div `", "div"),
     ("on ( A )", "on A"),
     ("let mut A = E", "A := E"),
+    ("let A : = E", "A := E"),
+    ("set A = E", "A := E"),
     ("let A = E", "A := E"),
     ("A + = E", "A := A + E"),
     ("A - = E", "A := A - E"),
+    ("A : = B + +", "A := B + 1"),
+    ("+ + A", "A := A + 1"),
     ("A + +", "A := A + 1"),
     ("A - -", "A := A - 1"),
     (": =", ":="),
@@ -54,6 +59,8 @@ pub(crate) const PATTERNS: [(&str, &str); 107] = [
     (", A : K )", "; K out A)"),
     ("var A : K", "K A"),
     ("var A K", "K A"),
+    ("R A : K", "K R channel A"),
+    ("K : A", "K A"),
     ("A : K", "K A"),
     ("D K A", "K D A"),
     ("K A D", "K D A"),
@@ -78,6 +85,7 @@ pub(crate) const PATTERNS: [(&str, &str); 107] = [
     ("A : = make ( chan K )", "K channel A"),
     ("K channel A ; B ;", "K channel A, B;"),
     ("channel of K A", "K channel A"),
+    ("channel < K > A", "K channel A"),
     ("chan of K A", "K channel A"),
     ("chan K A", "K channel A"),
     ("channel K A", "K channel A"),
@@ -106,6 +114,8 @@ pub(crate) const PATTERNS: [(&str, &str); 107] = [
     ("import A", ""),
     ("# define T", ""),
     ("program A ;", ""),
+    ("program A", ""),
+    ("module A", ""),
     ("repeat forever", "repeat"),
     ("then :", "then"),
     ("else :", "else"),
