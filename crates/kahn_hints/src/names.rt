@@ -41,14 +41,13 @@ pub(crate) fn names_seen<'p>(
     let Some(process) = process else {
         for declaration in &program.declarations {
             match declaration {
-                Declaration::Channels(_, _, channels) => {
-                    for channel in channels {
-                        keep(&mut names, asked, NameKind::Channel, channel)?;
-                    }
+                Declaration::Channels(_, _, channels) if asked != Some(NameKind::Process) => {
+                    add_channels(&mut names, channels)?;
                 }
                 Declaration::Process(process) => {
                     keep(&mut names, asked, NameKind::Process, &process.name)?;
                 }
+                Declaration::Channels(_, _, _) => {}
             }
         }
         return Ok(names);

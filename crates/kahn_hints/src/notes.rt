@@ -63,21 +63,6 @@ fn words_of(
     Ok(words)
 }
 
-/// A change, if it leaves fewer faults.
-fn sure_fix(
-    alloc: Global,
-    text: &str,
-    faults: &[CheckFault],
-    fix: Fix,
-) -> Result<Option<Fix>, NoMemory>
-    ensures { IfOk result (λ fix. IfSome fix (LessensFaults text.now faults.now)) }
-{
-    match left_by(alloc, text, faults, &fix)? {
-        Some(_) => Ok(Some(fix)),
-        None => Ok(None),
-    }
-}
-
 /// The change that is told apart from the words of a fault at a place.
 fn fix_of(
     alloc: Global,
@@ -91,10 +76,13 @@ fn fix_of(
     let Some(change) = change else {
         return Ok(None);
     };
-    if is_elsewhere(&change, at) {
-        return sure_fix(alloc, text, faults, change.fix);
+    if !is_elsewhere(&change, at) {
+        return Ok(None);
     }
-    Ok(None)
+    match left_by(alloc, text, faults, &change.fix)? {
+        Some(_) => Ok(Some(change.fix)),
+        None => Ok(None),
+    }
 }
 
 /// What is told of a fault at a place.

@@ -170,25 +170,22 @@ fn add_used(words: &mut String, alloc: Global, place: NetworkPlace) -> Result<()
     Ok(())
 }
 
-/// What to do about a channel without a writer.
-fn unwritten_words(place: NetworkPlace) -> &'static str {
+/// What to do about a channel without a writer, or without a reader.
+fn sideless_words(place: NetworkPlace, direction: Direction) -> &'static str {
     let is_read = passed(place.program, Direction::In, place.word()).is_some();
-    match (channel_called(place.program, place.word()), is_read) {
-        (Some((_, Role::Inner)), true) => {
-            "; hand it to an `out` parameter, or declare it `input` where its values come from outside"
-        }
-        (Some((_, Role::Inner)), false) =>
+    let is_inner = matches!(
+        channel_called(place.program, place.word()),
+        Some((_, Role::Inner))
+    );
+    match (direction, is_inner) {
+        (Direction::Out, true) if !is_read =>
             "; it is handed to no process: leave its declaration out",
-        _ => "; hand it to an `out` parameter",
-    }
-}
-
-/// What to do about a channel without a reader.
-fn unread_words(place: NetworkPlace) -> &'static str {
-    match channel_called(place.program, place.word()) {
-        Some((_, Role::Inner)) =>
+        (Direction::Out, true) =>
+            "; hand it to an `out` parameter, or declare it `input` where its values come from outside",
+        (Direction::Out, false) => "; hand it to an `out` parameter",
+        (Direction::In, true) =>
             "; hand it to an `in` parameter, or declare it `output` where its values are to be reported",
-        _ => "; hand it to an `in` parameter",
+        (Direction::In, false) => "; hand it to an `in` parameter",
     }
 }
 
@@ -242,8 +239,8 @@ pub(crate) fn add_advice(
             place,
             "; let a process take from it and send each value on a channel for each reader",
         ),
-        CheckFault::NoWriter(_) => words.push_str(unwritten_words(place)),
-        CheckFault::NoReader(_) => words.push_str(unread_words(place)),
+        CheckFault::NoWriter(_) => { words.push_str(sideless_words(place, Direction::Out)) },
+        CheckFault::NoReader(_) => { words.push_str(sideless_words(place, Direction::In)) },
         _ => Ok(()),
     }
 }

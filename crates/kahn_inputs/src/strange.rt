@@ -6,7 +6,18 @@ use crate::fitting::behind;
 pub(crate) const NO_COMMENTS: &str = "; an input has no comments";
 
 /// How comments begin.
-const COMMENTS: [&str; 3] = ["#", "//", "--"];
+const COMMENTS: [(&str, &str); 2] = [("#", NO_COMMENTS), ("//", NO_COMMENTS)];
+
+const BARE: &str = "; values stand without brackets and quotation marks";
+
+/// How lists and texts of other languages do.
+const BRACKETS: [(&str, &str); 5] = [
+    ("[", BARE),
+    ("(", BARE),
+    ("{", BARE),
+    ("\"", BARE),
+    ("'", BARE),
+];
 
 /// Characters that look like blanks and are none, and the mark of byte order.
 const STRANGE: [(&str, &str); 7] = [
@@ -22,21 +33,14 @@ const STRANGE: [(&str, &str); 7] = [
     ("\r", "; in it stands a carriage return (U+000D)"),
 ];
 
-/// What stands in words that are no values, before what stands at their front.
-const WITHIN: [(&str, &str); 8] = [
-    ("[", BARE),
-    ("(", BARE),
-    ("{", BARE),
-    ("\"", BARE),
-    ("'", BARE),
+/// What stands in words that are no values.
+const WITHIN: [(&str, &str); 3] = [
     (",", "; blanks stand between values"),
     (";", "; blanks stand between values"),
     (".", "; numbers are whole"),
 ];
 
-const BARE: &str = "; values stand without brackets and quotation marks";
-
-/// What stands at the front of such words.
+/// What stands at the front of others.
 const FRONTS: [(&str, &str); 2] = [
     ("+", "; a number has no `+`"),
     ("0x", "; numbers are decimal"),
@@ -62,6 +66,16 @@ fn words_within(table: &[(&'static str, &'static str)], part: &[u8]) -> &'static
     ""
 }
 
+/// What a table says of the first of its texts that stands at the front of a part.
+fn words_at(table: &[(&'static str, &'static str)], part: &[u8]) -> &'static str {
+    for (text, words) in table {
+        if part.starts_with(text.as_bytes()) {
+            return words;
+        }
+    }
+    ""
+}
+
 /// What is said of the first strange character in a part, which begins at this byte of the text.
 pub(crate) fn strange_words(at: usize, part: &[u8]) -> &'static str {
     if at == 0 && part.starts_with(b"\xEF\xBB\xBF") {
@@ -78,26 +92,16 @@ pub(crate) fn is_number(part: &[u8]) -> bool {
 
 /// What is said of a part that begins as a comment of other languages does.
 pub(crate) fn no_comment_words(part: &[u8]) -> &'static str {
-    for front in COMMENTS {
-        if part.starts_with(front.as_bytes()) {
-            return NO_COMMENTS;
-        }
-    }
-    ""
+    words_at(&COMMENTS, part)
 }
 
 /// What is said of a word that is no value.
 pub(crate) fn numeral_words(part: &[u8]) -> &'static str {
-    let first = words_or(no_comment_words(part), words_within(&WITHIN, part));
-    if !first.is_empty() {
-        return first;
-    }
-    for (front, words) in FRONTS {
-        if part.starts_with(front.as_bytes()) {
-            return words;
-        }
-    }
+    let front = words_or(no_comment_words(part), words_at(&BRACKETS, part));
+    let first = words_or(front, words_within(&WITHIN, part));
+    let words = words_or(first, words_at(&FRONTS, part));
     match part {
+        _ if !words.is_empty() => words,
         b"-" => "; a `-` stands right before its digits",
         _ if is_number(part) => "; it is past 64 bits",
         _ => "",
