@@ -9,7 +9,10 @@ use Rattle.kahn_fault.specs.declared.fault.Fault.{Fault}
 use Rattle.kahn_session.specs.Live.{HasVerdict, IsTakenLine, Live, breaks}
 use Rattle.kahn_session.specs.declared.fault.TakeFault.{TakeFault}
 use Rattle.kahn_live.specs.Course.{WasAnswered, WasFed, HasSent, HasWaited, IsAnswerTold, IsLineMet, IsToldBy, Point, LiveTelling}
-use Rattle.kahn_live.specs.InputMet.{AreRead, IsBlankMet, IsHearing, IsNextMet, IsNoneCome, IsSource, IsStep}
+use Rattle.kahn_live.specs.InputMet.{AreRead, IsCome, IsHearing, IsNextMet, IsNoneCome, IsSource, IsStep}
+use Rattle.kahn_live.specs.Lines.{IsNextLine}
+use Rattle.kahn_live.specs.declared.lines.Next.{Next}
+use Rattle.kahn_live.specs.declared.lines.Next.TheVariants.{Line, End, Failed, NoMemory}
 
 -- what the session made of a line, where no byte more went out since
 fed_since : (line : List ℕ) (answer : Result Verdict TakeFault) (old mid new : Point) → IsTakenLine line old.session mid.session old.out mid.out answer → HasWaited mid new
@@ -67,13 +70,12 @@ pub next_none : (input : Option (List ℕ)) (number : ℕ) (text rest : Option (
 next_none input number text rest old new false none met = met
 next_none input number text rest old new true none met = absurd (true≢false none)
 
--- a blank line, where there is no input channel
-pub blank_next : (input : Option (List ℕ)) (number : ℕ) (text : Option (List ℕ)) (old new : Point) (r : Result Bool Fault) → IsSource old.session true
-    → IsBlankMet input number old new r → IsNextMet input number r text text old new
-blank_next input number text old new (Ok true) source (room, (ready, sent, any)) = ([], ready, inr (source, room, refl, refl), sent, any)
-blank_next input number text old new (Ok false) source (none, sent) = (inr (source, none), sent)
-blank_next input number text old new (Err fault) source (room, inl (why, sent)) = inl (sent, inl why)
-blank_next input number text old new (Err fault) source (room, inr (ready, sent, broken)) = inr ([], text, ready, inr (source, room, refl, refl), sent, broken)
+-- a line that was read, where there is an input channel
+pub come_read : (s : Live) (text rest : Option (List ℕ)) (kept : List ℕ) (r : Next) → IsSource s false → IsNextLine text rest kept r → IsCome s text rest kept r
+come_read s text rest kept Line source (line, cuts, is) = (line, inl (source, cuts), is)
+come_read s text rest kept End source at = inl (source, at)
+come_read s text rest kept Failed source read = tt
+come_read s text rest kept NoMemory source (line, cuts) = (line, inl (source, cuts))
 
 pub none_kept : (n : ℕ) → take {A = ℕ} n [] ≡ []
 none_kept zero = refl

@@ -1,5 +1,5 @@
 -- Believed. The lines of the input, the part before them and the lines behind them, of a run on lines (this project's profile).
-use Rattle.std.specs.Prelude.{◌≡◌, ◌⊎◌, ℕ, zero, suc, ◌-◌, ◌^◌, Bool, true, false, List, [], ◌∷◌, take, Option, None, Some, Result, Ok, Err}
+use Rattle.std.specs.Prelude.{◌≡◌, ◌⊎◌, ⊤, ℕ, zero, suc, ◌-◌, ◌^◌, Bool, true, false, List, [], ◌∷◌, take, Option, None, Some, Result, Ok, Err}
 use Rattle.std.specs.Io.KnownBytes.{IsAtEnd}
 use Rattle.kahn_streams.specs.declared.answer.Verdict.{Verdict}
 use Rattle.kahn_streams.specs.declared.answer.Verdict.TheVariants.{Memory}
@@ -8,6 +8,8 @@ use Rattle.kahn_session.specs.Live.{HasVerdict, IsDeaf, IsFirstInput, IsMeantLin
 use Rattle.kahn_session.specs.Refusals.{alone_text, at_end_number, is_want}
 use Rattle.kahn_session.specs.declared.fault.TakeFault.{TakeFault}
 use Rattle.kahn_live.specs.Lines.{CutsLine, fed_text, most_kept, unmarked}
+use Rattle.kahn_live.specs.declared.lines.Next.{Next}
+use Rattle.kahn_live.specs.declared.lines.Next.TheVariants.{Line, End, Failed, NoMemory}
 use Rattle.kahn_live.specs.Rows.{AreMeant, AreRowCells, IsBadRow, row_names}
 use Rattle.kahn_live.specs.Course.{HasMissed, HasSent, HasWaited, IsAloneMet, IsBrokenOff, IsReadFailed, IsRefused, IsWriteFault, LiveTelling, Point, WasAnswered, WasMet, WasTold, no_memory}
 
@@ -83,6 +85,13 @@ IsNextCome s line text rest = (IsSource s false × CutsLine line text rest)
 abbrev pub IsNoneCome : Live → Option (List ℕ) → Type 0
 IsNoneCome s text = (IsSource s false × IsAtEnd text) ⊎ (IsSource s true × (lacks_memory s.flow.run.verdict ≡ true))
 
+-- what came: a line, of which no more is kept than decides whether it is too long, or none
+abbrev pub IsCome : Live → Option (List ℕ) → Option (List ℕ) → List ℕ → Next → Type 0
+IsCome s text rest kept Line = (line : List ℕ) × IsNextCome s line text rest × (kept ≡ take most_kept line)
+IsCome s text rest kept End = IsNoneCome s text
+IsCome s text rest kept Failed = ⊤
+IsCome s text rest kept NoMemory = (line : List ℕ) × IsNextCome s line text rest
+
 -- the line of this number came, behind which this is left, and was met
 abbrev pub IsStep : Option (List ℕ) → ℕ → Option (List ℕ) → Option (List ℕ) → Point → Point → Type 0
 IsStep input number text rest old new =
@@ -94,14 +103,6 @@ IsStoppedAt input number text old new fault =
     (HasSent old new × (IsWriteFault fault ⊎ IsReadFailed fault))
     ⊎ ((line : List ℕ) × (rest : Option (List ℕ)) × (ready : Point) × IsNextCome old.session line text rest × HasSent old ready
     × IsReadMet input number (take most_kept line) ready new (Err fault))
-
--- what is new went out, and then a part was run by a blank line; or memory was refused for the last one
-abbrev pub IsBlankMet : Option (List ℕ) → ℕ → Point → Point → Result Bool Fault → Type 0
-IsBlankMet input number old new (Ok true) =
-    (lacks_memory old.session.flow.run.verdict ≡ false) × ((ready : Point) × HasSent old ready × IsAnyMet input number [] ready new)
-IsBlankMet input number old new (Ok false) = (lacks_memory old.session.flow.run.verdict ≡ true) × HasSent old new
-IsBlankMet input number old new (Err fault) = (lacks_memory old.session.flow.run.verdict ≡ false) × ((IsWriteFault fault × HasSent old new)
-    ⊎ ((ready : Point) × HasSent old ready × IsReadMet input number (take most_kept []) ready new (Err fault)))
 
 -- whether there was a line
 abbrev pub IsNextMet : Option (List ℕ) → ℕ → Result Bool Fault → Option (List ℕ) → Option (List ℕ) → Point → Point → Type 0

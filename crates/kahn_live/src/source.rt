@@ -1,18 +1,18 @@
-//! Whether lines can change a run, and the blank ones by which a program without an input channel goes on.
+//! Which line comes next, and whether one can change a run: a program without an input channel goes on by blank ones.
 
-ghost use Rattle.std.specs.Prelude.{◌≡◌, IfErr, IfOk, false, option_copied};
-ghost use Rattle.kahn_live.specs.Course.{AcrossStage, HasSent, IsWriteFault, point_of};
-ghost use Rattle.kahn_live.specs.InputMet.{IsBlankMet, IsDeafNow, IsSource, lacks_memory};
+ghost use Rattle.std.specs.Prelude.{◌≡◌};
+ghost use Rattle.std.specs.Io.Buffered.{reader_buffer, reader_remaining};
+ghost use Rattle.kahn_live.specs.InputMet.{IsCome, IsDeafNow, IsSource, lacks_memory};
+ghost use Rattle.kahn_live.specs.Lines.{IsReadyToRead};
 
-use crate::stage::LiveStage;
-use crate::taking::take_read;
-use kahn_fault::Fault;
+use crate::lines::{Next, next_line};
+use crate::outlet::DeferredWriter;
 use kahn_session::Session;
 use kahn_streams::Verdict;
-use std::io::Write;
+use std::io::{BufReader, Read, Write};
 
 /// Whether the program has no input channel.
-pub(crate) fn is_source(session: &Session<'_>) -> bool
+fn is_source(session: &Session<'_>) -> bool
     ensures { IsSource session.now result }
 {
     match session.first_input() {
@@ -41,29 +41,23 @@ fn lacks_memory(session: &Session<'_>) -> bool
     }
 }
 
-/// Sends what is new.
-fn send_now<W: Write, E: Write>(stage: &mut LiveStage<'_, W, E>) -> Result<(), Fault>
-    ensures sent { HasSent (point_of W.contents E.contents stage.old) (point_of W.contents E.contents stage.new) }
-    ensures fault { IfErr result IsWriteFault }
+/// Reads the next line, without its line feed; of a program without an input channel it is a blank one, and there is none where memory
+/// was refused for the last part. What is new went out before, or the read doesn't wait.
+pub(crate) fn come<I: Read, W: Write>(
+    session: &Session<'_>,
+    reader: &mut BufReader<I>,
+    line: &mut Vec<u8>,
+    outlet: &DeferredWriter<W>,
+) -> Next
+    requires { IsReadyToRead (reader_buffer reader.old) outlet.now }
+    ensures { IsCome session.now (reader_remaining I.remaining reader.old) (reader_remaining I.remaining reader.new) line.new.items result }
 {
-    stage.outlet.send()
-}
-
-/// Takes a blank line of that number, once what is new went out, and tells that it did: not where memory was refused for the last part.
-pub(crate) fn take_blank<W: Write, E: Write>(
-    stage: &mut LiveStage<'_, W, E>,
-    input: Option<&str>,
-    number: u64,
-    room: &mut Vec<u8>,
-) -> Result<bool, Fault>
-    requires { stage.old.session.broken ≡ false }
-    ensures broken { IfOk result (λ _. stage.new.session.broken ≡ false) }
-    ensures met { AcrossStage W.contents E.contents stage.old stage.new (λ p q. IsBlankMet (option_copied input.entry) number p q result) }
-{
-    if lacks_memory(&stage.session) {
-        return Ok(false);
+    if is_source(session) {
+        line.clear();
+        if lacks_memory(session) {
+            return Next::End;
+        }
+        return Next::Line;
     }
-    send_now(stage)?;
-    let _ = take_read(stage, input, b"", number, room)?;
-    Ok(true)
+    next_line(reader, line, outlet)
 }

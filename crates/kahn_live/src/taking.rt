@@ -12,9 +12,9 @@ ghost use Rattle.kahn_live.specs.Lines.{IsReadyToRead, fed_text};
 ghost use Rattle.kahn_live.specs.Rows.{bytes_in};
 
 use crate::complaint::tell_refused;
-use crate::lines::{Next, fed_line, has_line, next_line, without_mark};
+use crate::lines::{Next, fed_line, has_line, without_mark};
 use crate::rows::{bare_of, row_cells, row_names};
-use crate::source::{is_over, is_source, take_blank};
+use crate::source::{come, is_over};
 use crate::stage::LiveStage;
 use crate::telling::Teller;
 use kahn_fault::{Fault, WorkFault};
@@ -223,7 +223,7 @@ fn take_row<W: Write, E: Write>(
 }
 
 /// Takes a line of the input, and gives why it was refused.
-pub(crate) fn take_read<W: Write, E: Write>(
+fn take_read<W: Write, E: Write>(
     stage: &mut LiveStage<'_, W, E>,
     input: Option<&str>,
     line: &[u8],
@@ -266,11 +266,8 @@ fn take_next<I: Read, W: Write, E: Write>(
     ensures broken { IfOk result (λ _. stage.new.session.broken ≡ false) }
     ensures met { Across I.remaining W.contents E.contents reader.old reader.new stage.old stage.new (IsNextMet (option_copied input.entry) number result) }
 {
-    if is_source(&stage.session) {
-        return take_blank(stage, input, number, room);
-    }
     send_before(stage, reader)?;
-    match next_line(reader, line, &stage.outlet) {
+    match come(&stage.session, reader, line, &stage.outlet) {
         Next::Line => {
             let _ = take_read(stage, input, line, number, room)?;
             Ok(true)
