@@ -16,44 +16,12 @@ import re
 import subprocess
 import sys
 
-TOP = os.path.dirname(os.path.dirname(os.path.abspath(__file__)))
-NAMES = ("kahn", "kahn_live", "kahn_draw", "kahn_explain")
+sys.path.append(f"{os.path.dirname(os.path.abspath(__file__))}/../tests")
+import texts
+from common import NAMES, TOP
+
 BUILT = {name.upper(): f"{TOP}/crates/{name}/out/{name}" for name in (*NAMES, "kahn_crowd")}
-TESTS, FUZZ = "python3 tests/run.py", "python3 fuzz"
-QUICK = {"rows": f"{TESTS} rows", "sessions, and commands of the pages": f"{TESTS} sessions pages", "notes": f"{TESTS} notes"}
-TEXTS = {
-    "limits of the house": "python3 checks/lint.py",
-    "what must be believed": "python3 checks/believed.py",
-    "the list of crates": "python3 checks/crates.py",
-    "grammars for editors": "python3 checks/grammars.py",
-}
-# The parts that try the programs which KAHN, KAHN_LIVE, KAHN_DRAW and KAHN_EXPLAIN name. The same texts give the same verdict: random ones are
-# those of SEED, of 1 if it isn't set.
-PROGRAMS = {
-    "many lines": f"{TESTS} live",
-    "streams": f"{TESTS} streams",
-    **QUICK,
-    "the release, the Debian package, and the first ten minutes": f"{TESTS} tests/release",
-    "attacks on the launcher": f"{TESTS} launcher",
-    "the page in a browser": "python3 checks/web.py",
-    "places and changes in editors": "python3 checks/editors.py $KAHN_EXPLAIN",
-    "manual pages and completions": "python3 checks/manuals.py $KAHN $KAHN_LIVE $KAHN_DRAW $KAHN_EXPLAIN",
-    "threads and growths of memory that are refused": f"{TESTS} refusals",
-    "worst texts": f"{TESTS} worst",
-    "machine instructions of the workloads": "python3 bench/counts.py $KAHN",
-    "examples with replaced words": f"{FUZZ}/parts.py $KAHN_EXPLAIN 600 $SEED",
-    "random programs": f"{FUZZ}/fuzz.py $KAHN 300 $SEED",
-    "mistakes with known repairs": f"{FUZZ}/mistakes.py $KAHN_EXPLAIN 600 $SEED",
-    "what is said of random texts": f"{FUZZ}/grammar.py $KAHN_EXPLAIN 250 $SEED",
-    "why random networks stop": f"{FUZZ}/causes.py $KAHN_EXPLAIN $KAHN 150 $SEED",
-    "what values of random networks need": f"{FUZZ}/needs.py $KAHN_EXPLAIN $KAHN 150 $SEED",
-    "random programs, line by line": f"{FUZZ}/live.py $KAHN_LIVE $KAHN 200 $SEED",
-}
-# The same by workers that all begin at once, if that program, which isn't released, was built.
-CROWD = {
-    "rows, by workers that begin at once": f"{TESTS} crowd",
-    "random programs, by workers that begin at once": f"{FUZZ}/fuzz.py $KAHN_CROWD 300 $SEED",
-}
+PARTS = {heading: dict(line.split(": ", 1) for line in parts[""].split("\n")) for heading, parts in texts.sections(f"{TOP}/checks/parts.txt")}
 WELL = "&& echo 1 passed, 0 failed"
 total = [0, 0]
 
@@ -126,14 +94,14 @@ def programs(is_gate=False):
     other = "" if is_gate else stand_in()
     os.environ.setdefault("SEED", "1")
     os.environ.setdefault("KAHN_CROWD", BUILT["KAHN_CROWD"])
-    beside({**PROGRAMS, **(CROWD if os.access(os.environ["KAHN_CROWD"], os.X_OK) else {})})
+    beside({**PARTS["quick"], **PARTS["programs"], **(PARTS["crowd"] if os.access(os.environ["KAHN_CROWD"], os.X_OK) else {})})
     print(other, end="\n" * bool(other))
 
 
 def quick():
     other = stand_in()
-    beside(QUICK)
-    in_turn(TEXTS)
+    beside(PARTS["quick"])
+    in_turn(PARTS["texts"])
     print(other, end="\n" * bool(other))
 
 
@@ -143,7 +111,7 @@ def mine():
     paths = subprocess.run(["bash", "-c", f"git diff --name-only {base} -- crates; git ls-files --others --exclude-standard crates"], stdout=subprocess.PIPE, text=True).stdout
     names = sorted(set(re.findall(r"^crates/(\w+)/(?:src|specs|proofs|must-fail)/", paths, re.M)))
     print(f"changed: {' '.join(names) or 'nothing'}")
-    in_turn(TEXTS)
+    in_turn(PARTS["texts"])
     if names:
         in_turn({"programs, with all that they stand on": f"bash release/build.sh {WELL}",
                  "the library of the page": f"cd crates/kahn_web && rt check {WELL}",
@@ -157,7 +125,7 @@ def gate():
     need("command -v rt", "the Rattle toolchain (rt) is not on the path")
     need_compiler()
     os.environ.update(BUILT)
-    in_turn(TEXTS)
+    in_turn(PARTS["texts"])
     of = said('read_sources; echo "$standing"')
     if all(in_turn({"rt ci": "rt ci"})):
         for name in NAMES:

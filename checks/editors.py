@@ -12,49 +12,13 @@ import subprocess
 import sys
 import tempfile
 
-TOP = os.path.dirname(os.path.dirname(os.path.abspath(__file__)))
-sys.path.append(f"{TOP}/tests")
-from common import Tried, text_of, write
+sys.path.append(f"{os.path.dirname(os.path.abspath(__file__))}/../tests")
+import texts
+from common import TOP, Tried, text_of, write
 
 EDITORS = f"{TOP}/editors"
 
-MISTAKE = """begin integer output channel X;
-  process a(integer out W); begin integer I; repeat begin comment 漢字; I = I + 1; send I on W end end;
-  a(X)
-end
-"""
-WARNING = MISTAKE.replace("I = I", "I := I").replace("send I", "send I div 0")
-FAULT = """begin integer output channel X;
-  process a(integer out W; integer N); begin send 1 div N on W end;
-  a(X, 0)
-end
-"""
-DEADLOCK = """begin integer channel X, Y;
-  process a(integer in U; integer out W); begin repeat send wait(U) on W end;
-  process b(integer in U; integer out W); begin integer I; repeat begin I := wait(U); send I on W end end;
-  a(X, Y) par b(Y, X)
-end
-"""
-
-# For each program: what stands at the places in Vim's list, with their types; what the extension marks, and the text behind its changes.
-PROGRAMS = [
-    ("a mistake", MISTAKE, [("= I + 1", "e")], ["="], [MISTAKE.replace("I = I", "I := I")]),
-    ("a warning", WARNING, [("0 on W", "w"), ("0 on W", "e")], ["0", "0"], []),
-    ("a fault", FAULT, [("N on W", "e")], ["N"], []),
-    ("a deadlock", DEADLOCK, [("wait(U) on", "e"), ("wait(U); send", "e")], ["wait", "wait"], []),
-]
-SCRIPT = """set nocp
-set rtp^=EDITORS/vim
-filetype plugin indent on
-edit a\\ program.kahn
-normal G
-silent make!
-let places = map(filter(getqflist(), 'v:val.valid'), {_, it -> it.lnum . ':' . it.col . ' ' . it.type})
-cc 1
-call add(places, line('.') . ':' . col('.') . ' ' . &commentstring)
-call writefile(places, 'places')
-qa!
-"""
+PROGRAMS = list(texts.sections(f"{TOP}/checks/editors.txt"))
 
 
 def place_of(program, words):
@@ -70,7 +34,7 @@ def ran(folder, *words):
 
 
 def try_vim(folder, name, places, marked, changed, tried):
-    write(f"{folder}/script.vim", SCRIPT.replace("EDITORS", EDITORS))
+    write(f"{folder}/script.vim", text_of(f"{TOP}/checks/editors.vim").replace("EDITORS", EDITORS))
     ran(folder, "vim", "-es", "-u", "NONE", "-i", "NONE", "-S", "script.vim")
     tried.same(f"Vim, {name}", text_of(f"{folder}/places").splitlines(), [*(f"{place} {kind}" for place, kind in places), f"{places[0][0]} comment %s;"])
 
@@ -87,11 +51,13 @@ def main(explain):
         if not shutil.which(editor):
             print(f"{editor} isn't there: what it shows of editors/ is not tried (Debian's package {package})")
             continue
-        for name, program, stands, marked, changed in PROGRAMS:
+        for name, lines in PROGRAMS:
             with tempfile.TemporaryDirectory() as folder:
                 os.symlink(explain, f"{folder}/kahn_explain")
-                write(f"{folder}/a program.kahn", program)
-                look(folder, name, [(place_of(program, words), kind) for words, kind in stands], marked, changed, tried)
+                program = text_of(write(f"{folder}/a program.kahn", lines[""] + "\n"))
+                places = [(place_of(program, words), kind) for kind, words in (line.split(" ", 1) for line in lines["%"].split("\n"))]
+                changed = [program.replace(*lines["=>"].split(" -> "))] if "=>" in lines else []
+                look(folder, name, places, lines["?"].split("\n"), changed, tried)
     return tried.finish()
 
 

@@ -20,28 +20,12 @@ from common import Tried, text_of, write
 VIM = {"keyword": "kahnKeyword", "name": "kahnName", "number": "kahnNumber", "sign": "kahnSign", "comment": "kahnComment"}
 TEXTMATE = {"keyword": "keyword.control.kahn", "name": "variable.other.kahn", "number": "constant.numeric.kahn",
             "sign": "punctuation.kahn", "comment": "comment.block.kahn"}
-ODD = """Begin comment: while; COMMENT 7; Integer i7, input_2; x := 7end <>-1¬true<=commentary >=x*y
-  comment over
-  lines with begin and 12;
-end
-"""
+ODD = "Begin comment: while; COMMENT 7; Integer i7, input_2; x := 7end <>-1¬true<=commentary >=x*y\n  comment over\n  lines with begin and 12;\nend\n"
 PAGE = " ".join(text_of(f"{TOP}/docs/language.md").split())
 KEYWORDS = re.search(r"any letter case is a keyword: `([a-z ]+)`", PAGE)[1].split()
 SIGNS = re.findall(r"`([^`]+)`", re.search(r"\*\*Signs\*\* are (.*?) and the character U\+00AC", PAGE)[1])
 SIGN = "|".join(map(re.escape, sorted(SIGNS, key=len, reverse=True)))
 LEXEME = re.compile(rf"[ \t\r\n]+|(?P<comment>comment\b[^;]*;)|(?P<word>[A-Za-z]\w*)|(?P<number>[0-9]+)|(?P<keyword>¬)|(?P<sign>{SIGN})", re.I | re.A)
-# Writes the groups of all characters of a text, line by line.
-ASKED = """set nocompatible encoding=utf-8 synmaxcol=0
-edit text.kahn
-syntax on
-source SYNTAX
-let groups = []
-for row in range(1, line('$'))
-  call add(groups, join(map(range(strchars(getline(row))), {_, it -> synIDattr(synID(g:row, byteidx(getline(g:row), it) + 1, 1), 'name')}), ','))
-endfor
-call writefile(groups, 'groups')
-qall!
-"""
 
 
 def lexemes(text):
@@ -85,7 +69,7 @@ def vim(text):
     """The group of each character, by Vim."""
     with tempfile.TemporaryDirectory() as folder:
         write(f"{folder}/text.kahn", text)
-        write(f"{folder}/ask.vim", ASKED.replace("SYNTAX", f"{TOP}/editors/vim/syntax/kahn.vim"))
+        write(f"{folder}/ask.vim", text_of(f"{TOP}/checks/grammars.vim").replace("SYNTAX", f"{TOP}/editors/vim/syntax/kahn.vim"))
         subprocess.run(["vim", "-es", "-u", "NONE", "-i", "NONE", "-S", "ask.vim"], cwd=folder, stdin=subprocess.DEVNULL, timeout=600)
         rows = [line.split(",") for line in text_of(f"{folder}/groups").split("\n")]
     return [name for row, line in zip(rows, text.splitlines()) for name in [*row[: len(line)], ""]]

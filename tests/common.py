@@ -97,13 +97,14 @@ class Tried:
 
 
 class Room(unittest.TestCase):
-    """Tests in a folder of their own, with the examples."""
+    """Tests in a folder of their own, with the examples and tests/programs."""
 
     def setUp(self):
         room = tempfile.TemporaryDirectory()
         self.addCleanup(room.cleanup)
         self.folder = room.name
-        os.symlink(f"{TOP}/examples", f"{self.folder}/examples")
+        for name in ("examples", "tests/programs"):
+            os.symlink(f"{TOP}/{name}", f"{self.folder}/{os.path.basename(name)}")
 
     def put(self, **texts):
         """Files by their names."""

@@ -7,23 +7,6 @@ import common
 from common import Room, measured, read
 
 LIVE = common.program("kahn_live")
-SUMS = """begin integer input channel A; integer output channel SUMS;
-  process sums(integer in U; integer out W);
-  begin integer S; repeat begin S := S + wait(U); send S on W end end;
-  sums(A, SUMS)
-end
-"""
-# as many values through a copy as a line says
-COPY = """begin integer input channel N; integer output channel W; integer channel X;
-  process count(integer in U; integer out W);
-  begin integer I, N;
-    repeat begin N := wait(U); I := 0; while I < N do begin send I on W; I := I + 1 end end
-  end;
-  process copy(integer in U; integer out W);
-  begin repeat send wait(U) on W end;
-  count(N, X) par copy(X, W)
-end
-"""
 
 
 class Live(Room):
@@ -33,10 +16,10 @@ class Live(Room):
 
     def soak(self, lines, seconds):
         """The sums of so many ones, a line for each, within so many seconds of processor time: the most memory, in kB."""
-        self.put(ones="A: 1\n" * lines, sums=SUMS)
+        self.put(ones="A: 1\n" * lines)
         output = f"{self.folder}/output"
-        status, _, room = measured([LIVE, "sums"], f"{self.folder}/ones", output=output, most=seconds, folder=self.folder)
-        sums = read(output).decode().splitlines() == [f"SUMS: {number}" for number in range(1, lines + 1)]
+        status, _, room = measured([LIVE, "programs/sum.kahn"], f"{self.folder}/ones", output=output, most=seconds, folder=self.folder)
+        sums = read(output).decode().splitlines() == [f"S: {number}" for number in range(1, lines + 1)]
         self.same(f"{lines} lines: status and sums", (status, sums), (0, True))
         return room
 
@@ -52,17 +35,16 @@ class Growth(Room):
     def refused(self, **variables):
         """A run without a growth, to its end: its output, its status and its errors. A line that was refused is sent again."""
         pipe = subprocess.PIPE
-        run = subprocess.Popen([LIVE, "copy.kahn", "--quantum", "1"], cwd=self.folder, bufsize=0, stdin=pipe, stdout=pipe, stderr=pipe, env={**os.environ, **variables})
+        run = subprocess.Popen([LIVE, "programs/copy.kahn", "--quantum", "1"], cwd=self.folder, bufsize=0, stdin=pipe, stdout=pipe, stderr=pipe, env={**os.environ, **variables})
         with contextlib.suppress(BrokenPipeError):
             run.stdin.write(b"N: 65\nno line\n")
         told = b""
-        while (line := run.stderr.readline()) and not line.startswith(b"copy.kahn: input line 2: not a name"):
+        while (line := run.stderr.readline()) and not line.startswith(b"programs/copy.kahn: input line 2: not a name"):
             told += line
-        out, more = run.communicate(b"N: 65\n\n" if b"copy.kahn: input line 1: no memory" in told else b"\n\n", timeout=60)
+        out, more = run.communicate(b"N: 65\n\n" if b"programs/copy.kahn: input line 1: no memory" in told else b"\n\n", timeout=60)
         return out.decode(), run.returncode, (told + more).decode()
 
     def test_each_growth(self):
-        self.put(**{"copy.kahn": COPY})
         library = self.refusing("refuse_growth.c")
         values, ends = "".join(f" {number}" for number in range(65)), self.refused()[2]
         began = waited = alike = number = 0

@@ -12,24 +12,11 @@ import re
 import tempfile
 
 import common
-from common import CROWD, TOP, Room, read
+from common import CROWD, TOP, Room, read, text_of
 
 KAHN, LIVE = common.program("kahn"), common.program("kahn_live")
 HAS_CROWD = os.access(CROWD, os.X_OK)
-COPIES = """begin integer channel X0, X1, X2; integer output channel W;
-  process count(integer out W; integer N);
-  begin integer I; while I < N do begin send I on W; I := I + 1 end end;
-  process copy(integer in U; integer out W);
-  begin repeat send wait(U) on W end;
-  count(X0, 65) par copy(X0, X1) par copy(X1, X2) par copy(X2, W)
-end
-"""
-LONG = """begin integer output channel X, Y, Z;
-  process count(integer out W; integer N);
-  begin integer I; while I < N do begin I := I + 1; send I on W end end;
-  count(X, {0}) par count(Y, {0}) par count(Z, {0})
-end
-"""
+COPIES, LONG = (text_of(f"{TOP}/tests/programs/{name}.kahn") for name in ("copies", "long"))
 PROGRAMS = [path for path in sorted(glob.glob(f"{TOP}/examples/*.kahn"))
             if os.path.exists(f"{path[:-5]}.report") and not os.path.exists(f"{path[:-5]}.input")]
 
@@ -50,7 +37,7 @@ def is_stopped(out, whole):
 class Memory(Room):
     def setUp(self):
         super().setUp()
-        self.put(**{"copies.kahn": COPIES, "long.kahn": LONG.format(25000)})
+        self.put(**{"copies.kahn": COPIES, "long.kahn": LONG})
         self.library = self.refusing("refuse_growth.c")
 
     def growths(self, name, words, judged, workers, enough=25, text=b""):
@@ -188,7 +175,7 @@ class Threads(Room):
 
     def test_a_long_report(self):
         """Three instances, so three workers, if so many run side by side; and 150,000 values, which several threads put into text."""
-        self.put(**{"long.kahn": LONG.format(50000)})
+        self.put(**{"long.kahn": LONG.replace("25000", "50000")})
         report, _, _ = self.ran(KAHN, "--workers", "1", "long.kahn")
         for workers in (1, 2, 3, 16):
             started = min(workers, 3, os.cpu_count()) - 1

@@ -8,21 +8,16 @@ import subprocess
 import time
 
 import common
-from common import Room, measured_well, read
+from common import TOP, Room, measured_well, read, text_of
 
 KAHN, LIVE, DRAW, EXPLAIN = (common.program(name) for name in common.NAMES)
-SUM = """begin integer input channel A; integer output channel S;
-  process sum(integer in U; integer out W); begin integer T; repeat begin T := T + wait(U); send T on W end end;
-  sum(A, S)
-end
-"""
 WHOLE = re.compile(r"(sum: input line \d+: (not a value: `x`; values are numbers, `true` and `false`|no such channel: `Q`; input channels: `A`)|end 1 sum: waits on A after 1|finished 1)\n")
 
 
 class Streams(Room):
     def setUp(self):
         super().setUp()
-        self.put(sum=SUM, wrong="begin x")
+        self.put(sum=text_of(f"{TOP}/tests/programs/sum.kahn"), wrong="begin x")
 
     def writes_of(self, words, text=""):
         """What a program writes on standard error, write by write. A packet of the socket is what one call wrote."""
