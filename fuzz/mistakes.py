@@ -29,6 +29,14 @@ def lexemes(text):
     return [(what, text[a:b], a, b) for what, _, a, b in ref.lex(text.encode())]
 
 
+def is_right(text):
+    """Whether it is a network without a fault."""
+    try:
+        return bool(ref.checked_of(text.encode()))
+    except ref.Fault:
+        return False
+
+
 def line_of(text, at):
     return text.count("\n", 0, at) + 1
 
@@ -149,8 +157,8 @@ SORTS = [*MADE.values(), MADE["misspelt keyword"], MADE["lost"], lost_end, lost_
 def made(count, seed):
     """So many mistakes; a sort for which a text has no place makes none."""
     rng = random.Random(seed)
-    texts = [fuzz.read(path) for path in sorted(glob.glob(f"{fuzz.TOP}/examples/*.kahn"))]
-    texts = [text.decode() for text in texts if len(text) < 6000 and text.isascii() and ref.told(text) == []]
+    texts = [fuzz.read(path).decode() for path in sorted(glob.glob(f"{fuzz.TOP}/examples/*.kahn"))]
+    texts = [text for text in texts if len(text) < 6000 and text.isascii() and is_right(text)]
     out = []
     while len(out) < count:
         text = rng.choice(texts)
@@ -158,7 +166,7 @@ def made(count, seed):
             one = rng.choice(SORTS)(text, lexemes(text), rng)
         except (IndexError, ref.Fault):
             continue
-        if one and ref.told(one.text.encode()) != []:
+        if one and not is_right(one.text):
             out.append(one)
     return out
 
