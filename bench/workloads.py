@@ -1,6 +1,5 @@
 """The workloads of bench/, as texts of programs by their size: NAME(SIZE ..) for each of workloads.txt, and for arithmetic.kahn (turns),
 pipeline.kahn (values) and sample.kahn (turns)."""
-import functools
 import os
 import re
 import subprocess
@@ -28,12 +27,6 @@ def made(name, *given):
     words, text = TEXTS[name]
     values = {word.split("=")[0]: given[at] if at < len(given) else int(word.split("=")[1]) for at, word in enumerate(words)}
     return texts.expanded(text, values, texts={other: it for other, (_, it) in TEXTS.items()}) + "\n"
-
-
-def __getattr__(name):
-    if name in KEPT or name in TEXTS:
-        return functools.partial(made, name)
-    raise AttributeError(name)
 
 
 def instructions(words, room):

@@ -10,9 +10,8 @@ import os
 import re
 import sys
 
-TOP = os.path.dirname(os.path.dirname(os.path.abspath(__file__)))
-sys.path.append(f"{TOP}/tests")
-from common import text_of as read, write
+sys.path.append(f"{os.path.dirname(os.path.abspath(__file__))}/../tests")
+from common import TOP, text_of as read, write
 
 LIST = f"{TOP}/crates/README.md"
 PAGES = ("CONTRIBUTING.md", *(f"docs/{name}.md" for name in "contract faults-rules meaning needs reading".split()),

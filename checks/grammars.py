@@ -13,9 +13,8 @@ import subprocess
 import sys
 import tempfile
 
-TOP = os.path.dirname(os.path.dirname(os.path.abspath(__file__)))
-sys.path.append(f"{TOP}/tests")
-from common import Tried, text_of, write
+sys.path.append(f"{os.path.dirname(os.path.abspath(__file__))}/../tests")
+from common import TOP, Tried, text_of, write
 
 VIM = {"keyword": "kahnKeyword", "name": "kahnName", "number": "kahnNumber", "sign": "kahnSign", "comment": "kahnComment"}
 TEXTMATE = {"keyword": "keyword.control.kahn", "name": "variable.other.kahn", "number": "constant.numeric.kahn",

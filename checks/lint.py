@@ -14,9 +14,8 @@ import shutil
 import subprocess
 import sys
 
-TOP = os.path.dirname(os.path.dirname(os.path.abspath(__file__)))
-sys.path.append(f"{TOP}/tests")
-from common import text_of as read
+sys.path.append(f"{os.path.dirname(os.path.abspath(__file__))}/../tests")
+from common import TOP, text_of as read
 
 LIMITS = f"{TOP}/checks/limits.txt"
 LONG_CLAUSE, LONG_BODY, LONG_FILE = 160, 40, 500

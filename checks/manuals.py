@@ -7,9 +7,8 @@ import re
 import subprocess
 import sys
 
-TOP = os.path.dirname(os.path.dirname(os.path.abspath(__file__)))
-sys.path.append(f"{TOP}/tests")
-from common import Tried, text_of
+sys.path.append(f"{os.path.dirname(os.path.abspath(__file__))}/../tests")
+from common import TOP, Tried, text_of
 
 COMPLETIONS = f"{TOP}/editors/completions"
 OPTION = re.compile(r"(?m)^  (?:    |(-\w), )(--[\w-]+)(?:\.\.\.)?(?: <([^>]+)>)? {2,}(.*)$")

@@ -14,12 +14,12 @@ import subprocess
 import sys
 import tempfile
 
-TOP = os.path.dirname(os.path.dirname(os.path.abspath(__file__)))
-sys.path.append(f"{TOP}/tests")
+sys.path.append(f"{os.path.dirname(os.path.abspath(__file__))}/../tests")
 import browser
 import common
 import rows
 import web_tries
+from common import TOP
 
 SECONDS = 330
 SECONDS_TO_OPEN = 60
@@ -44,8 +44,7 @@ def cases():
 def native(kahn, draw, explain, program, text, bound, folder):
     """What the programs answer: status, report or fault, picture if there is one, why the run stopped or the program is refused, and the histories."""
     for name, it in (("program", program), ("input", text)):
-        with open(f"{folder}/{name}", "w", encoding="utf-8", newline="") as file:
-            file.write(it)
+        common.write(f"{folder}/{name}", it)
     words = [kahn, "--workers", "1", "--bound", bound, "--input", f"{folder}/input", f"{folder}/program"]
     ran = subprocess.run(words, capture_output=True, timeout=60)
     drawn = subprocess.run([draw, f"{folder}/program"], capture_output=True, timeout=60)

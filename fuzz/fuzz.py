@@ -323,16 +323,16 @@ def kept(one, paths, room, seed):
     return what, more
 
 
-def drive(one, programs=1, count=150, others=(), pool=ThreadPoolExecutor, tell=tell_kinds):
+def drive(one, programs=1, count=150, pool=ThreadPoolExecutor, tell=tell_kinds):
     """Runs a script of this folder by its words, PROGRAM .. [COUNT] [SEED], and gives its status. It tries `one(*programs, at, seed)` for
-    each seed, and first for the others: (None, what to tell of it) or (what differs, what leads there), which is printed. If something
+    each seed: (None, what to tell of it) or (what differs, what leads there), which is printed. If something
     failed its texts, in files whose names begin with `at`, are kept in their folder."""
     words = sys.argv[1:]
     paths, numbers = [os.path.abspath(path) for path in words[:programs]], [int(it) for it in words[programs : programs + 2]]
     count, first = [*numbers, *(count, random.randrange(10**9))[len(numbers) :]]
     print(f"seed {first}", flush=True)
     room, given, failed = tempfile.mkdtemp(prefix="kahn-fuzz-"), [], 0
-    seeds = [*others, *range(first, first + count)]
+    seeds = range(first, first + count)
     with pool(os.cpu_count()) as workers:
         for seed, (what, more) in zip(seeds, workers.map(functools.partial(kept, one, paths, room), seeds, chunksize=8)):
             if what is None:

@@ -2,9 +2,8 @@
 
     grammar.py KAHN_EXPLAIN [COUNT] [SEED]     the same seed makes the same texts; without one it is chosen at random
 
-Before these stands the sample network, cut off at each place in turn, with a lexeme behind that can't stand there. What is expected has to be
-just the lexemes that the parser reads there. A change that is told is made in the text, which is read again; what is told of blocks and
-comments is looked for. A difference is printed, and its text is kept where the line names it.
+What is expected has to be just the lexemes that the parser reads there. A change that is told is made in the text, which is read again; what
+is told of blocks and comments is looked for. A difference is printed, and its text is kept where the line names it.
 """
 import random
 import re
@@ -92,19 +91,6 @@ def broken(rng):
     while not found:
         found = place_of((put_in(rng) if rng.random() < 0.5 else fuzz.broken(rng, fuzz.Maker(rng).program())).encode())
     return found
-
-
-def sample():
-    text = fuzz.read(f"{fuzz.TOP}/examples/sample.kahn")
-    return text, ref.lex(text)
-
-
-def cut(number):
-    """The sample network up to the lexeme of that number, with one behind that can't stand there."""
-    text, lexemes = sample()
-    before = lexemes[:number]
-    wrong = next(lexeme for word, lexeme in CLASSES.items() if word not in may_stand(before))
-    return place_of(text[:before[-1][3] if before else 0] + f" {wrong[1]}".encode())
 
 
 def wrong_set(heading, text, lexemes, at):
@@ -196,8 +182,8 @@ def difference(ran, text, lexemes, at):
 
 
 def one(program, path, seed):
-    """(None, what may stand), or (what differs, the text's path). A negative seed is a place of the sample network."""
-    text, lexemes, at = broken(random.Random(seed)) if seed >= 0 else cut(-1 - seed)
+    """(None, what may stand), or (what differs, the text's path)."""
+    text, lexemes, at = broken(random.Random(seed))
     ran = fuzz.asked(program, fuzz.write(f"{path}.kahn", text))
     what = difference(ran, text, lexemes, at)
     return what, f"{path}.kahn" if what else [*HEADING.finditer(ran.stdout.decode())][-1][4]
@@ -208,5 +194,4 @@ def tell(given):
 
 
 if __name__ == "__main__":
-    places = [-1 - number for number in range(len(sample()[1]) + 1)]
-    sys.exit(fuzz.drive(one, count=250, others=places, pool=ProcessPoolExecutor, tell=tell))
+    sys.exit(fuzz.drive(one, count=250, pool=ProcessPoolExecutor, tell=tell))

@@ -185,9 +185,9 @@ class Threads(Room):
         """Whatever the quantum is, also after a long beginning by one; none if one thread alone may run, or values go round a ring, or from one
         process to many."""
         common.sys.path.append(f"{TOP}/bench")
-        import workloads
-        texts = {"four": workloads.farm(200_000, 4), "two": workloads.farm(200_000, 2), "late": workloads.serial(300_000, 200_000),
-                 "ring": workloads.ring(1_000), "star": workloads.star(2_000, 40)}
+        from workloads import made
+        texts = {"four": made("farm", 200_000, 4), "two": made("farm", 200_000, 2), "late": made("serial", 300_000, 200_000),
+                 "ring": made("ring", 1_000), "star": made("star", 2_000, 40)}
         self.put(**{f"{name}.kahn": text for name, text in texts.items()})
         reports = {name: self.ran(KAHN, "--workers", "1", "--bound", "100000000", f"{name}.kahn")[0] for name in texts}
         side = os.cpu_count() - 1
