@@ -13,16 +13,15 @@ import tempfile
 sys.dont_write_bytecode = True
 import workloads
 
-HERE = workloads.HERE
 SIZES = {"pipeline": 1_000_000, "sample": 200_000, "pipelines": 10_000, "arithmetic": 10_000_000}
 BOUND = str(2**48 - 1)
 # A peer: its tool, how it is built, and the words of a run before and behind the workload's name and size.
 PEERS = {
-    "Haskell's lists": ("ghc", ["ghc", "-v0", "-O2", "-outputdir", "ROOM/hs", "-o", "ROOM/haskell", f"{HERE}/beside.hs"], ["ROOM/haskell"], []),
-    "Go, room 1,024": ("go", ["go", "build", "-o", "ROOM/go", f"{HERE}/beside.go"], ["ROOM/go"], ["1024"]),
+    "Haskell's lists": ("ghc", ["ghc", "-v0", "-O2", "-outputdir", "ROOM/hs", "-o", "ROOM/haskell", f"{workloads.HERE}/beside.hs"], ["ROOM/haskell"], []),
+    "Go, room 1,024": ("go", ["go", "build", "-o", "ROOM/go", f"{workloads.HERE}/beside.go"], ["ROOM/go"], ["1024"]),
     "Go, no room": ("go", [], ["ROOM/go"], ["0"]),
-    "LuaJIT": ("luajit", [], ["luajit", f"{HERE}/beside.lua"], []),
-    "Lua": ("lua5.4", [], ["lua5.4", f"{HERE}/beside.lua"], []),
+    "LuaJIT": ("luajit", [], ["luajit", f"{workloads.HERE}/beside.lua"], []),
+    "Lua": ("lua5.4", [], ["lua5.4", f"{workloads.HERE}/beside.lua"], []),
 }
 
 

@@ -18,11 +18,9 @@ import os
 import re
 import sys
 
-HERE = os.path.dirname(os.path.dirname(os.path.abspath(__file__)))
-sys.path.append(f"{HERE}/tests")
-from common import text_of as read
+sys.path.append(f"{os.path.dirname(os.path.abspath(__file__))}/../tests")
+from common import TOP, text_of as read
 
-TOP = os.environ.get("TREE") or HERE
 BELOW = "// For the crates above."
 ITEM = re.compile(r"(?m)^pub (?:const |extern \"C\" )?(?:fn|struct|enum|trait|const|type) (\w+)")
 HEAD = re.compile(r"(?m)^(?:pub(?:\(\w+\))? )?(?:unsafe |const |extern \"C\" )*(fn|struct|enum|trait|impl|const|type)\b(?:<[^{]*?>)?\s+(.*)")

@@ -18,8 +18,6 @@ from common import TOP, Tried, text_of, write
 
 EDITORS = f"{TOP}/editors"
 
-PROGRAMS = list(texts.sections(f"{TOP}/checks/editors.txt"))
-
 
 def place_of(program, words):
     """The line and the column, which counts bytes, at which the words stand."""
@@ -51,7 +49,7 @@ def main(explain):
         if not shutil.which(editor):
             print(f"{editor} isn't there: what it shows of editors/ is not tried (Debian's package {package})")
             continue
-        for name, lines in PROGRAMS:
+        for name, lines in texts.sections(f"{TOP}/checks/editors.txt"):
             with tempfile.TemporaryDirectory() as folder:
                 os.symlink(explain, f"{folder}/kahn_explain")
                 program = text_of(write(f"{folder}/a program.kahn", lines[""] + "\n"))

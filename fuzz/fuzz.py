@@ -14,7 +14,7 @@ import shutil
 import subprocess
 import sys
 import tempfile
-from concurrent.futures import ThreadPoolExecutor
+from concurrent.futures import ProcessPoolExecutor
 
 sys.path.append(f"{os.path.dirname(os.path.abspath(__file__))}/../tests")
 import reference as ref
@@ -323,17 +323,17 @@ def kept(one, paths, room, seed):
     return what, more
 
 
-def drive(one, programs=1, count=150, pool=ThreadPoolExecutor, tell=tell_kinds):
+def drive(one, programs=1, count=150, tell=tell_kinds):
     """Runs a script of this folder by its words, PROGRAM .. [COUNT] [SEED], and gives its status. It tries `one(*programs, at, seed)` for
-    each seed: (None, what to tell of it) or (what differs, what leads there), which is printed. If something
-    failed its texts, in files whose names begin with `at`, are kept in their folder."""
+    each seed: (None, what to tell of it) or (what differs, what leads there), which is printed. If something failed its texts, in files whose names begin with
+    `at`, are kept in their folder."""
     words = sys.argv[1:]
     paths, numbers = [os.path.abspath(path) for path in words[:programs]], [int(it) for it in words[programs : programs + 2]]
     count, first = [*numbers, *(count, random.randrange(10**9))[len(numbers) :]]
     print(f"seed {first}", flush=True)
     room, given, failed = tempfile.mkdtemp(prefix="kahn-fuzz-"), [], 0
     seeds = range(first, first + count)
-    with pool(os.cpu_count()) as workers:
+    with ProcessPoolExecutor(os.cpu_count()) as workers:
         for seed, (what, more) in zip(seeds, workers.map(functools.partial(kept, one, paths, room), seeds, chunksize=8)):
             if what is None:
                 given.append(more)

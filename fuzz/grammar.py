@@ -8,7 +8,6 @@ is told of blocks and comments is looked for. A difference is printed, and its t
 import random
 import re
 import sys
-from concurrent.futures import ProcessPoolExecutor
 
 sys.dont_write_bytecode = True
 import fuzz
@@ -194,4 +193,4 @@ def tell(given):
 
 
 if __name__ == "__main__":
-    sys.exit(fuzz.drive(one, count=250, pool=ProcessPoolExecutor, tell=tell))
+    sys.exit(fuzz.drive(one, count=250, tell=tell))

@@ -23,8 +23,8 @@ def prefixes():
         yield f"the-first-{end}-bytes-of-the-counting-process", files
 
 
-def made():
-    """The rows of families.txt."""
+def rows():
+    yield from prefixes()
     for heading, parts in texts.sections(f"{TOP}/tests/families.txt"):
         name, _, loops = heading.partition(" | ")
         loops = [(it.split("=")[0], [int(value) for value in it.split("=")[1].split(",")]) for it in loops.split()]
@@ -37,8 +37,3 @@ def made():
                     files[file] = before + texts.expanded(parts[sign], values) + end
             files["words"] = texts.expanded(parts.get("$", ""), values).replace(" ", "\n")
             yield texts.valued(name, values).replace(" ", "-"), {file: text.encode() for file, text in files.items()}
-
-
-def rows():
-    yield from prefixes()
-    yield from made()

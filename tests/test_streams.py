@@ -2,16 +2,14 @@
 import contextlib
 import fcntl
 import os
-import re
 import socket
 import subprocess
 import time
 
 import common
-from common import TOP, Room, measured_well, read, text_of
+from common import TOP, Room, measured_well, text_of
 
 KAHN, LIVE, DRAW, EXPLAIN = (common.program(name) for name in common.NAMES)
-WHOLE = re.compile(r"(sum: input line \d+: (not a value: `x`; values are numbers, `true` and `false`|no such channel: `Q`; input channels: `A`)|end 1 sum: waits on A after 1|finished 1)\n")
 
 
 class Streams(Room):
@@ -50,15 +48,6 @@ class Streams(Room):
             packets = self.writes_of(words, text)
             self.same(f"{name}: writes", packets, "".join(packets).splitlines(keepends=True))
             self.same(f"{name}: something is said", packets != [])
-
-    def test_two_filters_share_standard_error(self):
-        self.put(lines="A: x\nQ: 1\n" * 5000)
-        with open(f"{self.folder}/error", "ab") as error, open(f"{self.folder}/lines", "rb") as one, open(f"{self.folder}/lines", "rb") as other:
-            runs = [subprocess.Popen([LIVE, "sum"], cwd=self.folder, stdin=it, stdout=subprocess.DEVNULL, stderr=error) for it in (one, other)]
-            for run in runs:
-                run.wait()
-        told = read(f"{self.folder}/error").decode(errors="replace").splitlines(keepends=True)
-        self.same("mixed lines", ([line for line in told if not WHOLE.fullmatch(line)], len(told)), ([], 20_004))
 
     def test_a_million_refused_lines(self):
         """In some seconds of processor time and 300 MB."""
