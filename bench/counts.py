@@ -14,6 +14,7 @@ import tempfile
 
 sys.dont_write_bytecode = True
 import workloads
+from common import Tried
 
 ROOM = 1.03
 # name: two sizes, the units of a size, and with how many workers, if not with one alone
@@ -41,17 +42,15 @@ def main(kahn, *words):
         print("there is no valgrind: nothing is counted\n1 passed, 0 failed")
         return 0
     rows = [line.split() for line in workloads.text_of("limits.txt").splitlines() if line.strip() and not line.startswith("#")]
-    most, failed, passed = {(name, int(workers)): float(most) for name, workers, most in rows}, 0, 0
+    most, tried = {(name, int(workers)): float(most) for name, workers, most in rows}, Tried()
     with tempfile.TemporaryDirectory() as room:
         for name in [word for word in words if not word.startswith("--")] or WORKLOADS:
             for workers in WORKLOADS[name][3:] or (1,):
                 found = counted(kahn, name, workers, room)
-                good = "--limits" in words or found <= most[name, workers] * ROOM
-                passed, failed = passed + good, failed + (not good)
-                print(f"{name} {workers} {found:.1f}" if good else f"FAILED {name} by {workers}: {found:.1f} instructions, and {most[name, workers]} before", flush=True)
-    if "--limits" not in words:
-        print(f"{passed} passed, {failed} failed")
-    return 1 if failed else 0
+                print(f"{name} {workers} {found:.1f}", flush=True)
+                if "--limits" not in words:
+                    tried.same(f"{name} by {workers}: {found:.1f} instructions, and {most[name, workers]} before", found <= most[name, workers] * ROOM)
+    return 0 if "--limits" in words else tried.finish()
 
 
 if __name__ == "__main__":

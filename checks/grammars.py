@@ -19,7 +19,7 @@ from common import TOP, Tried, text_of, write
 VIM = {"keyword": "kahnKeyword", "name": "kahnName", "number": "kahnNumber", "sign": "kahnSign", "comment": "kahnComment"}
 TEXTMATE = {"keyword": "keyword.control.kahn", "name": "variable.other.kahn", "number": "constant.numeric.kahn",
             "sign": "punctuation.kahn", "comment": "comment.block.kahn"}
-ODD = "Begin comment: while; COMMENT 7; Integer i7, input_2; x := 7end <>-1¬true<=commentary >=x*y\n  comment over\n  lines with begin and 12;\nend\n"
+ODD = text_of(f"{TOP}/checks/grammars.txt")
 PAGE = " ".join(text_of(f"{TOP}/docs/language.md").split())
 KEYWORDS = re.search(r"any letter case is a keyword: `([a-z ]+)`", PAGE)[1].split()
 SIGNS = re.findall(r"`([^`]+)`", re.search(r"\*\*Signs\*\* are (.*?) and the character U\+00AC", PAGE)[1])

@@ -78,7 +78,7 @@ def stopped_wrongly(files, words, report):
     return wanted.stopped(report) if wanted.stopped else "the run isn't stopped by its bound"
 
 
-def tasks_of(name, files, folder):
+def tasks_of(program, name, files, folder):
     """A row's runs, in a folder of its own: (name with the words, files, the command, its folder)."""
     os.mkdir(folder)
     for file in {"program.kahn", "input"} & set(files):
@@ -89,19 +89,18 @@ def tasks_of(name, files, folder):
     is_told = "--workers" in words or "--quantum" in words or int(files.get("status", 0)) in (1, 2)
     for way in [[]] if is_told else WAYS:
         given = [*words.splitlines(), *way]
-        yield " ".join([name, *given]), files, [*limited, "PROGRAM", "program.kahn", *(["--input", "input"] if "input" in files else []), *given], folder
+        yield " ".join([name, *given]), files, [*limited, program, "program.kahn", *(["--input", "input"] if "input" in files else []), *given], folder
 
 
-def run(program, task, tried):
+def run(task, tried):
     """Runs a row in a way."""
     name, files, words, folder = task
-    given = [program if word == "PROGRAM" else word for word in words]
-    ran = subprocess.run(given, cwd=folder, stdin=subprocess.DEVNULL, capture_output=True, timeout=600)
+    ran = subprocess.run(words, cwd=folder, stdin=subprocess.DEVNULL, capture_output=True, timeout=600)
     status = int(files.get("status", 0))
     is_open = status == 3 and "report" not in files
     wanted = status, b"" if is_open else files.get("report", b""), files.get("fault", b"")
     tried.same(name, (ran.returncode, b"" if is_open else ran.stdout, ran.stderr), wanted)
-    wrong = is_open and stopped_wrongly(files, given, ran.stdout)
+    wrong = is_open and stopped_wrongly(files, words, ran.stdout)
     if wrong:
         tried.fail(f"{name}: report is {ran.stdout[:400]!r}: {wrong}")
 
@@ -110,7 +109,7 @@ def try_rows(program, work, only, tried):
     """Runs all rows, or those that have the word in their names."""
     every = [(name, files) for name, files in [*kept_rows(), *table_rows(), *words_rows(), *families.rows()] if only in name]
     tried.same("files that no row has, and rows without a program", [name for name, files in every if set(files) - FILES or "program.kahn" not in files], [])
-    tasks = [task for number, (name, files) in enumerate(every) if "program.kahn" in files for task in tasks_of(name, files, f"{work}/{number}")]
+    tasks = [task for number, (name, files) in enumerate(every) if "program.kahn" in files for task in tasks_of(program, name, files, f"{work}/{number}")]
     with ThreadPoolExecutor(os.cpu_count()) as pool:
-        list(pool.map(lambda task: run(program, task, tried), tasks))
+        list(pool.map(lambda task: run(task, tried), tasks))
     print(f"{len(every)} rows")

@@ -69,13 +69,6 @@ class Memory(Room):
 
         self.growths(" ".join(map(os.path.basename, [runner, *words])), [runner, *words], judged, workers, enough)
 
-    def growths_of_held(self, program, workers, quantum):
-        """A held run may take just as many events as the run has in all its parts, and nothing that is refused stops it."""
-        words = [program, "--workers", str(workers), "--quantum", str(quantum)]
-        whole, _, _ = self.ran(KAHN, *words)
-        kinds = {(whole, "", 0): "alike", (whole, "again\n", 0): "stopped"}
-        self.growths(f"held {' '.join(words)}", [CROWD, "held", *words, "--bound", events(whole)], lambda *given: kinds.get(given), workers)
-
     def counted(self, *words):
         """How many growths a run has."""
         mark = f"{self.folder}/growths"
@@ -97,10 +90,14 @@ class Memory(Room):
             self.growths_of_run(CROWD if HAS_CROWD else KAHN, program, workers, quantum)
 
     def test_held_runs(self):
+        """A held run may take just as many events as the run has in all its parts, and nothing that is refused stops it."""
         if not HAS_CROWD:
             self.skipTest("there is no kahn_crowd")
+        whole, _, _ = self.ran(KAHN, "copies.kahn")
+        kinds = {(whole, "", 0): "alike", (whole, "again\n", 0): "stopped"}
         for workers, quantum in itertools.product((1, 2, 8), (1, 1000)):
-            self.growths_of_held("copies.kahn", workers, quantum)
+            words = ["held", "copies.kahn", "--workers", str(workers), "--quantum", str(quantum), "--bound", events(whole)]
+            self.growths(" ".join(words), [CROWD, *words], lambda *given: kinds.get(given), workers)
 
     def test_parts_of_a_live_run(self):
         """The first part may take just as many events as the run has. A blank line begins the next, and one more comes at the end. An input

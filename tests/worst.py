@@ -58,6 +58,5 @@ def try_worst(paths, folder, only, tried):
     cases = [(name, case) for name, case in texts.sections(f"{TOP}/tests/worst.txt") if only in name]
     with concurrent.futures.ThreadPoolExecutor(os.cpu_count()) as pool:
         for line, wrong, good in itertools.chain.from_iterable(pool.map(lambda it: try_case(*it, paths, folder), cases)):
-            print(line if good else f"FAILED {line}: {wrong}", flush=True)
-            tried.passed += good
-            tried.failed += not good
+            print(line, flush=True)
+            tried.same(f"{line}: {wrong}", good)
