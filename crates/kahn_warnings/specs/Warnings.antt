@@ -142,10 +142,6 @@ program_warnings t = flat_map (declaration_warnings t.instances.items) t.declara
 abbrev pub by_layout : Span → List Warning
 by_layout at = warned (Some Beside) (Some at)
 
--- what is warned of in a program of this text, by its comments and its tree
-abbrev pub AreTreeWarnings : List ℕ → Program → List Warning → Type 0
-AreTreeWarnings text t ws = (comments : List Warning) × AreCommentWarnings text comments × (ws ≡ comments ++ program_warnings t)
-
--- and all, with such statements
+-- what is warned of in a program of this text: by its comments, by its tree, and such statements
 abbrev pub AreWarnings : List ℕ → Program → List Warning → Type 0
-AreWarnings text t ws = (known : List Warning) × AreTreeWarnings text t known × (spans : List Span) × (ws ≡ known ++ flat_map by_layout spans)
+AreWarnings text t ws = (comments : List Warning) × AreCommentWarnings text comments × (spans : List Span) × (ws ≡ (comments ++ program_warnings t) ++ flat_map by_layout spans)

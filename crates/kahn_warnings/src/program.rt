@@ -1,7 +1,7 @@
 //! All that is warned of in a program.
 
 ghost use Rattle.std.specs.Prelude.{◌≡◌, ◌++◌, IfOk, flat_map};
-ghost use Rattle.kahn_warnings.specs.Warnings.{AreTreeWarnings, AreWarnings, bare_kind, body_warnings, by_layout, declaration_warnings, endless_kind, first_standing, first_unreached, idle_kind, list_warnings, statement_warnings};
+ghost use Rattle.kahn_warnings.specs.Warnings.{AreWarnings, bare_kind, body_warnings, by_layout, declaration_warnings, endless_kind, first_standing, first_unreached, idle_kind, list_warnings, statement_warnings};
 
 use crate::comments::comment_warnings;
 use crate::constants::{constant_of, is_true};
@@ -135,17 +135,6 @@ fn add_declaration(
     }
 }
 
-/// All that is warned of in a program of this text, by its comments and its tree.
-fn tree_warnings(alloc: Global, program: &Program, text: &str) -> Result<Vec<Warning>, NoMemory>
-    ensures { IfOk result (λ ws. AreTreeWarnings text.now program.now ws.items) }
-{
-    let mut warnings = comment_warnings(alloc, text)?;
-    for declaration in &program.declarations {
-        add_declaration(&mut warnings, alloc, &program.instances, declaration)?;
-    }
-    Ok(warnings)
-}
-
 /// Adds a warning of each part.
 fn add_misplaced(warnings: &mut Vec<Warning>, spans: &[Span]) -> Result<(), AllocError>
     ensures { IfOk result (λ _. warnings.new.items ≡ warnings.old.items ++ flat_map by_layout spans.now) }
@@ -161,7 +150,10 @@ fn add_misplaced(warnings: &mut Vec<Warning>, spans: &[Span]) -> Result<(), Allo
 pub fn warnings(alloc: Global, program: &Program, text: &str) -> Result<Vec<Warning>, NoMemory>
     ensures { IfOk result (λ ws. AreWarnings text.now program.now ws.items) }
 {
-    let mut warnings = tree_warnings(alloc, program, text)?;
+    let mut warnings = comment_warnings(alloc, text)?;
+    for declaration in &program.declarations {
+        add_declaration(&mut warnings, alloc, &program.instances, declaration)?;
+    }
     let spans = misplaced(alloc, text, program)?;
     add_misplaced(&mut warnings, &spans)?;
     Ok(warnings)

@@ -19,7 +19,8 @@ fn places_of(alloc: Global, story: &Story<'_>, reason: &Reason) -> Result<Vec<Sp
     }
     match reason.end.outcome {
         Outcome::Waits(channel) if channel < network.channels() => {
-            channel_waits(alloc, network, instance, channel)
+            let (text, lexemes) = (story.program, story.lexemes);
+            channel_waits(alloc, network, text, lexemes, instance, channel)
         }
         Outcome::Faulted(kind) => {
             fault_places(alloc, kind, &network.instance(instance).process.statements)

@@ -2,6 +2,7 @@
 
 use kahn_chain::{Cause, Reason};
 use kahn_streams::{Input, Network, Verdict};
+use kahn_syntax::Lexeme;
 use std::alloc::{AllocError, Global};
 
 /// What a run is told by.
@@ -11,6 +12,8 @@ pub(crate) struct Story<'a> {
     pub path: &'a str,
     /// The program text.
     pub program: &'a str,
+    /// Its lexemes.
+    pub lexemes: &'a [Lexeme],
     /// Its network.
     pub network: &'a Network,
     /// What it was fed, where that is known.

@@ -14,6 +14,7 @@ use itoa::Buffer;
 use kahn_chain::reasons;
 use kahn_marks::add;
 use kahn_streams::{Answer, Input, Network, Verdict};
+use kahn_syntax::{SyntaxFault, lex};
 use std::alloc::{AllocError, Global};
 
 /// Adds the last line of the report of an answer.
@@ -64,9 +65,15 @@ fn told(
     ensures { IfOk result (IsExplained network.now answer.now) }
 {
     let reasons = reasons(alloc, network, answer.verdict, &answer.ends)?;
+    let lexemes = match lex(alloc, program) {
+        Ok(lexemes) => lexemes,
+        Err(SyntaxFault::NoMemory) => return Err(AllocError),
+        Err(_) => Vec::new(alloc),
+    };
     let story = Story {
         path,
         program,
+        lexemes: &lexemes,
         network,
         fed,
         verdict: answer.verdict,

@@ -1,6 +1,6 @@
 use Rattle.std.proofs.Common.{arith, append-nil, sym}
 use Rattle.std.proofs.lemmas.Grind.{common_steps}
-use Rattle.kahn_warnings.proofs.program.tree_warnings.Goals as goal
+use Rattle.kahn_warnings.proofs.program.warnings.Goals as goal
 
 pub loop-declaration-init : goal.loop-declaration-init
 loop-declaration-init c = (c.in_ok-warnings.warnings.items, c.in_ok-warnings.ensures, sym (append-nil c.in_ok-warnings.warnings.items))
@@ -13,4 +13,4 @@ loop-declaration-preserved c =
 pub returns : goal.returns
 returns c =
     let (comments, are, so_far) = c.loop-declaration.invariant in
-    (comments, are, grind (arith, common_steps, so_far))
+    (comments, are, c.deref-2.result.now, grind (arith, common_steps, so_far, c.in_ok-add_misplaced.ensures))

@@ -3,7 +3,7 @@ use Rattle.std.proofs.Common.{◌≡◌, ◌++◌, List, flat_map, take}
 use Rattle.kahn_warnings.specs.Comments.{AreCommentWarnings}
 use Rattle.kahn_warnings.specs.Warnings.{declaration_warnings}
 use Rattle.kahn_warnings.specs.declared.warning.Warning.{Warning}
-use Rattle.kahn_warnings.proofs.program.tree_warnings.Given as goal
+use Rattle.kahn_warnings.proofs.program.warnings.Given as goal
 
 abbrev pub invariant-loop-declaration : goal.invariant-loop-declaration
 invariant-loop-declaration l =
