@@ -8,7 +8,7 @@
   try all        the gate: reads the texts, proves every crate with its tests and must-fail edits, and tries the programs that this left
 
 Changed is what differs from the main line: from the merge base with origin/main or main, or from the commit that TRY_BASE names. Each part
-ends with a line "N passed, M failed", and the last line adds these up. A part that fails doesn't stop the others.
+of checks/parts.txt ends with a line "N passed, M failed", and the last line adds these up. One that fails doesn't stop the others.
 """
 import concurrent.futures
 import os
@@ -94,7 +94,7 @@ def programs(is_gate=False):
     other = "" if is_gate else stand_in()
     os.environ.setdefault("SEED", "1")
     os.environ.setdefault("KAHN_CROWD", BUILT["KAHN_CROWD"])
-    beside({**PARTS["quick"], **PARTS["programs"], **(PARTS["crowd"] if os.access(os.environ["KAHN_CROWD"], os.X_OK) else {})})
+    beside({**PARTS["programs"], **PARTS["quick"], **(PARTS["crowd"] if os.access(os.environ["KAHN_CROWD"], os.X_OK) else {})})
     print(other, end="\n" * bool(other))
 
 

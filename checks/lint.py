@@ -23,7 +23,6 @@ LONG_CLAUSE, LONG_BODY, LONG_FILE = 160, 40, 500
 CLAUSE = re.compile(r"^ *(?:requires|ensures|(?:pub )?ghost \w+(?: =|:))[^{\n]*\{", re.M)
 FUNCTION = re.compile(r"^( *)(?:pub(?:\([a-z]+\))? )?(?:unsafe )?fn (\w+)")
 PUBLIC = re.compile(r"^ *pub (?:unsafe )?(fn|struct|enum|trait|type|const|static) (\w+)")
-TAKEN = re.compile(r"^ *(?:ghost |pub )?use Rattle\.kahn_\w+\.[\w.]*\.\{[^}]*◌", re.M)
 DEFINED = re.compile(r"^(?: *abbrev pub |(?:abbrev |unfoldable )?(?:pub )?(?:record |data )?)([^\s:(={]+)(?: [^=]*)?:")
 SOURCES, SPECS, PROOFS = "src/**/*.rt", "specs/**/*.antt", "proofs/**/*.antt"
 
@@ -106,13 +105,6 @@ def names_twice():
     return (f"{name}: {', '.join(where)}" for name, where in sorted(places.items()) if len(where) > 1)
 
 
-def strange_operators():
-    """Operators of the library that a clause or a definition takes from a file of ours, at which rt ci stops and rt check doesn't."""
-    for path, text in files(SOURCES, SPECS):
-        for found in TAKEN.finditer(text):
-            yield f"{path}:{line_of(text, found.start())}: take it from Rattle.std.specs.Prelude"
-
-
 def unfit_edits():
     """Must-fail edits that can't be applied: what is old is one line, and stands once in the file."""
     for path in sorted(glob.glob(f"{TOP}/crates/*/must-fail/*.edit") + glob.glob(f"{TOP}/checks/edits/*/*.edit")):
@@ -145,7 +137,6 @@ PARTS = {
     "files over 500 lines": long_files,
     "sources and definitions without a head": without_head,
     "public items without words": without_words,
-    "operators that clauses and definitions take from a file of ours": strange_operators,
     "must-fail edits that can't be applied": unfit_edits,
     "files in another layout than rt fmt's": not_laid_out,
 }
