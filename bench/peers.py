@@ -2,8 +2,8 @@
 
     peers.py KAHN [--runs N]      KAHN is the program; nine runs, or N
 
-What isn't on the machine is left out: go, ghc, luajit, lua5.4 (Debian's packages golang, ghc, luajit, lua5.4). What each prints
-for a workload must be what kahn prints for it, but for the ends of its processes.
+What isn't on the machine is left out: go, ghc, luajit, lua5.4, pypy3 (Debian's packages golang, ghc, luajit, lua5.4, pypy3). What
+each prints for a workload must be what kahn prints for it, but for the ends of its processes.
 """
 import shutil
 import subprocess
@@ -22,6 +22,7 @@ PEERS = {
     "Go, no room": ("go", [], ["ROOM/go"], ["0"]),
     "LuaJIT": ("luajit", [], ["luajit", f"{workloads.HERE}/beside.lua"], []),
     "Lua": ("lua5.4", [], ["lua5.4", f"{workloads.HERE}/beside.lua"], []),
+    "PyPy": ("pypy3", [], ["pypy3", f"{workloads.HERE}/beside.py"], []),
 }
 
 
