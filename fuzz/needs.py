@@ -1,0 +1,122 @@
+"""Random networks: what their values need, as kahn_explain tells it, against runs of kahn.
+
+    needs.py KAHN_EXPLAIN KAHN [COUNT] [SEED]     the same seed makes the same texts; without one it is chosen at random
+
+A value of an output, of a print stream or of a channel between processes is chosen. kahn runs the network on inputs that are cut to the
+numbers of values told: the value comes and is the same. With one value less of one of them it doesn't come. In each run in which it comes,
+each process has done the events told, and with a bound of one event less than all of them it doesn't come. The row of the value in the table
+of its line says the same, and a table of a run that finished has a row for each value; the place after the last never comes. A difference is
+printed, and its texts are kept.
+"""
+import re
+import subprocess
+import sys
+
+sys.dont_write_bytecode = True
+import causes
+import fuzz
+
+REPLY = re.compile(r"(.+):(\d+) = (\S+) needs (.+)\nevents of (.+)\n\Z")
+STREAM = re.compile(r"(?m)^(?:print (\d+) (\w+)|(\w+)):(.*)$")
+ENDS = re.compile(r"(?m)^end (\d+) (\w+): .* after (\d+)$")
+BOUND, MORE = 3000, 100000  # of the run that is asked about, and of one on inputs that are cut
+
+
+class Trial:
+    """A network with its texts in a folder, and the programs."""
+
+    def __init__(self, explain, kahn, at, seed):
+        self.explain, self.kahn, self.at = explain, kahn, at
+        self.text, _, self.checked, inputs, _, self.rng = causes.case(seed)
+        self.inputs = {name: list(inputs.get(c, ())) for c, (name, _, role, *_) in enumerate(self.checked.channels) if role == "input"}
+        self.inner = [name for name, _, role, *_ in self.checked.channels if role == "inner"]
+        fuzz.write(self.at + ".kahn", self.text)
+
+    def run(self, program, inputs, *words):
+        lines = (f"{name}: {' '.join(str(v).lower() for v in values)}\n" for name, values in inputs.items())
+        source = fuzz.write(self.at + ".input", "".join(lines))
+        return subprocess.run([program, self.at + ".kahn", "--input", source, "--workers", "1", *words], capture_output=True, text=True, timeout=600)
+
+    def report(self, inputs, line, bound=BOUND):
+        """The values of a line in a run, the events of each process, and whether it finished."""
+        watch = ["--watch", line] if line in self.inner else []
+        out = self.run(self.kahn, inputs, "--bound", str(bound), *watch).stdout
+        values = next((it.group(4).split() for it in STREAM.finditer(out) if line in (it.group(1), it.group(3))), [])
+        return values, {f"{number} {name}": int(events) for number, name, events in ENDS.findall(out)}, "\nfinished " in "\n" + out
+
+    def lines(self):
+        """The lines with values, each with these."""
+        names = [name for name, _, role, *_ in self.checked.channels if role != "input"] + [str(p + 1) for p in range(len(self.checked.instances))]
+        return [(name, values) for name in names for values in [self.report(self.inputs, name)[0]] if values]
+
+
+def counts_of(words):
+    """The counts of a reply: for each name how many, and of how many."""
+    found = [re.fullmatch(r"(.+): (\d+)(?: of (\d+))?", word) for word in words.split(", ")] if words != "no values" else []
+    return {it.group(1): (int(it.group(2)), int(it.group(3)) if it.group(3) else None) for it in found}
+
+
+def cut_fault(trial, line, place, values):
+    """What differs on inputs that are cut to these numbers of values."""
+    whole = {name: trial.inputs[name][:values.get(name, (0,))[0]] for name in trial.inputs}
+    first = trial.report(trial.inputs, line)[0][:place]
+    came, ends, _ = trial.report(whole, line, MORE)
+    if came[:place] != first:
+        return f"not enough: {came[:place]}, not {first}", ends
+    for name in trial.inputs:
+        if values.get(name, (0,))[0] > 0:
+            less = {**trial.inputs, name: trial.inputs[name][:values[name][0] - 1]}
+            if len(trial.report(less, line, MORE)[0]) >= place:
+                return f"one value of {name} too many", ends
+    return None, ends
+
+
+def row_fault(trial, line, place, values, events, finished, count):
+    """What differs in the table of the line."""
+    ran = trial.run(trial.explain, trial.inputs, "--needs", line, "--bound", str(BOUND))
+    rows = [row.split(",") for row in ran.stdout.splitlines()]
+    if finished and (len(rows) - 1 != count or ran.returncode != 0):
+        return f"{len(rows) - 1} rows, not {count}; status {ran.returncode}"
+    told = {name: int(n) for name, n in zip(rows[0][2:], rows[place][2:]) if n != "0"}
+    if told != {name: n for name, (n, _) in {**values, **events}.items()}:
+        return f"row {place}: {told}"
+    return None
+
+
+def difference(trial):
+    lines = trial.lines()
+    if not lines:
+        return None, "no value"
+    line, all_values = trial.rng.choice(lines)
+    place = trial.rng.randint(1, len(all_values))
+    ran = trial.run(trial.explain, trial.inputs, "--needs", f"{line}:{place}", "--bound", str(BOUND))
+    reply = REPLY.match(ran.stdout)
+    if not reply or ran.returncode != 0 or reply.group(2) != str(place) or reply.group(3) != all_values[place - 1]:
+        return f"--needs {line}:{place}: {ran.stdout!r}, {ran.stderr!r}, status {ran.returncode}", None
+    values, events = counts_of(reply.group(4)), counts_of(reply.group(5))
+    _, whole, finished = trial.report(trial.inputs, line)
+    fault, ends = cut_fault(trial, line, place, values)
+    if fault:
+        return f"--needs {line}:{place}: {fault}", None
+    for name, (count, of) in events.items():
+        if ends[name] < count or of != (whole[name] if finished else None):
+            return f"--needs {line}:{place}: events of {name}: {count} of {of}; {ends[name]}, {whole[name]}", None
+    if len(trial.report(trial.inputs, line, sum(n for n, _ in events.values()) - 1)[0]) >= place:
+        return f"--needs {line}:{place}: an event too many", None
+    fault = row_fault(trial, line, place, values, events, finished, len(all_values))
+    if fault:
+        return f"--needs {line}: {fault}", None
+    if finished:
+        ran = trial.run(trial.explain, trial.inputs, "--needs", f"{line}:{len(all_values) + 1}", "--bound", str(BOUND))
+        if " never comes" not in ran.stdout or ran.returncode != 0:
+            return f"--needs {line}:{len(all_values) + 1}: {ran.stdout!r}, status {ran.returncode}", None
+    return None, "print" if line.isdigit() else "inner" if line in trial.inner else "output"
+
+
+def one(explain, kahn, at, seed):
+    what, kind = difference(Trial(explain, kahn, at, seed))
+    return what, kind if what is None else at + ".kahn"
+
+
+if __name__ == "__main__":
+    sys.exit(fuzz.drive(one, programs=2))
