@@ -5,7 +5,7 @@ import { indexAt } from "./places.js";
 
 // Each form of words, and what stands where then: `at` is the place of the change, `here` the lexeme there.
 const FORMS = [
-  [/^fix: replace `([^`]+)` with `([^`]+)`(?: at (\d+):(\d+))?$/, ([, old, put], at) => ({ from: at, to: at + old.length, text: put })],
+  [/^fix: replace `(`?[^`]+`?)` with `([^`]+)`(?: at (\d+):(\d+))?$/, ([, old, put], at) => ({ from: at, to: at + old.length, text: put })],
   [/^fix: insert `([^`]+)` (?:after|before) `[^`]+`(?: at (\d+):(\d+))?$/, ([, put], at) => ({ from: at, to: at, text: put })],
   [/^fix: remove `([^`]+)`(?: at (\d+):(\d+))?$/, ([, old], at) => ({ from: at, to: at + old.length, text: "" })],
 ];
