@@ -120,14 +120,12 @@ IsTableOf counts program input config x text more = (t : Program) × (lists : Li
 
 -- what is told, and what beside it, of what is asked for
 abbrev pub IsSheet : Sheet → List ℕ → List ℕ → List ℕ → Config → Told → List ℕ → List ℕ → Type 0
-IsSheet sheet.Histories word program input config x text more = IsTableOf false program input config x text more
-IsSheet sheet.Counts word program input config x text more = IsTableOf true program input config x text more
+IsSheet (sheet.Table counts) word program input config x text more = IsTableOf counts program input config x text more
 IsSheet sheet.Needs word program input config x text more = AreNeedsTold word program input config x text × (more ≡ [])
 
 -- or it asks for nothing
 abbrev pub IsNoSheet : Sheet → List ℕ → List ℕ → Type 0
-IsNoSheet sheet.Histories word program = ⊥
-IsNoSheet sheet.Counts word program = ⊥
+IsNoSheet (sheet.Table counts) word program = ⊥
 IsNoSheet sheet.Needs word program = IsUnaskedOf word program
 
 -- what goes out, and beside it with the notes; or there why the program text or the word is refused
