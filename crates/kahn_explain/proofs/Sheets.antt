@@ -7,7 +7,6 @@ use Rattle.kahn_streams.specs.declared.config.Config.{Config}
 use Rattle.kahn_streams.specs.declared.fault.RunFault.TheVariants.{NoMemory}
 use Rattle.kahn_fault.specs.declared.work.WorkFault.{WorkFault}
 use Rattle.kahn_fault.specs.declared.work.WorkFault.TheVariants.{Syntax, Check, Text, Run, Write}
-use Rattle.kahn_why.specs.declared.why.told.Told.{Told}
 use Rattle.kahn_why.specs.inner.Told.{HasRefused, HasWritten, IsAdmitted}
 use Rattle.kahn_why.specs.declared.explaining.Admitted.{Admitted}
 use Rattle.kahn_why.specs.declared.explaining.Came.{Came}
@@ -15,7 +14,7 @@ use Rattle.kahn_why.specs.declared.explaining.Came.TheVariants.{Stopped, Refused
 use Rattle.kahn_why.proofs.Parts.{are_allowed}
 use Rattle.kahn_explain.specs.Histories.{IsUntraced}
 use Rattle.kahn_explain.specs.Needing.{IsUnasked}
-use Rattle.kahn_explain.specs.Running.{HasReplied, IsSheet, IsTableOf, Replies}
+use Rattle.kahn_explain.specs.Running.{HasReplied, Replies}
 use Rattle.kahn_explain.specs.inner.Told.{HasPut, IsNoReply, IsReplyFor, IsTableMade, notes_for, told_beside}
 use Rattle.kahn_explain.specs.declared.needing.asked.AskFault.{AskFault}
 use Rattle.kahn_explain.specs.declared.replying.Reply.{Reply}
@@ -82,20 +81,19 @@ replies_of kind word path program input config strict notes x came =
     Replies kind word path program input config strict came (string_bytes x.text) (notes_for came notes ++ string_bytes x.words)
 
 -- a table
-pub table_for : (kind : Sheet) (counts : Bool) (word : List ℕ) (it : Admitted) (input : List ℕ) (config : Config) (r : Result Reply WorkFault)
-    → ((program : List ℕ) (x : Told) (text more : List ℕ) → IsTableOf counts program input config x text more → IsSheet kind word program input config x text more)
+pub table_for : (counts : Bool) (word : List ℕ) (it : Admitted) (input : List ℕ) (config : Config) (r : Result Reply WorkFault)
     → MatchResult r (IsTableMade counts it.network input config) (IsUntraced it.network input config)
-    → MatchResult r (IsReplyFor kind word it input config) (IsUntraced it.network input config)
+    → MatchResult r (IsReplyFor (sheet.Table counts) word it input config) (IsUntraced it.network input config)
 unfolding replies_of
-table_for kind counts word it input config (Ok x) same (run, e, (lists, stands, ran), is, told, came, words) = λ path program strict on.
-    subst (replies_of kind word path program input config strict (string_bytes it.notes) x) (sym came) (
+table_for counts word it input config (Ok x) (run, e, (lists, stands, ran), is, told, came, words) = λ path program strict on.
+    subst (replies_of (sheet.Table counts) word path program input config strict (string_bytes it.notes) x) (sym came) (
       string_bytes it.notes,
       string_bytes x.words,
       are_allowed path program strict it on,
-      same program e.told (string_bytes x.text) (string_bytes x.words) (it.network, lists, run, e, on.checked, stands, ran, is lists config ran, told, refl, words),
+      (it.network, lists, run, e, on.checked, stands, ran, is lists config ran, told, refl, words),
       refl,
     )
-table_for kind counts word it input config (Err f) same why = why
+table_for counts word it input config (Err f) why = why
 
 -- why a word asks for nothing
 pub refusal_for : (word : List ℕ) (it : Admitted) (input : List ℕ) (config : Config) (f : AskFault) (r : Result Reply WorkFault) → IsUnasked it.network word f

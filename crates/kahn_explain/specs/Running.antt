@@ -1,6 +1,6 @@
 -- Believed. A run of the program, from the bytes of the two texts to the bytes that go out, those beside them and the exit status (this project's
 -- profile).
-use Rattle.std.specs.Prelude.{◌≡◌, ◌⊎◌, ◌++◌, ℕ, Bool, true, false, List, [], Option, Some, None, Result, Ok, Err, codes, string_bytes}
+use Rattle.std.specs.Prelude.{◌≡◌, ◌⊎◌, ◌++◌, ℕ, Bool, true, List, [], Option, Some, None, Result, Ok, Err, codes, string_bytes}
 use Rattle.std.specs.Io.KnownBytes.{Appends}
 use Rattle.std.specs.declared.alloc.Global.{Global}
 use Rattle.std.specs.declared.string.String.{String}
@@ -120,14 +120,12 @@ IsTableOf counts program input config x text more = (t : Program) × (lists : Li
 
 -- what is told, and what beside it, of what is asked for
 abbrev pub IsSheet : Sheet → List ℕ → List ℕ → List ℕ → Config → Told → List ℕ → List ℕ → Type 0
-IsSheet sheet.Histories word program input config x text more = IsTableOf false program input config x text more
-IsSheet sheet.Counts word program input config x text more = IsTableOf true program input config x text more
+IsSheet (sheet.Table counts) word program input config x text more = IsTableOf counts program input config x text more
 IsSheet sheet.Needs word program input config x text more = AreNeedsTold word program input config x text × (more ≡ [])
 
 -- or it asks for nothing
 abbrev pub IsNoSheet : Sheet → List ℕ → List ℕ → Type 0
-IsNoSheet sheet.Histories word program = ⊥
-IsNoSheet sheet.Counts word program = ⊥
+IsNoSheet (sheet.Table counts) word program = ⊥
 IsNoSheet sheet.Needs word program = IsUnaskedOf word program
 
 -- what goes out, and beside it with the notes; or there why the program text or the word is refused

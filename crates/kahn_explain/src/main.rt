@@ -49,9 +49,9 @@ fn wish_of(options: &ExplainOptions) -> Wish {
     } else if options.needs.is_some() {
         Wish::Sheet(Sheet::Needs)
     } else if options.trace {
-        Wish::Sheet(Sheet::Histories)
+        Wish::Sheet(Sheet::Table(false))
     } else if options.channels {
-        Wish::Sheet(Sheet::Counts)
+        Wish::Sheet(Sheet::Table(true))
     } else {
         Wish::Reasons
     }

@@ -24,10 +24,8 @@ use std::io::Write;
 /// Which sheet is asked for.
 #[derive(Clone, Copy)]
 pub(crate) enum Sheet {
-    /// A table of all that the channels carried.
-    Histories,
-    /// A table of how many values each channel carried.
-    Counts,
+    /// A table of a run: of how many values each channel carried, or else of all of them.
+    Table(bool),
     /// What values need.
     Needs,
 }
@@ -155,8 +153,7 @@ fn sheet_of(
 {
     let network = &it.network;
     match kind {
-        Sheet::Histories => table_of(alloc, path, program, network, text, config, false, all),
-        Sheet::Counts => table_of(alloc, path, program, network, text, config, true, all),
+        Sheet::Table(counts) => table_of(alloc, path, program, network, text, config, counts, all),
         Sheet::Needs => needs_of(alloc, it, text, config, word),
     }
 }
