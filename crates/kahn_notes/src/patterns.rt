@@ -3,7 +3,7 @@
 /// What stands there, and what is put in its place; the first is told with which the text is read past it. Capital letters stand for what
 /// is kept: `A` to `C` names, `O` the name of a channel that is written, `K` a kind, `D` a direction, `R` a role, `V` a word for `wait`,
 /// `S` one for `send`, `P` one that starts, `E` to `G` expressions, and `T` what stands there to the end of the line.
-pub(crate) const PATTERNS: [(&str, &str); 150] = [
+pub(crate) const PATTERNS: [(&str, &str); 154] = [
     // Values are taken and sent.
     ("A : = < - B", "A := wait(B)"),
     ("V A from B", "A := wait(B)"),
@@ -22,6 +22,7 @@ pub(crate) const PATTERNS: [(&str, &str); 150] = [
     ("S O , E", "send E on O"),
     ("S O : = E", "send E on O"),
     ("S O < - E", "send E on O"),
+    ("on A S E", "send E on A"),
     ("S O E", "send E on O"),
     ("O . S ( E )", "send E on O"),
     ("O ! E", "send E on O"),
@@ -42,6 +43,9 @@ pub(crate) const PATTERNS: [(&str, &str); 150] = [
     ("or else", "or"),
     ("andalso", "and"),
     ("orelse", "or"),
+    ("not =", "<>"),
+    ("mod ( E , F )", "(E) mod (F)"),
+    ("div ( E , F )", "(E) div (F)"),
     ("is", "="),
     ("x", "*"),
     ("times", "*"),
