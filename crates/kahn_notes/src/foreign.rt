@@ -6,7 +6,7 @@ use kahn_wanted::Spot;
 
 /// Words of other languages, the keyword in their place if the text goes on with it, and what is said of them wherever they stand.
 const FOREIGN: &str = "
-for until foreach | none | a loop is `while E do S`, or `repeat S`, which has no end
+for until foreach goto | none | a loop is `while E do S`, or `repeat S`, which has no end
 loop forever | repeat | a loop is `while E do S`, or `repeat S`, which has no end
 break exit continue | none | a loop ends where the test of its `while` is false
 return yield | none | a process has no result: `send E on C` gives a value to another one
@@ -14,7 +14,7 @@ elif elsif elseif | none | it is two words: `else if`
 otherwise | else | behind `if E then S` stands `else`
 int integers ints long short unsigned | integer | the kinds are `integer` and `logical`; one stands before its names
 bool boolean logicals booleans | logical | the kinds are `integer` and `logical`; one stands before its names
-var real float | none | the kinds are `integer` and `logical`; one stands before its names
+var real float string char array | none | the kinds are `integer` and `logical`; one stands before its names
 channels chan chans | channel | a channel is `integer channel C`
 inputs | input | an input is `integer input channel C`
 outputs | output | an output is `integer output channel C`

@@ -34,7 +34,7 @@ const ENDS: &str = "; ) ] } begin end else";
 
 /// The kinds, by what they are called elsewhere.
 const KINDS: &str = "
-int integer | integer
+int integer i32 i64 number | integer
 logical bool boolean | logical
 ";
 
