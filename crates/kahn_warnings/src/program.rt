@@ -52,13 +52,14 @@ fn first_standing(statements: &[Statement]) -> Option<Span>
     None
 }
 
-/// Where the first such statement stands behind one that never ends.
+/// Where the first such statement stands behind one that never ends. The last one isn't asked: blocks in blocks would be walked again at
+/// each level.
 fn first_unreached(statements: &[Statement]) -> Option<Span>
     ensures { result ≡ first_unreached statements.now }
 {
     let mut rest = statements;
     'statements: while let Some((first, behind)) = rest.split_first() {
-        if never_ends(first) {
+        if !behind.is_empty() && never_ends(first) {
             return first_standing(behind);
         }
         rest = behind;
