@@ -32,6 +32,7 @@ print | ; end else on | always | a value stands behind `print`: `print E`
 any | on | +operator +end | `on` stands behind the value of a `send`: `send E on C`; `print E` needs no channel
 any | in out input output channel integer logical wait not if ( | +true | an instance hands over channels and literals, by their places: `P(A, -1, true)`
 any | process | +statement | no process stands in the body of another one: all of them stand side by side
+any | send print | +value | `send` and `print` are statements, and give no value: `X := wait(C)` takes one
 any | channel | always | outside of processes `integer channel C` declares one; a process gets it by `integer in U` or `integer out W`
 any | in out | always | a keyword is no name, in any letter case: `in` and `out` stand behind a kind, `integer in U; integer out W`
 any | input output | always | a keyword is no name, in any letter case: `input` and `output` stand behind a kind, `integer input channel C`
@@ -41,7 +42,7 @@ any | name | +:= | a statement begins with `send`, `print`, `if`, `while`, `repe
 any | name number | +, +) -; | a comma stands between two arguments: `P(A, B)`
 any | number | +name -declaration | a name begins with a letter
 any | if | +operator -; | a choice among values is `if T then A else B`
-end | if while repeat do | always | an `end` stands alone: no word says what it ends
+end | if while repeat do process | always | an `end` stands alone: no word says what it ends
 any | if while repeat wait send print | +declaration | statements stand in processes alone
 any | if while repeat wait send print | +par | statements stand in processes alone
 any | if while repeat wait send print | +end -; | statements stand in processes alone
