@@ -97,4 +97,4 @@ HaveStreams h names (number ∷ numbers) rest =
 abbrev pub AreNumbered : HeldRun → List ℕ → Result (Vec ℕ Global) RunFault → Type 0
 AreNumbered h names (Ok numbers) = (is_wordless names ≡ false) × ((rest : List ℕ) × HaveStreams h names numbers.items rest × (is_wordless rest ≡ true))
 AreNumbered h names (Err f) = (f ≡ NoMemoryRun) ⊎ ((f ≡ UnknownWatch) × ((is_wordless names ≡ true)
-    ⊎ ((numbers : List ℕ) × (rest : List ℕ) × HaveStreams h names numbers rest × ((n : ℕ) → ¬ IsStreamOf h n (first_word rest)))))
+    ⊎ ((numbers : List ℕ) × (rest : List ℕ) × HaveStreams h names numbers rest × (0 < length (first_word rest)) × ((n : ℕ) → ¬ IsStreamOf h n (first_word rest)))))

@@ -21,4 +21,5 @@ pub returns-in_default : goal.returns-in_default
 returns-in_default c =
     let h = c.args.session.now.flow.run in
     let none = subst (λ (w : List ℕ). (n : ℕ) → IsStreamOf h n w → ⊥) c.first_word-word.ensures c.in_default.ensures in
-    inr (refl, inr (c.names.numbers.items, c.names.rest.now, c.names.invariant, none))
+    let some : 0 < length (first_word c.names.rest.now) = search rules in
+    inr (refl, inr (c.names.numbers.items, c.names.rest.now, c.names.invariant, some, none))
