@@ -11,9 +11,10 @@
 #   make page               makes the page release/kahn.html
 #   make package            makes the Debian package
 #   make edits [CRATE=name] tries the must-fail edits that the gate doesn't
+#   make pictures           draws the examples for docs/pictures, with Graphviz
 #   make bench              times of the workloads (bench/README.md)
 #   make install            installs the programs (PREFIX, DESTDIR)
-.PHONY: help check mine prove gate test programs release page package edits bench install
+.PHONY: help check mine prove gate test programs release page package edits pictures bench install
 help: ; @sed -n 's/^# \{0,1\}//p' Makefile
 check: ; ./try
 mine: ; ./try mine
@@ -25,5 +26,9 @@ release: page ; bash release/make.sh
 page: ; cd crates/kahn_web && rt check && bash ../../web/build.sh
 package: ; bash release/deb.sh
 edits: ; bash checks/edits.sh $(CRATE)
+SVG = dot -Tsvg -Nfontname=sans-serif -Efontname=sans-serif
+pictures:
+	for it in examples/*.kahn; do ./kahn_draw $$it | $(SVG) > docs/pictures/$$(basename $$it .kahn).svg; done
+	./kahn_draw examples/fibonacci.kahn --input /dev/null | $(SVG) > docs/pictures/fibonacci-run.svg
 bench: ; python3 bench/measure.py
 install: ; bash install.sh

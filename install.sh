@@ -14,11 +14,6 @@ top=$(CDPATH='' cd -- "$(dirname -- "${BASH_SOURCE[0]}")" && pwd)
 source "$top/release/program.sh"
 list=share/kahn/installed.sha256
 
-# usage: what stands above.
-usage() {
-  sed -n '2,/^set/s/^# \{0,1\}//p' "${BASH_SOURCE[0]}"
-}
-
 # refuse STATUS WORD..: says why nothing is done.
 refuse() {
   echo "install.sh: ${*:2}" >&2
@@ -98,7 +93,7 @@ uninstall=false
 given=()
 for word in "$@"; do
   case $word in
-    -h | --help) usage; exit ;;
+    -h | --help) sed -n '2,/^set/s/^# \{0,1\}//p' "${BASH_SOURCE[0]}"; exit ;;
     --uninstall) uninstall=true ;;
     -*) refuse 2 "$word is not known; --help tells what is" ;;
     *) given+=("$word") ;;

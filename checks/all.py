@@ -8,8 +8,7 @@
   try all        the gate: reads the texts, proves every crate with its tests and must-fail edits, and tries the programs that this left
 
 Changed is what differs from the main line: from the merge base with origin/main or main, or from the commit that TRY_BASE names. Each part
-of checks/parts.txt ends with a line "N passed, M failed", and the last line adds these up. One that fails doesn't stop the others.
-"""
+of checks/parts.txt ends with a line "N passed, M failed", and the last line adds these up. One that fails doesn't stop the others."""
 import concurrent.futures
 import os
 import re

@@ -2,17 +2,12 @@
 
 A public call is one of an item that a crate's `src/lib.rt` passes on by a `pub use` line above the line `// For the crates above.`; of
 a program it is any item that its other modules see. A definition is reached where such a clause names it, or a definition that is reached.
-Each file of specs/ says in its first line which it is, and stands accordingly:
-
-- `-- Believed. ..`: some definition in it is reached; it stands in `specs/`.
-- `-- Inner. ..`: none is, and only proofs and clauses below the surface read it; it stands in `specs/inner/`.
+A file of specs/ with one begins with `-- Believed. ..`; any other stands in specs/inner/, and begins with `-- Inner. ..`.
 
 The reading list of docs/meaning.md has just the files that the clauses of `kahn_report::work` reach, and names definitions that they reach.
 What docs/reading.md shows stands so in one of the files that it names: the lines of each block, in their order.
 
-With `--files CRATE::ITEM ..` it only tells which files those items reach, or all public ones, how many lines of definitions in each, what they
-are about, and the sum.
-"""
+With `--files CRATE::ITEM ..` it tells which files those items reach, or all public ones, with their lines of definitions and their subjects."""
 import glob
 import os
 import re
@@ -192,8 +187,7 @@ def shown():
     """The blocks of docs/reading.md, and those that stand in no file that it names: two lists of blocks."""
     page = read(f"{TOP}/docs/reading.md")
     texts = [read(f"{TOP}/{path}").split("\n") for path in set(re.findall(r"crates/[\w/]+\.(?:antt|rt)", page))]
-    blocks = [block.split("\n") for block in re.findall(r"(?m)(?:^ {4}.*\n)+", page)]
-    blocks = [[line[4:] for line in block if line] for block in blocks]
+    blocks = [[line[4:] for line in block.splitlines()] for block in re.findall(r"(?m)(?:^ {4}.*\n)+", page)]
 
     def stands(block, lines):
         rest = iter(lines)

@@ -1,5 +1,6 @@
 """The page in a headless Chromium or Firefox, which is told what to do over a web socket of this machine: by DevTools or by WebDriver BiDi."""
 import base64
+import contextlib
 import json
 import os
 import re
@@ -37,10 +38,8 @@ class Browser:
         return self
 
     def __exit__(self, *_):
-        try:
+        with contextlib.suppress(ProcessLookupError):
             os.killpg(self.process.pid, signal.SIGKILL)
-        except ProcessLookupError:
-            pass
         self.process.wait()
         self.folder.cleanup()
 
@@ -65,10 +64,9 @@ class Browser:
         """Takes what comes next."""
         if not select.select([self.socket], [], [], max(0, self.limit - time.monotonic()))[0]:
             raise TimeoutError("the browser gave no answer in time")
-        got = self.socket.recv(1 << 20)
+        self.kept += (got := self.socket.recv(1 << 20))
         if not got:
             raise TimeoutError("the browser ended")
-        self.kept += got
 
     def send(self, message):
         data = json.dumps(message).encode()

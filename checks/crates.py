@@ -3,8 +3,7 @@
 pages for those who change something name: each crate, each file of the crate that is named before it, each word of the sources has to be there.
 
 crates.py            whether all this is so; its last line says how much passed and failed
-crates.py --write    makes the list
-"""
+crates.py --write    makes the list"""
 import glob
 import os
 import re
@@ -76,8 +75,7 @@ def lost():
 
 def main(*words):
     if words == ("--write",):
-        write(LIST, made())
-        return 0
+        return not write(LIST, made())
     wrong = [] if os.path.exists(LIST) and read(LIST) == made() else ["crates/README.md: python3 checks/crates.py --write makes it anew"]
     wrong += (f"{name} isn't there" for name in lost())
     print(*(f"FAILED {line}" for line in wrong), sep="\n", end="\n" if wrong else "")

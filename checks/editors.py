@@ -3,8 +3,7 @@
     editors.py KAHN_EXPLAIN
 
 Vim is asked itself, and the extension for Visual Studio Code is run by Node.js with a part that plays the editor; if one isn't there
-(Debian's packages `vim` and `nodejs`) this is said, and nothing of it is tested.
-"""
+(Debian's packages `vim` and `nodejs`) this is said, and nothing of it is tested."""
 import json
 import os
 import shutil
@@ -21,8 +20,8 @@ EDITORS = f"{TOP}/editors"
 
 def place_of(program, words):
     """The line and the column, which counts bytes, at which the words stand."""
-    before = program[: program.index(words)]
-    return f"{before.count(chr(10)) + 1}:{len(before.rpartition(chr(10))[2].encode()) + 1}"
+    before = program[: program.index(words)].split("\n")
+    return f"{len(before)}:{len(before[-1].encode()) + 1}"
 
 
 def ran(folder, *words):

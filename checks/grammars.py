@@ -1,9 +1,7 @@
 """The grammars of editors/ on every example: each lexeme has to get the class that docs/language.md gives it.
 
-The lexemes are told apart by the lists of that page, its keywords and its signs, and not by the program. The grammar in TextMate's
-form is played by its rules: of the patterns that match the earliest is taken, of several there the first. That of Vim is asked of
-Vim itself, if it is there (Debian's package `vim`); if it isn't, this is said and nothing of it is tested.
-"""
+The lexemes are told apart by the lists of that page, and not by the program. The grammar in TextMate's form is played by its rules: of the
+patterns that match the earliest is taken, of several there the first. That of Vim is asked of Vim itself, if it is there."""
 import glob
 import json
 import os

@@ -4,8 +4,7 @@
 lint.py           the counts; a part with more than its limit fails, and so does one with less, until the limit is lowered
 lint.py --all     each place that is counted, too
 
-It reads src/, specs/ and proofs/ of each crate, and proves nothing. Where the toolchain is there, it asks that for the layout.
-"""
+It reads src/, specs/ and proofs/ of each crate, and proves nothing. Where the toolchain is there, it asks that for the layout."""
 import collections
 import glob
 import os
@@ -34,10 +33,6 @@ def files(*patterns):
             yield os.path.relpath(path, TOP), read(path)
 
 
-def line_of(text, at):
-    return text.count("\n", 0, at) + 1
-
-
 def long_clauses():
     for path, text in files(SOURCES):
         for found in CLAUSE.finditer(text):
@@ -47,7 +42,7 @@ def long_clauses():
                 at += 1
             length = len(" ".join(text[found.start() : at].split()))
             if length > LONG_CLAUSE:
-                yield f"{path}:{line_of(text, found.start())}: {length} characters"
+                yield f"{path}:{text.count(chr(10), 0, found.start()) + 1}: {length} characters"
 
 
 def body_from(lines, start, indent):
@@ -91,8 +86,7 @@ def without_head():
 
 def without_words():
     for path, lines, at, found in found_lines(PUBLIC, SOURCES):
-        before = [line.strip() for line in lines[:at] if not line.strip().startswith("#[")][-1:]
-        if not before or not before[0].startswith("///"):
+        if not "".join([line.strip() for line in lines[:at] if not line.strip().startswith("#[")][-1:]).startswith("///"):
             yield f"{path}:{at + 1}: {found[2]}"
 
 

@@ -1,7 +1,6 @@
 """The manual pages and the completions of three shells, each compared both ways with the help of its program.
 
-    manuals.py PROGRAM ..      each program by its path; its file is called as the program is
-"""
+    manuals.py PROGRAM ..      each program by its path; its file is called as the program is"""
 import os
 import re
 import subprocess
@@ -30,13 +29,9 @@ def plain(line):
 def paged(page):
     """The same of a manual page."""
     parts = dict(part.split("\n", 1) for part in page.split(".SH ")[1:])
-    options, statuses = [], []
-    for _, head, text in re.findall(r"(?m)^(\.TP)\n\.BI? ?(.*)\n(.*)$", parts["OPTIONS"].replace("\n.BR ", "\n.B ")):
-        words = re.findall(r"--?[\w-]+", plain(head))
-        value = re.search(r'" (\S+)"$', head)
-        options.append((" ".join(words), value[1] if value else "", plain(text)))
-    for head, text in re.findall(r"(?m)^\.TP\n\.B (\d)\n(.*)$", parts["EXIT STATUS"]):
-        statuses.append((head, plain(text)))
+    options = [(" ".join(re.findall(r"--?[\w-]+", plain(head))), "".join(re.findall(r'" (\S+)"$', head)), plain(text))
+               for head, text in re.findall(r"(?m)^\.TP\n\.BI? ?(.*)\n(.*)$", parts["OPTIONS"].replace("\n.BR ", "\n.B "))]
+    statuses = [(head, plain(text)) for head, text in re.findall(r"(?m)^\.TP\n\.B (\d)\n(.*)$", parts["EXIT STATUS"])]
     return plain(parts["DESCRIPTION"].split("\n")[0]), options, statuses
 
 

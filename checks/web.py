@@ -4,8 +4,7 @@
     web.py BROWSER PAGE KAHN KAHN_DRAW KAHN_EXPLAIN   runs the rows of checks/rows, the examples and what is refused, and tries the page
     web.py BROWSER PAGE --tries                       tries the page alone
     web.py BROWSER PAGE --opens                       opens the page, which shows a report at once
-    web.py BROWSER PAGE --pictures                    takes the pictures of the page in docs/pictures
-"""
+    web.py BROWSER PAGE --pictures                    takes the pictures of the page in docs/pictures"""
 import json
 import os
 import re
@@ -32,7 +31,7 @@ STEPPED = ["count", "squares", "filter", "double", "pipeline", "rates"]
 
 def cases():
     """Those rows whose words are a bound at most: (name, program, input, bound). A page has no limits of processor time."""
-    for name, files in [*rows.kept_rows(), *rows.table_rows(), *rows.families.rows()]:
+    for name, files in [*rows.kept_rows(), *rows.table_rows(), *rows.rule_rows()]:
         words = files.get("words", b"").decode().split()
         if words[:1] in ([], ["--bound"]) and len(words) in (0, 2) and "limits" not in files:
             try:

@@ -2,17 +2,16 @@
 
     causes.py KAHN_EXPLAIN KAHN [COUNT] [SEED]     the same seed makes the same texts; without one it is chosen at random
 
-Who waits on whom is read off the report's end lines and the wiring of reference.py. Whoever has gone as many waits onward as there are
-instances, and still waits on one of them, is in a ring, whose mending is told once. Both forms are compared: each cause once, with those
-that wait because of it, and each process (`--all`). What is said to be for ever is tried: the interpreter of reference.py runs the
-network on a longer input, and each such process has to end there as it did; if it has a fault, the place where that came has to be
-one of those that are told, or not told beside twenty others. The places of waits are read off the tree of reference.py. A difference is printed, and its texts are kept.
-"""
+Who waits on whom is read off the report's end lines and the wiring of reference.py, the places of waits off its tree. Whoever has gone as
+many waits onward as there are instances, and still waits on one of them, is in a ring, whose mending is told once. Both forms are compared:
+each cause once, with those that wait because of it, and each process (`--all`). What is said to be for ever is tried: reference.py runs the
+network on a longer input, and each such process has to end there as it did; if it has a fault, the place where that came has to be one of
+those that are told, or not told beside twenty others. A difference is printed, and its texts are kept."""
+import functools
 import random
 import re
 import sys
 
-sys.dont_write_bytecode = True
 import fuzz
 import reference as ref
 
@@ -130,10 +129,7 @@ def those(checked, found, one, several):
 
 def line_of(checked, text, inputs, ends, p):
     """What is said of an instance that hasn't ended, without the place of a deadlock."""
-    def who(z):
-        return named(checked, z)
-
-    word, channel, events = ends[p]
+    who, (word, channel, events) = functools.partial(named, checked), ends[p]
     if word == "wants more":
         return f"{who(p)} wants more, after {events} event{'' if events == 1 else 's'}"
     if channel is None:

@@ -2,8 +2,7 @@
 
     fuzz.py PROGRAM [COUNT] [SEED]    the same seed makes the same texts; without one it is chosen at random
 
-Each difference is printed, with the words of the command line; its texts are kept where these name them.
-"""
+Each difference is printed, with the words of the command line; its texts are kept where these name them."""
 import collections
 import functools
 import glob
@@ -249,9 +248,7 @@ def bytes_of(rng, text):
 def case(seed):
     rng = random.Random(seed)
     maker = Maker(rng)
-    text = maker.program()
-    source = maker.input()
-    form = rng.random()
+    text, source, form = maker.program(), maker.input(), rng.random()
     if form < 0.2:
         text = broken(rng, text)
     elif form < 0.45:

@@ -3,13 +3,12 @@
     grammar.py KAHN_EXPLAIN [COUNT] [SEED]     the same seed makes the same texts; without one it is chosen at random
 
 What is expected has to be just the lexemes that the parser reads there. A change that is told is made in the text, which is read again; what
-is told of blocks and comments is looked for. A difference is printed, and its text is kept where the line names it.
-"""
+is told of blocks and comments is looked for."""
+import contextlib
 import random
 import re
 import sys
 
-sys.dont_write_bytecode = True
 import fuzz
 import reference as ref
 
@@ -39,19 +38,15 @@ CODE = re.compile(rb":=|(?<![A-Za-z0-9_])wait[ \t\r\n]*\(|^[ \t\r]*(?:send|begin
 
 class Unlimited(ref.Parser):
     """The parser of the reference, for texts of any nesting."""
-
-    def opens(self):
-        pass
+    LEVELS = float("inf")
 
 
 def reads(lexemes):
     """How many lexemes the parser reads, or None if they are a program."""
     parser = Unlimited(lexemes, 0)
-    try:
-        parser.program()
-    except ref.Fault:
-        return parser.i
-    return None
+    with contextlib.suppress(ref.Fault):
+        return parser.program() and None
+    return parser.i
 
 
 def may_stand(before):
@@ -62,19 +57,16 @@ def may_stand(before):
 def fault_of(text):
     """The first fault of a text, or None."""
     try:
-        ref.tree_of(text)
+        return ref.tree_of(text) and None
     except ref.Fault as fault:
         return fault
-    return None
 
 
 def place_of(text):
     """The text, its lexemes and the number of the one at a fault of the grammar; None of other texts."""
     fault = fault_of(text)
-    if fault and fault.text in FAULTS:
-        lexemes = ref.lex(text)
-        return text, lexemes, sum(x[2] < fault.span[0] for x in lexemes)
-    return None
+    lexemes = ref.lex(text) if fault and fault.text in FAULTS else None
+    return lexemes and (text, lexemes, sum(x[2] < fault.span[0] for x in lexemes))
 
 
 def put_in(rng):
@@ -115,11 +107,9 @@ def wrong_set(heading, text, lexemes, at):
 def unclosed(text, lexemes):
     """The places of the blocks that are open behind lexemes."""
     open_ones = []
-    for what, value, begin, _ in lexemes:
-        if (what, value) == ("word", "begin"):
-            open_ones.append(ref.place(text, begin))
-        elif (what, value) == ("word", "end"):
-            open_ones = open_ones[:-1]
+    for word, value, begin, _ in lexemes:
+        open_ones += [ref.place(text, begin)] if (word, value) == ("word", "begin") else []
+        open_ones = open_ones[:-1] if (word, value) == ("word", "end") else open_ones
     return open_ones
 
 
@@ -188,9 +178,5 @@ def one(program, path, seed):
     return what, f"{path}.kahn" if what else [*HEADING.finditer(ran.stdout.decode())][-1][4]
 
 
-def tell(given):
-    print(f"{len(set(given)):6} different sets")
-
-
 if __name__ == "__main__":
-    sys.exit(fuzz.drive(one, count=250, tell=tell))
+    sys.exit(fuzz.drive(one, count=250, tell=lambda given: print(f"{len(set(given)):6} different sets")))

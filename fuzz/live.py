@@ -3,13 +3,10 @@
     live.py KAHN_LIVE KAHN [COUNT] [SEED]     the same seed makes the same texts; without one it is chosen at random
 
 The values of all input channels come in lines of one to four, in any order, and a line after them is refused, so that the ends are reported.
-Only values are printed; those of a stream, line after line, have to be a beginning of it. If both have finished the streams have to be the
-same, and the ends and events, if they were reported. A difference is printed, and its texts are kept.
-"""
+Those of a stream, line after line, have to be a beginning of it; if both have finished the same, with ends and events, if these were reported."""
 import random
 import sys
 
-sys.dont_write_bytecode = True
 import causes
 import fuzz
 import reference as ref

@@ -3,17 +3,16 @@
     mistakes.py KAHN_EXPLAIN [COUNT] [SEED] [-v]     the same seed makes the same mistakes; -v prints those that aren't told rightly
 
 Right: the first remark, or the heading if there is none, names the repair. Misled: there is a remark, and the word of the repair is nowhere.
-Silent: nothing is said. One: exactly one error is told. It fails if fewer are told rightly, or more mislead, than the last lines say.
-"""
+Silent: nothing is said. One: exactly one error is told. It fails if fewer are told rightly than LEAST_RIGHT, or more mislead."""
 import collections
 import glob
+import itertools
 import random
 import re
 import subprocess
 import sys
 from concurrent.futures import ThreadPoolExecutor
 
-sys.dont_write_bytecode = True
 import fuzz
 import reference as ref
 
@@ -37,12 +36,12 @@ def is_right(text):
         return False
 
 
-def line_of(text, at):
-    return text.count("\n", 0, at) + 1
-
-
 def place_of(text, at):
     return ref.spot(text.encode(), at)
+
+
+def line_of(text, at):
+    return text.count("\n", 0, at) + 1
 
 
 def slip(word, rng):
@@ -91,12 +90,8 @@ def of_one(sort):
 
 def block_of(lex, i):
     """The number of the end of the block that begins at i."""
-    depth = 0
-    for k in range(i, len(lex)):
-        depth += (lex[k][1] == "begin") - (lex[k][1] == "end")
-        if depth == 0:
-            return k
-    return None
+    depths = itertools.accumulate((x[1] == "begin") - (x[1] == "end") for x in lex[i:])
+    return next((i + k for k, depth in enumerate(depths) if depth == 0), None)
 
 
 def lost_end(text, lex, rng):
@@ -144,10 +139,8 @@ FIRST = [MADE[sort] for sort in ("misspelt keyword", "lost", "doubled", "= and :
 def two(text, lex, rng):
     """Two mistakes: the first is to be told."""
     one = rng.choice(FIRST)(text, lex[:len(lex) // 2], rng)
-    if one is None:
-        return None
-    far = [x for x in lexemes(one.text) if line_of(one.text, x[2]) > one.line + 3]
-    other = rng.choice(FIRST)(one.text, far, rng)
+    far = [x for x in lexemes(one.text) if line_of(one.text, x[2]) > one.line + 3] if one else ()
+    other = one and rng.choice(FIRST)(one.text, far, rng)
     return other and Mistake("two mistakes", other.text, one.line, one.words)
 
 

@@ -6,13 +6,11 @@ A value of an output, of a print stream or of a channel between processes is cho
 numbers of values told: the value comes and is the same. With one value less of one of them it doesn't come. In each run in which it comes,
 each process has done the events told, and with a bound of one event less than all of them it doesn't come. The row of the value in the table
 of its line says the same, and a table of a run that finished has a row for each value; the place after the last never comes. A difference is
-printed, and its texts are kept.
-"""
+printed, and its texts are kept."""
 import re
 import subprocess
 import sys
 
-sys.dont_write_bytecode = True
 import causes
 import fuzz
 

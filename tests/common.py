@@ -1,6 +1,7 @@
 """What all tests share: the programs that are tried, and counts of what passed."""
 import difflib
 import os
+import pathlib
 import subprocess
 import sys
 import tempfile
@@ -46,8 +47,7 @@ def measured_well(most, *words, **more):
 
 
 def read(path):
-    with open(path, "rb") as it:
-        return it.read()
+    return pathlib.Path(path).read_bytes()
 
 
 def text_of(path):
@@ -55,8 +55,7 @@ def text_of(path):
 
 
 def write(path, text):
-    with open(path, "wb") as it:
-        it.write(text if isinstance(text, bytes) else text.encode())
+    pathlib.Path(path).write_bytes(text if isinstance(text, bytes) else text.encode())
     return path
 
 

@@ -1,8 +1,7 @@
 """What kahn_explain says of checks/mistakes and checks/warnings: what NAME.note has of NAME.kahn, byte for byte.
 
 A mistake is refused with its note, and nothing else is said; so is an input of checks/mistakes/inputs, for the program there. A warning comes
-before the explanation of the run, and alone with --strict, which refuses the program; a program without a note has no warning.
-"""
+before the explanation of the run, and alone with --strict, which refuses the program; a program without a note has no warning."""
 import glob
 import os
 import re

@@ -10,20 +10,20 @@ A row is a folder with some of these files:
     status         the exit status; none: 0
     limits         the most MiB of memory and the most seconds of processor time; none: no limits
 
-A row is run by 1, 4 and 16 workers with quanta of 1 and 1000, unless its words name one of these. What is refused before any
-worker starts (status 1 or 2) is run once. With status 3 and no report the row isn't determined by its words: the interpreter of
-fuzz/ says whether the report is one of those that may be given. Rows that are made by a rule come from families.py, and programs,
-inputs and command lines of one line that are refused from the tables in checks/rows.
-"""
+A row is run by 1, 4 and 16 workers with quanta of 1 and 1000, unless its words name one of these; what is refused before any worker starts
+(status 1 or 2) once. With status 3 and no report the interpreter of fuzz/ says whether the report is one of those that may be given. Rows that
+are made by a rule come from families.txt, and programs, inputs and command lines of one line that are refused from the tables in checks/rows."""
+import itertools
 import os
 import subprocess
 from concurrent.futures import ThreadPoolExecutor
 
-import families
 import reference
+import texts
 from common import TOP, read, text_of, write
 
 FILES = {"program.kahn", "input", "words", "report", "fault", "status", "limits"}
+MOST_BYTES = 1048576
 WAYS = [["--workers", str(workers), "--quantum", str(quantum)] for workers in (1, 4, 16) for quantum in (1, 1000)]
 ROWS = f"{TOP}/checks/rows"
 
@@ -60,6 +60,38 @@ def table_rows():
             text, what = line.split(" -> ")
             text = text.replace("\\n", "\n").replace("\\r", "\r").replace("\\t", "\t")
             yield f"refused-inputs.txt:{number}", {"program.kahn": double, "input": text.encode(), "fault": f"kahn: {what}\n".encode(), "status": b"1"}
+
+
+def prefixes():
+    """Every beginning of the counting process, byte for byte. Those that reach through the last `End` are programs."""
+    whole, report = (read(f"{TOP}/examples/count.{end}") for end in ("kahn", "report"))
+    for end in range(len(whole) + 1):
+        files = {"program.kahn": whole[:end]}
+        if end < whole.rindex(b"End") + 3:
+            fault = reference.run(whole[:end], None, 0, None).err
+            wanted = b"character is not of the language\n" if whole[:end].endswith(b":") else (b"text ends too early\n", b"this cannot stand here\n")
+            assert fault.endswith(wanted), (end, fault)
+            files.update({"fault": fault, "status": b"1"})
+        else:
+            files["report"] = report
+        yield f"the-first-{end}-bytes-of-the-counting-process", files
+
+
+def rule_rows():
+    """Rows that are made by a rule, also those of families.txt."""
+    yield from prefixes()
+    for heading, parts in texts.sections(f"{TOP}/tests/families.txt"):
+        name, _, loops = heading.partition(" | ")
+        loops = [(it.split("=")[0], [int(value) for value in it.split("=")[1].split(",")]) for it in loops.split()]
+        for given in itertools.product(*(values for _, values in loops)):
+            values = dict(zip((it for it, _ in loops), given))
+            files = {"program.kahn": texts.expanded(parts[""], values, MOST_BYTES)}
+            files["status"] = parts.get("[]", "1" if "=>" in parts else "0")
+            for sign, file, before, end in (("->", "report", "", "\n"), ("=>", "fault", "kahn: ", "\n"), ("<", "input", "", ""), ("%", "limits", "", "")):
+                if sign in parts:
+                    files[file] = before + texts.expanded(parts[sign], values) + end
+            files["words"] = texts.expanded(parts.get("$", ""), values).replace(" ", "\n")
+            yield texts.valued(name, values).replace(" ", "-"), {file: text.encode() for file, text in files.items()}
 
 
 def words_rows():
@@ -107,7 +139,7 @@ def run(task, tried):
 
 def try_rows(program, work, only, tried):
     """Runs all rows, or those that have the word in their names."""
-    every = [(name, files) for name, files in [*kept_rows(), *table_rows(), *words_rows(), *families.rows()] if only in name]
+    every = [(name, files) for name, files in [*kept_rows(), *table_rows(), *words_rows(), *rule_rows()] if only in name]
     tried.same("files that no row has, and rows without a program", [name for name, files in every if set(files) - FILES or "program.kahn" not in files], [])
     tasks = [task for number, (name, files) in enumerate(every) if "program.kahn" in files for task in tasks_of(program, name, files, f"{work}/{number}")]
     with ThreadPoolExecutor(os.cpu_count()) as pool:

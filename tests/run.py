@@ -12,8 +12,7 @@ run.py [-k WORD] [--write] [--here] [PART ..]
     NAME        the tests of tests/test_NAME.py, or sessions or a page by the path from the top (tests/release)
 
 Without a part it tries rows, sessions, pages, notes and every test_NAME.py. -k takes only what has the word in its name; --write puts
-what the commands of sessions, and kahn_explain, give in place of what is wanted. The last line says how much passed and failed.
-"""
+what the commands of sessions, and kahn_explain, give in place of what is wanted. The last line says how much passed and failed."""
 import argparse
 import concurrent.futures
 import glob
@@ -39,9 +38,6 @@ class Counting(unittest.TestResult):
         super().__init__()
         self.tried = tried
 
-    def addSuccess(self, test):
-        self.tried.passed += 1
-
     def addSkip(self, test, reason):
         print(f"{test}: not tried, {reason}")
 
@@ -50,11 +46,11 @@ class Counting(unittest.TestResult):
 
     addError = addFailure = told
 
+    def addSuccess(self, test):
+        self.tried.passed += 1
+
     def addSubTest(self, test, subtest, error):
-        if error:
-            self.told(subtest, error)
-        else:
-            self.tried.passed += 1
+        self.told(subtest, error) if error else self.addSuccess(subtest)
 
 
 def try_module(name, only, tried):

@@ -10,14 +10,12 @@ before a command names it:
       [7]
 
 `$ ` begins a command for bash, `> ` continues it, `! ` begins a line of standard error, and the status is in brackets, unless it is 0.
-Where a command after `% ` fails, its output says why the rest isn't tried. Other lines are standard output. Commands run in a folder with the files that are beside the session, the repository's examples, and the
-programs on the path. (This is the format of cram, but that standard error is kept apart.)
+Where a command after `% ` fails, its output says why the rest isn't tried. Other lines are standard output. Commands run in a folder with
+the files beside the session, the repository's examples, and the programs on the path. (It is cram's format, with standard error apart.)
 
-A page (the README, CONTRIBUTING, and those of docs/) has commands between lines of three backticks, of which the first one begins with `$ `; one
-that has `<< END` goes on through the line END, and one that ends with a backslash in the next line. They run in a copy of this tree, and what
-they print on both streams has to be as the page shows it. A command by one of TOOLS is left out if that isn't installed, and what comes from
-ADDRESS is left to tests/release/newcomer.t.
-"""
+A page has commands between lines of three backticks, of which the first one begins with `$ `; one that has `<< END` goes on through the line
+END, and one that ends with a backslash in the next line. They run in a copy of this tree, and print on both streams what the page shows. A
+command by one of TOOLS is left out if that isn't installed, and what comes from ADDRESS is left to tests/release/newcomer.t."""
 import glob
 import os
 import re

@@ -2,8 +2,7 @@
 
 kahn begins with one worker, and goes over to several if there is work for them; kahn_crowd, which isn't released, begins with all at once, and
 with `held` as its first argument it holds the run between its parts. All that a run reserves comes before its first worker: once a run got as
-far as a thread or an event, no later one reports want of memory.
-"""
+far as a thread or an event, no later one reports want of memory."""
 import collections
 import glob
 import itertools
@@ -21,16 +20,11 @@ PROGRAMS = [path for path in sorted(glob.glob(f"{TOP}/examples/*.kahn"))
             if os.path.exists(f"{path[:-5]}.report") and not os.path.exists(f"{path[:-5]}.input")]
 
 
-def events(report):
-    """The sum of the events in a report's last line."""
-    return report.split()[-1]
-
-
 def is_stopped(out, whole):
     """Whether a report is one that memory stopped: each of its streams begins the whole one, and the events of its ends add up."""
     lines = out.split("\n")
     streams = itertools.takewhile(lambda pair: not pair[0].startswith("end "), zip(whole.split("\n"), lines))
-    total = sum(int(events(line)) for line in lines if line.startswith("end "))
+    total = sum(int(line.split()[-1]) for line in lines if line.startswith("end "))
     return lines[-2:] == [f"stopped by memory {total}", ""] and all(f"{every} ".startswith(f"{part} ") for every, part in streams)
 
 
@@ -96,7 +90,7 @@ class Memory(Room):
         whole, _, _ = self.ran(KAHN, "copies.kahn")
         kinds = {(whole, "", 0): "alike", (whole, "again\n", 0): "stopped"}
         for workers, quantum in itertools.product((1, 2, 8), (1, 1000)):
-            words = ["held", "copies.kahn", "--workers", str(workers), "--quantum", str(quantum), "--bound", events(whole)]
+            words = ["held", "copies.kahn", "--workers", str(workers), "--quantum", str(quantum), "--bound", whole.split()[-1]]
             self.growths(" ".join(words), [CROWD, *words], lambda *given: kinds.get(given), workers)
 
     def test_parts_of_a_live_run(self):
@@ -117,7 +111,7 @@ class Memory(Room):
             values = "W:" + "".join(line.removeprefix("W:") for line in out.splitlines())
             return kind if is_well and values == streams and ended in ("", ends) else None
 
-        words = [LIVE, "parts.kahn", "--quantum", "1", "--step", events(whole)]
+        words = [LIVE, "parts.kahn", "--quantum", "1", "--step", whole.split()[-1]]
         self.growths("parts of copies.kahn", words, judged, 1, text=b"\n")
 
     def test_a_run_that_goes_over_to_several_workers(self):

@@ -5,24 +5,15 @@ r"""Texts that are made by a rule. In a text
     [[A..B SEPARATOR|TEXT]] the text for each # from A to B
     [[* SEPARATOR|TEXT]]    the text for each # from 0, as many as the whole has room for; [[*+1 ..]] with one byte more
     @PATH                   a file, from the top of the repository, or a text that is given
-    \n                      a line feed
-"""
-import os
+    \n                      a line feed"""
 import re
 
-TOP = os.path.dirname(os.path.dirname(os.path.abspath(__file__)))
+from common import TOP, text_of
 
 
 def valued(text, values):
     text = re.sub(r"\$([a-z_]+)", lambda it: str(values[it[1]]), text)
     return re.sub(r"<<(.*?)>>", lambda it: str(eval(it[1], {**values})), text)
-
-
-def included(name, texts):
-    if name in texts:
-        return texts[name]
-    with open(f"{TOP}/{name}", encoding="utf-8") as it:
-        return it.read().removesuffix("\n")
 
 
 def repeated(first, last, separator, text, values):
@@ -34,7 +25,7 @@ def repeated(first, last, separator, text, values):
 
 def expanded(text, values, most=0, texts={}):
     """The text; `values` gets the number of `units` with which it was filled up to the most bytes."""
-    text = re.sub(r"@([\w./-]+)", lambda it: included(it[1], texts), text.replace("\\n", "\n"))
+    text = re.sub(r"@([\w./-]+)", lambda it: texts.get(it[1]) or text_of(f"{TOP}/{it[1]}").removesuffix("\n"), text.replace("\\n", "\n"))
     text = re.sub(r"(?s)\[\[([^\s\[\]|*]+?)\.\.(\S+) (.*?)\|(.*?)\]\]", lambda it: repeated(*it.groups(), values), text)
     fill = re.search(r"(?s)\[\[\*(\+1)? (.*?)\|(.*?)\]\]", text)
     if not fill:
@@ -53,12 +44,11 @@ def expanded(text, values, most=0, texts={}):
 def sections(path):
     """The sections of a file: each the words of its heading, and its lines by the sign that they begin with. What stands before the first, or
     behind an empty line, is for the reader."""
-    with open(path, encoding="utf-8") as it:
-        for section in re.split(r"(?m)^== ", it.read())[1:]:
-            heading, _, body = section.partition("\n")
-            lines = {}
-            for line in body.split("\n\n")[0].rstrip("\n").split("\n"):
-                found = re.match(r"(->|=>|[$<%?]) |\[(\d+)\]$", line)
-                sign = found[1] or "[]" if found else ""
-                lines.setdefault(sign, []).append(found[2] or line[found.end():] if found else line)
-            yield heading, {sign: "\n".join(its) for sign, its in lines.items()}
+    for section in re.split(r"(?m)^== ", text_of(path))[1:]:
+        heading, _, body = section.partition("\n")
+        lines = {}
+        for line in body.split("\n\n")[0].rstrip("\n").split("\n"):
+            found = re.match(r"(->|=>|[$<%?]) |\[(\d+)\]$", line)
+            sign = found[1] or "[]" if found else ""
+            lines.setdefault(sign, []).append(found[2] or line[found.end():] if found else line)
+        yield heading, {sign: "\n".join(its) for sign, its in lines.items()}

@@ -1,8 +1,7 @@
 """The worst texts that are known, worst.txt, each of about the most bytes that there may be, against limits on processor time and memory.
 
 Each text is read by all four programs. None may take more than four times as long as a fixed piece of work beside it, which is two seconds of
-a quiet host (user and system), or 300 MB. Those that may take more are named as limits by docs/formats.md.
-"""
+a quiet host (user and system), or 300 MB. Those that may take more are named as limits by docs/formats.md."""
 import concurrent.futures
 import itertools
 import os
@@ -25,9 +24,8 @@ def variables():
 def alike():
     """Names that a table with a known hash puts into one place."""
     with tempfile.TemporaryDirectory() as folder:
-        compiled = f"{folder}/search"
-        subprocess.run([os.environ.get("CC", "cc"), "-O3", "-march=native", "-o", compiled, f"{TOP}/tests/hash_search.c"], check=True)
-        return subprocess.run([compiled, "16000", "2047", "4"], capture_output=True, check=True, text=True).stdout.split()
+        subprocess.run([os.environ.get("CC", "cc"), "-O3", "-march=native", "-o", f"{folder}/it", f"{TOP}/tests/hash_search.c"], check=True)
+        return subprocess.run([f"{folder}/it", "16000", "2047", "4"], capture_output=True, check=True, text=True).stdout.split()
 
 
 def try_case(name, case, paths, folder):
