@@ -1,11 +1,15 @@
-"""The files of editors/ with the editors: a mistake, a warning, a fault and a deadlock each land on their place, and changes are exact.
+"""The files of editors/ on examples and with the editors.
 
-    editors.py KAHN_EXPLAIN
+    editors.py                  the grammars: each lexeme has to get the class that docs/language.md gives it. The lexemes are told apart by the
+                                lists of that page, and not by the program; the grammar in TextMate's form is played by its rules
+    editors.py KAHN_EXPLAIN     a mistake, a warning, a fault and a deadlock each land on their place, and changes are exact
 
 Vim is asked itself, and the extension for Visual Studio Code is run by Node.js with a part that plays the editor; if one isn't there
 (Debian's packages `vim` and `nodejs`) this is said, and nothing of it is tested."""
+import glob
 import json
 import os
+import re
 import shutil
 import subprocess
 import sys
@@ -16,6 +20,77 @@ import texts
 from common import TOP, Tried, text_of, write
 
 EDITORS = f"{TOP}/editors"
+VIM = {"keyword": "kahnKeyword", "name": "kahnName", "number": "kahnNumber", "sign": "kahnSign", "comment": "kahnComment"}
+TEXTMATE = {"keyword": "keyword.control.kahn", "name": "variable.other.kahn", "number": "constant.numeric.kahn",
+            "sign": "punctuation.kahn", "comment": "comment.block.kahn"}
+ODD = text_of(f"{TOP}/checks/grammars.txt")
+PAGE = " ".join(text_of(f"{TOP}/docs/language.md").split())
+KEYWORDS = re.search(r"any letter case is a keyword: `([a-z ]+)`", PAGE)[1].split()
+SIGNS = re.findall(r"`([^`]+)`", re.search(r"\*\*Signs\*\* are (.*?) and the character U\+00AC", PAGE)[1])
+SIGN = "|".join(map(re.escape, sorted(SIGNS, key=len, reverse=True)))
+LEXEME = re.compile(rf"[ \t\r\n]+|(?P<comment>comment\b[^;]*;)|(?P<word>[A-Za-z]\w*)|(?P<number>[0-9]+)|(?P<keyword>¬)|(?P<sign>{SIGN})", re.I | re.A)
+
+
+def lexemes(text):
+    """The lexemes and comments of a text: (class, from, to); or None if something in it is none."""
+    at, found = 0, []
+    while at < len(text):
+        it = LEXEME.match(text, at)
+        if not it or it[0].lower() == "comment":
+            return None
+        what, at = it.lastgroup, it.end()
+        if what:
+            found.append(("keyword" if what == "word" and it[0].lower() in KEYWORDS else "name" if what == "word" else what, *it.span()))
+    return found
+
+
+def textmate(text):
+    """The scope of each character, by the grammar in TextMate's form, which is played line by line."""
+    patterns = json.loads(text_of(f"{EDITORS}/vscode/syntaxes/kahn.tmLanguage.json"))["patterns"]
+    scopes, open_pattern, start = [None] * len(text), None, 0
+    for line in text.splitlines(keepends=True):
+        at = 0
+        while at < len(line):
+            if open_pattern:
+                end = re.compile(open_pattern["end"]).search(line, at)
+                to = end.end() if end else len(line)
+                scopes[start + at : start + to] = [open_pattern["name"]] * (to - at)
+                open_pattern, at = (None if end else open_pattern), to
+                continue
+            found = [(re.compile(it.get("match") or it["begin"]).search(line, at), it) for it in patterns]
+            found = [(match.start(), number, match, it) for number, (match, it) in enumerate(found) if match]
+            if not found:
+                break
+            _, _, match, it = min(found, key=lambda each: each[:2])
+            scopes[start + match.start() : start + match.end()] = [it["name"]] * (match.end() - match.start())
+            open_pattern, at = (it if "begin" in it else None), match.end()
+        start += len(line)
+    return scopes
+
+
+def vim(text):
+    """The group of each character, by Vim."""
+    with tempfile.TemporaryDirectory() as folder:
+        write(f"{folder}/text.kahn", text)
+        write(f"{folder}/ask.vim", text_of(f"{TOP}/checks/grammars.vim").replace("SYNTAX", f"{EDITORS}/vim/syntax/kahn.vim"))
+        subprocess.run(["vim", "-es", "-u", "NONE", "-i", "NONE", "-S", "ask.vim"], cwd=folder, stdin=subprocess.DEVNULL, timeout=600)
+        rows = [line.split(",") for line in text_of(f"{folder}/groups").split("\n")]
+    return [name for row, line in zip(rows, text.splitlines()) for name in [*row[: len(line)], ""]]
+
+
+def try_grammars(tried):
+    rows = {path: re.sub("\r\n?", "\n", text_of(path)) for path in sorted(glob.glob(f"{TOP}/checks/rows/*/program.kahn"))}
+    every = {"odd lexemes": ODD, **{path: text_of(path) for path in sorted(glob.glob(f"{TOP}/examples/*.kahn"))}}
+    every.update({path: text for path, text in rows.items() if lexemes(text)})
+    grammars = [("TextMate", textmate, TEXTMATE)] + [("Vim", vim, VIM)] * bool(shutil.which("vim"))
+    if not grammars[1:]:
+        print("vim is not there (Debian's package vim): its grammar is not tested")
+    for grammar, classes_of, names in grammars:
+        for path, text in every.items():
+            classes = classes_of(text)
+            wrong = [(text[start:to], start, classes[k], names[what]) for what, start, to in lexemes(text) for k in range(start, to)
+                     if text[k] != "\n" and classes[k] != names[what]]
+            tried.same(f"{grammar}, {os.path.relpath(path, TOP)}", wrong, [])
 
 
 def place_of(program, words):
@@ -42,8 +117,7 @@ def try_extension(folder, name, places, marked, changed, tried):
     tried.same(f"Visual Studio Code, its problem matcher and its changes, {name}", given, (marked, [place for place, _ in places], changed))
 
 
-def main(explain):
-    tried = Tried()
+def try_editors(explain, tried):
     for editor, package, look in (("vim", "vim", try_vim), ("node", "nodejs", try_extension)):
         if not shutil.which(editor):
             print(f"{editor} isn't there: what it shows of editors/ is not tried (Debian's package {package})")
@@ -55,8 +129,13 @@ def main(explain):
                 places = [(place_of(program, words), kind) for kind, words in (line.split(" ", 1) for line in lines["%"].split("\n"))]
                 changed = [program.replace(*lines["=>"].split(" -> "))] if "=>" in lines else []
                 look(folder, name, places, lines["?"].split("\n"), changed, tried)
+
+
+def main(*explain):
+    tried = Tried()
+    try_editors(os.path.abspath(*explain), tried) if explain else try_grammars(tried)
     return tried.finish()
 
 
 if __name__ == "__main__":
-    sys.exit(main(os.path.abspath(sys.argv[1])))
+    sys.exit(main(*sys.argv[1:]))

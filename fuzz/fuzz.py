@@ -138,8 +138,7 @@ class Maker:
                 made[shape] = process
                 declarations.append(self.process(process, shape))
             args = [c for _, _, c in mine]
-            for _, kind in extra:
-                args.append(self.pick("true", "false") if kind == "logical" else str(self.r.choice((-1, 1)) * self.r.choice(NUMBERS)))
+            args += [self.pick("true", "false") if kind == "logical" else str(self.r.choice((-1, 1)) * self.r.choice(NUMBERS)) for _, kind in extra]
             instances.append(f"{process}({', '.join(args)})")
         # processes stand after or before channels, in any order
         self.r.shuffle(declarations)
@@ -153,12 +152,7 @@ class Maker:
         self.ins, self.outs, self.values, groups = [], [], [], []
         for k, (way, kind) in enumerate(shape):
             n = f"{self.pick('a', 'b', 'U')}{k}"
-            if way == "in":
-                self.ins.append((n, kind))
-            elif way == "out":
-                self.outs.append((n, kind))
-            else:
-                self.values.append((n, kind))
+            {"in": self.ins, "out": self.outs}.get(way, self.values).append((n, kind))
             groups.append(f"{kind}{' ' + way if way != 'value' else ''} {n}")
         variables = ""
         for k in range(self.r.randint(0, 3)):
