@@ -9,8 +9,9 @@ use Rattle.kahn_sequential.proofs.Going_on.{Grows, goes_on, grows_not, seen_grow
 use Rattle.kahn_sequential.proofs.Once_written.{input_watched, written_once}
 use Rattle.kahn_sequential.proofs.Named.{HasLine, has_line}
 use Rattle.kahn_sequential.proofs.Righted.{events_seen, settled_by}
-use Rattle.kahn_sequential.specs.declared.rounds.PartEnd.{PartEnd}
+use Rattle.kahn_sequential.specs.declared.{rounds.PartEnd.PartEnd, woken.Woken.Woken}
 use Rattle.kahn_sequential.specs.inner.FlowBench.{IsPartEnd}
+use Rattle.kahn_sequential.specs.inner.Noted.{AreNoted}
 
 -- ---- it goes on
 
@@ -154,10 +155,10 @@ pub none_lent : (b : Table) (ts : List Token) → ts ≡ [] → AreLent b ts
 none_lent b ts e c w role = (inputs_of b.input c, sym (append-nil (inputs_of b.input c)) ∙ ap (λ (l : List Token). inputs_of b.input c ++ map token_value l) (sym e))
 
 -- also with other ends and other lent tokens
-pub flow_stays : {t : Program} {plan : Plan} {b : Table} {budget room : ℕ} {ends : List End} {said : Option Verdict} {ts : List Token} → IsFlowOf t plan b budget room ends said ts → (d : Table) →
+pub flow_stays : {t : Program} {plan : Plan} {b : Table} {budget room : ℕ} {ends : List End} {woken : Woken} {said : Option Verdict} {ts : List Token} → IsFlowOf t plan b budget room ends woken said ts → (d : Table) →
     d.network ≡ b.network → d.watch ≡ b.watch → map seen_of d.cells ≡ map seen_of b.cells → (next : Option Verdict) → AreEnded (sight_of d) plan.bound budget ends next →
-    (us : List Token) → AreLent d us → IsFlowOf t plan d budget room ends next us
-flow_stays {budget = budget} {room = room} f d network watch seen next ended us lent = record {
+    (later : Woken) → AreNoted (sight_of d) later ends → (us : List Token) → AreLent d us → IsFlowOf t plan d budget room ends later next us
+flow_stays {budget = budget} {room = room} f d network watch seen next ended later noted us lent = record {
   network = network ∙ f.network;
   watch = watch ∙ f.watch;
   some = f.some;
@@ -165,6 +166,7 @@ flow_stays {budget = budget} {room = room} f d network watch seen next ended us 
   few = f.few;
   enough = subst (λ t. length (network_of t).instances ≤ room) (sym network) f.enough;
   ended = ended;
+  noted = noted;
   lent = lent;
 }
 
@@ -192,7 +194,7 @@ emptied_flow b d h plan said n ts e =
     }
 
 -- a part of it
-module _ {t : Program} {plan : Plan} {b : Table} {budget room : ℕ} {last : List End} {said : Option Verdict} {ts : List Token} (f : IsFlowOf t plan b budget room last said ts)
+module _ {t : Program} {plan : Plan} {b : Table} {budget room : ℕ} {last : List End} {woken : Woken} {said : Option Verdict} {ts : List Token} (f : IsFlowOf t plan b budget room last woken said ts)
     (d : Table) (h : HasWorked b d) (more : ℕ) (below : more ≤ 281474976710655 - plan.bound) (r : PartEnd) (c : IsPartEnd d (all_events (sight_of b) + (budget + more)) r) where
   abbrev after : Plan
   after = record plan { bound = plan.bound + more }
@@ -206,8 +208,9 @@ module _ {t : Program} {plan : Plan} {b : Table} {budget room : ℕ} {last : Lis
   part_ended : AreEnded (sight_of d) (plan.bound + more) r.left r.ends.items (Some r.verdict)
   part_ended = (c.0, subst (λ n. IsConcluded (sight_of d) n r.left c.0 r.verdict r.ends.items) whole c.1)
 
-  pub flow_after : length (network_of d.network).instances ≤ vec_capacity r.ends → IsFlowOf t after d r.left (vec_capacity r.ends) r.ends.items (Some r.verdict) ts
-  flow_after enough = record {
+  pub flow_after : length (network_of d.network).instances ≤ vec_capacity r.ends → (later : Woken) → AreNoted (sight_of d) later r.ends.items →
+      IsFlowOf t after d r.left (vec_capacity r.ends) r.ends.items later (Some r.verdict) ts
+  flow_after enough later noted = record {
     network = h.network ∙ f.network;
     watch = h.watch ∙ f.watch;
     some = f.some;
@@ -215,6 +218,7 @@ module _ {t : Program} {plan : Plan} {b : Table} {budget room : ℕ} {last : Lis
     few = few;
     enough = enough;
     ended = part_ended;
+    noted = noted;
     lent = lent_same b d h.network h.input h.watch ts f.lent;
   }
 

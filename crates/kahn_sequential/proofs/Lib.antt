@@ -1,5 +1,6 @@
 pub mod Common
 pub mod Lists
+pub mod Noted
 pub mod Events
 pub mod Assembling
 pub mod Turns

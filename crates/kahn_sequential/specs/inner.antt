@@ -2,6 +2,7 @@ pub mod Below
 pub mod Bench
 pub mod FlowBench
 pub mod Gathered
+pub mod Noted
 pub mod Recording
 pub mod Parts
 pub mod Streams

@@ -3,6 +3,7 @@
 ghost use Rattle.kahn_sequential.specs.inner.Below.{AreCounts, AreQueued, IsWithin, Input as InputRole, IsPoured, Lists, Reads, actual_at, inputs_of, instance_at, network_of, role_at, stream_lines, Told};
 ghost use Rattle.kahn_sequential.specs.inner.Bench.{AreStreams, HasRunCell, all_events, events_at};
 ghost use Rattle.kahn_sequential.specs.inner.Gathered.{view_at};
+ghost use Rattle.kahn_sequential.specs.inner.Noted.{HasWoken, IsOnlyReader, IsReaderOf, IsReadyBehind, IsReadyBy, IsReadyByFirst};
 ghost use Rattle.kahn_sequential.specs.inner.Recording.{StoodIn};
 ghost use Rattle.kahn_sequential.specs.inner.Workbench.{AllStandBy, AreStreamsReady, AreWhole, HasEmptied, HasFresh, HasFreshPrints, HasTakenIn, HasWorked, IsCrowded, IsLaid, IsNextPlace, gone_in, seated_with, sight_of, table_of, told_in, vacant_of};
 ghost use Rattle.std.specs.Prelude.{◌≡◌, ◌<◌, ◌+◌, ◌^◌, ℕ, [], Some, length, map, slice_get, vec_capacity, IfOk, IfErr, IfSome, MatchOption, SomeIff};
@@ -12,6 +13,7 @@ use crate::channel::channel_read;
 use crate::looks::{LONG_TURN, Looks};
 use crate::streams::fill;
 use crate::taps::{all_kept, all_sized, all_stood, forget_all, named_taps};
+use crate::woken::Woken;
 use kahn_code::{Code, CodeFault, Kept, Pause, Plain, Steps, Tap, compile, regrow_taps};
 use kahn_streams::{
     About, Carried, Input, MOST_BOUND, Network, NoMemory, Outcome, Side, Stream, Value,
@@ -259,6 +261,59 @@ impl<'n> Bench<'n> {
         self.taps[instance].stood(self.network);
     }
 
+    // The reader of a channel, if it has one.
+    fn reader_of(&self, channel: usize) -> Option<usize>
+        ensures { IsOnlyReader (sight_of self.now).network channel result }
+    {
+        if channel >= self.network.channels() {
+            return None;
+        }
+        match self.network.reader(channel) {
+            Some(side) => Some(side.instance),
+            None => None,
+        }
+    }
+
+    /// Wakes the reader of a channel.
+    pub(crate) fn wake_at(&self, channel: usize, woken: &mut Woken)
+        ensures { HasWoken (IsReaderOf (sight_of self.now).network channel) woken.old woken.new }
+    {
+        let Some(reader) = self.reader_of(channel) else {
+            return;
+        };
+        woken.add(reader);
+    }
+
+    // Wakes the reader of the channel of a parameter, but the instance itself, if something waits there.
+    fn wake_behind(&self, instance: usize, parameter: usize, woken: &mut Woken)
+        requires { instance < length (sight_of self.now).network.instances }
+        ensures { HasWoken (IsReadyBy self.now instance parameter) woken.old woken.new }
+    {
+        let Some(channel) = self.code.channel(instance, parameter) else {
+            return;
+        };
+        if self.queues.waiting(channel) == 0 {
+            return;
+        }
+        let Some(reader) = self.reader_of(channel) else {
+            return;
+        };
+        if reader == instance {
+            return;
+        }
+        woken.add(reader);
+    }
+
+    /// Wakes the readers of what an instance wrote, where something waits, but the instance itself.
+    pub(crate) fn wake_readers(&self, instance: usize, woken: &mut Woken)
+        requires { instance < length (sight_of self.now).network.instances }
+        ensures { HasWoken (IsReadyBehind self.now instance) woken.old woken.new }
+    {
+        let tap = &self.taps[instance];
+        let count = tap.parameters();
+        wake_by(self, instance, count, woken);
+    }
+
     /// Its queues.
     pub fn queues(&self) -> &Plain<Global>
         ensures { result.now ≡ self.now.queues }
@@ -377,6 +432,16 @@ impl<'n> Bench<'n> {
         let mut kept = all_kept(self.taps, kept);
         fill(self.network, &mut streams, &mut kept);
         streams
+    }
+}
+
+// Wakes the readers of the channels of the first parameters of an instance, but the instance itself, where something waits.
+fn wake_by(bench: &Bench<'_>, instance: usize, count: usize, woken: &mut Woken)
+    requires { instance < length (sight_of bench.now).network.instances }
+    ensures { HasWoken (IsReadyByFirst bench.now instance count) woken.old woken.new }
+{
+    for parameter in 0..count {
+        bench.wake_behind(instance, parameter, woken);
     }
 }
 

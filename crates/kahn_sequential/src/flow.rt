@@ -8,8 +8,9 @@ ghost use Rattle.kahn_sequential.specs.Flows.{AreNew, HasFlowed, HasLetGo, HasPo
 use crate::bench::Bench;
 use crate::held_fault::HeldFault;
 use crate::plan::plan_of;
-use crate::rounds::run_part_alone;
+use crate::settling::run_on;
 use crate::streams::{give_watched, lines_of};
+use crate::woken::Woken;
 use kahn_streams::{
     Carried, Config, End, FeedFault, Gate, Input, Line, MOST_BOUND, Network, NoMemory, Plan,
     RunFault, Token, Value, Verdict, Word, channel_meant,
@@ -31,6 +32,8 @@ pub struct Flow<'n> {
     plan: Plan,
     budget: u64,
     ends: Vec<End>,
+    // Which of the ends may have changed since.
+    woken: Woken,
     verdict: Option<Verdict>,
     // Of a watched input channel, the tokens that weren't let go of.
     given: Vec<Carried>,
@@ -50,7 +53,7 @@ impl<'n> Model for Flow<'n> {
 
     ghost view = { λ f. flow_of f.bench f.plan f.verdict (length f.given.items) };
 
-    ghost invariant = { λ f. IsFlowOf f.network.now f.plan f.bench f.budget (vec_capacity f.ends) f.ends.items f.verdict f.given.items };
+    ghost invariant = { λ f. IsFlowOf f.network.now f.plan f.bench f.budget (vec_capacity f.ends) f.ends.items f.woken f.verdict f.given.items };
 }
 
 // Room for the ends of all instances.
@@ -127,6 +130,7 @@ impl<'n> Flow<'n> {
     {
         let plan = plan_of(network, &config)?;
         let ends = room_for_ends(alloc, network)?;
+        let woken = Woken::new(alloc, network.instances())?;
         let mut given = Vec::new(alloc);
         give_watched(network, &input, plan.watch, &mut given)?;
         let bench = Bench::new(alloc, network, &input, plan.watch)?;
@@ -137,6 +141,7 @@ impl<'n> Flow<'n> {
             plan,
             budget: plan.bound,
             ends,
+            woken,
             verdict: None,
             given,
         })
@@ -157,8 +162,7 @@ impl<'n> Flow<'n> {
         let plan = Plan { bound, ..self.plan };
         self.bench.stood();
         let blank = Blank::new(1);
-        let run = run_part_alone::<G, Brand>(blank, &mut self.bench, gate, false, ends, plan);
-        let Some(part) = run else { unreachable!() };
+        let part = run_on::<G, Brand>(blank, &mut self.bench, gate, ends, &mut self.woken, plan);
         self.bench.stood();
         self.plan.bound += more;
         self.budget = part.left;
@@ -187,6 +191,7 @@ impl<'n> Flow<'n> {
         self.bench.stood();
         poured?;
         lend(&self.bench, &mut self.given, number, place, lent);
+        self.bench.wake_at(number, &mut self.woken);
         self.verdict = None;
         Ok(())
     }

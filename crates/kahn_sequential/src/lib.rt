@@ -14,8 +14,10 @@ mod plan;
 mod recorded;
 mod rounds;
 mod run_queue;
+mod settling;
 mod streams;
 mod taps;
+mod woken;
 
 pub use counted::Count;
 pub use held_fault::HeldFault;

@@ -9,7 +9,7 @@ ghost use Rattle.kahn_sequential.specs.inner.FlowBench.{IsPartEnd};
 ghost use Rattle.kahn_sequential.specs.inner.Workbench.{HasAdvanced, HasComeToRest, HasTakenTurn, HasVisited, HasWorked, IsInRound, IsMarked, MayGoOn, MayRun, sight_of, turn_of, weight};
 ghost use Rattle.kahn_streams.specs.declared.answer.Outcome.TheVariants as outcome;
 ghost use Rattle.kahn_code.specs.declared.progress.Pause.TheVariants as pause;
-ghost use Rattle.std.specs.Prelude.{◌≡◌, ◌⊎◌, ◌<◌, ◌≤◌, ◌+◌, ◌^◌, length, true, vec_capacity, IfErr, IfOk, IfSome, MatchOption, MatchResult};
+ghost use Rattle.std.specs.Prelude.{◌≡◌, ◌⊎◌, ◌<◌, ◌≤◌, ◌+◌, ◌^◌, length, slice_set, true, vec_capacity, IfErr, IfOk, IfSome, MatchOption, MatchResult};
 
 use crate::bench::Bench;
 use kahn_code::{Pause, Steps};
@@ -120,6 +120,16 @@ impl Round {
     // Whether nothing more may be done.
     fn is_over(&self) -> bool {
         self.memory || self.left == 0
+    }
+
+    /// Notes how an instance stands.
+    pub(crate) fn note(&mut self, instance: usize, end: End)
+        requires { instance < length self.old.ends.items }
+        ensures ends { self.new.ends.items ≡ slice_set self.old.ends.items instance end }
+        ensures room { vec_capacity self.new.ends ≡ vec_capacity self.old.ends }
+        ensures same { (self.new.quantum ≡ self.old.quantum) × (self.new.left ≡ self.old.left) × (self.new.memory ≡ self.old.memory) }
+    {
+        self.ends[instance] = end;
     }
 
     /// How much there is to do.
@@ -326,6 +336,29 @@ impl<'g, L: Ledger, G: Gate> Driver<'g, L, G> {
             }
         }
     }
+
+    /// Rounds to the end of a part; or, if the run may be left, until there is work for several workers: then it may go on from the round
+    /// that is the error.
+    pub(crate) fn to_end(&mut self, bench: &mut Bench<'_>, first: Round) -> Result<PartEnd, Round>
+        requires { MayRun (sight_of bench.old) first }
+        ensures ended { IfOk result (IsPartEnd bench.new (all_events (sight_of bench.old) + first.left)) }
+        ensures wide { IfErr result (λ r. (self.old.may_leave ≡ true) × HasAdvanced bench.old bench.new first r) }
+        ensures room { IfOk result (λ r. length (sight_of bench.new).network.instances ≤ vec_capacity r.ends) }
+        ensures worked { HasWorked bench.old bench.new }
+    {
+        match self.last_round(bench, first) {
+            Err(round) => Err(round),
+            Ok(last) => {
+                bench.stood();
+                let verdict = verdict_of(last.memory, &last.ends);
+                Ok(PartEnd {
+                    verdict,
+                    ends: last.ends,
+                    left: last.left,
+                })
+            }
+        }
+    }
 }
 
 /// The rule of verdicts.
@@ -369,18 +402,7 @@ pub fn run_until_wide<G: Gate, L: Ledger>(
         may_leave,
     };
     let first = Round::new(bench, plan.quantum, plan.bound, ends);
-    match driver.last_round(bench, first) {
-        Err(round) => Err(round),
-        Ok(last) => {
-            bench.stood();
-            let verdict = verdict_of(last.memory, &last.ends);
-            Ok(PartEnd {
-                verdict,
-                ends: last.ends,
-                left: last.left,
-            })
-        }
-    }
+    driver.to_end(bench, first)
 }
 
 /// The same to the end, if the run may not be left. Returns nothing if it may be left and there is work for several workers.

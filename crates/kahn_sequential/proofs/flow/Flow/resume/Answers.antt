@@ -4,8 +4,8 @@ use Rattle.kahn_sequential.proofs.Flowed.{flow_after, flowed_on}
 use Rattle.kahn_sequential.proofs.Righted.{events_seen}
 use Rattle.kahn_sequential.proofs.flow.Flow.resume.Goals as goal
 
-pub run_part_alone-run-requires-clause-bound : goal.run_part_alone-run-requires-clause-bound
-run_part_alone-run-requires-clause-bound g c =
+pub run_on-part-requires-clause-bound : goal.run_on-part-requires-clause-bound
+run_on-part-requires-clause-bound g c =
     let l = c.self.invariant.left in
     let m = c.self.invariant.few in
     let f = c.if-self-more.false in
@@ -14,17 +14,17 @@ run_part_alone-run-requires-clause-bound g c =
 
 pub invariant_of-self : goal.invariant_of-self
 invariant_of-self g c =
-    let e = c.run_part_alone-run.ensures in
-    flow_after c.self.invariant c.run_part_alone-run.new.bench e.worked c.args.more c.if-self-more.false c.in-Some.part (rw c.in-Some.is at e.concluded) (rw c.in-Some.is at e.room)
+    let e = c.run_on-part.ensures in
+    flow_after c.self.invariant c.run_on-part.new.bench e.worked c.args.more c.if-self-more.false c.run_on-part.result e.concluded e.room c.run_on-part.new.woken e.noted
 
 pub returns : goal.returns
 returns g c =
     let i = c.self.inside in
-    let d = c.run_part_alone-run.new.bench in
-    let v = c.in-Some.part.verdict in
-    let e = c.run_part_alone-run.ensures in
+    let d = c.run_on-part.new.bench in
+    let v = c.run_on-part.result.verdict in
+    let e = c.run_on-part.ensures in
     let s = c.stood.ensures in
     let z = c.stood-2.ensures in
     let n = length i.given.items in
     subst (λ (x : Flowing). IsRunOn c.args.more x (flow_of d (record i.plan { bound = i.plan.bound + c.args.more }) (Some v) n) v) c.self.view_is
-    (flowed_on c.self.invariant d e.worked c.args.more c.if-self-more.false c.in-Some.part (rw c.in-Some.is at e.concluded) s.laid z.laid s.each z.each n)
+    (flowed_on c.self.invariant d e.worked c.args.more c.if-self-more.false c.run_on-part.result e.concluded s.laid z.laid s.each z.each n)

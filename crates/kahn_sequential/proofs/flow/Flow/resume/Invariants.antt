@@ -1,5 +1,5 @@
 -- The count is opened on the blank's own ledger.
 use Rattle.kahn_sequential.proofs.flow.Flow.resume.Given as goal
 
-abbrev pub ghosts-run_part_alone : goal.ghosts-run_part_alone
-ghosts-run_part_alone g a = record { name = a.blank.name; parts = a.blank.parts }
+abbrev pub ghosts-run_on : goal.ghosts-run_on
+ghosts-run_on g a = record { name = a.blank.name; parts = a.blank.parts }

@@ -28,6 +28,7 @@ invariant_of-result c =
       few = r.4;
       enough = subst (λ t. length (network_of t).instances ≤ vec_capacity c.in_ok-ends.ends) (sym e.names.0) c.in_ok-ends.ensures;
       ended = tt;
+      noted = λ known. absurd (let unknown = c.in_ok-woken.ensures in cc);
       lent = all_lent b (length (network_of c.args.network.now).instances) e.whole ts all;
     }
 

@@ -1,0 +1,17 @@
+use Rattle.std.proofs.Common.{arith, refl}
+use Rattle.kahn_sequential.proofs.Benched.{within_get}
+use Rattle.kahn_sequential.proofs.Noted.{popped}
+use Rattle.kahn_sequential.proofs.woken.Woken.take.Goals as goal
+
+pub returns-in-Some : goal.returns-in-Some
+returns-in-Some c = (refl, popped c.args.self.now.instances.items c.pop.new.self.items c.in-Some.instance c.in-Some.ensures.items)
+
+pub returns-in-None : goal.returns-in-None
+returns-in-None c = (
+  refl,
+  λ p w.
+      let l = within_get c.args.self.now.instances.items w.0 p w.1 in
+      let z = c.in-None.ensures.cases.0 in
+      let o = c.args.self.now.instances.ok.0 in
+      absurd (omega (arith, z, l, o)),
+)

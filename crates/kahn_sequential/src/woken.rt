@@ -1,0 +1,57 @@
+//! The instances that were woken: those that may stand otherwise than it was noted.
+
+ghost use Rattle.std.specs.Prelude.{◌≡◌, false, true, IfOk};
+ghost use Rattle.kahn_sequential.specs.inner.Below.{Finished};
+ghost use Rattle.kahn_sequential.specs.inner.Noted.{HasWoken, IsTakenFrom};
+
+use kahn_streams::{NoMemory, Verdict};
+use std::alloc::Global;
+
+/// The instances that were woken since their ends were noted, if that is known.
+#[derive(Drop)]
+pub(crate) struct Woken {
+    instances: Vec<usize>,
+    pub(crate) known: bool,
+}
+
+impl Woken {
+    /// Nothing is known. There is room for so many instances.
+    pub(crate) fn new(alloc: Global, room: usize) -> Result<Woken, NoMemory>
+        ensures { IfOk result (λ w. w.known ≡ false) }
+    {
+        Ok(Woken {
+            instances: Vec::with_capacity(alloc, room)?,
+            known: false,
+        })
+    }
+
+    /// This instance is woken as well. Without room for it nothing is known any more.
+    pub(crate) fn add(&mut self, instance: usize)
+        ensures { HasWoken (λ p. p ≡ instance) self.old self.new }
+    {
+        if self.instances.len() == self.instances.capacity() {
+            self.instances.clear();
+            self.known = false;
+            return;
+        }
+        self.instances.push_reserved(instance);
+    }
+
+    /// Takes one of them.
+    pub(crate) fn take(&mut self) -> Option<usize>
+        ensures { IsTakenFrom self.old result self.new }
+    {
+        match self.instances.pop() {
+            Some(instance) => Some(instance),
+            None => None,
+        }
+    }
+
+    /// The ends of a part with this verdict are noted.
+    pub(crate) fn noted(&mut self, verdict: Verdict)
+        ensures { self.new.known ≡ true → verdict ≡ Finished }
+    {
+        self.instances.clear();
+        self.known = matches!(verdict, Verdict::Finished);
+    }
+}
