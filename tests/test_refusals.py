@@ -186,7 +186,8 @@ class Threads(Room):
         for quantum in ("1", "7", "1000"):
             by = [KAHN, "--bound", "100000000", "--quantum", quantum, "--workers"]
             for number, name, words in ((min(3, side), "four", [*by, "4"]), (min(2, side), "four", [*by, "3"]), (min(1, side), "two", [*by, "16"]),
-                                        (min(3, side), "late", [*by, "4"]), (0, "ring", [*by, "4"]), (0, "star", [*by, "4"]), (0, "four", [*one, *by, "4"])):
+                                        (min(3, side), "late", [*by, "4"]), (0, "ring", [*by, "4"]), (0, "star", [*by, "4"]),
+                                        (0, "four", [*by, "1"]), (0, "four", [*one, *by, "4"])):
                 self.starts(number, name, reports[name], *words)
 
     def test_examples(self):

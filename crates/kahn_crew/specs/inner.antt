@@ -1,3 +1,4 @@
+pub mod Begins
 pub mod Left
 pub mod Planned
 pub mod Tasks

@@ -1,7 +1,10 @@
 //! Hints: the numbers of instances that may be ready.
 
 ghost use Rattle.std.specs.Prelude.{◌≡◌, ◌<◌, false, length, true, IfOk};
+ghost use Rattle.crossbeam_deque.specs.Handles.{worker_index};
+ghost use Rattle.kahn_crew.specs.declared.hints.Order.TheVariants.{Last};
 
+use crossbeam_deque::protocol::Free;
 use crossbeam_deque::{Steal, Stealer, Worker};
 use kahn_streams::NoMemory;
 use std::alloc::Global;
@@ -34,15 +37,20 @@ impl Hints {
     pub(crate) fn push(&mut self, instance: usize, order: Order) -> bool
         ensures told { result ≡ true → self.new.wanted ≡ self.old.wanted }
         ensures noted { result ≡ false → self.new.wanted ≡ true }
+        ensures more { result ≡ true → order ≡ Last → worker_index self.old.own < worker_index self.new.own }
     {
         let last = match order {
-            Order::Last => Some(instance),
-            Order::Next => self.next.replace(instance),
+            Order::Last => instance,
+            Order::Next => match self.next.replace(instance) {
+                Some(last) => last,
+                None => return true,
+            },
         };
-        let Some(last) = last else { return true };
-        let told = self.own.push(last).is_ok();
-        self.wanted |= !told;
-        told
+        if self.own.push_as::<Free>(last).is_err() {
+            self.wanted = true;
+            return false;
+        }
+        true
     }
 
     /// A hint: one of its own, that comes next or is the oldest, or one that it steals.

@@ -1,9 +1,11 @@
 //! What a task flushed is told to the board, so that the readers that wait for it go on.
 
 ghost use Rattle.std.specs.Prelude.{◌≡◌, ◌≢◌, ◌⊎◌, ◌<◌};
-ghost use Rattle.kahn_crew.specs.inner.Words.{ℕ, IfNone, length, network_of, instance_at, actual_at, count, SeesMore, IsSeatOf, width_of};
+ghost use Rattle.kahn_crew.specs.inner.Words.{ℕ, IfNone, IfSome, length, network_of, instance_at, actual_at, count, SeesMore, IsSeatOf, width_of};
 ghost use Rattle.kahn_crew.specs.inner.Tasks.{IsPublished, written_by};
 ghost use Rattle.kahn_crew.specs.inner.Turns.{Heeds, IsAtWork, SitsIn, StandsStill};
+ghost use Rattle.kahn_crew.specs.inner.Begins.{IsHinted};
+ghost use Rattle.kahn_crew.specs.declared.hints.Order.TheVariants.{Last};
 
 use crate::boxes::Boxed;
 use crate::hints::Order;
@@ -70,6 +72,7 @@ pub(crate) fn hint(run: &Run<'_>, worker: &mut Worker, instance: Option<usize>, 
     // Nothing is halted if no hint was to be given, and the run is if memory was refused for one.
     ensures none { IfNone instance (worker.new.seat ≡ worker.old.seat) }
     ensures refused { (worker.new.hints.wanted ≡ worker.old.hints.wanted) ⊎ (worker.new.seat.seat.me.0.seen ≡ 2) }
+    ensures given { order ≡ Last → IfSome instance (λ _. IsHinted worker.old worker.new) }
 {
     let Some(instance) = instance else { return };
     if worker.hints.push(instance, order) {

@@ -3,6 +3,7 @@
 ghost use Rattle.std.specs.Prelude.{◌≡◌, ◌⊎◌, ◌+◌, ◌-◌, ◌≤◌};
 ghost use Rattle.kahn_crew.specs.inner.Words.{ℕ, OnErr, OnOk, wired, NoMemory as IsWant, IsDelivered, IsBetweenTurns, Going as IsGoing};
 ghost use Rattle.kahn_crew.specs.inner.Turns.{CanRest, IsDue, IsSetDown, IsShare, HasTask, Heeds, IsAtWork, IsTaskIn, SitsIn, SitsWith, StandsStill};
+ghost use Rattle.kahn_crew.specs.inner.Begins.{IsLeftHinted, MayBegin};
 ghost use Rattle.kahn_crew.specs.inner.Tasks.{IsPublished};
 
 use crate::hints::Order;
@@ -113,7 +114,8 @@ fn spend<L: Ledger>(
     drawn: u64,
     steps: &mut Steps<L>,
 ) -> u64
-    requires { HasTask run.now p drawn worker.old.seat }
+    requires has { HasTask run.now p drawn worker.old.seat }
+    requires may { MayBegin run.now drawn worker.old }
     ensures same { Heeds worker.old worker.new }
     ensures rests { (result ≤ drawn) × SitsWith run.now (drawn - result) worker.new.seat }
 {
@@ -172,6 +174,7 @@ pub(crate) fn turn<G: Gate, L: Ledger>(
     requires { HasTask run.now p 0 worker.old.seat }
     ensures same { Heeds worker.old worker.new }
     ensures idle { IsBetweenTurns worker.new.seat }
+    ensures aside { IsLeftHinted run.now worker.old worker.new }
 {
     let _program = run.network.program();
     match draw_some(&mut worker.seat, run.board, p, run.quantum) {

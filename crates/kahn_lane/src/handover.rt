@@ -3,20 +3,21 @@
 //!
 //! A taker that finds nothing returns at once. No call ever blocks.
 
-ghost use Rattle.std.specs.Prelude.{◌≡◌, ◌+◌, ◌<◌, List, [], ◌∷◌, ◌++◌, length, true, IfOk, MatchResult, MatchOption};
+ghost use Rattle.std.specs.Prelude.{◌≡◌, ◌+◌, ◌<◌, ◌≤◌, List, [], ◌∷◌, ◌++◌, length, true, IfOk, MatchResult, MatchOption};
 ghost use Rattle.crossbeam_deque.specs.Handles.{worker_capacity, worker_flavor, worker_index, worker_view};
 ghost use Rattle.kahn_lane.specs.inner.RelayRule.{log};
 ghost use Rattle.kahn_lane.specs.RelayEnds.{giver_relay, taker_relay, given, got, known_given, ComesBack, SameRelay, WasEmpty};
 
 use crate::ends::{Blank, Giver, Got, InOrder, Log, Roles, Sent, Taker, Total};
 use crate::fault::LaneFault;
+use crate::lanes::TRIES;
 use crossbeam_deque::{Steal, Worker};
-use kahn_streams::NoMemory;
+use kahn_streams::{NoMemory, Steps};
 use std::alloc::{AllocError, Allocator};
+use std::marker::Brand;
 use std::mem;
-
-// How often a steal that met another one is tried again.
-const TRIES: usize = 64;
+use std::sync::ledger;
+use std::sync::ledger::Ledger;
 
 // The deque of a new relay, with memory for one item.
 fn small_deque<T: Drop, A: Allocator + Clone + Drop>(
@@ -62,7 +63,27 @@ impl<T, A: Allocator> Taker<T, A> {
         ensures same { (taker_relay self.new ≡ taker_relay self.old) × (known_given self.new ≡ known_given self.old) }
         ensures rule { MatchOption result ((got self.new ≡ got self.old) × WasEmpty self.old self.new) (λ x. got self.new ≡ got self.old ++ x ∷ []) }
     {
+        self.take_counted::<Brand>(ledger::Blank::new(1))
+    }
+
+    // The same, with a ledger for its tries.
+    fn take_counted<L: Ledger>(&mut self, blank: ledger::Blank) -> Option<T>
+        requires { (blank.name ≡ L.name) × (blank.parts ≡ L.parts) × (0 < blank.parts) }
+        ensures same { (taker_relay self.new ≡ taker_relay self.old) × (known_given self.new ≡ known_given self.old) }
+        ensures rule { MatchOption result ((got self.new ≡ got self.old) × WasEmpty self.old self.new) (λ x. got self.new ≡ got self.old ++ x ∷ []) }
+    {
+        let mut tries = Steps::<L>::open(blank);
+        self.steal_next(&mut tries)
+    }
+
+    // Tries so often to take the next item.
+    fn steal_next<L: Ledger>(&mut self, tries: &mut Steps<L>) -> Option<T>
+        ensures same { (taker_relay self.new ≡ taker_relay self.old) × (known_given self.new ≡ known_given self.old) }
+        ensures rule { MatchOption result ((got self.new ≡ got self.old) × WasEmpty self.old self.new) (λ x. got self.new ≡ got self.old ++ x ∷ []) }
+        ensures few { tries.new ≤ tries.old + 64 }
+    {
         for _ in 0..TRIES {
+            tries.tick();
             match self.stealer.steal_as::<Got>(&mut self.pass) {
                 Steal::Success(item) => return Some(item),
                 Steal::Empty => return None,

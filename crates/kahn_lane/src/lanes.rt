@@ -16,12 +16,14 @@ use crate::segments::{
     Stolen, Telling,
 };
 use crossbeam_deque::Steal;
-use kahn_streams::{Carried, Input, Line, Network, NoMemory, Token};
+use kahn_streams::{Carried, Input, Line, Network, NoMemory, Steps, Token};
 use std::alloc::Allocator;
+use std::marker::Brand;
 use std::mem;
+use std::sync::ledger::{Blank, Ledger};
 
-// How often a steal that met another one is tried again.
-const TRIES: usize = 64;
+// How often a steal that met another one is tried again. Clauses of relays and lanes count this.
+pub(crate) const TRIES: usize = 64;
 
 // How many tokens a segment has at most.
 const SEGMENT: usize = 64;
@@ -268,7 +270,7 @@ impl<A: Allocator + Drop> Receiver<A> {
         ensures still { CanTake self.old → result ≡ true }
         ensures dry { result ≡ false → WasDry self.old self.new }
     {
-        self.used < self.current.len() || self.refill()
+        self.used < self.current.len() || self.refill::<Brand>(Blank::new(1))
     }
 
     /// Returns the next token, whose place is the number of tokens taken. `None` only if the deque was empty at some
@@ -298,14 +300,28 @@ impl<A: Allocator + Drop> Receiver<A> {
     // Steals the next segment once the open one is used up. It stands apart, so that `take` is short enough to be compiled into its
     // callers.
     #[inline(never)]
-    fn refill(&mut self) -> bool
-        requires { waiting self.old ≡ 0 }
+    fn refill<L: Ledger>(&mut self, blank: Blank) -> bool
+        requires dry { waiting self.old ≡ 0 }
+        requires blank { (blank.name ≡ L.name) × (blank.parts ≡ L.parts) × (0 < blank.parts) }
         ensures same { SameReceiver self.old self.new × (received self.new ≡ received self.old) × (heard self.new ≡ heard self.old) }
         ensures ready { result ≡ true → CanTake self.new }
         ensures dry { result ≡ false → WasDry self.old self.new }
     {
+        let mut tries = Steps::<L>::open(blank);
+        self.steal_next(&mut tries)
+    }
+
+    // Tries so often to steal the next segment.
+    fn steal_next<L: Ledger>(&mut self, tries: &mut Steps<L>) -> bool
+        requires { waiting self.old ≡ 0 }
+        ensures same { SameReceiver self.old self.new × (received self.new ≡ received self.old) × (heard self.new ≡ heard self.old) }
+        ensures ready { result ≡ true → CanTake self.new }
+        ensures dry { result ≡ false → WasDry self.old self.new }
+        ensures few { tries.new ≤ tries.old + 64 }
+    {
         let taken = self.taken();
         for _ in 0..TRIES {
+            tries.tick();
             match self.stealer.steal_as::<Stolen>(&mut self.pass) {
                 Steal::Success(segment) => {
                     self.from = taken;

@@ -3,14 +3,14 @@ use Rattle.kahn_crew.proofs.Working.{can_rest, in_hand, put_down, swapped, taken
 use Rattle.kahn_crew.proofs.turn.spend.Goals as goal
 
 pub take_cell-boxed-requires-clause-held : goal.take_cell-boxed-requires-clause-held
-take_cell-boxed-requires-clause-held g c = let h = c.requires.3 in (h.1.mine, (h.0, h.1.slot))
+take_cell-boxed-requires-clause-held g c = let h = c.requires.has.3 in (h.1.mine, (h.0, h.1.slot))
 
 pub run_task-done-requires : goal.run_task-done-requires
 run_task-done-requires g c =
     let run = c.args.run.now in
     let well = subst IsWellWired run.fits.network c.program-program.ensures.wired in
     let p = c.args.p in
-    let h = c.requires in
+    let h = c.requires.has in
     let e = c.take_cell-boxed.ensures in
     let same = e.only h.3.0 h.3.1.slot ∙ (sym c.boxed.view_is ∙ sym c.deref_mut.ensures.value) in
     taken run well p c.args.drawn c.deref_mut.result.now c.args.worker.now.seat c.take_cell-boxed.new.self h same (swapped p c.args.drawn 0 _ _ c.args.worker.now.seat c.take_cell-boxed.new.self e.swaps (subst (λ (x : Tasked). HoldsInTurn p c.args.drawn 0 (Some x) c.args.worker.now.seat) (e.only h.3.0 h.3.1.slot) h.3.1)) e.swaps.0.0 e.swaps.1

@@ -1,4 +1,4 @@
-use Rattle.kahn_crew.proofs.Common.{◌-◌}
+use Rattle.kahn_crew.proofs.Common.{◌-◌, inr, rules}
 use Rattle.kahn_crew.proofs.Heeding.{heeds_then, heeds_still}
 use Rattle.kahn_crew.proofs.turn.spend_all.Goals as goal
 
@@ -13,6 +13,7 @@ loop-first-preserved g c =
     record {
       same = heeds_then a s b (heeds_then a c.loop-first.worker s c.loop-first.invariant.same c.spend-done.ensures.same) (heeds_still s b c.pick_hinted.ensures.same);
       holds = c.in-Some.ensures.picked (c.loop-first.left - c.spend-done.result) c.spend-done.ensures.rests.1;
+      may = inr (search rules, search rules);
     }
 
 pub returns-in_default-clause-rests : goal.returns-in_default-clause-rests

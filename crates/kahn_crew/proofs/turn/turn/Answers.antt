@@ -45,3 +45,12 @@ returns-in-Lost-clause-same g c =
     let d = c.draw_some.ensures.same in
     let r = c.rest_ready.ensures.same in
     heeds_then a b c.hint.new.worker (heeds_still a b ((r.0 ∙ d.0, r.1 ∙ d.1, r.2 ∙ d.2, r.3 ∙ d.3), refl, refl)) c.hint.ensures.same
+
+pub returns-in-Got-clause-aside : goal.returns-in-Got-clause-aside
+returns-in-Got-clause-aside g c = (c.draw_some.new.seat, _, c.in-Got.ensures.draws, λ e. absurd cc)
+
+pub returns-in-Lost-clause-aside : goal.returns-in-Lost-clause-aside
+returns-in-Lost-clause-aside g c = (c.draw_some.new.seat, _, c.in-Lost.ensures.draws, λ e. c.hint.ensures.given refl)
+
+pub returns-in-Empty-clause-aside : goal.returns-in-Empty-clause-aside
+returns-in-Empty-clause-aside g c = (c.draw_some.new.seat, _, c.in-Empty.ensures.draws, λ e. absurd cc)

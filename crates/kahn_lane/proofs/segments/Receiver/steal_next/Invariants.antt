@@ -1,7 +1,7 @@
 use Rattle.std.proofs.Common.{◌≡◌, ◌+◌, ◌≤◌, ◌⊎◌}
 use Rattle.crossbeam_deque.specs.Handles.{view}
 use Rattle.kahn_lane.specs.LaneEnds.{receiver_lane, received, waiting, heard, left}
-use Rattle.kahn_lane.proofs.segments.Receiver.refill.Given as goal
+use Rattle.kahn_lane.proofs.segments.Receiver.steal_next.Given as goal
 
 abbrev pub invariant-loop : goal.invariant-loop
 invariant-loop g l =
@@ -11,3 +11,4 @@ invariant-loop g l =
     × (l.taken ≡ received l.self)
     × (waiting l.self ≡ 0)
     × ((heard l.initial.self ≤ received l.initial.self) ⊎ (left l.initial.self + l.counter ≤ left l.self))
+    × (l.tries ≡ l.initial.tries + l.counter)
