@@ -4,8 +4,9 @@ use Rattle.kahn_streams.specs.declared.answer.Verdict.{Verdict}
 use Rattle.kahn_fault.specs.declared.fault.Fault.{Fault}
 use Rattle.std.specs.List.{list_any}
 use Rattle.std.specs.Prelude.{◌&&◌, nat_lt}
-use Rattle.kahn_session.specs.Forms.{are_rows, left_out, news_on, row_count}
-use Rattle.kahn_session.specs.Live.{HasTaken, IsMeantLine, IsTakenLine, IsUnfedBy, Live, is_waiting_row}
+use Rattle.kahn_session.specs.Forms.{HasLetGoAt, are_rows, next_of, row_count}
+use Rattle.kahn_session.specs.Live.{HasTaken, IsMeantLine, IsTakenLine, IsUnfedBy, Live, pace_after, pace_of}
+use Rattle.kahn_session.specs.Pace.{Pace}
 use Rattle.kahn_session.specs.declared.fault.TakeFault.{TakeFault}
 use Rattle.kahn_session.specs.declared.fault.TakeFault.TheVariants.{TooLong, NotUtf8, BadLine, BadValue, BadRow, Feed, NoMemory, Write}
 use Rattle.kahn_session.specs.Refusals.{at_end_number}
@@ -43,10 +44,16 @@ stays old new same was = subst (λ (s : Live). IsShown s) (sym same) was
 -- a line that was taken shows all that isn't in rows, whatever was shown before
 let_go : (line : List ℕ) (old new : Live) (before after : Option (List ℕ)) (v : Verdict) → HasTaken line old new before after v → IsShown new
 let_go line old new before after v t =
-    (v, t.answered.verdict, t.answered.ends, t.begun, λ none. t.out ∙ ap (λ b. left_out b (record new.flow { out = old.flow.out })) (even (sym (ap are_rows t.answered.gone_on.columns) ∙ none)))
+    (v, t.answered.verdict, t.answered.ends, t.begun, λ none. ap (λ (p : Pace). p.flow.out) (subst level (even (sym (ap are_rows t.answered.gone_on.columns) ∙ none)) t.gone).0)
   where
-    even : are_rows old.columns ≡ false → is_waiting_row old t.news ≡ false
-    even none = ap (λ b. b && list_any (λ c. nat_lt (row_count t.news old.columns) (length (news_on c t.news))) old.columns) none
+    rows : ℕ
+    rows = row_count (next_of (pace_after old new)) old.columns
+
+    level : Bool → Type 0
+    level b = HasLetGoAt b rows old.columns (pace_after old new) (pace_of new) new.shown
+
+    even : are_rows old.columns ≡ false → (are_rows old.columns && list_any (λ c. nat_lt rows (length (next_of (pace_after old new) c))) old.columns) ≡ false
+    even none = ap (λ b. b && list_any (λ c. nat_lt rows (length (next_of (pace_after old new) c))) old.columns) none
 
 taken : (number : ℕ) (line : List ℕ) (p q : LiveTelling) (old new : Live) (before after : Option (List ℕ)) (answer : Result Verdict TakeFault) → IsToldBy new number line answer p q
     → IsTakenLine line old new before after answer → IsShown old → IsShown new

@@ -12,7 +12,8 @@ use Rattle.kahn_streams.specs.Tokens.{token_value}
 use Rattle.kahn_streams.specs.declared.token.Token.{Token}
 use Rattle.kahn_streams.specs.Answers.{stream_lines}
 use Rattle.kahn_texts.specs.News.{joined}
-use Rattle.kahn_session.specs.Forms.{form_text, left_out, news_of, values_behind}
+use Rattle.kahn_session.specs.Forms.{HasLetGoAt, let_go_but, news_of, values_behind, waiting_from, next_of}
+use Rattle.kahn_session.specs.Pace.{Pace}
 use Rattle.kahn_session.specs.Live.{OutBegins}
 
 -- both have the same lines
@@ -21,12 +22,6 @@ lines_stay a b g = ap (λ t. stream_lines (network_of t) b.watch) g.network ∙ 
 
 pub kept_lines : (a b : HeldRun) (lines : List Line) → lines ≡ flow_lines a → GoesOn a b → lines ≡ flow_lines b
 kept_lines a b lines e g = e ∙ sym (lines_stay a b g)
-
--- the text of the news, by what it is of
-pub news_texts : (columns : List ℕ) (shown : ℕ) (t : Program) (f : Flowing) (lines : List Line) → t ≡ f.run.network → lines ≡ flow_lines f.run →
-    form_text columns shown t lines (news_of f lines) ≡ form_text columns shown f.run.network (flow_lines f.run) (news_of f (flow_lines f.run))
-news_texts columns shown t f lines e is =
-    ap (λ u. form_text columns shown u lines (news_of f lines)) e ∙ ap (λ l. form_text columns shown f.run.network l (news_of f l)) is
 
 behind : (vs zs : List Value) → drop (length vs) (vs ++ zs) ≡ zs
 behind [] zs = refl
@@ -45,7 +40,7 @@ put_together h (c ∷ lines) (vs ∷ outs) each =
     (put_together h lines outs (λ j. each (suc j)))
 
 -- what went out and the news are the streams so far
-pub news_fit : (f : Flowing) → OutBegins f → joined f.out (news_of f (flow_lines f.run)) ≡ map (so_far f.run) (flow_lines f.run)
+pub news_fit : (f : Flowing) → OutBegins f → joined f.out (news_of f) ≡ map (so_far f.run) (flow_lines f.run)
 news_fit f h = put_together f.run (flow_lines f.run) f.out h
 
 -- the next stream has begun so, too
@@ -84,7 +79,27 @@ mapped f [] j c at = absurd cc
 mapped f (l ∷ ls) zero c at = ap f (same_Some l c at)
 mapped f (l ∷ ls) (suc j) c at = mapped f ls j c at
 
--- what was let go of begins what there is
-pub left_begins : (b : Bool) (f : Flowing) → OutBegins f → OutBegins (record f { out = left_out b f })
-left_begins true f begun = begun
-left_begins false f begun = λ j c at. ([], sym (append-nil _ ∙ mapped (so_far f.run) (flow_lines f.run) j c at))
+module _ (count : ℕ) (columns : List ℕ) (old new : Pace) (shown : ℕ) where
+  -- what was let go of begins what there is
+  pub gone_begins : (b : Bool) → HasLetGoAt b count columns old new shown → OutBegins old.flow → OutBegins new.flow
+  gone_begins b gone begun = by b gone
+    where
+      all : (waits : List (List Value)) → OutBegins (let_go_but old waits).flow
+      all waits j c at = ([], sym (append-nil _ ∙ mapped (so_far old.flow.run) (flow_lines old.flow.run) j c at))
+
+      by : (b : Bool) → HasLetGoAt b count columns old new shown → OutBegins new.flow
+      by false (is, none) = subst (λ (p : Pace). OutBegins p.flow) (sym is) (all [])
+      by true (inl (is, some)) = subst (λ (p : Pace). OutBegins p.flow) (sym is) begun
+      by true (inr (is, none)) = subst (λ (p : Pace). OutBegins p.flow) (sym is) (all (waiting_from (next_of old) count columns 0 (flow_lines old.flow.run)))
+
+  -- the run stays
+  pub gone_run : (b : Bool) → HasLetGoAt b count columns old new shown → (new.flow ≡ record old.flow { out = new.flow.out }) × (new.step ≡ old.step)
+  gone_run b gone = by b gone
+    where
+      same : (p : Pace) → new ≡ p → (p.flow ≡ record old.flow { out = p.flow.out }) × (p.step ≡ old.step) → (new.flow ≡ record old.flow { out = new.flow.out }) × (new.step ≡ old.step)
+      same p is = subst (λ (q : Pace). (q.flow ≡ record old.flow { out = q.flow.out }) × (q.step ≡ old.step)) (sym is)
+
+      by : (b : Bool) → HasLetGoAt b count columns old new shown → (new.flow ≡ record old.flow { out = new.flow.out }) × (new.step ≡ old.step)
+      by false (is, none) = same (let_go_but old []) is (refl, refl)
+      by true (inl (is, some)) = same old is (refl, refl)
+      by true (inr (is, none)) = same (let_go_but old (waiting_from (next_of old) count columns 0 (flow_lines old.flow.run))) is (refl, refl)

@@ -43,9 +43,9 @@ after_part h k step allowed more is part resumed =
     let few : k.bound ≤ events_of h + step = subst (λ n. n ≤ events_of h + step) (sym whole) (min-le_left (events_of h + step) most_bound) in
     (ap (λ n. n + more) is ∙ sym resumed.bound, most, omega (arith, few, events))
 
--- two with the same flow and the same step
-pub one_pace : (p q : Pace) → p.flow ≡ q.flow → p.step ≡ q.step → p ≡ q
-one_pace p q flow step = ap (λ (f : Flowing). record { flow = f; step = p.step }) flow ∙ ap (λ (n : ℕ). record { flow = q.flow; step = n }) step
+-- one with the same flow
+pub one_pace : (p q : Pace) → p.flow ≡ q.flow → p ≡ record q { flow = p.flow } → p ≡ q
+one_pace p q flow rest = rest ∙ ap (λ (f : Flowing). record q { flow = f }) flow
 
 -- a refusal changes nothing, and is one of what stands
 pub unpoured : (entry : Entry) (a b : Flowing) (f : FeedFault) → IsUnpoured entry a b f → (b ≡ a) × IsUnpoured entry a a f

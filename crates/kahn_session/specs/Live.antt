@@ -27,15 +27,15 @@ use Rattle.kahn_streams.specs.declared.fault.RunFault.{RunFault}
 use Rattle.kahn_streams.specs.declared.fault.RunFault.TheVariants as fault
 use Rattle.kahn_texts.specs.Formats.{AreBlanks, IsEntry, HasNoHead, HasNoValues, content, most_input_bytes, channel_name}
 use Rattle.kahn_texts.specs.News.{closing_text, joined}
-use Rattle.kahn_session.specs.Forms.{form_text, is_uneven, left_out, news_of, row_count}
+use Rattle.kahn_session.specs.Forms.{HasLetGoBehind, form_text, is_uneven, news_of, next_of, row_count}
 use Rattle.kahn_streams.specs.Written.{AppendsFront}
 use Rattle.kahn_texts.specs.declared.bytes.WriteFault.{WriteFault}
-use Rattle.kahn_session.specs.Pace.{events_of, part_bound}
+use Rattle.kahn_session.specs.Pace.{Pace, events_of, part_bound}
 use Rattle.kahn_session.specs.declared.fault.TakeFault.{TakeFault}
 use Rattle.kahn_session.specs.declared.fault.TakeFault.TheVariants.{TooLong, NotUtf8, BadLine, BadValue, BadRow, Feed, NoMemory, Write}
 
 pub record Live : Type 0 where
-  -- the run, and what was let go of each stream: all of it went out
+  -- the run, and what was let go of each stream: all of it went out, but for what waits
   pub flow : Flowing
   -- the events that a part may take
   pub step : ℕ
@@ -43,7 +43,9 @@ pub record Live : Type 0 where
   pub broken : Bool
   -- the numbers of the streams whose values alone are shown, of several in rows; where there are none, all streams are
   pub columns : List ℕ
-  -- how many rows went out of what wasn't let go of
+  -- of what was let go of each stream, the last values, which wait for the others of their rows
+  pub waits : List (List Value)
+  -- how many rows went out of what waits and of what wasn't let go of
   pub shown : ℕ
 
 -- the run has a verdict for its input so far and its bound so far, and no write failed
@@ -58,6 +60,7 @@ pub record HasOpened (t : Program) (config : Config) (s : Live) : Type 0 where
   pub step : s.step ≡ config.bound
   pub broken : s.broken ≡ false
   pub columns : s.columns ≡ []
+  pub waits : s.waits ≡ []
   pub shown : s.shown ≡ 0
 
 abbrev pub IsUnopened : Program → Config → RunFault → Type 0
@@ -112,19 +115,26 @@ pub record HasGoneOn (line : List ℕ) (old new : Live) : Type 0 where
   pub step : new.step ≡ old.step
   pub columns : new.columns ≡ old.columns
 
+abbrev pub pace_of : Live → Pace
+pace_of s = record { flow = s.flow; waits = s.waits; step = s.step }
+
+-- after a part, before anything of it is let go of
+abbrev pub pace_after : Live → Live → Pace
+pace_after old new = record { flow = record new.flow { out = old.flow.out }; waits = old.waits; step = new.step }
+
 -- the part has this verdict, and the ends that are right for the input so far and the bound so far; and what is new on each
 -- stream, behind what was let go of it, is its stream so far
-pub record HasAnswered (line : List ℕ) (old new : Live) (v : Verdict) (news : List (List Value)) : Type 0 where
+pub record HasAnswered (line : List ℕ) (old new : Live) (v : Verdict) : Type 0 where
   pub gone_on : HasGoneOn line old new
   pub bound : new.flow.run.bound ≡ part_bound old.step old.flow.run
   pub verdict : new.flow.run.verdict ≡ Some v
   pub ends : (ends : List End) × IsRightSoFar new.flow.run v ends
   pub exact : Settles (network_of new.flow.run.network) (inputs_of new.flow.run.input) new.flow.run.bound v
-  pub joined : joined old.flow.out news ≡ map (so_far new.flow.run) (flow_lines new.flow.run)
+  pub joined : joined old.flow.out (news_of (pace_after old new).flow) ≡ map (so_far new.flow.run) (flow_lines new.flow.run)
 
--- the text of the news, behind the rows that went out before
-abbrev pub news_written : Live → Live → List (List Value) → List ℕ
-news_written old new news = form_text old.columns old.shown new.flow.run.network (flow_lines new.flow.run) news
+-- the text of the news, behind what waited and the rows that went out before
+abbrev pub news_written : Live → Live → List ℕ
+news_written old new = form_text old.columns old.shown new.flow.run.network (pace_after old new)
 
 -- what was let go of each stream begins what there is of it
 abbrev pub OutBegins : Flowing → Type 0
@@ -132,27 +142,24 @@ OutBegins f = (j : ℕ) (c : Line) → slice_get (flow_lines f.run) j ≡ Some c
 
 -- whether values stand behind the rows that went out
 abbrev pub has_left : Live → Bool
-has_left s = is_uneven (news_of s.flow (flow_lines s.flow.run)) s.shown s.columns
+has_left s = is_uneven (next_of (pace_of s)) s.shown s.columns
 
--- whether a value waits for the others of its row
-abbrev pub is_waiting_row : Live → List (List Value) → Bool
-is_waiting_row s news = is_uneven news (row_count news s.columns) s.columns
+-- all whole rows went out
+abbrev pub AreRowsGone : Live → Live → Type 0
+AreRowsGone old new = HasLetGoBehind (row_count (next_of (pace_after old new)) old.columns) old.columns (pace_after old new) (pace_of new) new.shown
 
--- the news went out; it is let go of, unless a value waits for the others of its row
+-- the news went out, and what went out is let go of
 pub record HasTaken (line : List ℕ) (old new : Live) (before after : Option (List ℕ)) (v : Verdict) : Type 0 where
-  pub news : List (List Value)
-  pub answered : HasAnswered line old new v news
-  pub out : new.flow.out ≡ left_out (is_waiting_row old news) (record new.flow { out = old.flow.out })
-  pub shown : new.shown ≡ (if is_waiting_row old news then row_count news old.columns else 0)
+  pub answered : HasAnswered line old new v
+  pub gone : AreRowsGone old new
   pub begun : OutBegins new.flow
-  pub text : Appends before after (news_written old new news)
+  pub text : Appends before after (news_written old new)
 
 -- a fault of the writer: a prefix of the news went out
 pub record HasBroken (line : List ℕ) (old new : Live) (before after : Option (List ℕ)) : Type 0 where
   pub verdict : Verdict
-  pub news : List (List Value)
-  pub answered : HasAnswered line old new verdict news
-  pub text : AppendsFront before after (news_written old new news)
+  pub answered : HasAnswered line old new verdict
+  pub text : AppendsFront before after (news_written old new)
 
 -- whether the session is broken by a fault
 abbrev pub breaks : TakeFault → Bool

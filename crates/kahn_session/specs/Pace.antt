@@ -1,14 +1,17 @@
 -- Believed. A run that is fed as it goes, each part of which may take so many events (this project's profile).
-use Rattle.std.specs.Prelude.{◌≡◌, ◌⊎◌, ◌<◌, ℕ, ◌+◌, ◌-◌, min, sum_by, Some}
+use Rattle.std.specs.Prelude.{◌≡◌, ◌⊎◌, ◌<◌, ℕ, ◌+◌, ◌-◌, List, min, sum_by, Some}
 use Rattle.kahn_streams.specs.Network.{network_of}
 use Rattle.kahn_streams.specs.Inputs.{inputs_of}
 use Rattle.kahn_streams.specs.Answers.{Settles}
+use Rattle.kahn_streams.specs.declared.value.Value.{Value}
 use Rattle.kahn_sequential.specs.HeldRuns.{GoesOn, HeldRun, seen_events}
 use Rattle.kahn_sequential.specs.Flows.{Flowing}
 use Rattle.kahn_streams.specs.declared.answer.Verdict.{Verdict}
 
 pub record Pace : Type 0 where
   pub flow : Flowing
+  -- of what was let go of each stream, the last values, which wait for the others of their rows
+  pub waits : List (List Value)
   -- the events that a part may take
   pub step : ℕ
 
@@ -34,6 +37,7 @@ pub record HasRun (old new : Pace) : Type 0 where
   pub input : new.flow.run.input ≡ old.flow.run.input
   pub bound : new.flow.run.bound ≡ part_bound old.step old.flow.run
   pub out : new.flow.out ≡ old.flow.out
+  pub waits : new.waits ≡ old.waits
   pub step : new.step ≡ old.step
 
 -- and it has this verdict

@@ -33,7 +33,7 @@ fn entry_of_line(alloc: Global, line: &[u8]) -> Result<Option<(String, Vec<Value
 /// Feeds the values of a line.
 pub(crate) fn feed_line(alloc: Global, paced: &mut Paced<'_>, line: &[u8]) -> Result<(), TakeFault>
     ensures fed { MatchResult result (λ _. IsFedBy line.now paced.old.flow paced.new.flow) (λ f. (paced.new ≡ paced.old) × IsUnfedBy line.now paced.old.flow f) }
-    ensures step { paced.new.step ≡ paced.old.step }
+    ensures rest { paced.new ≡ record paced.old { flow = paced.new.flow } }
 {
     match entry_of_line(alloc, line) {
         Ok(None) => Ok(()),

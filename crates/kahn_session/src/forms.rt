@@ -1,18 +1,20 @@
 //! What is new on the streams of a run, in the form of a session.
 
-ghost use Rattle.std.specs.Prelude.{◌≡◌, ◌-◌, if◌then◌else◌, length, map, nat_lt, slice_get};
+ghost use Rattle.std.specs.Prelude.{◌≡◌, ◌==◌, ◌-◌, [], IfOk, drop, if◌then◌else◌, length, map, nat_lt, slice_get};
 ghost use Rattle.std.specs.List.{list_any};
 ghost use Rattle.kahn_streams.specs.Tokens.{token_value};
 ghost use Rattle.kahn_streams.specs.Written.{Writes, value_text};
 ghost use Rattle.kahn_sequential.specs.Flows.{flow_lines};
-ghost use Rattle.kahn_texts.specs.News.{news_text, plain_text};
-ghost use Rattle.kahn_session.specs.Forms.{are_rows, cell_news, fewest, form_text, is_uneven, left_out, news_of, news_on, row_count, row_news, row_stop, rows_news};
+ghost use Rattle.kahn_texts.specs.News.{plain_text};
+ghost use Rattle.kahn_session.specs.Forms.{HasLetGoBehind, are_rows, cell_news, fewest, form_text, is_uneven, news_of, news_on, next_of, row_count, row_news, row_stop, rows_news, waiting_from};
 ghost use Rattle.kahn_session.specs.Live.{OutBegins};
+ghost use Rattle.kahn_session.specs.inner.Kept.{kept_values, lines_text};
 
 use crate::pace::Paced;
 use itoa::Buffer;
-use kahn_streams::{Carried, Line, Network, Value};
+use kahn_streams::{Carried, Line, Network, NoMemory, Value};
 use kahn_texts::{WriteFault, write_line, write_news, write_plain};
+use std::alloc::Global;
 use std::io::Write;
 
 /// Writes what is new on each stream.
@@ -24,7 +26,7 @@ fn put_news<W: Write>(
 ) -> Result<(), WriteFault>
     requires network { run.now.flow.run.network ≡ network.now }
     requires lines { lines.now ≡ flow_lines run.now.flow.run }
-    ensures { Writes (W.contents writer.old) (W.contents writer.new) result (news_text network.now lines.now (news_of run.now.flow lines.now)) }
+    ensures { Writes (W.contents writer.old) (W.contents writer.new) result (lines_text network.now run.now.flow lines.now) }
 {
     let _program = network.program();
     for line in lines {
@@ -34,10 +36,10 @@ fn put_news<W: Write>(
 }
 
 /// What is new on the stream of that number, and nothing where there is none.
-fn fresh_of<'r>(run: &'r Paced<'_>, lines: &[Line], number: usize) -> &'r [Carried]
-    requires { lines.now ≡ flow_lines run.now.flow.run }
-    ensures { map token_value result.now ≡ news_on number (news_of run.now.flow lines.now) }
+fn fresh_of<'r>(run: &'r Paced<'_>, number: usize) -> &'r [Carried]
+    ensures { map token_value result.now ≡ news_on number (news_of run.now.flow) }
 {
+    let lines = run.lines();
     if number >= lines.len() {
         return &[];
     }
@@ -45,16 +47,10 @@ fn fresh_of<'r>(run: &'r Paced<'_>, lines: &[Line], number: usize) -> &'r [Carri
 }
 
 /// Writes the values alone that are new on the stream of that number.
-fn put_plain<W: Write>(
-    writer: &mut W,
-    run: &Paced<'_>,
-    lines: &[Line],
-    number: usize,
-) -> Result<(), WriteFault>
-    requires { lines.now ≡ flow_lines run.now.flow.run }
-    ensures { Writes (W.contents writer.old) (W.contents writer.new) result (plain_text (news_on number (news_of run.now.flow lines.now))) }
+fn put_plain<W: Write>(writer: &mut W, run: &Paced<'_>, number: usize) -> Result<(), WriteFault>
+    ensures { Writes (W.contents writer.old) (W.contents writer.new) result (plain_text (news_on number (news_of run.now.flow))) }
 {
-    write_plain(writer, fresh_of(run, lines, number))
+    write_plain(writer, fresh_of(run, number))
 }
 
 /// The text of a value.
@@ -80,16 +76,27 @@ fn put_cell<W: Write>(writer: &mut W, value: Option<Value>, stop: &str) -> Resul
     write_line(writer, &[text.as_bytes(), stop.as_bytes()])
 }
 
-/// The new value of a place, on the stream of that number.
-fn value_at(run: &Paced<'_>, lines: &[Line], number: usize, place: usize) -> Option<Value>
-    requires { lines.now ≡ flow_lines run.now.flow.run }
-    ensures { result ≡ slice_get (news_on number (news_of run.now.flow lines.now)) place }
+/// How many values of the stream of that number stand in the next rows.
+fn next_count(run: &Paced<'_>, number: usize) -> usize
+    ensures { result ≡ length (next_of run.now number) }
 {
-    let tokens = fresh_of(run, lines, number);
-    if place >= tokens.len() {
+    run.kept(number).len() + fresh_of(run, number).len()
+}
+
+/// The one of the next row of a place.
+fn next_at(run: &Paced<'_>, number: usize, place: usize) -> Option<Value>
+    ensures { result ≡ slice_get (next_of run.now number) place }
+{
+    let kept = run.kept(number);
+    if place < kept.len() {
+        return Some(kept[place]);
+    }
+    let tokens = fresh_of(run, number);
+    let behind = place - kept.len();
+    if behind >= tokens.len() {
         return None;
     }
-    Some(tokens[place].value())
+    Some(tokens[behind].value())
 }
 
 /// What stands behind a value of a row before those of these streams.
@@ -103,16 +110,14 @@ fn row_stop(behind: &[usize]) -> &'static str
 fn put_row<W: Write>(
     writer: &mut W,
     run: &Paced<'_>,
-    lines: &[Line],
     columns: &[usize],
     place: usize,
 ) -> Result<(), WriteFault>
-    requires { lines.now ≡ flow_lines run.now.flow.run }
-    ensures { Writes (W.contents writer.old) (W.contents writer.new) result (row_news (news_of run.now.flow lines.now) place columns.now) }
+    ensures { Writes (W.contents writer.old) (W.contents writer.new) result (row_news (next_of run.now) place columns.now) }
 {
     let mut rest = columns;
     'columns: while let Some((number, behind)) = rest.split_first() {
-        let value = value_at(run, lines, *number, place);
+        let value = next_at(run, *number, place);
         put_cell(writer, value, row_stop(behind))?;
         rest = behind;
     }
@@ -123,44 +128,38 @@ fn put_row<W: Write>(
 fn put_rows<W: Write>(
     writer: &mut W,
     run: &Paced<'_>,
-    lines: &[Line],
     columns: &[usize],
     from: usize,
     to: usize,
 ) -> Result<(), WriteFault>
-    requires { lines.now ≡ flow_lines run.now.flow.run }
-    ensures { Writes (W.contents writer.old) (W.contents writer.new) result (rows_news (news_of run.now.flow lines.now) columns.now from (to - from)) }
+    ensures { Writes (W.contents writer.old) (W.contents writer.new) result (rows_news (next_of run.now) columns.now from (to - from)) }
 {
     for place in from..to {
-        put_row(writer, run, lines, columns, place)?;
+        put_row(writer, run, columns, place)?;
     }
     Ok(())
 }
 
-/// The least of a number, and of how many values are new on each of these streams.
-fn fewest(run: &Paced<'_>, lines: &[Line], first: usize, columns: &[usize]) -> usize
-    requires { lines.now ≡ flow_lines run.now.flow.run }
-    ensures { result ≡ fewest (news_of run.now.flow lines.now) first columns.now }
+/// The least of a number, and of how many values of each of these streams stand in the next rows.
+fn fewest(run: &Paced<'_>, first: usize, columns: &[usize]) -> usize
+    ensures { result ≡ fewest (next_of run.now) first columns.now }
 {
     let mut least = first;
     let mut rest = columns;
     'columns: while let Some((number, behind)) = rest.split_first() {
-        least = least.min(fresh_of(run, lines, *number).len());
+        least = least.min(next_count(run, *number));
         rest = behind;
     }
     least
 }
 
-/// How many rows there are of the new values of these streams.
-pub(crate) fn row_count(run: &Paced<'_>, lines: &[Line], columns: &[usize]) -> usize
-    requires { lines.now ≡ flow_lines run.now.flow.run }
-    ensures { result ≡ row_count (news_of run.now.flow lines.now) columns.now }
+/// How many whole rows there are of these streams.
+pub(crate) fn row_count(run: &Paced<'_>, columns: &[usize]) -> usize
+    ensures { result ≡ row_count (next_of run.now) columns.now }
 {
     match columns.split_first() {
         None => 0,
-        Some((number, behind)) => {
-            fewest(run, lines, fresh_of(run, lines, *number).len(), behind)
-        }
+        Some((number, behind)) => fewest(run, next_count(run, *number), behind),
     }
 }
 
@@ -169,23 +168,21 @@ fn put_form<W: Write>(
     writer: &mut W,
     network: &Network,
     run: &Paced<'_>,
-    lines: &[Line],
     columns: &[usize],
     from: usize,
     to: usize,
 ) -> Result<(), WriteFault>
     requires network { run.now.flow.run.network ≡ network.now }
-    requires lines { lines.now ≡ flow_lines run.now.flow.run }
-    requires count { to ≡ row_count (news_of run.now.flow lines.now) columns.now }
-    ensures { Writes (W.contents writer.old) (W.contents writer.new) result (form_text columns.now from network.now lines.now (news_of run.now.flow lines.now)) }
+    requires count { to ≡ row_count (next_of run.now) columns.now }
+    ensures { Writes (W.contents writer.old) (W.contents writer.new) result (form_text columns.now from network.now run.now) }
 {
     let Some((number, behind)) = columns.split_first() else {
-        return put_news(writer, network, run, lines);
+        return put_news(writer, network, run, run.lines());
     };
     if behind.is_empty() {
-        return put_plain(writer, run, lines, *number);
+        return put_plain(writer, run, *number);
     }
-    put_rows(writer, run, lines, columns, from, to)
+    put_rows(writer, run, columns, from, to)
 }
 
 /// Writes it, and flushes.
@@ -193,17 +190,15 @@ pub(crate) fn show<W: Write>(
     writer: &mut W,
     network: &Network,
     run: &Paced<'_>,
-    lines: &[Line],
     columns: &[usize],
     from: usize,
     to: usize,
 ) -> Result<(), WriteFault>
     requires network { run.now.flow.run.network ≡ network.now }
-    requires lines { lines.now ≡ flow_lines run.now.flow.run }
-    requires count { to ≡ row_count (news_of run.now.flow lines.now) columns.now }
-    ensures { Writes (W.contents writer.old) (W.contents writer.new) result (form_text columns.now from network.now lines.now (news_of run.now.flow lines.now)) }
+    requires count { to ≡ row_count (next_of run.now) columns.now }
+    ensures { Writes (W.contents writer.old) (W.contents writer.new) result (form_text columns.now from network.now run.now) }
 {
-    put_form(writer, network, run, lines, columns, from, to)?;
+    put_form(writer, network, run, columns, from, to)?;
     writer.flush().map_err(|_| WriteFault::Failed)
 }
 
@@ -215,12 +210,11 @@ fn are_rows(columns: &[usize]) -> bool
 }
 
 /// Whether one of the streams has more values than so many.
-fn has_more(run: &Paced<'_>, lines: &[Line], columns: &[usize], count: usize) -> bool
-    requires { lines.now ≡ flow_lines run.now.flow.run }
-    ensures { result ≡ list_any (λ c. nat_lt count (length (news_on c (news_of run.now.flow lines.now)))) columns.now }
+fn has_more(run: &Paced<'_>, columns: &[usize], count: usize) -> bool
+    ensures { result ≡ list_any (λ c. nat_lt count (length (next_of run.now c))) columns.now }
 {
     for number in columns {
-        if fresh_of(run, lines, *number).len() > count {
+        if next_count(run, *number) > count {
             return true;
         }
     }
@@ -228,24 +222,94 @@ fn has_more(run: &Paced<'_>, lines: &[Line], columns: &[usize], count: usize) ->
 }
 
 /// Whether a value waits for the others of its row, where there are so many rows.
-pub(crate) fn is_uneven(run: &Paced<'_>, lines: &[Line], columns: &[usize], count: usize) -> bool
-    requires { lines.now ≡ flow_lines run.now.flow.run }
-    ensures { result ≡ is_uneven (news_of run.now.flow lines.now) count columns.now }
+pub(crate) fn is_uneven(run: &Paced<'_>, columns: &[usize], count: usize) -> bool
+    ensures { result ≡ is_uneven (next_of run.now) count columns.now }
 {
-    are_rows(columns) && has_more(run, lines, columns, count)
+    are_rows(columns) && has_more(run, columns, count)
 }
 
-/// Lets go of what went out, unless a value waits for the others of its row; and gives how many rows went out of what stays.
-pub(crate) fn let_go(run: &mut Paced<'_>, lines: &[Line], columns: &[usize], count: usize) -> usize
-    requires { lines.now ≡ flow_lines run.old.flow.run }
-    ensures gone { run.new.flow ≡ record run.old.flow { out = left_out (is_uneven (news_of run.old.flow lines.now) count columns.now) run.old.flow } }
-    ensures step { run.new.step ≡ run.old.step }
-    ensures shown { result ≡ (if is_uneven (news_of run.old.flow lines.now) count columns.now then count else 0) }
+/// What waits of the stream of that number behind so many rows.
+fn waiting_of(
+    alloc: Global,
+    run: &Paced<'_>,
+    number: usize,
+    count: usize,
+) -> Result<Vec<Value>, NoMemory>
+    ensures { IfOk result (λ left. left.items ≡ drop count (next_of run.now number)) }
 {
-    if is_uneven(run, lines, columns, count) {
+    let mut left = Vec::new(alloc);
+    for place in count..usize::MAX {
+        let Some(value) = next_at(run, number, place) else {
+            return Ok(left);
+        };
+        left.push(value)?;
+    }
+    Err(NoMemory)
+}
+
+/// The same if its values stand in rows, and else nothing.
+fn waiting_in(
+    alloc: Global,
+    run: &Paced<'_>,
+    columns: &[usize],
+    number: usize,
+    count: usize,
+) -> Result<Vec<Value>, NoMemory>
+    ensures { IfOk result (λ left. left.items ≡ (if list_any (λ c. c == number) columns.now then drop count (next_of run.now number) else [])) }
+{
+    if columns.contains(&number) {
+        return waiting_of(alloc, run, number, count);
+    }
+    Ok(Vec::new(alloc))
+}
+
+/// What waits of each stream behind so many rows.
+fn all_waiting(
+    alloc: Global,
+    run: &Paced<'_>,
+    columns: &[usize],
+    count: usize,
+) -> Result<Vec<Vec<Value>>, NoMemory>
+    ensures { IfOk result (λ left. kept_values left.items ≡ waiting_from (next_of run.now) count columns.now 0 (flow_lines run.now.flow.run)) }
+{
+    let lines = run.lines();
+    let mut left = Vec::new(alloc);
+    for number in 0..lines.len() {
+        left.push(waiting_in(alloc, run, columns, number, count)?)?;
+    }
+    Ok(left)
+}
+
+/// Whether no more values wait behind so many rows than are new on all streams: then no value is copied more often than one comes.
+fn is_worth(run: &Paced<'_>, columns: &[usize], count: usize) -> bool {
+    let mut new: usize = 0;
+    for number in 0..run.lines().len() {
+        new = new.saturating_add(fresh_of(run, number).len());
+    }
+    let mut left: usize = 0;
+    for number in columns {
+        left = left.saturating_add(next_count(run, *number).saturating_sub(count));
+    }
+    left <= new
+}
+
+/// Lets go of what went out behind so many rows, and gives how many of them went out of what stays. Where a value waits for the others of its
+/// row, all may stay for now, as where memory is refused.
+pub(crate) fn let_go(alloc: Global, run: &mut Paced<'_>, columns: &[usize], count: usize) -> usize
+    ensures gone { HasLetGoBehind count columns.now run.old run.new result }
+    ensures run { run.new.flow.run ≡ run.old.flow.run }
+{
+    if !is_uneven(run, columns, count) {
+        run.forget(Vec::new(alloc));
+        return 0;
+    }
+    if !is_worth(run, columns, count) {
         return count;
     }
-    run.forget();
+    let Ok(left) = all_waiting(alloc, run, columns, count) else {
+        return count;
+    };
+    run.forget(left);
     0
 }
 

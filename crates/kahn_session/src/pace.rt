@@ -1,15 +1,17 @@
 //! A run that is fed as it goes, each part of which may take so many events.
 
-ghost use Rattle.std.specs.Prelude.{◌≡◌, ◌↔◌, ℕ, ◌+◌, Some, IfErr, IfOk, IsTrue, MatchResult};
+ghost use Rattle.std.specs.Prelude.{◌≡◌, ◌↔◌, ℕ, ◌+◌, [], Some, IfErr, IfOk, IsTrue, MatchResult};
 ghost use Rattle.kahn_sequential.specs.HeldRuns.{IsLineOf, IsRightSoFar, IsUnstarted};
 ghost use Rattle.kahn_streams.specs.declared.answer.Verdict.{Verdict as VerdictOf};
-ghost use Rattle.kahn_sequential.specs.Flows.{AreNew, HasFlowed, HasLetGo, HasPouredIn, IsUnpoured, flow_lines};
+ghost use Rattle.kahn_sequential.specs.Flows.{AreNew, HasFlowed, HasPouredIn, IsUnpoured, flow_lines};
+ghost use Rattle.kahn_session.specs.Forms.{let_go_but, news_on};
+ghost use Rattle.kahn_session.specs.inner.Kept.{kept_values};
 ghost use Rattle.kahn_session.specs.Pace.{IsPart, MayBeSlow, events_of, part_bound};
 
 use kahn_sequential::Flow;
 use kahn_streams::{
-    Carried, Config, End, FeedFault, Gate, Input, Line, MOST_BOUND, Network, NoMemory, RunFault,
-    Value, Verdict,
+    Carried, Config, End, FeedFault, Gate, Input, Line, MOST_BOUND, Network, RunFault, Value,
+    Verdict,
 };
 use std::alloc::Global;
 use std::marker::Model;
@@ -27,22 +29,26 @@ pub(crate) struct Paced<'n> {
     step: u64,
     // The sum of all bounds so far.
     allowed: u64,
+    // The lines of its streams, in order.
+    lines: Vec<Line>,
+    // Of each stream the values that wait for the others of their rows, of those that the run let go of.
+    kept: Vec<Vec<Value>>,
 }
 
 impl<'n> Model for Paced<'n> {
     ghost use Rattle.kahn_streams.specs.contracts.tree.Action as action;
     ghost use Rattle.kahn_streams.specs.contracts.tree.Form as form;
     ghost use Rattle.std.specs.Coded.{codes};
-    ghost use Rattle.std.specs.Prelude.{◌≡◌, ◌+◌, ◌≤◌};
-    ghost use Rattle.kahn_session.specs.Pace.{Pace, events_of, most_bound};
+    ghost use Rattle.kahn_session.specs.Pace.{Pace};
+    ghost use Rattle.kahn_session.specs.inner.Kept.{IsPaced, kept_values};
 
     ghost Value = { Pace };
 
     ghost coded = { Prim.hlevel (codes, action.the_row.coded, form.the_row.coded) };
 
-    ghost view = { λ p. record { flow = p.flow; step = p.step } };
+    ghost view = { λ p. record { flow = p.flow; waits = kept_values p.kept.items; step = p.step } };
 
-    ghost invariant = { λ p. (p.allowed ≡ p.flow.run.bound) × (p.flow.run.bound ≤ most_bound) × (p.flow.run.bound ≤ events_of p.flow.run + p.step) };
+    ghost invariant = { λ p. IsPaced p.flow.run p.lines.items p.allowed p.step };
 }
 
 impl<'n> Paced<'n> {
@@ -53,14 +59,17 @@ impl<'n> Paced<'n> {
         input: Input,
         config: Config,
     ) -> Result<Paced<'n>, RunFault>
-        ensures { MatchResult result (λ p. HasFlowed network.now input config p.flow × (p.step ≡ config.bound)) (IsUnstarted network.now config) }
+        ensures { MatchResult result (λ p. HasFlowed network.now input config p.flow × (p.waits ≡ []) × (p.step ≡ config.bound)) (IsUnstarted network.now config) }
     {
         let step = config.bound;
         let flow = Flow::start(alloc, network, input, config)?;
+        let lines = flow.lines()?;
         Ok(Paced {
             flow,
             step,
             allowed: step,
+            lines,
+            kept: Vec::new(alloc),
         })
     }
 
@@ -94,16 +103,26 @@ impl<'n> Paced<'n> {
     pub(crate) fn feed(&mut self, channel: &str, values: &[Value]) -> Result<(), FeedFault>
         ensures fed { IfOk result (λ _. HasPouredIn (channel.now, values.now) self.old.flow self.new.flow) }
         ensures unfed { IfErr result (IsUnpoured (channel.now, values.now) self.old.flow self.new.flow) }
-        ensures step { self.new.step ≡ self.old.step }
+        ensures rest { self.new ≡ record self.old { flow = self.new.flow } }
     {
         self.flow.feed(channel, values)
     }
 
     /// The lines of its streams, in order.
-    pub(crate) fn lines(&self) -> Result<Vec<Line>, NoMemory>
-        ensures { IfOk result (λ lines. lines.items ≡ flow_lines self.now.flow.run) }
+    pub(crate) fn lines(&self) -> &[Line]
+        ensures { result.now ≡ flow_lines self.now.flow.run }
     {
-        self.flow.lines()
+        &self.lines
+    }
+
+    /// What is kept of the stream of that number.
+    pub(crate) fn kept(&self, number: usize) -> &[Value]
+        ensures { result.now ≡ news_on number self.now.waits }
+    {
+        if number >= self.kept.len() {
+            return &[];
+        }
+        self.kept[number].as_slice()
     }
 
     /// What is new on the stream of a line since it was last let go of.
@@ -114,12 +133,12 @@ impl<'n> Paced<'n> {
         self.flow.fresh(line)
     }
 
-    /// Lets go of what there is of each stream.
-    pub(crate) fn forget(&mut self)
-        ensures gone { HasLetGo self.old.flow self.new.flow }
-        ensures step { self.new.step ≡ self.old.step }
+    /// Lets go of what there is of each stream, and keeps this of it.
+    pub(crate) fn forget(&mut self, kept: Vec<Vec<Value>>)
+        ensures { self.new ≡ let_go_but self.old (kept_values kept.items) }
     {
         self.flow.forget();
+        self.kept = kept;
     }
 
     /// The verdict of the last part, where nothing changed since.

@@ -26,14 +26,13 @@ pub struct Session<'n> {
     alloc: Global,
     network: &'n Network,
     paced: Paced<'n>,
-    lines: Vec<Line>,
     // The name of the first input channel.
     input: Option<&'n str>,
     // Whether a write failed, after which nothing tells what went out.
     broken: bool,
     // The numbers of the streams whose values alone are shown; where there are none, all streams are.
     columns: Vec<usize>,
-    // How many rows went out of what wasn't let go of.
+    // How many rows went out of what waits and of what wasn't let go of.
     shown: usize,
 }
 
@@ -49,9 +48,9 @@ impl<'n> Model for Session<'n> {
 
     ghost coded = { Prim.hlevel (codes, action.the_row.coded, form.the_row.coded) };
 
-    ghost view = { λ s. record { flow = s.paced.flow; step = s.paced.step; broken = s.broken; columns = s.columns.items; shown = s.shown } };
+    ghost view = { λ s. record { flow = s.paced.flow; step = s.paced.step; broken = s.broken; columns = s.columns.items; waits = s.paced.waits; shown = s.shown } };
 
-    ghost invariant = { λ s. AreKept s.paced.flow.run s.network.now s.lines.items (option_copied s.input) };
+    ghost invariant = { λ s. AreKept s.paced.flow.run s.network.now (option_copied s.input) };
 }
 
 /// Whether the line is that of a channel of that name.
@@ -181,12 +180,10 @@ impl<'n> Session<'n> {
     {
         let input = Input::none(alloc, network)?;
         let paced = Paced::start(alloc, network, input, config)?;
-        let lines = paced.lines()?;
         Ok(Session {
             alloc,
             network,
             paced,
-            lines,
             input: other_input(network, None),
             broken: false,
             columns: Vec::new(alloc),
@@ -198,7 +195,7 @@ impl<'n> Session<'n> {
     pub fn stream_of(&self, channel: &[u8]) -> Option<usize>
         ensures { MatchOption result ((n : ℕ) → ¬ IsStreamOf self.now.flow.run n channel.now) (λ number. IsStreamOf self.now.flow.run number channel.now) }
     {
-        line_of(self.network, self.lines.as_slice(), channel)
+        line_of(self.network, self.paced.lines(), channel)
     }
 
     /// From now on shows the streams of these numbers alone, as in a report from 0, and of them the values alone: one a line of one
@@ -242,13 +239,12 @@ impl<'n> Session<'n> {
         }
         let verdict = self.paced.part(gate);
         let _ends = self.paced.ends();
-        begun(&self.paced, &self.lines);
-        let count = row_count(&self.paced, &self.lines, &self.columns);
+        begun(&self.paced, self.paced.lines());
+        let count = row_count(&self.paced, &self.columns);
         if let Err(fault) = show(
             writer,
             self.network,
             &self.paced,
-            &self.lines,
             &self.columns,
             self.shown,
             count,
@@ -256,7 +252,7 @@ impl<'n> Session<'n> {
             self.broken = true;
             return Err(TakeFault::Write(fault));
         }
-        let shown = let_go(&mut self.paced, &self.lines, &self.columns, count);
+        let shown = let_go(self.alloc, &mut self.paced, &self.columns, count);
         self.shown = shown;
         Ok(verdict)
     }
@@ -339,7 +335,7 @@ impl<'n> Session<'n> {
     pub fn has_left(&self) -> bool
         ensures { result ≡ has_left self.now }
     {
-        is_uneven(&self.paced, &self.lines, &self.columns, self.shown)
+        is_uneven(&self.paced, &self.columns, self.shown)
     }
 
     /// The network that is run.

@@ -1,11 +1,29 @@
--- Inner. What a session keeps of its run.
-use Rattle.std.specs.Prelude.{◌≡◌, ℕ, List, Option}
+-- Inner. What a session and its run keep.
+use Rattle.std.specs.Prelude.{◌≡◌, ℕ, ◌+◌, ◌≤◌, List, Option, length, map}
+use Rattle.std.specs.declared.alloc.Global.{Global}
+use Rattle.std.specs.declared.vec.Vec.{Vec}
 use Rattle.kahn_streams.specs.declared.tree.Program.{Program}
 use Rattle.kahn_streams.specs.declared.value.Line.{Line}
+use Rattle.kahn_streams.specs.declared.value.Value.{Value}
 use Rattle.kahn_sequential.specs.HeldRuns.{HeldRun}
-use Rattle.kahn_sequential.specs.Flows.{flow_lines}
+use Rattle.kahn_sequential.specs.Flows.{Flowing, flow_lines}
+use Rattle.kahn_texts.specs.News.{news_text}
+use Rattle.kahn_session.specs.Forms.{values_behind}
 use Rattle.kahn_session.specs.Live.{IsFirstInput}
+use Rattle.kahn_session.specs.Pace.{events_of, most_bound}
 
--- its network, the lines of its streams, and the name of the first input channel
-abbrev pub AreKept : HeldRun → Program → List Line → Option (List ℕ) → Type 0
-AreKept h t lines first = (h.network ≡ t) × (lines ≡ flow_lines h) × IsFirstInput t first
+-- its network, and the name of the first input channel
+abbrev pub AreKept : HeldRun → Program → Option (List ℕ) → Type 0
+AreKept h t first = (h.network ≡ t) × IsFirstInput t first
+
+-- the lines of its streams, and the sum of all bounds
+abbrev pub IsPaced : HeldRun → List Line → ℕ → ℕ → Type 0
+IsPaced h lines allowed step = (lines ≡ flow_lines h) × (allowed ≡ h.bound) × (h.bound ≤ most_bound) × (h.bound ≤ events_of h + step)
+
+-- the values that are kept of each stream
+abbrev pub kept_values : List (Vec Value Global) → List (List Value)
+kept_values kept = map (λ v. v.items) kept
+
+-- the text of what is new on the streams of these lines
+abbrev pub lines_text : Program → Flowing → List Line → List ℕ
+lines_text t f lines = news_text t lines (values_behind f.run lines (map length f.out))

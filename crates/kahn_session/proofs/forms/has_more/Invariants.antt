@@ -2,9 +2,9 @@
 use Rattle.std.proofs.Common.{◌≡◌, drop, length}
 use Rattle.std.specs.Prelude.{nat_lt}
 use Rattle.std.specs.List.{list_any}
-use Rattle.kahn_session.specs.Forms.{news_of, news_on}
+use Rattle.kahn_session.specs.Forms.{next_of}
 use Rattle.kahn_session.proofs.forms.has_more.Given as goal
 
 abbrev pub invariant-loop-number : goal.invariant-loop-number
-invariant-loop-number l = list_any (λ e. nat_lt l.count (length (news_on e (news_of l.run.flow l.lines)))) (drop l.number-index l.columns)
-    ≡ list_any (λ e. nat_lt l.count (length (news_on e (news_of l.run.flow l.lines)))) l.columns
+invariant-loop-number l = list_any (λ e. nat_lt l.count (length (next_of l.run e))) (drop l.number-index l.columns)
+    ≡ list_any (λ e. nat_lt l.count (length (next_of l.run e))) l.columns

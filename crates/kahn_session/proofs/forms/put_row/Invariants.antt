@@ -1,12 +1,12 @@
 -- What isn't of the values that are left went out.
 use Rattle.std.proofs.Common.{◌≡◌, ℕ, List, ◌++◌, length}
 use Rattle.std.specs.Io.KnownBytes.{Appends}
-use Rattle.kahn_session.specs.Forms.{news_of, row_news}
+use Rattle.kahn_session.specs.Forms.{next_of, row_news}
 use Rattle.kahn_session.proofs.forms.put_row.Given as goal
 
 abbrev pub invariant-columns : goal.invariant-columns
 invariant-columns g l = (done : List ℕ)
-    × (row_news (news_of l.run.flow l.lines) l.place l.columns ≡ done ++ row_news (news_of l.run.flow l.lines) l.place l.rest)
+    × (row_news (next_of l.run) l.place l.columns ≡ done ++ row_news (next_of l.run) l.place l.rest)
     × Appends (g.W.Write.contents l.initial.writer) (g.W.Write.contents l.writer) done
 
 abbrev pub decreases-columns : goal.decreases-columns

@@ -3,7 +3,7 @@ use Rattle.std.specs.Io.KnownBytes.{Appends}
 use Rattle.std.proofs.KnownBytes.{Appends-nil, Appends-trans}
 use Rattle.kahn_streams.specs.Written.{AppendsFront}
 use Rattle.kahn_texts.proofs.Writing.{fails, goes_on_front, stops}
-use Rattle.kahn_session.specs.Forms.{news_of, row_news}
+use Rattle.kahn_session.specs.Forms.{next_of, row_news}
 use Rattle.kahn_session.proofs.Rows.{rows_done, rows_moved}
 use Rattle.kahn_session.proofs.forms.put_rows.Goals as goal
 
@@ -13,23 +13,23 @@ loop-place-init g c = ([], refl, Appends-nil _)
 pub returns-in_err-put_row : goal.returns-in_err-put_row
 returns-in_err-put_row g c =
     let (done, is, gone) = c.loop-place.invariant in
-    let news = news_of c.args.run.now.flow c.args.lines.now in
+    let values = next_of c.args.run.now in
     fails _ _ _ _ c.from_residual.ensures.0
-    (subst (AppendsFront _ _) (sym (rows_moved news c.args.columns.now c.loop-place.place c.args.to _ done c.loop-place-test.true is))
+    (subst (AppendsFront _ _) (sym (rows_moved values c.args.columns.now c.loop-place.place c.args.to _ done c.loop-place-test.true is))
     (stops _ _ _ _ (goes_on_front _ _ _ done _ gone c.in_err-put_row.ensures)))
 
 pub loop-place-preserved : goal.loop-place-preserved
 loop-place-preserved g c =
     let (done, is, gone) = c.loop-place.invariant in
-    let news = news_of c.args.run.now.flow c.args.lines.now in (
-      done ++ row_news news c.loop-place.place c.args.columns.now,
-      rows_moved news c.args.columns.now c.loop-place.place c.args.to _ done c.loop-place-test.true is,
+    let values = next_of c.args.run.now in (
+      done ++ row_news values c.loop-place.place c.args.columns.now,
+      rows_moved values c.args.columns.now c.loop-place.place c.args.to _ done c.loop-place-test.true is,
       Appends-trans _ _ _ done _ gone c.in_ok-put_row.ensures,
     )
 
 pub returns : goal.returns
 returns g c =
     let (done, is, gone) = c.loop-place.invariant in
-    let news = news_of c.args.run.now.flow c.args.lines.now in
+    let values = next_of c.args.run.now in
     let past : c.args.to ≤ c.loop-place.place = search rules in
-    subst (Appends _ _) (rows_done news c.args.columns.now c.loop-place.place c.args.to _ done past is) gone
+    subst (Appends _ _) (rows_done values c.args.columns.now c.loop-place.place c.args.to _ done past is) gone

@@ -6,5 +6,5 @@ use Rattle.kahn_session.proofs.session.Session.stream_of.Goals as goal
 pub returns : goal.returns
 returns c =
     let i = c.self.inside in
-    same_found i.network.now c.args.self.now.flow.run.network c.as_slice.result.now (flow_lines c.args.self.now.flow.run) c.args.channel.now c.line_of.result
-    (sym c.self.invariant.0 ∙ ap (λ s. s.flow.run.network) c.self.view_is) (c.as_slice.ensures.value ∙ c.self.invariant.1 ∙ ap (λ s. flow_lines s.flow.run) c.self.view_is) c.line_of.ensures
+    same_found i.network.now c.args.self.now.flow.run.network c.lines.result.now (flow_lines c.args.self.now.flow.run) c.args.channel.now c.line_of.result
+    (sym c.self.invariant.0 ∙ ap (λ s. s.flow.run.network) c.self.view_is) (c.lines.ensures ∙ ap (λ s. flow_lines s.flow.run) c.self.view_is) c.line_of.ensures
