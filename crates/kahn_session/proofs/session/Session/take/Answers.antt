@@ -1,4 +1,4 @@
-use Rattle.std.proofs.Common.{◌≡◌, ◌∙◌, true, refl, sym, subst}
+use Rattle.std.proofs.Common.{◌∙◌, true, refl, sym, subst}
 use Rattle.kahn_streams.specs.declared.tree.Program.{Program}
 use Rattle.kahn_streams.specs.Written.{AppendsFront}
 use Rattle.std.specs.Io.KnownBytes.{Appends}
