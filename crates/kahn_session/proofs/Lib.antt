@@ -4,3 +4,4 @@ pub mod Fresh
 pub mod Taking
 pub mod Named
 pub mod Rows
+pub mod Waiting

@@ -5,7 +5,6 @@ use Rattle.std.proofs.lemmas.Option.{same_Some}
 use Rattle.kahn_streams.specs.Network.{network_of}
 use Rattle.kahn_streams.specs.declared.value.Value.{Value}
 use Rattle.kahn_streams.specs.declared.value.Line.{Line}
-use Rattle.kahn_streams.specs.declared.tree.Program.{Program}
 use Rattle.kahn_sequential.specs.HeldRuns.{GoesOn, HeldRun, so_far}
 use Rattle.kahn_sequential.specs.Flows.{AreNew, Flowing, flow_lines}
 use Rattle.kahn_streams.specs.Tokens.{token_value}

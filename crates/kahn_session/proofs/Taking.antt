@@ -39,7 +39,7 @@ module _ (line : List ℕ) (o p q : Pace) (fed : IsFedBy line o.flow p.flow) (re
   out_same = part.run.out ∙ fed_out line o.flow p.flow fed
 
   -- what is there after the part
-  after_is : (r : Pace) → r.flow ≡ record q.flow { out = r.flow.out } → r.step ≡ q.step → record { flow = record r.flow { out = o.flow.out }; waits = o.waits; step = r.step } ≡ q
+  pub after_is : (r : Pace) → r.flow ≡ record q.flow { out = r.flow.out } → r.step ≡ q.step → record { flow = record r.flow { out = o.flow.out }; waits = o.waits; step = r.step } ≡ q
   after_is r flow step =
       ap (λ (f : Flowing). record { flow = record f { out = o.flow.out }; waits = o.waits; step = r.step }) flow
       ∙ ap (λ (l : List (List Value)). record { flow = record q.flow { out = l }; waits = o.waits; step = r.step }) (sym out_same)

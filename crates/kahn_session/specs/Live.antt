@@ -1,5 +1,5 @@
 -- Believed. A session: a run that is fed line by line, and what it has shown of its streams (this project's profile).
-use Rattle.std.specs.Prelude.{◌≡◌, ◌⊎◌, ℕ, suc, ◌<◌, ◌≤◌, Bool, true, false, List, [], ◌∷◌, map, length, replicate, slice_get, slice_index_or, Option, None, Some, is_some, Result, Ok, Err, ◌&&◌, not, nat_lt, ◌++◌, if◌then◌else◌}
+use Rattle.std.specs.Prelude.{◌≡◌, ◌⊎◌, ℕ, suc, ◌<◌, ◌≤◌, Bool, true, false, List, [], ◌∷◌, map, length, replicate, slice_get, slice_index_or, Option, None, Some, is_some, Result, Ok, Err, ◌&&◌, not, nat_lt, ◌++◌}
 use Rattle.std.specs.Io.KnownBytes.{Appends}
 use Rattle.std.specs.List.{list_any}
 use Rattle.std.specs.Str.{IsUtf8, bytes_eq}

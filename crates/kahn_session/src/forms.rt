@@ -296,7 +296,8 @@ fn is_worth(run: &Paced<'_>, columns: &[usize], count: usize) -> bool {
 /// Lets go of what went out behind so many rows, and gives how many of them went out of what stays. Where a value waits for the others of its
 /// row, all may stay for now, as where memory is refused.
 pub(crate) fn let_go(alloc: Global, run: &mut Paced<'_>, columns: &[usize], count: usize) -> usize
-    ensures { HasLetGoBehind count columns.now run.old run.new result }
+    ensures gone { HasLetGoBehind count columns.now run.old run.new result }
+    ensures run { run.new.flow.run ≡ run.old.flow.run }
 {
     if !is_uneven(run, columns, count) {
         run.forget(Vec::new(alloc));

@@ -1,11 +1,10 @@
-use Rattle.std.proofs.Common.{◌≡◌, ◌∙◌, true, refl, sym, subst}
+use Rattle.std.proofs.Common.{◌∙◌, true, refl, sym, subst}
 use Rattle.kahn_streams.specs.declared.tree.Program.{Program}
 use Rattle.kahn_streams.specs.Written.{AppendsFront}
 use Rattle.std.specs.Io.KnownBytes.{Appends}
-use Rattle.kahn_session.specs.Forms.{form_text, is_uneven, next_of}
+use Rattle.kahn_session.specs.Forms.{form_text}
 use Rattle.kahn_session.specs.Live.{HasBroken, HasTaken, Live}
 use Rattle.kahn_session.specs.Pace.{Pace}
-use Rattle.kahn_session.proofs.Showing.{gone_run}
 use Rattle.kahn_session.proofs.Taking.{after_is, answered, live, taken, whole_on}
 use Rattle.kahn_session.proofs.session.Session.take.Goals as goal
 
@@ -39,13 +38,6 @@ returns-in-Err-show-clause-taken g c =
       text = subst (λ (a : Pace). AppendsFront before after (form_text columns i.shown q.flow.run.network a)) (sym same) text;
     })
 
-pub invariant_of-self : goal.invariant_of-self
-invariant_of-self g c =
-    let o = c.self.inside.paced in
-    let q = c.part-verdict.new.self in
-    let on = whole_on c.args.line.now o c.feed_line.new.paced q c.in_default.ensures.fed c.feed_line.ensures.rest c.part-verdict.result c.part-verdict.ensures in
-    (on.network ∙ c.self.invariant.0, c.self.invariant.1)
-
 pub returns-clause-taken : goal.returns-clause-taken
 returns-clause-taken g c =
     let i = c.self.inside in
@@ -65,4 +57,4 @@ returns-clause-taken g c =
     let count = c.row_count-count.result in
     subst (λ (s : Live). HasTaken line s (live c.let_go-shown.new.run i.broken columns c.let_go-shown.result) before after v) c.self.view_is
     (taken line o p q fed rest v n columns i.broken i.shown c.ends-ends.result.now (c.ends-ends.ensures v n.settled) c.begun.ensures
-    count (rw c.deref.ensures.value at c.row_count-count.ensures) c.let_go-shown.new.run c.let_go-shown.result (rw c.deref-3.ensures.value at c.let_go-shown.ensures) before after text)
+    count (rw c.deref.ensures.value at c.row_count-count.ensures) c.let_go-shown.new.run c.let_go-shown.result (rw c.deref-3.ensures.value at c.let_go-shown.ensures.gone) before after text)
