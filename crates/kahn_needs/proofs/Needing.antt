@@ -12,7 +12,7 @@ use Rattle.kahn_streams.proofs.Fuel.{play_alike}
 use Rattle.kahn_streams.proofs.Proved.{prefix_refl, prefix_trans, feeds, script_at, exec_alike, out_grows, chain, solves, iterates_rise, fits_all}
 use Rattle.kahn_needs.specs.Needs.{Cut, first_values, held_in, IsCutWithin}
 use Rattle.kahn_needs.specs.Laws.{IsMadeIn}
-use Rattle.kahn_needs.proofs.Reaching.{Agree, agree_below, Covers, Shortest, shortest, Sends_more}
+use Rattle.kahn_needs.proofs.Reaching.{Agree, agree_below, Covers, Shortest, shortest, Sends_more, eqb_refl}
 
 -- ---- lists and numbers
 
@@ -38,9 +38,6 @@ take_length a xs = let e = length-take a xs in omega (arith, e)
 
 take_more : (k : ℕ) (xs : List Value) → k < length xs → k < length (take (suc k) xs)
 take_more k xs h = let e = length-take (suc k) xs in omega (arith, e, h)
-
-eqb_refl : (q : ℕ) → (q == q) ≡ true
-eqb_refl q = grind arith
 
 -- this number at one place, and 0 at all others
 only : ℕ → ℕ → ℕ → ℕ

@@ -1,6 +1,7 @@
 -- The laws of needs, proved.
 use mathlib.Core.Path.{fun_ext}
 use Rattle.std.proofs.Common.{arith, ◌≡◌, ◌⊎◌, inl, inr, ℕ, zero, suc, ◌≤◌, ◌<◌, List, [], ◌∷◌, ◌++◌, length, take, refl, sym, ap, ◌∙◌, subst, le_refl, eq-or-lt_of_le, le_trans, Option, Some, None, slice_get, slice_index_or, get_or}
+use Rattle.std.proofs.lemmas.List.{take-append-le}
 use Rattle.std.proofs.lemmas.Option.{slice_get_within, slice_get-get_or}
 use Rattle.kahn_streams.specs.declared.value.Value.{Value}
 use Rattle.kahn_streams.specs.declared.value.Line.{Line}
@@ -108,30 +109,22 @@ iterate_made N I J h n =
       written = λ c p e. iterate_written N J n c p e;
     }
 
-long_enough : (a : ℕ) (xs ys : List Value) → IsPrefix xs ys → a ≤ length xs → IsPrefix (take a ys) xs
-long_enough zero xs ys h l = (xs, refl)
-long_enough (suc a) [] ys h l = absurd (omega (arith, l))
-long_enough (suc a) (x ∷ xs) [] h l = let e : [] ≡ x ∷ (xs ++ h.0) = h.1 in absurd cc
-long_enough (suc a) (x ∷ xs) (y ∷ ys) h l =
-    let r = long_enough a xs ys (h.0, tail h.1) (omega (arith, l)) in
-    (r.0, cons (head h.1) r.1)
-  where
-    head : y ∷ ys ≡ x ∷ (xs ++ h.0) → y ≡ x
-    head e = cc
-
-    tail : y ∷ ys ≡ x ∷ (xs ++ h.0) → ys ≡ xs ++ h.0
-    tail e = cc
-
-    cons : {zs ws : List Value} → y ≡ x → zs ≡ ws → x ∷ zs ≡ y ∷ ws
-    cons e f = cc
+-- the first values of a longer list
+take_alike : (a : ℕ) (xs ys : List Value) → IsPrefix xs ys → a ≤ length xs → take a ys ≡ take a xs
+take_alike a xs ys (zs, e) l = ap (take a) e ∙ take-append-le a xs zs l
 
 pub exact : (N : Network) → AreExact N
-exact N I J c k v x h shorter = (needed, λ l. enough N I J c k v x h (λ d. long_enough (x.values d) (J d) (I d) (shorter d) (l d)))
+exact N I J c k v x h shorter = (needed, λ l. enough N I J c k v x h (λ d. subst (λ o. IsPrefix o (J d)) (sym (take_alike (x.values d) (J d) (I d) (shorter d) (l d))) (take_below (x.values d) (J d))))
   where
     needed : Stands N J c k v → (d : ℕ) → x.values d ≤ length (J d)
     needed s = (within_made N I c k v x h (all_of J s.0) (iterate N J s.0) (iterate_made N I J shorter s.0) s.1).0
 
 -- ---- longer inputs
+
+suffices_alike : (N : Network) (I J : Inputs) (c : Line) (k : ℕ) (v : Value) (x : Cut) → ((d : ℕ) → take (x.values d) (I d) ≡ take (x.values d) (J d)) → Suffices N I c k v x
+    → Suffices N J c k v x
+suffices_alike N I J c k v x same s =
+    (s.0, prefix_get _ _ (held_more N I J x x (λ d. subst (IsPrefix (take (x.values d) (I d))) (same d) (prefix_refl _)) (λ p. le_refl (x.events p)) s.0 c) k v s.1)
 
 kept : (N : Network) (I J : Inputs) (c : Line) (k : ℕ) (v : Value) (x : Cut) → AreInputsExtended I J → AreNeeds N I c k v x → AreNeeds N J c k v x
 kept N I J c k v x longer h =
@@ -139,51 +132,11 @@ kept N I J c k v x longer h =
     let sJ = enough N I J c k v x h (λ d. prefix_trans _ _ _ (take_below (x.values d) (I d)) (longer d)) in
     let y = (the_needs N J c k v sJ).cut in
     let hy = needs_of N J c k v sJ in
-    let fits = (exact N J I c k v y hy longer).0 sI in
-    let in_I : Suffices N I c k v y = back y fits hy.enough in
-    let in_J : Suffices N J c k v x = forth x h.enough in
-    let e : y ≡ x = same_cut y x (hy.least x in_J) (h.least y in_I) in
-    subst (AreNeeds N J c k v) e hy
-  where
-    take_of : (a : ℕ) (xs ys : List Value) → IsPrefix xs ys → IsPrefix (take a xs) (take a ys)
-    take_of zero xs ys g = prefix_refl _
-    take_of (suc a) [] ys g = (take (suc a) ys, refl)
-    take_of (suc a) (x ∷ xs) [] g = let e : [] ≡ x ∷ (xs ++ g.0) = g.1 in absurd cc
-    take_of (suc a) (x ∷ xs) (y ∷ ys) g =
-        let r = take_of a xs ys (g.0, tail g.1) in
-        (r.0, cons (head g.1) r.1)
-      where
-        head : y ∷ ys ≡ x ∷ (xs ++ g.0) → y ≡ x
-        head e = cc
-
-        tail : y ∷ ys ≡ x ∷ (xs ++ g.0) → ys ≡ xs ++ g.0
-        tail e = cc
-
-        cons : {zs ws : List Value} → y ≡ x → zs ≡ ws → y ∷ zs ≡ x ∷ ws
-        cons e f = cc
-
-    take_same : (a : ℕ) (xs ys : List Value) → IsPrefix xs ys → a ≤ length xs → IsPrefix (take a ys) (take a xs)
-    take_same zero xs ys g l = prefix_refl _
-    take_same (suc a) [] ys g l = absurd (omega (arith, l))
-    take_same (suc a) (x ∷ xs) [] g l = let e : [] ≡ x ∷ (xs ++ g.0) = g.1 in absurd cc
-    take_same (suc a) (x ∷ xs) (y ∷ ys) g l =
-        let r = take_same a xs ys (g.0, tail g.1) (omega (arith, l)) in
-        (r.0, cons (head g.1) r.1)
-      where
-        head : y ∷ ys ≡ x ∷ (xs ++ g.0) → y ≡ x
-        head e = cc
-
-        tail : y ∷ ys ≡ x ∷ (xs ++ g.0) → ys ≡ xs ++ g.0
-        tail e = cc
-
-        cons : {zs ws : List Value} → y ≡ x → zs ≡ ws → x ∷ zs ≡ y ∷ ws
-        cons e f = cc
-
-    back : (y : Cut) → ((d : ℕ) → y.values d ≤ length (I d)) → Suffices N J c k v y → Suffices N I c k v y
-    back y l s = (s.0, prefix_get _ _ (held_more N J I y y (λ d. take_same (y.values d) (I d) (J d) (longer d) (l d)) (λ p. le_refl (y.events p)) s.0 c) k v s.1)
-
-    forth : (x : Cut) → Suffices N I c k v x → Suffices N J c k v x
-    forth x s = (s.0, prefix_get _ _ (held_more N I J x x (λ d. take_of (x.values d) (I d) (J d) (longer d)) (λ p. le_refl (x.events p)) s.0 c) k v s.1)
+    let few = (exact N J I c k v y hy longer).0 sI in
+    let all = (exact N I I c k v x h (λ d. prefix_refl (I d))).0 sI in
+    let in_I = suffices_alike N J I c k v y (λ d. take_alike (y.values d) (I d) (J d) (longer d) (few d)) hy.enough in
+    let in_J = suffices_alike N I J c k v x (λ d. sym (take_alike (x.values d) (I d) (J d) (longer d) (all d))) h.enough in
+    subst (AreNeeds N J c k v) (same_cut y x (hy.least x in_J) (h.least y in_I)) hy
 
 pub same : (N : Network) → AreSameNeeds N
 same N I J c k v x h begins =

@@ -2,6 +2,7 @@
 use Rattle.std.proofs.Common.{arith, ◌≡◌, ◌⊎◌, inl, inr, ℕ, zero, suc, ◌+◌, ◌≤◌, ◌<◌, ◌==◌, max, Bool, true, false, if◌then◌else◌, eqb-true, List, [], ◌∷◌, length, take, refl, sym, ap, ◌∙◌, subst, le_refl, Some, slice_get, pos, length-take, length-append, le_of_suc-le-suc}
 use Rattle.std.proofs.Math.Nat.{le-max_left, le-max_right}
 use Rattle.std.proofs.lemmas.Option.{slice_get_within}
+use Rattle.std.proofs.lemmas.Bool.{cases_lt}
 use Rattle.kahn_streams.specs.declared.value.Value.{Value}
 use Rattle.kahn_streams.specs.declared.value.Line.{Line}
 use Rattle.kahn_streams.specs.declared.value.Line.TheVariants.{Channel}
@@ -19,16 +20,6 @@ use Rattle.kahn_needs.proofs.Reaching.{Agree, AgreeAll, agree_below, agree_put, 
 use Rattle.kahn_needs.proofs.Needing.{take_below, take_length, Below, agree_tapes}
 use Rattle.kahn_needs.proofs.Told.{get_there, suffices_there, runs}
 use Rattle.kahn_needs.proofs.Back.{go_back}
-
-lt_or_le : (a b : ℕ) → (a < b) ⊎ (b ≤ a)
-lt_or_le zero zero = inr (omega arith)
-lt_or_le zero (suc b) = inl (omega arith)
-lt_or_le (suc a) zero = inr (omega arith)
-lt_or_le (suc a) (suc b) = by (lt_or_le a b)
-  where
-    by : (a < b) ⊎ (b ≤ a) → (suc a < suc b) ⊎ (suc b ≤ suc a)
-    by (inl l) = inl (omega (arith, l))
-    by (inr l) = inr (omega (arith, l))
 
 -- ---- a run on tapes that have what it takes
 
@@ -165,7 +156,7 @@ module _ (N : Network) (I : Inputs) (c : Line) (k : ℕ) (v : Value) (H : Histor
     has_at : (p q : ℕ) (a : Actual) → actual_at (instance_at N p) q ≡ a →
         length (tape_of H a) ≤ length ((exec_at N (s.events p) p H).left q) + length (tape_of firsts a)
     unfolding firsts
-    has_at p q (Reads d) e = by (lt_or_le (s.values (Channel d) + length ((exec_at N (s.events p) p H).left q)) (length (H (Channel d))))
+    has_at p q (Reads d) e = by (cases_lt (s.values (Channel d) + length ((exec_at N (s.events p) p H).left q)) (length (H (Channel d))))
       where
         by : ((s.values (Channel d) + length ((exec_at N (s.events p) p H).left q) < length (H (Channel d))) ⊎ (length (H (Channel d)) ≤ s.values (Channel d) + length ((exec_at N (s.events p) p H).left q))) →
             length (H (Channel d)) ≤ length ((exec_at N (s.events p) p H).left q) + length (take (s.values (Channel d)) (H (Channel d)))
