@@ -13,7 +13,7 @@ use crate::words::class_word;
 use itoa::Buffer;
 use kahn_marks::{add, add_spot};
 use kahn_syntax::{Class, Keyword, Lexeme, Sign, Span};
-use kahn_wanted::open_behind;
+use kahn_wanted::{Spot, open_behind};
 
 /// The `begin` there, if its block is open.
 fn open_there(begins: &[Lexeme], span: Span) -> Option<Lexeme>
@@ -105,6 +105,26 @@ fn surplus(place: Place, all: &[Indented], number: usize) -> Saying {
     add_spot(&mut words, ", to the `end` at ", place.text, end.span.from)?;
     let fix = insertion(alloc, guard.span.to, guard.span, "begin")?;
     Ok(Some((Some((guard.span, words)), Some(fix), None)))
+}
+
+/// What is said of a word that ends a block elsewhere, at a place or before it, behind several statements without a block.
+pub(crate) fn closer_said(place: Place, spot: Spot) -> Saying {
+    let number = if spot == Spot::Here {
+        place.number
+    } else {
+        place.number.saturating_sub(1)
+    };
+    let all = seats(place)?;
+    let (Some(guard), Some(end)) = (guard_before(place, &all, number), all.get(number)) else {
+        return Ok(None);
+    };
+    let fix = replacement(place.alloc, end.span, "end")?;
+    let fix = mending(place.alloc, place.text, place.span, Some(fix))?;
+    let word = class_word(guard.what);
+    let mut words = joined(place.alloc, &["insert `begin` after `", word, "`"])?;
+    add_spot(&mut words, " at ", place.text, guard.span.from)?;
+    words.push_str(": it makes one statement of several, to its `end`")?;
+    Ok(Some((None, fix, Some(words))))
 }
 
 /// How many lexemes are this keyword.

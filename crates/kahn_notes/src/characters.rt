@@ -3,6 +3,7 @@
 ghost use Rattle.std.specs.Prelude.{IfOk, IfSome};
 ghost use Rattle.kahn_notes.specs.Notes.{Mends};
 
+use crate::foreign::line_help;
 use crate::mending::{Fixed, mending};
 use crate::rewriting::rewritten;
 use crate::said::replacement;
@@ -11,8 +12,8 @@ use kahn_marks::Fix;
 use kahn_syntax::{Span, SyntaxFault};
 use std::alloc::Global;
 
-/// What stands there, behind `0` where it is told behind a digit alone; what is put in its place if the text goes on with it; and what is
-/// said. The first that holds is told.
+/// What stands there, behind `0` where it is told behind a digit alone, `&9` for `&` before one, and `1:` for `:` behind a line's number; what
+/// is put in its place if the text goes on with it; and what is said. The first that holds is told.
 const CHARACTERS: &str = "
 0. |  | ; numbers are whole
 0_ |  | ; a number has decimal digits alone
@@ -22,23 +23,27 @@ _ |  | ; a name begins with a letter
 ! | not | ; a value is sent by `send E on C`, and `not` is a word
 % | mod | ; a remainder is `mod`
 / | div | ; a quotient is `div`, and a comment goes from `comment` to `;`
+#include |  | ; there is nothing to include: a program is one text
 #define |  | ; there are no constants: an instance hands a number over, `P(A, 10)`
 # |  | ; a comment goes from `comment` to `;`
 \" \u{2018} \u{2019} \u{201C} \u{201D} |  | ; there are no texts
 ' |  | ; there are no texts, and a name has letters, digits and `_`
-[ |  | ; there are no arrays; a channel that one process writes and reads is a queue
+[ |  | ; brackets are `(` and `)`, and there are no arrays; a channel that one process writes and reads is a queue
 { | begin | ; a block goes from `begin` to `end`, a comment from `comment` to `;`
 } | end | ; a block goes from `begin` to `end`, a comment from `comment` to `;`
+1: |  | ; a choice among values is `if X = 0 then S else if X = 1 then T`
+&9 |  | ; a remainder is `X mod 8`, and `and` is of logicals
 && | and | ; it is the word `and`, and between instances `par`
-& | and par nothing | ; `and` is a word, and of logicals; a remainder is `X mod 8`, and between instances stands `par`
+& | and par nothing | ; `and` is a word, and of logicals; between instances stands `par`
 ^ |  | ; there is no power and no exclusive or: of logicals it is `<>`
 || | or par | ; it is the word `or`, and between instances `par`
 | | or par | ; it is the word `or`, and between instances `par`
 ~ | not | ; it is the word `not`
 ? |  | ; a value is taken by `X := wait(C)`, and a choice is `if .. then .. else ..`
 : | ; then do | ; `:` stands before `=` alone; behind a test stands `then` or `do`, and a kind before its names
-$ @ |  | ; a name begins with a letter, and has letters, digits and `_`
-` |  | ; the lines of a fence are no part of a program
+$ @ | nothing | ; a name begins with a letter, and has letters, digits and `_`
+``` |  | ; the lines of a fence are no part of a program
+` | nothing | ; names and operators stand without such marks
 \u{A0} |  | ; a no-break space (U+00A0) isn't a blank here
 \u{D7} | * | ; a product is `*`
 \u{F7} | div | ; a quotient is `div`
@@ -54,13 +59,30 @@ $ @ |  | ; a name begins with a letter, and has letters, digits and `_`
 \u{FEFF} |  | ; a byte order mark (U+FEFF) isn't a blank here: save the text without one
 ";
 
+/// Whether a text ends with a line that has a number alone.
+fn is_label(before: &[u8]) -> bool {
+    let mut digits = 0usize;
+    for byte in before.iter().rev() {
+        match *byte {
+            b'0'..=b'9' => digits = digits.saturating_add(1),
+            b'\n' => return 0 < digits,
+            b' ' | b'\t' => {}
+            _ => return false,
+        }
+    }
+    false
+}
+
 /// Whether a part of a row stands at a byte.
 fn stands(bytes: &[u8], at: usize, key: &str) -> bool {
     let rest = bytes.get(at..).unwrap_or(&[]);
     let before = bytes.get(at.saturating_sub(1)).unwrap_or(&b' ');
-    match key.strip_prefix("0") {
-        Some(key) => before.is_ascii_digit() && rest.starts_with(key.as_bytes()),
-        None => rest.starts_with(key.as_bytes()),
+    match (key, key.strip_prefix("0")) {
+        ("1:", _) => is_label(bytes.get(..at).unwrap_or(&[])) && rest.starts_with(b":"),
+        ("&9", _) => matches!(rest, [_, b'0'..=b'9', ..] | [_, b' ', b'0'..=b'9', ..])
+            && rest.starts_with(b"&"),
+        (_, Some(key)) => before.is_ascii_digit() && rest.starts_with(key.as_bytes()),
+        (_, None) => rest.starts_with(key.as_bytes()),
     }
 }
 
@@ -76,8 +98,13 @@ fn row_at(bytes: &[u8], at: usize) -> Option<(&'static str, &'static str)> {
     None
 }
 
-/// What is said of a character that begins at a byte; of one without a row that of another script, since these don't begin with such bytes.
-fn place_help(bytes: &[u8], at: usize) -> &'static str {
+/// What is said of a character that begins at a byte: of a word of another language before it on its line, or of itself; of one without a
+/// row that of another script, since these don't begin with such bytes.
+fn place_help(text: &str, at: usize) -> &'static str {
+    if let Some(help) = line_help(text, at) {
+        return help;
+    }
+    let bytes = text.as_bytes();
     match (row_at(bytes, at), bytes.get(at)) {
         (Some((row, _)), _) => cell(row, 2),
         (None, None | Some(0..=0x7F | 0xC2 | 0xE2 | 0xEF)) => "",
@@ -119,7 +146,7 @@ pub(crate) fn character_fix(alloc: Global, text: &str, plain: &str, span: Span) 
 /// What is said of a character that isn't of the language, or of a number that is too large, behind the words of the fault; nothing of others.
 pub fn character_help(program: &str, fault: SyntaxFault) -> &'static str {
     match fault {
-        SyntaxFault::BadCharacter(span) => place_help(program.as_bytes(), span.from),
+        SyntaxFault::BadCharacter(span) => place_help(program, span.from),
         SyntaxFault::NumberTooLarge(_) => {
             "; the greatest is 9223372036854775807, the least -9223372036854775807 - 1"
         }

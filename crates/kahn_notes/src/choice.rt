@@ -140,16 +140,26 @@ fn add_others(changes: &mut Vec<Change>, place: Place, spot: Spot) -> Result<(),
     Ok(())
 }
 
+/// Leaving out one of two same lexemes, there or before.
+pub(crate) fn twice(place: Place) -> Result<Vec<Change>, AllocError> {
+    let mut changes = Vec::new(place.alloc);
+    let (text, one) = (place.text, before(place));
+    add_less(&mut changes, Spot::Here, are_twice(text, one, found(place)))?;
+    add_less(
+        &mut changes,
+        Spot::Before,
+        are_twice(text, back(place, 2), one),
+    )?;
+    Ok(changes)
+}
+
 /// The changes that are looked for first, in their order: leaving out one of two same lexemes, what one is often written for, and leaving
 /// out a `;` before an `else`, where one statement stands before that.
 pub(crate) fn likely(place: Place) -> Result<Vec<Change>, AllocError> {
-    let mut changes = Vec::new(place.alloc);
+    let mut changes = twice(place)?;
     let (one, here, next) = (before(place), found(place), behind(place));
     let is_role = finds(ROLES, here) && (finds(ROLES, one) || finds(ROLES, next));
     let is_late = finds(";", here) && finds("else", next);
-    let is_twice = are_twice(place.text, back(place, 2), one);
-    add_less(&mut changes, Spot::Here, are_twice(place.text, one, here))?;
-    add_less(&mut changes, Spot::Before, is_twice)?;
     add_less(&mut changes, Spot::Here, is_role)?;
     add_others(&mut changes, place, Spot::Here)?;
     add_others(&mut changes, place, Spot::Before)?;

@@ -2,7 +2,7 @@
 
 ghost use Rattle.kahn_syntax.specs.Texts.{IsTextFault};
 
-use crate::said::{Words, changed_words};
+use crate::said::{Words, changed_words, joined};
 use crate::unexpected::unexpected_note;
 use kahn_marks::{Note, Other, add_repeated, part_of};
 use kahn_streams::NoMemory;
@@ -20,12 +20,16 @@ fn without(alloc: Global, text: &str, span: Span) -> Words {
     Ok(new)
 }
 
-/// A text with blanks in the place of the first characters that aren't of the language.
+/// A text with blanks in the place of the first characters that aren't of the language, and of a comment without an end.
 pub(crate) fn blanked(alloc: Global, text: &str) -> Result<String, NoMemory> {
     let mut plain = String::from_str(alloc, text)?;
     for _ in 0..PASSED {
         match lex(alloc, plain.as_str()) {
             Err(SyntaxFault::BadCharacter(span)) => plain = without(alloc, plain.as_str(), span)?,
+            Err(SyntaxFault::CommentOpen(span)) => {
+                let to = plain.len();
+                plain = without(alloc, plain.as_str(), Span { to, ..span })?;
+            }
             Err(SyntaxFault::NoMemory) => return Err(NoMemory),
             _ => return Ok(plain),
         }
@@ -33,13 +37,18 @@ pub(crate) fn blanked(alloc: Global, text: &str) -> Result<String, NoMemory> {
     Ok(plain)
 }
 
-/// What a note says in a line: what it puts in the place of something, or else its heading.
+/// What a note says in a line: what it puts in the place of something, or else its heading, and what it puts in or its first sentence.
 fn words_of(alloc: Global, plain: &str, note: &Note) -> Words {
-    match &note.fix {
-        Some(fix) if fix.span.from < fix.span.to => {
+    match (&note.fix, note.below.first()) {
+        (Some(fix), _) if fix.span.from < fix.span.to => {
             changed_words(alloc, part_of(plain, fix.span), fix.put.as_str())
         }
-        _ => String::from_str(alloc, note.words.as_str()),
+        (Some(fix), _) => {
+            let put = fix.put.as_str();
+            joined(alloc, &[note.words.as_str(), "; `", put, "` is missing"])
+        }
+        (None, Some(sentence)) => joined(alloc, &[note.words.as_str(), ": ", sentence.as_str()]),
+        (None, None) => String::from_str(alloc, note.words.as_str()),
     }
 }
 

@@ -1,58 +1,85 @@
 //! Words of other languages, and what this one has in their place.
 
 use crate::place::{Place, back, found, is_declared, name_at};
-use crate::table::{finds, may_stand, row_of};
-use kahn_wanted::Spot;
+use crate::table::{cell, finds, may_stand, row_of};
+use kahn_wanted::{Spot, is_of_word};
 
 /// Words of other languages, the keyword in their place if the text goes on with it, and what is said of them wherever they stand.
 const FOREIGN: &str = "
-for until foreach goto | none | a loop is `while E do S`, or `repeat S`, which has no end
-loop forever | repeat | a loop is `while E do S`, or `repeat S`, which has no end
-break exit continue | none | a loop ends where the test of its `while` is false
-return yield | none | a process has no result: `send E on C` gives a value to another one
-elif elsif elseif | none | it is two words: `else if`
-otherwise | else | behind `if E then S` stands `else`
-int integers ints long short unsigned | integer | the kinds are `integer` and `logical`; one stands before its names
-bool boolean logicals booleans | logical | the kinds are `integer` and `logical`; one stands before its names
-var real float string char array | none | the kinds are `integer` and `logical`; one stands before its names
-channels chan chans | channel | a channel is `integer channel C`
-inputs | input | an input is `integer input channel C`
-outputs | output | an output is `integer output channel C`
-let local | none | a kind declares variables, right behind the `begin` of a process: `integer X`
-function func procedure proc def fn void thread task processes | process | a process is `process P(integer in U; integer out W); begin .. end`
-endif endwhile endfor fi od done tel | end | an `if`, a `while` or a `repeat` has no `end` of its own
-const constant | none | there are no constants: an instance hands a number over, `P(A, 10)`
-xor | none | there is no exclusive or: of logicals it is `<>`
-shl shr | none | there is no shift: `X * 16`, `X div 16`
-seq | none | statements stand one behind another, with `;` between: `begin S; T end`
-pre fby | none | a variable keeps what came before: `J := I; I := wait(C)`
-inout | none | one process reads a channel, and another one writes it: `in U`, `out W`
-to into | on | a value is sent by `send E on C`
-go call spawn start run cobegin parbegin doco closeco coend parend | none | nothing starts an instance: it is `p(A, B)`, and `par` stands between two
+for until foreach goto | none | ; a loop is `while E do S`, or `repeat S`, which has no end
+loop forever | repeat | ; a loop is `while E do S`, or `repeat S`, which has no end
+break exit continue stop halt | none | ; a loop ends where the test of its `while` is false
+return yield | none | ; a process has no result: `send E on C` gives a value to another one
+elif elsif elseif | none | ; it is two words: `else if`
+otherwise | else | ; behind `if E then S` stands `else`
+int ints long short unsigned | integer | ; the kinds are `integer` and `logical`; one stands before its names
+bool boolean booleans | logical | ; the kinds are `integer` and `logical`; one stands before its names
+var real float string char array | none | ; the kinds are `integer` and `logical`; one stands before its names
+chan chans | channel | ; a channel is `integer channel C`
+inputs outputs | none | ; an input is `integer input channel C`, an output `integer output channel C`
+let local | none | ; a kind declares variables, right behind the `begin` of a process: `integer X`
+function func procedure proc def fn void thread task node actor | process | ; a process is `process P(integer in U; integer out W); begin .. end`
+endif endwhile endfor fi od done tel | end | ; an `if`, a `while` or a `repeat` has no `end` of its own
+const constant | none | ; there are no constants: an instance hands a number over, `P(A, 10)`
+xor | none | ; there is no exclusive or: of logicals it is `<>`
+shl shr | none | ; there is no shift: `X * 16`, `X div 16`
+try except catch finally raise throw | none | ; there are no exceptions: a fault ends its process
+seq | none | ; statements stand one behind another, with `;` between: `begin S; T end`
+pre fby | none | ; a variable keeps what came before: `J := I; I := wait(C)`
+inout | none | ; one process reads a channel, and another one writes it: `in U`, `out W`
+to into | on | ; a value is sent by `send E on C`
+go call spawn start run cobegin parbegin doco closeco coend parend | none | ; nothing starts an instance: it is `p(A, B)`, and `par` stands between two
 ";
 
 /// Those that are told of where they begin a statement.
 const ACTING: &str = "
-select alt | none | there is no choice among channels, since timing can't matter: a process waits on one at a time
-case switch | none | a choice is `if E then S else if F then T else ..`
-recv receive get read take await waits scanf getline readln | none | a statement takes a value by `X := wait(C)`
-put emit write push sends give | send | a statement sends a value by `send E on C`
-writeln println printf echo prints | print | a statement prints a value by `print E`
-close | none | a channel has no end that is told: a process just sends no more
-skip pass null nop | none | a statement that does nothing is empty, or `begin end`
+select alt | none | ; there is no choice among channels, since timing can't matter: a process waits on one at a time
+case switch match | none | ; a choice is `if E then S else if F then T else ..`
+recv receive get read take await waits scanf getline readln | none | ; a statement takes a value by `X := wait(C)`
+put emit write push sends give | send | ; a statement sends a value by `send E on C`
+writeln println printf echo prints | print | ; a statement prints a value by `print E`
+close | none | ; a channel has no end that is told: a process just sends no more
+skip pass null nop | none | ; a statement that does nothing is empty, or `begin end`
 ";
 
 /// Those that are told of where a value may stand.
 const GIVING: &str = "
-recv receive read get take await | wait | a value is taken by `wait(C)`
+recv receive read get take await | wait | ; a value is taken by `wait(C)`
 ";
+
+/// How many bytes of a line are looked at.
+const MOST_OF_LINE: usize = 256;
 
 /// A word of another language, at a place or before it, with its row.
 pub(crate) type Foreign = (Spot, &'static str);
 
+/// The row of a word of another language.
+fn row_of_foreign(word: &str) -> Option<&'static str> {
+    row_of(FOREIGN, word).or(row_of(ACTING, word))
+}
+
 /// Whether a word is of another language.
 pub(crate) fn is_foreign(word: &str) -> bool {
-    row_of(FOREIGN, word).is_some() || row_of(ACTING, word).is_some()
+    row_of_foreign(word).is_some()
+}
+
+/// What is said, behind a heading, of the first word of another language that stands before a byte on its line, and nowhere on a line before.
+pub(crate) fn line_help(text: &str, at: usize) -> Option<&'static str> {
+    let before = text.get(..at)?;
+    let (earlier, line) = before.rsplit_once('\n').unwrap_or(("", before));
+    if MOST_OF_LINE < line.len() {
+        return None;
+    }
+    for part in line.split_whitespace() {
+        let word = part.split("(").next().unwrap_or("");
+        let mut words = earlier.as_bytes().split(|byte| !is_of_word(*byte));
+        if let Some(row) = row_of_foreign(word) {
+            if !words.any(|one| one.eq_ignore_ascii_case(word.as_bytes())) {
+                return Some(cell(row, 2));
+            }
+        }
+    }
+    None
 }
 
 /// One of these words there, if the text doesn't declare it; not one that has a value given to it, nor the name of a process.

@@ -3,10 +3,8 @@
 
 /// These are told before a change of one lexeme, which would mislead.
 pub(crate) const EARLY: &str = "
-( | * | joined | a comment goes from `comment` to `;`
-- | > | joined | there is no arrow: `send E on C`, `X := wait(C)`
-< | < | joined | there is no shift: `X * 16`, `X div 16`
-> | > | joined | there is no shift: `X * 16`, `X div 16`
+- | > | joined | there is no arrow: `send E on C` sends, `X := wait(C)` takes, and `;` stands between statements
+< > | < > | joined | there is no shift: `X * 16`, `X div 16`
 * | * | joined | there is no power: `X * X`
 then | if | always | an `if` behind `then` stands between `begin` and `end`
 then | while | always | a `while` behind `then` stands between `begin` and `end`
@@ -24,7 +22,6 @@ begin do else ; repeat | ( - | always | a statement begins with a name or a keyw
 begin do else ; | do | always | a loop is `while E do S`, or `repeat S`, which has no end
 repeat | number | always | `repeat` goes on for ever: `while I < 10 do begin ..; I := I + 1 end` is ten turns
 par | end else | always | `par` stands between instances: `p(A) par q(B)`
-par | begin | always | instances stand without `begin`: `p(A) par q(B)`
 wait | any | always | brackets stand round the channel: `wait(C)`
 ( | if wait not true false number ( - | +name -) | one channel's name stands between these brackets: `if B then wait(U) else wait(V)`
 on | any | always | a channel's name stands behind `on`: `send E on C`
@@ -44,8 +41,6 @@ any | number | +name -declaration | a name begins with a letter
 any | if | +operator -; | a choice among values is `if T then A else B`
 end | if while repeat do process | always | an `end` stands alone: no word says what it ends
 any | if while repeat wait send print | +declaration | statements stand in processes alone
-any | if while repeat wait send print | +par | statements stand in processes alone
-any | if while repeat wait send print | +end -; | statements stand in processes alone
 ; | name if while repeat send print | +begin | the body of a process stands between `begin` and `end`
 any | integer logical | +statement | variables are declared right behind the first `begin` of a process, channels outside of processes
 any | integer logical | +begin -statement | variables are declared right behind the first `begin` of a process, channels outside of processes
@@ -61,23 +56,19 @@ send | on | always | `on` and a channel stand behind the value: `send E on C`
 any | ; end else par | +on | `on` and a channel stand behind the value: `send E on C`
 any | ; end else par | +( | brackets stand behind the name of a process, also where they are empty: `p()`
 any | ; end else par on do then ) , | +else -end | an `if` among values has its `else`: `if E then E else E`
-any | ; end else par | +:= | a statement that begins with a name assigns to it, `X := E`; `send E on C` sends a value
 any | + | +value | no `+` stands before a value: leave it out
 any | + - * < > <> <= >= and div mod or = := | +, +) | an instance hands over channels and literals, by their places: `P(A, -1, true)`
 any | + - * < > <> <= >= and div mod or = | -, +arithmetic | a comparison has two sides: `0 < X and X < 3`
 any | + - * < > <> <= >= and div mod or | -, +:= | a statement that begins with a name assigns to it, `X := E`; `send E on C` sends a value
 name | + - * < > <> <= >= and div mod or | -, +) | one channel alone stands between these brackets: `wait(C) + 1`
 any | = := | +, -arithmetic | a variable begins as 0 or `false`; a statement assigns to it, `X := E`
-any | = | -, +( | there are no constants and no equations: an instance is `P(A, B)`, and hands over channels and numbers, `P(A, 10)`
-any | := < > - | -, +( | an instance is `P(A, B)`: its brackets hand over the channels; statements stand in processes alone
-any | , | +) | one value or one channel stands between these brackets; `print E` and `send E on C` have one value
+any | = := < > - | -, +( | there are no equations: an instance is `P(A, B)`, and hands over channels and numbers; statements stand in processes alone
 any | , | +:= | a statement assigns to one name: `X := E; Y := F`
 any | , | +; +operator | a statement has one value: `print E; print F`
 name | , | +; | a value goes on one channel: `send E on C; send E on D`
 name | name number | +( known | an instance is `P(A, B)`: brackets stand round what it hands over
 name | ( | +:= | a body calls nothing and starts nothing: `send E on C` sends a value, and instances stand behind all processes
 name | ( | +operator | a body calls nothing: there are no functions, `wait(C)` takes a value, and nothing tells whether one is there
-name | ( | +, +) | an instance hands over channels and literals, by their places: `P(A, -1, true)`
 any | and div mod or not false true if then else while do repeat begin end wait send on print | +name -declaration | a keyword is no name, in any letter case: take another one
 ";
 
@@ -85,6 +76,19 @@ any | and div mod or not false true if then else while do repeat begin end wait 
 pub(crate) const LAST: &str = "
 any | else | +end | an `else` stands behind `if E then S`, where S is one statement; `begin` and `end` make one of several
 any | , | +on | `send` sends one value: `send E on C; send F on C`
-any | = | +:= | a statement that begins with a name assigns to it: `X := E`
 any | ) | always | this `)` has no `(`: insert `(` before it, or leave it out
+";
+
+/// What a part of a program looks like, where it is open: names of the text stand for `@X`, `@U` and `@W`.
+pub(crate) const FORMS: &str = "
+nothing | any | always | a program is like `begin integer output channel B; process p(integer out W); begin send 1 on W end; p(B) end`
+any | any | +:= | a statement begins with `send`, `print`, `if`, `while`, `repeat` or `begin`, or assigns to a name: `@X := @X + 1`, `@X := wait(@U)`
+any | any | +declaration | here stand channels, `integer channel C;`, and processes, `process P(integer in U; integer out W); begin .. end;`; then instances, `P(A, B)`
+any | any | +statement | a statement is like `@X := wait(@U)`, `send @X on @W`, `print @X`, `if @X > 0 then S`, `while @X > 0 do S`, `repeat S` or `begin S; T end`
+any | any | +value | a value is like `@X`, `12`, `wait(@U)`, `-@X`, `(@X + 1)` or `if @X > 0 then 1 else 0`
+any | any | +do | a loop is like `while @X > 0 do S`, or `repeat S`, where S is one statement
+any | any | +then | a choice is like `if @X > 0 then S else T`, where S and T are one statement each
+any | any | +on | a value is sent as by `send @X + 1 on @W`
+any | any | +operator | a value goes on with `+`, `-`, `*`, `div`, `mod`, `=`, `<>`, `<`, `<=`, `>`, `>=`, `and` or `or`; a statement behind another one stands behind `;`
+any | any | +integer | parameters are like `integer in U; integer out W; integer N`
 ";

@@ -2,8 +2,9 @@
 
 /// What stands there, and what is put in its place; the first is told with which the text is read past it. Capital letters stand for what
 /// is kept: `A` to `C` names, `O` the name of a channel that is written, `K` a kind, `D` a direction, `R` a role, `V` a word for `wait`,
-/// `S` one for `send`, `P` one that starts, `E` to `G` expressions, and `T` what stands there to the end of the line.
-pub(crate) const PATTERNS: [(&str, &str); 154] = [
+/// `S` one for `send`, `P` one that starts, `E` to `G` expressions, `N` names
+/// alone, and `T` what stands there to the end of the line.
+pub(crate) const PATTERNS: [(&str, &str); 169] = [
     // Values are taken and sent.
     ("A : = < - B", "A := wait(B)"),
     ("V A from B", "A := wait(B)"),
@@ -19,6 +20,7 @@ pub(crate) const PATTERNS: [(&str, &str); 154] = [
     ("S ( E , O )", "send E on O"),
     ("S ( O , E )", "send E on O"),
     ("S E D O", "send E on O"),
+    ("S E - > O", "send E on O"),
     ("S O , E", "send E on O"),
     ("S O : = E", "send E on O"),
     ("S O < - E", "send E on O"),
@@ -29,6 +31,7 @@ pub(crate) const PATTERNS: [(&str, &str); 154] = [
     ("O < - E", "send E on O"),
     ("A < - B + E", "A := B + E"),
     ("A < - B", "A := wait(B)"),
+    ("A < - E", "A := E"),
     ("A : = E if F else G", "A := if F then E else G"),
     ("A : S", "S"),
     ("send E ? F : G on", "send if E then F else G on"),
@@ -64,7 +67,11 @@ pub(crate) const PATTERNS: [(&str, &str); 154] = [
     ("A + +", "A := A + 1"),
     ("A - -", "A := A - 1"),
     (": =", ":="),
+    ("= = =", "="),
     ("= =", "="),
+    ("A = = E", "A := E"),
+    ("repeat - >", "repeat"),
+    ("add E to A", "A := A + E"),
     ("= <", "<="),
     ("= >", ">="),
     ("< =", "<="),
@@ -74,6 +81,8 @@ pub(crate) const PATTERNS: [(&str, &str); 154] = [
     (") - >", ");"),
     (") is", ");"),
     (") do", ");"),
+    (") =", ");"),
+    (") =", "); begin"),
     ("let A : K = 0", "K A"),
     ("A : : K", "K A"),
     ("A : K D", "K D A"),
@@ -119,9 +128,12 @@ pub(crate) const PATTERNS: [(&str, &str); 154] = [
     ("channel A", "integer channel A"),
     ("var A = channel ( )", "integer channel A"),
     ("A = channel ( )", "integer channel A"),
+    ("A = channel ( K )", "K channel A"),
+    ("A = R ( K )", "K R channel A"),
     ("process A ( T", "A(T"),
     ("process A [", "process A("),
     ("A [ E ]", "A(E)"),
+    ("[ E ]", "(E)"),
     ("process A begin", "process A(); begin"),
     ("process A = B (", "process B("),
     ("A = B ( E )", "B(E, A)"),
@@ -138,12 +150,13 @@ pub(crate) const PATTERNS: [(&str, &str); 154] = [
     (", A = B", ", B"),
     ("( A : B", "(B"),
     (", A : B", ", B"),
-    ("int main ( ) {", "begin"),
+    ("A main ( ) {", "begin"),
     (") {", "); begin"),
     ("if E {", "if E then begin"),
     ("while E {", "while E do begin"),
     ("begin {", "begin"),
     ("for {", "repeat begin"),
+    ("loop {", "repeat begin"),
     ("package A ;", ""),
     ("import A", ""),
     ("# define T", ""),
@@ -158,8 +171,11 @@ pub(crate) const PATTERNS: [(&str, &str); 154] = [
     ("; % T", "; comment T;"),
     ("end % T", "end comment T;"),
     ("/ / T", "comment T;"),
+    ("{ N }", "comment N;"),
+    ("comment T", "comment T;"),
     ("/ * T * /", "comment T;"),
     ("( * T * )", "comment T;"),
     ("- - T", "comment T;"),
     ("# T", "comment T;"),
+    ("/ /", "div"),
 ];

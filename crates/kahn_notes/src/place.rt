@@ -1,6 +1,7 @@
 //! The place where a text goes wrong, with the lexemes round it.
 
 use crate::choice::Offers;
+use crate::said::Words;
 use crate::table::finds;
 use kahn_marks::part_of;
 use kahn_syntax::{Class, Lexeme, Sign, Span};
@@ -86,6 +87,35 @@ pub(crate) fn is_declared(place: Place, less: usize, name: &str) -> bool {
         naming = begins || (naming && goes_on);
     }
     false
+}
+
+/// The last name before a place that stands behind one of these lexemes, or else a letter.
+fn own_name<'p>(place: Place<'p>, words: &str, letter: &'static str) -> &'p str {
+    let (mut found, mut naming) = (letter, false);
+    for lexeme in front(place.lexemes, place.number) {
+        if naming && lexeme.what == Class::Name {
+            found = part_of(place.text, lexeme.span);
+        }
+        naming = finds(words, Some(*lexeme));
+    }
+    found
+}
+
+/// A sentence with names of the text: for `@X` that of a number or a truth value, for `@U` one of a channel that is read, and for `@W` one of a
+/// channel that is written.
+pub(crate) fn exemplified(place: Place, sentence: &'static str) -> Words {
+    let mut words = String::new(place.alloc);
+    for (number, part) in sentence.split("@").enumerate() {
+        let (name, rest) = match (number, part.split_at_checked(1)) {
+            (1.., Some(("X", rest))) => (own_name(place, "integer logical", "X"), rest),
+            (1.., Some(("U", rest))) => (own_name(place, "in", "U"), rest),
+            (1.., Some(("W", rest))) => (own_name(place, "out", "W"), rest),
+            (_, _) => ("", part),
+        };
+        words.push_str(name)?;
+        words.push_str(rest)?;
+    }
+    Ok(words)
 }
 
 /// Whether a name stands once in a text.

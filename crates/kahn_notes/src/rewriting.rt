@@ -2,7 +2,7 @@
 
 use crate::mending::{Fixed, mending};
 use crate::patterns::PATTERNS;
-use crate::said::{Words, replacement};
+use crate::said::{Words, joined, replacement};
 use crate::table::{cell, has_word, row_of};
 use kahn_marks::{Fix, part_of};
 use kahn_syntax::{Keyword, Span};
@@ -131,17 +131,22 @@ fn fits(window: Window, piece: &str, word: &str) -> bool {
 }
 
 /// Whether a run of words ends before a number: at the end of the line, at what is next in the pattern, or where no expression goes on.
-fn is_ended(window: Window, number: usize, is_line: bool, next: &str) -> bool {
+fn is_ended(window: Window, number: usize, piece: &str, next: &str) -> bool {
     let word = word_of(window, number);
     let is_next = !next.is_empty() && fits(window, next, word);
-    is_next || (!is_line && has_word(ENDS, word))
+    is_next
+        || match piece {
+            "T" => false,
+            "N" => !is_name(word),
+            _ => has_word(ENDS, word),
+        }
 }
 
 /// Where a run of words ends that a number begins, on the line of the place.
-fn end_of_run(window: Window, from: usize, is_line: bool, next: &str) -> usize {
+fn end_of_run(window: Window, from: usize, piece: &str, next: &str) -> usize {
     let mut depth = 0usize;
     for number in from..window.line {
-        if depth == 0 && is_ended(window, number, is_line, next) {
+        if depth == 0 && is_ended(window, number, piece, next) {
             return number;
         }
         depth = match word_of(window, number) {
@@ -156,7 +161,7 @@ fn end_of_run(window: Window, from: usize, is_line: bool, next: &str) -> usize {
 /// How many words and signs stand before what is behind a piece of a pattern, where that fits at a number of them.
 fn end_of(window: Window, from: usize, piece: &str, next: &str) -> Option<usize> {
     let end = match piece {
-        "E" | "F" | "G" | "T" => end_of_run(window, from, piece == "T", next),
+        "E" | "F" | "G" | "T" | "N" => end_of_run(window, from, piece, next),
         _ if fits(window, piece, word_of(window, from)) => from.saturating_add(1),
         _ => from,
     };
@@ -213,7 +218,8 @@ fn filled(window: Window, template: &str, bindings: &[Binding]) -> Words {
     Ok(put)
 }
 
-/// The change of a pattern that fits from a number on, if the text is read past it then.
+/// The change of a pattern that fits from a number on, if the text is read past it then; at the end of a line also with a `;` behind it, or
+/// before a comment.
 fn change_at(
     window: Window,
     start: usize,
@@ -237,6 +243,17 @@ fn change_at(
     let put = filled(window, put, &bindings)?;
     let fix = replacement(window.alloc, part, put.as_str())?;
     let behind = Span { from, to: from };
+    let fix = mending(window.alloc, window.plain, behind, Some(fix))?;
+    if fix.is_some() || end < window.line {
+        return Ok(fix);
+    }
+    let pieces = if put.starts_with("comment ") {
+        ["; ", put.as_str()]
+    } else {
+        [put.as_str(), ";"]
+    };
+    let put = joined(window.alloc, &pieces)?;
+    let fix = replacement(window.alloc, part, put.as_str())?;
     mending(window.alloc, window.plain, behind, Some(fix))
 }
 

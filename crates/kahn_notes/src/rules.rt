@@ -1,11 +1,11 @@
 //! What is said of a place where a text goes wrong, beside what was expected there: the first that answers.
 
-use crate::blocks::blocks_said;
-use crate::choice::{first_of, left_out, likely, too_many};
+use crate::blocks::{blocks_said, closer_said};
+use crate::choice::{first_of, left_out, likely, too_many, twice};
 use crate::foreign::{Foreign, foreign_word};
-use crate::habits::{EARLY, HABITS, LAST};
+use crate::habits::{EARLY, FORMS, HABITS, LAST};
 use crate::mending::mending;
-use crate::place::{Place, before, found};
+use crate::place::{Place, before, exemplified, found};
 use crate::rewriting::rewritten;
 use crate::said::{Saying, change_said, fix_of, joined, meant, replacement, rewriting_said};
 use crate::spelling::{remark_slip, slip};
@@ -55,6 +55,14 @@ fn advised(table: &'static str, place: Place) -> Saying {
     }
 }
 
+/// What is said of a part of the program, by what may stand there.
+fn form_said(place: Place) -> Saying {
+    match advice(FORMS, place) {
+        Some(words) => Ok(Some((None, None, Some(exemplified(place, words)?)))),
+        None => Ok(None),
+    }
+}
+
 /// What is said of the changes that are most often meant.
 fn likely_said(place: Place) -> Saying {
     let likely = likely(place)?;
@@ -80,7 +88,18 @@ fn last_said(place: Place) -> Saying {
             return Ok(Some(said));
         }
     }
-    advised(LAST, place)
+    if let Some(said) = advised(LAST, place)? {
+        return Ok(Some(said));
+    }
+    let likely = likely(place)?;
+    for reach in &offers.all {
+        if place.number < reach.to && likely.contains(&reach.change) {
+            if let Some(said) = told_change(place, Some(reach.change))? {
+                return Ok(Some(said));
+            }
+        }
+    }
+    form_said(place)
 }
 
 /// The change that puts a keyword in the place of a word of another language, if it is the one that mends the text, or the one of the table.
@@ -110,11 +129,17 @@ fn foreign_said(place: Place, foreign: Foreign) -> Saying {
         }
         (_, _) => None,
     };
-    let below = String::from_str(place.alloc, cell(row, 2))?;
-    let left_out = first_of(&place.offers.best, &[Change { spot, put: None }]);
-    let fix = match (keyword, left_out) {
-        (Some(Keyword::End), Some(change)) => fix_of(place, change)?,
-        (_, _) => None,
+    let sentence = cell(row, 2).strip_prefix("; ").unwrap_or("");
+    let below = String::from_str(place.alloc, sentence)?;
+    if keyword != Some(Keyword::End) {
+        return Ok(Some((head, None, Some(below))));
+    }
+    if let Some(said) = closer_said(place, spot)? {
+        return Ok(Some(said));
+    }
+    let fix = match first_of(&place.offers.best, &[Change { spot, put: None }]) {
+        Some(change) => fix_of(place, change)?,
+        None => None,
     };
     Ok(Some((head, fix, Some(below))))
 }
@@ -122,6 +147,14 @@ fn foreign_said(place: Place, foreign: Foreign) -> Saying {
 /// What is said of the lexemes of a place.
 pub(crate) fn grammar_said(place: Place) -> Saying {
     let text = place.text;
+    if finds(
+        "process repeat while send print wait in out input output channel",
+        found(place),
+    ) {
+        if let Some(said) = offered(place, &twice(place)?)? {
+            return Ok(Some(said));
+        }
+    }
     if let Some(fix) = rewritten(place.alloc, text, text, place.span.from)? {
         return Ok(Some(rewriting_said(place, fix)?));
     }

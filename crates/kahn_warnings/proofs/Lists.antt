@@ -1,5 +1,7 @@
 -- The operands of a level and the statements of a block and of a body, one after another.
-use Rattle.std.proofs.Common.{◌≡◌, ◌||◌, ◌++◌, ◌∙◌, Bool, true, false, List, [], ◌∷◌, refl, ap, flat_map}
+use Rattle.std.proofs.Common.{◌≡◌, ◌||◌, ◌++◌, ◌∙◌, Bool, true, false, List, [], ◌∷◌, Option, None, Some, refl, ap, flat_map, if◌then◌else◌}
+use Rattle.std.specs.Option.{option_or}
+use Rattle.kahn_streams.specs.declared.span.Span.{Span}
 use Rattle.kahn_streams.specs.Syntax.{Expr, Stmt}
 use Rattle.kahn_streams.specs.View.{Scope, body_of, expr_of, expression_of, level_of, row_of, statement_of, stmt_of}
 use Rattle.kahn_streams.specs.declared.tree.Form.{Row_of-Operand, end_of-Operand, more_of-Operand}
@@ -10,10 +12,10 @@ use Rattle.kahn_streams.specs.declared.tree.Form.TheBlock.{items-the_row-Operand
 use Rattle.kahn_streams.specs.declared.tree.Action.TheBlock.{items-the_row-Statement}
 use Rattle.kahn_warnings.specs.Loops.{is_seen, never_ends}
 use Rattle.kahn_warnings.specs.Uses.{any_varies_by, is_assigned_in, is_named, is_used_in, varies_by, waits_in}
-use Rattle.kahn_warnings.specs.Warnings.{block_items, list_warnings, row_warnings, statement_warnings}
+use Rattle.kahn_warnings.specs.Warnings.{block_items, first_standing, first_unreached, list_warnings, row_warnings, statement_warnings}
 use Rattle.kahn_warnings.specs.declared.warning.Warning.{Warning}
 
-or_assoc : (a b c : Bool) → ((a || b) || c) ≡ (a || (b || c))
+pub or_assoc : (a b c : Bool) → ((a || b) || c) ≡ (a || (b || c))
 or_assoc true b c = refl
 or_assoc false b c = refl
 
@@ -85,6 +87,22 @@ block_is_seen names end_of-Statement = refl
 block_is_seen names (more_of-Statement at a rest) = ap (λ b. is_seen (stmt_of names a) || b) (block_is_seen names rest)
 
 -- warnings
+
+-- where the first statement stands that isn't reached, by whether one before these never ends, and by where one stood before these
+abbrev pub left_unreached : Bool → Option Span → List Statement → Option Span
+left_unreached ends place rest = option_or place (if ends then first_standing rest else first_unreached rest)
+
+pub one_on : (ends n : Bool) (place : Option Span) (s : Statement) (rest : List Statement) → n ≡ never_ends (statement_of [] s) →
+    left_unreached (ends || n) (option_or place (if ends then s.span else None)) rest ≡ left_unreached ends place (s ∷ rest)
+one_on true n None s rest e = refl
+one_on true n (Some p) s rest e = refl
+one_on false n None s rest e = ap (λ b. if b then first_standing rest else first_unreached rest) e
+one_on false n (Some p) s rest e = refl
+
+pub none_left : (ends : Bool) (place : Option Span) → left_unreached ends place [] ≡ place
+none_left true None = refl
+none_left false None = refl
+none_left ends (Some p) = refl
 
 abbrev pub each : Statement → List Warning
 each s = statement_warnings s.span s.action

@@ -6,7 +6,6 @@ use Rattle.std.specs.Option.{option_or}
 use Rattle.std.proofs.Common.{bytes_eq}
 use Rattle.kahn_streams.specs.View.{bytes_of, expression_of, stmt_of, statement_of}
 use Rattle.kahn_streams.specs.declared.span.Span.{Span}
-use Rattle.kahn_streams.specs.declared.tree.Expression.{Expression}
 use Rattle.kahn_streams.specs.declared.tree.Kind.{Kind}
 use Rattle.kahn_streams.specs.declared.tree.Kind.TheVariants.{Integer, Logical}
 use Rattle.kahn_streams.specs.declared.tree.Name.{Name}
@@ -64,13 +63,11 @@ names_warnings p = flat_map (parameter_warnings p) p.parameters.items ++ flat_ma
 
 -- ---- loops
 
--- a loop of this body
-abbrev pub idle_kind : Action → Option WarningKind
-idle_kind a = if is_seen (stmt_of [] a) then None else Some Idle
-
--- a loop of this body with this test, where that is always true
-abbrev pub endless_kind : Expression → Action → Option WarningKind
-endless_kind t a = if is_true (constant_of (expression_of [] t)) then idle_kind a else None
+-- a loop that may have no end, and may wait, send or print
+abbrev pub loop_kind : Bool → Bool → Option WarningKind
+loop_kind true false = Some Idle
+loop_kind true true = None
+loop_kind false seen = None
 
 -- the first of these statements that isn't empty
 abbrev pub first_standing : List Statement → Option Span
@@ -106,8 +103,9 @@ abbrev mutual
   statement_warnings at (Print e) = []
   statement_warnings at (Block' shape row) = row_warnings row ++ list_warnings (block_items row)
   statement_warnings at (If' t p span a b) = statement_warnings span a ++ else_warnings at a b
-  statement_warnings at (While' t p span a) = warned (endless_kind t a) at ++ statement_warnings span a
-  statement_warnings at (Repeat' p span a) = warned (idle_kind a) at ++ statement_warnings span a
+  statement_warnings at (While' t p span a) =
+      statement_warnings span a ++ warned (loop_kind (is_true (constant_of (expression_of [] t))) (is_seen (stmt_of [] a))) at
+  statement_warnings at (Repeat' p span a) = statement_warnings span a ++ warned (loop_kind true (is_seen (stmt_of [] a))) at
 
   pub row_warnings : {m : _} → Row_of-Statement m → List Warning
   row_warnings end_of-Statement = []

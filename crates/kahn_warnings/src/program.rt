@@ -1,35 +1,33 @@
 //! All that is warned of in a program.
 
-ghost use Rattle.std.specs.Prelude.{◌≡◌, ◌++◌, IfOk, flat_map};
-ghost use Rattle.kahn_warnings.specs.Warnings.{AreWarnings, bare_kind, body_warnings, by_layout, declaration_warnings, endless_kind, first_standing, first_unreached, idle_kind, list_warnings, statement_warnings};
+ghost use Rattle.std.specs.Prelude.{◌≡◌, ◌++◌, ◌&&◌, ◌||◌, IfOk, None, Some, flat_map, if◌then◌else◌};
+ghost use Rattle.std.specs.Option.{option_or};
+ghost use Rattle.kahn_streams.specs.View.{Scope, statement_of};
+ghost use Rattle.kahn_warnings.specs.Loops.{is_seen, never_ends};
+ghost use Rattle.kahn_warnings.specs.Warned.{warned};
+ghost use Rattle.kahn_warnings.specs.Warnings.{AreWarnings, bare_kind, body_warnings, by_layout, declaration_warnings, loop_kind, statement_warnings};
+ghost use Rattle.kahn_warnings.specs.declared.warning.WarningKind.TheVariants.{Unreached};
 
 use crate::comments::comment_warnings;
 use crate::constants::{constant_of, is_true};
 use crate::layout::misplaced;
-use crate::loops::{is_seen, never_ends};
+use crate::loops::waits_in;
 use crate::names::{add_names, process_kind};
 use crate::surely::add_constants;
 use crate::uses::is_empty;
-use crate::warning::WarningKind::{BareThen, Beside, Idle, Unreached};
+use crate::warning::WarningKind::{BareThen, Beside, Idle};
 use crate::warning::{Warning, WarningKind, add_warning};
-use kahn_streams::{Action, Declaration, Expression, Instance, NoMemory, Program, Span, Statement};
+use kahn_streams::{Action, Declaration, Instance, NoMemory, Program, Span, Statement};
 use std::alloc::{AllocError, Global};
 
-/// What is warned of a loop without an end, which may neither wait nor send nor print.
-fn idle_kind(body: &Statement) -> Option<WarningKind>
-    ensures { result ≡ idle_kind body.now.action }
+/// What is warned of a loop, which may have no end, and may wait, send or print.
+fn loop_kind(is_endless: bool, is_seen: bool) -> Option<WarningKind>
+    ensures { result ≡ loop_kind is_endless is_seen }
 {
-    if is_seen(body) { None } else { Some(Idle) }
-}
-
-/// What is warned of a loop with a test, which may always be true.
-fn endless_kind(test: &Expression, body: &Statement) -> Option<WarningKind>
-    ensures { result ≡ endless_kind test.now body.now.action }
-{
-    if is_true(constant_of(test)) {
-        idle_kind(body)
-    } else {
-        None
+    match (is_endless, is_seen) {
+        (true, false) => Some(Idle),
+        (true, true) => None,
+        (false, _) => None,
     }
 }
 
@@ -40,67 +38,85 @@ fn bare_kind(yes: &Statement) -> Option<WarningKind>
     if is_empty(yes) { Some(BareThen) } else { None }
 }
 
-/// Where the first of these statements stands that isn't empty.
-fn first_standing(statements: &[Statement]) -> Option<Span>
-    ensures { result ≡ first_standing statements.now }
+/// Where the first statement stands that isn't reached, once there is one: the next one, if one before it never ends and it isn't empty.
+fn place_on(ends: bool, place: Option<Span>, next: Option<Span>) -> Option<Span>
+    ensures { result ≡ option_or place (if ends then next else None) }
 {
-    for statement in statements {
-        if let Some(span) = statement.span {
-            return Some(span);
-        }
+    match (place, ends) {
+        (Some(place), _) => Some(place),
+        (None, true) => next,
+        (None, false) => None,
     }
-    None
 }
 
-/// Where the first such statement stands behind one that never ends. The last one isn't asked: blocks in blocks would be walked again at
-/// each level.
-fn first_unreached(statements: &[Statement]) -> Option<Span>
-    ensures { result ≡ first_unreached statements.now }
+/// Adds the warning of the first statement that isn't reached. Answers whether its list never ends, and whether it is seen.
+fn add_unreached(
+    warnings: &mut Vec<Warning>,
+    place: Option<Span>,
+    ends: bool,
+    seen: bool,
+) -> Result<(bool, bool), AllocError>
+    ensures warnings { IfOk result (λ _. warnings.new.items ≡ warnings.old.items ++ warned (Some Unreached) place) }
+    ensures ends { IfOk result (λ course. course.0 ≡ ends) }
+    ensures seen { IfOk result (λ course. course.1 ≡ seen) }
 {
-    let mut rest = statements;
-    'statements: while let Some((first, behind)) = rest.split_first() {
-        if !behind.is_empty() && never_ends(first) {
-            return first_standing(behind);
-        }
-        rest = behind;
-    }
-    None
+    add_warning(warnings, Some(WarningKind::Unreached), place)?;
+    Ok((ends, seen))
 }
 
-/// Adds those of a list of statements beside those of each.
-fn add_list(warnings: &mut Vec<Warning>, statements: &[Statement]) -> Result<(), AllocError>
-    ensures { IfOk result (λ _. warnings.new.items ≡ warnings.old.items ++ list_warnings statements.now) }
+/// Whether an `if` never ends, by both branches, and whether it is seen, by its test too.
+fn branched(waits: bool, yes: (bool, bool), no: (bool, bool)) -> (bool, bool)
+    ensures ends { result.0 ≡ yes.0 && no.0 }
+    ensures seen { result.1 ≡ waits || yes.1 || no.1 }
 {
-    let place = first_unreached(statements);
-    add_warning(warnings, Some(Unreached), place)
+    (yes.0 & no.0, waits | yes.1 | no.1)
 }
 
-/// Adds the warnings of a statement.
-fn add_statement(warnings: &mut Vec<Warning>, statement: &Statement) -> Result<(), AllocError>
-    ensures { IfOk result (λ _. warnings.new.items ≡ warnings.old.items ++ statement_warnings statement.now.span statement.now.action) }
+/// Adds the warnings of a statement. Answers whether it never ends, and whether it waits, sends or prints anywhere.
+fn add_statement(
+    warnings: &mut Vec<Warning>,
+    statement: &Statement,
+) -> Result<(bool, bool), AllocError>
+    ensures warnings { IfOk result (λ _. warnings.new.items ≡ warnings.old.items ++ statement_warnings statement.now.span statement.now.action) }
+    ensures ends { IfOk result (λ course. (names : Scope) → course.0 ≡ never_ends (statement_of names statement.now)) }
+    ensures seen { IfOk result (λ course. (names : Scope) → course.1 ≡ is_seen (statement_of names statement.now)) }
 {
     match &statement.action {
-        Action::Empty | Action::Assign(_, _) | Action::Send(_, _) | Action::Print(_) => Ok(()),
+        Action::Empty => Ok((false, false)),
+        Action::Assign(_, expression) => Ok((false, waits_in(expression))),
+        Action::Send(_, _) => Ok((false, true)),
+        Action::Print(_) => Ok((false, true)),
         Action::Block(statements) => {
+            let mut ends = false;
+            let mut seen = false;
+            let mut place = None;
             for inner in statements {
-                add_statement(warnings, inner)?;
+                place = place_on(ends, place, inner.span);
+                let course = add_statement(warnings, inner)?;
+                ends = ends | course.0;
+                seen = seen | course.1;
             }
-            add_list(warnings, statements)
+            add_unreached(warnings, place, ends, seen)
         }
-        Action::If(_, yes, no) => {
-            add_statement(warnings, yes)?;
-            match no {
-                Some(no) => add_statement(warnings, no),
-                None => add_warning(warnings, bare_kind(yes), statement.span),
-            }
+        Action::If(test, yes, no) => {
+            let first = add_statement(warnings, yes)?;
+            let Some(no) = no else {
+                add_warning(warnings, bare_kind(yes), statement.span)?;
+                return Ok(branched(waits_in(test), first, (false, false)));
+            };
+            let second = add_statement(warnings, no)?;
+            Ok(branched(waits_in(test), first, second))
         }
         Action::While(test, body) => {
-            add_warning(warnings, endless_kind(test, body), statement.span)?;
-            add_statement(warnings, body)
+            let (_, seen) = add_statement(warnings, body)?;
+            let ends = is_true(constant_of(test));
+            add_warning(warnings, loop_kind(ends, seen), statement.span)?;
+            Ok((ends, waits_in(test) | seen))
         }
         Action::Repeat(body) => {
-            add_warning(warnings, idle_kind(body), statement.span)?;
-            add_statement(warnings, body)
+            let (_, seen) = add_statement(warnings, body)?;
+            add_warning(warnings, loop_kind(true, seen), statement.span)?;
+            Ok((true, seen))
         }
     }
 }
@@ -109,10 +125,14 @@ fn add_statement(warnings: &mut Vec<Warning>, statement: &Statement) -> Result<(
 fn add_body(warnings: &mut Vec<Warning>, statements: &[Statement]) -> Result<(), AllocError>
     ensures { IfOk result (λ _. warnings.new.items ≡ warnings.old.items ++ body_warnings statements.now) }
 {
+    let mut ends = false;
+    let mut place = None;
     for statement in statements {
-        add_statement(warnings, statement)?;
+        place = place_on(ends, place, statement.span);
+        let course = add_statement(warnings, statement)?;
+        ends = ends | course.0;
     }
-    add_list(warnings, statements)
+    add_warning(warnings, Some(WarningKind::Unreached), place)
 }
 
 /// Adds those of a declaration.
@@ -147,7 +167,7 @@ fn add_misplaced(warnings: &mut Vec<Warning>, spans: &[Span]) -> Result<(), Allo
 }
 
 /// All that is warned of in a program of this text: the comments first, then one process after another, and then by indentation. It
-/// refuses only where memory was refused. The time is that of the size of the program times how deep its statements are nested.
+/// refuses only where memory was refused.
 pub fn warnings(alloc: Global, program: &Program, text: &str) -> Result<Vec<Warning>, NoMemory>
     ensures { IfOk result (λ ws. AreWarnings text.now program.now ws.items) }
 {

@@ -1,7 +1,15 @@
--- The warnings of the statements so far.
-use Rattle.std.proofs.Common.{◌≡◌, ◌++◌, flat_map, take}
-use Rattle.kahn_warnings.proofs.Lists.{each}
+-- The warnings of the statements so far, where the first stands that isn't reached, and whether one never ends or is seen.
+use Rattle.std.proofs.Common.{◌≡◌, ◌++◌, ◌||◌, drop, flat_map, take}
+use Rattle.kahn_streams.specs.View.{Scope}
+use Rattle.kahn_warnings.specs.Loops.{is_seen, never_ends}
+use Rattle.kahn_warnings.specs.Warnings.{first_unreached}
+use Rattle.kahn_warnings.proofs.Lists.{any_in, each, left_unreached}
 use Rattle.kahn_warnings.proofs.program.+add_statement.Given as goal
 
 abbrev pub invariant-loop-inner : goal.invariant-loop-inner
-invariant-loop-inner l = l.warnings.items ≡ l.initial.warnings.items ++ flat_map each (take l.inner-index l.inner-items)
+invariant-loop-inner l = record {
+  warnings : l.warnings.items ≡ l.initial.warnings.items ++ flat_map each (take l.inner-index l.inner-items);
+  place : left_unreached l.ends l.place (drop l.inner-index l.inner-items) ≡ first_unreached l.inner-items;
+  ends : (names : Scope) → l.ends || any_in never_ends names (drop l.inner-index l.inner-items) ≡ any_in never_ends names l.inner-items;
+  seen : (names : Scope) → l.seen || any_in is_seen names (drop l.inner-index l.inner-items) ≡ any_in is_seen names l.inner-items;
+}

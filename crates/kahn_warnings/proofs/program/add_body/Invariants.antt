@@ -1,7 +1,11 @@
--- The warnings of the statements so far.
-use Rattle.std.proofs.Common.{◌≡◌, ◌++◌, flat_map, take}
-use Rattle.kahn_warnings.proofs.Lists.{each}
+-- The warnings of the statements so far, and where the first stands that isn't reached.
+use Rattle.std.proofs.Common.{◌≡◌, ◌++◌, drop, flat_map, take}
+use Rattle.kahn_warnings.specs.Warnings.{first_unreached}
+use Rattle.kahn_warnings.proofs.Lists.{each, left_unreached}
 use Rattle.kahn_warnings.proofs.program.add_body.Given as goal
 
 abbrev pub invariant-loop-statement : goal.invariant-loop-statement
-invariant-loop-statement l = l.warnings.items ≡ l.initial.warnings.items ++ flat_map each (take l.statement-index l.statements)
+invariant-loop-statement l = record {
+  warnings : l.warnings.items ≡ l.initial.warnings.items ++ flat_map each (take l.statement-index l.statements);
+  place : left_unreached l.ends l.place (drop l.statement-index l.statements) ≡ first_unreached l.statements;
+}
