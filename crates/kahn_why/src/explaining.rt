@@ -1,6 +1,6 @@
 //! What explaining comes to: from a program text to its network, or to why it is refused.
 
-ghost use Rattle.std.specs.Prelude.{◌≡◌, ◌++◌, Bool};
+ghost use Rattle.std.specs.Prelude.{◌++◌, Bool};
 ghost use Rattle.kahn_fault.specs.Work.{IsUnchecked};
 ghost use Rattle.kahn_why.specs.inner.Told.{HasAdmitted, HasRefused, HasWritten, IsStrictAbout};
 

@@ -8,6 +8,7 @@ use std::alloc::{AllocError, Global};
 /// What a run is told by.
 #[derive(Clone, Copy)]
 pub(crate) struct Story<'a> {
+    pub alloc: Global,
     /// What the program text is called.
     pub path: &'a str,
     /// The program text.
@@ -31,32 +32,16 @@ pub(crate) fn source_of(cause: Cause) -> usize {
     }
 }
 
-/// Why an instance goes no further, where it hasn't ended.
-pub(crate) fn reason_of(reasons: &[Reason], instance: usize) -> Option<Reason> {
-    reasons
-        .iter()
-        .find(|reason| reason.instance == instance)
-        .copied()
-}
-
-/// Whether the waits of an instance lead to another one: on its ring, or from outside of it.
-fn leads_to(reason: &Reason, instance: usize, is_on_ring: bool) -> bool {
-    if source_of(reason.cause) != instance || reason.is_on_ring != is_on_ring {
-        return false;
-    }
-    is_on_ring || reason.instance != instance
-}
-
 /// Those whose waits lead to an instance: the ones on its ring, or the others.
 pub(crate) fn led_to(
-    alloc: Global,
-    reasons: &[Reason],
+    story: &Story<'_>,
     instance: usize,
     is_on_ring: bool,
 ) -> Result<Vec<Reason>, AllocError> {
-    let mut those = Vec::new(alloc);
-    for reason in reasons {
-        if leads_to(reason, instance, is_on_ring) {
+    let mut those = Vec::new(story.alloc);
+    for reason in story.reasons {
+        let is_led = source_of(reason.cause) == instance && reason.is_on_ring == is_on_ring;
+        if is_led && (is_on_ring || reason.instance != instance) {
             those.push(*reason)?;
         }
     }

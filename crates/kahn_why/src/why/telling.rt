@@ -6,7 +6,7 @@ ghost use Rattle.kahn_streams.specs.Network.{network_of};
 ghost use Rattle.kahn_chain.specs.Chain.{AreStandings};
 ghost use Rattle.kahn_why.specs.Why.{IsExplained, standings_of};
 
-use crate::why::lines::{add_causes, add_each};
+use crate::why::lines::add_causes;
 use crate::why::story::Story;
 use crate::why::told::{Explanation, came_to};
 use crate::why::verdict::add_verdict;
@@ -32,19 +32,10 @@ fn add_last(text: &mut String, answer: &Answer) -> Result<(), AllocError>
 }
 
 /// What came of a run, and each cause once, or each instance, and how the run can go on.
-fn lines(
-    alloc: Global,
-    story: &Story<'_>,
-    instances: usize,
-    each: bool,
-) -> Result<String, AllocError> {
-    let mut text = String::new(alloc);
-    add_verdict(&mut text, alloc, story)?;
-    if each {
-        add_each(&mut text, alloc, story)?;
-    } else {
-        add_causes(&mut text, alloc, story, instances)?;
-    }
+fn lines(story: &Story<'_>, instances: usize, each: bool) -> Result<String, AllocError> {
+    let mut text = String::new(story.alloc);
+    add_verdict(&mut text, story)?;
+    add_causes(&mut text, story, instances, each)?;
     if let Verdict::Bound = story.verdict {
         text.push_str("--bound N with a greater N lets the run go on\n")?;
     }
@@ -71,6 +62,7 @@ fn told(
         Err(_) => Vec::new(alloc),
     };
     let story = Story {
+        alloc,
         path,
         program,
         lexemes: &lexemes,
@@ -79,7 +71,7 @@ fn told(
         verdict: answer.verdict,
         reasons: &reasons,
     };
-    let mut text = lines(alloc, &story, answer.ends.len(), each)?;
+    let mut text = lines(&story, answer.ends.len(), each)?;
     add_last(&mut text, answer)?;
     let told = came_to(answer.verdict, &reasons);
     Ok(Explanation {

@@ -4,32 +4,15 @@ use crate::why::story::{Story, led_to};
 use crate::why::words::{add_count, add_those};
 use kahn_chain::{Cause, Reason};
 use kahn_streams::{Outcome, Verdict};
-use std::alloc::{AllocError, Global};
+use std::alloc::AllocError;
 
 /// Ends what was said before, if anything was.
 fn go_on(text: &mut String) -> Result<(), AllocError> {
     text.push_str(if text.is_empty() { "" } else { "; " })
 }
 
-/// Adds how many instances have a fault, if any has.
-fn add_faults(text: &mut String, reasons: &[Reason]) -> Result<(), AllocError> {
-    let count = reasons
-        .iter()
-        .filter(|reason| matches!(reason.end.outcome, Outcome::Faulted(_)))
-        .count();
-    match count {
-        0 => Ok(()),
-        _ => add_count(
-            text,
-            count,
-            " process has a fault",
-            " processes have a fault",
-        ),
-    }
-}
-
 /// Adds who wait on one another in a ring, if there is one, or how many rings there are.
-fn add_rings(text: &mut String, alloc: Global, story: &Story<'_>) -> Result<(), AllocError> {
+fn add_rings(text: &mut String, story: &Story<'_>) -> Result<(), AllocError> {
     let mut first = None;
     let mut count: usize = 0;
     for reason in story.reasons {
@@ -46,32 +29,9 @@ fn add_rings(text: &mut String, alloc: Global, story: &Story<'_>) -> Result<(), 
         return add_count(text, count, "", " deadlocks");
     }
     text.push_str("deadlock: ")?;
-    let those = led_to(alloc, story.reasons, first, true)?;
-    add_those(
-        text,
-        story.network,
-        &those,
-        " waits on itself",
-        " wait on one another",
-    )
-}
-
-/// Adds how many instances want more events, if any does.
-fn add_wanting(text: &mut String, reasons: &[Reason]) -> Result<(), AllocError> {
-    let count = reasons
-        .iter()
-        .filter(|reason| matches!(reason.end.outcome, Outcome::More))
-        .count();
-    if count == 0 {
-        return Ok(());
-    }
-    text.push_str(": ")?;
-    add_count(
-        text,
-        count,
-        " process wants more events",
-        " processes want more events",
-    )
+    let those = led_to(story, first, true)?;
+    let (one, several) = (" waits on itself", " wait on one another");
+    add_those(text, story.network, &those, one, several)
 }
 
 /// Adds what stopped the run, if anything did.
@@ -83,7 +43,16 @@ fn add_stop(text: &mut String, story: &Story<'_>) -> Result<(), AllocError> {
     };
     go_on(text)?;
     text.push_str(word)?;
-    add_wanting(text, story.reasons)
+    let reasons = story.reasons.iter();
+    let count = reasons
+        .filter(|reason| matches!(reason.end.outcome, Outcome::More))
+        .count();
+    if count == 0 {
+        return Ok(());
+    }
+    text.push_str(": ")?;
+    let (one, several) = (" process wants more events", " processes want more events");
+    add_count(text, count, one, several)
 }
 
 /// Whether an instance waits on a channel.
@@ -109,21 +78,22 @@ fn is_all_taken(story: &Story<'_>) -> bool {
 }
 
 /// Adds what came of a run, as the first line.
-pub(crate) fn add_verdict(
-    text: &mut String,
-    alloc: Global,
-    story: &Story<'_>,
-) -> Result<(), AllocError> {
-    add_faults(text, story.reasons)?;
-    add_rings(text, alloc, story)?;
+pub(crate) fn add_verdict(text: &mut String, story: &Story<'_>) -> Result<(), AllocError> {
+    let reasons = story.reasons.iter();
+    let count = reasons
+        .filter(|reason| matches!(reason.end.outcome, Outcome::Faulted(_)))
+        .count();
+    if count > 0 {
+        let (one, several) = (" process has a fault", " processes have a fault");
+        add_count(text, count, one, several)?;
+    }
+    add_rings(text, story)?;
     add_stop(text, story)?;
     if text.is_empty() {
         text.push_str("no deadlock and no fault")?;
-        text.push_str(if is_all_taken(story) {
-            "; all input was taken"
-        } else {
-            ""
-        })?;
+        if is_all_taken(story) {
+            text.push_str("; all input was taken")?;
+        }
     }
     text.push_str("\n")
 }

@@ -33,17 +33,6 @@ pub(crate) fn add_who(
     text.push_str(process_name(network, instance))
 }
 
-/// What stands before one of so many.
-fn separator(place: usize, count: usize) -> &'static str {
-    if place == 0 {
-        ""
-    } else if place.saturating_add(1) == count {
-        " and "
-    } else {
-        ", "
-    }
-}
-
 /// Adds instances by their names, or how many they are, where they are many, and what they do.
 pub(crate) fn add_those(
     text: &mut String,
@@ -57,7 +46,9 @@ pub(crate) fn add_those(
         return text.push_str(several);
     }
     for (place, reason) in those.iter().enumerate() {
-        text.push_str(separator(place, those.len()))?;
+        let left = those.len().saturating_sub(place);
+        let lead = if left == 1 { " and " } else { ", " };
+        text.push_str(if place == 0 { "" } else { lead })?;
         add_who(text, network, reason.instance)?;
     }
     text.push_str(if those.len() == 1 { one } else { several })
@@ -68,34 +59,21 @@ pub(crate) fn for_ever(reason: &Reason) -> &'static str {
     if reason.lasts { ": for ever" } else { "" }
 }
 
-/// Says how an instance stands that doesn't wait.
-fn stopped_word(standing: Standing) -> &'static str {
-    match standing {
-        Standing::Ended => " has ended",
-        Standing::Waits(_) => "",
-        Standing::Faulted => " has a fault",
-        Standing::More => " wants more events",
-    }
-}
-
-/// Adds how many values came on an input, all of which are taken.
-fn add_taken(text: &mut String, count: usize) -> Result<(), AllocError> {
-    if count == 0 {
-        return text.push_str(", to which nothing came: --input FILE brings values");
-    }
-    if count == 1 {
-        return text.push_str(", of which the one value is taken");
-    }
-    text.push_str(", of which all ")?;
-    add_count(text, count, "", " values are taken")
-}
-
-/// Adds that one waits on an input, and how many values were taken, where that is known.
+/// Adds that one waits on an input, and how many values came, all of which are taken, where that is known.
 fn add_input(text: &mut String, story: &Story<'_>, channel: usize) -> Result<(), AllocError> {
     text.push_str(", an input")?;
     match (story.verdict, story.fed) {
         (Verdict::Memory, _) | (_, None) => Ok(()),
-        (_, Some(input)) => add_taken(text, input.count(channel)),
+        (_, Some(input)) if input.count(channel) == 0 => {
+            text.push_str(", to which nothing came: --input FILE brings values")
+        }
+        (_, Some(input)) if input.count(channel) == 1 => {
+            text.push_str(", of which the one value is taken")
+        }
+        (_, Some(input)) => {
+            text.push_str(", of which all ")?;
+            add_count(text, input.count(channel), "", " values are taken")
+        }
     }
 }
 
@@ -157,11 +135,19 @@ pub(crate) fn add_led(
     text.push_str(", as ")?;
     add_who(text, network, source)?;
     match reason.cause {
-        Cause::Input(_, channel) => add(
-            text,
-            &[" waits on ", channel_name(network, channel), ", an input"],
-        ),
-        Cause::Stopped(_, standing) => add(text, &[stopped_word(standing), for_ever(reason)]),
+        Cause::Input(_, channel) => {
+            let name = channel_name(network, channel);
+            add(text, &[" waits on ", name, ", an input"])
+        }
+        Cause::Stopped(_, standing) => {
+            let words = match standing {
+                Standing::Ended => " has ended",
+                Standing::Waits(_) => "",
+                Standing::Faulted => " has a fault",
+                Standing::More => " wants more events",
+            };
+            add(text, &[words, for_ever(reason)])
+        }
         Cause::Ring(_) => add(text, &[" is in a deadlock", for_ever(reason)]),
     }
 }
