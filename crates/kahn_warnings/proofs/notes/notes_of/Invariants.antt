@@ -1,5 +1,5 @@
 -- The notes on the warnings so far.
-use Rattle.std.proofs.Common.{◌≡◌, map, take}
+use Rattle.std.proofs.Common.{take}
 use Rattle.kahn_warnings.specs.Telling.{AreNotesOf}
 use Rattle.kahn_warnings.proofs.notes.notes_of.Given as goal
 

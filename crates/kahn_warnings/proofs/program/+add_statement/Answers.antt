@@ -1,4 +1,4 @@
-use Rattle.std.proofs.Common.{rules, arith, ◌≡◌, ◌++◌, ◌∙◌, ◌||◌, ◌+◌, [], ◌∷◌, Bool, Some, ap, sym, append_assoc, drop, flat_map, take}
+use Rattle.std.proofs.Common.{rules, arith, ◌≡◌, ◌++◌, ◌∙◌, ◌||◌, ◌+◌, [], ◌∷◌, Some, ap, sym, append_assoc, drop, flat_map, take}
 use Rattle.std.proofs.lemmas.Grind.{common_steps}
 use Rattle.std.proofs.lemmas.Result.{IfOk-weaker}
 use Rattle.kahn_streams.specs.View.{Scope, statement_of}
