@@ -16,7 +16,8 @@ use std::process::Abort;
 use std::sync::ledger::{Blank, Ledger};
 use std::test::Fail;
 
-static DOUBLE: &str =
+/// Doubles what comes on its input channel, which is channel 0.
+pub(crate) const DOUBLE: &str =
     "begin integer input channel A; integer output channel B; process double(integer in U; integer out W); begin repeat send 2 * wait(U) on W end; double(A, B) end";
 
 // More events than any test asks for.

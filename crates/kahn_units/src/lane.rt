@@ -1,108 +1,166 @@
-//! Relays: items come out as they went in, also between two threads, and a refused one comes back.
+//! Lanes and relays, with each growth of memory refused in turn: the call that wanted it is made again, and nothing is lost.
 
-ghost use Rattle.std.specs.Prelude.{◌≡◌};
-ghost use Rattle.kahn_lane.specs.RelayEnds.{giver_relay, taker_relay};
+ghost use Rattle.std.specs.Prelude.{◌≡◌, ◌<◌, Some, IfOk, length};
+ghost use Rattle.kahn_streams.specs.Network.{network_of};
+ghost use Rattle.kahn_lane.specs.Places.{lane_name};
+ghost use Rattle.kahn_lane.specs.LaneEnds.{sender_name, sent, CanPut, SameSender, SameReceiver};
 
 use crate::rationed::Rationed;
-use kahn_lane::{Giver, LaneFault, Taker, relay};
-use kahn_streams::NoMemory;
-use std::alloc::Global;
-use std::test::*;
-use std::thread;
-use std::thread::Threads;
-
-mod tokens;
-
-#[test]
-fn a_relay_hands_over_in_order(rt: HostRuntime) -> Result<(), Fail> {
-    let (mut giver, mut taker) = relay::<char, _>(rt.alloc())?;
-    assert_eq!(rt; giver.give('a'), Ok(()));
-    assert_eq!(rt; giver.give('b'), Ok(()));
-    assert_eq!(rt;
-        (taker.take(), taker.take(), taker.take()),
-        (Some('a'), Some('b'), None)
-    );
-    assert_eq!(rt; giver.give('c'), Ok(()));
-    assert_eq!(rt; taker.meet(&mut giver), 1);
-    assert_eq!(rt; taker.take(), Some('c'));
-    Ok(())
-}
+use kahn_check::{Network, check};
+use kahn_lane::{Receiver, Sender, lane, relay};
+use kahn_streams::{Input, NoMemory, Value};
+use kahn_syntax::parse;
+use std::alloc::{Allocator, Global};
+use std::process::Abort;
+use std::test::Fail;
 
 #[test]
 fn a_refused_item_comes_back(rt: HostRuntime) -> Result<(), Fail> {
     let memory = Rationed::new(rt.alloc());
     let (mut giver, mut taker) = relay::<u32, _>(&memory)?;
     memory.refuse(1);
-    let mut refused = 0;
-    for k in 1..1001 {
-        if let Err((NoMemory, item)) = giver.give(k) {
-            assert_eq!(rt; item, k);
-            refused = k;
-            break;
-        }
-    }
-    assert_eq!(rt; refused, 2);
-    for k in 1..refused {
-        assert_eq!(rt; taker.take(), Some(k));
-    }
-    assert_eq!(rt; taker.take(), None);
-    assert_eq!(rt; giver.give(refused), Ok(()));
-    assert_eq!(rt; taker.take(), Some(refused));
+    assert_eq!(rt; giver.give(1), Ok(()));
+    assert_eq!(rt; giver.give(2), Err((NoMemory, 2)));
+    assert_eq!(rt; giver.give(2), Ok(()));
+    assert_eq!(rt; taker.take(), Some(1));
+    assert_eq!(rt; taker.meet(&mut giver), 1);
+    assert_eq!(rt; (taker.take(), taker.take()), (Some(2), None));
     Ok(())
 }
 
-// Gives the numbers below 1000, until memory is refused.
-fn give_all(mut giver: Giver<u32>) -> Giver<u32>
-    ensures { giver_relay result ≡ giver_relay giver }
+// A network whose channel 0 is an input, and 129 values for it.
+fn doubling(alloc: Global) -> Result<(Network, Input), Fail>
+    ensures { IfOk result (λ r. 0 < length (network_of r.0).channels) }
 {
-    for k in 0..1000 {
-        let _ = giver.give(k);
+    let network = check(alloc, parse(alloc, crate::code::DOUBLE)?)?;
+    if network.channels() == 0 {
+        return Err(Fail::new("no channel"));
     }
-    giver
+    let values = vec![in alloc; Value::Integer(7); 129]?;
+    let entries = vec![in alloc; (String::from_str(alloc, "A")?, values)]?;
+    let input = Input::new(alloc, &network, entries)?;
+    Ok((network, input))
 }
 
-// Takes numbers, and returns whether they came in order from 0 on.
-fn take_some(mut taker: Taker<u32>) -> (Taker<u32>, u32, bool)
-    ensures { taker_relay result.0 ≡ taker_relay taker }
+// Makes room for a token, at the second call if memory is refused at the first. Returns whether it was.
+fn make_room<A: Allocator + Clone + Drop>(
+    rt: &impl Abort,
+    sender: &mut Sender<A>,
+) -> Result<bool, NoMemory>
+    ensures same { SameSender sender.old sender.new × (sent sender.new ≡ sent sender.old) }
+    ensures room { IfOk result (λ _. CanPut sender.new) }
 {
-    let mut next = 0;
-    let mut in_order = true;
-    for _ in 0..1000 {
-        match taker.take() {
-            Some(item) => {
-                in_order = in_order && item == next;
-                if next < 1000 {
-                    next += 1;
-                }
-            }
-            None => thread::yield_now(),
+    let count = sender.sent();
+    if sender.room().is_ok() {
+        return Ok(false);
+    }
+    assert_eq!(rt; sender.sent(), count);
+    sender.room()?;
+    Ok(true)
+}
+
+// Puts the next token of the input channel, with room for it. Returns whether memory was refused first.
+fn put_next<A: Allocator + Clone + Drop>(
+    rt: &impl Abort,
+    sender: &mut Sender<A>,
+    network: &Network,
+    input: &Input,
+) -> Result<bool, NoMemory>
+    requires { (0 < length (network_of network.now).channels) × (sender_name sender.old ≡ Some (lane_name network.now input.now 0)) }
+    ensures { SameSender sender.old sender.new }
+{
+    let place = sender.sent();
+    let Some(token) = input.token(network, 0, place) else {
+        panic!(rt; "no token at {place}");
+    };
+    assert!(rt; place < 1 << 48);
+    let refused = make_room(rt, sender)?;
+    sender.put(token);
+    Ok(refused)
+}
+
+// Puts the next `count` tokens of the input channel. Returns how often memory was refused.
+fn put_some<A: Allocator + Clone + Drop>(
+    rt: &impl Abort,
+    sender: &mut Sender<A>,
+    network: &Network,
+    input: &Input,
+    count: u64,
+) -> Result<u64, NoMemory>
+    requires { (0 < length (network_of network.now).channels) × (sender_name sender.old ≡ Some (lane_name network.now input.now 0)) }
+    ensures { SameSender sender.old sender.new }
+{
+    let mut refused = 0u64;
+    for _ in 0..count {
+        if put_next(rt, sender, network, input)? {
+            refused = refused.wrapping_add(1);
         }
     }
-    (taker, next, in_order)
+    Ok(refused)
 }
 
-// One thread gives and another takes, and then both ends meet. Returns how many items were taken, in order, and how
-// many are left.
-fn two_threads<R: Threads + Sync>(rt: &R, alloc: Global) -> Result<(u32, bool, u64), LaneFault> {
-    let (giver, taker) = relay::<u32, _>(alloc)?;
-    let (mut giver, (mut taker, taken, in_order)) = thread::join(
-        rt,
-        move ||
-            ensures { giver_relay result ≡ giver_relay giver }
-        { give_all(giver) },
-        move ||
-            ensures { taker_relay result.0 ≡ taker_relay taker }
-        { take_some(taker) },
-    );
-    let left = taker.meet(&mut giver);
-    Ok((taken, in_order, left))
+// Flushes `count` tokens, at the second call if memory is refused at the first. Returns whether it was.
+fn flush<A: Allocator + Clone + Drop>(rt: &impl Abort, sender: &mut Sender<A>, count: u64) -> bool
+    ensures { SameSender sender.old sender.new }
+{
+    if sender.flush() == Ok(count) {
+        return false;
+    }
+    assert_eq!(rt; sender.sent(), count);
+    assert_eq!(rt; sender.flush(), Ok(count));
+    true
+}
+
+// Takes a token, and returns its place.
+fn take<A: Allocator + Drop>(receiver: &mut Receiver<A>) -> Option<u64>
+    ensures { SameReceiver receiver.old receiver.new }
+{
+    let token = receiver.take()?;
+    Some(token.place())
+}
+
+// Takes the tokens of these places, and then none.
+fn take_all<A: Allocator + Drop>(rt: &impl Abort, receiver: &mut Receiver<A>, from: u64, to: u64)
+    ensures { SameReceiver receiver.old receiver.new }
+{
+    for place in from..to {
+        assert_eq!(rt; take(receiver), Some(place));
+    }
+    assert_eq!(rt; take(receiver), None);
+}
+
+// Lets 129 tokens pass through a lane. The growth of this number is refused, and the call that wanted it is made again.
+// Returns whether there was one.
+fn passed<A: Allocator + Clone + Drop>(
+    rt: &impl Abort,
+    alloc: A,
+    memory: &Rationed<Global>,
+    network: &Network,
+    input: &Input,
+    number: u64,
+) -> Result<bool, Fail>
+    requires { 0 < length (network_of network.now).channels }
+{
+    let (mut sender, mut receiver) = lane(alloc, network, input, 0)?;
+    memory.refuse(number);
+    let refused = put_some(rt, &mut sender, network, input, 129)?;
+    take_all(rt, &mut receiver, 0, 128);
+    let at_last = flush(rt, &mut sender, 129);
+    take_all(rt, &mut receiver, 128, 129);
+    assert!(rt; refused == 0 || refused == 1 && !at_last);
+    Ok(refused == 1 || at_last)
 }
 
 #[test]
-fn two_threads_share_a_relay(rt: HostRuntime) -> Result<(), Fail> {
-    let (taken, in_order, left) = two_threads(&rt, rt.alloc())?;
-    assert!(rt; in_order);
-    assert!(rt; taken <= 1000);
-    assert_eq!(rt; left, 1000 - taken as u64);
-    Ok(())
+fn two_segments_and_a_token_with_each_growth_refused(rt: HostRuntime) -> Result<(), Fail> {
+    let (network, input) = doubling(rt.alloc())?;
+    let memory = Rationed::new(rt.alloc());
+    assert!(rt; !passed(&rt, &memory, &memory, &network, &input, 0)?);
+    for number in 1..100 {
+        if !passed(&rt, &memory, &memory, &network, &input, number)? {
+            assert_eq!(rt; number, 5);
+            return Ok(());
+        }
+    }
+    Err(Fail::new("a growth was refused each time"))
 }

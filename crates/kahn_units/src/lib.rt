@@ -1,16 +1,8 @@
-//! Tests of the layers that a run is built of, each by what it shows to those above it.
+//! Tests of the layers that a run is built of, where each growth of memory is refused in turn.
 #![tactic(auto)]
 
-#[cfg(test)]
-mod board;
-#[cfg(test)]
-mod check;
 #[cfg(test)]
 mod code;
 #[cfg(test)]
 mod lane;
 pub mod rationed;
-#[cfg(test)]
-mod streams;
-#[cfg(test)]
-mod syntax;

@@ -1,4 +1,0 @@
-//! Values, their operators, and the inputs of networks.
-
-mod arithmetic;
-mod inputs;

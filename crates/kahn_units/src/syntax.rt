@@ -1,5 +1,0 @@
-//! Texts as lexemes and as programs.
-
-mod lexing;
-pub mod limits;
-mod parsing;
