@@ -23,7 +23,7 @@ Changes are looked for in texts of up to 8,192 lexemes.
   more:1:21830: error: expected `:=`, found `=`
    1 | t 1;; I = 1 end; p() end;
      |                                                                                 ^
-     = a statement that begins with a name assigns to it: `X := E`
+     = a statement begins with `send`, `print`, `if`, `while`, `repeat` or `begin`, or assigns to a name: `X := X + 1`, `X := wait(U)`
 A block of 340,000 statements.
   $ echo "begin process p(); begin integer I; $(printf 'I:=I;%.0s;' $(seq 170000)) end; p() end" > long; kahn_explain long
   no deadlock and no fault
@@ -97,6 +97,7 @@ An empty text.
   <stdin>:1:1: error: expected `begin`, found the end of the text
    1 | 
      | ^
+     = a program is like `begin integer output channel B; process p(integer out W); begin send 1 on W end; p(B) end`
   [1]
 An input of no channel.
   $ echo 'NONE: 1' > values; kahn_explain one.kahn --input values
