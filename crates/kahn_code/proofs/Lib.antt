@@ -22,4 +22,3 @@ pub mod Widths
 pub mod Common
 pub mod Roomy
 pub mod Reach
-pub mod Copies

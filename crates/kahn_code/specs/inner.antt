@@ -1,4 +1,3 @@
-pub mod Copies
 pub mod Gone
 pub mod Tapped
 pub mod Forms
