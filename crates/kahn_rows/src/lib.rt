@@ -1,15 +1,29 @@
-//! Tests of runs and reports, of what no clause says: who runs at the same time, that a run comes to its end, what fails, words of faults.
+//! Tests of runs, from the workers up to the bytes of a report, and of what is reported of faults.
 #![tactic(auto)]
 
+#[cfg(test)]
+mod chance;
 #[cfg(test)]
 mod faults;
 #[cfg(test)]
 mod gates;
 #[cfg(test)]
-mod parts;
+mod held;
 #[cfg(test)]
-mod runs;
+mod inputs;
+#[cfg(test)]
+mod lifted;
+#[cfg(test)]
+mod one;
+#[cfg(test)]
+mod programs;
+#[cfg(test)]
+mod refusals;
+#[cfg(test)]
+mod rows;
 #[cfg(test)]
 mod sizes;
 #[cfg(test)]
 mod streams;
+#[cfg(test)]
+mod words;

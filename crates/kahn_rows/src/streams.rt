@@ -3,10 +3,12 @@
 ghost use Rattle.std.specs.Prelude.{Some};
 ghost use Rattle.kahn_texts.specs.Formats.{HasItsLines};
 
-use crate::runs::{AMPLE, COUNT, Hold, Watched, config, network_of};
+use crate::held::network_of;
+use crate::programs::COUNT;
+use crate::rows::{AMPLE, config};
 use kahn_check::CheckFault;
 use kahn_fault::{Fault, fault_line};
-use kahn_pool::{Answer, Verdict, run_one};
+use kahn_pool::{Answer, Open, Verdict, run_one};
 use kahn_report::{
     ReadFault, WorkFault, WriteFault, read_text, right_lines, work, write_closing, write_line,
     write_report_by,
@@ -17,7 +19,6 @@ use std::alloc::Global;
 use std::io;
 use std::io::{Error, ErrorKind, Read, Write};
 use std::process::Abort;
-use std::sync::Wait;
 use std::test::Fail;
 use std::thread::Threads;
 
@@ -42,11 +43,6 @@ impl Slow {
             error,
             flush_fails,
         }
-    }
-
-    // Whether these bytes came, one a call, and so many flushes.
-    fn has(&self, bytes: &[u8], flushes: usize) -> bool {
-        self.taken.as_slice() == bytes && self.calls == bytes.len() && self.flushes == flushes
     }
 }
 
@@ -106,16 +102,6 @@ impl Read for Drip<'_> {
 
 static REPORT: &[u8; 47] = b"W: 0 1 2\nend 1 count: ended after 7\nfinished 7\n";
 
-// Writes the report of the counting process.
-fn written<R: Abort + Threads + Wait + Sync>(
-    rt: &R,
-    alloc: Global,
-    writer: &mut Slow,
-) -> Result<Verdict, WorkFault> {
-    let gate = Watched::of(Hold::Until(0), true);
-    work(rt, alloc, COUNT, "", config(4, 1000, AMPLE), &gate, writer)
-}
-
 // The bytes before the call that fails went out, and no others.
 #[test]
 fn a_write_of_the_report_fails(rt: HostRuntime) -> Result<(), Fail> {
@@ -126,11 +112,41 @@ fn a_write_of_the_report_fails(rt: HostRuntime) -> Result<(), Fail> {
     ];
     for (error, fault) in rows {
         for sent in 0..47usize {
+            let config = config(rt.alloc(), 4, 1000, AMPLE, None)?;
             let mut writer = Slow::new(rt.alloc(), sent + 1, error, false);
-            let told = written(&rt, rt.alloc(), &mut writer);
+            let told = work(&rt, rt.alloc(), COUNT, "", config, &Open, &mut writer);
             assert_eq!(rt; told, Err(WorkFault::Write(fault)));
             assert_eq!(rt; writer.taken.as_slice(), &REPORT[..sent]);
         }
+    }
+    Ok(())
+}
+
+// All bytes went out, one a call, and one flush came last.
+#[test]
+fn the_flush_alone_fails(rt: HostRuntime) -> Result<(), Fail> {
+    let span = Span { from: 8, to: 9 };
+    let fault = Fault::Work(WorkFault::Check(CheckFault::ChannelExpected(span)));
+    let line = b"kahn: 2:3: a channel is expected\n";
+    let failed = WriteFault::Failed;
+    let rows = [
+        (false, Ok(Verdict::Finished), Ok(())),
+        (true, Err(WorkFault::Write(failed)), Err(failed)),
+    ];
+    for (fails, report_told, line_told) in rows {
+        let config = config(rt.alloc(), 4, 1000, AMPLE, None)?;
+        let mut writer = Slow::new(rt.alloc(), 0, None, fails);
+        let told = work(&rt, rt.alloc(), COUNT, "", config, &Open, &mut writer);
+        assert_eq!(rt; told, report_told);
+        assert_eq!(rt; writer.taken.as_slice(), REPORT.as_slice());
+        assert_eq!(rt; (writer.calls, writer.flushes), (47, 1));
+        let mut writer = Slow::new(rt.alloc(), 0, None, fails);
+        assert_eq!(rt;
+            fault_line(&fault, "begin\n  X end", &mut writer),
+            line_told
+        );
+        assert_eq!(rt; writer.taken.as_slice(), line.as_slice());
+        assert_eq!(rt; (writer.calls, writer.flushes), (33, 1));
     }
     Ok(())
 }
@@ -164,56 +180,73 @@ fn several_threads_write_a_report(rt: HostRuntime) -> Result<(), Fail> {
     writes_by_several(&rt, alloc, &network, &answer)
 }
 
-// All bytes went out, one a call, and one flush came last, which alone may fail.
+// What a counting writer took, if its flush fails and if not, and what each call of a writer said of it.
 #[test]
 fn the_flush_of_each_writer_fails(rt: HostRuntime) -> Result<(), Fail> {
     let alloc = rt.alloc();
     let network = network_of(alloc, COUNT)?;
     let answer = run_one(alloc, &network, Input::none(alloc, &network)?, 100)?;
-    let span = Span { from: 8, to: 9 };
-    let fault = Fault::Work(WorkFault::Check(CheckFault::ChannelExpected(span)));
     for (fails, told) in [(false, Ok(())), (true, Err(WriteFault::Failed))] {
         let mut writer = Slow::new(alloc, 0, None, fails);
-        assert_eq!(rt; written(&rt, alloc, &mut writer).is_err(), fails);
-        assert!(rt; writer.has(REPORT.as_slice(), 1));
-        let mut writer = Slow::new(alloc, 0, None, fails);
-        let line = fault_line(&fault, "begin\n  X end", &mut writer);
-        assert_eq!(rt; line, told);
-        assert!(rt; writer.has(b"kahn: 2:3: a channel is expected\n".as_slice(), 1));
-        let mut writer = Slow::new(alloc, 0, None, fails);
-        let closing = write_closing(
-            &mut writer,
-            &network,
-            answer.verdict,
-            &answer.ends,
-            answer.events,
+        assert_eq!(rt;
+            write_closing(
+                &mut writer,
+                &network,
+                answer.verdict,
+                &answer.ends,
+                answer.events
+            ),
+            told
         );
-        assert_eq!(rt; closing, told);
+        assert_eq!(rt; (writer.calls, writer.flushes), (38, 1));
         assert_eq!(rt; write_line(&mut writer, &[b"digraph"]), told);
-        let all = b"end 1 count: ended after 7\nfinished 7\ndigraph";
-        assert!(rt; writer.has(all.as_slice(), 2));
+        assert_eq!(rt; (writer.calls, writer.flushes), (45, 2));
+        assert_eq!(rt;
+            writer.taken.as_slice(),
+            b"end 1 count: ended after 7\nfinished 7\ndigraph".as_slice()
+        );
     }
     Ok(())
 }
 
 #[test]
-fn each_read_fails(rt: HostRuntime) -> Result<(), Fail> {
-    let whole = COUNT.len() + 1;
+fn a_read_fails(rt: HostRuntime) -> Result<(), Fail> {
+    let calls = COUNT.len().saturating_add(1);
     for error in [ErrorKind::Other, ErrorKind::Interrupted] {
-        for call in 1..whole + 2 {
+        for call in 0..calls {
             let mut reader = Drip {
                 left: COUNT.as_bytes(),
                 calls: 0,
-                fails_at: call,
+                fails_at: call.saturating_add(1),
                 error,
             };
-            let read = read_text(rt.alloc(), &mut reader, 1000);
-            let wanted = if call <= whole {
-                Some(ReadFault::Failed)
-            } else {
-                None
-            };
-            assert_eq!(rt; read.err(), wanted, "{call}");
+            let result = read_text(rt.alloc(), &mut reader, 1000);
+            assert_eq!(rt; result.err(), Some(ReadFault::Failed));
+        }
+    }
+    Ok(())
+}
+
+#[test]
+fn reads_within_a_limit(rt: HostRuntime) -> Result<(), Fail> {
+    let rows = [
+        ("abcd".as_bytes(), 4, Ok("abcd")),
+        ("abcde".as_bytes(), 4, Err(ReadFault::TooLong)),
+        ([255u8].as_slice(), 4, Err(ReadFault::NotUtf8)),
+        (COUNT.as_bytes(), 1000, Ok(COUNT)),
+    ];
+    for (left, limit, wanted) in rows {
+        let mut reader = Drip {
+            left,
+            calls: 0,
+            fails_at: 0,
+            error: ErrorKind::Other,
+        };
+        let result = read_text(rt.alloc(), &mut reader, limit);
+        match (result, wanted) {
+            (Ok(text), Ok(wanted)) => assert_eq!(rt; text.as_str(), wanted),
+            (Err(fault), Err(wanted)) => assert_eq!(rt; fault, wanted),
+            _ => assert!(rt; false),
         }
     }
     Ok(())
