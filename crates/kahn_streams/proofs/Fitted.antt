@@ -12,7 +12,6 @@ use Rattle.kahn_streams.specs.declared.tree.Argument.TheVariants as A
 use Rattle.kahn_streams.specs.View.{bytes_of, names_of, body_of, number_of}
 use Rattle.kahn_streams.specs.Wiring.{Agrees, scope_of, entries, IsChannel, global, Fits, AllFit, IsMade, IsSound, IsWellWired}
 use Rattle.kahn_streams.specs.Network.{actual_of, actuals_of, process_of, instance_from, network_of, kind_at, channel_names, taking_of, IsListed, IsFit}
-use Rattle.kahn_streams.specs.Network as N
 use Rattle.kahn_streams.proofs.By_number.{declared_at, within, the_process, of_process}
 
 -- a channel that is handed over is one of the network's and has its kind

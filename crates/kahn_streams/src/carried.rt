@@ -10,13 +10,13 @@ ghost use Rattle.kahn_streams.specs.declared.token.Token.{Token};
 use crate::about::About;
 use crate::token::Token;
 use crate::value::{Line, Value};
-use crate::word::Word;
+use crate::word::{Packed, Word};
 use std::marker::Model;
 
 /// A token in transit, stored as its value. Contracts see the token.
 #[derive(Drop)]
 pub struct Carried {
-    value: Word,
+    value: Packed,
     token: About<Token>,
 }
 
@@ -43,7 +43,7 @@ fn carried_of<X>(_named: &X, value: Word) -> Carried
     ensures { result ≡ token }
 {
     Carried {
-        value,
+        value: Packed::of(value),
         token: About::named(),
     }
 }
@@ -71,7 +71,7 @@ impl Carried {
     pub fn again(&self) -> Carried
         ensures { result ≡ self.now }
     {
-        carried_of(self, self.value)
+        carried_of(self, self.value.word())
     }
 
     /// Returns the token. The lane knows its line and its place.
@@ -79,20 +79,20 @@ impl Carried {
         requires { (self.now.line ≡ line) × (self.now.place ≡ place) }
         ensures { result ≡ self.now }
     {
-        token_of(self, line, place, self.value)
+        token_of(self, line, place, self.value.word())
     }
 
     /// Says that its place is below 2^64. For the prover only.
     pub fn counted(&self)
         ensures { self.now.place < 2 ^ 64 }
     {
-        let _value = self.value;
+        let _value = self.value.word();
     }
 
     /// Returns the value of the token.
     pub fn value(&self) -> Value
         ensures { result ≡ self.now.value }
     {
-        self.value.value()
+        self.value.word().value()
     }
 }

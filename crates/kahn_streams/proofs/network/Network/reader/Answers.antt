@@ -1,4 +1,4 @@
-use Rattle.std.proofs.Common.{rules, ◌≡◌, ◌∙◌, sym, subst, ◌<◌, length}
+use Rattle.std.proofs.Common.{rules, sym, subst, ◌<◌, length}
 use Rattle.kahn_streams.specs.Network.{network_of}
 use Rattle.kahn_streams.proofs.By_number.{at_index}
 use Rattle.kahn_streams.proofs.Kept_network.{IsWire, wire_count, wire_at}
