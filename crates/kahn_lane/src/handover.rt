@@ -4,30 +4,18 @@
 //! A taker that finds nothing returns at once. No call ever blocks.
 
 ghost use Rattle.std.specs.Prelude.{◌≡◌, ◌+◌, ◌<◌, ◌≤◌, List, [], ◌∷◌, ◌++◌, length, true, IfOk, MatchResult, MatchOption};
-ghost use Rattle.crossbeam_deque.specs.Handles.{worker_capacity, worker_flavor, worker_index, worker_view};
-ghost use Rattle.kahn_lane.specs.inner.RelayRule.{log};
 ghost use Rattle.kahn_lane.specs.RelayEnds.{giver_relay, taker_relay, given, got, known_given, ComesBack, SameRelay, WasEmpty};
 
+use crate::deque::{TRIES, small_deque};
 use crate::ends::{Blank, Giver, Got, InOrder, Log, Roles, Sent, Taker, Total};
 use crate::fault::LaneFault;
-use crate::lanes::TRIES;
-use crossbeam_deque::{Steal, Worker};
+use crossbeam_deque::Steal;
 use kahn_streams::{NoMemory, Steps};
-use std::alloc::{AllocError, Allocator};
+use std::alloc::Allocator;
 use std::marker::Brand;
 use std::mem;
 use std::sync::ledger;
 use std::sync::ledger::Ledger;
-
-// The deque of a new relay, with memory for one item.
-fn small_deque<T: Drop, A: Allocator + Clone + Drop>(
-    alloc: A,
-) -> Result<Worker<T, A, Log<T>, InOrder>, AllocError>
-    ensures small { IfOk result (λ w. worker_capacity w ≡ 1) }
-    ensures first { IfOk result (λ w. (worker_flavor w ≡ 0) × (worker_index w ≡ 0) × (worker_view w ≡ log true true 0 [] [])) }
-{
-    Worker::<T, A, Log<T>, InOrder>::fifo_as(alloc, 1)
-}
 
 /// Makes a relay. Its two ends may go to different threads. Nothing was given or taken yet.
 pub fn relay<T: Drop, A: Allocator + Clone + Drop>(
@@ -36,7 +24,7 @@ pub fn relay<T: Drop, A: Allocator + Clone + Drop>(
     ensures one { IfOk result (λ r. giver_relay r.0 ≡ taker_relay r.1) }
     ensures start { IfOk result (λ r. (given r.0 ≡ []) × (got r.1 ≡ []) × (known_given r.1 ≡ 0)) }
 {
-    let mut worker = small_deque::<T, A>(alloc)?;
+    let mut worker = small_deque::<T, A, Log<T>, InOrder>(alloc)?;
     let stealer = worker.stealer()?;
     let pass = worker.another::<Roles>();
     Ok((Giver { worker }, Taker { stealer, pass }))

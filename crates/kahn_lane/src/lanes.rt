@@ -9,11 +9,12 @@ ghost use Rattle.kahn_lane.specs.Places.{lane_name, token_name, tag_name, owner}
 ghost use Rattle.kahn_lane.specs.inner.LaneRule.{size, tokens_of};
 ghost use Rattle.kahn_lane.specs.LaneEnds.{sender_lane, receiver_lane, sender_name, receiver_name, filled, flushed, sent, CanPut, received, waiting, CanTake, heard, left, SameSender, SameReceiver, AreEndsNamed, HavePassed, TakesNext, WasDry};
 
+use crate::deque::{TRIES, small_deque};
 use crate::fault::LaneFault;
 use crate::name::{Tag, make_tag};
 use crate::segments::{
-    Bare, Behind, Flushed, LaneStealer, LaneWorker, Receiver, Segment, Sender, Sides, Starting,
-    Stolen, Telling,
+    Bare, Behind, Flushed, InPlaces, LaneStealer, LaneWorker, Mark, Receiver, Segment, Sender,
+    Sides, Starting, Stolen, Telling,
 };
 use crossbeam_deque::Steal;
 use kahn_streams::{Carried, Input, Line, Network, NoMemory, Steps, Token};
@@ -21,9 +22,6 @@ use std::alloc::Allocator;
 use std::marker::Brand;
 use std::mem;
 use std::sync::ledger::{Blank, Ledger};
-
-// How often a steal that met another one is tried again. Clauses of relays and lanes count this.
-pub(crate) const TRIES: usize = 64;
 
 // How many tokens a segment has at most.
 const SEGMENT: usize = 64;
@@ -41,7 +39,7 @@ fn opened<A: Allocator + Clone + Drop>(
         alone: None,
         tokens: Vec::new(alloc.clone()?),
     };
-    let mut worker = LaneWorker::<A>::fifo_as(alloc, 1)?;
+    let mut worker = small_deque::<Segment<A>, A, Mark, InPlaces>(alloc)?;
     let Ok(()) = worker.push_as::<Telling>(head) else {
         return Err(LaneFault::NoMemory);
     };

@@ -5,6 +5,7 @@
 //! twice. No call blocks or needs a handle. All memory comes from the allocator that the maker was given.
 #![tactic(auto)]
 
+mod deque;
 mod ends;
 mod fault;
 mod handover;

@@ -1,6 +1,6 @@
 -- A quiet network has the whole solution.
 use mathlib.Core.Path.{fun_ext}
-use Rattle.std.proofs.Common.{arith, ◌≡◌, ℕ, zero, suc, ◌≤◌, max, List, [], ◌∷◌, ◌++◌, refl, sym, ap, ◌∙◌, subst, append-nil, le_refl, le_trans, le_of_suc-le-suc, not-suc-le-zero, suc-le-suc, Some, pos}
+use Rattle.std.proofs.Common.{arith, ◌≡◌, ℕ, zero, suc, ◌+◌, ◌≤◌, max, List, [], ◌∷◌, ◌++◌, refl, sym, ap, ◌∙◌, subst, append-nil, le_refl, le_trans, le_of_suc-le-suc, not-suc-le-zero, suc-le-suc, Some, pos}
 use Rattle.std.proofs.Math.Nat.{le-max_left, le-max_right}
 use Rattle.kahn_streams.specs.Types.{Value, Line}
 use Rattle.kahn_streams.specs.declared.value.Line.TheVariants.{Channel, Print}
@@ -9,7 +9,7 @@ use Rattle.kahn_streams.specs.Script.{Tapes, Script, Give, Fail, Waits, Sends, T
 use Rattle.kahn_streams.specs.Meaning.{Store, exec, script_of}
 use Rattle.kahn_streams.specs.Network.{Network, Instance, Hands, instance_at, Source, Given, Written, Nobody}
 use Rattle.kahn_streams.specs.Solution.{IsWhole, Histories, Inputs, tapes_of, exec_at, out, values_at, goes_to, source, fed, input_list, iterate, IsPrefix, HasEnd, HasSizes, none_left, one_more, Ending, ending, AreInputsExtended, IsExtended}
-use Rattle.kahn_streams.specs.Laws.{IsSolution, InputsGrow, SendsStand, IsQuiet, IsSettled, IsCounted, IsUnrolled, IsDetermined}
+use Rattle.kahn_streams.specs.Laws.{IsSolution, InputsGrow, SendsStand, IsQuiet, IsSettled, IsCounted, IsUnrolled, SaysSoAgain, IsDetermined}
 use Rattle.kahn_streams.proofs.Fuel.{gives, play_alike, script_alike}
 use Rattle.kahn_streams.proofs.Runs.{cut_is_full}
 use Rattle.kahn_streams.proofs.Proved.{prefix_refl, prefix_trans, prefix_get, Feeds, feeds, script_at, exec_alike, out_grows, chain, least, solves, iterates_rise, fits_all}
@@ -49,6 +49,9 @@ pub more_exec : (b : Stmt) (s : Store) (n m : ℕ) (T : Tapes) → n ≤ m → (
 more_exec b s n m T le h =
     let a : exec n b s T ≡ play n (script_of m b s Give) T = play_alike (script_alike n n m b (le_refl n) le s Give Give (λ r. gives)) T in
     more_play n m (script_of m b s Give) T le (λ e. h (ap (λ r. r.outcome) a ∙ e)) ∙ sym a
+
+pub says_so_again : (b : Stmt) → SaysSoAgain b
+says_so_again b n k s T h = more_exec b s n (n + k) T (omega arith) h
 
 over : {A : Type 0} (o : Outcome A) (x : Ending) → ending o ≡ Some x → o ≡ Cut → ⊥
 over (Got a) x e f = absurd cc

@@ -1,5 +1,5 @@
 -- Believed. The laws of the meaning.
-use Rattle.std.specs.Prelude.{◌≡◌, ◌≤◌, ℕ, suc, max, List, ◌++◌, slice_get, Some}
+use Rattle.std.specs.Prelude.{◌≡◌, ◌≤◌, ℕ, suc, ◌+◌, max, List, ◌++◌, slice_get, Some}
 use Rattle.kahn_streams.specs.Types.{Value, Line}
 use Rattle.kahn_streams.specs.Script.{Give, Tapes, play, Port, Outcome, Got, Dry, Fault, Cut, Reached}
 use Rattle.kahn_streams.specs.Meaning.{Store, script_of, exec}
@@ -89,6 +89,10 @@ pub record IsCounted (N : Network) (n p : ℕ) (H : Histories) : Type 0 where
 -- unrolling loops further than to n turns makes no difference to n events
 abbrev pub IsUnrolled : Stmt → Type 0
 IsUnrolled b = (n k : ℕ) (s : Store) (T : Tapes) → n ≤ k → play n (script_of k b s Give) T ≡ exec n b s T
+
+-- what ended, faulted or ran dry says so again, however many events more are allowed
+abbrev pub SaysSoAgain : Stmt → Type 0
+SaysSoAgain b = (n k : ℕ) (s : Store) (T : Tapes) → ((exec n b s T).outcome ≡ Cut → ⊥) → exec (n + k) b s T ≡ exec n b s T
 
 -- the whole of a line is one list, an end is one end, and the size is one number
 pub record IsDetermined (N : Network) (I : Inputs) : Type 0 where

@@ -3,7 +3,7 @@
 ghost use Rattle.kahn_streams.specs.Compose.{ExpressionsCompose, StatementsCompose, LoopsUnroll};
 ghost use Rattle.kahn_streams.specs.Examples.{Counting, Doubling, Overflowing, Ring, OwnChannel, Alternating, Silent, LimitedSample};
 ghost use Rattle.kahn_streams.specs.Inputs.{IsInputFor, Lists, inputs_of};
-ghost use Rattle.kahn_streams.specs.Laws.{AreIteratesKinded, IsChain, HasOneValue, IsSolved, IsSolution, IsBelow, Frame, IsQuiet, IsSettled, SendsStand, InputsGrow, RunsDryAtReads, IsCounted, IsUnrolled, IsDetermined};
+ghost use Rattle.kahn_streams.specs.Laws.{AreIteratesKinded, IsChain, HasOneValue, IsSolved, IsSolution, IsBelow, Frame, IsQuiet, IsSettled, SendsStand, InputsGrow, RunsDryAtReads, IsCounted, IsUnrolled, SaysSoAgain, IsDetermined};
 ghost use Rattle.kahn_streams.specs.Meaning.{Store};
 ghost use Rattle.kahn_streams.specs.Network.{Network, network_of, Given, Reads, Writes, actual_at, channel_source, instance_at, role_at, IsServed, IsFit};
 ghost use Rattle.kahn_streams.specs.Wiring.{IsWellWired};
@@ -83,10 +83,12 @@ pub fn composes()
     ensures loops { (t : Expr) (b : Stmt) → LoopsUnroll t b }
 {}
 
-/// At most n events are done, and exactly n if the outcome is cut; how far loops are unrolled makes no difference.
+/// At most n events are done, and exactly n if the outcome is cut; if it isn't, more events change nothing. How far loops are unrolled
+/// makes no difference.
 pub fn counts()
     ensures counted { (N : Network) (n p : ℕ) (H : Histories) → IsCounted N n p H }
     ensures unrolled { (b : Stmt) → IsUnrolled b }
+    ensures again { (b : Stmt) → SaysSoAgain b }
 {}
 
 /// The whole of a line, the end of a process and the size of the solution are determined.
