@@ -264,6 +264,22 @@ module _ (b : Table) (laid : IsLaid b) {bound left : ℕ} {halted : Bool} (a : A
   right : IsRight (network_of b.network) (inputs_of b.input) bound b.watch a
   right = assembled a g streams total
 
+  counts_in : (counts : List Count) → AreCountsOf (sight_of b) counts (length (network_of b.network).channels) → AreCountsIn right.run counts
+  unfolding right
+  counts_in counts h = record {
+    count = h.count;
+    each = λ c n at.
+        let k = h.each c n at in
+        record {
+          sent = sym (assembled_long a g streams total c n.sent k.sent);
+          taken = λ p q x r e. let m = k.taken p q r in let l = assembled_taken a g streams total p q c x r e in omega (arith, m, l);
+        };
+  }
+
+  pub all_counted : (counts : List Count) → AreCountsOf (sight_of b) counts (length (network_of b.network).channels) →
+      (z : IsRight (network_of b.network) (inputs_of b.input) bound b.watch a) × AreCountsIn z.run counts
+  all_counted counts h = (right, counts_in counts h)
+
   -- tokens from the first place on, as many as were given, are the tape
   module _ (xs : List Stream) (recorded : AreRecorded b xs) where
     module _ (c : ℕ) (s : Stream) (at : slice_get xs c ≡ Some s) where
@@ -327,18 +343,6 @@ module _ (b : Table) (laid : IsLaid b) {bound left : ℕ} {halted : Bool} (a : A
 
     are_histories : AreHistoriesIn right.run xs
     are_histories = record { count = recorded.count; each = is_history }
-
-    counts_in : (counts : List Count) → AreCountsOf (sight_of b) counts (length (network_of b.network).channels) → AreCountsIn right.run counts
-    unfolding right
-    counts_in counts h = record {
-      count = h.count;
-      each = λ c n at.
-          let k = h.each c n at in
-          record {
-            sent = sym (assembled_long a g streams total c n.sent k.sent);
-            taken = λ p q x r e. let m = k.taken p q r in let l = assembled_taken a g streams total p q c x r e in omega (arith, m, l);
-          };
-    }
 
     pub all_recorded : (counts : List Count) → AreCountsOf (sight_of b) counts (length (network_of b.network).channels) →
         (z : IsRight (network_of b.network) (inputs_of b.input) bound b.watch a) × AreCountsIn z.run counts × AreHistoriesIn z.run xs

@@ -2,7 +2,7 @@
 -- keeps all that is sent, what they were (this project's profile).
 use Rattle.std.specs.Prelude.{◌≡◌, ℕ, ◌+◌, List, Option, Some, false, length, slice_get}
 use Rattle.kahn_sequential.specs.inner.Below.{AreRight, Channel, Config, End, Finished, Inputs, IsAllowed, IsRight, IsWatched, IsWhole, Lists, Network, Program, Reads, Stream, Verdict, actual_at, exec_at, inputs_of, instance_at, is_output, network_of, role_at, values_of}
-use Rattle.kahn_sequential.specs.declared.{counted.Count.Count, recorded.Recorded.Recorded}
+use Rattle.kahn_sequential.specs.declared.{counted.Count.Count, counted.Counted.Counted, recorded.Recorded.Recorded}
 
 -- ---- how many
 
@@ -33,7 +33,13 @@ pub record AreHistoriesIn {N : Network} {I : Inputs} {bound : ℕ} {v : Verdict}
 
 -- ---- runs
 
--- a right answer, with the counts and the histories of its channels
+-- a right answer, with the counts of its channels
+abbrev pub IsCountedRun : Program → Lists → Config → Counted → Type 0
+IsCountedRun t lists config x =
+    IsAllowed config × ((watch : Option ℕ) × IsWatched t config.watch watch
+    × ((right : IsRight (network_of t) (inputs_of lists) config.bound watch x.answer) × AreCountsIn right.run x.counts.items))
+
+-- and with their histories
 abbrev pub IsRecordedRun : Program → Lists → Config → Recorded → Type 0
 IsRecordedRun t lists config x =
     IsAllowed config × ((watch : Option ℕ) × IsWatched t config.watch watch

@@ -19,7 +19,7 @@ mod streams;
 mod taps;
 mod woken;
 
-pub use counted::Count;
+pub use counted::{Count, Counted, run_counted};
 pub use held_fault::HeldFault;
 pub use laws::{
     calls_go_on, finished_exactly, finished_is_one, goes_on_same, goes_on_then, stopped_begins,

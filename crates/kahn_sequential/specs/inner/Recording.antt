@@ -1,7 +1,7 @@
 -- Inner. What is kept of the channels in a run on one thread, beside its bench.
 use Rattle.std.specs.Prelude.{◌≡◌, ◌⊎◌, ℕ, ◌<◌, ◌≤◌, List, length, Option, Some, slice_get}
 use Rattle.kahn_sequential.specs.inner.Below.{AreKeptTokens, Channel, Inner, Input, Inputs, IsOf, IsReader, IsRight, IsWriter, Lists, Network, Program, Queues, Reads, Side, StoodBy, Stream, Token, Waiting, Writes, actual_at, given_of, inputs_of, instance_at, network_of, role_at, source, taken_of}
-use Rattle.kahn_sequential.specs.{Recordings.AreCountsIn, Recordings.AreHistoriesIn, declared.counted.Count.Count, declared.recorded.Recorded.Recorded, inner.Bench.RunState, inner.Gathered.IsGiven, inner.Gathered.view_at, inner.Streams.IsOpenStream, inner.Workbench.Table}
+use Rattle.kahn_sequential.specs.{Recordings.AreCountsIn, Recordings.AreHistoriesIn, declared.counted.Count.Count, declared.counted.Counted.Counted, declared.recorded.Recorded.Recorded, inner.Bench.RunState, inner.Gathered.IsGiven, inner.Gathered.view_at, inner.Streams.IsOpenStream, inner.Workbench.Table}
 
 -- what the cell of p says of its process is true
 abbrev pub StoodIn : RunState → ℕ → Type 0
@@ -93,7 +93,11 @@ pub record AreCountsOf (s : RunState) (counts : List Count) (n : ℕ) : Type 0 w
   pub count : length counts ≡ n
   pub each : (c : ℕ) (x : Count) → slice_get counts c ≡ Some x → IsCountOf s c x
 
--- a right answer of this network and input for so many events, with the counts and the histories of its channels
+-- a right answer of this network and input for so many events, with the counts of its channels
+abbrev pub IsCountedAlone : Program → Lists → Option ℕ → ℕ → Counted → Type 0
+IsCountedAlone t lists watch bound x = (right : IsRight (network_of t) (inputs_of lists) bound watch x.answer) × AreCountsIn right.run x.counts.items
+
+-- and with their histories
 abbrev pub IsRecordedAlone : Program → Lists → Option ℕ → ℕ → Recorded → Type 0
 IsRecordedAlone t lists watch bound x =
     (right : IsRight (network_of t) (inputs_of lists) bound watch x.answer) × AreCountsIn right.run x.counts.items × AreHistoriesIn right.run x.channels.items
