@@ -1,6 +1,6 @@
 -- Inner. What is kept of the channels in a run on one thread, beside its bench.
 use Rattle.std.specs.Prelude.{◌≡◌, ◌⊎◌, ℕ, ◌<◌, ◌≤◌, List, length, Option, Some, slice_get}
-use Rattle.kahn_sequential.specs.inner.Below.{AreKeptTokens, Channel, Inner, Input, Inputs, IsOf, IsReader, IsRight, IsWriter, Lists, Network, Program, Queues, Reads, Side, StoodBy, Stream, Token, Waiting, Writes, actual_at, given_of, inputs_of, instance_at, network_of, role_at, source, taken_of}
+use Rattle.kahn_sequential.specs.inner.Below.{AreKeptTokens, Channel, Inner, Input, IsOf, IsReader, IsRight, IsWriter, Lists, Network, Program, Queues, Reads, Side, StoodBy, Stream, Token, Waiting, actual_at, given_of, inputs_of, instance_at, network_of, role_at, source, taken_of}
 use Rattle.kahn_sequential.specs.{Recordings.AreCountsIn, Recordings.AreHistoriesIn, declared.counted.Count.Count, declared.recorded.Recorded.Recorded, inner.Bench.RunState, inner.Gathered.IsGiven, inner.Gathered.view_at, inner.Streams.IsOpenStream, inner.Workbench.Table}
 
 -- what the cell of p says of its process is true
