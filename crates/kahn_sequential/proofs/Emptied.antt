@@ -1,15 +1,41 @@
 -- Cells that let go of all that they kept, and how all stand.
-use Rattle.std.proofs.Common.{arith, ◌≡◌, ◌⊎◌, inl, inr, ℕ, ◌+◌, ◌<◌, ◌≤◌, Option, List, ◌++◌, length, map, sym, ap, ◌∙◌, subst, Some, slice_get, slice_index_or}
-use Rattle.kahn_sequential.proofs.Common.{length-map, Program, Input, network_of, instance_at, role_at, Lists, inputs_of, Token, StoodBy, AreQueued, taken_of, waiting_of, tokens, Told, told_view, Gone, nothing_gone, HasForgotten, Tapped, Seen, seen_at, seen_of, unseen, AllStandBy, HasEmptied, IsLaid, IsSeated, StandsAsTold, Table, all_of, gone_in, table_of, told_in, HaveChanged, mapped_at, cases_lt}
+use Rattle.std.proofs.Common.{arith, ◌≡◌, ◌⊎◌, inl, inr, ℕ, zero, suc, ◌+◌, ◌<◌, ◌≤◌, true, Option, List, [], ◌∷◌, ◌++◌, length, map, refl, sym, ap, ◌∙◌, subst, Some, None, slice_get, slice_index_or, slice_set}
+use Rattle.std.proofs.lemmas.List.{length-set}
+use Rattle.kahn_sequential.proofs.Common.{HasForgotten, cases_eq, set_each, set_here, slice_get_read, length-map, Program, Input, network_of, instance_at, role_at, Lists, inputs_of, Token, StoodBy, AreQueued, taken_of, waiting_of, tokens, Told, told_view, Gone, nothing_gone, Tapped, Seen, same_Some, seen_at, seen_of, unseen, AllStandBy, HasEmptied, IsLaid, IsSeated, StandsAsTold, Table, gone_in, table_of, told_in, HaveChanged, mapped_at, cases_lt}
 use Rattle.kahn_code.specs.Lines.{Lines as Queues}
 use Rattle.kahn_sequential.proofs.Benched.{got, mapped, get_map}
 use Rattle.kahn_sequential.proofs.Tapping.{found, tap_at}
 use Rattle.kahn_sequential.proofs.Lists.{old_item, map_changed, map_map}
 use Rattle.kahn_streams.proofs.Given_values.{no_channel}
+use Rattle.kahn_sequential.specs.declared.woken.Woken.{Woken}
+use Rattle.kahn_sequential.specs.inner.Noted.{AreSpent, AreSpentBut, IsTakenFrom, IsWoken}
+use Rattle.kahn_sequential.specs.inner.Workbench.{HasSpent, IsSameTap, IsSpent, IsSpentBy, IsSpentTap}
 
 -- ---- what it makes of a bench
 
-module _ {t : Program} {lists : Lists} {watch : Option ℕ} {code : Program} (xs ys : List Tapped) {q : Queues} (h : HaveChanged HasForgotten xs ys)
+-- what is spent of the taps at their places
+pub spent_of : (taps : List Tapped) → ((p : ℕ) (x : Tapped) → slice_get taps p ≡ Some x → IsSpentTap x) → (p : ℕ) →
+    IsSpentBy (slice_index_or (map gone_in taps) p nothing_gone) (seen_at (map seen_of (map told_in taps)) p).kept (seen_at (map seen_of (map told_in taps)) p).printed
+spent_of [] h p = (λ q. refl, refl)
+spent_of (x ∷ taps) h zero = h 0 x refl
+spent_of (x ∷ taps) h (suc p) = spent_of taps (λ k. h (suc k)) p
+
+pub spent_at : (taps : List Tapped) (p : ℕ) (x : Tapped) → slice_get taps p ≡ Some x →
+    IsSpentBy (slice_index_or (map gone_in taps) p nothing_gone) (seen_at (map seen_of (map told_in taps)) p).kept (seen_at (map seen_of (map told_in taps)) p).printed → IsSpentTap x
+spent_at [] p x e h = absurd cc
+spent_at (y ∷ taps) zero x e h = subst IsSpentTap (same_Some y x e) h
+spent_at (y ∷ taps) (suc p) x e h = spent_at taps p x e h
+
+-- of a bench of these taps they are spent but those of instances that had turns
+pub spent_taps : {t : Program} {lists : Lists} {watch : Option ℕ} {code : Program} (taps : List Tapped) {q : Queues} {b : Table} → table_of t lists watch code taps q ≡ b →
+    (w : Woken) → AreSpent b w → w.known ≡ true → AreSpentBut w taps
+spent_taps {t} {lists} {watch} {code} taps {q} is w h known p x at = by (subst (λ (y : Table). IsWoken w p ⊎ IsSpent y p) (sym is) (h known p))
+  where
+    by : IsWoken w p ⊎ IsSpent (table_of t lists watch code taps q) p → IsWoken w p ⊎ IsSpentTap x
+    by (inl k) = inl k
+    by (inr k) = inr (spent_at taps p x at k)
+
+module _ {t : Program} {lists : Lists} {watch : Option ℕ} {code : Program} (xs ys : List Tapped) {q : Queues} (h : HaveChanged HasSpent xs ys)
     (laid : IsLaid (table_of t lists watch code xs q)) where
   abbrev old : Table
   old = table_of t lists watch code xs q
@@ -26,7 +52,7 @@ module _ {t : Program} {lists : Lists} {watch : Option ℕ} {code : Program} (xs
         let y = mapped_at told_in ys p c at in
         let x = old_item h p y.0 y.1 in
         let s = laid.each p x.0.told (get_map told_in xs p x.0 x.1) in
-        let told : IsSeated new p y.0.told = subst (λ (z : Tapped). IsSeated new p z.told) (sym x.2)
+        let told : IsSeated new p y.0.told = subst (λ z. IsSeated new p z) (sym x.2.0)
         (record { network = s.network; input = s.input; instance = s.instance; watch = s.watch; at = record { reads = s.at.reads; writes = s.at.writes } }) in
         subst (IsSeated new p) (sym y.2) told;
     network = laid.network;
@@ -35,13 +61,75 @@ module _ {t : Program} {lists : Lists} {watch : Option ℕ} {code : Program} (xs
 
   emptied : HasEmptied old new
   emptied = record {
-    rest = ap (λ (g : List Gone). record new { gone = g }) (map_changed gone_in (λ x. all_of x.told) (λ x y e. ap (λ (z : Tapped). z.gone) e) xs ys h ∙ sym (map_map all_of told_in xs));
-    views = map_map told_view told_in ys ∙ map_changed (λ x. told_view x.told) (λ x. told_view x.told) (λ x y e. ap (λ (z : Tapped). told_view z.told) e) xs ys h ∙ sym (map_map told_view told_in xs);
-    seen = map_map seen_of told_in ys ∙ map_changed (λ x. seen_of x.told) (λ x. seen_of x.told) (λ x y e. ap (λ (z : Tapped). seen_of z.told) e) xs ys h ∙ sym (map_map seen_of told_in xs);
+    rest = refl;
+    views = map_map told_view told_in ys ∙ map_changed (λ x. told_view x.told) (λ x. told_view x.told) (λ x y e. ap told_view e.0) xs ys h ∙ sym (map_map told_view told_in xs);
+    seen = map_map seen_of told_in ys ∙ map_changed (λ x. seen_of x.told) (λ x. seen_of x.told) (λ x y e. ap seen_of e.0) xs ys h ∙ sym (map_map seen_of told_in xs);
+    spent = spent_of ys (λ p y at. (old_item h p y at).2.1);
   }
 
   pub emptied_then : {s : Table} → old ≡ s → HasEmptied s new
   emptied_then is = subst (λ (x : Table). HasEmptied x new) is emptied
+
+-- ---- taps let go one after another
+
+module _ (xs : List Tapped) (n : ℕ) (x y : Tapped) (here : n < length xs) (value : x ≡ slice_index_or xs n x) (h : HasForgotten x y) where
+  pub one_stays : HaveChanged IsSameTap xs (slice_set xs n y)
+  one_stays = record {
+    count = length-set xs n y;
+    each = λ p u v a b. set_each (λ k w. (z : Tapped) → slice_get xs k ≡ Some z → IsSameTap z w) xs n y
+        (λ k w apart f z e. subst (IsSameTap z) (same_Some z w (sym e ∙ f)) refl)
+        (λ z e. subst (λ t. IsSameTap t y) (same_Some x z (sym (slice_get_read xs (length xs) n x refl here value) ∙ e)) (ap (λ (t : Tapped). t.told) h)) p v b u a;
+  }
+
+  pub one_spent : (z : Tapped) → slice_get (slice_set xs n y) n ≡ Some z → IsSpentTap z
+  one_spent z e = subst IsSpentTap (same_Some y z (sym (set_here xs n y here) ∙ e)) (subst IsSpentTap (sym h) (λ q. refl, refl))
+
+pub others_stay : (xs : List Tapped) (n : ℕ) (y : Tapped) (p : ℕ) → (p ≡ n → ⊥) → slice_get (slice_set xs n y) p ≡ slice_get xs p
+others_stay [] n y p apart = refl
+others_stay (x ∷ xs) zero y zero apart = absurd (apart refl)
+others_stay (x ∷ xs) zero y (suc p) apart = refl
+others_stay (x ∷ xs) (suc n) y zero apart = refl
+others_stay (x ∷ xs) (suc n) y (suc p) apart = others_stay xs n y p (λ e. apart (ap suc e))
+
+pub none_changed : (xs : List Tapped) → HaveChanged IsSameTap xs xs
+none_changed xs = record { count = refl; each = λ p x y a b. subst (IsSameTap x) (same_Some x y (sym a ∙ b)) refl }
+
+pub stays_on : {xs ys zs : List Tapped} → HaveChanged IsSameTap xs ys → HaveChanged IsSameTap ys zs → HaveChanged IsSameTap xs zs
+stays_on h k = record {
+  count = k.count ∙ h.count;
+  each = λ p x z a c.
+      let y = old_item k p z c in
+      y.2 ∙ ap (λ (t : Told). record t { spare = z.told.spare; print_spare = z.told.print_spare }) (h.each p x y.0 a y.1);
+}
+
+pub all_forgotten : {xs ys : List Tapped} → HaveChanged HasForgotten xs ys → HaveChanged HasSpent xs ys
+all_forgotten h = record {
+  count = h.count;
+  each = λ p x y a b. let e = h.each p x y a b in (ap (λ (t : Tapped). t.told) e, subst IsSpentTap (sym e) (λ q. refl, refl));
+}
+
+pub fewer_left : (w w' : Woken) (r : ℕ) (xs ys : List Tapped) → AreSpentBut w xs → IsTakenFrom w (Some r) w' → ((z : Tapped) → slice_get ys r ≡ Some z → IsSpentTap z) →
+    ((p : ℕ) → (p ≡ r → ⊥) → slice_get ys p ≡ slice_get xs p) → AreSpentBut w' ys
+fewer_left w w' r xs ys h taken here others p x at = by (cases_eq p r)
+  where
+    or : (p ≡ r → ⊥) → (p ≡ r) ⊎ IsWoken w' p → IsWoken w' p ⊎ IsSpentTap x
+    or n (inl e) = absurd (n e)
+    or n (inr k) = inl k
+
+    each : (p ≡ r → ⊥) → IsWoken w p ⊎ IsSpentTap x → IsWoken w' p ⊎ IsSpentTap x
+    each n (inl k) = or n (taken.1 p k)
+    each n (inr s) = inr s
+
+    by : (p ≡ r) ⊎ (p ≡ r → ⊥) → IsWoken w' p ⊎ IsSpentTap x
+    by (inl e) = inr (here x (ap (slice_get ys) (sym e) ∙ at))
+    by (inr n) = each n (h p x (sym (others p n) ∙ at))
+
+pub none_left : (w w' : Woken) (xs ys : List Tapped) → HaveChanged IsSameTap xs ys → AreSpentBut w ys → IsTakenFrom w None w' → HaveChanged HasSpent xs ys
+none_left w w' xs ys h spent taken = record { count = h.count; each = λ p x y a b. (h.each p x y a b, by p y (spent p y b)) }
+  where
+    by : (p : ℕ) (y : Tapped) → IsWoken w p ⊎ IsSpentTap y → IsSpentTap y
+    by p y (inl k) = absurd (taken.1 p k)
+    by p y (inr s) = s
 
 -- ---- how all stand
 

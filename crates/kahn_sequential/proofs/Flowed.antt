@@ -1,6 +1,6 @@
 -- A flow: what its parts, more input and letting go make of it.
-use Rattle.std.proofs.Common.{vec_capacity, sum_by, arith, ◌≡◌, ℕ, zero, suc, ◌+◌, ◌-◌, ◌<◌, ◌≤◌, ◌^◌, List, [], ◌∷◌, ◌++◌, length, map, replicate, take, refl, sym, ap, ◌∙◌, subst, append-nil, Option, Some, slice_get, slice_index_or}
-use Rattle.kahn_sequential.proofs.Common.{length-map, map-append, take_all, take_at, Source, Given, Written, Nobody, Writes, channel_source, network_of, instance_at, actual_at, role_at, Token, Value, Line, Channel, Print, AreInputsExtended, source, Lists, inputs_of, none_of, prefix_refl, View, token_value, IsPoured, tokens, Told, told_view, Gone, nothing_gone, poured_grown, GoesOn, IsLineOf, HeldRun, given_so_far, seen_at, seen_of, so_far, writing, stream_lines, Verdict, all_events, IsConcluded, AreEnded, AreNew, HasLetGo, IsRunOn, AreLent, IsFlowOf, flow_of, let_go_by, let_go_of, run_of_bench, no_view, AreAllGiven, AllStandBy, AreWhole, HasEmptied, HasTakenIn, HasWorked, IsLaid, IsVerdict, Table, all_of, sight_of, writes, HaveRisen, Plan, Program, seen_events}
+use Rattle.std.proofs.Common.{vec_capacity, sum_by, arith, ◌≡◌, ◌⊎◌, inl, inr, true, ℕ, suc, ◌+◌, ◌-◌, ◌<◌, ◌≤◌, ◌^◌, List, [], ◌∷◌, ◌++◌, length, map, replicate, take, refl, sym, ap, ◌∙◌, subst, append-nil, Option, Some, slice_get, slice_index_or}
+use Rattle.kahn_sequential.proofs.Common.{length-map, map-append, take_all, take_at, Source, Given, Written, Nobody, Writes, channel_source, network_of, instance_at, actual_at, role_at, Token, Value, Line, Channel, Print, AreInputsExtended, source, Lists, inputs_of, none_of, prefix_refl, View, token_value, IsPoured, tokens, told_view, Gone, nothing_gone, poured_grown, GoesOn, IsLineOf, HeldRun, given_so_far, seen_at, seen_of, so_far, writing, stream_lines, Verdict, all_events, IsConcluded, AreEnded, AreNew, HasLetGo, IsRunOn, AreLent, IsFlowOf, flow_of, let_go_by, let_go_of, run_of_bench, no_view, AreAllGiven, AllStandBy, AreWhole, HasEmptied, HasTakenIn, HasWorked, IsLaid, IsVerdict, Table, sight_of, writes, HaveRisen, Plan, Program, seen_events}
 use Rattle.std.proofs.lemmas.List.{length-append}
 use Rattle.kahn_streams.specs.declared.answer.End.{End}
 use Rattle.kahn_sequential.proofs.Benched.{mapped}
@@ -11,7 +11,12 @@ use Rattle.kahn_sequential.proofs.Named.{HasLine, has_line}
 use Rattle.kahn_sequential.proofs.Righted.{events_seen, settled_by}
 use Rattle.kahn_sequential.specs.declared.{rounds.PartEnd.PartEnd, woken.Woken.Woken}
 use Rattle.kahn_sequential.specs.inner.FlowBench.{IsPartEnd}
-use Rattle.kahn_sequential.specs.inner.Noted.{AreNoted}
+use Rattle.kahn_sequential.specs.inner.Noted.{AreNoted, AreSpent, IsWoken}
+use Rattle.std.specs.declared.alloc.Global.{Global}
+use Rattle.std.specs.declared.vec.Vec.{Vec}
+use Rattle.kahn_sequential.specs.Flows.{IsStale}
+use Rattle.kahn_sequential.specs.inner.Numbers.{HoldNumbers, IsNumberOf}
+use Rattle.kahn_sequential.specs.inner.Workbench.{IsSpent}
 
 -- ---- it goes on
 
@@ -93,24 +98,21 @@ pub let_go_same : (b d : Table) → d.network ≡ b.network → d.input ≡ b.in
 let_go_same b d m l w gone g n = λ i. let_go_of (let x : Table = record { network = m i; input = l i; watch = w i; code = b.code; cells = b.cells; gone = g i; queues = b.queues } in x) n
 
 -- all, where the cells let go of all that they kept
-all_gone : (cells : List Told) (p : ℕ) → let g = slice_index_or (map all_of cells) p nothing_gone in let c = seen_at (map seen_of cells) p in (g.kept ≡ c.kept) × (g.printed ≡ c.printed)
-all_gone [] p = (refl, refl)
-all_gone (c ∷ cells) zero = (refl, refl)
-all_gone (c ∷ cells) (suc p) = all_gone cells p
-
-module _ (b : Table) (plan : Plan) (said : Option Verdict) where
+module _ (b : Table) (plan : Plan) (said : Option Verdict) (d : Table) (h : HasEmptied b d) where
   abbrev run : HeldRun
   run = run_of_bench b plan said
 
-  go_all : (s : Source) (c : Line) → let_go_by (record b { gone = map all_of b.cells }) 0 s c ≡ given_so_far run s c
+  go_all : (s : Source) (c : Line) → let_go_by (record b { gone = d.gone }) 0 s c ≡ given_so_far run s c
   go_all Given (Channel c) = take_all (length (inputs_of b.input c) - 0) (inputs_of b.input c) (omega arith)
   go_all Given (Print r) = refl
-  go_all (Written p) (Channel c) = ap (λ k. map token_value (tokens k (writing (instance_at (network_of b.network) p).actuals c))) (all_gone b.cells p).0
-  go_all (Written p) (Print r) = ap (map token_value) (all_gone b.cells p).1
+  go_all (Written p) (Channel c) =
+      let q = writing (instance_at (network_of b.network) p).actuals c in
+      ap (map token_value) ((h.spent p).0 q ∙ ap (λ l. tokens (seen_at l p).kept q) h.seen)
+  go_all (Written p) (Print r) = ap (map token_value) ((h.spent p).1 ∙ ap (λ l. (seen_at l p).printed) h.seen)
   go_all Nobody c = refl
 
-  pub all_let_go : (d : Table) → HasEmptied b d → let_go_of d 0 ≡ map (so_far run) (stream_lines (network_of b.network) b.watch)
-  all_let_go d h =
+  pub all_let_go : let_go_of d 0 ≡ map (so_far run) (stream_lines (network_of b.network) b.watch)
+  all_let_go =
       ap (λ (x : Table). let_go_of x 0) h.rest
       ∙ (λ i. map (λ c. go_all (source (network_of b.network) c) c i) (stream_lines (network_of b.network) b.watch))
 
@@ -145,6 +147,25 @@ new_given b plan said line c ts e from here lent =
     let last = lent_here b ts lent c from (subst (HasLine (network_of b.network) b.watch) e here) in
     new_by b plan said (length ts) ts e from (last.1 ∙ ap (λ l. l ++ map token_value ts) (sym (front_of (inputs_of b.input c) last.0 ts last.1)))
 
+-- nothing is, of an instance that let go of all that it kept
+module _ (b : Table) (plan : Plan) (said : Option Verdict) (turned : Woken) (numbers : List (Vec ℕ Global)) (known : turned.known ≡ true) (spent : AreSpent b turned)
+    (all : HoldNumbers (network_of b.network) (stream_lines (network_of b.network) b.watch) numbers) where
+  stale_by : (s : Source) (c : Line) → ((p : ℕ) → s ≡ Written p → IsSpent b p) → given_so_far (run_of_bench b plan said) s c ≡ let_go_by b 0 s c
+  stale_by Given (Channel c) h = sym (take_all (length (inputs_of b.input c) - 0) (inputs_of b.input c) (omega arith))
+  stale_by Given (Print r) h = refl
+  stale_by (Written p) (Channel c) h = ap (map token_value) (sym ((h p refl).0 (writing (instance_at (network_of b.network) p).actuals c)))
+  stale_by (Written p) (Print r) h = ap (map token_value) (sym (h p refl).1)
+  stale_by Nobody c h = refl
+
+  pub stale : (from next : ℕ) → ((p j : ℕ) → IsWoken turned p → IsNumberOf numbers p j → from ≤ j → next ≤ j) → (j : ℕ) → from ≤ j → j < next → IsStale (flow_of b plan said 0) j
+  stale from next least j le lt line at =
+      stale_by (source (network_of b.network) line) line (λ p e. by p e (spent known p))
+      ∙ sym (mapped (λ c. let_go_by b 0 (source (network_of b.network) c) c) (stream_lines (network_of b.network) b.watch) j line [] at)
+    where
+      by : (p : ℕ) → source (network_of b.network) line ≡ Written p → IsWoken turned p ⊎ IsSpent b p → IsSpent b p
+      by p e (inl k) = let m = least p j k (all p j line at e) le in absurd (omega (arith, m, lt))
+      by p e (inr k) = k
+
 -- ---- what the type keeps
 
 pub lent_same : (b d : Table) → d.network ≡ b.network → d.input ≡ b.input → d.watch ≡ b.watch → (ts : List Token) → AreLent b ts → AreLent d ts
@@ -154,11 +175,16 @@ lent_same b d n l w ts h c seen role =
 pub none_lent : (b : Table) (ts : List Token) → ts ≡ [] → AreLent b ts
 none_lent b ts e c w role = (inputs_of b.input c, sym (append-nil (inputs_of b.input c)) ∙ ap (λ (l : List Token). inputs_of b.input c ++ map token_value l) (sym e))
 
+numbers_same : (b d : Table) → d.network ≡ b.network → d.watch ≡ b.watch → (numbers : List (Vec ℕ Global)) → HoldNumbers (network_of b.network) (stream_lines (network_of b.network) b.watch) numbers →
+    HoldNumbers (network_of d.network) (stream_lines (network_of d.network) d.watch) numbers
+numbers_same b d n w numbers = subst (λ (k : Program × Option ℕ). HoldNumbers (network_of k.0) (stream_lines (network_of k.0) k.1) numbers) (λ i. (sym n i, sym w i))
+
 -- also with other ends and other lent tokens
-pub flow_stays : {t : Program} {plan : Plan} {b : Table} {budget room : ℕ} {ends : List End} {woken : Woken} {said : Option Verdict} {ts : List Token} → IsFlowOf t plan b budget room ends woken said ts → (d : Table) →
+pub flow_stays : {t : Program} {plan : Plan} {b : Table} {budget room : ℕ} {ends : List End} {woken turned : Woken} {numbers : List (Vec ℕ Global)} {said : Option Verdict} {ts : List Token} →
+    IsFlowOf t plan b budget room ends woken turned numbers said ts → (d : Table) →
     d.network ≡ b.network → d.watch ≡ b.watch → map seen_of d.cells ≡ map seen_of b.cells → (next : Option Verdict) → AreEnded (sight_of d) plan.bound budget ends next →
-    (later : Woken) → AreNoted (sight_of d) later ends → (us : List Token) → AreLent d us → IsFlowOf t plan d budget room ends later next us
-flow_stays {budget = budget} {room = room} f d network watch seen next ended later noted us lent = record {
+    (later : Woken) → AreNoted (sight_of d) later ends → (after : Woken) → AreSpent d after → (us : List Token) → AreLent d us → IsFlowOf t plan d budget room ends later after numbers next us
+flow_stays {b = b} {budget = budget} {room = room} {numbers = numbers} f d network watch seen next ended later noted after spent us lent = record {
   network = network ∙ f.network;
   watch = watch ∙ f.watch;
   some = f.some;
@@ -167,6 +193,8 @@ flow_stays {budget = budget} {room = room} f d network watch seen next ended lat
   enough = subst (λ t. length (network_of t).instances ≤ room) (sym network) f.enough;
   ended = ended;
   noted = noted;
+  spent = spent;
+  numbered = numbers_same b d network watch numbers f.numbered;
   lent = lent;
 }
 
@@ -194,7 +222,8 @@ emptied_flow b d h plan said n ts e =
     }
 
 -- a part of it
-module _ {t : Program} {plan : Plan} {b : Table} {budget room : ℕ} {last : List End} {woken : Woken} {said : Option Verdict} {ts : List Token} (f : IsFlowOf t plan b budget room last woken said ts)
+module _ {t : Program} {plan : Plan} {b : Table} {budget room : ℕ} {last : List End} {woken turned : Woken} {numbers : List (Vec ℕ Global)} {said : Option Verdict} {ts : List Token}
+    (f : IsFlowOf t plan b budget room last woken turned numbers said ts)
     (d : Table) (h : HasWorked b d) (more : ℕ) (below : more ≤ 281474976710655 - plan.bound) (r : PartEnd) (c : IsPartEnd d (all_events (sight_of b) + (budget + more)) r) where
   abbrev after : Plan
   after = record plan { bound = plan.bound + more }
@@ -209,8 +238,8 @@ module _ {t : Program} {plan : Plan} {b : Table} {budget room : ℕ} {last : Lis
   part_ended = (c.0, subst (λ n. IsConcluded (sight_of d) n r.left c.0 r.verdict r.ends.items) whole c.1)
 
   pub flow_after : length (network_of d.network).instances ≤ vec_capacity r.ends → (later : Woken) → AreNoted (sight_of d) later r.ends.items →
-      IsFlowOf t after d r.left (vec_capacity r.ends) r.ends.items later (Some r.verdict) ts
-  flow_after enough later noted = record {
+      (kept : Woken) → AreSpent d kept → IsFlowOf t after d r.left (vec_capacity r.ends) r.ends.items later kept numbers (Some r.verdict) ts
+  flow_after enough later noted kept spent = record {
     network = h.network ∙ f.network;
     watch = h.watch ∙ f.watch;
     some = f.some;
@@ -219,6 +248,8 @@ module _ {t : Program} {plan : Plan} {b : Table} {budget room : ℕ} {last : Lis
     enough = enough;
     ended = part_ended;
     noted = noted;
+    spent = spent;
+    numbered = numbers_same b d h.network h.watch numbers f.numbered;
     lent = lent_same b d h.network h.input h.watch ts f.lent;
   }
 

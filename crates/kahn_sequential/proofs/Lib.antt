@@ -1,6 +1,7 @@
 pub mod Common
 pub mod Lists
 pub mod Noted
+pub mod Numbered
 pub mod Events
 pub mod Assembling
 pub mod Turns

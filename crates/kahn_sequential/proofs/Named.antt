@@ -62,17 +62,20 @@ module _ (N : Network) (watch : Option ℕ) where
   pub has_line : (j : ℕ) (d : Line) → slice_get (stream_lines N watch) j ≡ Some d → HasLine d
   has_line j d e = (line_in 0 (stream_lines N watch) j d rising e).1
 
+  declares : (d : Line) → HasLine d → IsDeclared N d
+  declares (Channel c) h = h.0
+  declares (Print p) h = h
+
+  pub line_declared : (j : ℕ) (d : Line) → slice_get (stream_lines N watch) j ≡ Some d → IsDeclared N d
+  line_declared j d e = declares d (has_line j d e)
+
 -- ---- the streams that have these lines
 
 pub line_at : (streams : List Stream) (lines : List Line) (j : ℕ) (x : Stream) → map stream_line streams ≡ lines → slice_get streams j ≡ Some x → slice_get lines j ≡ Some x.line
 line_at streams lines j x e f = subst (λ l. slice_get l j ≡ Some x.line) e (get_map stream_line streams j x f)
 
 pub declared : (N : Network) (streams : List Stream) (j : ℕ) (x : Stream) → AreNamed N streams → slice_get streams j ≡ Some x → IsDeclared N x.line
-declared N streams j x (watch, e) f = by x.line (has_line N watch j x.line (line_at streams (stream_lines N watch) j x e f))
-  where
-    by : (d : Line) → HasLine N watch d → IsDeclared N d
-    by (Channel c) h = h.0
-    by (Print p) h = h
+declared N streams j x (watch, e) f = line_declared N watch j x.line (line_at streams (stream_lines N watch) j x e f)
 
 pub once : (N : Network) (streams : List Stream) (j k : ℕ) (x y : Stream) → AreNamed N streams → slice_get streams j ≡ Some x → slice_get streams k ≡ Some y →
     x.line ≡ y.line → j ≡ k

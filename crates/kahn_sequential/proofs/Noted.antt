@@ -1,6 +1,6 @@
 -- Ends that were noted, and the instances that were woken since.
-use Rattle.std.proofs.Common.{arith, ◌≡◌, ◌⊎◌, inl, inr, ℕ, zero, suc, ◌+◌, ◌==◌, ◌<◌, ◌≤◌, Bool, true, false, List, [], ◌∷◌, ◌++◌, length, append-nil, refl, sym, ap, ◌∙◌, subst, Option, Some, None, slice_get, slice_set, eqb-true, if◌then◌else◌}
-use Rattle.kahn_sequential.proofs.Common.{AllStand, AreQueued, AreInputsExtended, Channel, Given, HasEndIn, HasTakenIn, HasVisited, Inputs, IsGiven, IsLaid, IsOutcomeOf, IsPoured, IsVerdict, IsWellWired, Line, Lists, More, Network, Nobody, Program, Reads, Round, RunState, Source, Store, StoodBy, Table, TookAll, Value, View, Writes, Written, actual_at, at_last, cases_eq, cases_lt, exec_on, get_or-set_other, handed_within, inputs_grow, inputs_of, instance_at, kept_grown, network_of, no_view, poured_grown, prefix_get, reads_listed, route_of, same_Some, set_each, sight_of, source, view_at, waiting_of}
+use Rattle.std.proofs.Common.{arith, ◌≡◌, ◌⊎◌, inl, inr, ℕ, zero, suc, ◌+◌, ◌==◌, ◌<◌, ◌≤◌, Bool, true, false, List, [], ◌∷◌, ◌++◌, length, append-nil, map, refl, sym, ap, ◌∙◌, subst, Option, Some, None, slice_get, slice_index_or, slice_set, eqb-true, if◌then◌else◌}
+use Rattle.kahn_sequential.proofs.Common.{AllStand, AreQueued, AreInputsExtended, Channel, Given, HasEndIn, HasTakenIn, HasVisited, Inputs, IsGiven, IsLaid, IsOutcomeOf, IsPoured, IsVerdict, IsWellWired, Line, Lists, More, Network, Nobody, Program, Reads, Round, RunState, Source, Store, StoodBy, Table, TookAll, Value, View, Writes, Written, actual_at, at_last, cases_eq, cases_lt, exec_on, get_or-set_other, handed_within, inputs_grow, inputs_of, instance_at, kept_grown, network_of, no_view, poured_grown, prefix_get, reads_listed, route_of, same_Some, set_each, sight_of, source, view_at, waiting_of, Gone, Seen, Told, nothing_gone, seen_at, seen_of, tokens, told_view}
 use Rattle.std.proofs.lemmas.List.{length-set}
 use Rattle.kahn_streams.specs.Network.{IsOnly, IsReader}
 use Rattle.kahn_streams.specs.Script as script
@@ -11,17 +11,18 @@ use Rattle.kahn_streams.specs.declared.answer.Verdict.TheVariants.{Finished}
 use Rattle.kahn_streams.specs.declared.sides.Side.{Side}
 use Rattle.kahn_sequential.specs.declared.{rounds.PartEnd.PartEnd, woken.Woken.Woken}
 use Rattle.kahn_sequential.specs.inner.FlowBench.{IsPartEnd}
-use Rattle.kahn_sequential.specs.inner.Noted.{AreAtRest, AreNoted, AreNotedBut, HasWoken, IsAtRest, IsOnlyReader, IsReaderOf, IsReadyBehind, IsReadyBy, IsReadyByFirst, IsTakenFrom, IsWoken}
+use Rattle.kahn_sequential.specs.inner.Noted.{AreAtRest, AreNoted, AreNotedBut, HasWoken, IsAtRest, IsOnlyReader, IsReaderOf, IsReadyBehind, IsReadyBy, IsReadyByFirst, IsTakenFrom, IsWoken, AreSpent}
+use Rattle.kahn_sequential.specs.inner.Workbench.{IsSpent, IsSpentBy}
 use Rattle.kahn_sequential.proofs.Benched.{took_all}
 
 -- ---- the list of those that were woken
 
-keep : (xs ys : List ℕ) (k p : ℕ) → slice_get xs k ≡ Some p → slice_get (xs ++ ys) k ≡ Some p
+pub keep : (xs ys : List ℕ) (k p : ℕ) → slice_get xs k ≡ Some p → slice_get (xs ++ ys) k ≡ Some p
 keep [] ys k p e = absurd cc
 keep (x ∷ xs) ys zero p e = e
 keep (x ∷ xs) ys (suc k) p e = keep xs ys k p e
 
-at_end : (xs : List ℕ) (r : ℕ) → slice_get (xs ++ r ∷ []) (length xs) ≡ Some r
+pub at_end : (xs : List ℕ) (r : ℕ) → slice_get (xs ++ r ∷ []) (length xs) ≡ Some r
 at_end [] r = refl
 at_end (x ∷ xs) r = at_end xs r
 
@@ -138,6 +139,38 @@ module _ (N : Network) (I : Inputs) (cells later : List View) (i : ℕ) (others 
       given_on c (source N (Channel c)) ((view_at later o).taken q)
       (subst (λ k. IsGiven N I cells c (source N (Channel c)) k) (ap (λ (v : View). v.taken q) (sym (others o n))) h)
 
+-- what is seen of a cell is what it keeps
+kept_seen : (cells : List Told) (p q : ℕ) → tokens (seen_at (map seen_of cells) p).kept q ≡ (view_at (map told_view cells) p).kept q
+kept_seen [] p q = refl
+kept_seen (c ∷ cells) zero q = refl
+kept_seen (c ∷ cells) (suc p) q = kept_seen cells p q
+
+printed_seen : (cells : List Told) (p : ℕ) → (seen_at (map seen_of cells) p).printed ≡ (view_at (map told_view cells) p).printed
+printed_seen [] p = refl
+printed_seen (c ∷ cells) zero = refl
+printed_seen (c ∷ cells) (suc p) = printed_seen cells p
+
+-- a visit of i: the others stay, and what it keeps may be more then
+module _ (b d : Table) (r r' : Round) (i : ℕ) (x : End) (v : HasVisited b d r r' i x) where
+  pub unmoved : (p : ℕ) → (p ≡ i → ⊥) → view_at (sight_of d).cells p ≡ view_at (sight_of b).cells p
+  unmoved p n = ap (λ l. view_at l p) v.turn.ran.only ∙ get_or-set_other (sight_of b).cells i p (view_at (sight_of d).cells i) no_view n
+
+  pub spent_one : (w w' : Woken) → AreSpent b w → HasWoken (λ p. p ≡ i) w w' → AreSpent d w'
+  spent_one w w' spent woken known p = by (cases_eq p i) (spent (woken known).0 p)
+    where
+      stays_spent : (p ≡ i → ⊥) → IsSpent b p → IsSpent d p
+      stays_spent n k =
+          let g = ap (λ l. slice_index_or l p nothing_gone) v.turn.worked.gone in
+          let same = unmoved p n in (
+            λ q. ap (λ (x : Gone). tokens x.kept q) g ∙ k.0 q ∙ kept_seen b.cells p q ∙ ap (λ (x : View). x.kept q) (sym same) ∙ sym (kept_seen d.cells p q),
+            ap (λ (x : Gone). x.printed) g ∙ k.1 ∙ printed_seen b.cells p ∙ ap (λ (x : View). x.printed) (sym same) ∙ sym (printed_seen d.cells p),
+          )
+
+      by : (p ≡ i) ⊎ (p ≡ i → ⊥) → IsWoken w p ⊎ IsSpent b p → IsWoken w' p ⊎ IsSpent d p
+      by (inl e) k = inl ((woken known).1 p (inr e))
+      by (inr n) (inl k) = inl ((woken known).1 p (inl k))
+      by (inr n) (inr k) = inr (stays_spent n k)
+
 module _ (b d : Table) (r r' : Round) (i : ℕ) (x : End) (laid : IsLaid d) (counted : AreQueued d.queues) (v : HasVisited b d r r' i x) where
   abbrev s : RunState
   s = sight_of b
@@ -146,7 +179,7 @@ module _ (b d : Table) (r r' : Round) (i : ℕ) (x : End) (laid : IsLaid d) (cou
   s' = sight_of d
 
   others : (p : ℕ) → (p ≡ i → ⊥) → view_at s'.cells p ≡ view_at s.cells p
-  others p n = ap (λ l. view_at l p) v.turn.ran.only ∙ get_or-set_other s.cells i p (view_at s'.cells i) no_view n
+  others = unmoved b d r r' i x v
 
   is : (record s { cells = s'.cells }) ≡ s'
   is = λ j. record { network = sym v.turn.ran.same.0 j; input = sym v.turn.ran.same.1 j; watch = sym v.turn.ran.same.2 j; cells = s'.cells }
@@ -308,6 +341,11 @@ module _ (s : RunState) (J : Inputs) (grown : AreInputsExtended s.input J) (c : 
       by p y (inl (inl k)) = or p y (end_grown p y k)
       by p y (inl (inr k)) = inl (inr (g.1 p (inl k)))
       by p y (inr k) = absurd k
+
+pub spent_poured : (b d : Table) (c n : ℕ) (input : Lists) → HasTakenIn c n input b d → (w : Woken) → AreSpent b w → AreSpent d w
+spent_poured b d c n input h w spent known p =
+    let g = ap (λ (x : Table). x.gone) h.rest in
+    subst (λ (k : List Gone × List Seen). IsWoken w p ⊎ IsSpentBy (slice_index_or k.0 p nothing_gone) (seen_at k.1 p).kept (seen_at k.1 p).printed) (λ j. (sym g j, sym h.seen j)) (spent known p)
 
 pub noted_poured : (b d : Table) (c : ℕ) (values : List Value) (input : Lists) → IsPoured b.input c values input → HasTakenIn c (length values) input b d →
     (w w' : Woken) (ends : List End) → AreNoted (sight_of b) w ends → HasWoken (IsReaderOf (sight_of d).network c) w w' → AreNoted (sight_of d) w' ends

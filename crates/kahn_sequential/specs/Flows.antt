@@ -70,3 +70,7 @@ HasLetGo old new = new ≡ record old { out = map (so_far old.run) (flow_lines o
 abbrev pub AreNew : Flowing → Line → List Token → Type 0
 AreNew f line ts =
     (j : ℕ) → slice_get (flow_lines f.run) j ≡ Some line → so_far f.run line ≡ slice_index_or f.out j [] ++ map token_value ts
+
+-- nothing is new of the stream of this number
+abbrev pub IsStale : Flowing → ℕ → Type 0
+IsStale f j = (line : Line) → slice_get (flow_lines f.run) j ≡ Some line → so_far f.run line ≡ slice_index_or f.out j []

@@ -3,6 +3,7 @@ pub mod Bench
 pub mod FlowBench
 pub mod Gathered
 pub mod Noted
+pub mod Numbers
 pub mod Recording
 pub mod Parts
 pub mod Streams

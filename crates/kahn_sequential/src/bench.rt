@@ -3,7 +3,7 @@
 ghost use Rattle.kahn_sequential.specs.inner.Below.{AreCounts, AreQueued, IsWithin, Input as InputRole, IsPoured, Lists, Reads, actual_at, inputs_of, instance_at, network_of, role_at, stream_lines, Told};
 ghost use Rattle.kahn_sequential.specs.inner.Bench.{AreStreams, HasRunCell, all_events, events_at};
 ghost use Rattle.kahn_sequential.specs.inner.Gathered.{view_at};
-ghost use Rattle.kahn_sequential.specs.inner.Noted.{HasWoken, IsOnlyReader, IsReaderOf, IsReadyBehind, IsReadyBy, IsReadyByFirst};
+ghost use Rattle.kahn_sequential.specs.inner.Noted.{AreSpent, HasWoken, IsOnlyReader, IsReaderOf, IsReadyBehind, IsReadyBy, IsReadyByFirst};
 ghost use Rattle.kahn_sequential.specs.inner.Recording.{StoodIn};
 ghost use Rattle.kahn_sequential.specs.inner.Workbench.{AllStandBy, AreStreamsReady, AreWhole, HasEmptied, HasFresh, HasFreshPrints, HasTakenIn, HasWorked, IsCrowded, IsLaid, IsNextPlace, gone_in, seated_with, sight_of, table_of, told_in, vacant_of};
 ghost use Rattle.std.specs.Prelude.{◌≡◌, ◌<◌, ◌+◌, ◌^◌, ℕ, [], Some, length, map, slice_get, vec_capacity, IfOk, IfErr, IfSome, MatchOption, SomeIff};
@@ -12,7 +12,7 @@ use crate::awake::Awake;
 use crate::channel::channel_read;
 use crate::looks::{LONG_TURN, Looks};
 use crate::streams::fill;
-use crate::taps::{all_kept, all_sized, all_stood, forget_all, named_taps};
+use crate::taps::{all_kept, all_sized, all_stood, forget_turned, named_taps};
 use crate::woken::Woken;
 use kahn_code::{Code, CodeFault, Kept, Pause, Plain, Steps, Tap, compile, regrow_taps};
 use kahn_streams::{
@@ -235,11 +235,12 @@ impl<'n> Bench<'n> {
         }
     }
 
-    /// The processes let go of all that they kept. Never allocates.
-    pub fn forget(&mut self)
+    /// The processes let go of all that they kept: as far as that is known, only these keep anything. Never allocates.
+    pub(crate) fn forget(&mut self, turned: &mut Woken)
+        requires { AreSpent self.old turned.old }
         ensures { HasEmptied self.old self.new }
     {
-        forget_all(&mut self.taps);
+        forget_turned(&mut self.taps, turned);
     }
 
     /// Says how all stand. For the prover only.

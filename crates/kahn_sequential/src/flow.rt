@@ -3,10 +3,11 @@
 ghost use Rattle.std.specs.Prelude.{◌≡◌, ◌↔◌, ℕ, ◌+◌, ◌++◌, ◌<◌, ◌≤◌, ◌^◌, [], Some, length, map, slice_get, sum_by, false, true, vec_capacity, IfOk, IsTrue, MatchResult, OnOk};
 ghost use Rattle.kahn_sequential.specs.inner.Below.{Holds, Input as InputRole, Names, Value as ValueOf, Verdict as VerdictOf, inputs_of, is_watched, network_of, role_at, stream_lines, token_value};
 ghost use Rattle.kahn_sequential.specs.HeldRuns.{IsLineOf, IsRightSoFar, IsUnstarted, seen_events};
-ghost use Rattle.kahn_sequential.specs.Flows.{AreNew, HasFlowed, HasLetGo, HasPouredIn, IsNotRun, IsRunOn, IsUnpoured};
+ghost use Rattle.kahn_sequential.specs.Flows.{AreNew, HasFlowed, HasLetGo, HasPouredIn, IsNotRun, IsRunOn, IsStale, IsUnpoured};
 
 use crate::bench::Bench;
 use crate::held_fault::HeldFault;
+use crate::numbers::{least_of, numbers_of};
 use crate::plan::plan_of;
 use crate::settling::run_on;
 use crate::streams::{give_watched, lines_of};
@@ -19,6 +20,9 @@ use std::alloc::Global;
 use std::marker::{Brand, Model};
 use std::mem;
 use std::sync::ledger::Blank;
+
+// Of more instances that had turns all are asked what they keep.
+const MOST_TURNED: usize = 16;
 
 /// A run on one thread that is fed between its parts, and that lets go of what it kept of its streams: a network, the sum of its
 /// bounds so far, and where each process stands. Only contracts see what it let go of, and the input that was taken.
@@ -34,6 +38,10 @@ pub struct Flow<'n> {
     ends: Vec<End>,
     // Which of the ends may have changed since.
     woken: Woken,
+    // Which instances may keep something.
+    turned: Woken,
+    // Of each instance the numbers of the streams that it writes.
+    numbers: Vec<Vec<usize>>,
     verdict: Option<Verdict>,
     // Of a watched input channel, the tokens that weren't let go of.
     given: Vec<Carried>,
@@ -43,7 +51,7 @@ impl<'n> Model for Flow<'n> {
     ghost use Rattle.kahn_streams.specs.contracts.tree.Action as action;
     ghost use Rattle.kahn_streams.specs.contracts.tree.Form as form;
     ghost use Rattle.std.specs.Coded.{codes};
-    ghost use Rattle.std.specs.Prelude.{length, vec_capacity};
+    ghost use Rattle.std.specs.Prelude.{length, vec_capacity as room};
     ghost use Rattle.kahn_sequential.specs.Flows.{Flowing};
     ghost use Rattle.kahn_sequential.specs.inner.FlowBench.{IsFlowOf, flow_of};
 
@@ -53,7 +61,7 @@ impl<'n> Model for Flow<'n> {
 
     ghost view = { λ f. flow_of f.bench f.plan f.verdict (length f.given.items) };
 
-    ghost invariant = { λ f. IsFlowOf f.network.now f.plan f.bench f.budget (vec_capacity f.ends) f.ends.items f.woken f.verdict f.given.items };
+    ghost invariant = { λ f. IsFlowOf f.network.now f.plan f.bench f.budget (room f.ends) f.ends.items f.woken f.turned f.numbers.items f.verdict f.given.items };
 }
 
 // Room for the ends of all instances.
@@ -131,6 +139,9 @@ impl<'n> Flow<'n> {
         let plan = plan_of(network, &config)?;
         let ends = room_for_ends(alloc, network)?;
         let woken = Woken::new(alloc, network.instances())?;
+        let turned = Woken::new(alloc, MOST_TURNED)?;
+        let lines = lines_of(alloc, network, plan.watch)?;
+        let numbers = numbers_of(alloc, network, &lines)?;
         let mut given = Vec::new(alloc);
         give_watched(network, &input, plan.watch, &mut given)?;
         let bench = Bench::new(alloc, network, &input, plan.watch)?;
@@ -142,6 +153,8 @@ impl<'n> Flow<'n> {
             budget: plan.bound,
             ends,
             woken,
+            turned,
+            numbers,
             verdict: None,
             given,
         })
@@ -162,7 +175,9 @@ impl<'n> Flow<'n> {
         let plan = Plan { bound, ..self.plan };
         self.bench.stood();
         let blank = Blank::new(1);
-        let part = run_on::<G, Brand>(blank, &mut self.bench, gate, ends, &mut self.woken, plan);
+        let woken = &mut self.woken;
+        let turned = &mut self.turned;
+        let part = run_on::<G, Brand>(blank, &mut self.bench, gate, ends, woken, turned, plan);
         self.bench.stood();
         self.plan.bound += more;
         self.budget = part.left;
@@ -200,7 +215,7 @@ impl<'n> Flow<'n> {
     pub fn forget(&mut self)
         ensures { HasLetGo self.old self.new }
     {
-        self.bench.forget();
+        self.bench.forget(&mut self.turned);
         self.given.clear();
     }
 
@@ -218,6 +233,17 @@ impl<'n> Flow<'n> {
             },
             Line::Print(instance) => self.bench.fresh_prints(instance),
         }
+    }
+
+    /// A number from this one on: no stream of a number from this one on and below that has anything new. Never allocates.
+    pub fn next_fresh(&self, from: usize) -> usize
+        ensures from { from ≤ result }
+        ensures stale { (j : ℕ) → from ≤ j → j < result → IsStale self.now j }
+    {
+        if !self.turned.known || !self.given.is_empty() {
+            return from;
+        }
+        least_of(&self.numbers, &self.turned.instances, from)
     }
 
     /// How many events more the sum of all bounds so far allows.

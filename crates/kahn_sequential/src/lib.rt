@@ -9,6 +9,7 @@ mod flow;
 mod held_fault;
 mod laws;
 mod looks;
+mod numbers;
 mod one;
 mod plan;
 mod recorded;

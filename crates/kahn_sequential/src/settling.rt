@@ -4,7 +4,7 @@
 ghost use Rattle.kahn_sequential.specs.inner.Below.{More};
 ghost use Rattle.kahn_sequential.specs.inner.Bench.{all_events};
 ghost use Rattle.kahn_sequential.specs.inner.FlowBench.{IsPartEnd};
-ghost use Rattle.kahn_sequential.specs.inner.Noted.{AreAtRest, AreNoted, AreNotedBut};
+ghost use Rattle.kahn_sequential.specs.inner.Noted.{AreAtRest, AreNoted, AreNotedBut, AreSpent};
 ghost use Rattle.kahn_sequential.specs.inner.Workbench.{HasAdvanced, HasWorked, MayRun, sight_of};
 ghost use Rattle.std.specs.Prelude.{◌≡◌, ◌<◌, ◌≤◌, ◌+◌, ◌^◌, length, false, true, vec_capacity, IsTrue};
 
@@ -39,17 +39,21 @@ impl<'g, L: Ledger, G: Gate> Driver<'g, L, G> {
         bench: &mut Bench<'_>,
         round: &mut Round,
         woken: &mut Woken,
+        turned: &mut Woken,
         instance: usize,
     ) -> bool
         requires may { MayRun (sight_of bench.old) round.old }
         requires noted { AreNotedBut (λ p. p ≡ instance) (sight_of bench.old) woken.old round.old.ends.items }
+        requires spent { AreSpent bench.old turned.old }
         ensures advanced { HasAdvanced bench.old bench.new round.old round.new }
         ensures noted { IsTrue result → AreNoted (sight_of bench.new) woken.new round.new.ends.items }
+        ensures spent { AreSpent bench.new turned.new }
     {
         if instance >= bench.instance_count() {
             return false;
         }
         let end = self.visit(bench, round, instance);
+        turned.add_once(instance);
         if may_go_on(end.outcome) || instance >= round.ends.len() {
             return false;
         }
@@ -60,17 +64,25 @@ impl<'g, L: Ledger, G: Gate> Driver<'g, L, G> {
     }
 
     // Turns of those that were woken, until all are at rest. Whether they are, and nothing more than that was to be done.
-    fn settle(&mut self, bench: &mut Bench<'_>, round: &mut Round, woken: &mut Woken) -> bool
+    fn settle(
+        &mut self,
+        bench: &mut Bench<'_>,
+        round: &mut Round,
+        woken: &mut Woken,
+        turned: &mut Woken,
+    ) -> bool
         requires may { MayRun (sight_of bench.old) round.old }
         requires noted { AreNoted (sight_of bench.old) woken.old round.old.ends.items }
+        requires spent { AreSpent bench.old turned.old }
         ensures advanced { HasAdvanced bench.old bench.new round.old round.new }
         ensures rest { IsTrue result → AreAtRest (sight_of bench.new) round.new }
+        ensures spent { AreSpent bench.new turned.new }
     {
         for _ in 0..bench.instance_count().saturating_mul(WOKEN_TURNS) {
             let Some(instance) = woken.take() else {
                 return is_settled(woken, round);
             };
-            if !self.settle_one(bench, round, woken, instance) {
+            if !self.settle_one(bench, round, woken, turned, instance) {
                 return false;
             }
         }
@@ -85,6 +97,7 @@ fn part_of<G: Gate, L: Ledger>(
     gate: &G,
     ends: Vec<End>,
     woken: &mut Woken,
+    turned: &mut Woken,
     plan: Plan,
 ) -> PartEnd
     requires blank { (blank.name ≡ L.name) × (blank.parts ≡ L.parts) × (0 < blank.parts) }
@@ -92,9 +105,11 @@ fn part_of<G: Gate, L: Ledger>(
     requires bound { all_events (sight_of bench.old) + plan.bound < 2 ^ 48 }
     requires room { length (sight_of bench.old).network.instances ≤ vec_capacity ends }
     requires noted { AreNoted (sight_of bench.old) woken.old ends.items }
+    requires spent { AreSpent bench.old turned.old }
     ensures concluded { IsPartEnd bench.new (all_events (sight_of bench.old) + plan.bound) result }
     ensures room { length (sight_of bench.new).network.instances ≤ vec_capacity result.ends }
     ensures worked { HasWorked bench.old bench.new }
+    ensures spent { AreSpent bench.new turned.new }
 {
     let mut driver = Driver {
         steps: Steps::<L>::open(blank),
@@ -102,7 +117,7 @@ fn part_of<G: Gate, L: Ledger>(
         may_leave: false,
     };
     let mut round = Round::new(bench, plan.quantum, plan.bound, ends);
-    if driver.settle(bench, &mut round, woken) {
+    if driver.settle(bench, &mut round, woken, turned) {
         bench.stood();
         return PartEnd {
             verdict: Verdict::Finished,
@@ -110,10 +125,10 @@ fn part_of<G: Gate, L: Ledger>(
             left: round.left,
         };
     }
+    turned.clear(false);
     let mut driver = Driver {
-        steps: driver.steps,
-        gate,
         may_leave: false,
+        ..driver
     };
     let Ok(part) = driver.to_end(bench, round) else {
         unreachable!()
@@ -130,6 +145,7 @@ pub(crate) fn run_on<G: Gate, L: Ledger>(
     gate: &G,
     ends: Vec<End>,
     woken: &mut Woken,
+    turned: &mut Woken,
     plan: Plan,
 ) -> PartEnd
     requires blank { (blank.name ≡ L.name) × (blank.parts ≡ L.parts) × (0 < blank.parts) }
@@ -137,12 +153,14 @@ pub(crate) fn run_on<G: Gate, L: Ledger>(
     requires bound { all_events (sight_of bench.old) + plan.bound < 2 ^ 48 }
     requires room { length (sight_of bench.old).network.instances ≤ vec_capacity ends }
     requires noted { AreNoted (sight_of bench.old) woken.old ends.items }
+    requires spent { AreSpent bench.old turned.old }
     ensures concluded { IsPartEnd bench.new (all_events (sight_of bench.old) + plan.bound) result }
     ensures room { length (sight_of bench.new).network.instances ≤ vec_capacity result.ends }
     ensures worked { HasWorked bench.old bench.new }
     ensures noted { AreNoted (sight_of bench.new) woken.new result.ends.items }
+    ensures spent { AreSpent bench.new turned.new }
 {
-    let part = part_of::<G, L>(blank, bench, gate, ends, woken, plan);
+    let part = part_of::<G, L>(blank, bench, gate, ends, woken, turned, plan);
     woken.noted(part.verdict);
     part
 }

@@ -1,10 +1,12 @@
 //! The taps of all processes of a network, one after another.
 
 ghost use Rattle.kahn_sequential.specs.inner.Below.{AreCounts, HasForgotten, Lists, Tapped, network_of};
+ghost use Rattle.kahn_sequential.specs.inner.Noted.{AreSpentBut};
 ghost use Rattle.kahn_sequential.specs.inner.Streams.{HaveChanged};
-ghost use Rattle.kahn_sequential.specs.inner.Workbench.{AreOpeningCells, AreWhole, IsLeft, StandsAsTold, gone_in, told_in};
-ghost use Rattle.std.specs.Prelude.{◌≡◌, ◌<◌, ◌≤◌, ℕ, [], Some, length, map, slice_get, vec_capacity, IfOk};
+ghost use Rattle.kahn_sequential.specs.inner.Workbench.{AreOpeningCells, AreWhole, HasSpent, IsSameTap, IsLeft, IsSpentTap, StandsAsTold, gone_in, told_in};
+ghost use Rattle.std.specs.Prelude.{◌≡◌, ◌<◌, ◌≤◌, ℕ, [], Some, length, map, slice_get, true, vec_capacity, IfOk};
 
+use crate::woken::Woken;
 use kahn_code::{Code, CodeFault, Kept, Tap};
 use kahn_streams::{Input, Network};
 use std::alloc::Global;
@@ -29,12 +31,39 @@ pub(crate) fn named_taps(
     Ok(taps)
 }
 
-/// All taps let go of what they keep.
-pub(crate) fn forget_all(taps: &mut Vec<Tap>)
+// All taps let go of what they keep.
+fn forget_all(taps: &mut Vec<Tap>)
     ensures { HaveChanged HasForgotten taps.old.items taps.new.items }
 {
     for instance in 0..taps.len() {
         taps[instance].forget();
+    }
+}
+
+// The tap of an instance lets go of what it keeps, if there is one.
+fn forget_at(taps: &mut Vec<Tap>, instance: usize)
+    ensures stays { HaveChanged IsSameTap taps.old.items taps.new.items }
+    ensures here { (x : Tapped) → slice_get taps.new.items instance ≡ Some x → IsSpentTap x }
+    ensures others { (p : ℕ) → (p ≡ instance → ⊥) → slice_get taps.new.items p ≡ slice_get taps.old.items p }
+{
+    if instance >= taps.len() {
+        return;
+    }
+    taps[instance].forget();
+}
+
+/// All taps let go of what they keep: as far as that is known, only these keep anything.
+pub(crate) fn forget_turned(taps: &mut Vec<Tap>, turned: &mut Woken)
+    requires { turned.old.known ≡ true → AreSpentBut turned.old taps.old.items }
+    ensures { HaveChanged HasSpent taps.old.items taps.new.items }
+{
+    if !turned.known {
+        forget_all(taps);
+        turned.clear(true);
+        return;
+    }
+    'turned: while let Some(instance) = turned.take() {
+        forget_at(taps, instance);
     }
 }
 

@@ -1,16 +1,16 @@
-//! The instances that were woken: those that may stand otherwise than it was noted.
+//! The instances that were woken: those that may stand otherwise than it was noted, or keep more than was let go of.
 
-ghost use Rattle.std.specs.Prelude.{◌≡◌, false, true, IfOk};
+ghost use Rattle.std.specs.Prelude.{◌≡◌, ◌<◌, false, length, true, IfOk, IfSome};
 ghost use Rattle.kahn_sequential.specs.inner.Below.{Finished};
 ghost use Rattle.kahn_sequential.specs.inner.Noted.{HasWoken, IsTakenFrom};
 
 use kahn_streams::{NoMemory, Verdict};
 use std::alloc::Global;
 
-/// The instances that were woken since their ends were noted, if that is known.
+/// The instances that were woken since their ends were noted, or had turns since what they kept was let go of, if that is known.
 #[derive(Drop)]
 pub(crate) struct Woken {
-    instances: Vec<usize>,
+    pub(crate) instances: Vec<usize>,
     pub(crate) known: bool,
 }
 
@@ -37,9 +37,20 @@ impl Woken {
         self.instances.push_reserved(instance);
     }
 
+    /// This instance is woken as well, if it isn't there already.
+    pub(crate) fn add_once(&mut self, instance: usize)
+        ensures { HasWoken (λ p. p ≡ instance) self.old self.new }
+    {
+        if self.instances.contains(&instance) {
+            return;
+        }
+        self.add(instance);
+    }
+
     /// Takes one of them.
     pub(crate) fn take(&mut self) -> Option<usize>
-        ensures { IsTakenFrom self.old result self.new }
+        ensures taken { IsTakenFrom self.old result self.new }
+        ensures fewer { IfSome result (λ _. length self.new.instances.items < length self.old.instances.items) }
     {
         match self.instances.pop() {
             Some(instance) => Some(instance),
@@ -47,11 +58,18 @@ impl Woken {
         }
     }
 
+    /// None is any more, if that is known.
+    pub(crate) fn clear(&mut self, known: bool)
+        ensures { self.new.known ≡ known }
+    {
+        self.instances.clear();
+        self.known = known;
+    }
+
     /// The ends of a part with this verdict are noted.
     pub(crate) fn noted(&mut self, verdict: Verdict)
         ensures { self.new.known ≡ true → verdict ≡ Finished }
     {
-        self.instances.clear();
-        self.known = matches!(verdict, Verdict::Finished);
+        self.clear(matches!(verdict, Verdict::Finished));
     }
 }

@@ -1,8 +1,8 @@
 -- Inner. Ends that were noted, and the instances that were woken since.
 use Rattle.std.specs.Prelude.{◌≡◌, ◌⊎◌, ℕ, ◌<◌, false, true, List, length, Option, Some, None, slice_get}
-use Rattle.kahn_sequential.specs.inner.Below.{End, More, Network, Reads, Writes, actual_at, instance_at, waiting_of}
+use Rattle.kahn_sequential.specs.inner.Below.{End, More, Network, Reads, Tapped, Writes, actual_at, instance_at, waiting_of}
 use Rattle.kahn_sequential.specs.inner.Bench.{HasEndIn, RunState}
-use Rattle.kahn_sequential.specs.inner.Workbench.{Table, sight_of}
+use Rattle.kahn_sequential.specs.inner.Workbench.{IsSpent, IsSpentTap, Table, sight_of}
 use Rattle.kahn_sequential.specs.declared.{rounds.Round.Round, woken.Woken.Woken}
 
 abbrev pub IsWoken : Woken → ℕ → Type 0
@@ -52,6 +52,14 @@ AreNotedBut P s w ends =
 
 abbrev pub AreNoted : RunState → Woken → List End → Type 0
 AreNoted s w ends = AreNotedBut (λ p. ⊥) s w ends
+
+-- each of the taps has let go of all that it kept, but those of these instances
+abbrev pub AreSpentBut : Woken → List Tapped → Type 0
+AreSpentBut w taps = (p : ℕ) (x : Tapped) → slice_get taps p ≡ Some x → IsWoken w p ⊎ IsSpentTap x
+
+-- as far as it is known: each instance has, unless it had a turn since
+abbrev pub AreSpent : Table → Woken → Type 0
+AreSpent b w = w.known ≡ true → (p : ℕ) → IsWoken w p ⊎ IsSpent b p
 
 -- all are at rest, and these are their ends
 pub record AreAtRest (s : RunState) (r : Round) : Type 0 where

@@ -1,5 +1,5 @@
 -- Inner. The cells of a network over its plain queues, as a run on one thread has them.
-use Rattle.std.specs.Prelude.{◌≡◌, ◌⊎◌, ℕ, ◌+◌, ◌<◌, ◌≤◌, ◌^◌, ◌==◌, true, false, cond, min, vec_capacity, List, [], ◌++◌, length, map, replicate, Option, Some, slice_get, slice_index_or, if◌then◌else◌}
+use Rattle.std.specs.Prelude.{◌≡◌, ◌⊎◌, ℕ, ◌+◌, ◌<◌, ◌≤◌, ◌^◌, ◌==◌, true, cond, min, vec_capacity, List, [], ◌++◌, length, map, replicate, Option, Some, slice_get, slice_index_or, if◌then◌else◌}
 use Rattle.kahn_sequential.specs.inner.Below.{Answer, End, Gone, IsAt, IsCutShort, IsOpening, IsRight, IsWellWired, Kept, Lists, More, Pause, Program, Queues, StoodBy, Stream, Tapped, Token, Told, inputs_of, instance_at, kept_behind, most_values, network_of, nothing_gone, place_at, stream_line, stream_lines, tokens, told_view, waiting_of}
 use Rattle.kahn_sequential.specs.inner.Bench.{AreEnds, HasEndIn, HasRunCell, IsLast, LacksMemory, RunState, all_events, events_at}
 use Rattle.kahn_code.specs.declared.progress.Pause.TheVariants as pause
@@ -148,15 +148,32 @@ AllStandBy t watch cells = (p : ℕ) (c : Told) → slice_get cells p ≡ Some c
 abbrev pub StandsAsTold : Program → Tapped → Type 0
 StandsAsTold t x = StoodBy (network_of t) (inputs_of x.told.input) x.told.watch x.told.instance (told_view x.told)
 
--- all that a cell kept
-abbrev pub all_of : Told → Gone
-all_of c = record { kept = c.kept; printed = c.printed }
+-- all of these tokens that were kept is let go of
+abbrev pub IsSpentBy : Gone → List (List Token) → List Token → Type 0
+IsSpentBy g kept printed = ((q : ℕ) → tokens g.kept q ≡ tokens kept q) × (g.printed ≡ printed)
 
--- all that the cells kept is let go of, of each at its place, and nothing else changes
+-- all that instance p kept
+abbrev pub IsSpent : Table → ℕ → Type 0
+IsSpent b p =
+    IsSpentBy (slice_index_or b.gone p nothing_gone) (seen_at (map seen_of b.cells) p).kept (seen_at (map seen_of b.cells) p).printed
+
+-- all that a tap kept
+abbrev pub IsSpentTap : Tapped → Type 0
+IsSpentTap x = IsSpentBy x.gone x.told.kept x.told.printed
+
+-- the tap has the same process, but for the room in its lists; and has let go of all that it kept
+abbrev pub IsSameTap : Tapped → Tapped → Type 0
+IsSameTap x y = y.told ≡ record x.told { spare = y.told.spare; print_spare = y.told.print_spare }
+
+abbrev pub HasSpent : Tapped → Tapped → Type 0
+HasSpent x y = IsSameTap x y × IsSpentTap y
+
+-- all that the cells kept is let go of, and nothing else changes
 pub record HasEmptied (old new : Table) : Type 0 where
-  pub rest : new ≡ record old { cells = new.cells; gone = map all_of old.cells }
+  pub rest : new ≡ record old { cells = new.cells; gone = new.gone }
   pub views : map told_view new.cells ≡ map told_view old.cells
   pub seen : map seen_of new.cells ≡ map seen_of old.cells
+  pub spent : (p : ℕ) → IsSpent new p
 
 -- these tokens are what instance p kept on parameter q since that was last let go of
 abbrev pub HasFresh : Table → ℕ → ℕ → List Token → Type 0

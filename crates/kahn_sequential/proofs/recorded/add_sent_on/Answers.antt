@@ -1,5 +1,4 @@
-use Rattle.std.proofs.Common.{refl}
-use Rattle.kahn_sequential.proofs.Recording.{has_all, stays_so}
+use Rattle.kahn_sequential.proofs.Recording.{stays_so}
 use Rattle.kahn_sequential.proofs.recorded.add_sent_on.Goals as goal
 
 pub returns-then-not-is_inner_of : goal.returns-then-not-is_inner_of

@@ -1,4 +1,4 @@
-use Rattle.std.proofs.Common.{ap, subst, sym}
+use Rattle.std.proofs.Common.{subst, sym}
 use Rattle.kahn_sequential.proofs.Common.{network_of}
 use Rattle.kahn_sequential.specs.inner.Recording.{IsReadByOthers}
 use Rattle.kahn_sequential.proofs.recorded.is_own.Goals as goal

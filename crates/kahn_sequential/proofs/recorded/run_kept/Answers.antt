@@ -1,4 +1,4 @@
-use Rattle.std.proofs.Common.{ℕ, arith, ◌≡◌, ◌+◌, ◌<◌, length, replicate, sym, ap, ◌∙◌, subst, Option, vec_capacity}
+use Rattle.std.proofs.Common.{ℕ, arith, ◌≡◌, ◌+◌, length, replicate, sym, ap, ◌∙◌, subst, Option, vec_capacity}
 use Rattle.kahn_sequential.proofs.Common.{Program, Lists, network_of, nothing_gone, AreStreamsReady, all_events, sight_of}
 use Rattle.kahn_sequential.proofs.Recording.{opened}
 use Rattle.kahn_sequential.specs.inner.FlowBench.{IsPartEnd}

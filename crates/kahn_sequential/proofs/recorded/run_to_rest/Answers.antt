@@ -1,5 +1,5 @@
 use Rattle.std.proofs.Common.{◌+◌, subst, sym}
-use Rattle.kahn_sequential.proofs.Common.{HasComeToRest, IsLast, IsVerdict, all_events, network_of, sight_of}
+use Rattle.kahn_sequential.proofs.Common.{IsLast, IsVerdict, all_events, network_of, sight_of}
 use Rattle.kahn_sequential.proofs.Benched.{within}
 use Rattle.kahn_sequential.specs.inner.Recording.{TakesTurns}
 use Rattle.kahn_sequential.proofs.recorded.run_to_rest.Goals as goal

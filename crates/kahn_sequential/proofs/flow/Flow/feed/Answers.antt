@@ -1,7 +1,7 @@
 use Rattle.std.proofs.Common.{arith, ◌≡◌, ◌+◌, ◌++◌, Bool, true, false, List, [], drop, length, map, slice_get, None, Some, refl, sym, ap, ◌∙◌, subst}
 use Rattle.kahn_sequential.proofs.Common.{err_from_is_err_and, Input, network_of, role_at, Entry, Token, token_value, channel_of, Table, inputs_of, IsMeant, is_watched, meant_input, poured_length, poured_rest, Flowing, HasPouredIn, flow_of}
 use Rattle.kahn_sequential.proofs.Flowed.{flow_stays}
-use Rattle.kahn_sequential.proofs.Noted.{noted_poured}
+use Rattle.kahn_sequential.proofs.Noted.{noted_poured, spent_poured}
 use Rattle.kahn_sequential.proofs.Poured_in.{from_there, is_poured, poured_flow, poured_lent, poured_lists, refused_same}
 use Rattle.kahn_sequential.proofs.flow.Flow.feed.Goals as goal
 
@@ -54,7 +54,7 @@ invariant_of-self-2 c =
     let lent = c.lent_of-lent.ensures in
     let is = ap (λ w. is_watched w number) (sym c.self.invariant.watch) in
     flow_stays c.self.invariant d (ap (λ (x : Table). x.network) h.rest) (ap (λ (x : Table). x.watch) h.rest) h.seen None tt c.wake_at.new.woken
-    (noted_poured b d number vs (poured_lists number vs b.input) (is_poured number vs b.input) h i.woken c.wake_at.new.woken i.ends.items c.self.invariant.noted c.wake_at.ensures) c.lend.new.tokens.items
+    (noted_poured b d number vs (poured_lists number vs b.input) (is_poured number vs b.input) h i.woken c.wake_at.new.woken i.ends.items c.self.invariant.noted c.wake_at.ensures) i.turned (spent_poured b d number (length vs) (poured_lists number vs b.input) h i.turned c.self.invariant.spent) c.lend.new.tokens.items
     (poured_lent b d number vs (poured_lists number vs b.input) (is_poured number vs b.input) h i.given.items c.lend.new.tokens.items c.self.invariant.lent c.lent_of-lent.result.now
     (λ e. lent.all (is ∙ e)) (λ e. lent.none (is ∙ e)) (c.lend.ensures ∙ ap (λ (l : List Token). map token_value l ++ c.lent_of-lent.result.now) c.make_room.ensures.items))
 

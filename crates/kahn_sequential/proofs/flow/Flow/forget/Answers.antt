@@ -1,4 +1,4 @@
-use Rattle.std.proofs.Common.{length, sym, subst, ap}
+use Rattle.std.proofs.Common.{inr, length, sym, subst, ap}
 use Rattle.kahn_sequential.proofs.Common.{AreEnded, Flowing, HasLetGo, Table, flow_of}
 use Rattle.kahn_sequential.proofs.Flowed.{emptied_flow, emptied_state, flow_stays, none_lent}
 use Rattle.kahn_sequential.specs.inner.Noted.{AreNoted}
@@ -11,7 +11,7 @@ invariant_of-self c =
     let h = c.forget.ensures in
     let ended = subst (λ s. AreEnded s i.plan.bound i.budget i.ends.items i.verdict) (sym (emptied_state i.bench d h)) c.self.invariant.ended in
     flow_stays c.self.invariant d (ap (λ (x : Table). x.network) h.rest) (ap (λ (x : Table). x.watch) h.rest) h.seen i.verdict ended i.woken
-    (subst (λ s. AreNoted s i.woken i.ends.items) (sym (emptied_state i.bench d h)) c.self.invariant.noted) c.clear.new.self.items (none_lent d c.clear.new.self.items c.clear.ensures.items)
+    (subst (λ s. AreNoted s i.woken i.ends.items) (sym (emptied_state i.bench d h)) c.self.invariant.noted) c.forget.new.turned (λ known p. inr (h.spent p)) c.clear.new.self.items (none_lent d c.clear.new.self.items c.clear.ensures.items)
 
 pub returns : goal.returns
 returns c =

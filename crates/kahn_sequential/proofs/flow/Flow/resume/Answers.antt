@@ -15,7 +15,7 @@ run_on-part-requires-clause-bound g c =
 pub invariant_of-self : goal.invariant_of-self
 invariant_of-self g c =
     let e = c.run_on-part.ensures in
-    flow_after c.self.invariant c.run_on-part.new.bench e.worked c.args.more c.if-self-more.false c.run_on-part.result e.concluded e.room c.run_on-part.new.woken e.noted
+    flow_after c.self.invariant c.run_on-part.new.bench e.worked c.args.more c.if-self-more.false c.run_on-part.result e.concluded e.room c.run_on-part.new.woken e.noted c.run_on-part.new.turned e.spent
 
 pub returns : goal.returns
 returns g c =

@@ -1,14 +1,20 @@
-use Rattle.std.proofs.Common.{ℕ, Option, arith, rules, ◌≤◌, length, vec_capacity, refl, sym, ◌∙◌, subst}
-use Rattle.kahn_sequential.proofs.Common.{Program, Lists, IsInRange, IsWatched, network_of, inputs_of, AreAllGiven}
+use Rattle.std.proofs.Common.{ℕ, Option, Some, arith, rules, ◌≡◌, ◌≤◌, slice_get, length, vec_capacity, refl, sym, ◌∙◌, subst}
+use Rattle.kahn_sequential.proofs.Common.{Program, Lists, IsInRange, IsWatched, network_of, inputs_of, AreAllGiven, stream_lines}
 use Rattle.kahn_sequential.proofs.Flowed.{all_lent, none_let_go}
 use Rattle.kahn_sequential.proofs.Righted.{events_seen, none_done}
 use Rattle.kahn_sequential.proofs.Giving.{begun_none}
+use Rattle.kahn_sequential.proofs.Named.{line_declared}
+use Rattle.kahn_sequential.specs.inner.Numbers.{HoldNumbers}
 use Rattle.kahn_sequential.proofs.flow.Flow.start.Goals as goal
 
 pub give_watched-requires : goal.give_watched-requires
 give_watched-requires c =
     let I = inputs_of c.args.input in
     record { begun = λ channel e. begun_none (network_of c.args.network.now) I channel (I channel) c.new-given.result.items (search rules) }
+
+pub numbers_of-requires : goal.numbers_of-requires
+numbers_of-requires c j d at =
+    line_declared (network_of c.args.network.now) c.in_ok-plan.plan.watch j d (subst (λ l. slice_get l j ≡ Some d) (c.deref.ensures.value ∙ c.in_ok-lines.ensures) at)
 
 pub invariant_of-result : goal.invariant_of-result
 invariant_of-result c =
@@ -29,6 +35,9 @@ invariant_of-result c =
       enough = subst (λ t. length (network_of t).instances ≤ vec_capacity c.in_ok-ends.ends) (sym e.names.0) c.in_ok-ends.ensures;
       ended = tt;
       noted = λ known. absurd (let unknown = c.in_ok-woken.ensures in cc);
+      spent = λ known. absurd (let unknown = c.in_ok-turned.ensures in cc);
+      numbered = subst (λ (x : Program × Option ℕ). HoldNumbers (network_of x.0) (stream_lines (network_of x.0) x.1) c.in_ok-numbers.numbers.items) (λ i. (sym e.names.0 i, sym e.names.2 i))
+          (subst (λ l. HoldNumbers (network_of c.args.network.now) l c.in_ok-numbers.numbers.items) (c.deref.ensures.value ∙ c.in_ok-lines.ensures) c.in_ok-numbers.ensures);
       lent = all_lent b (length (network_of c.args.network.now).instances) e.whole ts all;
     }
 

@@ -5,22 +5,32 @@ use Rattle.kahn_sequential.proofs.Turns.{advanced_none, moved_on}
 use Rattle.kahn_sequential.proofs.rounds.Driver.settle.Goals as goal
 
 pub loop-init : goal.loop-init
-loop-init g c = record { advanced = advanced_none c.args.round.now c.requires.may (search rules) refl; noted = c.requires.noted }
+loop-init g c = record { advanced = advanced_none c.args.round.now c.requires.may (search rules) refl; noted = c.requires.noted; spent = c.requires.spent }
 
 pub settle_one-requires-clause-may : goal.settle_one-requires-clause-may
 settle_one-requires-clause-may g c = c.loop.invariant.advanced.may
 
 pub settle_one-requires-clause-noted : goal.settle_one-requires-clause-noted
-settle_one-requires-clause-noted g c = noted_but (sight_of c.loop.bench) c.loop.woken c.take.new.self c.in-Some.instance c.loop.round.ends.items c.loop.invariant.noted c.in-Some.ensures
+settle_one-requires-clause-noted g c = noted_but (sight_of c.loop.bench) c.loop.woken c.take.new.self c.in-Some.instance c.loop.round.ends.items c.loop.invariant.noted c.in-Some.ensures.taken
 
 pub returns-in_default-clause-rest : goal.returns-in_default-clause-rest
 returns-in_default-clause-rest g c = λ yes.
     let s = c.is_settled.ensures yes in
-    let t = c.in_default.ensures in
+    let t = c.in_default.ensures.taken in
     all_rest (sight_of c.loop.bench) c.loop.woken c.take.new.self c.loop.round c.loop.invariant.noted (sym t.0 ∙ s.0) t s.1
 
 pub loop-preserved : goal.loop-preserved
 loop-preserved g c = record {
   advanced = moved_on c.loop.invariant.advanced c.settle_one.ensures.advanced;
   noted = c.settle_one.ensures.noted (search rules);
+  spent = c.settle_one.ensures.spent;
 }
+
+pub settle_one-requires-clause-spent : goal.settle_one-requires-clause-spent
+settle_one-requires-clause-spent g c = c.loop.invariant.spent
+
+pub returns-in_default-clause-spent : goal.returns-in_default-clause-spent
+returns-in_default-clause-spent g c = c.loop.invariant.spent
+
+pub returns-clause-spent : goal.returns-clause-spent
+returns-clause-spent g c = c.loop.invariant.spent

@@ -3,11 +3,11 @@ use Rattle.kahn_sequential.proofs.Benched.{within_get}
 use Rattle.kahn_sequential.proofs.Noted.{popped}
 use Rattle.kahn_sequential.proofs.woken.Woken.take.Goals as goal
 
-pub returns-in-Some : goal.returns-in-Some
-returns-in-Some c = (refl, popped c.args.self.now.instances.items c.pop.new.self.items c.in-Some.instance c.in-Some.ensures.items)
+pub returns-in-Some-clause-taken : goal.returns-in-Some-clause-taken
+returns-in-Some-clause-taken c = (refl, popped c.args.self.now.instances.items c.pop.new.self.items c.in-Some.instance c.in-Some.ensures.items)
 
-pub returns-in-None : goal.returns-in-None
-returns-in-None c = (
+pub returns-in-None-clause-taken : goal.returns-in-None-clause-taken
+returns-in-None-clause-taken c = (
   refl,
   λ p w.
       let l = within_get c.args.self.now.instances.items w.0 p w.1 in

@@ -1,0 +1,58 @@
+-- The numbers of the streams that each instance writes.
+use Rattle.std.proofs.Common.{arith, ◌≡◌, ◌⊎◌, inl, inr, ℕ, zero, suc, ◌+◌, ◌<◌, ◌≤◌, List, [], ◌∷◌, ◌++◌, length, refl, sym, ap, ◌∙◌, subst, Some, slice_get, slice_index_or, slice_set}
+use Rattle.std.specs.declared.alloc.Global.{Global}
+use Rattle.std.specs.declared.vec.Vec.{Vec}
+use Rattle.kahn_sequential.proofs.Common.{Line, Network, Written, cases_eq, same_Some, slice_get_read, slice_get_within, source}
+use Rattle.kahn_sequential.proofs.Noted.{at_end, keep}
+use Rattle.kahn_sequential.specs.inner.Numbers.{HoldNumbers, HoldNumbersTo, HasNumber, IsNumberOf}
+
+-- the numbers of one instance more aren't less
+pub each_least : (lists : List (Vec ℕ Global)) (instances : List ℕ) (n r from least next : ℕ) →
+    ((k : ℕ) → k < n → (p : ℕ) → slice_get instances k ≡ Some p → (j : ℕ) → IsNumberOf lists p j → from ≤ j → least ≤ j) → next ≤ least → slice_get instances n ≡ Some r →
+    ((j : ℕ) → IsNumberOf lists r j → from ≤ j → next ≤ j) →
+    (k : ℕ) → k < n + 1 → (p : ℕ) → slice_get instances k ≡ Some p → (j : ℕ) → IsNumberOf lists p j → from ≤ j → next ≤ j
+each_least lists instances n r from least next before few here one k lt p at j is le = by (cases_eq k n)
+  where
+    by : (k ≡ n) ⊎ (k ≡ n → ⊥) → next ≤ j
+    by (inl e) = one j (subst (λ q. IsNumberOf lists q j) (same_Some p r (sym at ∙ ap (slice_get instances) e ∙ here)) is) le
+    by (inr other) = let m = before k (omega (arith, lt, other)) p at j is le in omega (arith, m, few)
+
+-- ---- one number more
+
+module _ (n : ℕ) (v w : Vec ℕ Global) (e : w.items ≡ v.items ++ n ∷ []) where
+  stays : (lists : List (Vec ℕ Global)) (p : ℕ) → slice_get lists p ≡ Some v → (r j : ℕ) → IsNumberOf lists r j → IsNumberOf (slice_set lists p w) r j
+  stays [] p at r j h = absurd cc
+  stays (x ∷ lists) zero at zero j (k, f) =
+      (k, ap (λ l. slice_get l k) e ∙ keep v.items (n ∷ []) k j (subst (λ (u : Vec ℕ Global). slice_get u.items k ≡ Some j) (same_Some x v at) f))
+  stays (x ∷ lists) zero at (suc r) j h = h
+  stays (x ∷ lists) (suc p) at zero j h = h
+  stays (x ∷ lists) (suc p) at (suc r) j h = stays lists p at r j h
+
+  is_there : (lists : List (Vec ℕ Global)) (p : ℕ) → p < length lists → IsNumberOf (slice_set lists p w) p n
+  is_there [] p l = absurd (omega (arith, l))
+  is_there (x ∷ lists) zero l = (length v.items, ap (λ k. slice_get k (length v.items)) e ∙ at_end v.items n)
+  is_there (x ∷ lists) (suc p) l = is_there lists p (omega (arith, l))
+
+  pub one_more : (N : Network) (c : Line) (lists : List (Vec ℕ Global)) (p : ℕ) → p < length lists → v ≡ slice_index_or lists p v → source N c ≡ Written p →
+      HasNumber N c n lists (slice_set lists p w)
+  one_more N c lists p l value is =
+      (stays lists p (slice_get_read lists (length lists) p v refl l value), λ r f. subst (λ k. IsNumberOf (slice_set lists p w) k n) (same p r (sym is ∙ f)) (is_there lists p l))
+    where
+      same : (p r : ℕ) → Written p ≡ Written r → p ≡ r
+      same p r e = cc
+
+pub none_more : (N : Network) (c : Line) (n : ℕ) (lists : List (Vec ℕ Global)) → ((p : ℕ) → source N c ≡ Written p → ⊥) → HasNumber N c n lists lists
+none_more N c n lists none = (λ p j h. h, λ p e. absurd (none p e))
+
+pub numbered_more : (N : Network) (lines : List Line) (n : ℕ) (c : Line) (old new : List (Vec ℕ Global)) → HoldNumbersTo n N lines old → slice_get lines n ≡ Some c →
+    HasNumber N c n old new → HoldNumbersTo (n + 1) N lines new
+numbered_more N lines n c old new before here h p j d lt at is = by (cases_eq j n)
+  where
+    by : (j ≡ n) ⊎ (j ≡ n → ⊥) → IsNumberOf new p j
+    by (inl e) =
+        let same = same_Some c d (sym here ∙ ap (slice_get lines) (sym e) ∙ at) in
+        subst (IsNumberOf new p) (sym e) (h.1 p (ap (source N) same ∙ is))
+    by (inr other) = h.0 p j (before p j d (omega (arith, lt, other)) at is)
+
+pub all_numbered : (N : Network) (lines : List Line) (n : ℕ) (lists : List (Vec ℕ Global)) → length lines ≤ n → HoldNumbersTo n N lines lists → HoldNumbers N lines lists
+all_numbered N lines n lists past h p j c at is = let l = slice_get_within lines j c at in h p j c (omega (arith, l, past)) at is

@@ -1,0 +1,10 @@
+use Rattle.std.proofs.Common.{◌≡◌, length}
+use Rattle.kahn_sequential.proofs.Common.{network_of}
+use Rattle.kahn_sequential.specs.inner.Numbers.{HoldNumbersTo}
+use Rattle.kahn_sequential.proofs.numbers.numbers_of.Given as goal
+
+abbrev pub invariant-loop-number : goal.invariant-loop-number
+invariant-loop-number l = record {
+  count : length l.lists.items ≡ length (network_of l.network).instances;
+  numbers : HoldNumbersTo l.number (network_of l.network) l.lines l.lists.items;
+}

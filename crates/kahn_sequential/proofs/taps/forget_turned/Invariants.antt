@@ -1,0 +1,14 @@
+use Rattle.std.proofs.Common.{length}
+use Rattle.kahn_sequential.proofs.Common.{HaveChanged}
+use Rattle.kahn_sequential.specs.inner.Noted.{AreSpentBut}
+use Rattle.kahn_sequential.specs.inner.Workbench.{IsSameTap}
+use Rattle.kahn_sequential.proofs.taps.forget_turned.Given as goal
+
+abbrev pub invariant-turned : goal.invariant-turned
+invariant-turned l = record {
+  stays : HaveChanged IsSameTap l.fn.taps.items l.taps.items;
+  spent : AreSpentBut l.turned l.taps.items;
+}
+
+abbrev pub decreases-turned : goal.decreases-turned
+decreases-turned l = length l.turned.instances.items
