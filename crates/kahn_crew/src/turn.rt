@@ -14,7 +14,7 @@ use crate::worker::Worker;
 use kahn_board::{Draw, draw_some, rest_dry, rest_over, rest_ready};
 use kahn_code::{Pause, Steps};
 use kahn_job::{Standing, Task};
-use kahn_streams::{Gate, NoMemory};
+use kahn_streams::{Gate, GateEntry, NoMemory, enter_gate};
 use std::sync::ledger::Ledger;
 
 /// How an instance is to be set down.
@@ -59,17 +59,19 @@ fn heed(run: &Run<'_>, worker: &mut Worker, pause: Pause, flushed: Result<(), No
     worker.seat.halt(run.board);
 }
 
-// Runs the task of an instance for at most `drawn` events, and flushes and publishes what it sent. Returns how many events it
-// did. If memory was refused, the run is to stop.
+// Runs the task of an instance, whose gate was entered, for at most `drawn` events, and flushes and publishes what it sent. Returns how
+// many events it did. If memory was refused, the run is to stop.
 fn run_task<L: Ledger>(
     run: &Run<'_>,
     worker: &mut Worker,
     task: &mut Task,
     p: usize,
+    _entry: GateEntry,
     drawn: u64,
     steps: &mut Steps<L>,
 ) -> u64
-    requires { IsAtWork run.now p drawn 0 task.old worker.old.seat }
+    requires gate { _entry.instance ≡ p }
+    requires works { IsAtWork run.now p drawn 0 task.old worker.old.seat }
     ensures same { Heeds worker.old worker.new }
     ensures works { IsAtWork run.now p drawn result task.new worker.new.seat }
     ensures delivered { (worker.new.seat.seat.me.0.seen ≡ 2) ⊎ IsDelivered task.new.work }
@@ -106,14 +108,16 @@ fn rest(run: &Run<'_>, worker: &mut Worker, p: usize, due: Due)
     }
 }
 
-// Runs an instance for at most `drawn` events, and sets it down. Returns how many it did.
+// Runs an instance, whose gate was entered, for at most `drawn` events, and sets it down. Returns how many it did.
 fn spend<L: Ledger>(
     run: &Run<'_>,
     worker: &mut Worker,
     p: usize,
+    entry: GateEntry,
     drawn: u64,
     steps: &mut Steps<L>,
 ) -> u64
+    requires gate { entry.instance ≡ p }
     requires has { HasTask run.now p drawn worker.old.seat }
     requires may { MayBegin run.now drawn worker.old }
     ensures same { Heeds worker.old worker.new }
@@ -121,7 +125,7 @@ fn spend<L: Ledger>(
 {
     let _program = run.network.program();
     let mut boxed = worker.seat.take_cell(run.board, p);
-    let done = run_task(run, worker, &mut boxed.task, p, drawn, steps);
+    let done = run_task(run, worker, &mut boxed.task, p, entry, drawn, steps);
     let due = due_of(run, &boxed.task, p);
     worker.seat.put_back(run.board, p, boxed);
     worker.seat.report_done(run.board, done);
@@ -148,8 +152,7 @@ fn spend_all<G: Gate, L: Ledger>(
     let mut p = first;
     let mut left = drawn;
     loop {
-        gate.enter(p);
-        let done = spend(run, worker, p, left, steps);
+        let done = spend(run, worker, p, enter_gate(gate, p), left, steps);
         left -= done;
         if done == 0 || worker.hints.wanted || left <= run.quantum / 8 * 7 {
             return left;

@@ -1,5 +1,7 @@
 //! What a run passes before it runs a process.
 
+ghost use Rattle.std.specs.Prelude.{◌≡◌};
+
 /// Is entered just before each quantum of an instance. What is answered is right for every gate; a gate that waits
 /// makes the run wait.
 pub trait Gate {
@@ -23,4 +25,18 @@ impl Gate for Open {
     fn is_open(&self) -> bool {
         true
     }
+}
+
+/// That a gate was entered for an instance, which may run for one quantum then. Nothing but `enter_gate` makes one.
+#[derive(Drop)]
+pub struct GateEntry {
+    instance: usize,
+}
+
+/// Enters the gate.
+pub fn enter_gate<G: Gate>(gate: &G, instance: usize) -> GateEntry
+    ensures { result.instance ≡ instance }
+{
+    gate.enter(instance);
+    GateEntry { instance }
 }

@@ -46,7 +46,7 @@ pub use answer::{Answer, End, Outcome, Stream, Verdict};
 pub use config::{Config, MOST_BOUND, MOST_QUANTUM, MOST_WORKERS};
 pub use entries::channel_named;
 pub use feeds::channel_meant;
-pub use gate::{Gate, Open};
+pub use gate::{Gate, GateEntry, Open, enter_gate};
 pub use laws::{fit, served, sources};
 pub use network::{Channel, Network, NetworkInstance, kept};
 pub use numbers::Numbered;

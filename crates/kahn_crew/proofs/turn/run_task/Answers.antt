@@ -25,16 +25,16 @@ going_spent N p dry ready S H (pause.Fault k) o e says halts = absurd cc
 going_spent N p dry ready S H (pause.Dry q) o e says halts = absurd cc
 
 pub run-pause-requires-clause-code : goal.run-pause-requires-clause-code
-run-pause-requires-clause-code g c = let run = c.args.run.now in run.fits.code ∙ sym (in_hand run c.args.p c.args.drawn 0 c.args.task.now c.args.worker.now.seat c.requires).1.0
+run-pause-requires-clause-code g c = let run = c.args.run.now in run.fits.code ∙ sym (in_hand run c.args.p c.args.drawn 0 c.args.task.now c.args.worker.now.seat c.requires.works).1.0
 
 pub run-pause-requires-clause-lent : goal.run-pause-requires-clause-lent
-run-pause-requires-clause-lent g c = is_lent c.args.run.now c.args.p c.args.task.now c.requires.inside c.requires.first
+run-pause-requires-clause-lent g c = is_lent c.args.run.now c.args.p c.args.task.now c.requires.works.inside c.requires.works.first
 
 pub run-pause-requires-clause-events : goal.run-pause-requires-clause-events
-run-pause-requires-clause-events g c = omega (arith, c.requires.events, c.requires.few)
+run-pause-requires-clause-events g c = omega (arith, c.requires.works.events, c.requires.works.few)
 
 pub heed-requires : goal.heed-requires
-heed-requires g c = c.requires.seated
+heed-requires g c = c.requires.works.seated
 
 pub publish_all-requires : goal.publish_all-requires
 publish_all-requires g c =
@@ -47,7 +47,7 @@ publish_all-requires g c =
       works = (
         c.args.drawn,
         z.work.cell.events - x.work.cell.events,
-        went c.args.run.now c.args.p c.args.drawn x y z c.args.worker.now.seat c.heed.new.worker.seat c.requires c.heed.ensures.still c.heed.ensures.same.0 r.continues r.published r.events f.continues f.published f.cell,
+        went c.args.run.now c.args.p c.args.drawn x y z c.args.worker.now.seat c.heed.new.worker.seat c.requires.works c.heed.ensures.still c.heed.ensures.same.0 r.continues r.published r.events f.continues f.published f.cell,
       );
     }
 
@@ -58,7 +58,7 @@ returns-clause-works g c =
     let z = c.flush-flushed.new.self in
     let r = c.run-pause.ensures in
     let f = c.flush-flushed.ensures in
-    let a = went c.args.run.now c.args.p c.args.drawn x y z c.args.worker.now.seat c.heed.new.worker.seat c.requires c.heed.ensures.still c.heed.ensures.same.0 r.continues r.published r.events f.continues f.published f.cell in
+    let a = went c.args.run.now c.args.p c.args.drawn x y z c.args.worker.now.seat c.heed.new.worker.seat c.requires.works c.heed.ensures.still c.heed.ensures.same.0 r.continues r.published r.events f.continues f.published f.cell in
     subst (λ (k : ℕ). IsAtWork c.args.run.now c.args.p c.args.drawn k c.publish_all.new.task c.publish_all.new.worker.seat) (omega (arith, ap (λ (k : Work). k.cell.events) c.publish_all.ensures.task.0, c.events.ensures, c.events-before.ensures))
     (c.publish_all.ensures.works c.args.drawn (z.work.cell.events - x.work.cell.events) a)
 

@@ -5,8 +5,8 @@ use Rattle.kahn_crew.proofs.turn.spend.Goals as goal
 pub take_cell-boxed-requires-clause-held : goal.take_cell-boxed-requires-clause-held
 take_cell-boxed-requires-clause-held g c = let h = c.requires.has.3 in (h.1.mine, (h.0, h.1.slot))
 
-pub run_task-done-requires : goal.run_task-done-requires
-run_task-done-requires g c =
+pub run_task-done-requires-clause-works : goal.run_task-done-requires-clause-works
+run_task-done-requires-clause-works g c =
     let run = c.args.run.now in
     let well = subst IsWellWired run.fits.network c.program-program.ensures.wired in
     let p = c.args.p in
