@@ -22,3 +22,4 @@ pub mod Widths
 pub mod Common
 pub mod Roomy
 pub mod Reach
+pub mod Copies

@@ -1,3 +1,4 @@
+pub mod Copies
 pub mod Gone
 pub mod Tapped
 pub mod Forms
