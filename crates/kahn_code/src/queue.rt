@@ -6,7 +6,7 @@ ghost use Rattle.kahn_code.specs.Lines.{AreFirst, IsFirst, HasMore, Waiting, wai
 ghost use Rattle.std.specs.VecDeque.{deque_len, deque_capacity};
 ghost use Rattle.kahn_code.specs.inner.Gone.{AllBegin, regrown};
 
-use kahn_streams::{About, Carried, Input, Line, Network, NoMemory, Token, Value, Word};
+use kahn_streams::{About, Input, Line, Network, NoMemory, Queued, Token, Value, Word};
 use std::alloc::Allocator;
 use std::collections::VecDeque;
 use std::marker::Model;
@@ -18,7 +18,7 @@ pub struct Queue<A: Allocator> {
     input: About<Input>,
     channel: usize,
     taken: u64,
-    tokens: VecDeque<Carried, A>,
+    tokens: VecDeque<Queued, A>,
 }
 
 impl<A: Allocator> Model for Queue<A> {
@@ -105,7 +105,7 @@ impl<A: Allocator> Queue<A> {
         ensures more { HasMore 1 self.old self.new }
         ensures spare { self.new.spare + 1 ≡ self.old.spare }
     {
-        self.tokens.push_back_reserved(Carried::of(token));
+        self.tokens.push_back_reserved(Queued::of(token));
     }
 
     /// How many tokens wait.

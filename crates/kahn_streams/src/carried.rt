@@ -1,6 +1,6 @@
 //! Tokens in transit.
 //!
-//! In segments, queues and kept lists a token is stored as its value alone: where it is stored gives its line and its
+//! In segments and kept lists a token is stored as its value alone, in nine bytes: where it is stored gives its line and its
 //! place. Contracts see the token, so the one that comes out has the same fact as the one that went in.
 
 ghost use Rattle.std.specs.Prelude.{◌≡◌, ◌<◌, ◌^◌};
