@@ -1,5 +1,5 @@
 -- What is new on the streams, one after another.
-use Rattle.std.proofs.Common.{arith, ◌≡◌, ◌∙◌, ℕ, zero, suc, ◌+◌, ◌<◌, ◌≤◌, List, [], ◌∷◌, ◌++◌, length, map, drop, get_or, add-one, append_assoc, refl, sym, ap, subst, Some}
+use Rattle.std.proofs.Common.{arith, ◌≡◌, ◌∙◌, ℕ, zero, suc, ◌+◌, ◌-◌, ◌<◌, ◌≤◌, append-nil, List, [], ◌∷◌, ◌++◌, length, map, drop, get_or, add-one, append_assoc, refl, sym, ap, subst, Some}
 use Rattle.std.specs.Prelude.{slice_get, slice_index_or}
 use Rattle.std.specs.List.{AllByRecursion}
 use Rattle.kahn_streams.specs.declared.tree.Program.{Program}
@@ -13,6 +13,8 @@ use Rattle.kahn_texts.specs.News.{more_text, news_text}
 use Rattle.kahn_texts.specs.Formats.{IsLine}
 use Rattle.kahn_texts.proofs.Answer_lines.{streamed_lines}
 use Rattle.kahn_session.specs.Forms.{values_behind}
+use Rattle.kahn_session.specs.inner.Kept.{AreStale}
+use Rattle.std.proofs.lemmas.Option.{slice_get-get_or}
 
 -- what is new on one stream
 abbrev pub news_line : Program → HeldRun → List ℕ → ℕ → Line → List ℕ
@@ -49,12 +51,10 @@ news_moved program h lines counts i d all done below e =
     e ∙ ap (λ l. done ++ l) (news_split program h lines counts i d below)
     ∙ sym (append_assoc done (news_line program h counts i (get_or lines i d)) (rest_text program h lines counts (i + 1)))
 
--- of tokens that are new of a stream the values are those behind what was let go of it
-pub values_new : (f : Flowing) (i : ℕ) (c : Line) (ts : List Token) → slice_get (flow_lines f.run) i ≡ Some c → AreNew f c ts →
-    map token_value ts ≡ drop (slice_index_or (map length f.out) i 0) (so_far f.run c)
-values_new f i c ts at new =
-    sym (ap (λ vs. drop (slice_index_or (map length f.out) i 0) vs) (new i at) ∙ ap (λ n. drop n (slice_index_or f.out i [] ++ map token_value ts)) (counted f.out i)
-    ∙ behind (slice_index_or f.out i []) (map token_value ts))
+-- the values behind what was let go of a stream
+pub behind_out : (f : Flowing) (i : ℕ) (c : Line) (news : List Value) → so_far f.run c ≡ slice_index_or f.out i [] ++ news → drop (slice_index_or (map length f.out) i 0) (so_far f.run c) ≡ news
+behind_out f i c news e =
+    ap (λ vs. drop (slice_index_or (map length f.out) i 0) vs) e ∙ ap (λ n. drop n (slice_index_or f.out i [] ++ news)) (counted f.out i) ∙ behind (slice_index_or f.out i []) news
   where
     counted : (outs : List (List Value)) (i : ℕ) → slice_index_or (map length outs) i 0 ≡ length (slice_index_or outs i [])
     counted [] i = refl
@@ -64,6 +64,38 @@ values_new f i c ts at new =
     behind : (vs zs : List Value) → drop (length vs) (vs ++ zs) ≡ zs
     behind [] zs = refl
     behind (v ∷ vs) zs = behind vs zs
+
+-- are those of the tokens that are new of it
+pub values_new : (f : Flowing) (i : ℕ) (c : Line) (ts : List Token) → slice_get (flow_lines f.run) i ≡ Some c → AreNew f c ts →
+    map token_value ts ≡ drop (slice_index_or (map length f.out) i 0) (so_far f.run c)
+values_new f i c ts at new = sym (behind_out f i c (map token_value ts) (new i at))
+
+-- where nothing is new of so many streams, the text is that of those behind them
+pub rest_stale : (program : Program) (f : Flowing) (lines : List Line) (d : Line) → lines ≡ flow_lines f.run → (k from : ℕ) → AreStale f from (from + k) → from + k ≤ length lines →
+    rest_text program f.run lines (map length f.out) from ≡ rest_text program f.run lines (map length f.out) (from + k)
+rest_stale program f lines d is zero from stale few = let e : from ≡ from + 0 = omega arith in ap (rest_text program f.run lines (map length f.out)) e
+rest_stale program f lines d is (suc k) from stale few =
+    let below : from < length lines = omega (arith, few) in
+    let line = get_or lines from d in
+    let at = subst (λ (l : List Line). slice_get l from ≡ Some line) is (slice_get-get_or lines from d below) in
+    let e : suc from + k ≡ from + suc k = omega arith in
+    let old = stale from (omega arith) (omega arith) line at ∙ sym (append-nil (slice_index_or f.out from [])) in
+    split program f.run lines (map length f.out) from d below
+    ∙ ap (λ vs. more_text program line vs ++ rest_text program f.run lines (map length f.out) (suc from)) (behind_out f from line [] old)
+    ∙ rest_stale program f lines d is k (suc from) (λ j a b. stale j (omega (arith, a)) (omega (arith, b))) (omega (arith, few))
+    ∙ ap (rest_text program f.run lines (map length f.out)) e
+
+-- up to one of them, and up to the end
+pub stale_up : (program : Program) (f : Flowing) (lines : List Line) (d : Line) → lines ≡ flow_lines f.run → (from to : ℕ) → from ≤ to → to ≤ length lines → AreStale f from to →
+    rest_text program f.run lines (map length f.out) from ≡ rest_text program f.run lines (map length f.out) to
+stale_up program f lines d is from to le few stale =
+    let e : from + (to - from) ≡ to = omega (arith, le) in
+    rest_stale program f lines d is (to - from) from (λ j a b. stale j a (omega (arith, b, e))) (omega (arith, e, few)) ∙ ap (rest_text program f.run lines (map length f.out)) e
+
+pub nothing_left : (program : Program) (h : HeldRun) (lines : List Line) (counts : List ℕ) → rest_text program h lines counts (length lines) ≡ []
+nothing_left program h [] counts = refl
+nothing_left program h (c ∷ lines) [] = ap (λ l. news_text program (drop (length lines) lines) (values_behind h (drop (length lines) lines) l)) (sym (drop_none (length lines))) ∙ nothing_left program h lines []
+nothing_left program h (c ∷ lines) (n ∷ counts) = nothing_left program h lines counts
 
 pub tokens_new : (program : Program) (f : Flowing) (i : ℕ) (c : Line) (ts : List Token) → slice_get (flow_lines f.run) i ≡ Some c → AreNew f c ts →
     more_text program c (map token_value ts) ≡ news_line program f.run (map length f.out) i c

@@ -1,6 +1,6 @@
 //! What is new on the streams of a run, in the form of a session.
 
-ghost use Rattle.std.specs.Prelude.{◌≡◌, ◌==◌, ◌-◌, [], IfOk, drop, if◌then◌else◌, length, map, nat_lt, slice_get};
+ghost use Rattle.std.specs.Prelude.{◌≡◌, ◌==◌, ◌-◌, ◌<◌, ◌≤◌, [], IfOk, MatchOption, drop, if◌then◌else◌, length, map, nat_lt, slice_get};
 ghost use Rattle.std.specs.List.{list_any};
 ghost use Rattle.kahn_streams.specs.Tokens.{token_value};
 ghost use Rattle.kahn_streams.specs.Written.{Writes, value_text};
@@ -8,7 +8,7 @@ ghost use Rattle.kahn_sequential.specs.Flows.{flow_lines};
 ghost use Rattle.kahn_texts.specs.News.{plain_text};
 ghost use Rattle.kahn_session.specs.Forms.{HasLetGoBehind, are_rows, cell_news, fewest, form_text, is_uneven, news_of, news_on, next_of, row_count, row_news, row_stop, rows_news, waiting_from};
 ghost use Rattle.kahn_session.specs.Live.{OutBegins};
-ghost use Rattle.kahn_session.specs.inner.Kept.{kept_values, lines_text};
+ghost use Rattle.kahn_session.specs.inner.Kept.{AreStale, kept_values, lines_text};
 
 use crate::pace::Paced;
 use itoa::Buffer;
@@ -16,6 +16,17 @@ use kahn_streams::{Carried, Line, Network, NoMemory, Value};
 use kahn_texts::{WriteFault, write_line, write_news, write_plain};
 use std::alloc::Global;
 use std::io::Write;
+
+/// The number of the first stream, from one on and of so many, that may have anything new.
+fn next_stream(run: &Paced<'_>, from: usize, count: usize) -> Option<usize>
+    ensures { MatchOption result (AreStale run.now.flow from count) (λ n. (from ≤ n) × (n < count) × AreStale run.now.flow from n) }
+{
+    let next = run.next_fresh(from);
+    if next >= count {
+        return None;
+    }
+    Some(next)
+}
 
 /// Writes what is new on each stream.
 fn put_news<W: Write>(
@@ -29,8 +40,11 @@ fn put_news<W: Write>(
     ensures { Writes (W.contents writer.old) (W.contents writer.new) result (lines_text network.now run.now.flow lines.now) }
 {
     let _program = network.program();
-    for line in lines {
-        write_news(writer, network, *line, run.fresh(*line))?;
+    let mut from = 0;
+    'streams: while let Some(number) = next_stream(run, from, lines.len()) {
+        let line = lines[number];
+        write_news(writer, network, line, run.fresh(line))?;
+        from = number + 1;
     }
     Ok(())
 }

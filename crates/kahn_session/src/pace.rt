@@ -1,11 +1,11 @@
 //! A run that is fed as it goes, each part of which may take so many events.
 
-ghost use Rattle.std.specs.Prelude.{◌≡◌, ◌↔◌, ℕ, ◌+◌, [], Some, IfErr, IfOk, IsTrue, MatchResult};
+ghost use Rattle.std.specs.Prelude.{◌≡◌, ◌↔◌, ℕ, ◌+◌, ◌≤◌, [], Some, IfErr, IfOk, IsTrue, MatchResult};
 ghost use Rattle.kahn_sequential.specs.HeldRuns.{IsLineOf, IsRightSoFar, IsUnstarted};
 ghost use Rattle.kahn_streams.specs.declared.answer.Verdict.{Verdict as VerdictOf};
 ghost use Rattle.kahn_sequential.specs.Flows.{AreNew, HasFlowed, HasPouredIn, IsUnpoured, flow_lines};
 ghost use Rattle.kahn_session.specs.Forms.{let_go_but, news_on};
-ghost use Rattle.kahn_session.specs.inner.Kept.{kept_values};
+ghost use Rattle.kahn_session.specs.inner.Kept.{AreStale, kept_values};
 ghost use Rattle.kahn_session.specs.Pace.{IsPart, MayBeSlow, events_of, part_bound};
 
 use kahn_sequential::Flow;
@@ -131,6 +131,14 @@ impl<'n> Paced<'n> {
         ensures { AreNew self.now.flow line result.now }
     {
         self.flow.fresh(line)
+    }
+
+    /// A number from this one on: no stream of a number from this one on and below that has anything new.
+    pub(crate) fn next_fresh(&self, from: usize) -> usize
+        ensures from { from ≤ result }
+        ensures stale { AreStale self.now.flow from result }
+    {
+        self.flow.next_fresh(from)
     }
 
     /// Lets go of what there is of each stream, and keeps this of it.

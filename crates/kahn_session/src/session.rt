@@ -1,8 +1,11 @@
 //! Sessions: what a line of input makes of a run, and what goes out after it.
 
-ghost use Rattle.std.specs.Prelude.{◌≡◌, ◌↔◌, ◌&&◌, not, ℕ, Some, false, true, IsTrue, MatchOption, MatchResult, option_copied};
+ghost use Rattle.std.specs.Prelude.{◌≡◌, ◌↔◌, ◌&&◌, not, ℕ, Some, false, map, true, IsTrue, MatchOption, MatchResult, option_copied};
 ghost use Rattle.std.specs.List.{list_any};
 ghost use Rattle.kahn_streams.specs.Network.{network_of};
+ghost use Rattle.kahn_streams.specs.declared.answer.Verdict.{Verdict as VerdictOf};
+ghost use Rattle.kahn_chain.specs.Chain.{AreStandings, stands};
+ghost use Rattle.kahn_sequential.specs.HeldRuns.{IsRightSoFar};
 ghost use Rattle.kahn_texts.specs.Formats.{channel_name};
 ghost use Rattle.kahn_session.specs.Live.{HasOpened, IsClosed, IsDeaf, IsFaulty, IsFirstFault, IsFirstInput, IsMeantLine, IsOtherInput, HasVerdict, IsNamedAt, IsNamedLine, IsRinged, IsStreamOf, IsTakenLine, IsUnfedBy, IsUnopened, breaks, first_faulted, has_left, is_finished, is_input, is_other, is_other_input, waits_on_input, wants_input};
 ghost use Rattle.kahn_session.specs.Pace.{MayBeSlow};
@@ -301,13 +304,22 @@ impl<'n> Session<'n> {
         is_over(verdict, waits)
     }
 
+    /// How each process stands. It is asked only where the session is settled.
+    pub fn ends(&self) -> &[End]
+        requires { HasVerdict self.now }
+        ensures stood { AreStandings (network_of self.now.flow.run.network) (map stands result.now) }
+        ensures right { (v : VerdictOf) → self.now.flow.run.verdict ≡ Some v → IsRightSoFar self.now.flow.run v result.now }
+    {
+        let _program = self.network.program();
+        self.paced.ends()
+    }
+
     /// Whether processes wait on one another in a ring. It is asked only where the session is settled. It takes no memory.
     pub fn has_ring(&self) -> bool
         requires { HasVerdict self.now }
         ensures { IsRinged self.now.flow.run result }
     {
-        let _program = self.network.program();
-        has_ring(self.network, self.paced.ends())
+        has_ring(self.network, self.ends())
     }
 
     /// Whether the next part may take long: each may be of more than a million events, or the last one was of more than ten thousand.

@@ -1,12 +1,12 @@
 -- Inner. What a session and its run keep.
-use Rattle.std.specs.Prelude.{◌≡◌, ℕ, ◌+◌, ◌≤◌, List, Option, length, map}
+use Rattle.std.specs.Prelude.{◌≡◌, ℕ, ◌+◌, ◌<◌, ◌≤◌, List, Option, length, map}
 use Rattle.std.specs.declared.alloc.Global.{Global}
 use Rattle.std.specs.declared.vec.Vec.{Vec}
 use Rattle.kahn_streams.specs.declared.tree.Program.{Program}
 use Rattle.kahn_streams.specs.declared.value.Line.{Line}
 use Rattle.kahn_streams.specs.declared.value.Value.{Value}
 use Rattle.kahn_sequential.specs.HeldRuns.{HeldRun}
-use Rattle.kahn_sequential.specs.Flows.{Flowing, flow_lines}
+use Rattle.kahn_sequential.specs.Flows.{Flowing, IsStale, flow_lines}
 use Rattle.kahn_texts.specs.News.{news_text}
 use Rattle.kahn_session.specs.Forms.{values_behind}
 use Rattle.kahn_session.specs.Live.{IsFirstInput}
@@ -23,6 +23,10 @@ IsPaced h lines allowed step = (lines ≡ flow_lines h) × (allowed ≡ h.bound)
 -- the values that are kept of each stream
 abbrev pub kept_values : List (Vec Value Global) → List (List Value)
 kept_values kept = map (λ v. v.items) kept
+
+-- nothing is new of the streams of the numbers from one on and below another
+abbrev pub AreStale : Flowing → ℕ → ℕ → Type 0
+AreStale f from to = (j : ℕ) → from ≤ j → j < to → IsStale f j
 
 -- the text of what is new on the streams of these lines
 abbrev pub lines_text : Program → Flowing → List Line → List ℕ
