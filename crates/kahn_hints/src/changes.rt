@@ -1,168 +1,61 @@
 //! Which change of one word was perhaps meant: each is tried, and the one that leaves the fewest faults is told.
 
 use crate::declaring::{begin_in, forms_in, undeclared};
-use crate::mending::left_by;
 use crate::names::names_asked;
 use crate::near::nearest;
-use crate::others::{argument_span, first_passed};
+use crate::others::{first_passed, idle_place};
 use crate::place::{
     NetworkPlace, class_of, instance_at, is_called, is_in, seen_in, text_of, word_at,
 };
 use crate::sides::hands;
-use kahn_marks::{Fix, add, part_of};
+use crate::trial::{Edit, EditKind, Trial};
+use kahn_marks::{add, part_of};
 use kahn_streams::{Argument, CheckFault, Direction, Name, NoMemory, Span};
 use kahn_syntax::{Class, Keyword, Lexeme, Sign};
 use std::alloc::{AllocError, Global};
 
-/// The most lexemes of a text in which changes are tried.
-const MOST_LEXEMES: usize = 8192;
-/// The most changes that are tried, and the most bytes that are read for them.
-const MOST_TRIES: usize = 256;
-
-const MOST_READ: usize = 4_000_000;
-
-/// Which change it is.
-#[derive(Clone, Copy)]
-pub(crate) enum EditKind {
-    /// The nearest of the names in sight is put in the place of another.
-    Near,
-    /// Two neighbouring arguments are interchanged.
-    Swap,
-    /// A direction or a kind is another one.
-    Flip,
-    /// A name in sight that nothing uses.
-    Unused,
-    /// Any other name in sight.
-    Used,
-    /// A name that nothing uses is declared as the one that isn't declared.
-    Renamed,
-    /// A declaration of the name is put in.
-    Declared,
-    /// A name stands without its `wait`.
-    Bare,
-}
-
-/// A change that leaves fewer faults.
-#[derive(Drop)]
-pub(crate) struct Edit {
-    pub(crate) way: EditKind,
-    pub(crate) fix: Fix,
-    /// Two parts that are interchanged.
-    pub(crate) parts: (Span, Span),
-    /// How many faults it leaves.
-    pub(crate) left: usize,
-    /// Whether another name leaves as few.
-    is_one_of: bool,
-}
-
-/// How many changes are tried in a text.
-pub(crate) fn tries_of(text: &str, lexemes: &[Lexeme]) -> usize {
-    if lexemes.len() > MOST_LEXEMES {
-        return 0;
-    }
-    match MOST_READ.checked_div(text.len()) {
-        Some(tries) => tries.min(MOST_TRIES),
-        None => 0,
-    }
-}
-
-/// The better of two changes: the one that leaves fewer faults, or else the first, but for a name that nothing uses.
-fn better(best: Option<Edit>, change: Edit) -> Edit {
-    let Some(best) = best else {
-        return change;
-    };
-    if change.left != best.left {
-        return if change.left < best.left {
-            change
-        } else {
-            best
-        };
-    }
-    let is_another = match (change.way, best.way) {
-        (EditKind::Declared, _) if best.is_one_of => return change,
-        (EditKind::Unused, EditKind::Used | EditKind::Bare) => return change,
-        (EditKind::Renamed, EditKind::Renamed) => true,
-        (EditKind::Unused, EditKind::Unused) | (EditKind::Used, EditKind::Used) => {
-            change.fix.put.as_bytes() != best.fix.put.as_bytes()
-        }
-        _ => false,
-    };
-    let mut best = best;
-    best.is_one_of = best.is_one_of || is_another;
-    best
-}
-
-/// The changes that are tried for a fault, one after another.
-#[derive(Drop)]
-struct Trial<'p> {
-    alloc: Global,
-    place: NetworkPlace<'p>,
-    /// All faults of the text.
-    faults: &'p [CheckFault],
-    /// How many may be tried yet.
-    tries: usize,
-    /// The best so far.
-    best: Option<Edit>,
-}
-
 impl<'p> Trial<'p> {
-    /// Tries these pieces in the place of what stands from the first part to the second, or behind that, if some change may be tried yet.
-    fn put(&mut self, way: EditKind, parts: (Span, Span), pieces: &[&str]) -> Result<(), NoMemory> {
-        let Some(rest) = self.tries.checked_sub(1) else {
-            return Ok(());
-        };
-        self.tries = rest;
-        let (first, last) = parts;
-        let from = match way {
-            EditKind::Declared => last.to,
-            _ => first.from,
-        };
-        let mut put = String::new(self.alloc);
-        add(&mut put, pieces)?;
-        let fix = Fix {
-            span: Span { from, to: last.to },
-            put,
-            beside: last,
-        };
-        if let Some(left) = left_by(self.alloc, self.place.text, self.faults, &fix)? {
-            let change = Edit {
-                way,
-                fix,
-                parts,
-                left,
-                is_one_of: false,
-            };
-            self.best = Some(better(self.best.take(), change));
+    /// A truth value for a number.
+    fn with_literal(&mut self) -> Result<(), NoMemory> {
+        let at = self.place.at;
+        match part_of(self.place.text, at) {
+            "0" => self.put_one(EditKind::Near, at, "false"),
+            "1" => self.put_one(EditKind::Near, at, "true"),
+            _ => Ok(()),
         }
-        Ok(())
     }
 
-    /// Tries this in the place of one part.
-    fn put_one(&mut self, way: EditKind, at: Span, put: &str) -> Result<(), NoMemory> {
-        self.put(way, (at, at), &[put])
-    }
-
-    /// Two neighbouring ones of some arguments interchanged.
-    fn with_swaps(&mut self, arguments: &[Argument]) -> Result<(), NoMemory> {
-        let text = self.place.text;
-        let mut before: Option<Span> = None;
-        for argument in arguments {
-            let last = argument_span(argument);
-            if let Some(first) = before {
-                let between = Span {
-                    from: first.to,
-                    to: last.from,
-                };
-                let pieces = [
-                    part_of(text, last),
-                    part_of(text, between),
-                    part_of(text, first),
-                ];
-                self.put(EditKind::Swap, (first, last), &pieces)?;
+    /// The name at the place and the one behind its `on` interchanged.
+    fn with_target(&mut self) -> Result<(), NoMemory> {
+        let place = self.place;
+        let on = class_of(place.lexemes, place.number.checked_add(1));
+        match (on, place.lexemes.get(place.number.saturating_add(2))) {
+            (Some(Class::Word(Keyword::On)), Some(target)) => {
+                self.with_swap(EditKind::Swap, place.at, target.span)
             }
-            before = Some(last);
+            _ => Ok(()),
         }
-        Ok(())
+    }
+
+    /// A role in the declaration of the channel at the place.
+    fn with_role(&mut self, role: &str, direction: Direction) -> Result<(), NoMemory> {
+        let place = self.place;
+        if idle_place(place, direction).is_some() {
+            return Ok(());
+        }
+        let mut kind: Option<Span> = None;
+        for lexeme in place.lexemes.get(..place.number).unwrap_or(&[]) {
+            if matches!(
+                lexeme.what,
+                Class::Word(Keyword::Integer | Keyword::Logical)
+            ) {
+                kind = Some(lexeme.span);
+            }
+        }
+        match kind {
+            Some(kind) => self.put(EditKind::Role, (kind, kind), &[role]),
+            None => Ok(()),
+        }
     }
 
     /// Other directions, kinds and roles, in a part and of the channels that are arguments.
@@ -172,6 +65,7 @@ impl<'p> Trial<'p> {
         part: Span,
         arguments: &[Argument],
     ) -> Result<(), NoMemory> {
+        let mut before: Option<Lexeme> = None;
         for (number, lexeme) in place.lexemes.iter().enumerate() {
             let words = flipped(lexeme.what);
             let is_tried = self.tries > 0 && !words.is_empty();
@@ -179,6 +73,17 @@ impl<'p> Trial<'p> {
                 for put in words {
                     self.put_one(EditKind::Flip, lexeme.span, put)?;
                 }
+            }
+            if is_in(part, lexeme.span)
+                && matches!(lexeme.what, Class::Word(Keyword::In | Keyword::Out))
+            {
+                match before {
+                    Some(first) if first.what != lexeme.what => {
+                        self.with_swap(EditKind::Moved, first.span, lexeme.span)?;
+                    }
+                    _ => {}
+                }
+                before = Some(*lexeme);
             }
         }
         Ok(())
@@ -205,8 +110,12 @@ impl<'p> Trial<'p> {
                 self.put_one(EditKind::Renamed, name.span, part_of(place.text, place.at))?;
             }
         }
-        if near.is_none() {
-            return self.with_declared();
+        if near.is_some() {
+            return Ok(());
+        }
+        self.with_declared()?;
+        if place.process.is_none() {
+            return self.with_names(None);
         }
         Ok(())
     }
@@ -293,15 +202,15 @@ impl<'p> Trial<'p> {
         if is_of_names(place, fault) {
             self.with_names(first)?;
         }
-        Ok(())
+        self.with_moves(arguments)
     }
 }
 
-/// The other direction, or the other kind; the other role, or none.
+/// The other direction or role, or none; the other kind.
 fn flipped(class: Class) -> &'static [&'static str] {
     match class {
-        Class::Word(Keyword::In) => &["out"],
-        Class::Word(Keyword::Out) => &["in"],
+        Class::Word(Keyword::In) => &["out", ""],
+        Class::Word(Keyword::Out) => &["in", ""],
         Class::Word(Keyword::Integer) => &["logical"],
         Class::Word(Keyword::Logical) => &["integer"],
         Class::Word(Keyword::Input) => &["output", ""],
@@ -420,7 +329,13 @@ pub(crate) fn change_for(
         CheckFault::WrongKind(_)
         | CheckFault::ValueExpected(_)
         | CheckFault::TwoWriters(_)
-        | CheckFault::TwoReaders(_) => trial.with_others(fault)?,
+        | CheckFault::TwoReaders(_) => {
+            trial.with_literal()?;
+            trial.with_target()?;
+            trial.with_others(fault)?;
+        }
+        CheckFault::NoWriter(_) => trial.with_role("input", Direction::Out)?,
+        CheckFault::NoReader(_) => trial.with_role("output", Direction::In)?,
         _ => {}
     }
     *tries = trial.tries;
@@ -433,13 +348,16 @@ pub(crate) fn change_for(
 
 /// Whether a change declares a channel and leaves a fault: as long as there is one, nothing is known of its sides.
 fn is_unsure(place: NetworkPlace, change: &Edit) -> bool {
-    matches!(change.way, EditKind::Declared) && place.process.is_none() && change.left > 0
+    matches!(change.way, EditKind::Declared | EditKind::Role)
+        && place.process.is_none()
+        && change.left > 0
 }
 
 /// Whether a change is told apart from the words of a fault at a place: it is made elsewhere.
 pub(crate) fn is_elsewhere(change: &Edit, at: Span) -> bool {
     match change.way {
         EditKind::Flip | EditKind::Renamed | EditKind::Declared | EditKind::Bare => true,
+        EditKind::Moved | EditKind::Role => true,
         EditKind::Unused | EditKind::Used => change.fix.span.from != at.from,
         EditKind::Near | EditKind::Swap => false,
     }

@@ -15,6 +15,7 @@ mod place;
 mod said;
 mod sides;
 mod sight;
+mod trial;
 
 pub use near::one_nearest;
 

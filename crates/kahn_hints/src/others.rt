@@ -8,7 +8,7 @@ use kahn_streams::{Argument, CheckFault, Direction, Name, Process, Program, Span
 use std::alloc::{AllocError, Global};
 
 /// Another place, and what is said of it.
-type Second = Option<(Span, &'static str)>;
+pub(crate) type Second = Option<(Span, &'static str)>;
 
 /// Where the first of the names of a process, or of the program where there is none, is declared with the letters at a place.
 fn declared(
@@ -93,7 +93,7 @@ fn taken_before(
 }
 
 /// Where the first process without an instance is declared that takes the channel at a place in a direction.
-fn idle_place(place: NetworkPlace, direction: Direction) -> Second {
+pub(crate) fn idle_place(place: NetworkPlace, direction: Direction) -> Second {
     let (kind, _) = channel_called(place.program, place.word())?;
     let process = idle_process(place.program, direction, kind)?;
     Some((process.name.span, "this process has no instance"))

@@ -14,13 +14,14 @@ use Rattle.kahn_marks.specs.declared.rendering.Note.{Note}
 use Rattle.kahn_marks.specs.declared.rendering.Other.{Other}
 use Rattle.kahn_marks.specs.declared.rendering.Sort.TheVariants.{Error}
 use Rattle.kahn_inputs.specs.Fitting.{AreAllFit, IsUnfit, colon_at, lack_of, lack_span, moved_by, line_name, name_span}
+use Rattle.kahn_inputs.specs.Meant.{AreMeantLines}
 use Rattle.kahn_inputs.specs.Seeking.{IsFirstNamed, IsFound, IsNamedNowhere, IsUnfound}
 use Rattle.kahn_inputs.specs.declared.seeking.LineKind.{LineKind}
 use Rattle.kahn_inputs.specs.declared.seeking.LineKind.TheVariants.{Blank, Entry, NoHead, NoValues}
 
--- a note on a part of the line that begins at byte `from`
-abbrev pub IsPartNote : ℕ → Span → Note → Type 0
-IsPartNote from span note = (note.sort ≡ Error) × (note.span ≡ moved_by from span)
+-- a note on a part of the line that begins at byte `from`; below stands what was perhaps meant
+abbrev pub IsPartNote : Program → ℕ → Span → Note → Type 0
+IsPartNote t from span note = (note.sort ≡ Error) × (note.span ≡ moved_by from span) × AreMeantLines t note.below.items
 
 -- where a line goes wrong that doesn't begin with a name and a colon
 abbrev pub lack_place : List ℕ → Span
@@ -37,8 +38,8 @@ IsUnfitSpan asked line span =
     ⊎ (AreAllFit asked (drop (rest_from line) line) × (span ≡ name_span line))
 
 -- of a line with what is no value
-abbrev pub IsValueNote : ℕ → List ℕ → Note → Type 0
-IsValueNote from line note = (span : Span) × IsUnfitSpan None line span × IsPartNote from span note
+abbrev pub IsValueNote : Program → ℕ → List ℕ → Note → Type 0
+IsValueNote t from line note = (span : Span) × IsUnfitSpan None line span × IsPartNote t from span note
 
 -- the kind of the channel of that name, where a channel has it
 abbrev pub IsKindFor : Program → List ℕ → Option Kind → Type 0
@@ -58,7 +59,7 @@ AreFirstGiven text name fault others = others ≡ []
 -- of an entry that is refused
 abbrev pub IsEntryNote : Program → List ℕ → ℕ → List ℕ → InputFault → Note → Type 0
 IsEntryNote t text from line fault note = (kind : Option Kind) × (span : Span)
-    × IsKindFor t (line_name line) kind × IsEntrySpan line kind fault span × IsPartNote from span note × AreFirstGiven text (line_name line) fault note.others.items
+    × IsKindFor t (line_name line) kind × IsEntrySpan line kind fault span × IsPartNote t from span note × AreFirstGiven text (line_name line) fault note.others.items
 
 -- the note on a line, by what it is; on an entry where a fault of it is told
 abbrev pub IsFaultNote : Program → List ℕ → Option InputFault → ℕ → List ℕ → Note → Type 0
@@ -68,8 +69,8 @@ IsFaultNote t text (Some fault) from line note = IsEntryNote t text from line fa
 abbrev pub IsLineNote : Program → List ℕ → Option InputFault → ℕ → List ℕ → LineKind → Note → Type 0
 IsLineNote t text fault from line Blank note = ⊥
 IsLineNote t text fault from line Entry note = IsFaultNote t text fault from line note
-IsLineNote t text fault from line NoHead note = IsPartNote from (lack_place line) note
-IsLineNote t text fault from line NoValues note = IsValueNote from line note
+IsLineNote t text fault from line NoHead note = IsPartNote t from (lack_place line) note
+IsLineNote t text fault from line NoValues note = IsValueNote t from line note
 
 -- the note on the entry of this number, or on a line before it that is neither blank nor an entry
 abbrev pub IsFoundNote : Program → List ℕ → Option InputFault → ℕ → Option Note → Type 0

@@ -7,10 +7,11 @@ use crate::fitting::{
     Lack, behind, colon_at, first_unfit, lack_of, lack_span, line_name, moved_by, name_span,
     part_of,
 };
+use crate::meant::meant_lines;
 use crate::seeking::{FoundLine, LineKind, find_line, first_named};
 use crate::strange::{NO_COMMENTS, is_number, no_comment_words, numeral_words, strange_words};
 use kahn_hints::{add_inputs, add_unknown_input};
-use kahn_marks::{Note, Other, Sort, add, simple};
+use kahn_marks::{Note, Other, Sort, add};
 use kahn_streams::{InputFault, Kind, Network, NoMemory, Span, channel_named};
 use kahn_texts::TextFault;
 use std::alloc::{AllocError, Global};
@@ -49,27 +50,30 @@ fn kinds_words(kind: Option<Kind>) -> &'static str {
     }
 }
 
-/// A note on a part of a line of a text.
+/// A note on a part of a line of a text, with what was perhaps meant by all of the text.
 fn part_note(
     alloc: Global,
-    _text: &str,
+    network: &Network,
+    text: &str,
     found: FoundLine<'_>,
     span: Span,
     words: &[&str],
-) -> Result<Note, AllocError>
-    requires line { found.from + length found.line.now ≤ length _text.now }
+) -> Result<Note, NoMemory>
+    requires line { found.from + length found.line.now ≤ length text.now }
     requires order { span.from ≤ span.to }
     requires within { span.to ≤ length found.line.now }
-    ensures { IfOk result (IsPartNote found.entry.from span) }
+    ensures { IfOk result (IsPartNote network.now found.entry.from span) }
 {
     let mut told = String::new(alloc);
     add(&mut told, words)?;
-    simple(
-        alloc,
-        Sort::Error,
-        moved_by(found.from, span),
-        told.as_str(),
-    )
+    Ok(Note {
+        sort: Sort::Error,
+        span: moved_by(found.from, span),
+        words: told,
+        fix: None,
+        below: meant_lines(alloc, network, text)?,
+        others: Vec::new(alloc),
+    })
 }
 
 /// What more is said of it, by its name and the part that is at fault.
@@ -85,16 +89,22 @@ fn lack_more(line: &[u8], lack: Lack, part: &[u8]) -> &'static str {
 }
 
 /// The note on a line that doesn't begin with a name and a colon.
-fn lack_note(alloc: Global, text: &str, found: FoundLine<'_>) -> Result<Note, AllocError>
+fn lack_note(
+    alloc: Global,
+    network: &Network,
+    text: &str,
+    found: FoundLine<'_>,
+) -> Result<Note, NoMemory>
     requires { found.from + length found.line.now ≤ length text.now }
-    ensures { IfOk result (IsPartNote found.entry.from (lack_place found.entry.line.now)) }
+    ensures { IfOk result (IsPartNote network.now found.entry.from (lack_place found.entry.line.now)) }
 {
     let lack = lack_of(found.line);
     let span = lack_span(found.line, lack);
     let part = part_of(found.line, span);
     let strange = strange_words(found.from + span.from, part);
     let more = lack_more(found.line, lack, part);
-    part_note(alloc, text, found, span, &[lack_words(lack), more, strange])
+    let words = [lack_words(lack), more, strange];
+    part_note(alloc, network, text, found, span, &words)
 }
 
 /// Where what stands behind the colon begins.
@@ -119,9 +129,14 @@ pub(crate) fn unfit_span(asked: Option<Kind>, line: &[u8]) -> Span
 }
 
 /// The note on a line with what is no value.
-fn value_note(alloc: Global, text: &str, found: FoundLine<'_>) -> Result<Note, AllocError>
+fn value_note(
+    alloc: Global,
+    network: &Network,
+    text: &str,
+    found: FoundLine<'_>,
+) -> Result<Note, NoMemory>
     requires { found.from + length found.line.now ≤ length text.now }
-    ensures { IfOk result (IsValueNote found.entry.from found.entry.line.now) }
+    ensures { IfOk result (IsValueNote network.now found.entry.from found.entry.line.now) }
 {
     let span = unfit_span(None, found.line);
     let part = part_of(found.line, span);
@@ -131,7 +146,14 @@ fn value_note(alloc: Global, text: &str, found: FoundLine<'_>) -> Result<Note, A
     } else {
         numeral_words(part)
     };
-    part_note(alloc, text, found, span, &[NO_VALUE, more, strange])
+    part_note(
+        alloc,
+        network,
+        text,
+        found,
+        span,
+        &[NO_VALUE, more, strange],
+    )
 }
 
 /// The kind of the channel of that name, where a channel has it.
@@ -208,7 +230,7 @@ fn entry_note(
     text: &str,
     found: FoundLine<'_>,
     fault: InputFault,
-) -> Result<Note, AllocError>
+) -> Result<Note, NoMemory>
     requires { found.from + length found.line.now ≤ length text.now }
     ensures { IfOk result (IsEntryNote network.now text.now found.entry.from found.entry.line.now fault) }
 {
@@ -217,7 +239,7 @@ fn entry_note(
     let words = entry_text(alloc, network, name, kind, fault)?;
     let span = entry_span(found.line, kind, fault);
     let others = given_first(alloc, text, name, fault)?;
-    let mut note = part_note(alloc, text, found, span, &[words.as_str()])?;
+    let mut note = part_note(alloc, network, text, found, span, &[words.as_str()])?;
     note.others = others;
     Ok(note)
 }
@@ -242,8 +264,8 @@ fn found_note(
         (LineKind::Entry, Some(fault)) => {
             Ok(Some(entry_note(alloc, network, text, found, fault)?))
         }
-        (LineKind::NoHead, _) => Ok(Some(lack_note(alloc, text, found)?)),
-        (LineKind::NoValues, _) => Ok(Some(value_note(alloc, text, found)?)),
+        (LineKind::NoHead, _) => Ok(Some(lack_note(alloc, network, text, found)?)),
+        (LineKind::NoValues, _) => Ok(Some(value_note(alloc, network, text, found)?)),
     }
 }
 

@@ -4,6 +4,7 @@
 mod feeding;
 mod fitting;
 mod laws;
+mod meant;
 mod refused;
 mod seeking;
 mod strange;

@@ -5,46 +5,31 @@ use crate::fitting::behind;
 /// What is said of what begins as a comment of the language or of others does.
 pub(crate) const NO_COMMENTS: &str = "; an input has no comments";
 
-/// How comments begin.
-const COMMENTS: [(&str, &str); 2] = [("#", NO_COMMENTS), ("//", NO_COMMENTS)];
-
-const BARE: &str = "; values stand without brackets and quotation marks";
-
-/// How lists and texts of other languages do.
-const BRACKETS: [(&str, &str); 5] = [
-    ("[", BARE),
-    ("(", BARE),
-    ("{", BARE),
-    ("\"", BARE),
-    ("'", BARE),
-];
-
 /// Characters that look like blanks and are none, and the mark of byte order.
-const STRANGE: [(&str, &str); 7] = [
-    ("\u{FEFF}", "; in it stands a byte order mark (EF BB BF)"),
-    ("\u{00A0}", "; in it stands a no-break space (U+00A0)"),
-    (
-        "\u{202F}",
-        "; in it stands a narrow no-break space (U+202F)",
-    ),
-    ("\u{2009}", "; in it stands a thin space (U+2009)"),
-    ("\u{200B}", "; in it stands a zero width space (U+200B)"),
-    ("\u{3000}", "; in it stands an ideographic space (U+3000)"),
-    ("\r", "; in it stands a carriage return (U+000D)"),
-];
+const STRANGE: &str = "
+\u{FEFF} | ; in it stands a byte order mark (EF BB BF)
+\u{00A0} | ; in it stands a no-break space (U+00A0)
+\u{202F} | ; in it stands a narrow no-break space (U+202F)
+\u{2009} | ; in it stands a thin space (U+2009)
+\u{200B} | ; in it stands a zero width space (U+200B)
+\u{3000} | ; in it stands an ideographic space (U+3000)
+\r | ; in it stands a carriage return (U+000D)
+";
 
-/// What stands in words that are no values.
-const WITHIN: [(&str, &str); 3] = [
-    (",", "; blanks stand between values"),
-    (";", "; blanks stand between values"),
-    (".", "; numbers are whole"),
-];
+/// What stands at the front of words that are no values.
+const FRONTS: &str = "
+# // | ; an input has no comments
+[ ( { \" ' | ; values stand without brackets and quotation marks
+";
 
-/// What stands at the front of others.
-const FRONTS: [(&str, &str); 2] = [
-    ("+", "; a number has no `+`"),
-    ("0x", "; numbers are decimal"),
-];
+/// What stands in others.
+const WITHIN: &str = "
+.. | ; there are no ranges: each value stands there itself
+, ; | ; blanks stand between values
+. | ; numbers are whole
++ | ; a number has no `+`
+0x | ; numbers are decimal
+";
 
 /// Whether this stands somewhere in a part.
 pub(crate) fn stands_in(text: &str, part: &[u8]) -> bool {
@@ -56,21 +41,15 @@ pub(crate) fn stands_in(text: &str, part: &[u8]) -> bool {
     false
 }
 
-/// What a table says of the first of its texts that stands in a part.
-fn words_within(table: &[(&'static str, &'static str)], part: &[u8]) -> &'static str {
-    for (text, words) in table {
-        if stands_in(text, part) {
-            return words;
-        }
-    }
-    ""
-}
-
-/// What a table says of the first of its texts that stands at the front of a part.
-fn words_at(table: &[(&'static str, &'static str)], part: &[u8]) -> &'static str {
-    for (text, words) in table {
-        if part.starts_with(text.as_bytes()) {
-            return words;
+/// What a table says of the first of its texts that stands at the front of a part, or somewhere in it.
+fn words_of(table: &'static str, part: &[u8], anywhere: bool) -> &'static str {
+    for row in table.lines() {
+        let (keys, words) = row.split_once(" | ").unwrap_or(("", ""));
+        for key in keys.split(" ") {
+            let is_there = part.starts_with(key.as_bytes()) || (anywhere && stands_in(key, part));
+            if !key.is_empty() && is_there {
+                return words;
+            }
         }
     }
     ""
@@ -81,7 +60,7 @@ pub(crate) fn strange_words(at: usize, part: &[u8]) -> &'static str {
     if at == 0 && part.starts_with(b"\xEF\xBB\xBF") {
         return "; a byte order mark (EF BB BF) stands before the first line";
     }
-    words_within(&STRANGE, part)
+    words_of(STRANGE, part, true)
 }
 
 /// Whether it is digits, and a sign before them or none.
@@ -92,14 +71,15 @@ pub(crate) fn is_number(part: &[u8]) -> bool {
 
 /// What is said of a part that begins as a comment of other languages does.
 pub(crate) fn no_comment_words(part: &[u8]) -> &'static str {
-    words_at(&COMMENTS, part)
+    if part.starts_with(b"#") || part.starts_with(b"//") {
+        return NO_COMMENTS;
+    }
+    ""
 }
 
 /// What is said of a word that is no value.
 pub(crate) fn numeral_words(part: &[u8]) -> &'static str {
-    let front = words_or(no_comment_words(part), words_at(&BRACKETS, part));
-    let first = words_or(front, words_within(&WITHIN, part));
-    let words = words_or(first, words_at(&FRONTS, part));
+    let words = words_or(words_of(FRONTS, part, false), words_of(WITHIN, part, true));
     match part {
         _ if !words.is_empty() => words,
         b"-" => "; a `-` stands right before its digits",

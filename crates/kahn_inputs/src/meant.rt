@@ -1,0 +1,267 @@
+//! What an input text was perhaps meant to be: lists, tables and ranges of other languages, read as entries.
+
+ghost use Rattle.std.specs.Prelude.{◌≡◌, IfOk, string_bytes};
+ghost use Rattle.kahn_inputs.specs.Meant.{AreMeantLines, joined_lines};
+
+use itoa::Buffer;
+use kahn_marks::{add, is_within};
+use kahn_streams::{Kind, Network, NoMemory, Role};
+use kahn_texts::{TextFault, read_input};
+use std::alloc::{AllocError, Global};
+
+/// The most bytes of a text that is read so, and the most values of a range.
+const MOST_BYTES: usize = 1024;
+
+const MOST_OF_RANGE: i64 = 64;
+
+/// What stands between names and values, and what follows on a name.
+const BETWEEN: &[u8] = b" \t,;|[](){}\"'";
+
+const BEHIND_NAMES: &[u8] = b":=";
+
+/// Words that say nothing here.
+const IDLE: &str = "integer logical input channel";
+
+/// How truth values are written.
+const TRUE: &str = "true yes on t y 1";
+
+const FALSE: &str = "false no off f n 0";
+
+/// Whether a word is one of some, in any letter case.
+fn is_one_of(words: &str, word: &str) -> bool {
+    words
+        .split_whitespace()
+        .any(|one| one.eq_ignore_ascii_case(word))
+}
+
+/// The number that a word spells: also behind a `+`, or before a fraction of zeros.
+fn whole_number(word: &str) -> Option<i64> {
+    let bare = word.strip_prefix("+").unwrap_or(word);
+    let (digits, fraction) = bare.split_once(".").unwrap_or((bare, ""));
+    let is_plain = digits == "0" || digits.strip_prefix("0").is_none();
+    match fraction {
+        "" | "0" | "00" if is_plain => digits.parse::<i64>().ok(),
+        _ => None,
+    }
+}
+
+/// The input channel of these letters, or else of letters that differ in their case alone.
+fn input_called(network: &Network, word: &str) -> Option<usize> {
+    let mut found = None;
+    for number in 0..network.channels() {
+        let channel = network.channel(number);
+        if matches!(channel.role, Role::Input) && channel.name.eq_ignore_ascii_case(word) {
+            if channel.name == word {
+                return Some(number);
+            }
+            found = found.or(Some(number));
+        }
+    }
+    found
+}
+
+/// Adds a number behind a blank.
+fn add_number(line: &mut String, number: i64) -> Result<(), AllocError> {
+    let mut digits = Buffer::new();
+    add(line, &[" ", digits.format(number)])
+}
+
+/// What was read of a text.
+#[derive(Drop)]
+struct Reading<'n> {
+    alloc: Global,
+    network: &'n Network,
+    /// The channels that have entries, with their kinds, and the lines of these.
+    channels: Vec<(usize, Kind)>,
+    lines: Vec<String>,
+    /// The entries that the next values are for, in turn.
+    columns: Vec<usize>,
+    /// How many values were read for these.
+    count: usize,
+    /// Whether another name stands beside theirs, as in the first line of a table.
+    is_head: bool,
+    /// The last number.
+    last: i64,
+    /// Whether numbers up to the next one are meant.
+    is_range: bool,
+}
+
+impl<'n> Reading<'n> {
+    /// Reads the name of a channel.
+    fn name(&mut self, channel: usize) -> Result<(), AllocError> {
+        if !self.is_head {
+            self.columns.clear();
+        }
+        self.is_head = true;
+        self.count = 0;
+        let known = self.channels.iter().position(|known| known.0 == channel);
+        let number = known.unwrap_or(self.lines.len());
+        if known.is_none() && channel < self.network.channels() {
+            let of = self.network.channel(channel);
+            let mut line = String::from_str(self.alloc, of.name)?;
+            line.push_str(":")?;
+            self.channels.push((channel, of.kind))?;
+            self.lines.push(line)?;
+        }
+        self.columns.push(number)?;
+        Ok(())
+    }
+
+    /// Reads a value; answers whether it is one.
+    fn value(&mut self, word: &str) -> Result<bool, AllocError> {
+        let turn = self.count.checked_rem(self.columns.len()).unwrap_or(0);
+        self.count = self.count.saturating_add(1);
+        self.is_head = false;
+        let column = self.columns.get(turn).copied().unwrap_or(self.lines.len());
+        let (Some((_, kind)), Some(line)) = (
+            self.channels.get(column).copied(),
+            self.lines.get_mut(column),
+        ) else {
+            return Ok(false);
+        };
+        if let Kind::Logical = kind {
+            let is_true = is_one_of(TRUE, word) || is_within(word.as_bytes(), b"true", 1);
+            let put = if is_true { " true" } else { " false" };
+            line.push_str(put)?;
+            return Ok(is_true || is_one_of(FALSE, word) || is_within(word.as_bytes(), b"false", 1));
+        }
+        let Some(number) = whole_number(word) else {
+            return Ok(false);
+        };
+        if self.is_range {
+            let first = self.last.saturating_add(1);
+            if number < first || MOST_OF_RANGE < number.saturating_sub(first) {
+                return Ok(false);
+            }
+            for between in first..number {
+                add_number(line, between)?;
+            }
+        }
+        self.is_range = false;
+        self.last = number;
+        add_number(line, number)?;
+        Ok(true)
+    }
+
+    /// Reads a word; answers whether it is understood.
+    fn word(&mut self, word: &str) -> Result<bool, AllocError> {
+        if word.is_empty() || is_one_of(IDLE, word) {
+            return Ok(true);
+        }
+        if let Some(channel) = input_called(self.network, word) {
+            self.name(channel)?;
+            return Ok(!self.is_range);
+        }
+        let Some((first, rest)) = word.split_once("..") else {
+            return self.value(word);
+        };
+        let last = rest.strip_prefix(".").unwrap_or(rest);
+        if !first.is_empty() && !self.value(first)? {
+            return Ok(false);
+        }
+        self.is_range = self.count > 0;
+        Ok(self.is_range && (last.is_empty() || self.value(last)?))
+    }
+
+    /// Reads a line without comments; answers whether all of its words are understood.
+    fn line(&mut self, line: &str) -> Result<bool, AllocError> {
+        self.is_head = false;
+        let mut from = 0;
+        let bare = line.strip_prefix("- ").unwrap_or(line);
+        for (at, byte) in bare.as_bytes().iter().enumerate() {
+            let is_behind = BEHIND_NAMES.contains(byte);
+            if is_behind || BETWEEN.contains(byte) {
+                if !self.word(bare.get(from..at).unwrap_or(""))? {
+                    return Ok(false);
+                }
+                self.is_head = self.is_head && !is_behind;
+                from = at.saturating_add(1);
+            }
+        }
+        self.word(bare.get(from..).unwrap_or(""))
+    }
+
+    /// Begins with the one input channel, where there are no others.
+    fn begin(&mut self) -> Result<(), AllocError> {
+        let mut only = None;
+        for number in 0..self.network.channels() {
+            if let Role::Input = self.network.channel(number).role {
+                if only.is_some() {
+                    return Ok(());
+                }
+                only = Some(number);
+            }
+        }
+        match only {
+            Some(number) => self.name(number),
+            None => Ok(()),
+        }
+    }
+}
+
+/// The entries that were perhaps meant, where each word of a text is understood.
+fn meant_entries(
+    alloc: Global,
+    network: &Network,
+    text: &str,
+) -> Result<Option<Vec<String>>, AllocError> {
+    let mut reading = Reading {
+        alloc,
+        network,
+        channels: Vec::new(alloc),
+        lines: Vec::new(alloc),
+        columns: Vec::new(alloc),
+        count: 0,
+        is_head: false,
+        last: 0,
+        is_range: false,
+    };
+    reading.begin()?;
+    for line in text.lines() {
+        let (line, _) = line.split_once("#").unwrap_or((line, ""));
+        let (line, _) = line.split_once("//").unwrap_or((line, ""));
+        if !reading.line(line.trim())? {
+            return Ok(None);
+        }
+    }
+    if reading.is_range {
+        return Ok(None);
+    }
+    Ok(Some(reading.lines))
+}
+
+/// A text of lines.
+fn joined_lines(alloc: Global, lines: &[String]) -> Result<String, AllocError>
+    ensures { IfOk result (λ text. string_bytes text ≡ joined_lines lines.now) }
+{
+    let mut text = String::new(alloc);
+    for line in lines {
+        add(&mut text, &[line.as_str(), "\n"])?;
+    }
+    Ok(text)
+}
+
+/// The lines of the input text that was perhaps meant: it is one of the network.
+pub(crate) fn meant_lines(
+    alloc: Global,
+    network: &Network,
+    text: &str,
+) -> Result<Vec<String>, NoMemory>
+    ensures { IfOk result (λ told. AreMeantLines network.now told.items) }
+{
+    if MOST_BYTES < text.len() {
+        return Ok(Vec::new(alloc));
+    }
+    let Some(mut lines) = meant_entries(alloc, network, text)? else {
+        return Ok(Vec::new(alloc));
+    };
+    let meant = joined_lines(alloc, &lines)?;
+    match read_input(alloc, meant.as_str(), network) {
+        Ok(_input) => {
+            lines.insert(0, String::from_str(alloc, "perhaps meant:")?)?;
+            Ok(lines)
+        }
+        Err(TextFault::NoMemory) => Err(NoMemory),
+        Err(_) => Ok(Vec::new(alloc)),
+    }
+}
