@@ -18,6 +18,7 @@ import tempfile
 sys.path.append(f"{os.path.dirname(os.path.abspath(__file__))}/../tests")
 import texts
 from common import TOP, Tried, text_of, write
+import reference
 
 EDITORS = f"{TOP}/editors"
 VIM = {"keyword": "kahnKeyword", "name": "kahnName", "number": "kahnNumber", "sign": "kahnSign", "comment": "kahnComment"}
@@ -93,12 +94,6 @@ def try_grammars(tried):
             tried.same(f"{grammar}, {os.path.relpath(path, TOP)}", wrong, [])
 
 
-def place_of(program, words):
-    """The line and the column, which counts bytes, at which the words stand."""
-    before = program[: program.index(words)].split("\n")
-    return f"{len(before)}:{len(before[-1].encode()) + 1}"
-
-
 def ran(folder, *words):
     """What a command in the folder prints; kahn_explain is the one there."""
     return subprocess.run(words, cwd=folder, stdin=subprocess.DEVNULL, capture_output=True, timeout=600, text=True,
@@ -126,7 +121,7 @@ def try_editors(explain, tried):
             with tempfile.TemporaryDirectory() as folder:
                 os.symlink(explain, f"{folder}/kahn_explain")
                 program = text_of(write(f"{folder}/a program.kahn", lines[""] + "\n"))
-                places = [(place_of(program, words), kind) for kind, words in (line.split(" ", 1) for line in lines["%"].split("\n"))]
+                places = [(reference.spot(program.encode(), program.encode().index(words.encode())), kind) for kind, words in (line.split(" ", 1) for line in lines["%"].split("\n"))]
                 changed = [program.replace(*lines["=>"].split(" -> "))] if "=>" in lines else []
                 look(folder, name, places, lines["?"].split("\n"), changed, tried)
 

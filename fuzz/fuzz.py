@@ -332,10 +332,7 @@ def drive(one, programs=1, count=150, tell=tell_kinds):
                 failed += 1
                 print(f"FAILED {seed}: {what}\n   {more}", flush=True)
     tell(given)
-    if failed:
-        print(f"the texts are kept in {room}")
-    else:
-        shutil.rmtree(room)
+    print(f"the texts are kept in {room}") if failed else shutil.rmtree(room)
     print(f"{len(given) - given.count('skipped')} passed, {failed} failed")
     return failed > 0
 

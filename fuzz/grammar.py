@@ -54,17 +54,9 @@ def may_stand(before):
     return {word for word, lexeme in CLASSES.items() if reads([*before, (*lexeme, 0, 0)]) != len(before)}
 
 
-def fault_of(text):
-    """The first fault of a text, or None."""
-    try:
-        return ref.tree_of(text) and None
-    except ref.Fault as fault:
-        return fault
-
-
 def place_of(text):
     """The text, its lexemes and the number of the one at a fault of the grammar; None of other texts."""
-    fault = fault_of(text)
+    fault = ref.fault_of(text, ref.tree_of)
     lexemes = ref.lex(text) if fault and fault.text in FAULTS else None
     return lexemes and (text, lexemes, sum(x[2] < fault.span[0] for x in lexemes))
 
@@ -136,8 +128,8 @@ def mended(text, fix, place):
     old, put = (b"", one) if how == "insert" else (one, other)
     gap = b"" if how == "replace" and not put.isalnum() else b" "
     new = text[:start] + gap + put + gap + text[start + len(old):]
-    fault = fault_of(new)
-    return not fault or fault.text in FAULTS and len(new) - fault.span[0] < len(text) - fault_of(text).span[0]
+    fault = ref.fault_of(new, ref.tree_of)
+    return not fault or fault.text in FAULTS and len(new) - fault.span[0] < len(text) - ref.fault_of(text, ref.tree_of).span[0]
 
 
 def is_true(text, lexemes, at, place, line):

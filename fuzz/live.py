@@ -48,8 +48,7 @@ def difference(ran, whole, step):
     good = not stray and ran.returncode in ((0, 1) if finished[0] else (3,)) and (finished[0] or not finished[1] or step < ENOUGH)
     if all(finished):
         good = good and streams == solution and told in ([], ends)
-    for name in streams.keys() & solution.keys():
-        good = good and all(one == other for one, other in zip(streams[name], solution[name]))
+    good = good and all(one == other for name in streams.keys() & solution.keys() for one, other in zip(streams[name], solution[name]))
     return None if good else f"status {ran.returncode}, {streams} {stray} {told}, not {solution} {ends}"
 
 

@@ -28,18 +28,6 @@ def lexemes(text):
     return [(what, text[a:b], a, b) for what, _, a, b in ref.lex(text.encode())]
 
 
-def is_right(text):
-    """Whether it is a network without a fault."""
-    try:
-        return bool(ref.checked_of(text.encode()))
-    except ref.Fault:
-        return False
-
-
-def place_of(text, at):
-    return ref.spot(text.encode(), at)
-
-
 def line_of(text, at):
     return text.count("\n", 0, at) + 1
 
@@ -97,7 +85,7 @@ def block_of(lex, i):
 def lost_end(text, lex, rng):
     i = rng.choice([i for i, x in enumerate(lex) if x[1] == "begin" and i])
     _, _, a, b = lex[block_of(lex, i)]
-    place = place_of(text, lex[i][2])
+    place = ref.spot(text.encode(), lex[i][2])
     return Mistake("lost end", text[:a] + text[b:], line_of(text, lex[i][2]), [f"p:{place}: error: `begin` has no `end`", place])
 
 
@@ -106,7 +94,7 @@ def lost_begin(text, lex, rng):
     if not any(x[1] == ";" for x in lex[i:block_of(lex, i)]):
         return None
     _, guard, at, _ = lex[i - 1]
-    words = [f"p:{place_of(text, at)}: error: several statements", f"insert `begin` after `{guard}`", f"`then` at {place_of(text, at)}"]
+    words = [f"p:{ref.spot(text.encode(), at)}: error: several statements", f"insert `begin` after `{guard}`", f"`then` at {ref.spot(text.encode(), at)}"]
     return Mistake("lost begin", text[:lex[i][2]] + text[lex[i][3]:], line_of(text, at), words)
 
 
@@ -151,7 +139,7 @@ def made(count, seed):
     """So many mistakes; a sort for which a text has no place makes none."""
     rng = random.Random(seed)
     texts = [fuzz.read(path).decode() for path in sorted(glob.glob(f"{fuzz.TOP}/examples/*.kahn"))]
-    texts = [text for text in texts if len(text) < 6000 and text.isascii() and is_right(text)]
+    texts = [text for text in texts if len(text) < 6000 and text.isascii() and not ref.fault_of(text.encode())]
     out = []
     while len(out) < count:
         text = rng.choice(texts)
@@ -159,7 +147,7 @@ def made(count, seed):
             one = rng.choice(SORTS)(text, lexemes(text), rng)
         except (IndexError, ref.Fault):
             continue
-        if one and not is_right(one.text):
+        if one and ref.fault_of(one.text.encode()):
             out.append(one)
     return out
 

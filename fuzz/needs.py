@@ -13,6 +13,7 @@ import sys
 
 import causes
 import fuzz
+from reference import Fault, demand
 
 REPLY = re.compile(r"(.+):(\d+) = (\S+) needs (.+)\nevents of (.+)\n\Z")
 STREAM = re.compile(r"(?m)^(?:print (\d+) (\w+)|(\w+)):(.*)$")
@@ -35,6 +36,9 @@ class Trial:
         source = fuzz.write(self.at + ".input", "".join(lines))
         return subprocess.run([program, self.at + ".kahn", "--input", source, "--workers", "1", *words], capture_output=True, text=True, timeout=600)
 
+    def needs(self, asked):
+        return self.run(self.explain, self.inputs, "--needs", asked, "--bound", str(BOUND))
+
     def report(self, inputs, line, bound=BOUND):
         """The values of a line in a run, the events of each process, and whether it finished."""
         watch = ["--watch", line] if line in self.inner else []
@@ -54,66 +58,59 @@ def counts_of(words):
     return {it.group(1): (int(it.group(2)), int(it.group(3)) if it.group(3) else None) for it in found}
 
 
-def cut_fault(trial, line, place, values):
-    """What differs on inputs that are cut to these numbers of values."""
+def try_cut(trial, line, place, values):
+    """Runs on inputs that are cut to these numbers of values, and gives the events of each process."""
     whole = {name: trial.inputs[name][:values.get(name, (0,))[0]] for name in trial.inputs}
     first = trial.report(trial.inputs, line)[0][:place]
     came, ends, _ = trial.report(whole, line, MORE)
-    if came[:place] != first:
-        return f"not enough: {came[:place]}, not {first}", ends
+    demand(came[:place] == first, f"not enough: {came[:place]}, not {first}")
     for name in trial.inputs:
         if values.get(name, (0,))[0] > 0:
             less = {**trial.inputs, name: trial.inputs[name][:values[name][0] - 1]}
-            if len(trial.report(less, line, MORE)[0]) >= place:
-                return f"one value of {name} too many", ends
-    return None, ends
+            demand(len(trial.report(less, line, MORE)[0]) < place, f"one value of {name} too many")
+    return ends
 
 
-def row_fault(trial, line, place, values, events, finished, count):
-    """What differs in the table of the line."""
-    ran = trial.run(trial.explain, trial.inputs, "--needs", line, "--bound", str(BOUND))
+def try_row(trial, line, place, told, finished, count):
+    """The row of a value in the table of its line."""
+    ran = trial.needs(line)
     rows = [row.split(",") for row in ran.stdout.splitlines()]
-    if finished and (len(rows) - 1 != count or ran.returncode != 0):
-        return f"{len(rows) - 1} rows, not {count}; status {ran.returncode}"
-    told = {name: int(n) for name, n in zip(rows[0][2:], rows[place][2:]) if n != "0"}
-    if told != {name: n for name, (n, _) in {**values, **events}.items()}:
-        return f"row {place}: {told}"
-    return None
+    demand(not finished or (len(rows) - 1, ran.returncode) == (count, 0), f"{len(rows) - 1} rows, not {count}; status {ran.returncode}")
+    row = {name: int(n) for name, n in zip(rows[0][2:], rows[place][2:]) if n != "0"}
+    demand(row == {name: n for name, (n, _) in told.items()}, f"row {place}: {row}")
 
 
-def difference(trial):
-    lines = trial.lines()
-    if not lines:
-        return None, "no value"
-    line, all_values = trial.rng.choice(lines)
-    place = trial.rng.randint(1, len(all_values))
-    ran = trial.run(trial.explain, trial.inputs, "--needs", f"{line}:{place}", "--bound", str(BOUND))
+def try_value(trial, line, place, all_values):
+    """What is told of a value."""
+    ran = trial.needs(f"{line}:{place}")
     reply = REPLY.match(ran.stdout)
-    if not reply or ran.returncode != 0 or reply.group(2) != str(place) or reply.group(3) != all_values[place - 1]:
-        return f"--needs {line}:{place}: {ran.stdout!r}, {ran.stderr!r}, status {ran.returncode}", None
+    good = reply and ran.returncode == 0 and reply.group(2, 3) == (str(place), all_values[place - 1])
+    demand(good, f"{ran.stdout!r}, {ran.stderr!r}, status {ran.returncode}")
     values, events = counts_of(reply.group(4)), counts_of(reply.group(5))
     _, whole, finished = trial.report(trial.inputs, line)
-    fault, ends = cut_fault(trial, line, place, values)
-    if fault:
-        return f"--needs {line}:{place}: {fault}", None
+    ends = try_cut(trial, line, place, values)
     for name, (count, of) in events.items():
-        if ends[name] < count or of != (whole[name] if finished else None):
-            return f"--needs {line}:{place}: events of {name}: {count} of {of}; {ends[name]}, {whole[name]}", None
-    if len(trial.report(trial.inputs, line, sum(n for n, _ in events.values()) - 1)[0]) >= place:
-        return f"--needs {line}:{place}: an event too many", None
-    fault = row_fault(trial, line, place, values, events, finished, len(all_values))
-    if fault:
-        return f"--needs {line}: {fault}", None
+        is_so = ends[name] >= count and of == (whole[name] if finished else None)
+        demand(is_so, f"events of {name}: {count} of {of}; {ends[name]}, {whole[name]}")
+    demand(len(trial.report(trial.inputs, line, sum(n for n, _ in events.values()) - 1)[0]) < place, "an event too many")
+    try_row(trial, line, place, {**values, **events}, finished, len(all_values))
     if finished:
-        ran = trial.run(trial.explain, trial.inputs, "--needs", f"{line}:{len(all_values) + 1}", "--bound", str(BOUND))
-        if " never comes" not in ran.stdout or ran.returncode != 0:
-            return f"--needs {line}:{len(all_values) + 1}: {ran.stdout!r}, status {ran.returncode}", None
-    return None, "print" if line.isdigit() else "inner" if line in trial.inner else "output"
+        ran = trial.needs(f"{line}:{len(all_values) + 1}")
+        demand(" never comes" in ran.stdout and ran.returncode == 0, f"the next: {ran.stdout!r}, status {ran.returncode}")
 
 
 def one(explain, kahn, at, seed):
-    what, kind = difference(Trial(explain, kahn, at, seed))
-    return what, kind if what is None else at + ".kahn"
+    trial = Trial(explain, kahn, at, seed)
+    lines = trial.lines()
+    if not lines:
+        return None, "no value"
+    line, values = trial.rng.choice(lines)
+    place = trial.rng.randint(1, len(values))
+    try:
+        try_value(trial, line, place, values)
+    except Fault as fault:
+        return f"--needs {line}:{place}: {fault.text}", f"{at}.kahn"
+    return None, "print" if line.isdigit() else "inner" if line in trial.inner else "output"
 
 
 if __name__ == "__main__":

@@ -74,12 +74,12 @@ def difference(given, wanted):
 class Tried:
     """Counts what passed and failed."""
 
-    def __init__(self):
-        self.passed = self.failed = 0
+    def __init__(self, quiet=False):
+        self.passed, self.failed, self.quiet, self.told = 0, 0, quiet, ""
 
     def fail(self, what):
-        self.failed += 1
-        print(f"FAILED {what}", flush=True)
+        self.failed, self.told = self.failed + 1, what
+        print("" if self.quiet else f"FAILED {what}\n", end="", flush=True)
 
     def same(self, name, given, wanted=True):
         if given == wanted:

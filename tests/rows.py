@@ -132,8 +132,7 @@ def run(task, tried):
     is_open = status == 3 and "report" not in files
     wanted = status, b"" if is_open else files.get("report", b""), files.get("fault", b"")
     tried.same(name, (ran.returncode, b"" if is_open else ran.stdout, ran.stderr), wanted)
-    wrong = is_open and stopped_wrongly(files, words, ran.stdout)
-    if wrong:
+    if wrong := is_open and stopped_wrongly(files, words, ran.stdout):
         tried.fail(f"{name}: report is {ran.stdout[:400]!r}: {wrong}")
 
 

@@ -71,14 +71,6 @@ def try_sessions(paths, work, programs, words, tried):
         list(pool.map(one, range(len(paths)), paths))
 
 
-def try_pages(pages, work, programs, words, tried):
-    folder = common.TOP if words.here else f"{work}/tree"
-    if not words.here:
-        os.mkdir(folder)
-        sessions.copy_tree(programs, folder)
-    sessions.try_pages(folder, pages, words.only, tried)
-
-
 def try_part(part, work, words, tried):
     """A part by its name."""
     programs = f"{work}/programs"
@@ -94,7 +86,8 @@ def try_part(part, work, words, tried):
     elif part == "worst":
         worst.try_worst({name: os.path.realpath(f"{programs}/{name}") for name in common.NAMES}, work, words.only, tried)
     elif part == "pages" or part.endswith(".md"):
-        try_pages(sessions.pages() if part == "pages" else [part], work, programs, words, tried)
+        folder = common.TOP if words.here else sessions.tree_of(programs, f"{work}/tree")
+        sessions.try_pages(folder, sessions.pages() if part == "pages" else [part], words.only, tried)
     else:
         paths = sessions.sessions_in("tests/kahn*" if part == "sessions" else part)
         try_sessions(paths, work, programs, words, tried) if paths else tried.fail(f"there is no part {part}")

@@ -133,10 +133,12 @@ def missing(command):
     return [tool for tool in re.findall(rf"(?:^|[|;&(] *)({'|'.join(TOOLS)})\b", command) if not shutil.which(tool)]
 
 
-def copy_tree(programs, folder):
-    """Links everything at the top of this tree into the folder, but the programs, which are those of the other folder."""
+def tree_of(programs, folder):
+    """Makes this folder, with links to everything at the top of this tree, but the programs, which are those of the other folder."""
+    os.mkdir(folder)
     for name in os.listdir(TOP):
         os.symlink(f"{programs if name in NAMES else TOP}/{name}", f"{folder}/{name}")
+    return folder
 
 
 def try_pages(folder, names, only, tried):

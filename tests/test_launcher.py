@@ -11,14 +11,6 @@ from common import TOP, Room, Tried, text_of
 HERE = f"{TOP}/tests/launcher"
 
 
-class Quiet(Tried):
-    """What fails, without a word."""
-
-    def fail(self, what):
-        self.failed += 1
-        self.told = what
-
-
 class Launcher(Room):
     def setUp(self):
         super().setUp()
@@ -26,9 +18,9 @@ class Launcher(Room):
 
     def failed(self, name, launcher, folder):
         """The last thing that fails of a session by the launcher of a folder, or nothing."""
-        tried = Quiet()
+        tried = Tried(quiet=True)
         sessions.try_session(f"{HERE}/{name}.t", "/usr/bin", f"{self.folder}/{folder}", "", tried, OF=launcher)
-        return tried.told if tried.failed else "" if tried.passed else "nothing is tried"
+        return tried.told or ("" if tried.passed else "nothing is tried")
 
     def failed_with(self, number, attack, file, edit):
         """The same by the launcher of this tree with a fault, if it has a place in the file."""

@@ -10,6 +10,7 @@ import glob
 import hashlib
 import json
 import os
+import pathlib
 import re
 import sys
 import zlib
@@ -21,19 +22,15 @@ TOP = re.compile(r"^(?:async )?(?:function\*?|class) \w+|^(?:const|let) .*", fla
 
 
 def text_of(path):
-    if not os.path.exists(path):
-        return ""
-    with open(path, encoding="utf-8") as it:
-        return it.read()
+    return pathlib.Path(path).read_text(encoding="utf-8") if os.path.exists(path) else ""
 
 
 def packed(path):
     """The bytes of the module, deflated, in base64."""
     if path.endswith(".html"):
         return re.search(r'const MODULE = "([^"]*)"', text_of(path))[1]
-    with open(path, "rb") as it:
-        pack = zlib.compressobj(9, wbits=-15)
-        return base64.b64encode(pack.compress(it.read()) + pack.flush()).decode()
+    pack = zlib.compressobj(9, wbits=-15)
+    return base64.b64encode(pack.compress(pathlib.Path(path).read_bytes()) + pack.flush()).decode()
 
 
 def examples():
@@ -76,8 +73,7 @@ def main(module, out):
     styles = re.sub(r"^ +", "", text_of(f"{PARTS}/page.css"), flags=re.M).strip()
     page = filled(page, {"module": packed(module), "examples": examples(), "page.css": styles, **scripts(page)})
     page = filled(page, {"scripts": hashes(page, "script"), "styles": hashes(page, "style")})
-    with open(out, "w", encoding="utf-8") as it:
-        it.write(page)
+    pathlib.Path(out).write_text(page, encoding="utf-8")
 
 
 if __name__ == "__main__":

@@ -7,9 +7,9 @@ mod parts;
 
 ghost use Rattle.std.specs.Prelude.{◌≤◌, IsTrue, length};
 
-use kahn_fault::{Fault, Texts, read_texts, tell};
+use kahn_fault::{Fault, read_texts, tell};
 use kahn_line::{Options, read_line, tell_line, tell_no_memory, tell_words};
-use kahn_pool::{Config, Gate, RunFault, Verdict};
+use kahn_pool::{Gate, RunFault};
 use kahn_report::{WorkFault, work};
 use parts::work_in_parts;
 use std::io::{BufWriter, Write};
@@ -27,63 +27,40 @@ impl Gate for Through {
     fn enter(&self, _instance: usize) {}
 }
 
-/// Runs the program on the input, and writes the report to standard output.
-fn run<R: Runtime + AllocGlobal + Threads + Wait + Sync>(
-    rt: &R,
-    texts: &Texts,
-    config: Config,
-) -> Result<Verdict, Fault> {
-    let Ok(mut writer) = BufWriter::new(rt.alloc(), io::writer(rt)) else {
-        return Err(Fault::Work(WorkFault::Run(RunFault::NoMemory)));
-    };
-    match work(
-        rt,
-        rt.alloc(),
-        texts.program.as_str(),
-        texts.input.as_str(),
-        config,
-        &Through,
-        &mut writer,
-    ) {
-        Ok(verdict) => Ok(verdict),
-        Err(fault) => Err(Fault::Work(fault)),
-    }
-}
-
-/// Runs the program in parts.
-fn run_held<R: Runtime + AllocGlobal + Threads + Wait + Sync, E: Write>(
-    rt: &R,
-    texts: &Texts,
-    config: Config,
-    errors: &mut E,
-) -> Result<Verdict, Fault> {
-    let program = texts.program.as_str();
-    let input = texts.input.as_str();
-    let writer = &mut io::writer(rt);
-    match work_in_parts(rt, program, input, config, &Through, writer, errors) {
-        Ok(verdict) => Ok(verdict),
-        Err(fault) => Err(Fault::Work(fault)),
-    }
-}
-
 /// Does what the command line asks for, and returns the status. Faults are reported to the writer.
 fn answered<R: Runtime + AllocGlobal + Threads + Wait + Sync, W: Write>(
     rt: &R,
     options: Options,
     held: bool,
-    writer: &mut W,
+    errors: &mut W,
 ) -> u8 {
-    match read_texts(rt, options.program, options.input) {
-        Ok(texts) => {
-            let answer = if held {
-                run_held(rt, &texts, options.config, writer)
-            } else {
-                run(rt, &texts, options.config)
-            };
-            tell(&answer, texts.program.as_str(), writer).status
-        }
-        Err(fault) => tell(&Err(fault), "", writer).status,
-    }
+    let texts = match read_texts(rt, options.program, options.input) {
+        Ok(texts) => texts,
+        Err(fault) => return tell(&Err(fault), "", errors).status,
+    };
+    let (program, input, config) = (texts.program.as_str(), texts.input.as_str(), options.config);
+    let Ok(mut writer) = BufWriter::new(rt.alloc(), io::writer(rt)) else {
+        let refused = Fault::Work(WorkFault::Run(RunFault::NoMemory));
+        return tell(&Err(refused), "", errors).status;
+    };
+    let worked = if held {
+        work_in_parts(rt, program, input, config, &Through, &mut writer, errors)
+    } else {
+        work(
+            rt,
+            rt.alloc(),
+            program,
+            input,
+            config,
+            &Through,
+            &mut writer,
+        )
+    };
+    let answer = match worked {
+        Ok(verdict) => Ok(verdict),
+        Err(fault) => Err(Fault::Work(fault)),
+    };
+    tell(&answer, program, errors).status
 }
 
 /// Whether the run is to be held between parts.

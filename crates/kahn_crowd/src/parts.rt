@@ -11,12 +11,7 @@ use std::rt::Runtime;
 use std::sync::Wait;
 use std::thread::Threads;
 
-/// Reports that something was refused, and is tried again.
-fn tell_again<E: Write>(errors: &mut E) {
-    let _ = errors.write_all(b"again\n");
-}
-
-/// Runs a part, and one more if memory or a thread was refused for it.
+/// Runs a part, and one more if memory or a thread was refused for it, which is reported.
 fn resumed<R: Threads + Wait + Sync, G: Gate + Sync, E: Write>(
     rt: &R,
     held: &mut Held<'_>,
@@ -25,14 +20,14 @@ fn resumed<R: Threads + Wait + Sync, G: Gate + Sync, E: Write>(
 ) -> Result<Verdict, HeldFault> {
     match held.resume(rt, 0, gate) {
         Ok(Verdict::Memory) | Err(HeldFault::NoMemory | HeldFault::NoThread) => {
-            tell_again(errors);
+            let _ = errors.write_all(b"again\n");
             held.resume(rt, 0, gate)
         }
         answer => answer,
     }
 }
 
-/// Returns the answer of a run that is settled.
+/// Returns the answer of a run that is settled, at the second call if memory was refused at the first.
 fn answered<E: Write>(held: &Held<'_>, errors: &mut E) -> Result<Answer, NoMemory> {
     if !held.settled() {
         return Err(NoMemory);
@@ -40,7 +35,7 @@ fn answered<E: Write>(held: &Held<'_>, errors: &mut E) -> Result<Answer, NoMemor
     match held.answer() {
         Ok(answer) => Ok(answer),
         Err(_) => {
-            tell_again(errors);
+            let _ = errors.write_all(b"again\n");
             held.answer()
         }
     }
@@ -66,11 +61,6 @@ fn has_its_lines(network: &Network, answer: &Answer) -> bool
         .all(|stream| is_line(network, stream.line))
 }
 
-/// Returns refused memory as a fault of the run.
-fn wants_memory() -> WorkFault {
-    WorkFault::Run(RunFault::NoMemory)
-}
-
 /// Runs the program on the input in such parts, and writes the report.
 pub(crate) fn work_in_parts<
     R: Runtime + AllocGlobal + Threads + Wait + Sync,
@@ -87,22 +77,18 @@ pub(crate) fn work_in_parts<
     errors: &mut E,
 ) -> Result<Verdict, WorkFault> {
     let network = checked(rt.alloc(), program)?;
-    let input = match read_input(rt.alloc(), input, &network) {
-        Ok(input) => input,
-        Err(fault) => return Err(WorkFault::Text(fault)),
-    };
+    let input = read_input(rt.alloc(), input, &network)?;
     let mut held = match Held::start(rt.alloc(), &network, input, config) {
         Ok(held) => held,
         Err(fault) => return Err(WorkFault::Run(fault)),
     };
-    let Ok(verdict) = resumed(rt, &mut held, gate, errors) else {
-        return Err(wants_memory());
-    };
-    let Ok(answer) = answered(&held, errors) else {
-        return Err(wants_memory());
+    let verdict = resumed(rt, &mut held, gate, errors);
+    let answer = answered(&held, errors);
+    let (Ok(verdict), Ok(answer)) = (verdict, answer) else {
+        return Err(WorkFault::Run(RunFault::NoMemory));
     };
     if !has_its_lines(&network, &answer) {
-        return Err(wants_memory());
+        return Err(WorkFault::Run(RunFault::NoMemory));
     }
     match write_report(writer, &network, &answer) {
         Ok(()) => Ok(verdict),

@@ -1,12 +1,11 @@
 -- Values and ends of edges by the names of parameters.
-use Rattle.std.proofs.Common.{◌≡◌, ◌∙◌, ℕ, zero, suc, ◌+◌, ◌<◌, ◌≤◌, Bool, ◌⊎◌, inl, inr, ⊎_elim, IfSome, List, [], ◌∷◌, ◌++◌, Option, None, Some, ap, ap₂, append_assoc, arith, codes, decimal, drop, drop_of_length-le, length, map, min, not, ◌==◌, count_by, refl, slice_get, slice_index_or, subst, sym, take, take_all}
+use Rattle.std.proofs.Common.{◌≡◌, ◌∙◌, ℕ, ◌+◌, ◌<◌, ◌≤◌, Bool, ◌⊎◌, inl, inr, ⊎_elim, IfSome, List, [], ◌∷◌, ◌++◌, Option, None, Some, ap, ap₂, arith, codes, drop, drop_of_length-le, length, map, min, not, ◌==◌, count_by, refl, slice_get, subst, sym, take, take_all}
 use Rattle.std.proofs.lemmas.Bool.{cases_lt}
 use Rattle.std.proofs.lemmas.List.{length-map}
 use Rattle.std.specs.List.{suffix_len}
 use Rattle.std.specs.List.{concat}
 use Rattle.kahn_streams.specs.declared.tree.Argument.{Argument}
 use Rattle.kahn_streams.specs.declared.tree.Kind.{Kind}
-use Rattle.kahn_streams.specs.declared.tree.Name.{Name}
 use Rattle.kahn_streams.specs.declared.tree.Parameter.{Parameter}
 use Rattle.kahn_streams.specs.declared.tree.Process.{Process}
 use Rattle.kahn_streams.specs.declared.tree.Program.{Program}
@@ -15,7 +14,7 @@ use Rattle.kahn_streams.specs.declared.sides.Side.{Side}
 use Rattle.kahn_streams.specs.Place.{column_of, line_of}
 use Rattle.kahn_streams.specs.View.{Scope, bytes_of}
 use Rattle.kahn_streams.specs.Network.{Network, network_of, actuals_of, instance_at, instance_from, kind_at, process_of, role_at, IsOnly, IsReader, IsWithin, IsWriter, channel_names}
-use Rattle.kahn_graph.specs.Graph.{IsEdge, IsPortText, awaited_text, edge_text, mark_text, tip_text, values_text}
+use Rattle.kahn_graph.specs.Graph.{IsEdge, IsPortText, awaited_text, edge_text, mark_text, values_text}
 use Rattle.kahn_graph.specs.Ran.{IsWaitMark}
 use Rattle.kahn_chain.specs.Chain.{stands}
 use Rattle.kahn_chain.specs.declared.standing.Standing.{Standing}
@@ -48,11 +47,6 @@ values_end before qs xs n k e le = ⊎_elim few_arguments few_parameters (cases_
     few_parameters : length qs ≤ length xs → values_text before (drop k qs) (drop k xs) ≡ []
     few_parameters ge = no_value_more before qs xs k (inl (omega (arith, e, le, ge)))
 
-pub at_index : {A : Type 0} (xs : List A) (c : ℕ) (x : A) → c < length xs → slice_index_or xs c x ≡ x → slice_get xs c ≡ Some x
-at_index [] c x lt h = absurd (omega arith)
-at_index (y ∷ ys) zero x lt h = ap Some h
-at_index (y ∷ ys) (suc c) x lt h = at_index ys c x (omega arith) h
-
 -- ---- sides
 
 few_actuals : (names : Scope) (qs : List Parameter) (xs : List Argument) → length (actuals_of names qs xs) ≤ length qs
@@ -77,15 +71,6 @@ reader_within N c (Some s) only = only.0.0
 
 -- ---- edges
 
--- five pieces after what stands there
-pub five_grown : (a b c d e old one two three four new : List ℕ) → one ≡ old ++ a → two ≡ one ++ b → three ≡ two ++ c → four ≡ three ++ d → new ≡ four ++ e
-    → new ≡ old ++ (a ++ (b ++ (c ++ (d ++ e))))
-five_grown a b c d e old one two three four new f g h i j =
-    let last : new ≡ three ++ (d ++ e) = j ∙ (ap (λ l. l ++ e) i ∙ append_assoc three d e) in
-    let third : new ≡ two ++ (c ++ (d ++ e)) = last ∙ (ap (λ l. l ++ (d ++ e)) h ∙ append_assoc two c (d ++ e)) in
-    let second : new ≡ one ++ (b ++ (c ++ (d ++ e))) = third ∙ (ap (λ l. l ++ (c ++ (d ++ e))) g ∙ append_assoc one b (c ++ (d ++ e))) in
-    second ∙ (ap (λ l. l ++ (b ++ (c ++ (d ++ e)))) f ∙ append_assoc old a (b ++ (c ++ (d ++ e))))
-
 pub edge_of : (t : Program) (streams : List Stream) (ends : List End) (ss : List Standing) (c : ℕ) (name tail head : List ℕ) (kind : Kind) (role : Role) (writer reader : Option Side) (ring : Bool)
     → slice_get (channel_names t) c ≡ Some name → kind ≡ kind_at (network_of t) c → role ≡ role_at (network_of t) c
     → IsOnly (IsWriter (network_of t) c) writer → IsOnly (IsReader (network_of t) c) reader
@@ -106,12 +91,6 @@ edge_of t streams ends ss c name tail head kind role writer reader ring e k r w 
   subst (λ l. IsWaitMark (network_of t) l c ring) same m,
   ap₂ (λ x y. mark_text c x ++ (edge_text streams c name y writer reader ++ (tail ++ (head ++ concat (awaited_text ring ∷ codes "];\n" ∷ []))))) r k,
 )
-
--- three pieces after what stands there
-pub three_grown : (a b c old one two new : List ℕ) → one ≡ old ++ a → two ≡ one ++ b → new ≡ two ++ c → new ≡ old ++ (a ++ (b ++ c))
-three_grown a b c old one two new f g h =
-    let last : new ≡ one ++ (b ++ c) = h ∙ (ap (λ l. l ++ c) g ∙ append_assoc one b c) in
-    last ∙ (ap (λ l. l ++ (b ++ c)) f ∙ append_assoc old a (b ++ c))
 
 -- ---- places
 
@@ -136,18 +115,3 @@ as_many_trees t i le =
     let same : length (network_of t).instances ≡ length t.instances.items =
     length-map t.instances.items (λ x. instance_from (channel_names t) (process_of t.declarations.items (bytes_of x.process)) x.arguments.items) in
     omega (arith, le, same)
-
--- the pieces of a place after what stands there
-pub tip_grown : (source : List ℕ) (n : Name) (old mid new name line column : List ℕ) → name ≡ bytes_of n → line ≡ decimal (line_of source n.span.from)
-    → column ≡ decimal (column_of source n.span.from) → mid ≡ old ++ (codes ", tooltip=\"" ++ (name ++ codes " at "))
-    → new ≡ mid ++ (line ++ (codes ":" ++ (column ++ codes "\""))) → new ≡ old ++ tip_text source n
-tip_grown source n old mid new name line column en el ec f g =
-    let rest : List ℕ = line ++ (codes ":" ++ (column ++ codes "\"")) in
-    let first : List ℕ = codes ", tooltip=\"" ++ (name ++ codes " at ") in
-    let shape : List ℕ → List ℕ → List ℕ → List ℕ = λ x l c. codes ", tooltip=\"" ++ (x ++ (codes " at " ++ (l ++ (codes ":" ++ (c ++ codes "\""))))) in
-    let whole : new ≡ old ++ (first ++ rest) = g ∙ (ap (λ l. l ++ rest) f ∙ append_assoc old first rest) in
-    let inner : first ++ rest ≡ shape name line column = ap (λ l. codes ", tooltip=\"" ++ l) (append_assoc name (codes " at ") rest) in
-    let named : shape name line column ≡ tip_text source n =
-    ap (λ x. shape x line column) en
-    ∙ (ap (λ l. shape (bytes_of n) l column) el ∙ ap (λ c. shape (bytes_of n) (decimal (line_of source n.span.from)) c) ec) in
-    whole ∙ ap (λ l. old ++ l) (inner ∙ named)

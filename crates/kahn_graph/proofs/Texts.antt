@@ -28,6 +28,12 @@ one_more P n text x (texts, count, are, whole) p = (
 pub grown : (old now new x y : List ℕ) → now ≡ old ++ x → new ≡ now ++ y → new ≡ old ++ (x ++ y)
 grown old now new x y e f = f ∙ ap (λ l. l ++ y) e ∙ append_assoc old x y
 
+-- five pieces
+pub five_grown : (a b c d e old one two three four new : List ℕ) → one ≡ old ++ a → two ≡ one ++ b → three ≡ two ++ c → four ≡ three ++ d → new ≡ four ++ e
+    → new ≡ old ++ (a ++ (b ++ (c ++ (d ++ e))))
+five_grown a b c d e old one two three four new f g h i j =
+    grown old one new a _ f (grown one two new b _ g (grown two three new c (d ++ e) h (grown three four new d e i j)))
+
 -- four pieces, from nothing on
 pub all_grown : (a b c d none one two three four : List ℕ) → none ≡ [] → one ≡ none ++ a → two ≡ one ++ b → three ≡ two ++ c → four ≡ three ++ d
     → four ≡ a ++ (b ++ (c ++ d))

@@ -1,6 +1,7 @@
 //! Where the instances of a picture stand in the program text.
 
-ghost use Rattle.std.specs.Prelude.{◌≡◌, ◌<◌, ◌++◌, IfOk, length, string_bytes};
+ghost use Rattle.std.specs.Prelude.{◌≡◌, ◌<◌, ◌∷◌, ◌++◌, [], IfOk, codes, length, string_bytes};
+ghost use Rattle.std.specs.List.{concat};
 ghost use Rattle.kahn_streams.specs.Network.{network_of};
 ghost use Rattle.kahn_streams.specs.Place.{line_of, column_of};
 ghost use Rattle.kahn_graph.specs.Graph.{tip_text};
@@ -21,6 +22,21 @@ fn place(source: &str, from: usize) -> (usize, usize)
     span.place(source)
 }
 
+// Adds where a name stands, by the words of that.
+fn add_words<'a>(
+    text: &mut String,
+    name: &'a str,
+    line: &'a str,
+    column: &'a str,
+) -> Result<(), AllocError>
+    ensures { IfOk result (λ _. string_bytes text.new ≡ string_bytes text.old ++ concat (codes ", tooltip=\"" ∷ name.now ∷ codes " at " ∷ line.now ∷ codes ":" ∷ column.now ∷ codes "\"" ∷ [])) }
+{
+    add(
+        text,
+        &[", tooltip=\"", name, " at ", line, ":", column, "\""],
+    )
+}
+
 // Adds where a name stands.
 fn add_name(text: &mut String, source: &str, name: &Name) -> Result<(), AllocError>
     ensures { IfOk result (λ _. string_bytes text.new ≡ string_bytes text.old ++ tip_text source.now name.now) }
@@ -28,12 +44,8 @@ fn add_name(text: &mut String, source: &str, name: &Name) -> Result<(), AllocErr
     let (line, column) = place(source, name.span.from);
     let mut first = Buffer::new();
     let mut second = Buffer::new();
-    add(text, &[", tooltip=\"", name.text.as_str(), " at "])?;
-    add(
-        text,
-        &[first.format(line), ":", second.format(column), "\""],
-    )?;
-    Ok(())
+    let (line, column) = (first.format(line), second.format(column));
+    add_words(text, name.text.as_str(), line, column)
 }
 
 /// Adds where an instance stands in the program text.

@@ -3,9 +3,7 @@
 ghost use Rattle.std.specs.Prelude.{Some};
 ghost use Rattle.kahn_texts.specs.Formats.{HasItsLines};
 
-use crate::held::network_of;
-use crate::programs::COUNT;
-use crate::rows::{AMPLE, config};
+use crate::programs::{AMPLE, COUNT, config, network_of};
 use kahn_check::CheckFault;
 use kahn_fault::{Fault, fault_line};
 use kahn_pool::{Answer, Open, Verdict, run_one};
@@ -112,41 +110,12 @@ fn a_write_of_the_report_fails(rt: HostRuntime) -> Result<(), Fail> {
     ];
     for (error, fault) in rows {
         for sent in 0..47usize {
-            let config = config(rt.alloc(), 4, 1000, AMPLE, None)?;
+            let config = config(4, 1000, AMPLE);
             let mut writer = Slow::new(rt.alloc(), sent + 1, error, false);
             let told = work(&rt, rt.alloc(), COUNT, "", config, &Open, &mut writer);
             assert_eq!(rt; told, Err(WorkFault::Write(fault)));
             assert_eq!(rt; writer.taken.as_slice(), &REPORT[..sent]);
         }
-    }
-    Ok(())
-}
-
-// All bytes went out, one a call, and one flush came last.
-#[test]
-fn the_flush_alone_fails(rt: HostRuntime) -> Result<(), Fail> {
-    let span = Span { from: 8, to: 9 };
-    let fault = Fault::Work(WorkFault::Check(CheckFault::ChannelExpected(span)));
-    let line = b"kahn: 2:3: a channel is expected\n";
-    let failed = WriteFault::Failed;
-    let rows = [
-        (false, Ok(Verdict::Finished), Ok(())),
-        (true, Err(WorkFault::Write(failed)), Err(failed)),
-    ];
-    for (fails, report_told, line_told) in rows {
-        let config = config(rt.alloc(), 4, 1000, AMPLE, None)?;
-        let mut writer = Slow::new(rt.alloc(), 0, None, fails);
-        let told = work(&rt, rt.alloc(), COUNT, "", config, &Open, &mut writer);
-        assert_eq!(rt; told, report_told);
-        assert_eq!(rt; writer.taken.as_slice(), REPORT.as_slice());
-        assert_eq!(rt; (writer.calls, writer.flushes), (47, 1));
-        let mut writer = Slow::new(rt.alloc(), 0, None, fails);
-        assert_eq!(rt;
-            fault_line(&fault, "begin\n  X end", &mut writer),
-            line_told
-        );
-        assert_eq!(rt; writer.taken.as_slice(), line.as_slice());
-        assert_eq!(rt; (writer.calls, writer.flushes), (33, 1));
     }
     Ok(())
 }
@@ -180,73 +149,54 @@ fn several_threads_write_a_report(rt: HostRuntime) -> Result<(), Fail> {
     writes_by_several(&rt, alloc, &network, &answer)
 }
 
-// What a counting writer took, if its flush fails and if not, and what each call of a writer said of it.
+// All bytes of a report, a fault's line, a report's end and a picture's line went out, one a call, and one flush came last of each.
 #[test]
-fn the_flush_of_each_writer_fails(rt: HostRuntime) -> Result<(), Fail> {
+fn the_flush_alone_fails(rt: HostRuntime) -> Result<(), Fail> {
     let alloc = rt.alloc();
     let network = network_of(alloc, COUNT)?;
     let answer = run_one(alloc, &network, Input::none(alloc, &network)?, 100)?;
-    for (fails, told) in [(false, Ok(())), (true, Err(WriteFault::Failed))] {
+    let fault = Fault::Work(WorkFault::Check(CheckFault::NoWriter(Span { from: 8, to: 9 })));
+    let failed = WriteFault::Failed;
+    let rows = [
+        (false, Ok(Verdict::Finished), Ok(())),
+        (true, Err(WorkFault::Write(failed)), Err(failed)),
+    ];
+    for (fails, report_told, told) in rows {
+        let config = config(4, 1000, AMPLE);
         let mut writer = Slow::new(alloc, 0, None, fails);
+        let worked = work(&rt, alloc, COUNT, "", config, &Open, &mut writer);
         assert_eq!(rt;
-            write_closing(
-                &mut writer,
-                &network,
-                answer.verdict,
-                &answer.ends,
-                answer.events
-            ),
-            told
+            (worked, writer.calls, writer.flushes),
+            (report_told, 47, 1)
         );
-        assert_eq!(rt; (writer.calls, writer.flushes), (38, 1));
-        assert_eq!(rt; write_line(&mut writer, &[b"digraph"]), told);
-        assert_eq!(rt; (writer.calls, writer.flushes), (45, 2));
-        assert_eq!(rt;
-            writer.taken.as_slice(),
-            b"end 1 count: ended after 7\nfinished 7\ndigraph".as_slice()
-        );
+        let (verdict, ends) = (answer.verdict, &answer.ends);
+        let closed = write_closing(&mut writer, &network, verdict, ends, answer.events);
+        assert_eq!(rt; (closed, writer.calls, writer.flushes), (told, 85, 2));
+        let wrote = write_line(&mut writer, &[b"digraph"]);
+        assert_eq!(rt; (wrote, writer.calls, writer.flushes), (told, 92, 3));
+        let said = fault_line(&fault, "begin\n  X end", &mut writer);
+        assert_eq!(rt; (said, writer.calls, writer.flushes), (told, 125, 4));
+        assert_eq!(rt; writer.taken.len(), 125);
     }
     Ok(())
 }
 
+// A read that fails is told, at each call, and no other.
 #[test]
 fn a_read_fails(rt: HostRuntime) -> Result<(), Fail> {
     let calls = COUNT.len().saturating_add(1);
     for error in [ErrorKind::Other, ErrorKind::Interrupted] {
-        for call in 0..calls {
+        for call in 0..=calls {
             let mut reader = Drip {
                 left: COUNT.as_bytes(),
                 calls: 0,
                 fails_at: call.saturating_add(1),
                 error,
             };
-            let result = read_text(rt.alloc(), &mut reader, 1000);
-            assert_eq!(rt; result.err(), Some(ReadFault::Failed));
-        }
-    }
-    Ok(())
-}
-
-#[test]
-fn reads_within_a_limit(rt: HostRuntime) -> Result<(), Fail> {
-    let rows = [
-        ("abcd".as_bytes(), 4, Ok("abcd")),
-        ("abcde".as_bytes(), 4, Err(ReadFault::TooLong)),
-        ([255u8].as_slice(), 4, Err(ReadFault::NotUtf8)),
-        (COUNT.as_bytes(), 1000, Ok(COUNT)),
-    ];
-    for (left, limit, wanted) in rows {
-        let mut reader = Drip {
-            left,
-            calls: 0,
-            fails_at: 0,
-            error: ErrorKind::Other,
-        };
-        let result = read_text(rt.alloc(), &mut reader, limit);
-        match (result, wanted) {
-            (Ok(text), Ok(wanted)) => assert_eq!(rt; text.as_str(), wanted),
-            (Err(fault), Err(wanted)) => assert_eq!(rt; fault, wanted),
-            _ => assert!(rt; false),
+            match read_text(rt.alloc(), &mut reader, 1000) {
+                Ok(text) => assert_eq!(rt; (call, text.as_str()), (calls, COUNT)),
+                Err(fault) => assert!(rt; call < calls && fault == ReadFault::Failed),
+            }
         }
     }
     Ok(())

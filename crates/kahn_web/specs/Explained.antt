@@ -11,7 +11,6 @@ use Rattle.kahn_why.specs.Why.{IsExplained}
 use Rattle.kahn_why.specs.declared.explaining.Came.{Came}
 use Rattle.kahn_why.specs.declared.why.told.Explanation.{Explanation}
 use Rattle.kahn_web.specs.Alone.{IsRunAlone}
-use Rattle.kahn_web.specs.Page.{IsPut}
 
 -- why a run of a program stopped, which is called `program` in notes, behind the notes on what is warned of in it
 abbrev pub IsRunExplained : List ℕ → List ℕ → ℕ → List ℕ → Type 0
@@ -28,8 +27,3 @@ IsInputRefused program input text = (t : Program) × (fault : TextFault) × (cam
 abbrev pub IsReason : List ℕ → List ℕ → ℕ → List ℕ → Type 0
 IsReason program input bound text =
     IsRefusedFor (codes "program") program false text ⊎ (IsInputRefused program input text ⊎ IsRunExplained program input bound text)
-
--- there is nothing, or what was put into the room
-abbrev pub IsReasonInto : List ℕ → List ℕ → ℕ → List ℕ → List ℕ → ℕ → Type 0
-IsReasonInto program input bound old new size =
-    ((size ≡ 0) × (new ≡ old)) ⊎ ((text : List ℕ) × IsReason program input bound text × IsPut text old new size)

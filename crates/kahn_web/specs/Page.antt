@@ -1,5 +1,5 @@
 -- Believed. What the page gets for its texts, which are bytes.
-use Rattle.std.specs.Prelude.{◌≡◌, ℕ, ◌≤◌, ◌<◌, List, [], Option, Some, Result, length, take}
+use Rattle.std.specs.Prelude.{◌≡◌, ◌⊎◌, ℕ, ◌≤◌, ◌<◌, List, [], Option, Some, Result, length, take}
 use Rattle.std.specs.declared.result.Result.TheVariants.{Ok, Err}
 use Rattle.std.specs.Str.{IsUtf8}
 use Rattle.kahn_streams.specs.declared.answer.Verdict.{Verdict}
@@ -28,6 +28,10 @@ IsSaidAlone program input bound old new status =
 -- the bytes are at the front of a room that is large enough, and a smaller one keeps what it has
 abbrev pub IsPut : List ℕ → List ℕ → List ℕ → ℕ → Type 0
 IsPut bytes old new size = (size ≡ length bytes) × (size ≤ length old → take size new ≡ bytes) × (length old < size → new ≡ old)
+
+-- there is nothing, or such bytes were put into the room
+abbrev pub IsPutIf : (List ℕ → Type 0) → List ℕ → List ℕ → ℕ → Type 0
+IsPutIf P old new size = ((size ≡ 0) × (new ≡ old)) ⊎ ((bytes : List ℕ) × P bytes × IsPut bytes old new size)
 
 -- what was said of a run was put into the room
 abbrev pub IsRunInto : List ℕ → List ℕ → ℕ → List ℕ → List ℕ → ℕ → ℕ → Type 0

@@ -1,15 +1,9 @@
 -- Believed. What the page is given as the picture of a network.
-use Rattle.std.specs.Prelude.{◌≡◌, ℕ, ◌⊎◌, List, []}
+use Rattle.std.specs.Prelude.{ℕ, List, []}
 use Rattle.kahn_streams.specs.declared.tree.Program.{Program}
 use Rattle.kahn_graph.specs.Graph.{IsPicture}
 use Rattle.kahn_fault.specs.Work.{IsChecked}
-use Rattle.kahn_web.specs.Page.{IsPut}
 
 -- a picture of the network of the text
 abbrev pub IsNetworkPicture : List ℕ → List ℕ → Type 0
 IsNetworkPicture program picture = (t : Program) × IsChecked program t × IsPicture t program [] [] picture
-
--- there is no picture, or one that was put into the room
-abbrev pub IsDrawnInto : List ℕ → List ℕ → List ℕ → ℕ → Type 0
-IsDrawnInto program old new size =
-    ((size ≡ 0) × (new ≡ old)) ⊎ ((picture : List ℕ) × IsNetworkPicture program picture × IsPut picture old new size)

@@ -1,5 +1,5 @@
 -- Believed. What the page is told of all channels of a run: how many values each had, what they were, and how many of them were taken.
-use Rattle.std.specs.Prelude.{◌≡◌, ◌⊎◌, ℕ, zero, suc, List, [], ◌∷◌, ◌++◌, Option, None, Some, codes, decimal, length, slice_get}
+use Rattle.std.specs.Prelude.{◌≡◌, ℕ, zero, suc, List, [], ◌∷◌, ◌++◌, Option, None, Some, codes, decimal, length, slice_get}
 use Rattle.std.specs.List.{concat}
 use Rattle.kahn_streams.specs.declared.tree.Program.{Program}
 use Rattle.kahn_streams.specs.declared.config.Config.{Config}
@@ -15,7 +15,6 @@ use Rattle.kahn_texts.specs.Formats.{StandsFor, channel_name, report_text}
 use Rattle.kahn_texts.specs.News.{more_text}
 use Rattle.kahn_fault.specs.Work.{IsChecked}
 use Rattle.kahn_web.specs.Alone.{alone}
-use Rattle.kahn_web.specs.Page.{IsPut}
 
 -- the same with at most so many events in a turn
 abbrev pub turning : ℕ → ℕ → Config
@@ -47,8 +46,3 @@ IsRunRecorded t text config x = (lists : Lists) × StandsFor t text lists × IsR
 abbrev pub IsWholeText : List ℕ → List ℕ → ℕ → ℕ → List ℕ → Type 0
 IsWholeText program input quantum bound text =
     (t : Program) × (x : Recorded) × IsChecked program t × IsRunRecorded t input (turning quantum bound) x × (text ≡ whole_text t x)
-
--- there is nothing, or what was put into the room
-abbrev pub IsWholeInto : List ℕ → List ℕ → ℕ → ℕ → List ℕ → List ℕ → ℕ → Type 0
-IsWholeInto program input quantum bound old new size =
-    ((size ≡ 0) × (new ≡ old)) ⊎ ((text : List ℕ) × IsWholeText program input quantum bound text × IsPut text old new size)

@@ -2,10 +2,10 @@
 //! out, or of why the run stopped, or of what each channel carried; the bytes of a program in, those of a picture out.
 #![tactic(auto)]
 
-ghost use Rattle.kahn_web.specs.Explained.{IsReasonInto};
-ghost use Rattle.kahn_web.specs.Page.{IsPut, IsRunInto};
-ghost use Rattle.kahn_web.specs.Picture.{IsDrawnInto};
-ghost use Rattle.kahn_web.specs.Whole.{IsWholeInto};
+ghost use Rattle.kahn_web.specs.Explained.{IsReason};
+ghost use Rattle.kahn_web.specs.Page.{IsPut, IsPutIf, IsRunInto};
+ghost use Rattle.kahn_web.specs.Picture.{IsNetworkPicture};
+ghost use Rattle.kahn_web.specs.Whole.{IsWholeText};
 
 mod alone;
 mod drawing;
@@ -64,7 +64,7 @@ pub extern "C" fn kahn_web_run(
 /// is 0 where there is no picture.
 #[unsafe(no_mangle)]
 pub extern "C" fn kahn_web_draw(alloc: Global, program: &[u8], room: &mut [u8]) -> u64
-    ensures { IsDrawnInto program.now room.old room.new result }
+    ensures { IsPutIf (IsNetworkPicture program.now) room.old room.new result }
 {
     match drawn(alloc, program) {
         Some(picture) => put(picture.as_bytes(), room),
@@ -82,7 +82,7 @@ pub extern "C" fn kahn_web_explain(
     bound: u64,
     room: &mut [u8],
 ) -> u64
-    ensures { IsReasonInto program.now input.now bound room.old room.new result }
+    ensures { IsPutIf (IsReason program.now input.now bound) room.old room.new result }
 {
     match reason(alloc, program, input, bound) {
         Some(text) => put(text.as_slice(), room),
@@ -103,7 +103,7 @@ pub extern "C" fn kahn_web_whole(
     bound: u64,
     room: &mut [u8],
 ) -> u64
-    ensures { IsWholeInto program.now input.now quantum bound room.old room.new result }
+    ensures { IsPutIf (IsWholeText program.now input.now quantum bound) room.old room.new result }
 {
     match kept(alloc, program, input, quantum, bound) {
         Some(text) => put(text.as_slice(), room),

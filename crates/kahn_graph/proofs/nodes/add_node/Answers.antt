@@ -2,7 +2,7 @@ use Rattle.std.proofs.Common.{◌++◌, ap₂, codes, subst}
 use Rattle.kahn_streams.specs.Network.{network_of}
 use Rattle.kahn_chain.specs.Chain.{IsRingMark}
 use Rattle.kahn_graph.specs.Graph.{node_text}
-use Rattle.kahn_graph.proofs.Named.{three_grown}
+use Rattle.kahn_graph.proofs.Texts.{grown}
 use Rattle.kahn_graph.proofs.nodes.add_node.Goals as goal
 
 pub returns : goal.returns
@@ -13,5 +13,5 @@ returns c =
     let (tip, (x, found, is), after) = c.in_ok-add_tip.ensures in (
       node_text c.args.network.now c.end_of-end.result c.args.instance process arguments ring ++ (tip ++ codes "];\n"),
       (process, arguments, x, ring, c.instance-made.ensures.declared, found, subst (λ l. IsRingMark (network_of c.args.network.now) l c.args.instance ring) c.requires.standings c.is_ring_instance-ring.ensures, ap₂ (λ o y. node_text c.args.network.now o c.args.instance process arguments ring ++ (y ++ codes "];\n")) c.end_of-end.ensures is),
-      three_grown _ tip _ _ _ _ _ c.in_ok-add_made.ensures after c.in_ok-add.ensures,
+      grown _ _ _ _ _ c.in_ok-add_made.ensures (grown _ _ _ tip _ after c.in_ok-add.ensures),
     )

@@ -1,5 +1,6 @@
 use Rattle.std.proofs.Common.{◌∙◌, ◌+◌, ◌++◌, ap, append-nil, arith, drop, rules, string_bytes, sym}
-use Rattle.kahn_graph.proofs.Named.{at_index, next_value, values_end}
+use Rattle.kahn_streams.proofs.By_number.{at_index}
+use Rattle.kahn_graph.proofs.Named.{next_value, values_end}
 use Rattle.kahn_graph.proofs.nodes.add_values.Goals as goal
 
 pub loop-index-preserved : goal.loop-index-preserved
