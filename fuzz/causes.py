@@ -176,6 +176,26 @@ def verdict_of(checked, inputs, ends, causes, last):
     return "; ".join(out) or "no deadlock and no fault" + "; all input was taken" * bool(is_taken)
 
 
+def counts_of(checked, inputs, last):
+    """How many values each channel had and its reader took, of a run that finished; else nothing."""
+    network = ref.Network(checked, inputs)
+    if not last.startswith("finished") or not network.run(int(last.split()[1])):
+        return []
+    taken = {c: n for p in network.processes for c, n in p.taken.items()}
+    return [(len(network.tape(c)), taken.get(c, 0)) for c in range(len(checked.channels))]
+
+
+def untaken(checked, counts):
+    """The line on the channel of which most values are left that a process reads, if of one some are."""
+    left = [(sent - taken) * (role != "output") for (sent, taken), (_, _, role, _) in zip(counts, checked.channels)]
+    most = max(left, default=0)
+    if most == 0:
+        return []
+    c = left.index(most)
+    some = f"{most} of the {counts[c][0]} values" if counts[c][0] > 1 else "the value"
+    return [f"{some} of {checked.channels[c][0]} {'was' if most == 1 else 'were'} never taken"]
+
+
 def wanted_of(checked, text, inputs, ends, last):
     """The explanation by its causes and of each process, its status, and the causes of those that wait or have a fault."""
     open_ones = [p for p, (word, _, _) in enumerate(ends) if word != "ended"]
@@ -190,8 +210,8 @@ def wanted_of(checked, text, inputs, ends, last):
         elif word != "ended" and causes[z][1] == z:
             members = [p for p in open_ones if causes[p][1] == z and causes[p][2]] or [z]
             once += [line for p in members for line in [lines[p], *below(checked, ends, causes, p, waiting if p == z else [])]]
-    first, end = verdict_of(checked, inputs, ends, causes, last), [GO_ON] * last.startswith("stopped by bound") + [last]
-    told = tuple("".join(line + "\n" for line in [first, *lines, *end]) for lines in (once, each))
+    first, end = [verdict_of(checked, inputs, ends, causes, last), *untaken(checked, counts_of(checked, inputs, last))], [GO_ON] * last.startswith("stopped by bound") + [last]
+    told = tuple("".join(line + "\n" for line in [*first, *lines, *end]) for lines in (once, each))
     whys = [why for why, _, _ in causes.values()]
     status = 8 if any(word.startswith("fault") for word, _, _ in ends) else 7 if "ring" in whys else 3 if last.startswith("stopped by bound") else 0
     return told, status, {p: (why, z) for p, (why, z, _) in causes.items() if why != "wants more" or z != p}
@@ -258,6 +278,10 @@ def one(explain, kahn, at, seed):
         wrong, places = differs(ran, told, status, placed)
         if wrong:
             return wrong, " ".join(words + more)
+    if counts := counts_of(checked, inputs, last):
+        rows = [row.split(",") for row in fuzz.asked(explain, *words, workers, "--channels").stdout.decode().splitlines()[1:]]
+        if [tuple(map(int, row[3:])) for row in rows] != [(sent, taken, sent - taken) for sent, taken in counts]:
+            return f"{rows}, not {counts}", " ".join(words + ["--channels"])
     tried = lasts(checked, inputs, ends, causes, text, places, rng)
     if isinstance(tried, str):
         return tried, " ".join(words)

@@ -5,8 +5,8 @@
 A value of an output, of a print stream or of a channel between processes is chosen. kahn runs the network on inputs that are cut to the
 numbers of values told: the value comes and is the same. With one value less of one of them it doesn't come. In each run in which it comes,
 each process has done the events told, and with a bound of one event less than all of them it doesn't come. The row of the value in the table
-of its line says the same, and a table of a run that finished has a row for each value; the place after the last never comes. A difference is
-printed, and its texts are kept."""
+of its line says the same, and a table of a run that finished has a row for each value; the place after the last never comes. --wakes tells
+the first row that has enough of an input. A difference is printed, and its texts are kept."""
 import re
 import subprocess
 import sys
@@ -78,6 +78,19 @@ def try_row(trial, line, place, told, finished, count):
     demand(not finished or (len(rows) - 1, ran.returncode) == (count, 0), f"{len(rows) - 1} rows, not {count}; status {ran.returncode}")
     row = {name: int(n) for name, n in zip(rows[0][2:], rows[place][2:]) if n != "0"}
     demand(row == {name: n for name, (n, _) in told.items()}, f"row {place}: {row}")
+    name = trial.rng.choice(sorted(trial.inputs) or [None])
+    if name is not None and line not in trial.inner:
+        try_wakes(trial, line, rows, name)
+
+
+def try_wakes(trial, line, rows, name):
+    """The first value of the line that needs one of an input, by the line's table."""
+    wanted, column = trial.rng.randint(1, len(trial.inputs[name]) + 1), rows[0].index(name)
+    first = next((row[0] for row in rows[1:] if int(row[column]) >= wanted), None)
+    ran = trial.run(trial.explain, trial.inputs, "--wakes", f"{name}:{wanted}", "--bound", str(BOUND))
+    told = [row for row in ran.stdout.splitlines() if re.match(rf"{line}(?: \w+)?:", row)]
+    right = f":{first} = {rows[int(first)][1]} needs " if first else ": no value needs it"
+    demand(told and right in told[0], f"--wakes {name}:{wanted}: {ran.stdout!r}, not {right}")
 
 
 def try_value(trial, line, place, all_values):

@@ -3,6 +3,7 @@ Why runs stopped: rings, tails into a ring, ends of streams, inputs, faults, the
 A ring of three with a tail.
   $ ln -s "$TOP/crates/kahn_explain/data/ring.kahn" ring.kahn; kahn_explain ring.kahn
   deadlock: 1 stage, 2 stage and 3 tap wait on one another
+  4 of the 5 values of TICK were never taken
   ring.kahn:7:17: error: 1 stage waits on A from 3 tap, in a deadlock: for ever
    7 |     repeat send wait(U) + 1 on W
      |                 ^^^^^^^
@@ -99,6 +100,7 @@ Waits at several places.
 A fault.
   $ kahn_explain fault.kahn
   1 process has a fault
+  2 of the 3 values of A were never taken
   fault.kahn:4:72: error: 2 divide has a fault, division
    4 |   process divide(integer in U; integer out W); begin repeat send 1 div wait(U) on W end;
      |                                                                        ^^^^^^^
@@ -108,6 +110,7 @@ A fault.
 A fault of two instances of a process.
   $ kahn_explain twice.kahn
   2 processes have a fault
+  2 of the 3 values of A were never taken
   twice.kahn:3:72: error: 1 divide has a fault, division
    3 |   process divide(integer in U; integer out W); begin repeat send 1 div wait(U) on W end;
      |                                                                        ^^^^^^^
@@ -117,6 +120,7 @@ A fault of two instances of a process.
 A fault beside a ring.
   $ kahn_explain both.kahn
   1 process has a fault; deadlock: 1 copy waits on itself
+  2 of the 3 values of A were never taken
   both.kahn:2:64: error: 1 copy waits on C from 1 copy, in a deadlock: for ever
    2 |   process copy(integer in U; integer out W); begin repeat send wait(U) on W end;
      |                                                                ^^^^^^^

@@ -21,6 +21,29 @@ Values that nobody took.
   channel,from,to,sent,taken,left
   A,,1 q,8,5,3
   B,1 q,,5,0,5
+What is told of them without a table.
+  $ kahn_explain five --input <(echo 'A: 1 2 3 4 5 6 7 8')
+  no deadlock and no fault
+  3 of the 8 values of A were never taken
+  finished 16
+  $ kahn_explain five --input <(echo 'A: 1 2 3 4 5 6') | head -n 2
+  no deadlock and no fault
+  1 of the 6 values of A was never taken
+  $ kahn_explain five --input <(echo 'A: 1 2 3 4 5') | head -n 2
+  no deadlock and no fault
+  finished 16
+One value, and the first of two channels.
+  $ echo 'begin integer input channel A, B; process q(integer in U, V); begin end; q(A, B) end' > two
+  $ kahn_explain two --input <(echo 'B: 7') | grep 'never taken'
+  the value of B was never taken
+  $ kahn_explain two --input <(printf 'A: 1\nB: 7\n') | grep 'never taken'
+  the value of A was never taken
+  $ kahn_explain two --input <(printf 'A: 1\nB: 7 8\n') | grep 'never taken'
+  2 of the 2 values of B were never taken
+Not of a run that goes on.
+  $ kahn_explain five --input <(echo 'A: 1 2 3 4 5 6 7 8') --bound 3 | head -n 2
+  stopped by the bound: 1 process wants more events
+  1 q wants more, after 3 events
 A table beside a ring.
   $ ln -s "$TOP/crates/kahn_explain/data/ring.kahn" ring.kahn; kahn_explain ring.kahn --channels 2> why
   channel,from,to,sent,taken,left

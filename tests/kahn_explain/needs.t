@@ -1,4 +1,4 @@
-What values need (--needs).
+What values need (--needs), and which are the first that need one (--wakes).
 
 A value in three rates: the latency of a filter, a decimator and a resampler.
   $ kahn_explain examples/rates.kahn --input examples/rates.input --needs RESAMPLED:4
@@ -65,4 +65,35 @@ An input.
 No place.
   $ kahn_explain examples/rates.kahn --input examples/rates.input --needs RESAMPLED:0
   ! kahn_explain: --needs RESAMPLED:0: places are counted from 1
+  [1]
+
+The first value that needs one of an input, in three rates.
+  $ kahn_explain examples/rates.kahn --input examples/rates.input --wakes SIGNAL:5
+  RESAMPLED:3 = 47 needs SIGNAL: 5 of 13, LOW: 5 of 13, HALF: 3 of 7
+  events of 1 low_pass: 15 of 40, 2 take_first: 13 of 34, 3 resample: 12 of 37
+The first value of the input.
+  $ kahn_explain examples/rates.kahn --input examples/rates.input --wakes SIGNAL
+  RESAMPLED:1 = 0 needs SIGNAL: 3 of 13, LOW: 3 of 13, HALF: 2 of 7
+  events of 1 low_pass: 9 of 40, 2 take_first: 8 of 34, 3 resample: 5 of 37
+A value that isn't there.
+  $ kahn_explain examples/rates.kahn --input examples/rates.input --wakes SIGNAL:14
+  RESAMPLED: no value needs it
+Outputs and prints.
+  $ kahn_explain marked.kahn --input <(echo 'A: 3 4 -5') --wakes A:2
+  B:2 = 4 needs A: 2 of 3
+  events of 1 mark: 10 of 16
+  LAST: no value needs it
+  1 mark:2 = false needs A: 2 of 3
+  events of 1 mark: 8 of 16
+  2 tell: no value needs it
+A bound that is too small.
+  $ kahn_explain examples/rates.kahn --input examples/rates.input --bound 30 --wakes SIGNAL:5
+  RESAMPLED: no value needs it within the bound
+  [3]
+A name that isn't there, and one that isn't an input.
+  $ kahn_explain examples/rates.kahn --input examples/rates.input --wakes SIGNA:5
+  ! kahn_explain: --wakes SIGNA:5: no such channel; did you mean `SIGNAL`?
+  [1]
+  $ kahn_explain examples/rates.kahn --input examples/rates.input --wakes LOW:5
+  ! kahn_explain: --wakes LOW:5: not an input channel
   [1]

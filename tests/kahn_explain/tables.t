@@ -31,6 +31,7 @@ A table beside a ring.
   4,,,,,3,
   5,,,,,4,
   ! deadlock: 1 stage, 2 stage and 3 tap wait on one another
+  ! 4 of the 5 values of TICK were never taken
   ! ring.kahn:7:17: error: 1 stage waits on A from 3 tap, in a deadlock: for ever
   !  7 |     repeat send wait(U) + 1 on W
   !    |                 ^^^^^^^

@@ -1,14 +1,21 @@
 -- The columns of a run that keeps all channels.
-use Rattle.std.proofs.Common.{◌≡◌, ◌∙◌, ℕ, ◌<◌, false, length, Some, slice_get}
+use Rattle.std.proofs.Common.{◌≡◌, ◌∙◌, ℕ, ◌<◌, ap, arith, false, length, Some, slice_get, sym}
+use Rattle.std.proofs.lemmas.List.{length-map}
+use Rattle.kahn_streams.proofs.By_number.{all_at, mapped}
 use Rattle.kahn_streams.specs.declared.config.Config.{Config}
 use Rattle.kahn_streams.specs.declared.tree.Program.{Program}
 use Rattle.kahn_streams.specs.declared.value.Line.{Line}
+use Rattle.kahn_streams.specs.declared.tree.Kind.{Kind}
+use Rattle.kahn_streams.specs.declared.tree.Role.{Role}
 use Rattle.kahn_streams.specs.declared.tree.Role.TheVariants.{Output}
-use Rattle.kahn_streams.specs.Network.{network_of, role_at}
+use Rattle.kahn_streams.specs.Network.{Instance, channels_of, network_of, role_at}
 use Rattle.kahn_streams.specs.Inputs.{Lists, inputs_of}
-use Rattle.kahn_streams.specs.declared.value.Line.TheVariants.{Channel}
-use Rattle.kahn_streams.specs.Answers.{HasStream, IsRightRun, is_output}
+use Rattle.kahn_streams.specs.declared.value.Line.TheVariants.{Channel, Print}
+use Rattle.kahn_streams.specs.Answers.{HasStream, IsRightRun, is_output, stream_line, stream_lines}
 use Rattle.kahn_streams.specs.declared.answer.Stream.{Stream}
+use Rattle.kahn_needs.specs.Finding.{IsNetworkLine}
+use Rattle.kahn_texts.specs.Formats.{IsLine, channel_count, instance_count}
+use Rattle.kahn_texts.proofs.Answer_lines.{streamed_lines}
 use Rattle.kahn_sequential.specs.Recordings.{IsRecordedRun}
 use Rattle.kahn_sequential.specs.declared.recorded.Recorded.{Recorded}
 use Rattle.kahn_explain.specs.inner.Columns.{HasLine, HasValuesOf, IsAny, IsColumnOf, IsHistoryOf, IsRecord}
@@ -46,3 +53,13 @@ pub kept_column : (t : Program) (x : Recorded) (c : ℕ) (s : Stream) (y : Colum
     → HasValuesOf s y → IsHistoryOf t x (Channel c) y
 kept_column t x c s y (lists, config, (allowed, (w, watched, (right, counts, kept)))) at inner is =
     (is.line ∙ (kept.each c s at inner).line, of_kept t x c s y at inner is)
+
+-- the line of a stream is one of the network
+network_line : (t : Program) (c : Line) → IsLine t c → IsNetworkLine (network_of t) c
+network_line t (Channel c) h = let e : length (network_of t).channels ≡ channel_count t = length-map {B = Kind × Role} (channels_of t.declarations.items) (λ x. x.1) in omega (arith, h, e)
+network_line t (Print p) h = let e : length (network_of t).instances ≡ instance_count t = length-map {B = Instance} t.instances.items _ in omega (arith, h, e)
+
+pub stream_listed : (t : Program) (x : Recorded) (k : ℕ) (s : Stream) → IsRecord t x → slice_get x.answer.streams.items k ≡ Some s → IsNetworkLine (network_of t) s.line
+stream_listed t x k s (lists, config, (allowed, (w, watched, (right, counts, kept)))) at =
+    network_line t s.line (all_at (IsLine t) (stream_lines (network_of t) w) k s.line (streamed_lines t w)
+    (ap (λ l. slice_get l k) (sym right.named) ∙ mapped stream_line x.answer.streams.items k s at))

@@ -1,6 +1,8 @@
 mod Begun
 mod Cells
+mod Firsts
 mod Kept_columns
+mod Most
 mod Parts
 mod Rowed
 mod Sheets

@@ -5,23 +5,24 @@ use Rattle.std.specs.Io.KnownBytes.{Appends}
 use Rattle.kahn_streams.specs.declared.config.Config.{Config}
 use Rattle.kahn_streams.specs.declared.fault.RunFault.{RunFault}
 use Rattle.kahn_streams.specs.declared.fault.RunFault.TheVariants.{NoMemory}
+use Rattle.kahn_streams.specs.declared.tree.Program.{Program}
 use Rattle.kahn_streams.specs.Inputs.{Lists}
 use Rattle.kahn_streams.specs.Answers.{IsRightRun, IsUnrun}
-use Rattle.kahn_streams.specs.declared.answer.Answer.{Answer}
 use Rattle.kahn_streams.specs.declared.answer.Verdict.TheVariants.{Finished}
 use Rattle.kahn_texts.specs.Formats.{IsInputTextFault, StandsFor}
 use Rattle.kahn_texts.specs.declared.input.TextFault.{TextFault}
 use Rattle.kahn_fault.specs.declared.work.WorkFault.{WorkFault}
 use Rattle.kahn_fault.specs.declared.work.WorkFault.TheVariants.{Syntax, Check, Text, Run, Write}
-use Rattle.kahn_why.specs.declared.why.told.Explanation.{Explanation}
 use Rattle.kahn_why.specs.declared.why.told.Told.{Told}
 use Rattle.kahn_why.specs.declared.why.told.Told.TheVariants.{Stop}
-use Rattle.kahn_why.specs.Why.{IsExplained}
 use Rattle.kahn_why.proofs.Parts.{are_allowed}
 use Rattle.kahn_why.specs.inner.Told.{HasRefused, HasWritten, IsAdmitted}
 use Rattle.kahn_why.specs.declared.explaining.Admitted.{Admitted}
 use Rattle.kahn_why.specs.declared.explaining.Came.{Came}
 use Rattle.kahn_why.specs.declared.explaining.Came.TheVariants.{Stopped, Refused}
+use Rattle.kahn_sequential.specs.Recordings.{IsCountedRun}
+use Rattle.kahn_sequential.specs.declared.counted.Counted.{Counted}
+use Rattle.kahn_explain.specs.Untaken.{IsToldFor}
 use Rattle.kahn_explain.specs.Running.{AreNotes, AreNotesBefore, AreNotesOfUnrun, HasExplained, HasLooked, HasComeTo, IsLookedAt, IsToldOf, IsInputless}
 
 -- why the program text is refused
@@ -80,10 +81,13 @@ pub unrun : (path program input : List ℕ) (config : Config) (strict : Bool) (i
 unrun path program input config strict it lists f on stands why = (it.network, lists, before path program input strict it lists on stands, why)
 
 -- whose run was not, with no memory to explain it
-pub unexplained : (path program input : List ℕ) (config : Config) (strict : Bool) (it : Admitted) (lists : Lists) (a : Answer) → IsAdmitted path program strict it
-    → StandsFor it.network input lists → IsRightRun it.network lists config a → AreNotesOfUnrun path program input config strict NoMemory (string_bytes it.notes)
-unexplained path program input config strict it lists a on stands (allowed, (watch, watched, right)) =
+pub unexplained : (path program input : List ℕ) (config : Config) (strict : Bool) (it : Admitted) (lists : Lists) (x : Counted) → IsAdmitted path program strict it
+    → StandsFor it.network input lists → IsCountedRun it.network lists config x → AreNotesOfUnrun path program input config strict NoMemory (string_bytes it.notes)
+unexplained path program input config strict it lists x on stands (allowed, (watch, watched, right)) =
     unrun path program input config strict it lists NoMemory on stands (allowed, (watch, watched))
+
+pub counted_right : (t : Program) (lists : Lists) (config : Config) (x : Counted) → IsCountedRun t lists config x → IsRightRun t lists config x.answer
+counted_right t lists config x (allowed, (watch, watched, (right, counts))) = (allowed, (watch, watched, right))
 
 -- which was only looked at
 pub looked_out : (path program input : List ℕ) (strict : Bool) (it : Admitted) (lists : Lists) (old new : Option (List ℕ)) (r : Result Came WorkFault)
@@ -94,12 +98,12 @@ looked_out path program input strict it lists old new r on stands out =
     (refl, notes_before path program input strict it lists on stands) out
 
 -- and which was run
-pub explained_out : (path program input : List ℕ) (config : Config) (strict : Bool) (it : Admitted) (lists : Lists) (a : Answer) (e : Explanation) (old mid new : Option (List ℕ))
-    (r : Result Came WorkFault) → IsAdmitted path program strict it → StandsFor it.network input lists → Appends old mid (string_bytes it.notes)
-    → IsRightRun it.network lists config a → IsExplained it.network a e → HasWritten (string_bytes e.text) (Stopped e.told) mid new r
+pub explained_out : (path program input : List ℕ) (config : Config) (strict : Bool) (it : Admitted) (lists : Lists) (x : Counted) (told : Told) (words : List ℕ)
+    (old mid new : Option (List ℕ)) (r : Result Came WorkFault) → IsAdmitted path program strict it → StandsFor it.network input lists → Appends old mid (string_bytes it.notes)
+    → IsCountedRun it.network lists config x → IsToldFor it.network x.answer x.counts.items told words → HasWritten words (Stopped told) mid new r
     → HasExplained path program input config strict old new r
-explained_out path program input config strict it lists a e old mid new r on stands gone right is out =
+explained_out path program input config strict it lists x told words old mid new r on stands gone right is out =
     told_out path program input strict (IsToldOf path program input config strict) (AreNotesOfUnrun path program input config strict) (AreNotes path program input strict)
-    e.told (string_bytes it.notes ++ string_bytes e.text) old new r
-    (string_bytes it.notes, e, are_allowed path program strict it on, (it.network, lists, a, (on.checked, stands, right), is), refl, refl)
-    (behind (string_bytes it.notes) (string_bytes e.text) (Stopped e.told) old mid new r gone out)
+    told (string_bytes it.notes ++ words) old new r
+    (string_bytes it.notes, words, are_allowed path program strict it on, (it.network, lists, x, on.checked, stands, right, is), refl)
+    (behind (string_bytes it.notes) words (Stopped told) old mid new r gone out)

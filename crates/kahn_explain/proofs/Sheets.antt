@@ -85,20 +85,20 @@ pub table_for : (counts : Bool) (word : List ℕ) (it : Admitted) (input : List 
     → MatchResult r (IsTableMade counts it.network input config) (IsUntraced it.network input config)
     → MatchResult r (IsReplyFor (sheet.Table counts) word it input config) (IsUntraced it.network input config)
 unfolding replies_of
-table_for counts word it input config (Ok x) (run, e, (lists, stands, ran), is, told, came, words) = λ path program strict on.
+table_for counts word it input config (Ok x) (run, told, said, (lists, stands, ran), is, why, came, words) = λ path program strict on.
     subst (replies_of (sheet.Table counts) word path program input config strict (string_bytes it.notes) x) (sym came) (
       string_bytes it.notes,
       string_bytes x.words,
       are_allowed path program strict it on,
-      (it.network, lists, run, e, on.checked, stands, ran, is lists config ran, told, refl, words),
+      (it.network, lists, run, said, on.checked, stands, ran, is lists config ran, why, words),
       refl,
     )
 table_for counts word it input config (Err f) why = why
 
 -- why a word asks for nothing
-pub refusal_for : (word : List ℕ) (it : Admitted) (input : List ℕ) (config : Config) (f : AskFault) (r : Result Reply WorkFault) → IsUnasked it.network word f
-    → MatchResult r IsNoReply (λ e. e ≡ Run NoMemory) → MatchResult r (IsReplyFor sheet.Needs word it input config) (IsUntraced it.network input config)
+pub refusal_for : (wakes : Bool) (word : List ℕ) (it : Admitted) (input : List ℕ) (config : Config) (f : AskFault) (r : Result Reply WorkFault) → IsUnasked wakes it.network word f
+    → MatchResult r IsNoReply (λ e. e ≡ Run NoMemory) → MatchResult r (IsReplyFor (sheet.Needs wakes) word it input config) (IsUntraced it.network input config)
 unfolding replies_of
-refusal_for word it input config f (Ok x) why (text, came) = λ path program strict on.
-    subst (replies_of sheet.Needs word path program input config strict (string_bytes it.notes) x) (sym came) (text, inr (it.network, f, on.checked, why))
-refusal_for word it input config f (Err e) why h = inl h
+refusal_for wakes word it input config f (Ok x) why (text, came) = λ path program strict on.
+    subst (replies_of (sheet.Needs wakes) word path program input config strict (string_bytes it.notes) x) (sym came) (text, inr (it.network, f, on.checked, why))
+refusal_for wakes word it input config f (Err e) why h = inl h

@@ -1,13 +1,15 @@
 -- What words name.
-use Rattle.std.proofs.Common.{arith, ◌≡◌, ℕ, List, Option, Some, None, subst}
+use Rattle.std.specs.Prelude.{◌↔◌, not}
+use Rattle.std.proofs.Common.{arith, ◌≡◌, ℕ, Bool, true, false, List, Option, Some, None, refl, subst}
 use Rattle.kahn_streams.proofs.Entered.{names_count}
 use Rattle.kahn_streams.specs.Inputs.{IsNoName}
-use Rattle.kahn_streams.specs.Network.{network_of}
+use Rattle.kahn_streams.specs.Network.{Given, network_of}
+use Rattle.kahn_streams.specs.Solution.{source}
 use Rattle.kahn_streams.specs.declared.tree.Program.{Program}
 use Rattle.kahn_streams.specs.declared.value.Line.{Line}
 use Rattle.kahn_streams.specs.declared.value.Line.TheVariants.{Channel, Print}
 use Rattle.kahn_needs.specs.Finding.{IsNetworkLine}
-use Rattle.kahn_explain.specs.Needing.{IsLineNamed, IsPlaceGiven, IsPlaceWord}
+use Rattle.kahn_explain.specs.Needing.{IsAskable, IsLineNamed, IsPlaceGiven, IsPlaceWord}
 
 pub line_listed : (t : Program) (word : List ℕ) (c : Line) → IsLineNamed t word c → IsNetworkLine (network_of t) c
 line_listed t word (Channel c) h = let l = h.1 in let e = names_count t in omega (arith, l, e)
@@ -20,3 +22,12 @@ no_line t word none unread (Print p) h = unread p h.1
 pub none_given : (w : Option (List ℕ)) (word : List ℕ) → w ≡ Some word → ((k : ℕ) → IsPlaceWord word k → ⊥) → (k : Option ℕ) → IsPlaceGiven w k → ⊥
 none_given w word is unread None h = subst (λ o. IsPlaceGiven o None) is h
 none_given w word is unread (Some k) h = unread k (subst (λ o. IsPlaceGiven o (Some k)) is h)
+
+-- whether it may be asked of an input, and of another line
+pub askable_given : (t : Program) (c : Line) (wakes : Bool) → source (network_of t) c ≡ Given → (wakes ≡ true) ↔ IsAskable wakes t c
+askable_given t c true given = (λ e. given, λ h. refl)
+askable_given t c false given = (λ e. absurd cc, λ h. absurd (h given))
+
+pub askable_made : (t : Program) (c : Line) (wakes : Bool) → (source (network_of t) c ≡ Given → ⊥) → (not wakes ≡ true) ↔ IsAskable wakes t c
+askable_made t c true made = (λ e. absurd cc, λ h. absurd (made h))
+askable_made t c false made = (λ e. made, λ h. refl)

@@ -7,7 +7,6 @@ use Rattle.std.specs.declared.string.String.{String}
 use Rattle.kahn_streams.specs.Answers.{IsUnrun}
 use Rattle.kahn_streams.specs.Inputs.{Lists}
 use Rattle.kahn_streams.specs.Written.{AppendsFront}
-use Rattle.kahn_streams.specs.declared.answer.Answer.{Answer}
 use Rattle.kahn_streams.specs.declared.answer.Verdict.TheVariants.{Finished, Bound, Memory}
 use Rattle.kahn_streams.specs.declared.config.Config.{Config}
 use Rattle.kahn_streams.specs.declared.fault.RunFault.{RunFault}
@@ -17,20 +16,19 @@ use Rattle.kahn_texts.specs.Formats.{StandsFor, IsInputTextFault}
 use Rattle.kahn_texts.specs.declared.input.TextFault.{TextFault}
 use Rattle.kahn_fault.specs.Status.{status_of}
 use Rattle.kahn_fault.specs.Telling.{WasWritten, told_text}
-use Rattle.kahn_fault.specs.Work.{IsAnswered, IsChecked, IsUnchecked}
+use Rattle.kahn_fault.specs.Work.{IsChecked, IsUnchecked}
 use Rattle.kahn_fault.specs.declared.fault.Fault.TheVariants.{Work}
 use Rattle.kahn_fault.specs.declared.texts.Texts.{Texts}
 use Rattle.kahn_fault.specs.declared.work.WorkFault.{WorkFault}
 use Rattle.kahn_fault.specs.declared.work.WorkFault.TheVariants.{Syntax, Check, Text, Run, Write}
 use Rattle.kahn_marks.specs.Marks.{shown_text}
-use Rattle.kahn_sequential.specs.Recordings.{IsRecordedRun}
+use Rattle.kahn_sequential.specs.Recordings.{IsCountedRun, IsRecordedRun}
+use Rattle.kahn_sequential.specs.declared.counted.Counted.{Counted}
 use Rattle.kahn_sequential.specs.declared.recorded.Recorded.{Recorded}
 use Rattle.kahn_why.specs.Refusing.{AreAllowed, IsRefusal, IsRefusedFor}
 use Rattle.kahn_why.specs.Telling.{HasToldInput}
-use Rattle.kahn_why.specs.Why.{IsExplained}
 use Rattle.kahn_why.specs.declared.explaining.Came.{Came}
 use Rattle.kahn_why.specs.declared.explaining.Came.TheVariants.{Stopped, Refused}
-use Rattle.kahn_why.specs.declared.why.told.Explanation.{Explanation}
 use Rattle.kahn_why.specs.declared.why.told.Told.{Told}
 use Rattle.kahn_why.specs.declared.why.told.Told.TheVariants as told
 use Rattle.kahn_explain.specs.Histories.{IsRunTable}
@@ -38,6 +36,7 @@ use Rattle.kahn_explain.specs.Needing.{AreNeedsTold, IsUnaskedOf}
 use Rattle.kahn_explain.specs.declared.pipe.Pipe.{Pipe}
 use Rattle.kahn_explain.specs.declared.replying.Sheet.{Sheet}
 use Rattle.kahn_explain.specs.declared.replying.Sheet.TheVariants as sheet
+use Rattle.kahn_explain.specs.Untaken.{IsToldFor}
 use Rattle.kahn_explain.specs.declared.running.Paths.{Paths}
 use Rattle.kahn_explain.specs.declared.running.Wish.{Wish}
 use Rattle.kahn_explain.specs.declared.running.Wish.TheVariants as wish
@@ -79,14 +78,15 @@ abbrev pub AreNotesOfUnrun : List ℕ → List ℕ → List ℕ → Config → B
 AreNotesOfUnrun path program input config strict f notes =
     (t : Program) × (lists : Lists) × AreNotesBefore path program input strict t lists notes × IsUnrun t config f
 
--- why the run of a right answer of these texts stopped
-abbrev pub IsExplanationOf : List ℕ → List ℕ → Config → Explanation → Type 0
-IsExplanationOf program input config e = (t : Program) × (lists : Lists) × (a : Answer) × IsAnswered program input config t lists a × IsExplained t a e
+-- why the run of these texts stopped, by its right answer and its counts
+abbrev pub IsExplanationOf : List ℕ → List ℕ → Config → Told → List ℕ → Type 0
+IsExplanationOf program input config x text = (t : Program) × (lists : Lists) × (run : Counted) × IsChecked program t × StandsFor t input lists
+    × IsCountedRun t lists config run × IsToldFor t run.answer run.counts.items x text
 
 -- the notes and the explanation
 abbrev pub IsToldOf : List ℕ → List ℕ → List ℕ → Config → Bool → Told → List ℕ → Type 0
 IsToldOf path program input config strict x text =
-    (notes : List ℕ) × (e : Explanation) × AreAllowed path program strict notes × IsExplanationOf program input config e × (e.told ≡ x) × (text ≡ notes ++ string_bytes e.text)
+    (notes words : List ℕ) × AreAllowed path program strict notes × IsExplanationOf program input config x words × (text ≡ notes ++ words)
 
 -- a run was explained
 abbrev pub HasExplained : List ℕ → List ℕ → List ℕ → Config → Bool → Option (List ℕ) → Option (List ℕ) → Result Came WorkFault → Type 0
@@ -114,19 +114,19 @@ beside (told.Stop Memory) text = text
 
 -- the table of a run of these texts that keeps all that is sent, of the counts of its channels or of the histories, and why it stopped
 abbrev pub IsTableOf : Bool → List ℕ → List ℕ → Config → Told → List ℕ → List ℕ → Type 0
-IsTableOf counts program input config x text more = (t : Program) × (lists : Lists) × (run : Recorded) × (e : Explanation) × IsChecked program t
-    × StandsFor t input lists × IsRecordedRun t lists config run × IsRunTable counts t lists run text × IsExplained t run.answer e × (e.told ≡ x)
-    × (more ≡ beside e.told (string_bytes e.text))
+IsTableOf counts program input config x text more = (t : Program) × (lists : Lists) × (run : Recorded) × (words : List ℕ) × IsChecked program t
+    × StandsFor t input lists × IsRecordedRun t lists config run × IsRunTable counts t lists run text × IsToldFor t run.answer run.counts.items x words
+    × (more ≡ beside x words)
 
 -- what is told, and what beside it, of what is asked for
 abbrev pub IsSheet : Sheet → List ℕ → List ℕ → List ℕ → Config → Told → List ℕ → List ℕ → Type 0
 IsSheet (sheet.Table counts) word program input config x text more = IsTableOf counts program input config x text more
-IsSheet sheet.Needs word program input config x text more = AreNeedsTold word program input config x text × (more ≡ [])
+IsSheet (sheet.Needs wakes) word program input config x text more = AreNeedsTold wakes word program input config x text × (more ≡ [])
 
 -- or it asks for nothing
 abbrev pub IsNoSheet : Sheet → List ℕ → List ℕ → Type 0
 IsNoSheet (sheet.Table counts) word program = ⊥
-IsNoSheet sheet.Needs word program = IsUnaskedOf word program
+IsNoSheet (sheet.Needs wakes) word program = IsUnaskedOf wakes word program
 
 -- what goes out, and beside it with the notes; or there why the program text or the word is refused
 abbrev pub Replies : Sheet → List ℕ → List ℕ → List ℕ → List ℕ → Config → Bool → Came → List ℕ → List ℕ → Type 0

@@ -1,25 +1,25 @@
 //! From a program text and an input text to why the run stopped, or to what is wrong with them.
 
-ghost use Rattle.std.specs.Prelude.{◌≡◌, IfOk};
+ghost use Rattle.std.specs.Prelude.{◌≡◌, IfOk, string_bytes};
 ghost use Rattle.kahn_streams.specs.Network.{network_of};
 ghost use Rattle.kahn_fault.specs.Work.{IsChecked};
 ghost use Rattle.kahn_chain.specs.Chain.{AreStandings};
 ghost use Rattle.kahn_why.specs.Why.{IsExplained, standings_of};
 ghost use Rattle.kahn_explain.specs.Running.{HasExplained, HasLooked, came_status};
+ghost use Rattle.kahn_explain.specs.Untaken.{IsToldFor};
 ghost use Rattle.kahn_explain.specs.inner.Told.{HasLookedOn, HasToldRun};
 
+use crate::untaken::{untaken_line, with_line};
 use kahn_fault::WorkFault;
-use kahn_pool::{Answer, Config, Open, RunFault, Verdict, run};
-use kahn_streams::{Network, NoMemory};
+use kahn_sequential::{Count, run_counted};
+use kahn_streams::{Answer, Config, Network, NoMemory, RunFault, Verdict};
 use kahn_texts::{read_input, write_line};
 use kahn_why::{Admitted, Came, Explanation, Told, admit, explained, explained_each, write_both};
 use std::alloc::Global;
 use std::io::Write;
-use std::sync::Wait;
-use std::thread::Threads;
 
 /// Why the run of an answer stopped, by the input text of the run: by its causes, or for each process.
-pub(crate) fn explain_answer(
+fn explanation_of(
     alloc: Global,
     path: &str,
     program: &str,
@@ -40,10 +40,29 @@ pub(crate) fn explain_answer(
     Ok(explained(alloc, path, program, network, Some(&input), answer)?)
 }
 
+/// What a run came to, and what is told of it: why it stopped, and which values nobody took.
+pub(crate) fn told_of(
+    alloc: Global,
+    path: &str,
+    program: &str,
+    network: &Network,
+    input: &str,
+    answer: &Answer,
+    counts: &[Count],
+    all: bool,
+) -> Result<(Told, String), NoMemory>
+    requires { AreStandings (network_of network.now) (standings_of answer.now) }
+    ensures { IfOk result (λ r. IsToldFor network.now answer.now counts.now r.0 (string_bytes r.1)) }
+{
+    let explanation = explanation_of(alloc, path, program, network, input, answer, all)?;
+    let line = untaken_line(alloc, network, answer.verdict, counts)?;
+    let text = with_line(alloc, explanation.text.as_str(), line.as_str())?;
+    Ok((explanation.told, text))
+}
+
 /// Writes what is warned of in an allowed program, if its input text stands for an input; then runs it, and writes why the run
 /// stopped.
-fn explain_run<R: Threads + Wait + Sync, W: Write>(
-    rt: &R,
+fn explain_run<W: Write>(
     alloc: Global,
     path: &str,
     program: &str,
@@ -63,16 +82,15 @@ fn explain_run<R: Threads + Wait + Sync, W: Write>(
     if let Err(fault) = write_line(writer, &[it.notes.as_bytes()]) {
         return Err(WorkFault::Write(fault));
     }
-    let answer = match run(rt, alloc, &it.network, lists, config, &Open) {
-        Ok(answer) => answer,
+    let run = match run_counted(alloc, &it.network, lists, config) {
+        Ok(run) => run,
         Err(fault) => return Err(WorkFault::Run(fault)),
     };
-    let Ok(explanation) = explain_answer(alloc, path, program, &it.network, input, &answer, all)
-    else {
+    let (network, answer, counts) = (&it.network, &run.answer, &run.counts);
+    let Ok((told, text)) = told_of(alloc, path, program, network, input, answer, counts, all) else {
         return Err(WorkFault::Run(RunFault::NoMemory));
     };
-    let came = Came::Stopped(explanation.told);
-    write_both("", explanation.text.as_str(), came, writer)
+    write_both("", text.as_str(), Came::Stopped(told), writer)
 }
 
 /// Writes what is warned of in a program, runs it on an input, and writes why the run stopped; or why the program text is refused,
@@ -80,8 +98,7 @@ fn explain_run<R: Threads + Wait + Sync, W: Write>(
 /// input text was read, before the run begins: so it stands where the run is refused, or memory for the explanation. Else nothing is
 /// written before all that is to be written stands. Faults are found in this order: of the program text, of the network, warnings,
 /// of the input text, of the writer at the warnings, of the run, want of memory, of the writer at the explanation.
-pub fn explain<R: Threads + Wait + Sync, W: Write>(
-    rt: &R,
+pub fn explain<W: Write>(
     alloc: Global,
     path: &str,
     program: &str,
@@ -94,7 +111,7 @@ pub fn explain<R: Threads + Wait + Sync, W: Write>(
     ensures { HasExplained path.now program.now input.now config strict (W.contents writer.old) (W.contents writer.new) result }
 {
     match admit(alloc, path, program, strict, writer) {
-        Ok(it) => explain_run(rt, alloc, path, program, &it, input, config, all, writer),
+        Ok(it) => explain_run(alloc, path, program, &it, input, config, all, writer),
         Err(came) => came,
     }
 }

@@ -11,6 +11,7 @@ mod pipe;
 mod replying;
 mod running;
 mod tracing;
+mod untaken;
 
 use kahn_fault::{read_texts, shown_path, tell_unread};
 use kahn_line::{ExplainOptions, read_explain_line, tell_line, tell_no_memory, tell_words};
@@ -21,8 +22,6 @@ use std::alloc::{AllocError, Global};
 use std::io::Write;
 use std::process::ExitCode;
 use std::rt::Runtime;
-use std::sync::Wait;
-use std::thread::Threads;
 use std::{env, io};
 
 /// What the path of the program text is called in a note.
@@ -47,7 +46,9 @@ fn wish_of(options: &ExplainOptions) -> Wish {
     if options.check {
         Wish::Look
     } else if options.needs.is_some() {
-        Wish::Sheet(Sheet::Needs)
+        Wish::Sheet(Sheet::Needs(false))
+    } else if options.wakes.is_some() {
+        Wish::Sheet(Sheet::Needs(true))
     } else if options.trace {
         Wish::Sheet(Sheet::Table(false))
     } else if options.channels {
@@ -57,16 +58,19 @@ fn wish_of(options: &ExplainOptions) -> Wish {
     }
 }
 
-/// The word of what values need, where one is given.
-fn word_of(needs: &Option<String>) -> &str {
+/// The word of what values need, or of what needs one, where one is given.
+fn word_of<'a>(needs: &'a Option<String>, wakes: &'a Option<String>) -> &'a str {
     match needs {
         Some(word) => word.as_str(),
-        None => "",
+        None => match wakes {
+            Some(word) => word.as_str(),
+            None => "",
+        },
     }
 }
 
 /// Does what the command line asks for, and gives the status. Faults are told to the writer.
-fn answered<R: Runtime + AllocGlobal + Threads + Wait + Sync, W: Write>(
+fn answered<R: Runtime + AllocGlobal, W: Write>(
     rt: &R,
     options: ExplainOptions,
     paths: &Paths,
@@ -78,13 +82,14 @@ fn answered<R: Runtime + AllocGlobal + Threads + Wait + Sync, W: Write>(
         Ok(texts) => texts,
         Err(fault) => return tell_unread(rt, "kahn_explain", fault, writer),
     };
-    let word = word_of(&options.needs);
+    let word = word_of(&options.needs, &options.wakes);
     let mut out = Pipe {
         writer: io::writer(rt),
         gone: false,
     };
+    let alloc = rt.alloc();
     ran(
-        rt, paths, &texts, wish, word, config, strict, all, &mut out, writer,
+        alloc, paths, &texts, wish, word, config, strict, all, &mut out, writer,
     )
 }
 

@@ -10,12 +10,12 @@ ghost use Rattle.kahn_explain.specs.declared.replying.Sheet.TheVariants.{Needs a
 ghost use Rattle.kahn_explain.specs.inner.Columns.{IsRecord};
 ghost use Rattle.kahn_explain.specs.inner.Told.{HasPut, IsNoReply, IsReplyFor, IsTableFor, IsTableMade, notes_for};
 
-use crate::explaining::explain_answer;
+use crate::explaining::told_of;
 use crate::needing::{AskFault, fault_text, replied, sought};
 use crate::tracing::{columns_of, counts_text, recorded, trace_text};
 use kahn_fault::WorkFault;
-use kahn_pool::{Config, Recorded, RunFault, Verdict};
-use kahn_streams::{Network, NoMemory};
+use kahn_sequential::Recorded;
+use kahn_streams::{Config, Network, NoMemory, RunFault, Verdict};
 use kahn_texts::write_line;
 use kahn_why::{Admitted, Came, Told, admit, write_both};
 use std::alloc::Global;
@@ -26,8 +26,8 @@ use std::io::Write;
 pub(crate) enum Sheet {
     /// A table of a run: of how many values each channel carried, or else of all of them.
     Table(bool),
-    /// What values need.
-    Needs,
+    /// What values need; or, the other way round, which are the first that need one.
+    Needs(bool),
 }
 
 /// What goes out, the words beside it, and what it came to.
@@ -83,14 +83,13 @@ fn table_of(
     let Ok(table) = run_table(alloc, network, counts, &kept) else {
         return Err(WorkFault::Run(RunFault::NoMemory));
     };
-    let Ok(explanation) = explain_answer(alloc, path, program, network, text, &kept.answer, all)
-    else {
+    let (answer, sent) = (&kept.answer, &kept.counts);
+    let Ok((told, words)) = told_of(alloc, path, program, network, text, answer, sent, all) else {
         return Err(WorkFault::Run(RunFault::NoMemory));
     };
-    let told = explanation.told;
     Ok(Reply {
         text: table,
-        words: beside(alloc, told, explanation.text),
+        words: beside(alloc, told, words),
         came: Came::Stopped(told),
     })
 }
@@ -100,11 +99,12 @@ fn unasked(
     alloc: Global,
     network: &Network,
     word: &str,
+    wakes: bool,
     fault: AskFault,
 ) -> Result<Reply, WorkFault>
     ensures { MatchResult result IsNoReply (λ f. f ≡ Run Wants) }
 {
-    match fault_text(alloc, network, word, fault) {
+    match fault_text(alloc, network, word, wakes, fault) {
         Ok(words) => Ok(Reply {
             text: String::new(alloc),
             words,
@@ -121,14 +121,15 @@ fn needs_of(
     text: &str,
     config: Config,
     word: &str,
+    wakes: bool,
 ) -> Result<Reply, WorkFault>
-    ensures { MatchResult result (IsReplyFor NeedsSheet word.now it.now text.now config) (IsUntraced it.now.network text.now config) }
+    ensures { MatchResult result (IsReplyFor (NeedsSheet wakes) word.now it.now text.now config) (IsUntraced it.now.network text.now config) }
 {
-    let question = match sought(&it.network, word) {
+    let question = match sought(&it.network, word, wakes) {
         Ok(question) => question,
-        Err(fault) => return unasked(alloc, &it.network, word, fault),
+        Err(fault) => return unasked(alloc, &it.network, word, wakes, fault),
     };
-    let told = replied(alloc, &it.network, text, config, question)?;
+    let told = replied(alloc, &it.network, text, config, wakes, question)?;
     Ok(Reply {
         text: told.0,
         words: String::new(alloc),
@@ -154,7 +155,7 @@ fn sheet_of(
     let network = &it.network;
     match kind {
         Sheet::Table(counts) => table_of(alloc, path, program, network, text, config, counts, all),
-        Sheet::Needs => needs_of(alloc, it, text, config, word),
+        Sheet::Needs(wakes) => needs_of(alloc, it, text, config, word, wakes),
     }
 }
 

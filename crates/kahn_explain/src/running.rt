@@ -7,13 +7,10 @@ use crate::explaining::{explain, look, status};
 use crate::pipe::Pipe;
 use crate::replying::{Sheet, sheet_out};
 use kahn_fault::{Fault, Texts, WorkFault, tell};
-use kahn_pool::Config;
+use kahn_streams::Config;
 use kahn_why::{Came, refuse_input};
 use std::alloc::Global;
 use std::io::Write;
-use std::rt::Runtime;
-use std::sync::Wait;
-use std::thread::Threads;
 
 /// What is asked for.
 #[derive(Clone, Copy)]
@@ -54,8 +51,8 @@ fn or_refused<W: Write>(
 
 /// Explains the run of the program on the input; or looks at the texts alone; or writes a sheet, and to the other writer what is told beside
 /// it, or why there is none.
-fn done<R: Runtime + AllocGlobal + Threads + Wait + Sync, W: Write, E: Write>(
-    rt: &R,
+fn done<W: Write, E: Write>(
+    alloc: Global,
     paths: &Paths,
     texts: &Texts,
     wish: Wish,
@@ -68,11 +65,11 @@ fn done<R: Runtime + AllocGlobal + Threads + Wait + Sync, W: Write, E: Write>(
 ) -> Result<Came, WorkFault>
     ensures { HasDoneOn wish word.now (texts_of paths.now texts.now) config strict W.contents out.old out.new E.contents log.old log.new result }
 {
-    let (alloc, path) = (rt.alloc(), paths.program.as_str());
+    let path = paths.program.as_str();
     let (program, input) = (texts.program.as_str(), texts.input.as_str());
     match wish {
         Wish::Reasons => {
-            let came = explain(rt, alloc, path, program, input, config, strict, all, out);
+            let came = explain(alloc, path, program, input, config, strict, all, out);
             or_refused(alloc, paths, texts, came, out)
         }
         Wish::Look => {
@@ -102,8 +99,8 @@ fn ended<E: Write>(came: Result<Came, WorkFault>, program: &str, gone: bool, err
 
 /// Does what is asked for, with a word where it is what values need, and gives the exit status. What is told beside a sheet, and a fault,
 /// goes to `errors`.
-pub(crate) fn ran<R: Runtime + AllocGlobal + Threads + Wait + Sync, W: Write, E: Write>(
-    rt: &R,
+pub(crate) fn ran<W: Write, E: Write>(
+    alloc: Global,
     paths: &Paths,
     texts: &Texts,
     wish: Wish,
@@ -117,7 +114,7 @@ pub(crate) fn ran<R: Runtime + AllocGlobal + Threads + Wait + Sync, W: Write, E:
     ensures { HasExplainedAs wish word.now (texts_of paths.now texts.now) config strict W.contents out.old out.new E.contents errors.old errors.new result }
 {
     let came = done(
-        rt, paths, texts, wish, word, config, strict, all, out, errors,
+        alloc, paths, texts, wish, word, config, strict, all, out, errors,
     );
     ended(came, texts.program.as_str(), out.gone, errors)
 }

@@ -7,7 +7,7 @@ mod prints;
 mod recorded;
 mod table;
 
-pub(crate) use counts::counts_text;
+pub(crate) use counts::{add_side, counts_text};
 pub(crate) use histories::columns_of;
 pub(crate) use recorded::recorded;
 pub(crate) use table::{add_name, add_numbers, add_value, trace_text};

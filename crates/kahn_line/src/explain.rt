@@ -23,7 +23,8 @@ static MORE: &str = "\
 kahn_explain first says in one line what came of the run. Then it writes each cause once: a deadlock, which is a ring of
 processes that wait on one another; a process that has a fault, waits on an input, or wants more events; or one that has
 ended. Below it stands who waits because of it. With `--all` it writes each process that hasn't ended, and where its chain
-of waits leads. The last line says how the run ended. With a program whose process 1 waits on 2, and 2 on 1:
+of waits leads. If values are left that nobody took, the second line says of which channel most. The last line says how the
+run ended. With a program whose process 1 waits on 2, and 2 on 1:
 
   kahn_explain ring.kahn
 
@@ -47,7 +48,7 @@ is never read, a process without an instance, a loop that does nothing, a statem
 a program with a warning isn't run.
 
 With `--trace` it writes all values of all channels as a CSV table, in place of the explanation: a column for each channel
-and each process that prints, a row for each place. The run has one thread then and keeps all values, and the table comes
+and each process that prints, a row for each place. The run keeps all values then, and the table comes
 after it. Warnings go to standard error then, and so does the explanation if the status isn't 0. If the run
 was stopped, the columns are beginnings. With a program that doubles what comes on A, and the input `A: 1 2`:
 
@@ -78,9 +79,12 @@ prints of process 1 are `--needs 1:PLACE`. Without `:PLACE` it writes a CSV tabl
   B:1 = 2 needs A: 1 of 2
   events of 1 double: 3 of 7
 
+With `--wakes IN:PLACE` it goes the other way round: it writes the same of the first value of each output that needs that
+value of an input.
+
 Exit status:
   0  the run finished, without a deadlock and without a fault; or it is known what a value needs, or that it never comes
-  1  program, input or word of `--needs` refused; with `--strict`, also for a warning
+  1  program, input or word of `--needs` or `--wakes` refused; with `--strict`, also for a warning
   2  command line refused
   3  the run was stopped by the bound
   4  no memory
@@ -110,6 +114,8 @@ pub struct ExplainOptions {
     pub check: bool,
     /// The line or the place of a line whose needs are written, or nothing.
     pub needs: Option<String>,
+    /// The place of an input, of which is written which values are the first that need it, or nothing.
+    pub wakes: Option<String>,
 }
 
 /// Returns the rules of the command line.
@@ -144,6 +150,12 @@ fn explain_command<'a>(alloc: Global) -> Result<Command<'a>, AllocError>
             "needs",
             "OUT[:PLACE]",
             "Writes what the value at a place of a channel needs; without a place, a CSV table of all",
+        ))?
+        .arg(text_arg(
+            alloc,
+            "wakes",
+            "IN[:PLACE]",
+            "Writes which value of each output is the first that needs the value at a place of an input",
         ))
 }
 
@@ -166,5 +178,6 @@ pub fn read_explain_line<'a, S: AsStr>(
         channels: was_given(matches.get_str("channels")),
         check: was_given(matches.get_str("check")),
         needs: copied(alloc, matches.get_str("needs"))?,
+        wakes: copied(alloc, matches.get_str("wakes"))?,
     })
 }

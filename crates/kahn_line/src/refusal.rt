@@ -28,7 +28,7 @@ fn owners_of(text: &str) -> Option<&'static str> {
     let (_, behind) = text.split_once("unexpected argument '")?;
     let (option, _) = behind.split_once("'")?;
     match option {
-        "--trace" | "--channels" | "--check" | "--needs" => Some("kahn_explain"),
+        "--trace" | "--channels" | "--check" | "--needs" | "--wakes" => Some("kahn_explain"),
         "--strict" => Some("kahn_explain and kahn_live"),
         "--input" | "--bound" => Some("kahn, kahn_explain and kahn_draw"),
         "--workers" | "--quantum" => Some("kahn and kahn_explain"),

@@ -1,26 +1,30 @@
 -- Inner. What the parts of explaining, of a sheet and of a reply do.
-use Rattle.std.specs.Prelude.{◌≡◌, ◌⊎◌, ◌++◌, ℕ, Bool, List, [], Option, Some, None, Result, Ok, Err, string_bytes}
+use Rattle.std.specs.Prelude.{◌≡◌, ◌⊎◌, ◌<◌, ◌++◌, ⊤, ℕ, Bool, false, List, [], Option, Some, None, Result, Ok, Err, slice_index_or, string_bytes}
 use Rattle.std.specs.Io.KnownBytes.{Appends}
 use Rattle.std.specs.declared.alloc.Global.{Global}
 use Rattle.std.specs.declared.string.String.{String}
 use Rattle.kahn_fault.specs.declared.work.WorkFault.{WorkFault}
 use Rattle.kahn_fault.specs.declared.work.WorkFault.TheVariants.{Write}
 use Rattle.kahn_streams.specs.Inputs.{Lists}
+use Rattle.kahn_streams.specs.Solution.{Inputs}
+use Rattle.kahn_streams.specs.declared.value.Line.{Line}
 use Rattle.kahn_streams.specs.declared.answer.Verdict.{Verdict}
 use Rattle.kahn_streams.specs.declared.config.Config.{Config}
 use Rattle.kahn_streams.specs.declared.tree.Program.{Program}
 use Rattle.kahn_texts.specs.declared.bytes.WriteFault.{WriteFault}
+use Rattle.kahn_needs.specs.declared.needs.Found.{Found}
+use Rattle.kahn_needs.specs.declared.needs.Found.TheVariants as found
 use Rattle.kahn_sequential.specs.Recordings.{IsRecordedRun}
 use Rattle.kahn_sequential.specs.declared.recorded.Recorded.{Recorded}
-use Rattle.kahn_why.specs.Why.{IsExplained}
 use Rattle.kahn_why.specs.inner.Told.{IsAdmitted}
 use Rattle.kahn_why.specs.declared.explaining.Admitted.{Admitted}
 use Rattle.kahn_why.specs.declared.explaining.Came.{Came}
 use Rattle.kahn_why.specs.declared.explaining.Came.TheVariants.{Stopped, Refused}
-use Rattle.kahn_why.specs.declared.why.told.Explanation.{Explanation}
+use Rattle.kahn_why.specs.declared.why.told.Told.{Told}
 use Rattle.kahn_explain.specs.Histories.{IsRecordedFor, IsRunTable}
-use Rattle.kahn_explain.specs.Needing.{IsPlaceGiven}
+use Rattle.kahn_explain.specs.Needing.{IsAskable, IsFirstTold, IsPlaceGiven, values_on}
 use Rattle.kahn_explain.specs.Running.{BreaksOff, HasExplained, HasLooked, Replies, beside}
+use Rattle.kahn_explain.specs.Untaken.{IsToldFor}
 use Rattle.kahn_explain.specs.declared.replying.Reply.{Reply}
 use Rattle.kahn_explain.specs.declared.replying.Sheet.{Sheet}
 
@@ -39,8 +43,8 @@ IsTableFor counts t run table = (lists : Lists) (config : Config) → IsRecorded
 
 -- a table, and why its run stopped
 abbrev pub IsTableMade : Bool → Program → List ℕ → Config → Reply → Type 0
-IsTableMade counts t text config x = (run : Recorded) × (e : Explanation) × IsRecordedFor t text config run × IsTableFor counts t run (string_bytes x.text)
-    × IsExplained t run.answer e × (x.came ≡ Stopped e.told) × (string_bytes x.words ≡ beside e.told (string_bytes e.text))
+IsTableMade counts t text config x = (run : Recorded) × (told : Told) × (words : List ℕ) × IsRecordedFor t text config run
+    × IsTableFor counts t run (string_bytes x.text) × IsToldFor t run.answer run.counts.items told words × (x.came ≡ Stopped told) × (string_bytes x.words ≡ beside told words)
 
 -- why a word asks for nothing
 abbrev pub IsNoReply : Reply → Type 0
@@ -79,6 +83,13 @@ IsGivenAs word (Some k) = IsPlaceGiven word k
 abbrev pub IsAdded : (List ℕ → Type 0) → List ℕ → List ℕ → Type 0
 IsAdded P old new = (more : List ℕ) × P more × (new ≡ old ++ more)
 
--- words and a text came behind
-abbrev pub IsPutBehind : List ℕ → List ℕ → List ℕ → Type 0
-IsPutBehind more old new = (words : List ℕ) × (new ≡ old ++ (words ++ more))
+-- what is told of a line that an instance sends came behind
+abbrev pub IsFirstAdded : Program → Recorded → Inputs → Line → ℕ → Line → List ℕ → List ℕ → Verdict → Type 0
+IsFirstAdded t x I d j c old new v = IsAdded (λ more. IsAskable false t c → IsFirstTold t x I d j c more v) old new
+
+-- the search for the first value that needs that at place j of line d ends with what was found
+abbrev pub EndsSearch : Line → ℕ → Found → Type 0
+EndsSearch d j (found.Needs x) = j < values_on (λ e. slice_index_or x.values.items e 0) d
+EndsSearch d j found.Never = ⊤
+EndsSearch d j found.Ring = ⊤
+EndsSearch d j found.Bound = ⊤

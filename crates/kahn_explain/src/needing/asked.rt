@@ -7,7 +7,7 @@ ghost use Rattle.kahn_streams.specs.Solution.{source};
 ghost use Rattle.kahn_streams.specs.declared.value.Line.{Line};
 ghost use Rattle.kahn_needs.specs.Finding.{IsNetworkLine};
 ghost use Rattle.kahn_explain.specs.inner.Told.{IsGivenAs};
-ghost use Rattle.kahn_explain.specs.Needing.{IsLineNamed, IsPlaceWord, IsQuestion, IsUnasked};
+ghost use Rattle.kahn_explain.specs.Needing.{IsAskable, IsLineNamed, IsPlaceWord, IsQuestion, IsUnasked};
 
 use kahn_line::parted;
 use kahn_streams::{Line, Network, channel_named};
@@ -24,8 +24,8 @@ pub struct Question {
 pub enum AskFault {
     /// It names no line.
     NoLine,
-    /// It names an input.
-    GivenLine,
+    /// It names an input, or another line where an input is asked for.
+    WrongLine,
     /// What stands behind its colon is no place.
     NoPlace,
 }
@@ -85,7 +85,7 @@ fn line_named(network: &Network, word: &str) -> Option<Line>
 }
 
 /// Whether a line is an input.
-fn is_given(network: &Network, line: Line) -> bool
+pub(crate) fn is_given(network: &Network, line: Line) -> bool
     requires { IsNetworkLine (network_of network.now) line }
     ensures { result ≡ true ↔ source (network_of network.now) line ≡ Given }
 {
@@ -95,18 +95,29 @@ fn is_given(network: &Network, line: Line) -> bool
     }
 }
 
-/// What a word asks for that an instance sends, or why not.
+/// Whether it may be asked what the values of a line need; or, the other way round, what needs them.
+fn is_askable(network: &Network, line: Line, wakes: bool) -> bool
+    requires { IsNetworkLine (network_of network.now) line }
+    ensures { result ≡ true ↔ IsAskable wakes network.now line }
+{
+    if is_given(network, line) {
+        return wakes;
+    }
+    !wakes
+}
+
+/// What a word asks for, or why for nothing.
 #[tactic(auto, using(crate::proofs::Worded::line_listed))]
-pub(crate) fn sought(network: &Network, word: &str) -> Result<Question, AskFault>
-    ensures sought { MatchResult result (IsQuestion network.now word.now) (IsUnasked network.now word.now) }
+pub(crate) fn sought(network: &Network, word: &str, wakes: bool) -> Result<Question, AskFault>
+    ensures sought { MatchResult result (IsQuestion wakes network.now word.now) (IsUnasked wakes network.now word.now) }
     ensures listed { IfOk result (λ x. IsNetworkLine (network_of network.now) x.line) }
 {
     let (name, place) = parted(word, ':');
     let Some(line) = line_named(network, name) else {
         return Err(AskFault::NoLine);
     };
-    if is_given(network, line) {
-        return Err(AskFault::GivenLine);
+    if !is_askable(network, line, wakes) {
+        return Err(AskFault::WrongLine);
     }
     match place_given(place) {
         Some(place) => Ok(Question { line, place }),

@@ -1,23 +1,23 @@
 //! What is told of what a word asks for, and how the search for it ended.
 
-ghost use Rattle.std.specs.Prelude.{◌≡◌, IfOk, MatchResult};
+ghost use Rattle.std.specs.Prelude.{◌≡◌, IfOk, MatchResult, false, true};
 ghost use Rattle.kahn_streams.specs.Inputs.{inputs_of};
 ghost use Rattle.kahn_streams.specs.Network.{Given, network_of};
 ghost use Rattle.kahn_streams.specs.Solution.{source};
 ghost use Rattle.kahn_needs.specs.Finding.{AreNeedsFound, IsNetworkLine};
 ghost use Rattle.kahn_explain.specs.Histories.{IsUntraced};
-ghost use Rattle.kahn_explain.specs.Needing.{IsPlaceTold, IsReply, IsTableTold};
+ghost use Rattle.kahn_explain.specs.Needing.{IsAskable, IsPlaceTold, IsReply, IsTableTold};
 ghost use Rattle.kahn_explain.specs.inner.Told.{IsReplyIn};
 
 use crate::needing::asked::Question;
 use crate::needing::rows::table_of;
 use crate::needing::texts::{found_end, found_text};
+use crate::needing::waking::firsts;
 use crate::tracing::recorded;
 use kahn_code::CodeFault;
 use kahn_fault::WorkFault;
 use kahn_needs::{Found, Seeker};
-use kahn_pool::{Config, RunFault, Verdict};
-use kahn_streams::{Input, Line, Network};
+use kahn_streams::{Config, Input, Line, Network, RunFault, Verdict};
 use kahn_texts::read_input;
 use std::alloc::Global;
 
@@ -83,8 +83,8 @@ fn table_told(
     }
 }
 
-/// What is told of what is asked for.
-pub(crate) fn replied(
+/// What is told of what is needed: of a place, or of all.
+fn needs_told(
     alloc: Global,
     network: &Network,
     text: &str,
@@ -93,10 +93,50 @@ pub(crate) fn replied(
 ) -> Result<(String, Verdict), WorkFault>
     requires line { IsNetworkLine (network_of network.now) question.line }
     requires written { source (network_of network.now) question.line ≡ Given → ⊥ }
-    ensures { MatchResult result (IsReplyIn (IsReply network.now text.now config question.line question.place)) (IsUntraced network.now text.now config) }
+    ensures { MatchResult result (IsReplyIn (IsReply false network.now text.now config question.line question.place)) (IsUntraced network.now text.now config) }
 {
     match question.place {
         Some(place) => place_told(alloc, network, text, config, question.line, place),
         None => table_told(alloc, network, text, config, question.line),
     }
+}
+
+/// What is told of the first values that need the one at a place of an input, with the counts of the whole run.
+fn firsts_told(
+    alloc: Global,
+    network: &Network,
+    text: &str,
+    config: Config,
+    question: Question,
+) -> Result<(String, Verdict), WorkFault>
+    requires { source (network_of network.now) question.line ≡ Given }
+    ensures { MatchResult result (IsReplyIn (IsReply true network.now text.now config question.line question.place)) (IsUntraced network.now text.now config) }
+{
+    let bound = config.bound;
+    let kept = recorded(alloc, network, text, config)?;
+    let lists = read_input(alloc, text, network)?;
+    let place = question.place.unwrap_or(0);
+    match firsts(alloc, network, &kept, &lists, question.line, place, bound) {
+        Ok(told) => Ok(told),
+        Err(_) => Err(WorkFault::Run(RunFault::NoMemory)),
+    }
+}
+
+/// What is told of what is asked for.
+pub(crate) fn replied(
+    alloc: Global,
+    network: &Network,
+    text: &str,
+    config: Config,
+    wakes: bool,
+    question: Question,
+) -> Result<(String, Verdict), WorkFault>
+    requires line { IsNetworkLine (network_of network.now) question.line }
+    requires askable { IsAskable wakes network.now question.line }
+    ensures { MatchResult result (IsReplyIn (IsReply wakes network.now text.now config question.line question.place)) (IsUntraced network.now text.now config) }
+{
+    if wakes {
+        return firsts_told(alloc, network, text, config, question);
+    }
+    needs_told(alloc, network, text, config, question)
 }

@@ -1,16 +1,15 @@
 //! What is told of the needs of a value, in words.
 
-ghost use Rattle.std.specs.Prelude.{◌≡◌, ◌++◌, IfOk, string_bytes};
-ghost use Rattle.kahn_explain.specs.Needing.{AreAllCounts, IsFoundTold, whole_count, needed_count, found_end, name_of_line, of_all, place_name};
-ghost use Rattle.kahn_explain.specs.inner.Told.{IsAdded, IsPutBehind};
+ghost use Rattle.std.specs.Prelude.{◌≡◌, ◌++◌, IfOk, length, string_bytes};
+ghost use Rattle.kahn_explain.specs.Needing.{behind, comma_between, counts_text, found_end, found_words, first_text, name_of_line, needed_count, needs_word, of_all, place_name, whole_count};
 ghost use Rattle.kahn_needs.specs.declared.needs.Found.TheVariants.{Needs as FoundNeeds};
 
 use crate::tracing::{add_name, add_value};
 use itoa::Buffer;
 use kahn_marks::add;
 use kahn_needs::{Found, Needs};
-use kahn_pool::{Recorded, Verdict};
-use kahn_streams::{Line, Network};
+use kahn_sequential::Recorded;
+use kahn_streams::{Line, Network, Verdict};
 use std::alloc::{AllocError, Global};
 
 /// Adds the name of a line.
@@ -86,7 +85,9 @@ fn counted(
 }
 
 /// What stands between counts and another one.
-fn separator(text: &str, more: &str) -> &'static str {
+fn separator(text: &str, more: &str) -> &'static str
+    ensures { result.now ≡ comma_between text.now more.now }
+{
     if text.is_empty() || more.is_empty() {
         ""
     } else {
@@ -96,7 +97,7 @@ fn separator(text: &str, more: &str) -> &'static str {
 
 /// Adds a count behind others.
 fn add_behind(text: &mut String, more: &str) -> Result<(), AllocError>
-    ensures { IfOk result (λ _. IsPutBehind more.now (string_bytes text.old) (string_bytes text.new)) }
+    ensures { IfOk result (λ _. string_bytes text.new ≡ behind (string_bytes text.old) more.now) }
 {
     let between = separator(text.as_str(), more);
     text.push_str(between)?;
@@ -112,7 +113,7 @@ fn counts_of(
     channels: bool,
     counts: &[u64],
 ) -> Result<String, AllocError>
-    ensures { IfOk result (λ text. AreAllCounts network.now run.now channels counts.now (string_bytes text)) }
+    ensures { IfOk result (λ text. string_bytes text ≡ counts_text network.now run.now channels counts.now (length counts.now)) }
 {
     let mut text = String::new(alloc);
     for number in 0..counts.len() {
@@ -123,7 +124,9 @@ fn counts_of(
 }
 
 /// What stands before the values that are needed.
-fn needs_word(values: &str) -> &'static str {
+fn needs_word(values: &str) -> &'static str
+    ensures { result.now ≡ needs_word values.now }
+{
     if values.is_empty() {
         " needs no values"
     } else {
@@ -139,7 +142,7 @@ fn add_needs(
     run: &Recorded,
     needs: &Needs,
 ) -> Result<(), AllocError>
-    ensures { IfOk result (λ _. IsAdded (IsFoundTold network.now run.now (FoundNeeds needs.now)) (string_bytes text.old) (string_bytes text.new)) }
+    ensures { IfOk result (λ _. string_bytes text.new ≡ string_bytes text.old ++ found_words network.now run.now (FoundNeeds needs.now)) }
 {
     let values = counts_of(alloc, network, run, true, needs.values.as_slice())?;
     let events = counts_of(alloc, network, run, false, needs.events.as_slice())?;
@@ -161,22 +164,15 @@ fn add_found(
     run: &Recorded,
     found: &Found,
 ) -> Result<(), AllocError>
-    ensures { IfOk result (λ _. IsAdded (IsFoundTold network.now run.now found.now) (string_bytes text.old) (string_bytes text.new)) }
+    ensures { IfOk result (λ _. string_bytes text.new ≡ string_bytes text.old ++ found_words network.now run.now found.now) }
 {
     match found {
         Found::Needs(needs) => add_needs(alloc, text, network, run, needs),
-        Found::Never => {
-            text.push_str(" never comes\n")?;
-            Ok(())
-        }
+        Found::Never => text.push_str(" never comes\n"),
         Found::Ring => {
-            text.push_str(" never comes: processes that it waits for wait on one another\n")?;
-            Ok(())
+            text.push_str(" never comes: processes that it waits for wait on one another\n")
         }
-        Found::Bound => {
-            text.push_str(" doesn't come within the bound\n")?;
-            Ok(())
-        }
+        Found::Bound => text.push_str(" doesn't come within the bound\n"),
     }
 }
 
@@ -189,12 +185,48 @@ pub(crate) fn found_text(
     place: u64,
     found: &Found,
 ) -> Result<String, AllocError>
-    ensures { IfOk result (λ text. IsAdded (IsFoundTold network.now run.now found.now) (place_name network.now line place) (string_bytes text)) }
+    ensures { IfOk result (λ text. string_bytes text ≡ place_name network.now line place ++ found_words network.now run.now found.now) }
 {
     let mut text = String::new(alloc);
     add_place(&mut text, network, line, place)?;
     add_found(alloc, &mut text, network, run, found)?;
     Ok(text)
+}
+
+/// Adds that no value of a line needs one.
+fn add_none(text: &mut String, network: &Network, line: Line, words: &str) -> Result<(), AllocError>
+    ensures { IfOk result (λ _. string_bytes text.new ≡ string_bytes text.old ++ (name_of_line network.now line ++ words.now)) }
+{
+    add_line(text, network, line)?;
+    text.push_str(words)
+}
+
+/// Adds the first value of a line that needs one, and what else it needs; or that none does.
+pub(crate) fn add_first(
+    alloc: Global,
+    text: &mut String,
+    network: &Network,
+    run: &Recorded,
+    line: Line,
+    place: u64,
+    found: &Found,
+) -> Result<(), AllocError>
+    ensures { IfOk result (λ _. string_bytes text.new ≡ string_bytes text.old ++ first_text network.now run.now line place found.now) }
+{
+    match found {
+        Found::Needs(_) => {
+            let told = found_text(alloc, network, run, line, place, found)?;
+            text.push_str(told.as_str())
+        }
+        Found::Never => add_none(text, network, line, ": no value needs it\n"),
+        Found::Ring => add_none(text, network, line, ": no value needs it\n"),
+        Found::Bound => add_none(
+            text,
+            network,
+            line,
+            ": no value needs it within the bound\n",
+        ),
+    }
 }
 
 /// How a search ended: only a bound leaves something untold.

@@ -4,8 +4,7 @@ ghost use Rattle.std.specs.Prelude.{◌≡◌, IfOk, MatchOption};
 ghost use Rattle.kahn_streams.specs.Answers.{HasStream};
 ghost use Rattle.kahn_explain.specs.inner.Columns.{HasLine, IsColumnOf, HasValuesOf};
 
-use kahn_pool::{Answer, Stream};
-use kahn_streams::{Line, NoMemory, Value};
+use kahn_streams::{Answer, Line, NoMemory, Stream, Value};
 use std::alloc::Global;
 
 /// The values of a line in place order, from place 0 on, as far as they came.

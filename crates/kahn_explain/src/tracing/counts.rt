@@ -6,13 +6,17 @@ ghost use Rattle.kahn_explain.specs.Table.{AreCountRows, IsCountRow, side_name};
 ghost use Rattle.kahn_explain.specs.inner.Told.{IsAdded};
 
 use crate::tracing::table::{add_name, add_numbers};
-use kahn_pool::{Count, Recorded};
+use kahn_sequential::{Count, Recorded};
 use kahn_streams::{Network, Side};
 use kahn_texts::channel_name;
 use std::alloc::{AllocError, Global};
 
 /// Adds the number and the name of the process on a side of a channel; nothing where none is there.
-fn add_side(text: &mut String, network: &Network, side: Option<Side>) -> Result<(), AllocError>
+pub(crate) fn add_side(
+    text: &mut String,
+    network: &Network,
+    side: Option<Side>,
+) -> Result<(), AllocError>
     ensures { IfOk result (λ _. string_bytes text.new ≡ string_bytes text.old ++ side_name network.now side) }
 {
     match side {

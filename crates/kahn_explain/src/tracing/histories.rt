@@ -6,7 +6,7 @@ ghost use Rattle.kahn_explain.specs.inner.Columns.{AreAllHistories, AreOfChannel
 use crate::tracing::column::Column;
 use crate::tracing::prints::add_prints;
 use crate::tracing::recorded::channel_column;
-use kahn_pool::Recorded;
+use kahn_sequential::Recorded;
 use kahn_streams::{Network, NoMemory};
 use std::alloc::Global;
 

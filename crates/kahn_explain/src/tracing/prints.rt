@@ -4,8 +4,7 @@ ghost use Rattle.std.specs.Prelude.{OnOk};
 ghost use Rattle.kahn_explain.specs.inner.Columns.{AddsPrint, AddsPrints};
 
 use crate::tracing::column::{Column, column_of};
-use kahn_pool::{Answer, Stream};
-use kahn_streams::{Line, NoMemory};
+use kahn_streams::{Answer, Line, NoMemory, Stream};
 use std::alloc::Global;
 
 /// Adds the column of a stream, where that is one of prints.

@@ -10,8 +10,8 @@ ghost use Rattle.kahn_explain.specs.inner.Columns.{IsHistoryOf, IsRecord};
 
 use crate::tracing::column::{Column, column_of, line_column};
 use kahn_fault::WorkFault;
-use kahn_pool::{Config, Recorded, run_recorded};
-use kahn_streams::{Line, Network, NoMemory, Role};
+use kahn_sequential::{Recorded, run_recorded};
+use kahn_streams::{Config, Line, Network, NoMemory, Role};
 use kahn_texts::read_input;
 use std::alloc::Global;
 

@@ -4,7 +4,7 @@ use Rattle.kahn_explain.proofs.Sheets.{refusal_for}
 use Rattle.kahn_explain.proofs.replying.needs_of.Goals as goal
 
 pub returns-in-Err : goal.returns-in-Err
-returns-in-Err c = refusal_for c.args.word.now c.args.it.now c.args.text.now c.args.config c.in-Err.fault c.unasked.result c.in-Err.ensures.sought c.unasked.ensures
+returns-in-Err c = refusal_for c.args.wakes c.args.word.now c.args.it.now c.args.text.now c.args.config c.in-Err.fault c.unasked.result c.in-Err.ensures.sought c.unasked.ensures
 
 pub returns : goal.returns
 returns c path program strict on =

@@ -11,3 +11,8 @@ returns-in-Table c =
     let r = c.table_of.result in
     subst (λ k. MatchResult r (IsReplyFor k a.word.now a.it.now a.text.now a.config) (IsUntraced a.it.now.network a.text.now a.config)) (sym c.in-Table.is)
     (table_for c.in-Table.counts a.word.now a.it.now a.text.now a.config r c.table_of.ensures)
+
+pub returns-in-Needs : goal.returns-in-Needs
+returns-in-Needs c =
+    let a = c.args in
+    subst (λ k. MatchResult c.needs_of.result (IsReplyFor k a.word.now a.it.now a.text.now a.config) (IsUntraced a.it.now.network a.text.now a.config)) (sym c.in-Needs.is) c.needs_of.ensures

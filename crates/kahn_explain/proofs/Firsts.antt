@@ -1,0 +1,74 @@
+-- The first value that needs one of an input.
+use Rattle.std.proofs.Common.{arith, ◌≡◌, ◌⊎◌, inl, inr, ℕ, ◌≤◌, ◌<◌, ◌+◌, subst, sym, ap, ◌∙◌, length, slice_get, slice_index_or, Some}
+use Rattle.std.proofs.lemmas.Bool.{cases_lt}
+use Rattle.std.proofs.lemmas.List.{length-map}
+use Rattle.std.proofs.lemmas.Option.{slice_get_within}
+use Rattle.kahn_streams.proofs.Proved.{prefix_get}
+use Rattle.kahn_streams.specs.Inputs.{Lists, inputs_of}
+use Rattle.kahn_streams.specs.Network.{Given, Network, network_of}
+use Rattle.kahn_streams.specs.Solution.{Inputs, Stands, iterate, source}
+use Rattle.kahn_streams.specs.declared.tree.Program.{Program}
+use Rattle.kahn_streams.specs.declared.value.Line.{Line}
+use Rattle.kahn_streams.specs.declared.value.Line.TheVariants.{Channel, Print}
+use Rattle.kahn_streams.specs.declared.value.Value.{Value}
+use Rattle.kahn_needs.specs.Finding.{AreNeedsFound, IsSeeking, Seeking, cut_told}
+use Rattle.kahn_needs.specs.Laws.{of_input}
+use Rattle.kahn_needs.specs.Needs.{AreNeeds, Cut}
+use Rattle.kahn_needs.specs.declared.needs.Found.{Found}
+use Rattle.kahn_needs.specs.declared.needs.Found.TheVariants as found
+use Rattle.kahn_needs.proofs.Told.{get_there, one_cut, parts}
+use Rattle.kahn_explain.specs.Needing.{IsFirstNeeding, NeedsNot, values_on}
+use Rattle.kahn_explain.specs.inner.Told.{EndsSearch}
+
+not_less : (a b : ℕ) → (a < b → ⊥) → b ≤ a
+not_less a b more = by (cases_lt a b)
+  where
+    by : (a < b) ⊎ (b ≤ a) → b ≤ a
+    by (inl l) = absurd (more l)
+    by (inr l) = l
+
+module _ (N : Network) (I : Inputs) (c : Line) (j k : ℕ) where
+  not_here : (d : Line) (f : Found) → source N d ≡ Given → AreNeedsFound N I c k f → (EndsSearch d j f → ⊥) → NeedsNot N I c d j k
+  not_here (Channel d) (found.Needs y) given h goes = λ v x g.
+      let e : x ≡ cut_told N y.values.items y.events.items = one_cut N I c k v y.value x _ g h in
+      let values : x.values d ≡ slice_index_or y.values.items d 0 =
+      ap (λ (z : Cut). z.values d) e ∙ ap (λ s. of_input s (slice_index_or y.values.items d 0)) given in
+      let l = not_less j (slice_index_or y.values.items d 0) goes in
+      omega (arith, values, l)
+  not_here (Print p) (found.Needs y) given h goes = λ v x g. omega arith
+  not_here d found.Never given h goes = absurd (goes tt)
+  not_here d found.Ring given h goes = absurd (goes tt)
+  not_here d found.Bound given h goes = absurd (goes tt)
+
+  -- nor one place more
+  pub not_more : (d : Line) (f : Found) → source N d ≡ Given → AreNeedsFound N I c k f → (EndsSearch d j f → ⊥) → ((i : ℕ) → i < k → NeedsNot N I c d j i)
+      → (i : ℕ) → i < k + 1 → NeedsNot N I c d j i
+  not_more d f given h goes before i l = by (cases_lt i k)
+    where
+      by : (i < k) ⊎ (k ≤ i) → NeedsNot N I c d j i
+      by (inl m) = before i m
+      by (inr m) = subst (NeedsNot N I c d j) (omega (arith, l, m)) (not_here d f given h goes)
+
+  -- none comes behind
+  none_behind : (d : Line) → ((v : Value) → Stands N I c k v → ⊥) → ((i : ℕ) → i < k → NeedsNot N I c d j i) → (i : ℕ) → NeedsNot N I c d j i
+  none_behind d none before i = by (cases_lt i k)
+    where
+      by : (i < k) ⊎ (k ≤ i) → NeedsNot N I c d j i
+      by (inl m) = before i m
+      by (inr m) = λ v x h.
+          let b = (parts N I).begin x h.enough.0 c in
+          let l = slice_get_within (iterate N I b.0 c) i v (prefix_get _ _ b.1 i v h.enough.1) in
+          let g = get_there (iterate N I b.0 c) k v (omega (arith, l, m)) in
+          absurd (none g.0 (b.0, g.1))
+
+  pub first_is : (d : Line) (f : Found) → AreNeedsFound N I c k f → EndsSearch d j f → ((i : ℕ) → i < k → NeedsNot N I c d j i) → IsFirstNeeding N I c d j k f
+  first_is d (found.Needs y) h ends before = (h, ends, before)
+  first_is d found.Never h ends before = none_behind d h before
+  first_is d found.Ring h ends before = none_behind d h before
+  first_is d found.Bound h ends before = tt
+
+-- what holds of a search holds of what it was begun with
+pub first_for : (t : Program) (i : Lists) (c d : Line) (j k : ℕ) (s : Seeking) (f : Found) → IsSeeking t i c 0 s
+    → IsFirstNeeding (network_of s.network) (inputs_of s.input) s.line d j k f → IsFirstNeeding (network_of t) (inputs_of i) c d j k f
+first_for t i c d j k s f (e, g, h, z) is =
+    subst (λ (x : Program × Lists × Line). IsFirstNeeding (network_of x.0) (inputs_of x.1) x.2 d j k f) (λ x. (e x, g x, h x)) is

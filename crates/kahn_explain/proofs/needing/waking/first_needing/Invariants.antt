@@ -1,0 +1,15 @@
+-- The values so far don't need it.
+use Rattle.std.proofs.Common.{◌≡◌, ℕ, ◌≤◌, ◌<◌}
+use Rattle.kahn_streams.specs.Inputs.{inputs_of}
+use Rattle.kahn_streams.specs.Network.{network_of}
+use Rattle.kahn_explain.specs.Needing.{NeedsNot}
+use Rattle.kahn_explain.proofs.needing.waking.first_needing.Given as goal
+
+abbrev pub invariant-loop-place : goal.invariant-loop-place
+invariant-loop-place l = record {
+  network : l.seeker.network ≡ l.fn.seeker.network;
+  input : l.seeker.input ≡ l.fn.seeker.input;
+  line : l.seeker.line ≡ l.fn.seeker.line;
+  next : l.seeker.next ≤ l.place;
+  before : (i : ℕ) → i < l.place → NeedsNot (network_of l.fn.seeker.network) (inputs_of l.fn.seeker.input) l.fn.seeker.line l.input l.wanted i;
+}
