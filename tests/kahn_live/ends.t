@@ -82,6 +82,8 @@ Too many values at the end shows only when they are fed.
   $ { printf 'A:' && yes ' 1' | head -n 1048576 | tr -d '\n'; } | kahn_live examples/double.kahn --step 1 --at-end 'A=1 2'
   ! examples/double.kahn: input line 1: wants more events than --step allows, and goes on with the next line
   ! examples/double.kahn: --at-end: too many values
+  ! stopped by the bound: 1 process wants more events
+  ! 1 double wants more, after 2 events
   ! end 1 double: wants more after 2
   ! stopped by bound 2
   [3]

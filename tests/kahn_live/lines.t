@@ -4,6 +4,8 @@ A step that two lines use up.
   $ printf 'A: 1\nA: 2\n' | kahn_live examples/double.kahn --step 1
   B: 2
   ! examples/double.kahn: input line 1: wants more events than --step allows, and goes on with the next line
+  ! stopped by the bound: 1 process wants more events
+  ! 1 double wants more, after 3 events
   ! end 1 double: wants more after 3
   ! stopped by bound 3
   [3]
@@ -69,6 +71,8 @@ A refused line, and a step used up.
   B: 2
   ! examples/double.kahn: input line 1: wants more events than --step allows, and goes on with the next line
   ! examples/double.kahn: input line 2: not a name and a colon: `line`; a colon stands behind the name
+  ! stopped by the bound: 1 process wants more events
+  ! 1 double wants more, after 4 events
   ! end 1 double: wants more after 4
   ! stopped by bound 4
   [3]

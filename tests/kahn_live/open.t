@@ -42,6 +42,8 @@ One step alone.
   $ begin examples/double.kahn --step 3; ask 1 'A: 1 2 3'; over
   B: 2
   ! examples/double.kahn: input line 1: wants more events than --step allows, and goes on with the next line
+  ! stopped by the bound: 1 process wants more events
+  ! 1 double wants more, after 4 events
   ! end 1 double: wants more after 4
   ! stopped by bound 4
   [3]

@@ -14,6 +14,8 @@ A line that wants more events than a part may do, and how the run ended.
   B: 2
   examples/double.kahn: input line 1: wants more events than --step allows, and goes on with the next line
   B: 4 6
+  stopped by the bound: 1 process wants more events
+  1 double wants more, after 9 events
   end 1 double: wants more after 9
   stopped by bound 9
   [3]
@@ -24,6 +26,11 @@ A process that has a fault while another goes on.
   D: 0
   shared.kahn: input line 2: 2 part has a fault: division
   D: 7
+  1 process has a fault
+  1 share waits on A at 2:85, an input
+  shared.kahn:3:72: error: 2 part has a fault, division
+   3 |   process part(integer in U; integer out V); begin repeat send 100 div wait(U) on V end;
+     |                                                                        ^^^^^^^
   end 1 share: waits on A after 13
   end 2 part: fault division after 5
   finished 18
@@ -31,6 +38,10 @@ A run that ends by itself behind its last value.
   $ printf '1\n9223372036854775807\n' | kahn_live examples/double.kahn --in A 2>&1
   2
   examples/double.kahn: input line 2: 1 double has a fault: overflow
+  1 process has a fault
+  examples/double.kahn:3:25: error: 1 double has a fault, overflow
+   3 |   begin repeat send 2 * wait(U) on W end;
+     |                         ^^^^^^^
   end 1 double: fault overflow after 5
   finished 5
 The last lines can't be sent: those of a line at the end, and of a program without an input.

@@ -2,18 +2,51 @@ Runs that no line can change any more, and statuses of rings and faults (--stric
 
 A ring of waits, values alone.
   $ yes 100 | kahn_live control.kahn --plain SET
+  ! deadlock: 1 err, 2 ctl and 3 plant wait on one another
+  ! control.kahn:2:76: error: 1 err waits on Y from 3 plant, in a deadlock: for ever
+  !  2 |   process err(integer in R, Y; integer out E); begin repeat send wait(R) - wait(Y) on E end;
+  !    |                                                                            ^^^^^^^
+  !    = this ring wants a first value (let one of its processes send before it waits), or one of them takes more than another sends: --trace shows what came
+  ! control.kahn:3:63: error: 2 ctl waits on E from 1 err, in a deadlock: for ever
+  !  3 |   process ctl(integer in E; integer out U); begin repeat send wait(E) div 2 on U end;
+  !    |                                                               ^^^^^^^
+  ! control.kahn:5:42: error: 3 plant waits on U from 2 ctl, in a deadlock: for ever
+  !  5 |   begin integer S; repeat begin S := S + wait(U); send S on Y; send S on O end end;
+  !    |                                          ^^^^^^^
   ! end 1 err: waits on Y after 2
   ! end 2 ctl: waits on E after 1
   ! end 3 plant: waits on U after 1
   ! finished 4
 A ring of waits.
   $ yes 'SET: 100' | kahn_live control.kahn
+  ! deadlock: 1 err, 2 ctl and 3 plant wait on one another
+  ! control.kahn:2:76: error: 1 err waits on Y from 3 plant, in a deadlock: for ever
+  !  2 |   process err(integer in R, Y; integer out E); begin repeat send wait(R) - wait(Y) on E end;
+  !    |                                                                            ^^^^^^^
+  !    = this ring wants a first value (let one of its processes send before it waits), or one of them takes more than another sends: --trace shows what came
+  ! control.kahn:3:63: error: 2 ctl waits on E from 1 err, in a deadlock: for ever
+  !  3 |   process ctl(integer in E; integer out U); begin repeat send wait(E) div 2 on U end;
+  !    |                                                               ^^^^^^^
+  ! control.kahn:5:42: error: 3 plant waits on U from 2 ctl, in a deadlock: for ever
+  !  5 |   begin integer S; repeat begin S := S + wait(U); send S on Y; send S on O end end;
+  !    |                                          ^^^^^^^
   ! end 1 err: waits on Y after 2
   ! end 2 ctl: waits on E after 1
   ! end 3 plant: waits on U after 1
   ! finished 4
 A ring of waits, strictly.
   $ yes 100 | kahn_live control.kahn --plain SET --strict
+  ! deadlock: 1 err, 2 ctl and 3 plant wait on one another
+  ! control.kahn:2:76: error: 1 err waits on Y from 3 plant, in a deadlock: for ever
+  !  2 |   process err(integer in R, Y; integer out E); begin repeat send wait(R) - wait(Y) on E end;
+  !    |                                                                            ^^^^^^^
+  !    = this ring wants a first value (let one of its processes send before it waits), or one of them takes more than another sends: --trace shows what came
+  ! control.kahn:3:63: error: 2 ctl waits on E from 1 err, in a deadlock: for ever
+  !  3 |   process ctl(integer in E; integer out U); begin repeat send wait(E) div 2 on U end;
+  !    |                                                               ^^^^^^^
+  ! control.kahn:5:42: error: 3 plant waits on U from 2 ctl, in a deadlock: for ever
+  !  5 |   begin integer S; repeat begin S := S + wait(U); send S on Y; send S on O end end;
+  !    |                                          ^^^^^^^
   ! end 1 err: waits on Y after 2
   ! end 2 ctl: waits on E after 1
   ! end 3 plant: waits on U after 1
@@ -21,6 +54,17 @@ A ring of waits, strictly.
   [7]
 A ring of waits, with names, strictly.
   $ yes 'SET: 100' | kahn_live control.kahn --strict
+  ! deadlock: 1 err, 2 ctl and 3 plant wait on one another
+  ! control.kahn:2:76: error: 1 err waits on Y from 3 plant, in a deadlock: for ever
+  !  2 |   process err(integer in R, Y; integer out E); begin repeat send wait(R) - wait(Y) on E end;
+  !    |                                                                            ^^^^^^^
+  !    = this ring wants a first value (let one of its processes send before it waits), or one of them takes more than another sends: --trace shows what came
+  ! control.kahn:3:63: error: 2 ctl waits on E from 1 err, in a deadlock: for ever
+  !  3 |   process ctl(integer in E; integer out U); begin repeat send wait(E) div 2 on U end;
+  !    |                                                               ^^^^^^^
+  ! control.kahn:5:42: error: 3 plant waits on U from 2 ctl, in a deadlock: for ever
+  !  5 |   begin integer S; repeat begin S := S + wait(U); send S on Y; send S on O end end;
+  !    |                                          ^^^^^^^
   ! end 1 err: waits on Y after 2
   ! end 2 ctl: waits on E after 1
   ! end 3 plant: waits on U after 1
@@ -30,6 +74,16 @@ A ring beside what waits on an input.
   $ printf '1\n2\n' | kahn_live beside.kahn --plain A
   1
   3
+  ! deadlock: 1 copy and 2 copy wait on one another
+  ! beside.kahn:2:64: error: 1 copy waits on X from 2 copy, in a deadlock: for ever
+  !  2 |   process copy(integer in U; integer out W); begin repeat send wait(U) on W end;
+  !    |                                                                ^^^^^^^
+  !    = this ring wants a first value (let one of its processes send before it waits), or one of them takes more than another sends: --trace shows what came
+  ! beside.kahn:2:64: error: 2 copy waits on Y from 1 copy, in a deadlock: for ever
+  !  2 |   process copy(integer in U; integer out W); begin repeat send wait(U) on W end;
+  !    |                                                                ^^^^^^^
+  ! 3 sum waits on A at 3:84, an input
+  !   = 4 copy waits because of it
   ! end 1 copy: waits on X after 1
   ! end 2 copy: waits on Y after 1
   ! end 3 sum: waits on A after 7
@@ -39,6 +93,16 @@ A ring beside what waits on an input, strictly.
   $ printf '1\n2\n' | kahn_live beside.kahn --plain A --strict
   1
   3
+  ! deadlock: 1 copy and 2 copy wait on one another
+  ! beside.kahn:2:64: error: 1 copy waits on X from 2 copy, in a deadlock: for ever
+  !  2 |   process copy(integer in U; integer out W); begin repeat send wait(U) on W end;
+  !    |                                                                ^^^^^^^
+  !    = this ring wants a first value (let one of its processes send before it waits), or one of them takes more than another sends: --trace shows what came
+  ! beside.kahn:2:64: error: 2 copy waits on Y from 1 copy, in a deadlock: for ever
+  !  2 |   process copy(integer in U; integer out W); begin repeat send wait(U) on W end;
+  !    |                                                                ^^^^^^^
+  ! 3 sum waits on A at 3:84, an input
+  !   = 4 copy waits because of it
   ! end 1 copy: waits on X after 1
   ! end 2 copy: waits on Y after 1
   ! end 3 sum: waits on A after 7
@@ -49,6 +113,18 @@ A fault before a ring, strictly.
   $ printf '9223372036854775807\n1\n' | kahn_live beside.kahn --plain A --strict
   9223372036854775807
   ! beside.kahn: input line 2: 3 sum has a fault: overflow
+  ! 1 process has a fault; deadlock: 1 copy and 2 copy wait on one another
+  ! beside.kahn:2:64: error: 1 copy waits on X from 2 copy, in a deadlock: for ever
+  !  2 |   process copy(integer in U; integer out W); begin repeat send wait(U) on W end;
+  !    |                                                                ^^^^^^^
+  !    = this ring wants a first value (let one of its processes send before it waits), or one of them takes more than another sends: --trace shows what came
+  ! beside.kahn:2:64: error: 2 copy waits on Y from 1 copy, in a deadlock: for ever
+  !  2 |   process copy(integer in U; integer out W); begin repeat send wait(U) on W end;
+  !    |                                                                ^^^^^^^
+  ! beside.kahn:3:84: error: 3 sum has a fault, overflow
+  !  3 | rocess sum(integer in U; integer out W); begin integer S; repeat begin S := S + wait(U); send S on W end end;
+  !    |                                                                                 ^^^^^^^
+  !    = 4 copy waits because of it: for ever
   ! end 1 copy: waits on X after 1
   ! end 2 copy: waits on Y after 1
   ! end 3 sum: fault overflow after 5

@@ -103,8 +103,12 @@ IsEndWanted h amiss refused v false = (reached_status amiss refused v ≡ 0) × 
 abbrev pub IsEndPut : HeldRun → LiveTelling → LiveTelling → Type 0
 IsEndPut h old new = (v : Verdict) × (text : List ℕ) × IsLastText h v text × WasTold text old new
 
+-- what came of the run and its causes was told in some words, or nothing
+abbrev pub IsWhyTold : LiveTelling → LiveTelling → Type 0
+IsWhyTold old new = (words : List ℕ) × WasTold words old new
+
 abbrev pub IsEndTold : HeldRun → LiveTelling → LiveTelling → Bool → Type 0
-IsEndTold h old new true = (mid : LiveTelling) × IsMoreTold old mid × IsEndPut h mid new
+IsEndTold h old new true = (mid : LiveTelling) × (last : LiveTelling) × IsMoreTold old mid × IsWhyTold mid last × IsEndPut h last new
 IsEndTold h old new false = new ≡ old
 
 abbrev pub IsVerdictMet : HeldRun → Option Amiss → LiveTelling → LiveTelling → Verdict → Type 0

@@ -226,6 +226,7 @@ fn unstarted<E: Write + Drop>(
 /// Runs a network on the input, and writes what is new to the output, which it gives back.
 fn run_network<I: Read + Drop, W: Write + Drop, E: Write + Drop>(
     alloc: Global,
+    program: &str,
     network: &Network,
     config: Config,
     asked: Requested<'_>,
@@ -255,7 +256,7 @@ fn run_network<I: Read + Drop, W: Write + Drop, E: Write + Drop>(
         input: input_of(asked.plain),
         at_end: asked.at_end,
     };
-    let ending = work(alloc, &mut stage, input, fed, asked.strict);
+    let ending = work(alloc, program, &mut stage, input, fed, asked.strict);
     let ending = sent(&mut stage.outlet, ending);
     let LiveStage { outlet, teller, .. } = stage;
     let output = outlet.writer;
@@ -321,7 +322,9 @@ fn run<I: Read + Drop, W: Write + Drop, E: Write + Drop>(
         };
     };
     match checked(alloc, program) {
-        Ok(network) => run_network(alloc, &network, config, asked, input, output, teller),
+        Ok(network) => run_network(
+            alloc, program, &network, config, asked, input, output, teller,
+        ),
         Err(fault) => {
             let ending = Err(Fault::Work(fault));
             Returned {

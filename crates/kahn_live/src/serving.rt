@@ -89,6 +89,7 @@ fn is_end_wanted(
 /// Tells how the run ended, where that is wanted.
 fn tell_verdict<E: Write>(
     session: &Session<'_>,
+    program: &str,
     amiss: Option<Amiss>,
     teller: &mut Teller<E>,
 ) -> Verdict
@@ -99,7 +100,7 @@ fn tell_verdict<E: Write>(
         unreachable!()
     };
     if is_end_wanted(session, amiss, teller.refused, verdict) {
-        teller.tell_end(session);
+        teller.tell_end(session, program);
     }
     verdict
 }
@@ -116,6 +117,7 @@ fn tell_left<E: Write>(session: &Session<'_>, teller: &mut Teller<E>)
 /// Sends what is new, tells what is left, and how the run ended where it isn't as it should be.
 fn close<W: Write, E: Write>(
     stage: &mut LiveStage<'_, W, E>,
+    program: &str,
     amiss: Option<Amiss>,
 ) -> Result<Verdict, Fault>
     requires { HasVerdict stage.old.session }
@@ -123,12 +125,13 @@ fn close<W: Write, E: Write>(
 {
     stage.outlet.send()?;
     tell_left(&stage.session, &mut stage.teller);
-    Ok(tell_verdict(&stage.session, amiss, &mut stage.teller))
+    Ok(tell_verdict(&stage.session, program, amiss, &mut stage.teller))
 }
 
-/// Takes the lines of the reader, and then those behind them, judges the run where it is to be, and closes the session.
+/// Takes the lines of the reader, and then those behind them, judges the run where it is to be, and closes the session of the program.
 fn serve<I: Read, W: Write, E: Write>(
     alloc: Global,
+    program: &str,
     stage: &mut LiveStage<'_, W, E>,
     reader: &mut BufReader<I>,
     fed: Fed<'_>,
@@ -141,13 +144,14 @@ fn serve<I: Read, W: Write, E: Write>(
         return Ok(RunEnding::Refused);
     }
     let amiss = judged(&stage.session, strict);
-    let verdict = close(stage, amiss)?;
+    let verdict = close(stage, program, amiss)?;
     Ok(RunEnding::Reached(verdict, amiss))
 }
 
 /// Takes the lines of the input, and writes what is new.
 pub(crate) fn work<I: Read + Drop, W: Write, E: Write>(
     alloc: Global,
+    program: &str,
     stage: &mut LiveStage<'_, W, E>,
     input: I,
     fed: Fed<'_>,
@@ -159,7 +163,7 @@ pub(crate) fn work<I: Read + Drop, W: Write, E: Write>(
     let Ok(mut reader) = BufReader::new(alloc, input) else {
         return Err(wants_memory());
     };
-    serve(alloc, stage, &mut reader, fed, strict)
+    serve(alloc, program, stage, &mut reader, fed, strict)
 }
 
 /// Whether a run ended since a write failed.

@@ -8,7 +8,7 @@ ghost use Rattle.kahn_fault.specs.Status.{live_status_of};
 ghost use Rattle.kahn_fault.specs.Telling.{pointer_text, told_text};
 ghost use Rattle.kahn_live.specs.Course.{IsTallied, IsMoreTold, IsNewPut, IsNewTold, IsNextTold, IsFaultPut, IsNewFault, IsStepPut, IsVerdictPut, IsVerdictTold, IsWaitPut, WasTold, complaints_of, does_count, is_again, is_alike, is_hinted, is_next, is_step_new, is_verdict_new, telling_of};
 ghost use Rattle.kahn_live.specs.InputMet.{IsAlonePut};
-ghost use Rattle.kahn_live.specs.Running.{IsEndPut, IsEndTold, IsLastTold, IsLeftTold, untold};
+ghost use Rattle.kahn_live.specs.Running.{IsEndPut, IsEndTold, IsLastTold, IsLeftTold, IsWhyTold, untold};
 
 use kahn_fault::{Fault, live_status, tell, tell_explain};
 use kahn_inputs::Part;
@@ -17,6 +17,8 @@ use kahn_session::{
     write_refusal, write_stopped, write_unknown, write_waiting,
 };
 use kahn_streams::{Failure, Network, Verdict};
+use kahn_texts::write_line;
+use kahn_why::causes;
 use std::alloc::Global;
 use std::io::Write;
 
@@ -62,6 +64,20 @@ fn does_count(keep_going: bool, fault: TakeFault) -> bool
     ensures { result ≡ does_count keep_going fault }
 {
     !keep_going || is_want(fault)
+}
+
+/// What came of the run of a session and its causes, in words; none where memory was refused for them.
+fn cause_words(alloc: Global, path: &str, program: &str, session: &Session<'_>) -> String
+    requires { HasVerdict session.now }
+{
+    let Some(verdict) = session.verdict() else {
+        unreachable!()
+    };
+    let network = session.network();
+    match causes(alloc, path, program, network, verdict, session.ends()) {
+        Ok(words) => words,
+        Err(_) => String::new(alloc),
+    }
 }
 
 /// A writer of faults, and what lines were refused.
@@ -302,6 +318,16 @@ impl<E: Write> Teller<E> {
         self.put_left();
     }
 
+    /// Tells what came of the run of a session and its causes, unless memory is refused for it.
+    fn put_causes(&mut self, session: &Session<'_>, program: &str)
+        requires { HasVerdict session.now }
+        ensures { IsWhyTold (telling_of E.contents self.old) (telling_of E.contents self.new) }
+    {
+        let words = cause_words(self.alloc, self.path.as_str(), program, session);
+        let told = write_line(&mut self.errors, &[words.as_bytes()]);
+        self.failed |= told.is_err();
+    }
+
     /// Tells how the run of a session ended, in the last lines of a report.
     fn put_end(&mut self, session: &Session<'_>)
         requires { HasVerdict session.now }
@@ -311,12 +337,13 @@ impl<E: Write> Teller<E> {
         self.failed |= told.is_err();
     }
 
-    /// Tells how the run of a session ended, behind how many lines more were refused.
-    pub(crate) fn tell_end(&mut self, session: &Session<'_>)
+    /// Tells why the run of a session of the network of a program text ended, and how, behind how many lines more were refused.
+    pub(crate) fn tell_end(&mut self, session: &Session<'_>, program: &str)
         requires { HasVerdict session.now }
         ensures { IsEndTold session.now.flow.run (telling_of E.contents self.old) (telling_of E.contents self.new) true }
     {
         self.tell_more();
+        self.put_causes(session, program);
         self.put_end(session);
     }
 

@@ -8,5 +8,5 @@ mod verdict;
 mod waits;
 mod words;
 
-pub use telling::{explained, explained_each};
+pub use telling::{causes, explained, explained_each};
 pub use told::{Explanation, Told};

@@ -1,19 +1,19 @@
-//! Why the run of an answer stopped.
+//! Why a run stopped.
 
-ghost use Rattle.std.specs.Prelude.{◌≡◌, ◌++◌, IfOk, string_bytes};
+ghost use Rattle.std.specs.Prelude.{◌≡◌, ◌++◌, IfOk, map, string_bytes};
 ghost use Rattle.kahn_texts.specs.Formats.{last_text};
 ghost use Rattle.kahn_streams.specs.Network.{network_of};
-ghost use Rattle.kahn_chain.specs.Chain.{AreStandings};
+ghost use Rattle.kahn_chain.specs.Chain.{AreStandings, stands};
 ghost use Rattle.kahn_why.specs.Why.{IsExplained, standings_of};
 
 use crate::why::lines::add_causes;
 use crate::why::story::Story;
-use crate::why::told::{Explanation, came_to};
+use crate::why::told::{Explanation, Told, came_to};
 use crate::why::verdict::add_verdict;
 use itoa::Buffer;
-use kahn_chain::reasons;
+use kahn_chain::{Reason, reasons};
 use kahn_marks::add;
-use kahn_streams::{Answer, Input, Network, Verdict};
+use kahn_streams::{Answer, End, Input, Network, Verdict};
 use kahn_syntax::{SyntaxFault, lex};
 use std::alloc::{AllocError, Global};
 
@@ -31,15 +31,45 @@ fn add_last(text: &mut String, answer: &Answer) -> Result<(), AllocError>
     add(text, &[word, events, "\n"])
 }
 
-/// What came of a run, and each cause once, or each instance, and how the run can go on.
-fn lines(story: &Story<'_>, instances: usize, each: bool) -> Result<String, AllocError> {
-    let mut text = String::new(story.alloc);
-    add_verdict(&mut text, story)?;
-    add_causes(&mut text, story, instances, each)?;
-    if let Verdict::Bound = story.verdict {
-        text.push_str("--bound N with a greater N lets the run go on\n")?;
-    }
+/// What came of a run, and each cause once, or each instance.
+fn words(
+    alloc: Global,
+    path: &str,
+    program: &str,
+    network: &Network,
+    fed: Option<&Input>,
+    verdict: Verdict,
+    reasons: &[Reason],
+    instances: usize,
+    each: bool,
+) -> Result<String, AllocError> {
+    let lexemes = match lex(alloc, program) {
+        Ok(lexemes) => lexemes,
+        Err(SyntaxFault::NoMemory) => return Err(AllocError),
+        Err(_) => Vec::new(alloc),
+    };
+    let story = Story {
+        alloc,
+        path,
+        program,
+        lexemes: &lexemes,
+        network,
+        fed,
+        verdict,
+        reasons,
+    };
+    let mut text = String::new(alloc);
+    add_verdict(&mut text, &story)?;
+    add_causes(&mut text, &story, instances, each)?;
     Ok(text)
+}
+
+/// Adds how a run with this verdict can go on.
+fn add_way_on(text: &mut String, verdict: Verdict) -> Result<(), AllocError> {
+    match verdict {
+        Verdict::Bound => text.push_str("--bound N with a greater N lets the run go on\n"),
+        _ => Ok(()),
+    }
 }
 
 /// Why the run of an answer stopped, told by its causes or for each instance.
@@ -55,30 +85,42 @@ fn told(
     requires { AreStandings (network_of network.now) (standings_of answer.now) }
     ensures { IfOk result (IsExplained network.now answer.now) }
 {
-    let reasons = reasons(alloc, network, answer.verdict, &answer.ends)?;
-    let lexemes = match lex(alloc, program) {
-        Ok(lexemes) => lexemes,
-        Err(SyntaxFault::NoMemory) => return Err(AllocError),
-        Err(_) => Vec::new(alloc),
-    };
-    let story = Story {
-        alloc,
-        path,
-        program,
-        lexemes: &lexemes,
-        network,
-        fed,
-        verdict: answer.verdict,
-        reasons: &reasons,
-    };
-    let mut text = lines(&story, answer.ends.len(), each)?;
+    let verdict = answer.verdict;
+    let reasons = reasons(alloc, network, verdict, &answer.ends)?;
+    let count = answer.ends.len();
+    let mut text = words(
+        alloc, path, program, network, fed, verdict, &reasons, count, each,
+    )?;
+    add_way_on(&mut text, verdict)?;
     add_last(&mut text, answer)?;
-    let told = came_to(answer.verdict, &reasons);
+    let told = came_to(verdict, &reasons);
     Ok(Explanation {
         text,
         reasons,
         told,
     })
+}
+
+/// What came of a run of the network of a program text that ended so, in a line, and each cause, as `explained` tells them; nothing where
+/// all processes have ended or wait for input. It refuses only where memory was refused.
+pub fn causes(
+    alloc: Global,
+    path: &str,
+    program: &str,
+    network: &Network,
+    verdict: Verdict,
+    ends: &[End],
+) -> Result<String, AllocError>
+    requires { AreStandings (network_of network.now) (map stands ends.now) }
+{
+    let reasons = reasons(alloc, network, verdict, ends)?;
+    if let Told::Stop(Verdict::Finished) = came_to(verdict, &reasons) {
+        return Ok(String::new(alloc));
+    }
+    let count = ends.len();
+    words(
+        alloc, path, program, network, None, verdict, &reasons, count, false,
+    )
 }
 
 /// Why the run of an answer of the network of a program text stopped, by the input that it was fed, where that is known: a line with

@@ -2,4 +2,10 @@ use Rattle.kahn_live.specs.Course.{telling_of}
 use Rattle.kahn_live.proofs.telling.Teller.tell_end.Goals as goal
 
 pub returns : goal.returns
-returns g c = (telling_of g.E.Write.contents c.tell_more.new.self, c.tell_more.ensures, c.put_end.ensures)
+returns g c = (
+  telling_of g.E.Write.contents c.tell_more.new.self,
+  telling_of g.E.Write.contents c.put_causes.new.self,
+  c.tell_more.ensures,
+  c.put_causes.ensures,
+  c.put_end.ensures,
+)
