@@ -63,7 +63,8 @@ def try_rows(program, words, tried):
 
 def is_told(pattern, template, fixes):
     """Whether one of some changes is made by a row of the table of patterns."""
-    pieces = (f"(?P<{it}>{'.+?' if it in 'EFGNT' else '[A-Za-z0-9_]+'})" if re.fullmatch("[A-Z]", it) else re.escape(it) for it in pattern.split())
+    either = (f"(?:{re.escape(it)})".replace(r"\|", "|") for it in pattern.split())
+    pieces = (f"(?P<{it[3]}>{'.+?' if it[3] in 'EFGNT' else '[A-Za-z0-9_]+'})" if re.fullmatch(r"\(\?:[A-Z]\)", it) else it for it in either)
     found = [(re.fullmatch(r"\s*".join(pieces), old, re.I), new) for pieces in [list(pieces)] for old, new in fixes]
     return any(it and re.sub("[A-Z]", lambda letter: KINDS.get(it[letter[0]].lower(), it[letter[0]]), template) == new for it, new in found)
 

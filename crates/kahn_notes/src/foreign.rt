@@ -6,7 +6,8 @@ use kahn_wanted::{Spot, is_of_word};
 
 /// Words of other languages, the keyword in their place if the text goes on with it, and what is said of them wherever they stand.
 const FOREIGN: &str = "
-for until foreach goto | none | ; a loop is `while E do S`, or `repeat S`, which has no end
+until | none | ; `repeat S` goes on for ever, and a loop with a test is `while not E do S`
+for foreach goto | none | ; a loop is `while E do S`, or `repeat S`, which has no end
 loop forever | repeat | ; a loop is `while E do S`, or `repeat S`, which has no end
 break exit continue stop halt | none | ; a loop ends where the test of its `while` is false
 return yield | none | ; a process has no result: `send E on C` gives a value to another one
@@ -14,10 +15,10 @@ elif elsif elseif | none | ; it is two words: `else if`
 otherwise | else | ; behind `if E then S` stands `else`
 int ints long short unsigned | integer | ; the kinds are `integer` and `logical`; one stands before its names
 bool boolean booleans | logical | ; the kinds are `integer` and `logical`; one stands before its names
-var real float string char array | none | ; the kinds are `integer` and `logical`; one stands before its names
+real float string char array | none | ; the kinds are `integer` and `logical`; one stands before its names
 chan chans | channel | ; a channel is `integer channel C`
 inputs outputs | none | ; an input is `integer input channel C`, an output `integer output channel C`
-let local | none | ; a kind declares variables, right behind the `begin` of a process: `integer X`
+var let local | none | ; a kind declares variables, right behind the `begin` of a process: `integer X`
 function func procedure proc def fn void thread task node actor | process | ; a process is `process P(integer in U; integer out W); begin .. end`
 endif endwhile endfor fi od done tel | end | ; an `if`, a `while` or a `repeat` has no `end` of its own
 const constant | none | ; there are no constants: an instance hands a number over, `P(A, 10)`
@@ -45,6 +46,7 @@ skip pass null nop | none | ; a statement that does nothing is empty, or `begin 
 /// Those that are told of where a value may stand.
 const GIVING: &str = "
 recv receive read get take await | wait | ; a value is taken by `wait(C)`
+eof empty isempty len length size count has_next hasnext ready available | none | ; nothing tells whether a value comes: `wait(C)` holds the process until one does
 ";
 
 /// How many bytes of a line are looked at.

@@ -126,7 +126,7 @@ fn fits(window: Window, piece: &str, word: &str) -> bool {
         "P" => has_word(STARTS, word),
         "O" => is_written(window, word),
         _ if letter_of(piece).is_some() => is_name(word),
-        _ => word.eq_ignore_ascii_case(piece),
+        _ => piece.split("|").any(|one| word.eq_ignore_ascii_case(one)),
     }
 }
 
@@ -218,6 +218,18 @@ fn filled(window: Window, template: &str, bindings: &[Binding]) -> Words {
     Ok(put)
 }
 
+/// Whether what a letter stands for has a `wait` that would be done twice.
+fn waits_twice(window: Window, template: &str, bindings: &[Binding]) -> bool {
+    for binding in bindings {
+        let letter = char::from(binding.letter);
+        let count = template.chars().filter(|one| *one == letter).count();
+        if count > 1 && part_of(window.text, binding.span).find("wait").is_some() {
+            return true;
+        }
+    }
+    false
+}
+
 /// The change of a pattern that fits from a number on, if the text is read past it then; at the end of a line also with a `;` behind it, or
 /// before a comment.
 fn change_at(
@@ -229,7 +241,7 @@ fn change_at(
 ) -> Fixed {
     let mut bindings = Vec::new(window.alloc);
     let end = match matched(window, start, pattern, &mut bindings)? {
-        Some(end) if window.number <= end => end,
+        Some(end) if window.number <= end && !waits_twice(window, put, &bindings) => end,
         _ => return Ok(None),
     };
     let (Some(part), Some(rest)) = (part_between(window, start, end), tries.checked_sub(1)) else {
