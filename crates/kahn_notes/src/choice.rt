@@ -25,9 +25,6 @@ out | output
 /// What is often left out, in the order in which it is looked for.
 const LEFT_OUT: &str = "; , ) ( := on then do par begin end * channel";
 
-/// What is left out again at a place, and before it.
-const TOO_MANY: &str = "do , ( par end";
-
 /// The words for directions and roles.
 const ROLES: &str = "in out input output";
 
@@ -172,13 +169,5 @@ pub(crate) fn likely(place: Place) -> Result<Vec<Change>, AllocError> {
 pub(crate) fn left_out(place: Place) -> Result<Vec<Change>, AllocError> {
     let mut changes = Vec::new(place.alloc);
     add_more(&mut changes, place, Spot::Between, LEFT_OUT)?;
-    Ok(changes)
-}
-
-/// The changes that are looked for behind it: leaving out what is too many.
-pub(crate) fn too_many(place: Place) -> Result<Vec<Change>, AllocError> {
-    let mut changes = Vec::new(place.alloc);
-    add_less(&mut changes, Spot::Here, finds(TOO_MANY, found(place)))?;
-    add_less(&mut changes, Spot::Before, finds(TOO_MANY, before(place)))?;
     Ok(changes)
 }

@@ -1,7 +1,7 @@
 //! What is said of a place where a text goes wrong, beside what was expected there: the first that answers.
 
 use crate::blocks::{blocks_said, closer_said};
-use crate::choice::{first_of, left_out, likely, too_many, twice};
+use crate::choice::{first_of, left_out, likely, twice};
 use crate::foreign::{Foreign, foreign_word};
 use crate::habits::{EARLY, FORMS, HABITS, LAST};
 use crate::mending::mending;
@@ -76,12 +76,8 @@ fn likely_said(place: Place) -> Saying {
     offered(place, &left_out)
 }
 
-/// What is said of what is too many, or of the one change that there is, or that one statement or one value alone stands there.
+/// What is said of the one change that there is, or that one statement or one value alone stands there; or else an example.
 fn last_said(place: Place) -> Saying {
-    let too_many = too_many(place)?;
-    if let Some(said) = offered(place, &too_many)? {
-        return Ok(Some(said));
-    }
     let offers = place.offers;
     if offers.whole && offers.best.len() == 1 && !finds("else", found(place)) {
         if let Some(said) = offered(place, &offers.best)? {
@@ -90,14 +86,6 @@ fn last_said(place: Place) -> Saying {
     }
     if let Some(said) = advised(LAST, place)? {
         return Ok(Some(said));
-    }
-    let likely = likely(place)?;
-    for reach in &offers.all {
-        if place.number < reach.to && likely.contains(&reach.change) {
-            if let Some(said) = told_change(place, Some(reach.change))? {
-                return Ok(Some(said));
-            }
-        }
     }
     form_said(place)
 }
