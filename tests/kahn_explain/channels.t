@@ -40,6 +40,15 @@ One value, and the first of two channels.
   the value of A was never taken
   $ kahn_explain two --input <(printf 'A: 1\nB: 7 8\n') | grep 'never taken'
   2 of the 2 values of B were never taken
+After want of memory, who lets values lie.
+  $ {
+  >   echo 'begin integer input channel A; integer channel C; integer output channel B; process fast(integer out W);'
+  >   echo 'begin integer I; repeat begin I := I + 1; send I on W end end; process slow(integer in U, V; integer out W);'
+  >   echo 'begin repeat send wait(V) + wait(U) on W end; fast(C) par slow(C, A, B) end'
+  > } > slow
+  $ (ulimit -v 20000; kahn_explain slow --bound 100000000 | sed -n '1p; 2s/[0-9][0-9]*/N/p')
+  stopped for want of memory: 1 process wants more events
+  C holds N values that 2 slow hasn't taken
 Not of a run that goes on.
   $ kahn_explain five --input <(echo 'A: 1 2 3 4 5 6 7 8') --bound 3 | head -n 2
   stopped by the bound: 1 process wants more events
