@@ -5,7 +5,7 @@ use Rattle.kahn_board.specs.Opening.{ClosesBoard}
 use Rattle.kahn_board.specs.Rule.{below}
 use Rattle.kahn_board.specs.declared.closing.Closed.{Closed}
 use Rattle.kahn_crew.specs.inner.Left.{AreAll, AreUntouched, HaveGone, IsQuietTask, IsOver, task_events}
-use Rattle.kahn_job.specs.declared.standing.Standing.{Standing}
+use Rattle.kahn_job.specs.declared.standing.TaskStanding.{TaskStanding}
 use Rattle.kahn_board.proofs.Opens.{below_first}
 use Rattle.kahn_crew.proofs.Found.{none_some, some_same}
 use Rattle.kahn_crew.proofs.Publishing.{handed_is}
@@ -15,7 +15,7 @@ use Rattle.kahn_crew.proofs.Wirings.{instances_are, read_so, reads_first, writes
 use Rattle.kahn_streams.specs.declared.tree.Role.TheVariants as role
 use Rattle.kahn_streams.proofs.Sourced
 use Rattle.kahn_board.specs.Opening as closed
-use Rattle.kahn_job.specs.declared.standing.Standing.TheVariants as standing
+use Rattle.kahn_job.specs.declared.standing.TaskStanding.TheVariants as standing
 
 -- how many events may have been done in all: those of the tasks so far and the bound of the board
 abbrev most_events : Terms Tasked → ℕ
@@ -33,7 +33,7 @@ below_sum f (x ∷ xs) tally h =
 
 -- ---- what a task waits on
 
-waits_so : (w : Work) (s : Standing) (c : ℕ) → waits_on w s ≡ Some c → (q : ℕ) × (s ≡ standing.Dry q) × (read_by (handed_to_task w q) ≡ Some c)
+waits_so : (w : Work) (s : TaskStanding) (c : ℕ) → waits_on w s ≡ Some c → (q : ℕ) × (s ≡ standing.Dry q) × (read_by (handed_to_task w q) ≡ Some c)
 waits_so w standing.Going c e = absurd (none_some e)
 waits_so w standing.Ended c e = absurd (none_some e)
 waits_so w (standing.Faulted k) c e = absurd (none_some e)

@@ -6,7 +6,7 @@ use Rattle.kahn_crew.proofs.Wirings.{reads_first, writes_first, first_writes, re
 use Rattle.kahn_crew.proofs.Publishing.{handed_is}
 use Rattle.kahn_job.proofs.Berthed.{same_self, same_then}
 use Rattle.kahn_crew.proofs.Found.{none_some, some_same}
-use Rattle.kahn_job.specs.declared.standing.Standing.TheVariants as standing
+use Rattle.kahn_job.specs.declared.standing.TaskStanding.TheVariants as standing
 use Rattle.kahn_crew.specs.declared.turn.Due.TheVariants as due
 
 -- ---- later states

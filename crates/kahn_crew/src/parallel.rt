@@ -60,8 +60,8 @@ fn halt_all<C, T: Parallel<C>>(shared: &C, mut workers: Vec<T>) -> Vec<T>
     left
 }
 
-// All work, the first in this thread and each other in one of its own. If a thread can't be started, this one tells all to
-// leave.
+// All work, the first in this thread and each other in one of its own. One for which no thread can be started works in this thread after
+// the others, if it may; else this thread tells all to leave.
 fn run_from<'s, E, R: Threads, C: Sync + 's, T: Parallel<C> + Send + Drop + 's>(
     rt: &R,
     scope: &'s Scope<'s, E>,
@@ -94,71 +94,17 @@ fn run_from<'s, E, R: Threads, C: Sync + 's, T: Parallel<C> + Send + Drop + 's>(
             workers.push_reserved(thread.join(rt));
             (workers, refused)
         }
-        Err(refused) => {
-            let mut workers = halt_all(shared, workers);
-            workers.push_reserved((refused.value)());
-            (workers, true)
-        }
-    }
-}
-
-// All work, the first in this thread and each other in one of its own, or if that can't be started in this thread, after the others.
-fn run_waiting<'s, E, R: Threads, C: Sync + 's, T: Parallel<C> + Send + Drop + 's>(
-    rt: &R,
-    scope: &'s Scope<'s, E>,
-    shared: &'s C,
-    mut workers: Vec<T>,
-) -> Vec<T>
-    requires { All (T.may shared.now) workers.items }
-    ensures room { vec_capacity result ≡ vec_capacity workers }
-    ensures count { length result.items ≡ length workers.items }
-    ensures each { AllWent (T.did shared.now) workers.items result.items }
-{
-    let Some(worker) = workers.pop() else {
-        return workers;
-    };
-    if workers.is_empty() {
-        workers.push_reserved(worker.run(shared));
-        return workers;
-    }
-    let promise = Promised {
-        shared,
-        worker: Snapshot::of(&worker),
-    };
-    let work = move || -> T
-        requires { T.may shared.now worker }
-        ensures { T.did shared.entry.now worker result }
-    { worker.run(shared) };
-    match scope.spawn_with(promise, work) {
-        Ok(thread) => {
-            let mut workers = run_waiting(rt, scope, shared, workers);
-            workers.push_reserved(thread.join(rt));
-            workers
-        }
         Err(alone) => {
-            let mut workers = run_waiting(rt, scope, shared, workers);
+            if !T::may_wait(shared) {
+                let mut workers = halt_all(shared, workers);
+                workers.push_reserved((alone.value)());
+                return (workers, true);
+            }
+            let (mut workers, refused) = run_from(rt, scope, shared, workers);
             workers.push_reserved((alone.value)());
-            workers
+            (workers, refused)
         }
     }
-}
-
-// All work, and where a thread can't be started, as they may.
-fn run_in<'s, E, R: Threads, C: Sync + 's, T: Parallel<C> + Send + Drop + 's>(
-    rt: &R,
-    scope: &'s Scope<'s, E>,
-    shared: &'s C,
-    workers: Vec<T>,
-) -> (Vec<T>, bool)
-    requires { All (T.may shared.now) workers.items }
-    ensures room { vec_capacity result.0 ≡ vec_capacity workers }
-    ensures worked { HaveWorked (T.did shared.now) (T.quit shared.now) workers.items result.0.items result.1 }
-    ensures quits { result.1 ≡ true → OneWent (T.quit shared.now) workers.items result.0.items }
-{
-    if T::may_wait(shared) {
-        return (run_waiting(rt, scope, shared, workers), false);
-    }
-    run_from(rt, scope, shared, workers)
 }
 
 /// All work at the same time, one of them in this thread and each other in a thread of its own. If a thread can't be
@@ -183,6 +129,6 @@ pub(crate) fn run_all<R: Threads + Wait + Sync, C: Sync, T: Parallel<C> + Send +
             ensures room { vec_capacity result.0 ≡ vec_capacity workers }
             ensures worked { HaveWorked (T.did shared.entry.now) (T.quit shared.entry.now) workers.items result.0.items result.1 }
             ensures quits { result.1 ≡ true → OneWent (T.quit shared.entry.now) workers.items result.0.items }
-        { run_in(rt, scope, shared, workers) },
+        { run_from(rt, scope, shared, workers) },
     )
 }

@@ -13,7 +13,7 @@ use crate::run::Run;
 use crate::worker::Worker;
 use kahn_board::{Draw, draw_some, rest_dry, rest_over, rest_ready};
 use kahn_code::{Pause, Steps};
-use kahn_job::{Standing, Task};
+use kahn_job::{Task, TaskStanding};
 use kahn_streams::{Gate, GateEntry, NoMemory, enter_gate};
 use std::sync::ledger::Ledger;
 
@@ -34,9 +34,9 @@ fn due_of(run: &Run<'_>, task: &Task, p: usize) -> Due
     task.parameters();
     let _program = run.network.program();
     match task.standing() {
-        Standing::Going => Due::Ready,
-        Standing::Ended | Standing::Faulted(_) => Due::Over,
-        Standing::Dry(parameter) => match run.code.channel(p, parameter) {
+        TaskStanding::Going => Due::Ready,
+        TaskStanding::Ended | TaskStanding::Faulted(_) => Due::Over,
+        TaskStanding::Dry(parameter) => match run.code.channel(p, parameter) {
             Some(channel) => Due::Waits(channel, task.taken(parameter)),
             None => unreachable!(),
         },

@@ -2,11 +2,11 @@
 use Rattle.kahn_job.proofs.Common.{◌≡◌, ℕ, length, sym, ap, ◌∙◌, subst, network_of, instance_at, inputs_of, told_view, Work, width_of, IsTrueOf, standing_after, ◌<◌, List, Site, Told, IsAt, IsSameProcess, IsStill, site_of, End, AreServed, end_at, IsJob}
 use Rattle.kahn_code.specs.declared.progress.Pause.{Pause}
 use Rattle.kahn_code.specs.Progress.{Paused, IsPause}
-use Rattle.kahn_job.specs.declared.standing.Standing.{Standing}
+use Rattle.kahn_job.specs.declared.standing.TaskStanding.{TaskStanding}
 use Rattle.kahn_code.specs.declared.progress.Pause.TheVariants as pause
 
 -- after a run the standing is that of the process
-pub true_after : (w : Work) (s : Standing) (z : Pause) (dry ready : ℕ → Type 0) (spent : Type 0) → s ≡ standing_after z →
+pub true_after : (w : Work) (s : TaskStanding) (z : Pause) (dry ready : ℕ → Type 0) (spent : Type 0) → s ≡ standing_after z →
     Paused (network_of w.cell.network) (inputs_of w.cell.input) w.cell.watch w.cell.instance (told_view w.cell)
     (IsPause (network_of w.cell.network) w.cell.instance dry ready spent z) → IsTrueOf w s
 true_after w s z dry ready spent e h = subst (IsTrueOf w) (sym e) (by z h)

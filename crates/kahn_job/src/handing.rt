@@ -6,14 +6,14 @@ ghost use Rattle.kahn_job.specs.inner.Idles.{cells_of, rows_of, AreEndsAt, AreEn
 ghost use Rattle.kahn_job.specs.inner.Berths.{HasPlace, end_of_side};
 
 use crate::idle::Idle;
-use crate::port::Port;
+use crate::port::TaskPort;
 use kahn_code::{Plain, Tap};
 use kahn_lane::{Receiver, Sender, lane, lane_at};
 use kahn_streams::{Input, Network, NoMemory, Role, Side};
 use std::alloc::Global;
 
 /// Gives a parameter another end, and returns the one it had.
-pub(crate) fn exchange(idles: &mut Vec<Idle>, side: Side, port: Port) -> Port
+pub(crate) fn exchange(idles: &mut Vec<Idle>, side: Side, port: TaskPort) -> TaskPort
     requires { HasPlace (rows_of idles.old.items) side }
     ensures port { result ≡ end_of_side (rows_of idles.old.items) side }
     ensures rows { rows_of idles.new.items ≡ placed (rows_of idles.old.items) (Some side) port }
@@ -26,10 +26,10 @@ pub(crate) fn exchange(idles: &mut Vec<Idle>, side: Side, port: Port) -> Port
 pub(crate) fn exchange_two(
     idles: &mut Vec<Idle>,
     writer: Side,
-    sender: Port,
+    sender: TaskPort,
     reader: Side,
-    receiver: Port,
-) -> (Port, Port)
+    receiver: TaskPort,
+) -> (TaskPort, TaskPort)
     requires places { HasPlace (rows_of idles.old.items) writer × HasPlace (rows_of idles.old.items) reader }
     requires apart { writer ≡ reader → ⊥ }
     ensures ends { (result.0 ≡ end_of_side (rows_of idles.old.items) writer) × (result.1 ≡ end_of_side (rows_of idles.old.items) reader) }
@@ -42,7 +42,7 @@ pub(crate) fn exchange_two(
 }
 
 /// Gives an end to the parameter where it belongs, if any.
-pub(crate) fn place(idles: &mut Vec<Idle>, side: Option<Side>, port: Port)
+pub(crate) fn place(idles: &mut Vec<Idle>, side: Option<Side>, port: TaskPort)
     requires { IfSome side (HasPlace (rows_of idles.old.items)) }
     ensures rows { rows_of idles.new.items ≡ placed (rows_of idles.old.items) side port }
     ensures cells { cells_of idles.new.items ≡ cells_of idles.old.items }
@@ -59,17 +59,20 @@ pub(crate) fn ends_of(
     network: &Network,
     input: &Input,
     channel: usize,
-) -> Result<(Port, Port), NoMemory>
+) -> Result<(TaskPort, TaskPort), NoMemory>
     requires { channel < length (network_of network.now).channels }
     ensures { IfOk result (λ r. AreEndsOf network.now input.now channel r.0 r.1) }
 {
     match network.channel(channel).role {
         Role::Inner => match lane(alloc, network, input, channel) {
-            Ok((sender, receiver)) => Ok((Port::puts(sender), Port::takes(receiver))),
+            Ok((sender, receiver)) => Ok((TaskPort::puts(sender), TaskPort::takes(receiver))),
             Err(_) => Err(NoMemory),
         },
-        Role::Input => Ok((Port::nothing(), Port::feeds(network, input, channel, 0))),
-        Role::Output => Ok((Port::nothing(), Port::nothing())),
+        Role::Input => Ok((
+            TaskPort::nothing(),
+            TaskPort::feeds(network, input, channel, 0),
+        )),
+        Role::Output => Ok((TaskPort::nothing(), TaskPort::nothing())),
     }
 }
 
@@ -109,7 +112,7 @@ pub(crate) fn ends_at(
     input: &Input,
     channel: usize,
     queues: &Plain<Global>,
-) -> Result<(Port, Port), NoMemory>
+) -> Result<(TaskPort, TaskPort), NoMemory>
     requires here { channel < length (network_of network.now).channels }
     requires queues { (queues.now.network ≡ network.now) × (queues.now.input ≡ input.now) }
     requires few { HaveFewTokens network.now queues.now.queues }
@@ -118,13 +121,16 @@ pub(crate) fn ends_at(
     match network.channel(channel).role {
         Role::Inner => {
             let (sender, receiver) = lane_of(alloc, network, input, channel, queues)?;
-            Ok((Port::puts(sender), Port::takes(receiver)))
+            Ok((TaskPort::puts(sender), TaskPort::takes(receiver)))
         }
         Role::Input => {
             let taken = queues.taken(channel);
-            Ok((Port::nothing(), Port::feeds(network, input, channel, taken)))
+            Ok((
+                TaskPort::nothing(),
+                TaskPort::feeds(network, input, channel, taken),
+            ))
         }
-        Role::Output => Ok((Port::nothing(), Port::nothing())),
+        Role::Output => Ok((TaskPort::nothing(), TaskPort::nothing())),
     }
 }
 

@@ -5,7 +5,7 @@ ghost use Rattle.kahn_job.specs.inner.Berths.{end_at};
 ghost use Rattle.kahn_job.specs.inner.Words.{nothing_gone};
 ghost use Rattle.kahn_job.specs.inner.Works.{IsSamePlace, width_of};
 
-use crate::port::Port;
+use crate::port::TaskPort;
 use kahn_code::{Cell, Kept, Tap};
 use kahn_streams::{Carried, NoMemory};
 use std::alloc::Global;
@@ -18,7 +18,7 @@ use std::mem;
 pub struct Idle {
     pub(crate) cell: Cell,
     pub(crate) instance: usize,
-    pub(crate) ports: Vec<Port>,
+    pub(crate) ports: Vec<TaskPort>,
     pub(crate) numbers: Vec<u64>,
 }
 
@@ -52,7 +52,7 @@ fn copied(alloc: Global, tokens: &[Carried]) -> Result<Vec<Carried>, NoMemory>
 
 impl Idle {
     /// Joins the cell of an instance with the ends of its channels, and a number for each parameter.
-    pub(crate) fn new(cell: Cell, instance: usize, ports: Vec<Port>, numbers: Vec<u64>) -> Idle
+    pub(crate) fn new(cell: Cell, instance: usize, ports: Vec<TaskPort>, numbers: Vec<u64>) -> Idle
         requires here { instance ≡ cell.instance }
         requires each { length numbers.items ≡ width_of (record { cell = cell; ends = ports.items }) }
         ensures { result ≡ record { cell = cell; ends = ports.items } }
@@ -66,7 +66,7 @@ impl Idle {
     }
 
     /// Gives a parameter another end, and returns the one it had.
-    pub(crate) fn replace(&mut self, parameter: usize, port: Port) -> Port
+    pub(crate) fn replace(&mut self, parameter: usize, port: TaskPort) -> TaskPort
         requires { parameter < length self.old.ends }
         ensures port { result ≡ end_at self.old.ends parameter }
         ensures rest { self.new ≡ record self.old { ends = slice_set self.old.ends parameter port } }

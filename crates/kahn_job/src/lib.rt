@@ -16,5 +16,5 @@ pub use handing::{seat, unseat};
 pub use idle::Idle;
 pub use opening::{jobs, jobs_at};
 pub use settling::{meet, settle};
-pub use standing::Standing;
+pub use standing::TaskStanding;
 pub use task::Task;

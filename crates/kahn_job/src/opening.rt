@@ -8,7 +8,7 @@ ghost use Rattle.kahn_job.specs.inner.Ways.{no_end};
 
 use crate::handing::{ends_at, ends_of, place};
 use crate::idle::Idle;
-use crate::port::Port;
+use crate::port::TaskPort;
 use kahn_code::{Cell, Code, Plain};
 use kahn_streams::{Input, Network, NoMemory};
 use std::alloc::Global;
@@ -35,7 +35,7 @@ fn bare_job(
     let mut ports = Vec::with_capacity(alloc, parameters)?;
     let mut numbers = Vec::with_capacity(alloc, parameters)?;
     for _ in 0..parameters {
-        ports.push_reserved(Port::nothing());
+        ports.push_reserved(TaskPort::nothing());
         numbers.push_reserved(0);
     }
     Ok(Idle::new(cell, instance, ports, numbers))

@@ -25,9 +25,9 @@ pub(crate) enum Way {
 /// The end of a channel that a parameter has: it takes from an inner channel or from an input channel, or puts into an
 /// inner channel. A parameter that has a value or an output channel has no end.
 #[derive(Drop)]
-pub(crate) struct Port(Way);
+pub(crate) struct TaskPort(Way);
 
-impl Model for Port {
+impl Model for TaskPort {
     ghost use Rattle.kahn_streams.specs.contracts.tree.Action as action;
     ghost use Rattle.kahn_streams.specs.contracts.tree.Form as form;
     ghost use Rattle.std.specs.Coded.{codes};
@@ -57,36 +57,36 @@ fn left_of(receiver: &Receiver) -> About<u64>
     named_count(receiver)
 }
 
-impl Port {
+impl TaskPort {
     /// Makes the reader's end of a lane.
-    pub(crate) fn takes(receiver: Receiver) -> Port
+    pub(crate) fn takes(receiver: Receiver) -> TaskPort
         ensures { result ≡ taking receiver (left receiver) }
     {
         let asked = left_of(&receiver);
-        Port(Way::Takes(receiver, asked))
+        TaskPort(Way::Takes(receiver, asked))
     }
 
     /// Makes the end of an input channel, whose list it reads from a place on.
-    pub(crate) fn feeds(network: &Network, input: &Input, channel: usize, next: u64) -> Port
+    pub(crate) fn feeds(network: &Network, input: &Input, channel: usize, next: u64) -> TaskPort
         requires inside { channel < length (network_of network.now).channels }
         requires given { role_at (network_of network.now) channel ≡ InputRole }
         ensures { result ≡ feeding network.now input.now channel next }
     {
-        Port(Way::Feeds(Feed::of(network, input, channel, next)))
+        TaskPort(Way::Feeds(Feed::of(network, input, channel, next)))
     }
 
     /// Makes the writer's end of a lane.
-    pub(crate) fn puts(sender: Sender) -> Port
+    pub(crate) fn puts(sender: Sender) -> TaskPort
         ensures { result ≡ putting sender }
     {
-        Port(Way::Puts(sender))
+        TaskPort(Way::Puts(sender))
     }
 
     /// Makes a port without an end.
-    pub(crate) fn nothing() -> Port
+    pub(crate) fn nothing() -> TaskPort
         ensures { result ≡ no_end }
     {
-        Port(Way::Nothing)
+        TaskPort(Way::Nothing)
     }
 
     /// Whether the next `take` gives a token. Never allocates.
@@ -197,7 +197,11 @@ impl Port {
     }
 
     /// Moves the lane on to an input that has grown, with the reader's end. If memory is refused, both come back as they were.
-    pub(crate) fn settle(self, reader: Port, input: &Input) -> (Port, Port, Result<(), NoMemory>)
+    pub(crate) fn settle(
+        self,
+        reader: TaskPort,
+        input: &Input,
+    ) -> (TaskPort, TaskPort, Result<(), NoMemory>)
         requires { CanSettle input.now self reader }
         ensures lane { OnOk result.2 (ShareLane result.0 result.1) }
         ensures settled { OnOk result.2 ((n : LaneName) → self.name ≡ Some n → BothSettle (moved_to input.now n) self reader result.0 result.1) }
@@ -207,16 +211,16 @@ impl Port {
             unreachable!()
         };
         match settle(sender, receiver, input) {
-            Ok((sender, receiver)) => (Port::puts(sender), Port::takes(receiver), Ok(())),
+            Ok((sender, receiver)) => (TaskPort::puts(sender), TaskPort::takes(receiver), Ok(())),
             Err((fault, sender, receiver)) => {
-                let reader = Port(Way::Takes(receiver, asked));
-                (Port::puts(sender), reader, Err(fault))
+                let reader = TaskPort(Way::Takes(receiver, asked));
+                (TaskPort::puts(sender), reader, Err(fault))
             }
         }
     }
 
     /// Lets the two ends of a lane meet in one thread, which shows that no more was taken than was flushed. Never allocates.
-    pub(crate) fn meet(self, reader: Port) -> (Port, Port)
+    pub(crate) fn meet(self, reader: TaskPort) -> (TaskPort, TaskPort)
         requires { MayMeet self reader }
         ensures stayed { HasStayed self result.0 × HasStayed reader result.1 }
         ensures behind { IsBehind self reader }
@@ -225,7 +229,10 @@ impl Port {
             unreachable!()
         };
         let _waiting = meet(&mut sender, &mut receiver);
-        (Port::puts(sender), Port(Way::Takes(receiver, asked)))
+        (
+            TaskPort::puts(sender),
+            TaskPort(Way::Takes(receiver, asked)),
+        )
     }
 
     /// Says that no more of an input channel is ready than its list has. For the prover only.

@@ -4,7 +4,7 @@ ghost use Rattle.kahn_job.specs.inner.Words.{ℕ, OnOk, props};
 ghost use Rattle.kahn_job.specs.inner.Berths.{AreServed, HaveFlushed, Serves-prop, end_at};
 ghost use Rattle.kahn_job.specs.inner.Ends.{IsFlushed};
 
-use crate::port::Port;
+use crate::port::TaskPort;
 use kahn_code::Ports;
 use kahn_streams::{Input, Network, NoMemory, Token};
 
@@ -15,7 +15,7 @@ pub(crate) struct Ends<'a> {
     pub(crate) network: &'a Network,
     pub(crate) input: &'a Input,
     pub(crate) instance: usize,
-    pub(crate) ports: &'a mut Vec<Port>,
+    pub(crate) ports: &'a mut Vec<TaskPort>,
     ghost served: { AreServed network.now input.now instance ports.now.items } by { Prim.hlevel (props, Serves-prop) },
 }
 
@@ -66,7 +66,7 @@ impl<'a> Ports for Ends<'a> {
 
 /// Flushes what was put on each channel, so that its reader can take it. It stops at the first refusal, which leaves the
 /// tokens where they are.
-pub(crate) fn flush_all(ports: &mut [Port]) -> Result<(), NoMemory>
+pub(crate) fn flush_all(ports: &mut [TaskPort]) -> Result<(), NoMemory>
     ensures each { HaveFlushed ports.old ports.new }
     ensures all { OnOk result ((q : ℕ) → IsFlushed (end_at ports.new q)) }
 {

@@ -10,7 +10,7 @@ ghost use Rattle.kahn_job.specs.inner.Settling.{GoesOrStays, AreResting, AreSett
 
 use crate::handing::{exchange, exchange_two};
 use crate::idle::Idle;
-use crate::port::Port;
+use crate::port::TaskPort;
 use kahn_streams::{Input, Network, NoMemory, Side};
 
 // Moves the lane between two parameters on to the input.
@@ -26,7 +26,13 @@ fn settle_lane(
     ensures ends { GoesOrStays result (HaveExchanged input.now writer reader) (rows_of idles.old.items) (rows_of idles.new.items) }
     ensures cells { cells_of idles.new.items ≡ cells_of idles.old.items }
 {
-    let (sender, receiver) = exchange_two(idles, writer, Port::nothing(), reader, Port::nothing());
+    let (sender, receiver) = exchange_two(
+        idles,
+        writer,
+        TaskPort::nothing(),
+        reader,
+        TaskPort::nothing(),
+    );
     let (sender, receiver, settled) = sender.settle(receiver, input);
     let _none = exchange_two(idles, writer, sender, reader, receiver);
     settled
@@ -39,7 +45,7 @@ fn settle_feed(idles: &mut Vec<Idle>, reader: Side, input: &Input)
     ensures ends { HasExchanged input.now reader (rows_of idles.old.items) (rows_of idles.new.items) }
     ensures cells { cells_of idles.new.items ≡ cells_of idles.old.items }
 {
-    let mut port = exchange(idles, reader, Port::nothing());
+    let mut port = exchange(idles, reader, TaskPort::nothing());
     port.regrow(input);
     let _none = exchange(idles, reader, port);
 }
@@ -93,7 +99,13 @@ fn meet_sides(idles: &mut Vec<Idle>, writer: Side, reader: Side)
     ensures met { HaveMet idles.old.items idles.new.items }
     ensures behind { IsBehind (end_of_side (rows_of idles.old.items) writer) (end_of_side (rows_of idles.old.items) reader) }
 {
-    let (sender, receiver) = exchange_two(idles, writer, Port::nothing(), reader, Port::nothing());
+    let (sender, receiver) = exchange_two(
+        idles,
+        writer,
+        TaskPort::nothing(),
+        reader,
+        TaskPort::nothing(),
+    );
     let (sender, receiver) = sender.meet(receiver);
     let _none = exchange_two(idles, writer, sender, reader, receiver);
 }

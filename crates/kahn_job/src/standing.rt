@@ -8,7 +8,7 @@ use kahn_streams::Failure;
 
 /// Where a process stood when it was last run, as far as more runs can't change it.
 #[derive(Clone, Copy, Debug, PartialEq, Eq)]
-pub enum Standing {
+pub enum TaskStanding {
     /// It may go on, as far as is known.
     Going,
     /// It has ended.
@@ -19,16 +19,16 @@ pub enum Standing {
     Dry(usize),
 }
 
-impl Standing {
+impl TaskStanding {
     /// Returns the standing after a pause.
-    pub fn after(pause: Pause) -> Standing
+    pub fn after(pause: Pause) -> TaskStanding
         ensures { result ≡ standing_after pause }
     {
         match pause {
-            Pause::Spent | Pause::NoMemory => Standing::Going,
-            Pause::Ended => Standing::Ended,
-            Pause::Fault(failure) => Standing::Faulted(failure),
-            Pause::Dry(parameter) => Standing::Dry(parameter),
+            Pause::Spent | Pause::NoMemory => TaskStanding::Going,
+            Pause::Ended => TaskStanding::Ended,
+            Pause::Fault(failure) => TaskStanding::Faulted(failure),
+            Pause::Dry(parameter) => TaskStanding::Dry(parameter),
         }
     }
 }

@@ -10,9 +10,9 @@ ghost use Rattle.kahn_job.specs.inner.Tasks.{Continues, IsTrueOf, standing_after
 ghost use Rattle.kahn_job.specs.inner.Works.{HasPaused, IsDelivered, IsJob, width_of};
 
 use crate::idle::Idle;
-use crate::port::Port;
+use crate::port::TaskPort;
 use crate::ports::{Ends, flush_all};
-use crate::standing::Standing;
+use crate::standing::TaskStanding;
 use kahn_code::{Cell, Code, Pause, Steps};
 use kahn_streams::{Input, Network, NoMemory};
 use std::marker::Model;
@@ -24,8 +24,8 @@ use std::sync::ledger::Ledger;
 pub struct Task {
     cell: Cell,
     instance: usize,
-    ports: Vec<Port>,
-    standing: Standing,
+    ports: Vec<TaskPort>,
+    standing: TaskStanding,
     published: Vec<u64>,
 }
 
@@ -69,7 +69,7 @@ impl Task {
             cell,
             instance: idle.instance,
             ports: idle.ports,
-            standing: Standing::Going,
+            standing: TaskStanding::Going,
             published,
         }
     }
@@ -113,7 +113,7 @@ impl Task {
             ports: &mut self.ports,
         };
         let pause = self.cell.run(code, quantum, &mut ends, steps);
-        self.standing = Standing::after(pause);
+        self.standing = TaskStanding::after(pause);
         pause
     }
 
@@ -131,7 +131,7 @@ impl Task {
     }
 
     /// Returns where the process stood when it was last run.
-    pub fn standing(&self) -> Standing
+    pub fn standing(&self) -> TaskStanding
         ensures result { result ≡ self.now.standing }
         ensures said { IsTrueOf self.now.work self.now.standing }
     {

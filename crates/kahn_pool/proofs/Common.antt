@@ -20,7 +20,7 @@ pub use Rattle.kahn_crew.specs.inner.Tasks.{AreReadyTasks, handed_to_task, is_ov
 pub use Rattle.kahn_job.proofs.Berthed.{past_none}
 pub use Rattle.kahn_job.proofs.Idles.{all_idle, idle_grown, idle_met, idle_still, row_there, settled_rest, AreJoinedJobs}
 pub use Rattle.kahn_job.proofs.Settles.{same_lanes}
-pub use Rattle.kahn_job.specs.declared.{standing.Standing.Standing}
+pub use Rattle.kahn_job.specs.declared.{standing.TaskStanding.TaskStanding}
 pub use Rattle.kahn_job.specs.inner.Berths.{IsWithinInput, Serves, end_at, AreBehindOn, AreJoinedOn, end_in}
 pub use Rattle.kahn_job.specs.inner.Ends.{IsBehind, IsReady}
 pub use Rattle.kahn_job.specs.inner.Idles.{HaveFewTokens, AreIdle, AreJobsAt, HaveSettled, IsIdle, AreSamePlaces, HaveMet, StandsByQueue, cells_of, rows_of}

@@ -5,7 +5,7 @@ use Rattle.kahn_streams.specs.declared.answer.End.{End}
 use Rattle.kahn_sequential.proofs.Benched.{got, within_get}
 use Rattle.kahn_job.specs.inner.Ends.{End as LaneEnd}
 use Rattle.kahn_sequential.proofs.Lists.{old_item, map_changed, sum_over}
-use Rattle.kahn_job.specs.declared.standing.Standing.TheVariants as standing
+use Rattle.kahn_job.specs.declared.standing.TaskStanding.TheVariants as standing
 use Rattle.kahn_streams.specs.declared.answer.Outcome.TheVariants as outcome
 use Rattle.kahn_pool.proofs.Rests as rests
 use Rattle.kahn_pool.proofs.Rests.{AreTasks, IsInstanceTask, state_of_tasks}

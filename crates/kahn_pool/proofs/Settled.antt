@@ -1,10 +1,10 @@
 -- Tasks that are asked what comes next.
 use Rattle.std.proofs.Common.{arith, ◌≡◌, ◌⊎◌, inl, inr, ℕ, ◌+◌, ◌<◌, ◌≤◌, List, length, refl, sym, subst}
-use Rattle.kahn_pool.proofs.Common.{network_of, Store, inputs_of, Pause, Paused, IsPause, told_view, IsReady, IsWithinInput, end_at, no_end, Work, Standing, Tasked, Continues, IsTrueOf, standing_after, past_none, IsSaid, IsSettledTask, SettlesTo}
+use Rattle.kahn_pool.proofs.Common.{network_of, Store, inputs_of, Pause, Paused, IsPause, told_view, IsReady, IsWithinInput, end_at, no_end, Work, TaskStanding, Tasked, Continues, IsTrueOf, standing_after, past_none, IsSaid, IsSettledTask, SettlesTo}
 use Rattle.kahn_job.specs.inner.Ends.{End}
 use Rattle.kahn_streams.specs.Script as script
 use Rattle.kahn_code.specs.declared.progress.Pause.TheVariants as pause
-use Rattle.kahn_job.specs.declared.standing.Standing.TheVariants as standing
+use Rattle.kahn_job.specs.declared.standing.TaskStanding.TheVariants as standing
 
 -- ---- input channels
 
@@ -20,17 +20,17 @@ fed_all es n is h q = by (past_none es q)
 
 -- ---- what a standing says
 
-abbrev Says : Work → Standing → Type 0
+abbrev Says : Work → TaskStanding → Type 0
 Says w s =
     Paused (network_of w.cell.network) (inputs_of w.cell.input) w.cell.watch w.cell.instance (told_view w.cell) (IsSaid w s)
 
-pub says_still : (w : Work) (s : Standing) → (s ≡ standing.Going → ⊥) → IsTrueOf w s → Says w s
+pub says_still : (w : Work) (s : TaskStanding) → (s ≡ standing.Going → ⊥) → IsTrueOf w s → Says w s
 says_still w standing.Going n h = absurd (n refl)
 says_still w standing.Ended n h = h
 says_still w (standing.Faulted k) n h = h
 says_still w (standing.Dry q) n h = h
 
-pub says_ran : (w : Work) (s : Standing) (z : Pause) (dry : ℕ → Type 0) (spent : Type 0) → s ≡ standing_after z →
+pub says_ran : (w : Work) (s : TaskStanding) (z : Pause) (dry : ℕ → Type 0) (spent : Type 0) → s ≡ standing_after z →
     Paused (network_of w.cell.network) (inputs_of w.cell.input) w.cell.watch w.cell.instance (told_view w.cell)
     (IsPause (network_of w.cell.network) w.cell.instance dry (λ q. IsReady (end_at w.ends q)) spent z) → Says w s
 says_ran w s z dry spent e h = subst (Says w) (sym e) (record { stood = h.stood; is = by z _ h.is })

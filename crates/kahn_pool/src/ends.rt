@@ -5,7 +5,7 @@ ghost use Rattle.kahn_pool.specs.inner.Below.{AreAll, Tasked, network_of};
 ghost use Rattle.kahn_pool.specs.inner.Rested.{AreEndsOfTasks, AreTold, IsDryOf, IsDryTold, IsEndOf};
 
 use crate::plan::RunPart;
-use kahn_job::{Standing, Task};
+use kahn_job::{Task, TaskStanding};
 use kahn_sequential::channel_read;
 use kahn_streams::{End, Outcome};
 
@@ -53,10 +53,10 @@ fn end_of(part: &RunPart<'_>, tasks: &[Task], instance: usize) -> End
 {
     let task = &tasks[instance];
     let outcome = match task.standing() {
-        Standing::Going => Outcome::More,
-        Standing::Ended => Outcome::Ended,
-        Standing::Faulted(failure) => Outcome::Faulted(failure),
-        Standing::Dry(parameter) => dry_outcome(part, tasks, instance, parameter),
+        TaskStanding::Going => Outcome::More,
+        TaskStanding::Ended => Outcome::Ended,
+        TaskStanding::Faulted(failure) => Outcome::Faulted(failure),
+        TaskStanding::Dry(parameter) => dry_outcome(part, tasks, instance, parameter),
     };
     let events = task.events();
     End { outcome, events }

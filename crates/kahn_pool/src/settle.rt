@@ -4,11 +4,11 @@ ghost use Rattle.std.specs.Prelude.{◌≡◌, ◌<◌, ℕ, Some, slice_get};
 ghost use Rattle.kahn_pool.specs.inner.Below.{IsWithinInput, Tasked, end_at};
 ghost use Rattle.kahn_sequential.specs.inner.Streams.{HaveChanged};
 ghost use Rattle.kahn_pool.specs.inner.Rested.{IsLentTo, IsSettledTask, SettlesTo};
-ghost use Rattle.kahn_job.specs.declared.standing.Standing.TheVariants as standing;
+ghost use Rattle.kahn_job.specs.declared.standing.TaskStanding.TheVariants as standing;
 
 use crate::plan::RunPart;
 use kahn_code::Steps;
-use kahn_job::{Standing, Task};
+use kahn_job::{Task, TaskStanding};
 use std::marker::Brand;
 use std::sync::ledger::{Blank, Ledger};
 
@@ -49,7 +49,7 @@ fn settle(task: &mut Task, part: &RunPart<'_>)
     requires { IsLentTo part.now task.old }
     ensures { SettlesTo task.old task.new }
 {
-    if task.standing() == Standing::Going {
+    if task.standing() == TaskStanding::Going {
         ask::<Brand>(Blank::new(1), task, part);
     } else {
         keep(task);

@@ -4,7 +4,7 @@ use Rattle.kahn_crew.specs.inner.Words.{ℕ, Bool, true, List, length, sum_by, O
 use Rattle.kahn_crew.specs.declared.closing.{CrewFault.CrewFault, Left.Left}
 use Rattle.kahn_crew.specs.declared.closing.CrewFault.TheVariants as fault
 use Rattle.kahn_streams.specs.declared.fault.RunFault.TheVariants as run
-use Rattle.kahn_job.specs.declared.standing.Standing.TheVariants as standing
+use Rattle.kahn_job.specs.declared.standing.TaskStanding.TheVariants as standing
 use Rattle.kahn_crew.specs.inner.Tasks.{AreReadyTasks, handed_to_task, is_over, told_tale}
 
 abbrev pub task_events : Tasked → ℕ

@@ -1,7 +1,7 @@
 -- Inner. What a task tells the board, and the tasks of a run before its next events.
 use Rattle.std.specs.Prelude.{◌≡◌, if◌then◌else◌, ◌==◌, ◌^◌, ◌<◌}
-use Rattle.kahn_crew.specs.inner.Words.{ℕ, Bool, true, false, List, map, option_map, option_map_or, position, Option, Some, None, Network, Actual, Reads, Writes, network_of, instance_at, actual_at, role_at, is_output, count, end_at, End, rows_of, Continues, Tasked, Work, Summary, Standing, length, slice_get, Program, Lists, inputs_of, AreJoinedOn, IsDelivered, some, get_elem?, dealt, wired, Terms, Input}
-use Rattle.kahn_job.specs.declared.standing.Standing.TheVariants as standing
+use Rattle.kahn_crew.specs.inner.Words.{ℕ, Bool, true, false, List, map, option_map, option_map_or, position, Option, Some, None, Network, Actual, Reads, Writes, network_of, instance_at, actual_at, role_at, is_output, count, end_at, End, rows_of, Continues, Tasked, Work, Summary, TaskStanding, length, slice_get, Program, Lists, inputs_of, AreJoinedOn, IsDelivered, some, get_elem?, dealt, wired, Terms, Input}
+use Rattle.kahn_job.specs.declared.standing.TaskStanding.TheVariants as standing
 
 abbrev pub work_of : Tasked → Work
 work_of x = x.work
@@ -44,12 +44,12 @@ count_on xs o = option_map_or (count xs) o 0
 abbrev pub wrote_by : Work → Option ℕ → Option (ℕ × ℕ)
 wrote_by w o = option_map (λ q. (count w.cell.sent q, (end_at w.ends q).flushed)) o
 
-abbrev pub is_over : Standing → Bool
+abbrev pub is_over : TaskStanding → Bool
 is_over standing.Ended = true
 is_over (standing.Faulted k) = true
 is_over s = false
 
-abbrev pub waits_on : Work → Standing → Option ℕ
+abbrev pub waits_on : Work → TaskStanding → Option ℕ
 waits_on w (standing.Dry q) = read_by (handed_to_task w q)
 waits_on w s = None
 

@@ -4,7 +4,7 @@ use Rattle.kahn_crew.specs.inner.Words.{ℕ, Bool, true, Option, None, Some, sli
 use Rattle.kahn_board.specs.{Rule.budget_at, Wires.Wires}
 use Rattle.kahn_crew.specs.declared.{run.Run.Run, turn.Due.Due, worker.Worker.Worker}
 use Rattle.kahn_crew.specs.declared.turn.Due.TheVariants as due
-use Rattle.kahn_job.specs.declared.standing.Standing.TheVariants as standing
+use Rattle.kahn_job.specs.declared.standing.TaskStanding.TheVariants as standing
 use Rattle.kahn_crew.specs.inner.Tasks.{IsTaskOf, AgreesWith, IsLater, told_tale}
 
 abbrev pub terms_of : Run → Terms Tasked

@@ -3,18 +3,18 @@ use Rattle.std.specs.Prelude.{◌≡◌, ◌≤◌}
 use Rattle.kahn_job.specs.inner.Words.{ℕ, List, length, Some, network_of, Lists, inputs_of, Store, Outcome, Dry as IsDryAt, ending, Pause, Paused, told_view}
 use Rattle.kahn_streams.specs.Solution as end
 use Rattle.kahn_code.specs.declared.progress.Pause.TheVariants as pause
-use Rattle.kahn_job.specs.declared.standing.Standing.{Standing}
-use Rattle.kahn_job.specs.declared.standing.Standing.TheVariants as standing
+use Rattle.kahn_job.specs.declared.standing.TaskStanding.{TaskStanding}
+use Rattle.kahn_job.specs.declared.standing.TaskStanding.TheVariants as standing
 use Rattle.kahn_job.specs.inner.Berths.{HaveAdvanced}
 use Rattle.kahn_job.specs.inner.Works.{Work, IsJob, grown_work, width_of}
 
 -- a job, where its process stood when it was last run, and by parameter how many of the tokens that it sent are published
 pub record Tasked : Type 0 where
   pub work : Work
-  pub standing : Standing
+  pub standing : TaskStanding
   pub published : List ℕ
 
-abbrev pub standing_after : Pause → Standing
+abbrev pub standing_after : Pause → TaskStanding
 standing_after pause.Spent = standing.Going
 standing_after pause.NoMemory = standing.Going
 standing_after pause.Ended = standing.Ended
@@ -22,23 +22,23 @@ standing_after (pause.Fault k) = standing.Faulted k
 standing_after (pause.Dry q) = standing.Dry q
 
 -- what a standing means for the outcome of the process on the values that it took
-abbrev pub TellsOutcome : Standing → Outcome Store → Type 0
+abbrev pub TellsOutcome : TaskStanding → Outcome Store → Type 0
 TellsOutcome standing.Going o = Unit {0}
 TellsOutcome standing.Ended o = ending o ≡ Some end.Ended
 TellsOutcome (standing.Faulted k) o = ending o ≡ Some (end.Faulted k)
 TellsOutcome (standing.Dry q) o = o ≡ IsDryAt q
 
-abbrev pub HasStanding : Work → Standing → Type 0
+abbrev pub HasStanding : Work → TaskStanding → Type 0
 HasStanding w s =
     Paused (network_of w.cell.network) (inputs_of w.cell.input) w.cell.watch w.cell.instance (told_view w.cell) (TellsOutcome s)
 
 -- unless it is `Going`, the standing is that of the process
-abbrev pub IsTrueOf : Work → Standing → Type 0
+abbrev pub IsTrueOf : Work → TaskStanding → Type 0
 IsTrueOf w standing.Going = Unit {0}
 IsTrueOf w s = HasStanding w s
 
 -- what always holds for a task of instance p
-pub record IsTask (p : ℕ) (w : Work) (s : Standing) (published : List ℕ) : Type 0 where
+pub record IsTask (p : ℕ) (w : Work) (s : TaskStanding) (published : List ℕ) : Type 0 where
   pub job : IsJob w
   pub instance : p ≡ w.cell.instance
   pub says : IsTrueOf w s

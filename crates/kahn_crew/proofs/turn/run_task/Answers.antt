@@ -8,7 +8,7 @@ use Rattle.kahn_job.specs.inner.Ends.{IsDry, IsReady}
 use Rattle.kahn_crew.proofs.Resting.{sees_two}
 use Rattle.kahn_crew.proofs.Working.{in_hand, is_lent, went}
 use Rattle.kahn_code.specs.declared.progress.Pause.TheVariants as pause
-use Rattle.kahn_job.specs.declared.standing.Standing.TheVariants as standing
+use Rattle.kahn_job.specs.declared.standing.TaskStanding.TheVariants as standing
 use Rattle.kahn_crew.proofs.turn.run_task.Goals as goal
 
 either_of : {E : Type 0} (r : Result (Unit {0}) E) {P Q : Type 0} → OnOk r P → OnErr r Q → Q ⊎ P

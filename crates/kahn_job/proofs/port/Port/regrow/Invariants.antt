@@ -1,4 +1,4 @@
-use Rattle.kahn_job.proofs.port.Port.regrow.Given as goal
+use Rattle.kahn_job.proofs.port.TaskPort.regrow.Given as goal
 
 abbrev pub ghost-regrow : goal.ghost-regrow
 ghost-regrow a = a._input.now

@@ -1,6 +1,6 @@
 use Rattle.kahn_job.proofs.Common.{◌≡◌, sym, ap, ◌∙◌, subst, Some, receiver_lane, LaneName, End, end_of}
 use Rattle.kahn_lane.specs.inner.Settles.{IsGrown}
-use Rattle.kahn_job.proofs.port.Port.settle.Goals as goal
+use Rattle.kahn_job.proofs.port.TaskPort.settle.Goals as goal
 
 pub settle-requires-clause-grown : goal.settle-requires-clause-grown
 settle-requires-clause-grown c = subst (λ (x : End). (n : LaneName) × (x.name ≡ Some n) × IsGrown n c.args.input.now) (sym c.self.view_is ∙ ap end_of c.in-Puts-Takes.is-0) c.requires.grown
