@@ -21,7 +21,7 @@ UNTOLD = r"and (?:1 place|\d+ places) more\n"
 PLACED = re.compile(rf"(?m)^[^\n]*:(\d+:\d+): error: ((\d+) \w+ (?:waits on|has a fault)[^\n]*)\n[^\n]*\n[^\n]*\n((?: *= [^\n]*\n)*)((?:{NOTE})*(?:{UNTOLD})?)")
 REFERRED = re.compile(r"(?m)^(\d+) \w+ has a fault, \w+: see (\d+) \w+$")
 OWN = "its own queue is empty: let it send before it waits"
-RING = "this ring wants a first value (let one of its processes send before it waits), or one of them takes more than another sends: --trace shows what came"
+RING = "this ring wants a first value (let one of its processes send before it waits), or one of them takes more than another sends: kahn_explain --trace shows what came"
 GO_ON = "--bound N with a greater N lets the run go on"
 FOR_EVER = ("ring", "ended", "fault overflow", "fault division")
 

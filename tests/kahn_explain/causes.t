@@ -7,7 +7,7 @@ A ring of three with a tail.
   ring.kahn:7:17: error: 1 stage waits on A from 3 tap, in a deadlock: for ever
    7 |     repeat send wait(U) + 1 on W
      |                 ^^^^^^^
-     = this ring wants a first value (let one of its processes send before it waits), or one of them takes more than another sends: --trace shows what came
+     = this ring wants a first value (let one of its processes send before it waits), or one of them takes more than another sends: kahn_explain --trace shows what came
      = 5 sink waits because of it: for ever
   ring.kahn:7:17: error: 2 stage waits on B from 1 stage, in a deadlock: for ever
    7 |     repeat send wait(U) + 1 on W
@@ -55,7 +55,7 @@ A ring of two beside what runs on.
   two.kahn:2:64: error: 2 copy waits on B from 3 copy, in a deadlock: for ever
    2 |   process copy(integer in U; integer out W); begin repeat send wait(U) on W end;
      |                                                                ^^^^^^^
-     = this ring wants a first value (let one of its processes send before it waits), or one of them takes more than another sends: --trace shows what came
+     = this ring wants a first value (let one of its processes send before it waits), or one of them takes more than another sends: kahn_explain --trace shows what came
   two.kahn:2:64: error: 3 copy waits on A from 2 copy, in a deadlock: for ever
    2 |   process copy(integer in U; integer out W); begin repeat send wait(U) on W end;
      |                                                                ^^^^^^^
@@ -172,7 +172,7 @@ Each process of several causes.
   two.kahn:2:64: error: 2 copy waits on B from 3 copy, in a deadlock: for ever
    2 |   process copy(integer in U; integer out W); begin repeat send wait(U) on W end;
      |                                                                ^^^^^^^
-     = this ring wants a first value (let one of its processes send before it waits), or one of them takes more than another sends: --trace shows what came
+     = this ring wants a first value (let one of its processes send before it waits), or one of them takes more than another sends: kahn_explain --trace shows what came
   two.kahn:2:64: error: 3 copy waits on A from 2 copy, in a deadlock: for ever
    2 |   process copy(integer in U; integer out W); begin repeat send wait(U) on W end;
      |                                                                ^^^^^^^

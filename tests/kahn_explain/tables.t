@@ -35,7 +35,7 @@ A table beside a ring.
   ! ring.kahn:7:17: error: 1 stage waits on A from 3 tap, in a deadlock: for ever
   !  7 |     repeat send wait(U) + 1 on W
   !    |                 ^^^^^^^
-  !    = this ring wants a first value (let one of its processes send before it waits), or one of them takes more than another sends: --trace shows what came
+  !    = this ring wants a first value (let one of its processes send before it waits), or one of them takes more than another sends: kahn_explain --trace shows what came
   !    = 5 sink waits because of it: for ever
   ! ring.kahn:7:17: error: 2 stage waits on B from 1 stage, in a deadlock: for ever
   !  7 |     repeat send wait(U) + 1 on W

@@ -6,7 +6,7 @@ A ring of waits, values alone.
   ! control.kahn:2:76: error: 1 err waits on Y from 3 plant, in a deadlock: for ever
   !  2 |   process err(integer in R, Y; integer out E); begin repeat send wait(R) - wait(Y) on E end;
   !    |                                                                            ^^^^^^^
-  !    = this ring wants a first value (let one of its processes send before it waits), or one of them takes more than another sends: --trace shows what came
+  !    = this ring wants a first value (let one of its processes send before it waits), or one of them takes more than another sends: kahn_explain --trace shows what came
   ! control.kahn:3:63: error: 2 ctl waits on E from 1 err, in a deadlock: for ever
   !  3 |   process ctl(integer in E; integer out U); begin repeat send wait(E) div 2 on U end;
   !    |                                                               ^^^^^^^
@@ -23,7 +23,7 @@ A ring of waits.
   ! control.kahn:2:76: error: 1 err waits on Y from 3 plant, in a deadlock: for ever
   !  2 |   process err(integer in R, Y; integer out E); begin repeat send wait(R) - wait(Y) on E end;
   !    |                                                                            ^^^^^^^
-  !    = this ring wants a first value (let one of its processes send before it waits), or one of them takes more than another sends: --trace shows what came
+  !    = this ring wants a first value (let one of its processes send before it waits), or one of them takes more than another sends: kahn_explain --trace shows what came
   ! control.kahn:3:63: error: 2 ctl waits on E from 1 err, in a deadlock: for ever
   !  3 |   process ctl(integer in E; integer out U); begin repeat send wait(E) div 2 on U end;
   !    |                                                               ^^^^^^^
@@ -40,7 +40,7 @@ A ring of waits, strictly.
   ! control.kahn:2:76: error: 1 err waits on Y from 3 plant, in a deadlock: for ever
   !  2 |   process err(integer in R, Y; integer out E); begin repeat send wait(R) - wait(Y) on E end;
   !    |                                                                            ^^^^^^^
-  !    = this ring wants a first value (let one of its processes send before it waits), or one of them takes more than another sends: --trace shows what came
+  !    = this ring wants a first value (let one of its processes send before it waits), or one of them takes more than another sends: kahn_explain --trace shows what came
   ! control.kahn:3:63: error: 2 ctl waits on E from 1 err, in a deadlock: for ever
   !  3 |   process ctl(integer in E; integer out U); begin repeat send wait(E) div 2 on U end;
   !    |                                                               ^^^^^^^
@@ -58,7 +58,7 @@ A ring of waits, with names, strictly.
   ! control.kahn:2:76: error: 1 err waits on Y from 3 plant, in a deadlock: for ever
   !  2 |   process err(integer in R, Y; integer out E); begin repeat send wait(R) - wait(Y) on E end;
   !    |                                                                            ^^^^^^^
-  !    = this ring wants a first value (let one of its processes send before it waits), or one of them takes more than another sends: --trace shows what came
+  !    = this ring wants a first value (let one of its processes send before it waits), or one of them takes more than another sends: kahn_explain --trace shows what came
   ! control.kahn:3:63: error: 2 ctl waits on E from 1 err, in a deadlock: for ever
   !  3 |   process ctl(integer in E; integer out U); begin repeat send wait(E) div 2 on U end;
   !    |                                                               ^^^^^^^
@@ -78,7 +78,7 @@ A ring beside what waits on an input.
   ! beside.kahn:2:64: error: 1 copy waits on X from 2 copy, in a deadlock: for ever
   !  2 |   process copy(integer in U; integer out W); begin repeat send wait(U) on W end;
   !    |                                                                ^^^^^^^
-  !    = this ring wants a first value (let one of its processes send before it waits), or one of them takes more than another sends: --trace shows what came
+  !    = this ring wants a first value (let one of its processes send before it waits), or one of them takes more than another sends: kahn_explain --trace shows what came
   ! beside.kahn:2:64: error: 2 copy waits on Y from 1 copy, in a deadlock: for ever
   !  2 |   process copy(integer in U; integer out W); begin repeat send wait(U) on W end;
   !    |                                                                ^^^^^^^
@@ -97,7 +97,7 @@ A ring beside what waits on an input, strictly.
   ! beside.kahn:2:64: error: 1 copy waits on X from 2 copy, in a deadlock: for ever
   !  2 |   process copy(integer in U; integer out W); begin repeat send wait(U) on W end;
   !    |                                                                ^^^^^^^
-  !    = this ring wants a first value (let one of its processes send before it waits), or one of them takes more than another sends: --trace shows what came
+  !    = this ring wants a first value (let one of its processes send before it waits), or one of them takes more than another sends: kahn_explain --trace shows what came
   ! beside.kahn:2:64: error: 2 copy waits on Y from 1 copy, in a deadlock: for ever
   !  2 |   process copy(integer in U; integer out W); begin repeat send wait(U) on W end;
   !    |                                                                ^^^^^^^
@@ -117,7 +117,7 @@ A fault before a ring, strictly.
   ! beside.kahn:2:64: error: 1 copy waits on X from 2 copy, in a deadlock: for ever
   !  2 |   process copy(integer in U; integer out W); begin repeat send wait(U) on W end;
   !    |                                                                ^^^^^^^
-  !    = this ring wants a first value (let one of its processes send before it waits), or one of them takes more than another sends: --trace shows what came
+  !    = this ring wants a first value (let one of its processes send before it waits), or one of them takes more than another sends: kahn_explain --trace shows what came
   ! beside.kahn:2:64: error: 2 copy waits on Y from 1 copy, in a deadlock: for ever
   !  2 |   process copy(integer in U; integer out W); begin repeat send wait(U) on W end;
   !    |                                                                ^^^^^^^

@@ -7,7 +7,7 @@ const REASON = /^(\d+) (\w+) (waits on (\w+)|has a fault, (\w+)|wants more)(.*)$
 
 // The words of a command line, for whoever has a field or a table in place of an option.
 const OPTIONS = [
-  [/: --trace shows what came$/, ": the table of values shows what came"],
+  [/: kahn_explain --trace shows what came$/, ": the table of values shows what came"],
   [/--bound N with a greater N/, "a greater bound"],
   [/, and --watch shows it$/, ""],
   [/; a name stands before the values alone, and with --plain nowhere$/, "; a name stands before the values alone"],

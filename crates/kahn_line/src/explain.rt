@@ -32,7 +32,7 @@ run ended. With a program whose process 1 waits on 2, and 2 on 1:
   ring.kahn:4:17: error: 1 stage waits on A from 2 stage, in a deadlock: for ever
    4 |     repeat send wait(U) + 1 on W
      |                 ^^^^^^^
-     = this ring wants a first value (let one of its processes send before it waits), or one of them takes more than another sends: --trace shows what came
+     = this ring wants a first value (let one of its processes send before it waits), or one of them takes more than another sends: kahn_explain --trace shows what came
   ring.kahn:4:17: error: 2 stage waits on B from 1 stage, in a deadlock: for ever
    4 |     repeat send wait(U) + 1 on W
      |                 ^^^^^^^
@@ -125,7 +125,11 @@ fn explain_command<'a>(alloc: Global) -> Result<Command<'a>, AllocError>
     bare(alloc, "kahn_explain", USAGE, ABOUT, MORE)?
         .arg(program_arg(alloc))?
         .arg(input_arg(alloc))?
-        .arg(workers_arg(alloc, "4"))?
+        .arg(workers_arg(
+            alloc,
+            "4",
+            "As of kahn, 1 to 16; without effect here, where one thread runs",
+        ))?
         .arg(quantum_arg(alloc))?
         .arg(bound_arg(alloc))?
         .arg(flag_arg(alloc, "all", "Tells each process that hasn't ended"))?

@@ -165,18 +165,11 @@ pub(crate) fn bound_arg<'a>(alloc: Global) -> Arg<'a>
 }
 
 /// Makes the option of the number of workers, and its default.
-pub(crate) fn workers_arg<'a>(alloc: Global, given: &'a str) -> Arg<'a>
+pub(crate) fn workers_arg<'a>(alloc: Global, given: &'a str, help: &'a str) -> Arg<'a>
     ensures rule { rule_of result ≡ number_rule (codes "workers") 1 16 given.entry.now }
     ensures local { result.global ≡ false }
 {
-    number_arg(
-        alloc,
-        "workers",
-        1,
-        16,
-        given,
-        "Threads at most, as many as have work, 1 to 16",
-    )
+    number_arg(alloc, "workers", 1, 16, given, help)
 }
 
 /// Makes the option of the quantum.
@@ -250,7 +243,7 @@ fn command<'a>(alloc: Global) -> Result<Command<'a>, AllocError>
     bare(alloc, "kahn", USAGE, ABOUT, MORE)?
         .arg(program_arg(alloc))?
         .arg(input_arg(alloc))?
-        .arg(workers_arg(alloc, "4"))?
+        .arg(workers_arg(alloc, "4", "Threads at most, as many as have work, 1 to 16"))?
         .arg(quantum_arg(alloc))?
         .arg(bound_arg(alloc))?
         .arg(watch_arg(

@@ -157,6 +157,6 @@ pub(crate) fn advice(network: &Network, instance: usize, channel: usize) -> &'st
     if writer_of(network, channel) == Some(instance) {
         "its own queue is empty: let it send before it waits"
     } else {
-        "this ring wants a first value (let one of its processes send before it waits), or one of them takes more than another sends: --trace shows what came"
+        "this ring wants a first value (let one of its processes send before it waits), or one of them takes more than another sends: kahn_explain --trace shows what came"
     }
 }
