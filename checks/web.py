@@ -26,6 +26,8 @@ SECONDS_TO_OPEN = 60
 # So long a report may have its histories compared.
 MOST_LETTERS_KEPT = 200000
 STATES = {"ended": "ended", "wants": "ready", "waits": "waits", "fault": "fault"}
+# The line that the page leaves out: it shows which values wait on each arrow.
+UNTAKEN = re.compile(rb"^\d+ of the \d+ values of .* never taken\n|^\S+ holds \d+ values that .* taken\n", re.MULTILINE)
 STEPPED = ["count", "squares", "filter", "double", "pipeline", "rates"]
 
 
@@ -50,7 +52,7 @@ def native(kahn, draw, explain, program, text, bound, folder):
     reasons = b""
     if ran.returncode in (0, 1, 3, 4) and len(program.encode()) <= 1 << 15:
         words = [explain, "--all", "--workers", "1", "--bound", bound, "--input", "input", "program"]
-        reasons = subprocess.run(words, capture_output=True, timeout=60, cwd=folder).stdout
+        reasons = UNTAKEN.sub(b"", subprocess.run(words, capture_output=True, timeout=60, cwd=folder).stdout, count=1)
     table = {}
     if ran.returncode in (0, 3, 4) and len(ran.stdout) <= MOST_LETTERS_KEPT:
         table = traced(explain, bound, f"{folder}/program", "--input", f"{folder}/input")
