@@ -46,7 +46,10 @@ class Streams(Room):
             ("a channel that isn't there", [LIVE, "sum", "--plain", "A,NONE"], "1\n"),
         ):
             packets = self.writes_of(words, text)
-            self.same(f"{name}: no write ends within a line", [it for it in packets if not it.endswith("\n")], [])
+            together = [it for it in packets if it.count("\n") != 1 or not it.endswith("\n")]
+            causes = ["1 process has a fault"] if name == "refused lines" else []
+            self.same(f"{name}: each line by one write, but the causes together", [it.split("\n")[0] for it in together], causes)
+            self.same(f"{name}: whole lines", all(it.endswith("\n") for it in packets))
             self.same(f"{name}: something is said", packets != [])
 
     def test_a_million_refused_lines(self):

@@ -17,59 +17,13 @@ A ring of waits, values alone.
   ! end 2 ctl: waits on E after 1
   ! end 3 plant: waits on U after 1
   ! finished 4
-A ring of waits.
-  $ yes 'SET: 100' | kahn_live control.kahn
-  ! deadlock: 1 err, 2 ctl and 3 plant wait on one another
-  ! control.kahn:2:76: error: 1 err waits on Y from 3 plant, in a deadlock: for ever
-  !  2 |   process err(integer in R, Y; integer out E); begin repeat send wait(R) - wait(Y) on E end;
-  !    |                                                                            ^^^^^^^
-  !    = this ring wants a first value (let one of its processes send before it waits), or one of them takes more than another sends: kahn_explain --trace shows what came
-  ! control.kahn:3:63: error: 2 ctl waits on E from 1 err, in a deadlock: for ever
-  !  3 |   process ctl(integer in E; integer out U); begin repeat send wait(E) div 2 on U end;
-  !    |                                                               ^^^^^^^
-  ! control.kahn:5:42: error: 3 plant waits on U from 2 ctl, in a deadlock: for ever
-  !  5 |   begin integer S; repeat begin S := S + wait(U); send S on Y; send S on O end end;
-  !    |                                          ^^^^^^^
-  ! end 1 err: waits on Y after 2
-  ! end 2 ctl: waits on E after 1
-  ! end 3 plant: waits on U after 1
-  ! finished 4
-A ring of waits, strictly.
-  $ yes 100 | kahn_live control.kahn --plain SET --strict
-  ! deadlock: 1 err, 2 ctl and 3 plant wait on one another
-  ! control.kahn:2:76: error: 1 err waits on Y from 3 plant, in a deadlock: for ever
-  !  2 |   process err(integer in R, Y; integer out E); begin repeat send wait(R) - wait(Y) on E end;
-  !    |                                                                            ^^^^^^^
-  !    = this ring wants a first value (let one of its processes send before it waits), or one of them takes more than another sends: kahn_explain --trace shows what came
-  ! control.kahn:3:63: error: 2 ctl waits on E from 1 err, in a deadlock: for ever
-  !  3 |   process ctl(integer in E; integer out U); begin repeat send wait(E) div 2 on U end;
-  !    |                                                               ^^^^^^^
-  ! control.kahn:5:42: error: 3 plant waits on U from 2 ctl, in a deadlock: for ever
-  !  5 |   begin integer S; repeat begin S := S + wait(U); send S on Y; send S on O end end;
-  !    |                                          ^^^^^^^
-  ! end 1 err: waits on Y after 2
-  ! end 2 ctl: waits on E after 1
-  ! end 3 plant: waits on U after 1
-  ! finished 4
-  [7]
-A ring of waits, with names, strictly.
-  $ yes 'SET: 100' | kahn_live control.kahn --strict
-  ! deadlock: 1 err, 2 ctl and 3 plant wait on one another
-  ! control.kahn:2:76: error: 1 err waits on Y from 3 plant, in a deadlock: for ever
-  !  2 |   process err(integer in R, Y; integer out E); begin repeat send wait(R) - wait(Y) on E end;
-  !    |                                                                            ^^^^^^^
-  !    = this ring wants a first value (let one of its processes send before it waits), or one of them takes more than another sends: kahn_explain --trace shows what came
-  ! control.kahn:3:63: error: 2 ctl waits on E from 1 err, in a deadlock: for ever
-  !  3 |   process ctl(integer in E; integer out U); begin repeat send wait(E) div 2 on U end;
-  !    |                                                               ^^^^^^^
-  ! control.kahn:5:42: error: 3 plant waits on U from 2 ctl, in a deadlock: for ever
-  !  5 |   begin integer S; repeat begin S := S + wait(U); send S on Y; send S on O end end;
-  !    |                                          ^^^^^^^
-  ! end 1 err: waits on Y after 2
-  ! end 2 ctl: waits on E after 1
-  ! end 3 plant: waits on U after 1
-  ! finished 4
-  [7]
+The same of lines with names, and strictly: the status alone differs.
+  $ said() { yes "$1" | kahn_live control.kahn "${@:2}" 2>&1; echo status $?; }; said 100 --plain SET > told
+  > said 'SET: 100' | diff - told; for it in '100 --plain SET' SET:100; do said $it --strict | diff -U0 told - | grep '^[-+][^-+]'; done
+  -status 0
+  +status 7
+  -status 0
+  +status 7
 A ring beside what waits on an input.
   $ printf '1\n2\n' | kahn_live beside.kahn --plain A
   1
@@ -89,26 +43,10 @@ A ring beside what waits on an input.
   ! end 3 sum: waits on A after 7
   ! end 4 copy: waits on Z after 7
   ! finished 16
-A ring beside what waits on an input, strictly.
-  $ printf '1\n2\n' | kahn_live beside.kahn --plain A --strict
-  1
-  3
-  ! deadlock: 1 copy and 2 copy wait on one another
-  ! beside.kahn:2:64: error: 1 copy waits on X from 2 copy, in a deadlock: for ever
-  !  2 |   process copy(integer in U; integer out W); begin repeat send wait(U) on W end;
-  !    |                                                                ^^^^^^^
-  !    = this ring wants a first value (let one of its processes send before it waits), or one of them takes more than another sends: kahn_explain --trace shows what came
-  ! beside.kahn:2:64: error: 2 copy waits on Y from 1 copy, in a deadlock: for ever
-  !  2 |   process copy(integer in U; integer out W); begin repeat send wait(U) on W end;
-  !    |                                                                ^^^^^^^
-  ! 3 sum waits on A at 3:84, an input
-  !   = 4 copy waits because of it
-  ! end 1 copy: waits on X after 1
-  ! end 2 copy: waits on Y after 1
-  ! end 3 sum: waits on A after 7
-  ! end 4 copy: waits on Z after 7
-  ! finished 16
-  [7]
+The same, strictly.
+  $ said() { printf '1\n2\n' | kahn_live beside.kahn --plain A "$@" 2>&1; echo status $?; }; diff -U0 <(said) <(said --strict) | grep '^[-+][^-+]'
+  -status 0
+  +status 7
 A fault before a ring, strictly.
   $ printf '9223372036854775807\n1\n' | kahn_live beside.kahn --plain A --strict
   9223372036854775807
