@@ -8,7 +8,7 @@ use Rattle.kahn_chain.specs.inner.Walk.{IsHere, IsStepFrom, AreOnChain}
 use Rattle.kahn_chain.specs.declared.standing.Standing.{Standing}
 use Rattle.kahn_chain.specs.declared.standing.Cause.{Cause}
 use Rattle.kahn_chain.specs.declared.standing.Cause.TheVariants.{Input, Stopped, Ring}
-use Rattle.kahn_chain.specs.declared.walk.Step.TheVariants.{On}
+use Rattle.kahn_chain.specs.declared.walk.WalkStep.TheVariants.{On}
 use Rattle.kahn_chain.proofs.Leading.{Halts, then, one_next, input_halts, stopped_halts}
 use Rattle.kahn_chain.proofs.Walking.{IsMarked, no_mark}
 

@@ -6,7 +6,7 @@ ghost use Rattle.kahn_chain.specs.Chain.{AreRings, AreStandings, Awaits, HasRing
 ghost use Rattle.kahn_chain.specs.inner.Walk.{AreOnChain, IsNextAwaited};
 
 use crate::standing::{Standing, standing_of};
-use crate::walk::{Step, next};
+use crate::walk::{WalkStep, next};
 use kahn_streams::{End, Network};
 use std::alloc::{AllocError, Global};
 
@@ -29,8 +29,8 @@ fn chain(
         }
         marks[at] = true;
         match next(network, standings, at) {
-            Step::On(instance) => at = instance,
-            Step::Stop(_) => return Ok(marks),
+            WalkStep::On(instance) => at = instance,
+            WalkStep::Stop(_) => return Ok(marks),
         }
     }
 }
@@ -47,11 +47,11 @@ pub(crate) fn is_on_ring(
     ensures { IfOk result (IsRingMark (network_of network.now) standings.now instance) }
 {
     match next(network, standings, instance) {
-        Step::On(one) => {
+        WalkStep::On(one) => {
             let marks = chain(alloc, network, standings, one)?;
             Ok(marks[instance])
         }
-        Step::Stop(_) => Ok(false),
+        WalkStep::Stop(_) => Ok(false),
     }
 }
 

@@ -11,7 +11,7 @@ use std::alloc::{AllocError, Global};
 
 /// What comes after an instance on its chain of waits.
 #[derive(Clone, Copy)]
-pub(crate) enum Step {
+pub(crate) enum WalkStep {
     /// The instance that it waits on.
     On(usize),
     /// None, and why.
@@ -28,17 +28,17 @@ pub(crate) struct Walked {
 }
 
 /// Returns what comes after an instance.
-pub(crate) fn next(network: &Network, standings: &[Standing], instance: usize) -> Step
+pub(crate) fn next(network: &Network, standings: &[Standing], instance: usize) -> WalkStep
     requires known { AreStandings (network_of network.now) standings.now }
     requires here { instance < length standings.now }
     ensures { IsStepFrom (network_of network.now) standings.now instance result }
 {
     match standings[instance] {
         Standing::Waits(channel) => match network.writer(channel) {
-            Some(side) => Step::On(side.instance),
-            None => Step::Stop(Cause::Input(instance, channel)),
+            Some(side) => WalkStep::On(side.instance),
+            None => WalkStep::Stop(Cause::Input(instance, channel)),
         },
-        standing => Step::Stop(Cause::Stopped(instance, standing)),
+        standing => WalkStep::Stop(Cause::Stopped(instance, standing)),
     }
 }
 
@@ -66,8 +66,8 @@ pub(crate) fn walk(
         marks[at] = true;
         least = least.min(at);
         match next(network, standings, at) {
-            Step::On(instance) => at = instance,
-            Step::Stop(stop) => return Ok(Walked { stop, least }),
+            WalkStep::On(instance) => at = instance,
+            WalkStep::Stop(stop) => return Ok(Walked { stop, least }),
         }
     }
 }

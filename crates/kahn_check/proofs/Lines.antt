@@ -17,7 +17,7 @@ use Rattle.kahn_streams.specs.declared.fault.CheckFault.{CheckFault}
 use Rattle.kahn_streams.specs.Faults.{IsMet}
 use Rattle.kahn_check.specs.inner.Tables.{Ends, taken, handed_all, side_in, sides_in}
 use Rattle.kahn_check.specs.inner.Wires.{as_lines, line_in, lines_in}
-use Rattle.kahn_streams.specs.Wires.{Line, first, line_of, lines_of}
+use Rattle.kahn_streams.specs.Wires.{Line, first, channel_line, lines_of}
 use Rattle.kahn_streams.specs.Wiring.{Handover, same_direction, ends, handed_from, declared_channels}
 use Rattle.kahn_check.proofs.Declared.{met_first}
 use Rattle.kahn_check.proofs.Linked.{sides_more, handed_same, table}
@@ -64,7 +64,7 @@ first_taken d c (h ∷ hs) = by (same_direction d h.direction) (bytes_eq c h.cha
 abbrev all_handed : Program → List Handover
 all_handed t = handed_from t 0 t.instances.items
 
-pub lines_same : (t : Program) (cs : List (Name × (Kind × Role))) → lines_in (taken Out (all_handed t)) (taken In (all_handed t)) cs ≡ map (line_of t) cs
+pub lines_same : (t : Program) (cs : List (Name × (Kind × Role))) → lines_in (taken Out (all_handed t)) (taken In (all_handed t)) cs ≡ map (channel_line t) cs
 lines_same t [] = refl
 lines_same t (c ∷ cs) =
     (λ j. ((bytes_of c.0, c.1), (first_taken Out (bytes_of c.0) (all_handed t) j, first_taken In (bytes_of c.0) (all_handed t) j)) ∷ lines_same t cs j)

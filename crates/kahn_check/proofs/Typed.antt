@@ -16,13 +16,13 @@ use Rattle.kahn_streams.specs.declared.tree.Direction.TheVariants.{In, Out}
 use Rattle.kahn_streams.specs.declared.tree.Taking.TheVariants.{Channel, Value}
 use Rattle.kahn_streams.specs.declared.tree.Form as F
 use Rattle.kahn_streams.specs.View.{bytes_of, place_of, expr_of, level_of, expression_of, stmt_of, row_of, else_of, body_of}
-use Rattle.kahn_streams.specs.Wiring.{takes, gives, IsTaken, HasKind, Agrees, Scope}
+use Rattle.kahn_streams.specs.Wiring.{takes, gives, IsTaken, HasKind, Agrees, Locals}
 use Rattle.kahn_streams.specs.Faults.{find, wrong, misread, misused, kind_in, level_kind, kind_of, wrong_first, wrong_second, spanning, faults_in, level_faults, faults_as, faults_of, row_faults, else_faults, body_faults}
 
-abbrev pub names : Scope → List (List ℕ)
+abbrev pub names : Locals → List (List ℕ)
 names s = map (λ e. e.0) s
 
-abbrev pub whats : Scope → List Taking
+abbrev pub whats : Locals → List Taking
 whats s = map (λ e. e.1) s
 
 -- ---- lists without members
@@ -40,7 +40,7 @@ both xs ys h i = rw h i
 
 -- ---- the number of a name stands for what the name stands for
 
-pub numbered : (s : Scope) (x : List ℕ) → slice_get (whats s) (place_of (names s) x) ≡ lookup (bytes_eq x) s
+pub numbered : (s : Locals) (x : List ℕ) → slice_get (whats s) (place_of (names s) x) ≡ lookup (bytes_eq x) s
 numbered [] x = refl
 numbered (e ∷ es) x = by (bytes_eq x e.0) (numbered es x)
   where
@@ -100,13 +100,13 @@ operands_back (Some w) k j at at' h i = (kind_right w k at h, kind_right w j at'
 -- ---- expressions
 
 -- an expression where kind k is wanted
-wanted : (s : Scope) (e : Form) (k : Kind) (at : Span) → (faults_in s e ≡ [] → HasKind (whats s) (expr_of (names s) e) (kind_of s e)) →
+wanted : (s : Locals) (e : Form) (k : Kind) (at : Span) → (faults_in s e ≡ [] → HasKind (whats s) (expr_of (names s) e) (kind_of s e)) →
     faults_in s e ++ wrong k (kind_of s e) at ≡ [] → HasKind (whats s) (expr_of (names s) e) k
 wanted s e k at inside h =
     subst (HasKind (whats s) (expr_of (names s) e)) (kind_known k (kind_of s e) at (nil_right (faults_in s e) _ h)) (inside (nil_left (faults_in s e) _ h))
 
 mutual
-  pub typed : (s : Scope) (e : Form) → faults_in s e ≡ [] → HasKind (whats s) (expr_of (names s) e) (kind_of s e)
+  pub typed : (s : Locals) (e : Form) → faults_in s e ≡ [] → HasKind (whats s) (expr_of (names s) e) (kind_of s e)
   typed s (Number z) h = refl
   typed s (F.Logical b) h = refl
   typed s (Variable x) h = numbered s (bytes_of x) ∙ read (find s (bytes_of x)) x.span h
@@ -122,7 +122,7 @@ mutual
       let j = nil_right (faults_in s a) (faults_in s b ++ wrong (kind_of s a) (kind_of s b) at'') i in
       (wanted s t Logical at (typed s t) (nil_left test _ h), typed s a (nil_left (faults_in s a) _ i), wanted s b (kind_of s a) at'' (typed s b) j)
 
-  typed_level : {m : _} (s : Scope) (a : S.Expr) (k : Kind) (at : Span) (row : Row_of-Operand m) →
+  typed_level : {m : _} (s : Locals) (a : S.Expr) (k : Kind) (at : Span) (row : Row_of-Operand m) →
       HasKind (whats s) a k → level_faults s k at row ≡ [] → HasKind (whats s) (level_of (names s) a row) (level_kind k row)
   typed_level s a k at end_of-Operand ha h = ha
   typed_level s a k at (more_of-Operand o at' e rest) ha h =
@@ -135,11 +135,11 @@ mutual
       typed_level s (S.Binary o a (expr_of (names s) e)) (gives o) (spanning at at') rest ((k, ok.0, ha, he), refl) (nil_right second after j)
 
 -- the other way: what has kind k has no fault, and k is its kind
-unwanted : (s : Scope) (e : Form) (k : Kind) (at : Span) → (faults_in s e ≡ []) × (k ≡ kind_of s e) → faults_in s e ++ wrong k (kind_of s e) at ≡ []
+unwanted : (s : Locals) (e : Form) (k : Kind) (at : Span) → (faults_in s e ≡ []) × (k ≡ kind_of s e) → faults_in s e ++ wrong k (kind_of s e) at ≡ []
 unwanted s e k at h = both (faults_in s e) _ h.0 (kind_right k (kind_of s e) at (sym h.1))
 
 mutual
-  pub untyped : (s : Scope) (e : Form) (k : Kind) → HasKind (whats s) (expr_of (names s) e) k → (faults_in s e ≡ []) × (k ≡ kind_of s e)
+  pub untyped : (s : Locals) (e : Form) (k : Kind) → HasKind (whats s) (expr_of (names s) e) k → (faults_in s e ≡ []) × (k ≡ kind_of s e)
   untyped s (Number z) k h = (refl, h)
   untyped s (F.Logical b) k h = (refl, h)
   untyped s (Variable x) k h = read_back (find s (bytes_of x)) x.span k (sym (numbered s (bytes_of x)) ∙ h)
@@ -159,7 +159,7 @@ mutual
         ia.1,
       )
 
-  untyped_level : {m : _} (s : Scope) (a : S.Expr) (at : Span) (row : Row_of-Operand m) (k : Kind) → HasKind (whats s) (level_of (names s) a row) k →
+  untyped_level : {m : _} (s : Locals) (a : S.Expr) (at : Span) (row : Row_of-Operand m) (k : Kind) → HasKind (whats s) (level_of (names s) a row) k →
       (j : Kind) × HasKind (whats s) a j × (level_faults s j at row ≡ []) × (k ≡ level_kind j row)
   untyped_level s a at end_of-Operand k h = (k, h, refl, refl)
   untyped_level s a at (more_of-Operand o at' e rest) k h =
@@ -175,14 +175,14 @@ mutual
 
 -- ---- statements
 
-wanted_as : (s : Scope) (e : Expression) (k : Kind) → faults_as k s e ≡ [] → HasKind (whats s) (expression_of (names s) e) k
+wanted_as : (s : Locals) (e : Expression) (k : Kind) → faults_as k s e ≡ [] → HasKind (whats s) (expression_of (names s) e) k
 wanted_as s e k h = wanted s e.form k e.span (typed s e.form) h
 
-unwanted_as : (s : Scope) (e : Expression) (k : Kind) → HasKind (whats s) (expression_of (names s) e) k → faults_as k s e ≡ []
+unwanted_as : (s : Locals) (e : Expression) (k : Kind) → HasKind (whats s) (expression_of (names s) e) k → faults_as k s e ≡ []
 unwanted_as s e k h = unwanted s e.form k e.span (untyped s e.form k h)
 
 mutual
-  pub agrees : (s : Scope) (a : Action) → faults_of s a ≡ [] → Agrees (whats s) (stmt_of (names s) a)
+  pub agrees : (s : Locals) (a : Action) → faults_of s a ≡ [] → Agrees (whats s) (stmt_of (names s) a)
   agrees s Empty h = tt
   agrees s (Assign x e) h =
       let w = find s (bytes_of x) in
@@ -202,16 +202,16 @@ mutual
   agrees s (While' t p at a) h = (wanted_as s t Logical (nil_left (faults_as Logical s t) _ h), agrees s a (nil_right (faults_as Logical s t) _ h))
   agrees s (Repeat' p at a) h = agrees s a h
 
-  agrees_row : {m : _} (s : Scope) (row : Row_of-Statement m) → row_faults s row ≡ [] → Agrees (whats s) (row_of (names s) row)
+  agrees_row : {m : _} (s : Locals) (row : Row_of-Statement m) → row_faults s row ≡ [] → Agrees (whats s) (row_of (names s) row)
   agrees_row s end_of-Statement h = tt
   agrees_row s (more_of-Statement at a rest) h = (agrees s a (nil_left (faults_of s a) _ h), agrees_row s rest (nil_right (faults_of s a) _ h))
 
-  agrees_else : (s : Scope) (b : Held-Action-If-2) → else_faults s b ≡ [] → Agrees (whats s) (else_of (names s) b)
+  agrees_else : (s : Locals) (b : Held-Action-If-2) → else_faults s b ≡ [] → Agrees (whats s) (else_of (names s) b)
   agrees_else s None' h = tt
   agrees_else s (Some' p at a) h = agrees s a h
 
 mutual
-  pub disagrees : (s : Scope) (a : Action) → Agrees (whats s) (stmt_of (names s) a) → faults_of s a ≡ []
+  pub disagrees : (s : Locals) (a : Action) → Agrees (whats s) (stmt_of (names s) a) → faults_of s a ≡ []
   disagrees s Empty h = refl
   disagrees s (Assign x e) h =
       let w = find s (bytes_of x) in
@@ -229,18 +229,18 @@ mutual
   disagrees s (While' t p at a) h = both (faults_as Logical s t) _ (unwanted_as s t Logical h.0) (disagrees s a h.1)
   disagrees s (Repeat' p at a) h = disagrees s a h
 
-  disagrees_row : {m : _} (s : Scope) (row : Row_of-Statement m) → Agrees (whats s) (row_of (names s) row) → row_faults s row ≡ []
+  disagrees_row : {m : _} (s : Locals) (row : Row_of-Statement m) → Agrees (whats s) (row_of (names s) row) → row_faults s row ≡ []
   disagrees_row s end_of-Statement h = refl
   disagrees_row s (more_of-Statement at a rest) h = both (faults_of s a) _ (disagrees s a h.0) (disagrees_row s rest h.1)
 
-  disagrees_else : (s : Scope) (b : Held-Action-If-2) → Agrees (whats s) (else_of (names s) b) → else_faults s b ≡ []
+  disagrees_else : (s : Locals) (b : Held-Action-If-2) → Agrees (whats s) (else_of (names s) b) → else_faults s b ≡ []
   disagrees_else s None' h = refl
   disagrees_else s (Some' p at a) h = disagrees s a h
 
-pub agrees_body : (s : Scope) (ts : List Statement) → body_faults s ts ≡ [] → Agrees (whats s) (body_of (names s) ts)
+pub agrees_body : (s : Locals) (ts : List Statement) → body_faults s ts ≡ [] → Agrees (whats s) (body_of (names s) ts)
 agrees_body s [] h = tt
 agrees_body s (t ∷ rest) h = (agrees s t.action (nil_left (faults_of s t.action) _ h), agrees_body s rest (nil_right (faults_of s t.action) _ h))
 
-pub disagrees_body : (s : Scope) (ts : List Statement) → Agrees (whats s) (body_of (names s) ts) → body_faults s ts ≡ []
+pub disagrees_body : (s : Locals) (ts : List Statement) → Agrees (whats s) (body_of (names s) ts) → body_faults s ts ≡ []
 disagrees_body s [] h = refl
 disagrees_body s (t ∷ rest) h = both (faults_of s t.action) _ (disagrees s t.action h.0) (disagrees_body s rest h.1)

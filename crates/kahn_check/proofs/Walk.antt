@@ -7,7 +7,7 @@ use Rattle.kahn_streams.specs.declared.tree.Operand.{Operand}
 use Rattle.kahn_streams.specs.declared.tree.Action.{Row_of-Statement, end_of-Statement, more_of-Statement}
 use Rattle.kahn_streams.specs.declared.tree.Form.TheBlock.{items-the_row-Operand}
 use Rattle.kahn_streams.specs.declared.tree.Action.TheBlock.{items-the_row-Statement}
-use Rattle.kahn_streams.specs.Wiring.{takes, gives, Scope}
+use Rattle.kahn_streams.specs.Wiring.{takes, gives, Locals}
 use Rattle.kahn_streams.specs.declared.fault.CheckFault.{CheckFault}
 use Rattle.kahn_streams.specs.Faults.{verdict, wrong_first, wrong_second, spanning, faults_in, kind_of, level_faults, level_kind, row_faults, body_faults, faults_of}
 
@@ -35,7 +35,7 @@ verdict_same (x ∷ xs) a c f h = cc
 
 -- ---- the operands of a level, as a list
 
-abbrev pub list_faults : Scope → Kind → Span → List Operand → List CheckFault
+abbrev pub list_faults : Locals → Kind → Span → List Operand → List CheckFault
 list_faults s k done [] = []
 list_faults s k done (o ∷ rest) =
     wrong_first (takes o.operator) k done ++ (faults_in s o.expression.form ++ (wrong_second (takes o.operator) k (kind_of s o.expression.form) o.expression.span ++ list_faults s (gives o.operator) (spanning done o.expression.span) rest))
@@ -44,7 +44,7 @@ abbrev pub list_kind : Kind → List Operand → Kind
 list_kind k [] = k
 list_kind k (o ∷ rest) = list_kind (gives o.operator) rest
 
-pub level_listed : {m : _} (s : Scope) (k : Kind) (done : Span) (row : Row_of-Operand m) →
+pub level_listed : {m : _} (s : Locals) (k : Kind) (done : Span) (row : Row_of-Operand m) →
     level_faults s k done row ≡ list_faults s k done (items-the_row-Operand m row)
 level_listed s k done end_of-Operand = refl
 level_listed s k done (more_of-Operand o at e rest) =
@@ -54,11 +54,11 @@ pub level_kinds : {m : _} (k : Kind) (row : Row_of-Operand m) → level_kind k r
 level_kinds k end_of-Operand = refl
 level_kinds k (more_of-Operand o at e rest) = level_kinds (gives o) rest
 
-pub row_listed : {m : _} (s : Scope) (row : Row_of-Statement m) → row_faults s row ≡ body_faults s (items-the_row-Statement m row)
+pub row_listed : {m : _} (s : Locals) (row : Row_of-Statement m) → row_faults s row ≡ body_faults s (items-the_row-Statement m row)
 row_listed s end_of-Statement = refl
 row_listed s (more_of-Statement at a rest) = ap (λ r. faults_of s a ++ r) (row_listed s rest)
 
-pub list_start : (s : Scope) (fs : List CheckFault) (k0 k : Kind) (at : Span) (xs : List Operand) → Ok k ≡ verdict fs k0 →
+pub list_start : (s : Locals) (fs : List CheckFault) (k0 k : Kind) (at : Span) (xs : List Operand) → Ok k ≡ verdict fs k0 →
     verdict (list_faults s k at xs) (list_kind k xs) ≡ verdict (fs ++ list_faults s k0 at xs) (list_kind k0 xs)
 list_start s fs k0 k at xs h =
     let e : k ≡ k0 = sym (verdict_value fs k0 k (sym h)) in

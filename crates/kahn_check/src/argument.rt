@@ -10,7 +10,7 @@ ghost use Rattle.kahn_streams.specs.Wiring.{handed, is_closed};
 
 use crate::expression::agree;
 use crate::globals::{Entry, Globals};
-use crate::names::Sides;
+use crate::names::ChannelSides;
 use kahn_streams::{Argument, CheckFault, Direction, Kind, Name, NoMemory, Role, Side, Taking};
 
 /// Whether no instance may be at that side of the channel.
@@ -37,7 +37,7 @@ pub fn second(direction: Direction, name: &Name) -> CheckFault
 /// Checks that a channel may be handed over in that direction.
 pub fn misplaced(
     globals: &Globals,
-    side: &Sides,
+    side: &ChannelSides,
     direction: Direction,
     kind: Kind,
     name: &Name,
@@ -63,8 +63,8 @@ pub fn misplaced(
 /// Checks that an argument is what its parameter wants.
 pub fn fits(
     globals: &Globals,
-    writers: &Sides,
-    readers: &Sides,
+    writers: &ChannelSides,
+    readers: &ChannelSides,
     taking: Taking,
     argument: &Argument,
 ) -> Result<(), CheckFault>
@@ -96,8 +96,8 @@ pub fn fits(
 
 /// Hands a channel over, unless that side of it is handed over already.
 pub fn keep(
-    writers: &mut Sides,
-    readers: &mut Sides,
+    writers: &mut ChannelSides,
+    readers: &mut ChannelSides,
     taking: Taking,
     argument: &Argument,
     end: Side,
@@ -116,8 +116,8 @@ pub fn keep(
 #[tactic(auto, using(crate::proofs::Alike::no_faults, crate::proofs::Alike::one_fault, crate::proofs::Alike::got_fresh))]
 pub fn place(
     globals: &Globals,
-    writers: &mut Sides,
-    readers: &mut Sides,
+    writers: &mut ChannelSides,
+    readers: &mut ChannelSides,
     taking: Taking,
     argument: &Argument,
     end: Side,

@@ -9,7 +9,7 @@ ghost use Rattle.kahn_streams.specs.Faults.{Declares};
 ghost use Rattle.kahn_check.specs.inner.Firsts.{kept_first};
 ghost use Rattle.kahn_check.specs.inner.Globals.{known, global_of, option_global, ArePlaced, IsPlaced};
 
-use crate::names::Names;
+use crate::names::NameTable;
 use kahn_streams::{CheckFault, Kind, Name, NoMemory, Process, Role};
 use std::alloc::Global;
 
@@ -23,7 +23,7 @@ pub enum Entry<'p> {
 /// What each name stands for, in order of declaration.
 #[derive(Drop)]
 pub struct Globals<'p> {
-    names: Names<Entry<'p>>,
+    names: NameTable<Entry<'p>>,
 }
 
 impl<'p> Globals<'p> {
@@ -33,7 +33,7 @@ impl<'p> Globals<'p> {
         ensures placed { (ds : List Declaration) → ArePlaced ds result }
     {
         Globals {
-            names: Names::new(alloc),
+            names: NameTable::new(alloc),
         }
     }
 

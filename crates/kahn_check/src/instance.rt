@@ -8,7 +8,7 @@ ghost use Rattle.kahn_check.specs.inner.Tables.{HandsAll, seats_faults};
 
 use crate::argument::place;
 use crate::globals::{Entry, Globals};
-use crate::names::Sides;
+use crate::names::ChannelSides;
 use kahn_streams::{Argument, CheckFault, Parameter, Program, Side};
 use std::alloc::Global;
 
@@ -19,8 +19,8 @@ pub const MOST_INSTANCES: usize = 256;
 #[tactic(auto, using(crate::proofs::Placed::places_step, crate::proofs::Placed::places_met, crate::proofs::Placed::taken_more))]
 pub fn places(
     globals: &Globals,
-    writers: &mut Sides,
-    readers: &mut Sides,
+    writers: &mut ChannelSides,
+    readers: &mut ChannelSides,
     instance: usize,
     parameters: &[Parameter],
     arguments: &[Argument],
@@ -46,23 +46,27 @@ pub fn places(
 
 /// What the instances of a program hand over.
 #[derive(Drop)]
-pub struct Seats {
+pub struct HandedOver {
     /// Who writes each channel.
-    pub writers: Sides,
+    pub writers: ChannelSides,
     /// Who reads each channel.
-    pub readers: Sides,
+    pub readers: ChannelSides,
     /// Where the process of each instance is declared.
     pub processes: Vec<usize>,
 }
 
 /// Returns the writers, the readers and the processes, if no instance is wrong.
 #[tactic(auto, using(crate::proofs::Placed::seats_limit, crate::proofs::Placed::seats_unknown, crate::proofs::Placed::seats_channel, crate::proofs::Placed::seats_count, crate::proofs::Placed::seats_met, crate::proofs::Placed::seats_step, crate::proofs::Placed::seats_more))]
-pub fn instances(alloc: Global, globals: &Globals, program: &Program) -> Result<Seats, CheckFault>
+pub fn instances(
+    alloc: Global,
+    globals: &Globals,
+    program: &Program,
+) -> Result<HandedOver, CheckFault>
     requires { IsTable program.now.declarations.items globals.now }
     ensures { MatchResult result (AreSeated program.now (known globals.now)) (λ f. IsMet (seats_faults (known globals.now) [] [] 0 program.now.instances.items) f) }
 {
-    let mut writers = Sides::new(alloc);
-    let mut readers = Sides::new(alloc);
+    let mut writers = ChannelSides::new(alloc);
+    let mut readers = ChannelSides::new(alloc);
     let mut processes = Vec::new(alloc);
     for (number, instance) in program.instances.iter().enumerate() {
         if number >= MOST_INSTANCES {
@@ -87,7 +91,7 @@ pub fn instances(alloc: Global, globals: &Globals, program: &Program) -> Result<
         )?;
         processes.push(declared)?;
     }
-    Ok(Seats {
+    Ok(HandedOver {
         writers,
         readers,
         processes,

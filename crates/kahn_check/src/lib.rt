@@ -21,4 +21,4 @@ pub use network::check;
 pub use part::every;
 
 // For the crates above.
-pub use names::Names;
+pub use names::NameTable;

@@ -16,26 +16,26 @@ use std::marker::{Model, PhantomData};
 
 /// What each name stands for. Contracts see the names in the order in which they were added.
 #[derive(Drop)]
-pub struct Names<V> {
+pub struct NameTable<V> {
     // By the hash of a name, which is quick to compare, and by its text if another name has that hash. Both are ordered:
     // chosen names can't make a look-up slow, as they can in a hash table.
     firsts: BTreeMap<u64, (String, V)>,
     others: BTreeMap<String, V>,
-    listed: About<Listed<V>>,
+    listed: About<NameList<V>>,
 }
 
 /// What each name that a process body sees stands for.
-pub type Scope = Names<Taking>;
+pub type Scope = NameTable<Taking>;
 
 /// By the channel's name, where this side of it is.
-pub type Sides = Names<Side>;
+pub type ChannelSides = NameTable<Side>;
 
 /// The names in their order. Only contracts use it: no value of it is made.
-pub struct Listed<V> {
+pub struct NameList<V> {
     marker: PhantomData<V>,
 }
 
-impl<V> Model for Listed<V> {
+impl<V> Model for NameList<V> {
     ghost use Rattle.std.specs.Prelude.{List, ℕ, []};
 
     ghost Value = { List (List ℕ × V) };
@@ -43,7 +43,7 @@ impl<V> Model for Listed<V> {
     ghost view = { λ _. [] };
 }
 
-impl<V> Model for Names<V> {
+impl<V> Model for NameTable<V> {
     ghost use Rattle.std.specs.Prelude.{List, ℕ};
     ghost use Rattle.std.specs.BTreeMap.{get, get_by_text};
     ghost use Rattle.std.specs.Ordering.{nat_cmp};
@@ -65,19 +65,19 @@ fn hashed(name: &Name) -> u64
 }
 
 // The names that the caller lists.
-fn in_order<V>(_names: &Names<V>, _name: &Name, _what: &V) -> About<Listed<V>>
+fn in_order<V>(_names: &NameTable<V>, _name: &Name, _what: &V) -> About<NameList<V>>
     ghost list: { List (List ℕ × V) }
     ensures { result.value ≡ list }
 {
     About::named()
 }
 
-impl<V: Copy> Names<V> {
+impl<V: Copy> NameTable<V> {
     /// Starts with no names.
-    pub fn new(alloc: Global) -> Names<V>
+    pub fn new(alloc: Global) -> NameTable<V>
         ensures { result ≡ [] }
     {
-        Names {
+        NameTable {
             firsts: BTreeMap::new(alloc),
             others: BTreeMap::new(alloc),
             listed: About::named(),

@@ -16,7 +16,7 @@ use crate::argument::{fits, keep};
 use crate::declarations::MOST_CHANNELS;
 use crate::globals::{Entry, Globals};
 use crate::instance::MOST_INSTANCES;
-use crate::names::Sides;
+use crate::names::ChannelSides;
 use crate::process::check_process;
 use crate::wires::side;
 use kahn_streams::{
@@ -152,8 +152,8 @@ fn add_declarations<'p>(
 #[tactic(auto, using(crate::proofs::Told::err_first, crate::proofs::Alike::got_kept))]
 fn argument(
     globals: &Globals,
-    writers: &mut Sides,
-    readers: &mut Sides,
+    writers: &mut ChannelSides,
+    readers: &mut ChannelSides,
     taking: Taking,
     argument: &Argument,
     end: Side,
@@ -174,8 +174,8 @@ fn argument(
 #[tactic(auto, using(crate::proofs::Told::arguments_begin, crate::proofs::Told::arguments_step, crate::proofs::Told::arguments_end, crate::proofs::Told::parameters_end))]
 fn arguments(
     globals: &Globals,
-    writers: &mut Sides,
-    readers: &mut Sides,
+    writers: &mut ChannelSides,
+    readers: &mut ChannelSides,
     instance: usize,
     parameters: &[Parameter],
     arguments: &[Argument],
@@ -238,8 +238,8 @@ fn add_unknown(
 #[tactic(auto, using(crate::proofs::Told::seat_made, crate::proofs::Told::seat_kept, crate::proofs::Told::seat_none, crate::proofs::Told::seat_channel))]
 fn add_instance(
     globals: &Globals,
-    writers: &mut Sides,
-    readers: &mut Sides,
+    writers: &mut ChannelSides,
+    readers: &mut ChannelSides,
     faults: &mut Vec<CheckFault>,
     number: usize,
     instance: &Instance,
@@ -271,8 +271,8 @@ fn add_instance(
 #[tactic(auto, using(crate::proofs::Told::seats_begin, crate::proofs::Told::seats_onward, crate::proofs::Told::seats_end))]
 fn add_instances(
     globals: &Globals,
-    writers: &mut Sides,
-    readers: &mut Sides,
+    writers: &mut ChannelSides,
+    readers: &mut ChannelSides,
     faults: &mut Vec<CheckFault>,
     instances: &[Instance],
 ) -> Result<(), NoMemory>
@@ -288,8 +288,8 @@ fn add_instances(
 /// Adds the first fault of the sides of each channel of one declaration.
 #[tactic(auto, using(crate::proofs::Told::err_first, crate::proofs::Told::side_told, crate::proofs::Told::sides_end))]
 fn add_sides(
-    writers: &Sides,
-    readers: &Sides,
+    writers: &ChannelSides,
+    readers: &ChannelSides,
     faults: &mut Vec<CheckFault>,
     kind: Kind,
     role: Role,
@@ -306,8 +306,8 @@ fn add_sides(
 /// Adds the first fault of the sides of each channel of a declaration, of whatever kind.
 #[tactic(auto, using(crate::proofs::Told::channels_sides))]
 fn add_declared_sides(
-    writers: &Sides,
-    readers: &Sides,
+    writers: &ChannelSides,
+    readers: &ChannelSides,
     faults: &mut Vec<CheckFault>,
     declaration: &Declaration,
 ) -> Result<(), NoMemory>
@@ -324,8 +324,8 @@ fn add_declared_sides(
 /// Adds the first fault of the sides of each declared channel.
 #[tactic(auto, using(crate::proofs::Told::sides_onward, crate::proofs::Told::sides_end))]
 fn add_all_sides(
-    writers: &Sides,
-    readers: &Sides,
+    writers: &ChannelSides,
+    readers: &ChannelSides,
     faults: &mut Vec<CheckFault>,
     declarations: &[Declaration],
 ) -> Result<(), NoMemory>
@@ -345,8 +345,8 @@ pub fn every(alloc: Global, program: &Program) -> Result<Vec<CheckFault>, NoMemo
 {
     let mut faults = Vec::new(alloc);
     let globals = add_declarations(alloc, program, &mut faults)?;
-    let mut writers = Sides::new(alloc);
-    let mut readers = Sides::new(alloc);
+    let mut writers = ChannelSides::new(alloc);
+    let mut readers = ChannelSides::new(alloc);
     add_instances(
         &globals,
         &mut writers,

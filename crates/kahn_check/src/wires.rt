@@ -7,12 +7,17 @@ ghost use Rattle.kahn_check.specs.inner.Wires.{AreWiresOf, HaveWires, as_lines, 
 ghost use Rattle.kahn_streams.specs.Wires.{shown};
 ghost use Rattle.kahn_streams.specs.Wiring.{declared_channels};
 
-use crate::names::Sides;
+use crate::names::ChannelSides;
 use kahn_streams::{CheckFault, Declaration, Kind, Name, Role, Wire};
 use std::alloc::Global;
 
 /// Checks that the sides of a channel that must be taken are taken.
-pub fn side(writers: &Sides, readers: &Sides, name: &Name, role: Role) -> Result<(), CheckFault>
+pub fn side(
+    writers: &ChannelSides,
+    readers: &ChannelSides,
+    name: &Name,
+    role: Role,
+) -> Result<(), CheckFault>
     ensures { result ≡ verdict (side_in writers.now readers.now name.now role) tt }
 {
     match role {
@@ -42,8 +47,8 @@ pub fn side(writers: &Sides, readers: &Sides, name: &Name, role: Role) -> Result
 
 /// Makes the wire of a channel, if none of its sides is missing.
 pub fn make_wire(
-    writers: &Sides,
-    readers: &Sides,
+    writers: &ChannelSides,
+    readers: &ChannelSides,
     kind: Kind,
     role: Role,
     name: &Name,
@@ -64,8 +69,8 @@ pub fn make_wire(
 #[tactic(auto, using(crate::proofs::Lines::lines_step, crate::proofs::Lines::lines_met, crate::proofs::Lines::lines_more))]
 pub fn add_wires(
     wires: &mut Vec<Wire>,
-    writers: &Sides,
-    readers: &Sides,
+    writers: &ChannelSides,
+    readers: &ChannelSides,
     kind: Kind,
     role: Role,
     names: &[Name],
@@ -82,8 +87,8 @@ pub fn add_wires(
 #[tactic(auto, using(crate::proofs::Lines::all_step, crate::proofs::Lines::all_met, crate::proofs::Lines::all_more))]
 pub fn all_wires(
     alloc: Global,
-    writers: &Sides,
-    readers: &Sides,
+    writers: &ChannelSides,
+    readers: &ChannelSides,
     declarations: &[Declaration],
 ) -> Result<Vec<Wire>, CheckFault>
     ensures { AreWiresOf writers.now readers.now (declared_channels declarations.now) result }

@@ -4,7 +4,7 @@ ghost use Rattle.std.specs.Prelude.{◌≡◌, ◌+◌, ◌^◌, ◌<◌, length
 ghost use Rattle.kahn_code.specs.Common.{network_of, instance_at, Lists, inputs_of, AreInputsExtended, action_row, form_row, codes};
 ghost use Rattle.kahn_code.specs.inner.Gone.{nothing_gone};
 ghost use Rattle.kahn_code.specs.Standing.{Serve};
-ghost use Rattle.kahn_code.specs.Progress.{AreCounts, AreUnused, site_of, HasRunFor, IsAt, Told};
+ghost use Rattle.kahn_code.specs.Progress.{AreCounts, AreUnused, site_of, HasRunFor, IsAt, CellView};
 
 use crate::code::{Code, CodeFault};
 use crate::ports::Ports;
@@ -31,7 +31,7 @@ pub struct Kept<A: Allocator + Drop = Global> {
 }
 
 impl<A: Allocator + Copy + Drop> Model for Cell<A> {
-    ghost Value = { Told };
+    ghost Value = { CellView };
 
     ghost coded = { Prim.hlevel (codes, action_row.coded, form_row.coded) };
 

@@ -32,4 +32,4 @@ pub use progress::Pause;
 
 // For the crates above.
 pub use tap::{Tap, regrow_taps};
-pub use word::{Operand, apply, negated};
+pub use word::{Atom, apply, negated};

@@ -13,8 +13,8 @@ use Rattle.kahn_texts.specs.Formats.{IsInputTextFault, StandsFor}
 use Rattle.kahn_texts.specs.declared.input.TextFault.{TextFault}
 use Rattle.kahn_fault.specs.declared.work.WorkFault.{WorkFault}
 use Rattle.kahn_fault.specs.declared.work.WorkFault.TheVariants.{Syntax, Check, Text, Run, Write}
-use Rattle.kahn_why.specs.declared.why.told.Told.{Told}
-use Rattle.kahn_why.specs.declared.why.told.Told.TheVariants.{Stop}
+use Rattle.kahn_why.specs.declared.why.told.Finding.{Finding}
+use Rattle.kahn_why.specs.declared.why.told.Finding.TheVariants.{Stop}
 use Rattle.kahn_why.proofs.Parts.{are_allowed}
 use Rattle.kahn_why.specs.inner.Told.{HasRefused, HasWritten, IsAdmitted}
 use Rattle.kahn_why.specs.declared.explaining.Admitted.{Admitted}
@@ -26,7 +26,7 @@ use Rattle.kahn_explain.specs.Untaken.{IsToldFor}
 use Rattle.kahn_explain.specs.Running.{AreNotes, AreNotesBefore, AreNotesOfUnrun, HasExplained, HasLooked, HasComeTo, IsLookedAt, IsToldOf, IsInputless}
 
 -- why the program text is refused
-refused : (path program input : List ℕ) (strict : Bool) (P : Told → List ℕ → Type 0) (U : RunFault → List ℕ → Type 0) (N : List ℕ → Type 0) (old new : Option (List ℕ))
+refused : (path program input : List ℕ) (strict : Bool) (P : Finding → List ℕ → Type 0) (U : RunFault → List ℕ → Type 0) (N : List ℕ → Type 0) (old new : Option (List ℕ))
     (r : Result Came WorkFault) → HasRefused path program strict old new r → HasComeTo path program input strict P U N old new r
 refused path program input strict P U N old new (Ok (Stopped x)) h = absurd h
 refused path program input strict P U N old new (Ok Refused) h = h
@@ -46,7 +46,7 @@ pub refused_look : (path program input : List ℕ) (strict : Bool) (old new : Op
 refused_look path program input strict old new r h = refused path program input strict (IsLookedAt path program input strict) (λ f text. ⊥) (λ text. ⊥) old new r h
 
 -- what is told went out
-told_out : (path program input : List ℕ) (strict : Bool) (P : Told → List ℕ → Type 0) (U : RunFault → List ℕ → Type 0) (N : List ℕ → Type 0) (x : Told) (text : List ℕ)
+told_out : (path program input : List ℕ) (strict : Bool) (P : Finding → List ℕ → Type 0) (U : RunFault → List ℕ → Type 0) (N : List ℕ → Type 0) (x : Finding) (text : List ℕ)
     (old new : Option (List ℕ)) (r : Result Came WorkFault) → P x text → HasWritten text (Stopped x) old new r → HasComeTo path program input strict P U N old new r
 told_out path program input strict P U N x text old new r is (inl (came, out)) = subst (HasComeTo path program input strict P U N old new) (sym came) (text, is, out)
 told_out path program input strict P U N x text old new r is (inr (f, came, out)) =
@@ -98,7 +98,7 @@ looked_out path program input strict it lists old new r on stands out =
     (refl, notes_before path program input strict it lists on stands) out
 
 -- and which was run
-pub explained_out : (path program input : List ℕ) (config : Config) (strict : Bool) (it : Admitted) (lists : Lists) (x : Counted) (told : Told) (words : List ℕ)
+pub explained_out : (path program input : List ℕ) (config : Config) (strict : Bool) (it : Admitted) (lists : Lists) (x : Counted) (told : Finding) (words : List ℕ)
     (old mid new : Option (List ℕ)) (r : Result Came WorkFault) → IsAdmitted path program strict it → StandsFor it.network input lists → Appends old mid (string_bytes it.notes)
     → IsCountedRun it.network lists config x → IsToldFor it.network x.answer x.counts.items told words → HasWritten words (Stopped told) mid new r
     → HasExplained path program input config strict old new r

@@ -24,8 +24,8 @@ use Rattle.kahn_sequential.specs.declared.counted.Count.{Count}
 use Rattle.kahn_sequential.specs.declared.recorded.Recorded.{Recorded}
 use Rattle.kahn_texts.specs.Formats.{StandsFor}
 use Rattle.kahn_fault.specs.Work.{IsChecked}
-use Rattle.kahn_why.specs.declared.why.told.Told.{Told}
-use Rattle.kahn_why.specs.declared.why.told.Told.TheVariants.{Stop}
+use Rattle.kahn_why.specs.declared.why.told.Finding.{Finding}
+use Rattle.kahn_why.specs.declared.why.told.Finding.TheVariants.{Stop}
 use Rattle.kahn_line.specs.Parts.{parted}
 use Rattle.kahn_explain.specs.Histories.{IsRecordedFor}
 use Rattle.kahn_explain.specs.Table.{cells, name_at}
@@ -240,7 +240,7 @@ IsReply true t input config c k text v = AreAllFirsts t input config c (unwrap_o
 -- ---- all of it
 
 -- a word asks for something of the program, and that is told
-abbrev pub AreNeedsTold : Bool → List ℕ → List ℕ → List ℕ → Config → Told → List ℕ → Type 0
+abbrev pub AreNeedsTold : Bool → List ℕ → List ℕ → List ℕ → Config → Finding → List ℕ → Type 0
 AreNeedsTold wakes word program input config x text =
     (t : Program) × (q : Question) × (v : Verdict) × IsChecked program t × IsQuestion wakes t word q × IsReply wakes t input config q.line q.place text v × (x ≡ Stop v)
 

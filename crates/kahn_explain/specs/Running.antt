@@ -29,8 +29,8 @@ use Rattle.kahn_why.specs.Refusing.{AreAllowed, IsRefusal, IsRefusedFor}
 use Rattle.kahn_why.specs.Telling.{HasToldInput}
 use Rattle.kahn_why.specs.declared.explaining.Came.{Came}
 use Rattle.kahn_why.specs.declared.explaining.Came.TheVariants.{Stopped, Refused}
-use Rattle.kahn_why.specs.declared.why.told.Told.{Told}
-use Rattle.kahn_why.specs.declared.why.told.Told.TheVariants as told
+use Rattle.kahn_why.specs.declared.why.told.Finding.{Finding}
+use Rattle.kahn_why.specs.declared.why.told.Finding.TheVariants as told
 use Rattle.kahn_explain.specs.Histories.{IsRunTable}
 use Rattle.kahn_explain.specs.Needing.{AreNeedsTold, IsUnaskedOf}
 use Rattle.kahn_explain.specs.declared.pipe.Pipe.{Pipe}
@@ -49,13 +49,13 @@ IsInputless path program input strict f =
     ((t : Program) × IsChecked program t × IsInputTextFault t input f) × ((notes : List ℕ) × AreAllowed path program strict notes)
 
 -- what is told: of a run that stopped so, as P says; or why the program text is refused
-abbrev pub TellsOf : List ℕ → List ℕ → Bool → (Told → List ℕ → Type 0) → Came → List ℕ → Type 0
+abbrev pub TellsOf : List ℕ → List ℕ → Bool → (Finding → List ℕ → Type 0) → Came → List ℕ → Type 0
 TellsOf path program strict P (Stopped x) text = P x text
 TellsOf path program strict P Refused text = IsRefusedFor path program strict text
 
 -- That went out; or why not: the first of the faults in this order, after which nothing was written, or of a run that is refused so, behind what U
 -- says; or the writer's, after which a prefix was of that, or of what N says. A fault of the program text is answered where it has no place.
-abbrev pub HasComeTo : List ℕ → List ℕ → List ℕ → Bool → (Told → List ℕ → Type 0) → (RunFault → List ℕ → Type 0) → (List ℕ → Type 0)
+abbrev pub HasComeTo : List ℕ → List ℕ → List ℕ → Bool → (Finding → List ℕ → Type 0) → (RunFault → List ℕ → Type 0) → (List ℕ → Type 0)
     → Option (List ℕ) → Option (List ℕ) → Result Came WorkFault → Type 0
 HasComeTo path program input strict P U N old new (Ok came) = (text : List ℕ) × TellsOf path program strict P came text × Appends old new text
 HasComeTo path program input strict P U N old new (Err (Syntax f)) = IsUnchecked program (Syntax f) × IsRefusal path program (Syntax f) None × (new ≡ old)
@@ -79,12 +79,12 @@ AreNotesOfUnrun path program input config strict f notes =
     (t : Program) × (lists : Lists) × AreNotesBefore path program input strict t lists notes × IsUnrun t config f
 
 -- why the run of these texts stopped, by its right answer and its counts
-abbrev pub IsExplanationOf : List ℕ → List ℕ → Config → Told → List ℕ → Type 0
+abbrev pub IsExplanationOf : List ℕ → List ℕ → Config → Finding → List ℕ → Type 0
 IsExplanationOf program input config x text = (t : Program) × (lists : Lists) × (run : Counted) × IsChecked program t × StandsFor t input lists
     × IsCountedRun t lists config run × IsToldFor t run.answer run.counts.items x text
 
 -- the notes and the explanation
-abbrev pub IsToldOf : List ℕ → List ℕ → List ℕ → Config → Bool → Told → List ℕ → Type 0
+abbrev pub IsToldOf : List ℕ → List ℕ → List ℕ → Config → Bool → Finding → List ℕ → Type 0
 IsToldOf path program input config strict x text =
     (notes words : List ℕ) × AreAllowed path program strict notes × IsExplanationOf program input config x words × (text ≡ notes ++ words)
 
@@ -95,7 +95,7 @@ HasExplained path program input config strict old new r =
     (AreNotes path program input strict) old new r
 
 -- nothing was run
-abbrev pub IsLookedAt : List ℕ → List ℕ → List ℕ → Bool → Told → List ℕ → Type 0
+abbrev pub IsLookedAt : List ℕ → List ℕ → List ℕ → Bool → Finding → List ℕ → Type 0
 IsLookedAt path program input strict x notes = (x ≡ told.Stop Finished) × AreNotes path program input strict notes
 
 abbrev pub HasLooked : List ℕ → List ℕ → List ℕ → Bool → Option (List ℕ) → Option (List ℕ) → Result Came WorkFault → Type 0
@@ -105,7 +105,7 @@ HasLooked path program input strict old new r =
 -- ---- sheets
 
 -- what is told beside a table of a run that came to that: its explanation, where the status isn't 0
-abbrev pub beside : Told → List ℕ → List ℕ
+abbrev pub beside : Finding → List ℕ → List ℕ
 beside told.Fault text = text
 beside told.Deadlock text = text
 beside (told.Stop Finished) text = []
@@ -113,13 +113,13 @@ beside (told.Stop Bound) text = text
 beside (told.Stop Memory) text = text
 
 -- the table of a run of these texts that keeps all that is sent, of the counts of its channels or of the histories, and why it stopped
-abbrev pub IsTableOf : Bool → List ℕ → List ℕ → Config → Told → List ℕ → List ℕ → Type 0
+abbrev pub IsTableOf : Bool → List ℕ → List ℕ → Config → Finding → List ℕ → List ℕ → Type 0
 IsTableOf counts program input config x text more = (t : Program) × (lists : Lists) × (run : Recorded) × (words : List ℕ) × IsChecked program t
     × StandsFor t input lists × IsRecordedRun t lists config run × IsRunTable counts t lists run text × IsToldFor t run.answer run.counts.items x words
     × (more ≡ beside x words)
 
 -- what is told, and what beside it, of what is asked for
-abbrev pub IsSheet : Sheet → List ℕ → List ℕ → List ℕ → Config → Told → List ℕ → List ℕ → Type 0
+abbrev pub IsSheet : Sheet → List ℕ → List ℕ → List ℕ → Config → Finding → List ℕ → List ℕ → Type 0
 IsSheet (sheet.Table counts) word program input config x text more = IsTableOf counts program input config x text more
 IsSheet (sheet.Needs wakes) word program input config x text more = AreNeedsTold wakes word program input config x text × (more ≡ [])
 

@@ -14,7 +14,7 @@ use Rattle.kahn_streams.specs.Written.{line_feed}
 use Rattle.kahn_texts.specs.Formats.{channel_name}
 use Rattle.kahn_why.specs.Why.{IsExplained}
 use Rattle.kahn_why.specs.declared.why.told.Explanation.{Explanation}
-use Rattle.kahn_why.specs.declared.why.told.Told.{Told}
+use Rattle.kahn_why.specs.declared.why.told.Finding.{Finding}
 use Rattle.kahn_explain.specs.Table.{side_name}
 
 -- ---- how many are left
@@ -83,6 +83,6 @@ put_line line (first, None) = concat (first ∷ line_feed ∷ line ∷ [])
 put_line line (first, Some rest) = concat (first ∷ line_feed ∷ line ∷ rest ∷ [])
 
 -- what a run came to, and what is told of it (10 is the line feed)
-abbrev pub IsToldFor : Program → Answer → List Count → Told → List ℕ → Type 0
+abbrev pub IsToldFor : Program → Answer → List Count → Finding → List ℕ → Type 0
 IsToldFor t a ns x text = (e : Explanation) × (line : List ℕ) × IsExplained t a e × (e.told ≡ x) × IsUntakenTold t a.verdict ns line
     × (text ≡ put_line line (parted 10 (string_bytes e.text)))

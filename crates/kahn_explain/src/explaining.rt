@@ -14,7 +14,9 @@ use kahn_fault::WorkFault;
 use kahn_sequential::{Count, run_counted};
 use kahn_streams::{Answer, Config, Network, NoMemory, RunFault, Verdict};
 use kahn_texts::{read_input, write_line};
-use kahn_why::{Admitted, Came, Explanation, Told, admit, explained, explained_each, write_both};
+use kahn_why::{
+    Admitted, Came, Explanation, Finding, admit, explained, explained_each, write_both,
+};
 use std::alloc::Global;
 use std::io::Write;
 
@@ -50,7 +52,7 @@ pub(crate) fn told_of(
     answer: &Answer,
     counts: &[Count],
     all: bool,
-) -> Result<(Told, String), NoMemory>
+) -> Result<(Finding, String), NoMemory>
     requires { AreStandings (network_of network.now) (standings_of answer.now) }
     ensures { IfOk result (λ r. IsToldFor network.now answer.now counts.now r.0 (string_bytes r.1)) }
 {
@@ -129,7 +131,7 @@ fn look_on<W: Write>(
         Ok(lists) => lists,
         Err(fault) => return Err(WorkFault::Text(fault)),
     };
-    let came = Came::Stopped(Told::Stop(Verdict::Finished));
+    let came = Came::Stopped(Finding::Stop(Verdict::Finished));
     write_both("", it.notes.as_str(), came, writer)
 }
 
@@ -156,11 +158,11 @@ pub fn status(came: Came) -> u8
     ensures { result ≡ came_status came }
 {
     match came {
-        Came::Stopped(Told::Fault) => 8,
-        Came::Stopped(Told::Deadlock) => 7,
-        Came::Stopped(Told::Stop(Verdict::Finished)) => 0,
-        Came::Stopped(Told::Stop(Verdict::Bound)) => 3,
-        Came::Stopped(Told::Stop(Verdict::Memory)) => 4,
+        Came::Stopped(Finding::Fault) => 8,
+        Came::Stopped(Finding::Deadlock) => 7,
+        Came::Stopped(Finding::Stop(Verdict::Finished)) => 0,
+        Came::Stopped(Finding::Stop(Verdict::Bound)) => 3,
+        Came::Stopped(Finding::Stop(Verdict::Memory)) => 4,
         Came::Refused => 1,
     }
 }

@@ -17,7 +17,7 @@ use kahn_fault::WorkFault;
 use kahn_sequential::Recorded;
 use kahn_streams::{Config, Network, NoMemory, RunFault, Verdict};
 use kahn_texts::write_line;
-use kahn_why::{Admitted, Came, Told, admit, write_both};
+use kahn_why::{Admitted, Came, Finding, admit, write_both};
 use std::alloc::Global;
 use std::io::Write;
 
@@ -56,11 +56,11 @@ fn run_table(
 }
 
 /// What is told beside a table: the explanation, where the status isn't 0.
-fn beside(alloc: Global, told: Told, text: String) -> String
+fn beside(alloc: Global, told: Finding, text: String) -> String
     ensures { string_bytes result ≡ beside told (string_bytes text) }
 {
     match told {
-        Told::Stop(Verdict::Finished) => String::new(alloc),
+        Finding::Stop(Verdict::Finished) => String::new(alloc),
         _ => text,
     }
 }
@@ -133,7 +133,7 @@ fn needs_of(
     Ok(Reply {
         text: told.0,
         words: String::new(alloc),
-        came: Came::Stopped(Told::Stop(told.1)),
+        came: Came::Stopped(Finding::Stop(told.1)),
     })
 }
 

@@ -15,7 +15,7 @@ use Rattle.kahn_streams.specs.declared.tree.Direction.TheVariants.{In, Out}
 use Rattle.kahn_streams.specs.declared.tree.Taking.TheVariants as T
 use Rattle.kahn_streams.specs.declared.tree.Form as F
 use Rattle.kahn_streams.specs.View.{bytes_of}
-use Rattle.kahn_streams.specs.Wiring.{takes, gives, Scope, ends}
+use Rattle.kahn_streams.specs.Wiring.{takes, gives, Locals, ends}
 use Rattle.kahn_syntax.specs.declared.lexeme.Lexeme.{Lexeme}
 use Rattle.kahn_syntax.specs.Grammar.{Terminal, Further}
 use Rattle.kahn_syntax.specs.Texts.{HasBytes, HasForm, Lexed, bytes_of_sign, Placed, Takes, Covers, NameSpans, FormSpans, OperandRowSpans, ExpressionSpans, ActionSpans, OtherSpans, StatementRowSpans, FurtherRowSpans, StatementsSpan, StatementSpans}
@@ -115,7 +115,7 @@ unless text false f t = (t, tt)
 -- ---- expressions
 
 mutual
-  pub form_in : (text : List ℕ) (f : Form) (xs r : List Lexeme) → FormSpans text f xs r → AllIn text xs → AllIn text r × ((s : Scope) → ArePlaces text (faults_in s f))
+  pub form_in : (text : List ℕ) (f : Form) (xs r : List Lexeme) → FormSpans text f xs r → AllIn text xs → AllIn text r × ((s : Locals) → ArePlaces text (faults_in s f))
   form_in text (Number z) xs r h all = (past text _ xs r h all, λ s. tt)
   form_in text (F.Logical b) xs r h all = (past text _ xs r h all, λ s. tt)
   form_in text (Variable x) xs r h all =
@@ -153,7 +153,7 @@ mutual
       )
 
   pub row_in : {m : _} (text : List ℕ) (row : Row_of-Operand m) (xs r : List Lexeme) → OperandRowSpans text row xs r → AllIn text xs →
-      AllIn text r × ((s : Scope) (k : Kind) (done : Span) → LiesIn text done → ArePlaces text (level_faults s k done row))
+      AllIn text r × ((s : Locals) (k : Kind) (done : Span) → LiesIn text done → ArePlaces text (level_faults s k done row))
   row_in text end_of-Operand xs r e all = (subst (AllIn text) e all, λ s k done l. tt)
   row_in text (more_of-Operand o at e rest) xs r (a, b, sign, (c, h), more) all =
       let x = past text _ xs a sign all in
@@ -167,18 +167,18 @@ mutual
       )
 
 pub expression_in : (text : List ℕ) (e : Expression) (xs r : List Lexeme) → ExpressionSpans text e xs r → AllIn text xs →
-    AllIn text r × ((s : Scope) → ArePlaces text (faults_in s e.form)) × LiesIn text e.span
+    AllIn text r × ((s : Locals) → ArePlaces text (faults_in s e.form)) × LiesIn text e.span
 expression_in text e xs r (c, h) all =
     let i = form_in text e.form xs r h all in
     (i.0, i.1, covers text e.span xs r c all)
 
-pub as_in : (text : List ℕ) (k : Kind) (s : Scope) (e : Expression) → ArePlaces text (faults_in s e.form) → LiesIn text e.span → ArePlaces text (faults_as k s e)
+pub as_in : (text : List ℕ) (k : Kind) (s : Locals) (e : Expression) → ArePlaces text (faults_in s e.form) → LiesIn text e.span → ArePlaces text (faults_as k s e)
 as_in text k s e h l = both text (faults_in s e.form) _ h (wrong_in text k (kind_of s e.form) e.span l)
 
 -- ---- statements
 
 mutual
-  pub action_in : (text : List ℕ) (x : Action) (xs r : List Lexeme) → ActionSpans text x xs r → AllIn text xs → AllIn text r × ((s : Scope) → ArePlaces text (faults_of s x))
+  pub action_in : (text : List ℕ) (x : Action) (xs r : List Lexeme) → ActionSpans text x xs r → AllIn text xs → AllIn text r × ((s : Locals) → ArePlaces text (faults_of s x))
   action_in text Empty xs r e all = (subst (AllIn text) e all, λ s. tt)
   action_in text (Assign n e) xs r (a, b, name, becomes, value) all =
       let i = named text n xs a name all in
@@ -211,12 +211,12 @@ mutual
       (j.0, λ s. both text (faults_as Logical s t) _ (as_in text Logical s t (i.1 s) i.2) (j.1 s))
   action_in text (Repeat' p at x) xs r (a, repeat, (m, h)) all = action_in text x a r h (past text _ xs a repeat all)
 
-  pub other_in : (text : List ℕ) (o : Held-Action-If-2) (xs r : List Lexeme) → OtherSpans text o xs r → AllIn text xs → AllIn text r × ((s : Scope) → ArePlaces text (else_faults s o))
+  pub other_in : (text : List ℕ) (o : Held-Action-If-2) (xs r : List Lexeme) → OtherSpans text o xs r → AllIn text xs → AllIn text r × ((s : Locals) → ArePlaces text (else_faults s o))
   other_in text None' xs r e all = (subst (AllIn text) e all, λ s. tt)
   other_in text (Some' p at x) xs r (a, else', (m, h)) all = action_in text x a r h (past text _ xs a else' all)
 
   pub statements_in : {m : _} (text : List ℕ) (row : Row_of-Statement m) (xs r : List Lexeme) → StatementRowSpans text row xs r → AllIn text xs →
-      AllIn text r × ((s : Scope) → ArePlaces text (row_faults s row))
+      AllIn text r × ((s : Locals) → ArePlaces text (row_faults s row))
   statements_in text end_of-Statement xs r e all = (subst (AllIn text) e all, λ s. tt)
   statements_in text (more_of-Statement at x rest) xs r (a, (m, h), k) all =
       let i = action_in text x xs a h all in
@@ -224,7 +224,7 @@ mutual
       (j.0, λ s. both text (faults_of s x) _ (i.1 s) (j.1 s))
 
   pub further_in : {m : _} (text : List ℕ) (row : Row_of-Statement m) (xs r : List Lexeme) → FurtherRowSpans text row xs r → AllIn text xs →
-      AllIn text r × ((s : Scope) → ArePlaces text (row_faults s row))
+      AllIn text r × ((s : Locals) → ArePlaces text (row_faults s row))
   further_in text end_of-Statement xs r e all = (subst (AllIn text) e all, λ s. tt)
   further_in text (more_of-Statement at x rest) xs r (a, b, semicolon, (m, h), k) all =
       let i = action_in text x a b h (past text _ xs a semicolon all) in
@@ -232,7 +232,7 @@ mutual
       (j.0, λ s. both text (faults_of s x) _ (i.1 s) (j.1 s))
 
 pub more_in : (text : List ℕ) (ss : List Statement) (xs r : List Lexeme) → Further (Takes text (terminal.sign mark.Semicolon)) (StatementSpans text) ss xs r → AllIn text xs →
-    AllIn text r × ((s : Scope) → ArePlaces text (body_faults s ss))
+    AllIn text r × ((s : Locals) → ArePlaces text (body_faults s ss))
 more_in text [] xs r e all = (subst (AllIn text) e all, λ s. tt)
 more_in text (t ∷ ss) xs r (a, b, semicolon, (m, h), k) all =
     let i = action_in text t.action a b h (past text _ xs a semicolon all) in
@@ -240,7 +240,7 @@ more_in text (t ∷ ss) xs r (a, b, semicolon, (m, h), k) all =
     (j.0, λ s. both text (faults_of s t.action) _ (i.1 s) (j.1 s))
 
 pub body_in : (text : List ℕ) (ss : List Statement) (xs r : List Lexeme) → StatementsSpan text ss xs r → AllIn text xs →
-    AllIn text r × ((s : Scope) → ArePlaces text (body_faults s ss))
+    AllIn text r × ((s : Locals) → ArePlaces text (body_faults s ss))
 body_in text [] xs r e all = (subst (AllIn text) e all, λ s. tt)
 body_in text (t ∷ ss) xs r (a, (m, h), k) all =
     let i = action_in text t.action xs a h all in

@@ -13,4 +13,6 @@ pub use laws::always_placed;
 
 // For the crates above.
 pub use feeding::input_note;
-pub use refused::{Part, head_part, inputs_words, kind_part, name_part, unknown_words, value_part};
+pub use refused::{
+    RefusedPart, head_part, inputs_words, kind_part, name_part, unknown_words, value_part,
+};

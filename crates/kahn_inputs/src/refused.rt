@@ -16,7 +16,7 @@ use std::alloc::{AllocError, Global};
 
 /// A part of a line.
 #[derive(Clone, Copy)]
-pub struct Part<'a> {
+pub struct RefusedPart<'a> {
     /// The part.
     pub word: &'a [u8],
     /// What is wanted there, behind a semicolon, or nothing.
@@ -53,34 +53,34 @@ fn kind_wanted(kind: Option<Kind>) -> &'static str {
 }
 
 /// Where a line doesn't begin with a name and a colon.
-pub fn head_part(line: &[u8]) -> Part<'_>
+pub fn head_part(line: &[u8]) -> RefusedPart<'_>
     ensures { IsHeadPart (content_of line.now) result.word.now result.words.now }
 {
     let line = content(line);
     let lack = lack_of(line);
     let word = part_of(line, lack_span(line, lack));
     let words = words_or(no_comment_words(word), lack_wanted(lack));
-    Part { word, words }
+    RefusedPart { word, words }
 }
 
 /// The first word behind a line's colon that is no value.
-pub fn value_part(line: &[u8]) -> Part<'_>
+pub fn value_part(line: &[u8]) -> RefusedPart<'_>
     ensures { IsValuePart (content_of line.now) result.word.now result.words.now }
 {
     let line = content(line);
     let span = unfit_span(None, line);
     let word = part_of(line, span);
     let words = value_wanted(word);
-    Part { word, words }
+    RefusedPart { word, words }
 }
 
 /// The name of a line, and these words.
-pub fn name_part<'a>(line: &'a [u8], words: &'a str) -> Part<'a>
+pub fn name_part<'a>(line: &'a [u8], words: &'a str) -> RefusedPart<'a>
     ensures word { result.word.now ≡ line_name (content_of line.entry.now) }
     ensures words { result.words.now ≡ words.entry.now }
 {
     let word = line_name(content(line));
-    Part { word, words }
+    RefusedPart { word, words }
 }
 
 /// What is said of the name of a line which no channel has: the input channel whose name is nearest, or else which there are.
@@ -103,7 +103,7 @@ pub fn inputs_words(alloc: Global, network: &Network) -> Result<String, AllocErr
 }
 
 /// The first value of another kind than that of the line's channel.
-pub fn kind_part<'l>(network: &Network, line: &'l [u8]) -> Part<'l>
+pub fn kind_part<'l>(network: &Network, line: &'l [u8]) -> RefusedPart<'l>
     ensures { IsKindPart network.now (content_of line.entry.now) result.word.now result.words.now }
 {
     let line = content(line);
@@ -111,5 +111,5 @@ pub fn kind_part<'l>(network: &Network, line: &'l [u8]) -> Part<'l>
     let span = unfit_span(kind, line);
     let word = part_of(line, span);
     let words = kind_wanted(kind);
-    Part { word, words }
+    RefusedPart { word, words }
 }

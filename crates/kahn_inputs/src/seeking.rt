@@ -7,7 +7,7 @@ ghost use Rattle.kahn_inputs.specs.Seeking.{IsFirstNamed, IsFound, IsNamedNowher
 
 use crate::fitting::{line_name, moved_by, name_span, past};
 use kahn_streams::{NoMemory, Span};
-use kahn_texts::{LineFault, read_line};
+use kahn_texts::{EntryFault, read_line};
 use std::alloc::Global;
 
 /// What a line is.
@@ -52,9 +52,9 @@ fn kind_of(alloc: Global, line: &[u8]) -> Result<LineKind, NoMemory>
     match read_line(alloc, line) {
         Ok(None) => Ok(LineKind::Blank),
         Ok(Some(_entry)) => Ok(LineKind::Entry),
-        Err(LineFault::NoHead) => Ok(LineKind::NoHead),
-        Err(LineFault::NoValues) => Ok(LineKind::NoValues),
-        Err(LineFault::NoMemory) => Err(NoMemory),
+        Err(EntryFault::NoHead) => Ok(LineKind::NoHead),
+        Err(EntryFault::NoValues) => Ok(LineKind::NoValues),
+        Err(EntryFault::NoMemory) => Err(NoMemory),
     }
 }
 

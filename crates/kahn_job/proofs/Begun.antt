@@ -1,5 +1,5 @@
 -- Jobs before their first events.
-use Rattle.kahn_job.proofs.Common.{arith, ◌≡◌, ℕ, ◌<◌, List, length, refl, sym, ap, ◌∙◌, subst, Option, None, Some, none-some, same_Some, slice_get, slice_index_or, Program, Actual, Reads, Writes, Hands, network_of, instance_at, actual_at, IsWellWired, reads_listed, writes_listed, AreInputsExtended, Lists, inputs_of, prefix_refl, Joins, End, Serves, end_at, Work, HaveSettled, IsIdle, cells_of, rows_of, end_in, AreOpening, HaveNoEnds, IsFresh, IsOpening, no_end, Waiting, IsAhead, ServesAt, AreJobsAt, Told}
+use Rattle.kahn_job.proofs.Common.{arith, ◌≡◌, ℕ, ◌<◌, List, length, refl, sym, ap, ◌∙◌, subst, Option, None, Some, none-some, same_Some, slice_get, slice_index_or, Program, Actual, Reads, Writes, Hands, network_of, instance_at, actual_at, IsWellWired, reads_listed, writes_listed, AreInputsExtended, Lists, inputs_of, prefix_refl, Joins, TaskEnd, Serves, end_at, Work, HaveSettled, IsIdle, cells_of, rows_of, end_in, AreOpening, HaveNoEnds, IsFresh, IsOpening, no_end, Waiting, IsAhead, ServesAt, AreJobsAt, CellView}
 use Rattle.kahn_streams.specs.Syntax.{Constant}
 use Rattle.kahn_streams.proofs.Entered.{none_of}
 use Rattle.std.proofs.lemmas.Option.{slice_get-map}
@@ -8,25 +8,25 @@ use Rattle.std.proofs.lemmas.List.{length-map, length-replicate}
 use Rattle.kahn_job.proofs.Handed.{AreHanded}
 use Rattle.kahn_job.proofs.Idles.{cell_there, cells_count, each_row, past, row_there, settled_rest}
 
-pub all_bare : (t : Program) (lists : Lists) (watch : Option ℕ) (so : Actual → End → Type 0) (whole : End → Type 0) → whole no_end → (ws : List Work) →
+pub all_bare : (t : Program) (lists : Lists) (watch : Option ℕ) (so : Actual → TaskEnd → Type 0) (whole : TaskEnd → Type 0) → whole no_end → (ws : List Work) →
     HaveNoEnds t lists watch ws → AreHanded t so whole 0 (rows_of ws)
 all_bare t lists watch so whole none ws h = record {
   count = length-map ws (λ (w : Work). w.ends) ∙ h.count;
-  sizes = each_row ws (λ p es. length es ≡ length (instance_at (network_of t) p).actuals) (λ p w e. ap (λ (r : List End). length r) (h.each p w e).1 ∙ length-replicate _ no_end)
+  sizes = each_row ws (λ p es. length es ≡ length (instance_at (network_of t) p).actuals) (λ p w e. ap (λ (r : List TaskEnd). length r) (h.each p w e).1 ∙ length-replicate _ no_end)
       (λ p l. sym (ap (λ i. length i.actuals) (past t ws h.count p l)));
   each = λ p q d j l. absurd (omega (arith, l));
   joined = λ d l. absurd (omega (arith, l));
   every = λ p q. each_row ws (λ p es. whole (end_at es q)) (λ p w e. subst whole (sym (ap (λ r. end_at r q) (h.each p w e).1 ∙ none_of _ q no_end)) none) (λ p l. none) p;
 }
 
-all_so : (t : Program) (wired : IsWellWired t) (so : Actual → End → Type 0) → ((v : Constant) (e : End) → so (Hands v) e) → (p q : ℕ) (e : End) (a : Actual) →
+all_so : (t : Program) (wired : IsWellWired t) (so : Actual → TaskEnd → Type 0) → ((v : Constant) (e : TaskEnd) → so (Hands v) e) → (p q : ℕ) (e : TaskEnd) (a : Actual) →
     actual_at (instance_at (network_of t) p) q ≡ a → ((d : ℕ) → Joins a d → d < length (network_of t).channels → so a e) → so a e
 all_so t wired so none p q e (Reads d) i h = h d refl (reads_listed t wired p q d i)
 all_so t wired so none p q e (Writes d) i h = h d refl (writes_listed t wired p q d i)
 all_so t wired so none p q e (Hands v) i h = none v e
 
 -- they are ends for this input, on which nothing was put
-pub handed_settled : (t : Program) (wired : IsWellWired t) (lists : Lists) (rows : List (List End)) → AreHanded t (Serves t lists) IsFresh (length (network_of t).channels) rows →
+pub handed_settled : (t : Program) (wired : IsWellWired t) (lists : Lists) (rows : List (List TaskEnd)) → AreHanded t (Serves t lists) IsFresh (length (network_of t).channels) rows →
     HaveSettled t lists rows
 handed_settled t wired lists rows h = record {
   served = λ p. record {
@@ -39,7 +39,7 @@ handed_settled t wired lists rows h = record {
 }
 
 -- a cell is that of a job
-job_there : (ws : List Work) (p : ℕ) (c : Told) → slice_get (cells_of ws) p ≡ Some c → (w : Work) × (slice_get ws p ≡ Some w) × (c ≡ w.cell)
+job_there : (ws : List Work) (p : ℕ) (c : CellView) → slice_get (cells_of ws) p ≡ Some c → (w : Work) × (slice_get ws p ≡ Some w) × (c ≡ w.cell)
 job_there ws p c e = by (slice_get ws p) refl (sym e ∙ slice_get-map (λ (w : Work). w.cell) ws p)
   where
     by : (o : Option Work) → slice_get ws p ≡ o → Some c ≡ option_map (λ (w : Work). w.cell) o → (w : Work) × (slice_get ws p ≡ Some w) × (c ≡ w.cell)
@@ -53,7 +53,7 @@ all_at t wired lists watch queues bare ws b cells h = record {
   count = cells_count ws bare cells ∙ b.count;
   each = λ p c e.
       let w = job_there bare p c (subst (λ cs. slice_get cs p ≡ Some c) cells e) in
-      let o = (b.each p w.0 w.1).0 in (ap (λ (c : Told). c.network) w.2 ∙ o.network, ap (λ (c : Told). c.instance) w.2 ∙ o.instance);
+      let o = (b.each p w.0 w.1).0 in (ap (λ (c : CellView). c.network) w.2 ∙ o.network, ap (λ (c : CellView). c.instance) w.2 ∙ o.instance);
   settled = record {
     served = λ p. record { count = h.sizes p; each = λ q. (each p q).0; behind = λ q. (h.every p q).0 };
     flushed = λ p q d i o. (h.every p q).1;

@@ -8,7 +8,7 @@ pub use Rattle.kahn_code.proofs.Lists.{AreFirst, none_first, one_first}
 pub use Rattle.kahn_code.specs.Lines.{Joins, Waiting}
 pub use Rattle.kahn_code.specs.Standing.{Grows, Site}
 pub use Rattle.kahn_code.specs.inner.{Gone.nothing_gone, Tapped.Tapped}
-pub use Rattle.kahn_code.specs.Progress.{IsAt, IsSameProcess, IsStill, Told, site_of, told_view}
+pub use Rattle.kahn_code.specs.Progress.{IsAt, IsSameProcess, IsStill, CellView, site_of, told_view}
 pub use Rattle.kahn_lane.specs.LaneEnds.{left, receiver_lane}
 pub use Rattle.kahn_lane.specs.Places.{lane_name, moved_to}
 pub use Rattle.kahn_lane.specs.declared.name.LaneName.{LaneName}
@@ -25,7 +25,7 @@ pub use Rattle.kahn_streams.specs.declared.tree.Role.{Role}
 pub use Rattle.kahn_streams.specs.declared.tree.Role.TheVariants.{Inner, Input, Output}
 pub use Rattle.kahn_streams.specs.inner.Sources.{IsFed}
 pub use Rattle.kahn_job.specs.inner.Berths.{AreServed, HasStayed, HaveAdvanced, HaveFlushed, IsWithinInput, Serves, end_at, identities, AreBehindOn, AreJoinedOn, AreSoOn, HasPlace, HaveStayed, end_in, end_of_side}
-pub use Rattle.kahn_job.specs.inner.Ends.{End, HasRoom, Identity, IsBehind, IsFlushed, IsSame, Lane, ShareLane, identity_of}
+pub use Rattle.kahn_job.specs.inner.Ends.{TaskEnd, HasRoom, Identity, IsBehind, IsFlushed, IsSame, Lane, ShareLane, identity_of}
 pub use Rattle.kahn_job.specs.inner.Idles.{AreIdle, CanGoOn, HaveMet, HaveSettled, IsIdle, cells_of, rows_of, AreEndsOf, AreEndsSo, AreEndsAt, AreSamePlaces, tolds_of, AreJobsAt, HasNoEnds, HaveNoEnds, IsAhead, ServesAt, StandsByQueue, AreOpening, IsFresh, placed}
 pub use Rattle.kahn_code.specs.inner.Opening.{IsOpening}
 pub use Rattle.kahn_job.specs.inner.Settling.{AreElsewhere, AreResting, AreSettled, BothSettle, CanFeed, CanSettle, GoesOrStays, HasExchanged, HasSettled, HasStood, HaveExchanged, HaveStood, IsCarried, IsOfBefore, ServedBefore}

@@ -1,16 +1,16 @@
 -- Ends of parameters that come and go.
-use Rattle.kahn_job.proofs.Common.{◌≡◌, ◌⊎◌, inl, inr, ⊎_elim, ℕ, List, refl, sym, ap, ◌∙◌, subst, Some, Ok, Err, Result, same_Some, Side, side_at, Lists, LaneName, moved_to, End, ShareLane, HasStayed, HasPlace, HaveStayed, end_in, end_of_side, no_end, placed, AreElsewhere, BothSettle, GoesOrStays, HasSettled, HaveExchanged, OnErr, OnOk}
+use Rattle.kahn_job.proofs.Common.{◌≡◌, ◌⊎◌, inl, inr, ⊎_elim, ℕ, List, refl, sym, ap, ◌∙◌, subst, Some, Ok, Err, Result, same_Some, Side, side_at, Lists, LaneName, moved_to, TaskEnd, ShareLane, HasStayed, HasPlace, HaveStayed, end_in, end_of_side, no_end, placed, AreElsewhere, BothSettle, GoesOrStays, HasSettled, HaveExchanged, OnErr, OnOk}
 use Rattle.kahn_job.proofs.Berthed.{stayed_self}
 use Rattle.kahn_job.proofs.Handed.{Found, found, placed_count, placed_sizes, still_place}
 
-here_at : (rows : List (List End)) (s : Side) (e : End) → HasPlace rows s → end_of_side (placed rows (Some s) e) s ≡ e
+here_at : (rows : List (List TaskEnd)) (s : Side) (e : TaskEnd) → HasPlace rows s → end_of_side (placed rows (Some s) e) s ≡ e
 here_at rows s e h = by (found rows (Some s) e h s.instance s.parameter)
   where
     by : Found rows (Some s) e s.instance s.parameter → end_of_side (placed rows (Some s) e) s ≡ e
     by (inl a) = a.1
     by (inr b) = absurd (b.0 refl)
 
-pub else_at : (rows : List (List End)) (s : Side) (e : End) → HasPlace rows s → (p q : ℕ) → (side_at p q ≡ s → ⊥) →
+pub else_at : (rows : List (List TaskEnd)) (s : Side) (e : TaskEnd) → HasPlace rows s → (p q : ℕ) → (side_at p q ≡ s → ⊥) →
     end_in (placed rows (Some s) e) p q ≡ end_in rows p q
 else_at rows s e h p q n = by (found rows (Some s) e h p q)
   where
@@ -19,7 +19,7 @@ else_at rows s e h p q n = by (found rows (Some s) e h p q)
     by (inr b) = b.1
 
 -- either it is this one or it isn't
-side_or : (rows : List (List End)) (s : Side) → HasPlace rows s → (p q : ℕ) → (side_at p q ≡ s) ⊎ (side_at p q ≡ s → ⊥)
+side_or : (rows : List (List TaskEnd)) (s : Side) → HasPlace rows s → (p q : ℕ) → (side_at p q ≡ s) ⊎ (side_at p q ≡ s → ⊥)
 side_or rows s h p q = by (found rows (Some s) no_end h p q)
   where
     by : Found rows (Some s) no_end p q → (side_at p q ≡ s) ⊎ (side_at p q ≡ s → ⊥)
@@ -27,16 +27,16 @@ side_or rows s h p q = by (found rows (Some s) no_end h p q)
     by (inr b) = inr (λ e. b.0 (ap Some (sym e)))
 
 -- two ends, d and e, were taken out, and x and y came in their places
-module _ (rows mid now : List (List End)) (w r : Side) (places : HasPlace rows w × HasPlace rows r) (apart : w ≡ r → ⊥) (a b d e x y : End)
+module _ (rows mid now : List (List TaskEnd)) (w r : Side) (places : HasPlace rows w × HasPlace rows r) (apart : w ≡ r → ⊥) (a b d e x y : TaskEnd)
     (out : mid ≡ placed (placed rows (Some w) a) (Some r) b) (ends : (d ≡ end_of_side rows w) × (e ≡ end_of_side rows r))
     (back : now ≡ placed (placed mid (Some w) x) (Some r) y) where
-  abbrev one : List (List End)
+  abbrev one : List (List TaskEnd)
   one = placed rows (Some w) a
 
-  abbrev two : List (List End)
+  abbrev two : List (List TaskEnd)
   two = placed one (Some r) b
 
-  abbrev three : List (List End)
+  abbrev three : List (List TaskEnd)
   three = placed two (Some w) x
 
   is : now ≡ placed three (Some r) y
@@ -66,14 +66,14 @@ module _ (rows mid now : List (List End)) (w r : Side) (places : HasPlace rows w
         else_at one r b one_r p q (λ e. n (inr e)) ∙ else_at rows w a places.0 p q (λ e. n (inl e));
   })
 
-  at_both : (so : End → End → Type 0) → so d x × so e y → so (end_of_side rows w) (end_of_side now w) × so (end_of_side rows r) (end_of_side now r)
+  at_both : (so : TaskEnd → TaskEnd → Type 0) → so d x × so e y → so (end_of_side rows w) (end_of_side now w) × so (end_of_side rows r) (end_of_side now r)
   at_both so s = (
     subst (λ z. so z (end_of_side now w)) ends.0 (subst (so d) (sym at_writer) s.0),
     subst (λ z. so z (end_of_side now r)) ends.1 (subst (so e) (sym at_reader) s.1),
   )
 
   -- where the two that came stand so to those that were taken out, all do
-  each_end : (so : End → End → Type 0) → ((e : End) → so e e) → so d x × so e y → (p q : ℕ) → so (end_in rows p q) (end_in now p q)
+  each_end : (so : TaskEnd → TaskEnd → Type 0) → ((e : TaskEnd) → so e e) → so d x × so e y → (p q : ℕ) → so (end_in rows p q) (end_in now p q)
   each_end so self s p q = by (side_or rows w places.0 p q) (side_or rows r places.1 p q)
     where
       by : (side_at p q ≡ w) ⊎ (side_at p q ≡ w → ⊥) → (side_at p q ≡ r) ⊎ (side_at p q ≡ r → ⊥) → so (end_in rows p q) (end_in now p q)
@@ -92,7 +92,7 @@ module _ (rows mid now : List (List End)) (w r : Side) (places : HasPlace rows w
   exchanged lists (Ok v) lane settled same = record {
     elsewhere = elsewhere;
     lane = subst (λ z. ShareLane z (end_of_side now r)) (sym at_writer) (subst (ShareLane x) (sym at_reader) lane);
-    both = λ n i. at_both (HasSettled (moved_to lists n)) (settled n (ap (λ (z : End). z.name) ends.0 ∙ i));
+    both = λ n i. at_both (HasSettled (moved_to lists n)) (settled n (ap (λ (z : TaskEnd). z.name) ends.0 ∙ i));
   }
   exchanged lists (Err f) lane settled same = record {
     count = elsewhere.count;

@@ -1,9 +1,9 @@
 -- The ends of a channel come to the parameters that it is handed to.
-use Rattle.kahn_job.proofs.Common.{arith, ◌≡◌, ◌⊎◌, inl, inr, ℕ, ◌+◌, ◌<◌, List, [], length, refl, sym, ap, ◌∙◌, subst, Option, Some, None, IfSome, slice_set, slice_index_or, cases_eq, length-set, get_or-set_same, get_or-set_other, none-some, same_Some, Program, Role, Side, Inner, Input, Output, Network, Actual, Reads, Writes, Hands, network_of, instance_at, actual_at, role_at, IsWriter, IsReader, IsOnly, IsWithin, IsWellWired, side_at, IsFed, handed_within, reads, writes, Joins, End, ShareLane, end_at, AreJoinedOn, HasPlace, end_in, AreEndsSo, no_end, placed}
+use Rattle.kahn_job.proofs.Common.{arith, ◌≡◌, ◌⊎◌, inl, inr, ℕ, ◌+◌, ◌<◌, List, [], length, refl, sym, ap, ◌∙◌, subst, Option, Some, None, IfSome, slice_set, slice_index_or, cases_eq, length-set, get_or-set_same, get_or-set_other, none-some, same_Some, Program, Role, Side, Inner, Input, Output, Network, Actual, Reads, Writes, Hands, network_of, instance_at, actual_at, role_at, IsWriter, IsReader, IsOnly, IsWithin, IsWellWired, side_at, IsFed, handed_within, reads, writes, Joins, TaskEnd, ShareLane, end_at, AreJoinedOn, HasPlace, end_in, AreEndsSo, no_end, placed}
 use Rattle.kahn_job.proofs.Settles.{is_inner}
 
 -- a row for each instance, in which the parameters have the ends of the first k channels, and what is so of those and of all
-pub record AreHanded (t : Program) (so : Actual → End → Type 0) (whole : End → Type 0) (k : ℕ) (rows : List (List End)) : Type 0 where
+pub record AreHanded (t : Program) (so : Actual → TaskEnd → Type 0) (whole : TaskEnd → Type 0) (k : ℕ) (rows : List (List TaskEnd)) : Type 0 where
   pub count : length rows ≡ length (network_of t).instances
   pub sizes : (p : ℕ) → length (slice_index_or rows p []) ≡ length (instance_at (network_of t) p).actuals
   pub each : (p q d : ℕ) → Joins (actual_at (instance_at (network_of t) p) q) d → d < k →
@@ -12,16 +12,16 @@ pub record AreHanded (t : Program) (so : Actual → End → Type 0) (whole : End
   pub every : (p q : ℕ) → whole (end_in rows p q)
 
 -- a parameter has the new end or the old one
-abbrev pub Found : List (List End) → Option Side → End → ℕ → ℕ → Type 0
+abbrev pub Found : List (List TaskEnd) → Option Side → TaskEnd → ℕ → ℕ → Type 0
 Found rows side e p q =
     ((side ≡ Some (side_at p q)) × (end_in (placed rows side e) p q ≡ e))
     ⊎ ((side ≡ Some (side_at p q) → ⊥) × (end_in (placed rows side e) p q ≡ end_in rows p q))
 
-pub found : (rows : List (List End)) (side : Option Side) (e : End) → IfSome side (HasPlace rows) → (p q : ℕ) → Found rows side e p q
+pub found : (rows : List (List TaskEnd)) (side : Option Side) (e : TaskEnd) → IfSome side (HasPlace rows) → (p q : ℕ) → Found rows side e p q
 found rows None e h p q = inr (none-some (side_at p q), refl)
 found rows (Some s) e h p q = by (cases_eq p s.instance) (cases_eq q s.parameter)
   where
-    row : List End
+    row : List TaskEnd
     row = slice_set (slice_index_or rows s.instance []) s.parameter e
 
     by : (p ≡ s.instance) ⊎ (p ≡ s.instance → ⊥) → (q ≡ s.parameter) ⊎ (q ≡ s.parameter → ⊥) → Found rows (Some s) e p q
@@ -37,25 +37,25 @@ found rows (Some s) e h p q = by (cases_eq p s.instance) (cases_eq q s.parameter
           ap (end_at row) y ∙ get_or-set_same (slice_index_or rows s.instance []) s.parameter e no_end h.1,
     )
 
-pub placed_count : (rows : List (List End)) (side : Option Side) (e : End) → length (placed rows side e) ≡ length rows
+pub placed_count : (rows : List (List TaskEnd)) (side : Option Side) (e : TaskEnd) → length (placed rows side e) ≡ length rows
 placed_count rows None e = refl
 placed_count rows (Some s) e = length-set rows s.instance (slice_set (slice_index_or rows s.instance []) s.parameter e)
 
-pub placed_sizes : (rows : List (List End)) (side : Option Side) (e : End) → IfSome side (HasPlace rows) → (p : ℕ) →
+pub placed_sizes : (rows : List (List TaskEnd)) (side : Option Side) (e : TaskEnd) → IfSome side (HasPlace rows) → (p : ℕ) →
     length (slice_index_or (placed rows side e) p []) ≡ length (slice_index_or rows p [])
 placed_sizes rows None e h p = refl
 placed_sizes rows (Some s) e h p = by (cases_eq p s.instance)
   where
-    row : List End
+    row : List TaskEnd
     row = slice_set (slice_index_or rows s.instance []) s.parameter e
 
     by : (p ≡ s.instance) ⊎ (p ≡ s.instance → ⊥) → length (slice_index_or (slice_set rows s.instance row) p []) ≡ length (slice_index_or rows p [])
-    by (inr n) = ap (λ (r : List End). length r) (get_or-set_other rows s.instance p row [] n)
+    by (inr n) = ap (λ (r : List TaskEnd). length r) (get_or-set_other rows s.instance p row [] n)
     by (inl x) =
-        ap (λ k. length (slice_index_or (slice_set rows s.instance row) k [])) x ∙ ap (λ (r : List End). length r) (get_or-set_same rows s.instance row [] h.0) ∙
+        ap (λ k. length (slice_index_or (slice_set rows s.instance row) k [])) x ∙ ap (λ (r : List TaskEnd). length r) (get_or-set_same rows s.instance row [] h.0) ∙
         length-set (slice_index_or rows s.instance []) s.parameter e ∙ ap (λ k. length (slice_index_or rows k [])) (sym x)
 
-pub has_place : (t : Program) (so : Actual → End → Type 0) (whole : End → Type 0) (k : ℕ) (rows : List (List End)) (side : Option Side) (P : Side → Type 0) →
+pub has_place : (t : Program) (so : Actual → TaskEnd → Type 0) (whole : TaskEnd → Type 0) (k : ℕ) (rows : List (List TaskEnd)) (side : Option Side) (P : Side → Type 0) →
     AreHanded t so whole k rows →
     ((s : Side) → P s → IsWithin (network_of t) s) → IsOnly P side → IfSome side (HasPlace rows)
 has_place t so whole k rows None P h w only = tt
@@ -63,7 +63,7 @@ has_place t so whole k rows (Some s) P h w only =
     let i = w s only.0 in (subst (λ n. s.instance < n) (sym h.count) i.0, subst (λ n. s.parameter < n) (sym (h.sizes s.instance)) i.1)
 
 -- a place is there after another end came
-pub still_place : (rows : List (List End)) (side other : Option Side) (e : End) → IfSome side (HasPlace rows) → IfSome other (HasPlace rows) → IfSome other (HasPlace (placed rows side e))
+pub still_place : (rows : List (List TaskEnd)) (side other : Option Side) (e : TaskEnd) → IfSome side (HasPlace rows) → IfSome other (HasPlace rows) → IfSome other (HasPlace (placed rows side e))
 still_place rows side None e h o = tt
 still_place rows side (Some u) e h o = (subst (λ n. u.instance < n) (sym (placed_count rows side e)) o.0, subst (λ n. u.parameter < n) (sym (placed_sizes rows side e h u.instance)) o.1)
 
@@ -79,7 +79,7 @@ only_passes P (Some u) s one e = subst P (same_Some _ _ e) one.0
 pub inner_is_not_input : {r : Role} → r ≡ Inner → r ≡ Input → ⊥
 inner_is_not_input a b = let e : Inner ≡ Input = sym a ∙ b in absurd cc
 
-module _ (t : Program) (wired : IsWellWired t) (so : Actual → End → Type 0) (whole : End → Type 0) (c : ℕ) (x y : End) (e : AreEndsSo t so whole c x y) where
+module _ (t : Program) (wired : IsWellWired t) (so : Actual → TaskEnd → Type 0) (whole : TaskEnd → Type 0) (c : ℕ) (x y : TaskEnd) (e : AreEndsSo t so whole c x y) where
   abbrev N : Network
   N = network_of t
 
@@ -93,8 +93,8 @@ module _ (t : Program) (wired : IsWellWired t) (so : Actual → End → Type 0) 
   serves_writer : (p q : ℕ) → actual_at (instance_at N p) q ≡ Writes c → so (actual_at (instance_at N p) q) x
   serves_writer p q w = subst (λ a. so a x) (sym w) (e.puts (writes t wired p q c w).1)
 
-  module _ (rows : List (List End)) (h : AreHanded t so whole c rows) (w r : Option Side) (ow : IsOnly (IsWriter N c) w) (oo : IsOnly (IsReader N c) r) where
-    abbrev first : List (List End)
+  module _ (rows : List (List TaskEnd)) (h : AreHanded t so whole c rows) (w r : Option Side) (ow : IsOnly (IsWriter N c) w) (oo : IsOnly (IsReader N c) r) where
+    abbrev first : List (List TaskEnd)
     first = placed rows w x
 
     pub place_w : IfSome w (HasPlace rows)

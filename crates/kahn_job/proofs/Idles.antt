@@ -1,5 +1,5 @@
 -- Jobs on which nobody works: what changes where one of them gets another end, and which may go on.
-use Rattle.kahn_job.proofs.Common.{arith, ◌≡◌, ℕ, zero, suc, ◌<◌, ◌≤◌, List, [], ◌∷◌, length, refl, sym, ap, ◌∙◌, subst, slice_set, slice_index_or, slice_get, Some, get_or_past, None, Option, no_end, slice_get_within, none-some, same_Some, Program, AreInputsExtended, Actual, Reads, Writes, Hands, network_of, instance_at, actual_at, idle, IsWellWired, reads_listed, writes_listed, Lists, inputs_of, prefix_refl, prefix_trans, Told, IsAt, End, AreServed, Serves, end_at, end_in, Work, AreIdle, AreJoinedOn, CanGoOn, HaveMet, HaveSettled, IsIdle, IsJob, cells_of, rows_of, ServedBefore, AreResting, HaveStood, IsOfBefore}
+use Rattle.kahn_job.proofs.Common.{arith, ◌≡◌, ℕ, zero, suc, ◌<◌, ◌≤◌, List, [], ◌∷◌, length, refl, sym, ap, ◌∙◌, subst, slice_set, slice_index_or, slice_get, Some, get_or_past, None, Option, no_end, slice_get_within, none-some, same_Some, Program, AreInputsExtended, Actual, Reads, Writes, Hands, network_of, instance_at, actual_at, idle, IsWellWired, reads_listed, writes_listed, Lists, inputs_of, prefix_refl, prefix_trans, CellView, IsAt, TaskEnd, AreServed, Serves, end_at, end_in, Work, AreIdle, AreJoinedOn, CanGoOn, HaveMet, HaveSettled, IsIdle, IsJob, cells_of, rows_of, ServedBefore, AreResting, HaveStood, IsOfBefore}
 use Rattle.std.proofs.Math.Seq.{map-set_same}
 use Rattle.std.proofs.lemmas.List.{get_or-map, length-map, map-set}
 use Rattle.std.proofs.lemmas.Option.{get_or_from_slice_get, slice_get-map}
@@ -7,7 +7,7 @@ use Rattle.std.specs.Prelude.{option_map}
 use Rattle.kahn_job.proofs.Settles.{AreGoing, all_stayed, all_stayed_then, carried_read, carried_write, rests_met, stood_still}
 
 -- one of them has another end
-pub rows_exchanged : (ws : List Work) (p q : ℕ) (e : End) (d w : Work) → p < length (rows_of ws) →
+pub rows_exchanged : (ws : List Work) (p q : ℕ) (e : TaskEnd) (d w : Work) → p < length (rows_of ws) →
     w ≡ record (slice_index_or ws p d) { ends = slice_set (slice_index_or ws p d).ends q e } →
     rows_of (slice_set ws p w) ≡ slice_set (rows_of ws) p (slice_set (slice_index_or (rows_of ws) p []) q e)
 rows_exchanged ws p q e d w l i =
@@ -18,13 +18,13 @@ rows_exchanged ws p q e d w l i =
 pub row_at : (ws : List Work) (p : ℕ) (w : Work) → p < length (rows_of ws) → w ≡ slice_index_or ws p w → w.ends ≡ slice_index_or (rows_of ws) p []
 row_at ws p w l i = ap (λ (z : Work). z.ends) i ∙ sym (get_or-map (λ (z : Work). z.ends) ws p w [] (subst (λ n. p < n) (length-map ws (λ (z : Work). z.ends)) l))
 
-pub cells_exchanged : (ws : List Work) (p q : ℕ) (e : End) (d w : Work) → w ≡ record (slice_index_or ws p d) { ends = slice_set (slice_index_or ws p d).ends q e } →
+pub cells_exchanged : (ws : List Work) (p q : ℕ) (e : TaskEnd) (d w : Work) → w ≡ record (slice_index_or ws p d) { ends = slice_set (slice_index_or ws p d).ends q e } →
     cells_of (slice_set ws p w) ≡ cells_of ws
 cells_exchanged ws p q e d w i = map-set_same (λ (w : Work). w.cell) ws p w d (ap (λ (w : Work). w.cell) i)
 
 -- ---- when all have settled
 
-pub all_settled : (t : Program) (wired : IsWellWired t) (lists : Lists) (old new : List (List End)) →
+pub all_settled : (t : Program) (wired : IsWellWired t) (lists : Lists) (old new : List (List TaskEnd)) →
     AreGoing t lists (length (network_of t).channels) old new → HaveSettled t lists new
 all_settled t wired lists old new g = record {
   served = λ p. record {
@@ -45,12 +45,12 @@ all_settled t wired lists old new g = record {
 
 -- ---- jobs come to rest
 
-before_too : (t : Program) (lists after : Lists) → AreInputsExtended (inputs_of lists) (inputs_of after) → (a : Actual) (e : End) → Serves t lists a e → ServedBefore t after a e
+before_too : (t : Program) (lists after : Lists) → AreInputsExtended (inputs_of lists) (inputs_of after) → (a : Actual) (e : TaskEnd) → Serves t lists a e → ServedBefore t after a e
 before_too t lists after grown (Reads d) e s = (s.0, (lists, s.1, grown), s.2)
 before_too t lists after grown (Writes d) e s = λ o. let x = s o in (x.0, (lists, x.1, grown))
 before_too t lists after grown (Hands v) e s = tt
 
-pub settled_rest : (t : Program) (lists : Lists) (rows : List (List End)) → length rows ≡ length (network_of t).instances → HaveSettled t lists rows → AreResting t lists rows
+pub settled_rest : (t : Program) (lists : Lists) (rows : List (List TaskEnd)) → length rows ≡ length (network_of t).instances → HaveSettled t lists rows → AreResting t lists rows
 settled_rest t lists rows count h = record {
   count = count;
   sizes = λ p. (h.served p).count;
@@ -60,7 +60,7 @@ settled_rest t lists rows count h = record {
 }
 
 -- what is so of the ends of each job, and of none past the last, is so of each row
-pub each_row : (ws : List Work) (P : ℕ → List End → Type 0) → ((p : ℕ) (w : Work) → slice_get ws p ≡ Some w → P p w.ends) →
+pub each_row : (ws : List Work) (P : ℕ → List TaskEnd → Type 0) → ((p : ℕ) (w : Work) → slice_get ws p ≡ Some w → P p w.ends) →
     ((p : ℕ) → length ws ≤ p → P p []) → (p : ℕ) → P p (slice_index_or (rows_of ws) p [])
 each_row [] P some none p = none p (omega arith)
 each_row (w ∷ ws) P some none zero = some zero w refl
@@ -118,7 +118,7 @@ pub cell_there : (ns os : List Work) → cells_of ns ≡ cells_of os → (p : �
 cell_there ns os c p w e =
     by (slice_get os p) (sym (ap (option_map cell) e) ∙ sym (slice_get-map cell ns p) ∙ ap (λ l. slice_get l p) c ∙ slice_get-map cell os p)
   where
-    cell : Work → Told
+    cell : Work → CellView
     cell w = w.cell
 
     by : (o : Option Work) → Some w.cell ≡ option_map cell o → (x : Work) × (o ≡ Some x) × (w.cell ≡ x.cell)
@@ -129,7 +129,7 @@ pub row_there : (xs : List Work) (p : ℕ) (w : Work) → slice_get xs p ≡ Som
 row_there xs p w e = get_or-map (λ (z : Work). z.ends) xs p w [] (slice_get_within xs p w e) ∙ ap (λ (z : Work). z.ends) (get_or_from_slice_get xs p w w e)
 
 pub cells_count : (ns os : List Work) → cells_of ns ≡ cells_of os → length ns ≡ length os
-cells_count ns os c = sym (length-map ns (λ (w : Work). w.cell)) ∙ ap (λ (l : List Told). length l) c ∙ length-map os (λ (w : Work). w.cell)
+cells_count ns os c = sym (length-map ns (λ (w : Work). w.cell)) ∙ ap (λ (l : List CellView). length l) c ∙ length-map os (λ (w : Work). w.cell)
 
 -- ---- idle jobs
 
@@ -154,10 +154,10 @@ module _ (t : Program) (lists : Lists) (ws : List Work) (h : AreIdle t lists ws)
     };
   }
     where
-      before : (d : ℕ) (e : End) → IsOfBefore t lists d e → IsOfBefore t after d e
+      before : (d : ℕ) (e : TaskEnd) → IsOfBefore t lists d e → IsOfBefore t after d e
       before d e x = (x.0, x.1, extended_further x.0 lists after x.2 grown)
 
-      served : (a : Actual) (e : End) → ServedBefore t lists a e → ServedBefore t after a e
+      served : (a : Actual) (e : TaskEnd) → ServedBefore t lists a e → ServedBefore t after a e
       served (Reads d) e x = (x.0, before d e x.1, x.2)
       served (Writes d) e x = λ o. let y = x o in (y.0, before d e y.1)
       served (Hands v) e x = tt
@@ -172,10 +172,10 @@ module _ (t : Program) (lists : Lists) (ws : List Work) (h : AreIdle t lists ws)
         let same : (q : ℕ) → (end_at w.ends q).next ≡ (end_at x.0.ends q).next =
         λ q. ap (λ es. (end_at es q).next) (sym row) ∙ (stood p q).next ∙ ap (λ es. (end_at es q).next) old in
         record {
-          network = ap (λ (c : Told). c.network) x.2 ∙ f.network;
-          grown = subst (λ (c : Told). AreInputsExtended (inputs_of c.input) (inputs_of lists)) (sym x.2) f.grown;
-          instance = ap (λ (c : Told). c.instance) x.2 ∙ f.instance;
-          at = subst (λ (c : Told). IsAt c (λ q. (end_at w.ends q).next)) (sym x.2) (record {
+          network = ap (λ (c : CellView). c.network) x.2 ∙ f.network;
+          grown = subst (λ (c : CellView). AreInputsExtended (inputs_of c.input) (inputs_of lists)) (sym x.2) f.grown;
+          instance = ap (λ (c : CellView). c.instance) x.2 ∙ f.instance;
+          at = subst (λ (c : CellView). IsAt c (λ q. (end_at w.ends q).next)) (sym x.2) (record {
             reads = λ q d i. same q ∙ f.at.reads q d i;
             writes = λ q d i o. same q ∙ f.at.writes q d i o;
           });

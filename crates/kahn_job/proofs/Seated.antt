@@ -1,5 +1,5 @@
 -- Jobs get the cells of taps, one after another.
-use Rattle.kahn_job.proofs.Common.{arith, ◌≡◌, ℕ, ◌<◌, List, [], ◌∷◌, ◌++◌, drop, length, refl, sym, ap, ◌∙◌, subst, Some, slice_get, slice_set, slice_index_or, same_Some, Tapped, Told, IsSamePlace, Work, AreSamePlaces, cells_of, rows_of, tolds_of}
+use Rattle.kahn_job.proofs.Common.{arith, ◌≡◌, ℕ, ◌<◌, List, [], ◌∷◌, ◌++◌, drop, length, refl, sym, ap, ◌∙◌, subst, Some, slice_get, slice_set, slice_index_or, same_Some, Tapped, CellView, IsSamePlace, Work, AreSamePlaces, cells_of, rows_of, tolds_of}
 use Rattle.kahn_code.proofs.Common.{slice_get_read}
 use Rattle.kahn_code.proofs.Queued.{set_each}
 use Rattle.std.proofs.Math.Seq.{map-set_same}
@@ -12,7 +12,7 @@ middle : (done rest : List Tapped) (x : Tapped) → slice_get (tolds_of (done ++
 middle [] rest x = refl
 middle (y ∷ done) rest x = middle done rest x
 
-seat_more : (done : List Tapped) (old : List Told) (x : Tapped) → length done < length old →
+seat_more : (done : List Tapped) (old : List CellView) (x : Tapped) → length done < length old →
     slice_set (tolds_of done ++ drop (length done) old) (length done) x.told ≡ tolds_of (done ++ x ∷ []) ++ drop (length (done ++ x ∷ [])) old
 seat_more [] [] x lt = absurd (omega (arith, lt))
 seat_more [] (o ∷ old) x lt = refl
@@ -50,10 +50,10 @@ module _ (taps done rest : List Tapped) (old ws : List Work) (x : Tapped) (n : �
 
     pub same_more : AreSamePlaces (cells_of (slice_set ws n w)) (tolds_of taps)
     same_more p c e of_c of_e =
-        set_each (λ p c. (e : Told) → slice_get (tolds_of taps) p ≡ Some e → IsSamePlace c e) (cells_of ws) n w.cell (λ p c other i e f. same p c e i f) here p c
+        set_each (λ p c. (e : CellView) → slice_get (tolds_of taps) p ≡ Some e → IsSamePlace c e) (cells_of ws) n w.cell (λ p c other i e f. same p c e i f) here p c
         (subst (λ cs. slice_get cs p ≡ Some c) set_cells of_c) e of_e
       where
-        here : (e : Told) → slice_get (tolds_of taps) n ≡ Some e → IsSamePlace w.cell e
+        here : (e : CellView) → slice_get (tolds_of taps) n ≡ Some e → IsSamePlace w.cell e
         here e f =
             let is : e ≡ w.cell = sym (same_Some _ _ (sym tap_at ∙ f)) ∙ sym (ap (λ (w : Work). w.cell) seated) in
-            (ap (λ (c : Told). c.network) is, ap (λ (c : Told). c.instance) is)
+            (ap (λ (c : CellView). c.network) is, ap (λ (c : CellView). c.instance) is)

@@ -1,5 +1,5 @@
 -- The ends of channels go on with an input that has grown, channel by channel.
-use Rattle.kahn_job.proofs.Common.{arith, ◌≡◌, ◌⊎◌, inl, inr, ⊎_elim, ℕ, ◌+◌, ◌<◌, ◌≤◌, Bool, true, false, List, length, refl, sym, ap, ◌∙◌, subst, None, Some, Result, Ok, Err, cases_eq, Program, Role, Side, Inner, Input, Output, Network, Actual, Reads, Writes, Hands, network_of, instance_at, actual_at, role_at, IsWriter, IsReader, IsOnly, IsServed, IsFed, IsWellWired, side_at, handed_within, reads, writes, Lists, inputs_of, prefix_refl, is_output, Joins, lane_name, End, IsFlushed, ShareLane, AreJoinedOn, AreSoOn, end_in, end_of_side, AreElsewhere, AreResting, AreSettled, GoesOrStays, CanFeed, CanSettle, HasExchanged, HasSettled, HaveExchanged, HasStood, HaveStood, IsCarried, IsOfBefore, ServedBefore, HasStayed, HaveStayed, AreBehindOn}
+use Rattle.kahn_job.proofs.Common.{arith, ◌≡◌, ◌⊎◌, inl, inr, ⊎_elim, ℕ, ◌+◌, ◌<◌, ◌≤◌, Bool, true, false, List, length, refl, sym, ap, ◌∙◌, subst, None, Some, Result, Ok, Err, cases_eq, Program, Role, Side, Inner, Input, Output, Network, Actual, Reads, Writes, Hands, network_of, instance_at, actual_at, role_at, IsWriter, IsReader, IsOnly, IsServed, IsFed, IsWellWired, side_at, handed_within, reads, writes, Lists, inputs_of, prefix_refl, is_output, Joins, lane_name, TaskEnd, IsFlushed, ShareLane, AreJoinedOn, AreSoOn, end_in, end_of_side, AreElsewhere, AreResting, AreSettled, GoesOrStays, CanFeed, CanSettle, HasExchanged, HasSettled, HaveExchanged, HasStood, HaveStood, IsCarried, IsOfBefore, ServedBefore, HasStayed, HaveStayed, AreBehindOn}
 use Rattle.kahn_streams.proofs.Sided.{channel_served}
 use Rattle.kahn_job.proofs.Berthed.{same_then, stayed_self}
 
@@ -25,8 +25,8 @@ both_or (inr n) b = inr (λ x. n x.0)
 both_or (inl a) (inr n) = inr (λ x. n x.1)
 
 -- the two ends of a channel
-module _ (so : End → End → Type 0) (N : Network) where
-  module _ (c : ℕ) (new : List (List End)) where
+module _ (so : TaskEnd → TaskEnd → Type 0) (N : Network) where
+  module _ (c : ℕ) (new : List (List TaskEnd)) where
     pub on_only : (w r : Side) → IsOnly (IsWriter N c) (Some w) → IsOnly (IsReader N c) (Some r) → so (end_of_side new w) (end_of_side new r) → AreSoOn so N new c
     on_only w r ow oo x p s o q i j =
         subst (λ u. so (end_of_side new u) (end_in new s q)) (sym (ow.1 (side_at p o) (handed_within N p o c (subst (λ a. Joins a c) (sym i) refl), i)))
@@ -39,22 +39,22 @@ module _ (so : End → End → Type 0) (N : Network) where
     none_reads none p s o q i j = absurd (none (side_at s q) (handed_within N s q c (subst (λ a. Joins a c) (sym j) refl), j))
 
   -- they are as they were
-  pub so_still : (old new : List (List End)) (d : ℕ) → ((p q : ℕ) → Joins (actual_at (instance_at N p) q) d → end_in new p q ≡ end_in old p q) →
+  pub so_still : (old new : List (List TaskEnd)) (d : ℕ) → ((p q : ℕ) → Joins (actual_at (instance_at N p) q) d → end_in new p q ≡ end_in old p q) →
       AreSoOn so N old d → AreSoOn so N new d
   so_still old new d same h p r o q i j =
       subst (λ x. so x (end_in new r q)) (sym (same p o (subst (λ a. Joins a d) (sym i) refl)))
       (subst (λ x. so (end_in old p o) x) (sym (same r q (subst (λ a. Joins a d) (sym j) refl))) (h p r o q i j))
 
 -- they are ends of the same lanes
-pub same_lanes : (N : Network) (old new : List (List End)) (d : ℕ) → ((p q : ℕ) → (end_in new p q).lane ≡ (end_in old p q).lane) → AreJoinedOn N old d → AreJoinedOn N new d
+pub same_lanes : (N : Network) (old new : List (List TaskEnd)) (d : ℕ) → ((p q : ℕ) → (end_in new p q).lane ≡ (end_in old p q).lane) → AreJoinedOn N old d → AreJoinedOn N new d
 same_lanes N old new d same h p r o q i j = let s = h p r o q i j in (s.0, same p o ∙ s.1, same r q ∙ s.2)
 
 -- an end that is as it was stands where it stood
-pub stood_same : (old new : End) → new ≡ old → HasStood old new
+pub stood_same : (old new : TaskEnd) → new ≡ old → HasStood old new
 stood_same old new e = record {
-  next = ap (λ (x : End). x.next) e;
-  flushed = λ w. subst (λ (x : End). old.flushed ≤ x.flushed) (sym e) (omega arith);
-  writes = ap (λ (x : End). x.writes) e;
+  next = ap (λ (x : TaskEnd). x.next) e;
+  flushed = λ w. subst (λ (x : TaskEnd). old.flushed ≤ x.flushed) (sym e) (omega arith);
+  writes = ap (λ (x : TaskEnd). x.writes) e;
 }
 
 -- a channel that is both written and read goes from process to process
@@ -66,7 +66,7 @@ is_inner t wired c p o r q i j = by (reads t wired r q c j)
     by (inl f) = absurd ((writes t wired p o c i).1 f.1)
     by (inr f) = f.4
 
-module _ (t : Program) (wired : IsWellWired t) (lists : Lists) (rows : List (List End)) (h : AreResting t lists rows) where
+module _ (t : Program) (wired : IsWellWired t) (lists : Lists) (rows : List (List TaskEnd)) (h : AreResting t lists rows) where
   abbrev N : Network
   N = network_of t
 
@@ -120,7 +120,7 @@ module _ (t : Program) (wired : IsWellWired t) (lists : Lists) (rows : List (Lis
     side_of : (p q : ℕ) → Joins (actual_at (instance_at N p) q) c → IsReader N c (side_at p q) ⊎ IsWriter N c (side_at p q)
     side_of p q j = has_side p q (actual_at (instance_at N p) q) refl j
 
-    pub lane_settled : (w r : Side) → IsOnly (IsWriter N c) (Some w) → IsOnly (IsReader N c) (Some r) → (new : List (List End)) →
+    pub lane_settled : (w r : Side) → IsOnly (IsWriter N c) (Some w) → IsOnly (IsReader N c) (Some r) → (new : List (List TaskEnd)) →
         HaveExchanged lists w r rows new → AreSettled t lists c rows new
     lane_settled w r ow oo new x = record {
       elsewhere = record { count = x.elsewhere.count; sizes = x.elsewhere.sizes; others = λ p q n. x.elsewhere.others p q (never p q n) };
@@ -140,12 +140,12 @@ module _ (t : Program) (wired : IsWellWired t) (lists : Lists) (rows : List (Lis
         never p q n (inr e) = n (carried_read p q c (ap (λ (s : Side). actual_at (instance_at N s.instance) s.parameter) e ∙ oo.0.1))
 
     -- it has settled, or memory was refused
-    pub lane_or : (w r : Side) → IsOnly (IsWriter N c) (Some w) → IsOnly (IsReader N c) (Some r) → (new : List (List End)) {A E : Type 0} (result : Result A E) →
+    pub lane_or : (w r : Side) → IsOnly (IsWriter N c) (Some w) → IsOnly (IsReader N c) (Some r) → (new : List (List TaskEnd)) {A E : Type 0} (result : Result A E) →
         GoesOrStays result (HaveExchanged lists w r) rows new → GoesOrStays result (AreSettled t lists c) rows new
     lane_or w r ow oo new (Ok u) x = lane_settled w r ow oo new x
     lane_or w r ow oo new (Err f) x = x
 
-    pub feed_settled : (r : Side) → IsOnly (IsWriter N c) None → IsOnly (IsReader N c) (Some r) → (new : List (List End)) → HasExchanged lists r rows new → AreSettled t lists c rows new
+    pub feed_settled : (r : Side) → IsOnly (IsWriter N c) None → IsOnly (IsReader N c) (Some r) → (new : List (List TaskEnd)) → HasExchanged lists r rows new → AreSettled t lists c rows new
     feed_settled r none oo new x = record {
       elsewhere = record {
         count = x.elsewhere.count;
@@ -179,12 +179,12 @@ module _ (t : Program) (wired : IsWellWired t) (lists : Lists) (rows : List (Lis
         one p q (inr i) o = by (role_at N c) refl (channel_served t wired c lt) o
 
     -- an end that has settled is one for this input
-    served_on : (a : Actual) (e f : End) → Joins a c → HasSettled (lane_name t lists c) e f → ServedBefore t lists a e → ServedBefore t lists a f
+    served_on : (a : Actual) (e f : TaskEnd) → Joins a c → HasSettled (lane_name t lists c) e f → ServedBefore t lists a e → ServedBefore t lists a f
     served_on (Reads d) e f j x b = (x.reads ∙ b.0, (lists, x.named ∙ ap (λ k. Some (lane_name t lists k)) (sym j), λ k. prefix_refl (inputs_of lists k)), λ r. x.bare (b.2 r))
     served_on (Writes d) e f j x b = λ o. (x.writes ∙ (b o).0, (lists, x.named ∙ ap (λ k. Some (lane_name t lists k)) (sym j), λ k. prefix_refl (inputs_of lists k)))
     served_on (Hands v) e f j x b = tt
 
-    module _ (new : List (List End)) (s : AreSettled t lists c rows new) where
+    module _ (new : List (List TaskEnd)) (s : AreSettled t lists c rows new) where
       -- either the end is one of this channel, and has settled, or it is as it was
       abbrev Either : ℕ → ℕ → Type 0
       Either p q = (IsCarried t (actual_at (instance_at N p) q) c × HasSettled (lane_name t lists c) (end_in rows p q) (end_in new p q)) ⊎ (end_in new p q ≡ end_in rows p q)
@@ -216,7 +216,7 @@ module _ (t : Program) (wired : IsWellWired t) (lists : Lists) (rows : List (Lis
         where
           behind : (p q : ℕ) → Either p q → (end_in new p q).flushed ≤ (end_in new p q).next
           behind p q (inl x) = x.1.behind
-          behind p q (inr e) = subst (λ (x : End). x.flushed ≤ x.next) (sym e) (h.behind p q)
+          behind p q (inr e) = subst (λ (x : TaskEnd). x.flushed ≤ x.next) (sym e) (h.behind p q)
 
           served : (p q : ℕ) → Either p q → ServedBefore t lists (actual_at (instance_at N p) q) (end_in new p q)
           served p q (inl x) = served_on (actual_at (instance_at N p) q) (end_in rows p q) (end_in new p q) x.0.0 x.1 (h.each p q)
@@ -227,7 +227,7 @@ module _ (t : Program) (wired : IsWellWired t) (lists : Lists) (rows : List (Lis
 pub below_or : (d k : ℕ) → d < k + 1 → (d < k) ⊎ (d ≡ k)
 below_or d k l = ⊎_elim inr (λ n. inl (omega arith)) (cases_eq d k)
 
-pub stood_then : (old mid new : List (List End)) → HaveStood old mid → HaveStood mid new → HaveStood old new
+pub stood_then : (old mid new : List (List TaskEnd)) → HaveStood old mid → HaveStood mid new → HaveStood old new
 stood_then old mid new a b p q =
     let x = a p q in
     let y = b p q in
@@ -241,23 +241,23 @@ abbrev actual_in : Program → ℕ → ℕ → Actual
 actual_in t p q = actual_at (instance_at (network_of t) p) q
 
 -- it is an end for this input, and what was put is flushed
-abbrev IsDone : Program → Lists → ℕ → End → Type 0
+abbrev IsDone : Program → Lists → ℕ → TaskEnd → Type 0
 IsDone t lists d e = (e.name ≡ Some (lane_name t lists d)) × IsFlushed e
 
 -- of the first k channels the ends have settled, and all rest, where they stood
-pub record AreGoing (t : Program) (lists : Lists) (k : ℕ) (old now : List (List End)) : Type 0 where
+pub record AreGoing (t : Program) (lists : Lists) (k : ℕ) (old now : List (List TaskEnd)) : Type 0 where
   pub done : (p q d : ℕ) → IsCarried t (actual_in t p q) d → d < k → IsDone t lists d (end_in now p q)
   pub resting : AreResting t lists now
   pub stood : HaveStood old now
 
-pub going_first : (t : Program) (lists : Lists) (rows : List (List End)) → AreResting t lists rows → AreGoing t lists 0 rows rows
+pub going_first : (t : Program) (lists : Lists) (rows : List (List TaskEnd)) → AreResting t lists rows → AreGoing t lists 0 rows rows
 going_first t lists rows h = record {
   done = λ p q d j l. absurd (omega (arith, l));
   resting = h;
   stood = λ p q. stood_same (end_in rows p q) (end_in rows p q) refl;
 }
 
-pub going_on : (t : Program) (wired : IsWellWired t) (lists : Lists) (k : ℕ) (old now new : List (List End)) → AreGoing t lists k old now →
+pub going_on : (t : Program) (wired : IsWellWired t) (lists : Lists) (k : ℕ) (old now new : List (List TaskEnd)) → AreGoing t lists k old now →
     AreSettled t lists k now new → AreGoing t lists (k + 1) old new
 going_on t wired lists k old now new g s = record {
   done = λ p q d j l. by p q d j (below_or d k l);
@@ -271,7 +271,7 @@ going_on t wired lists k old now new g s = record {
 
 -- ---- ends that meet
 
-stayed_then : (d e f : End) → HasStayed d e → HasStayed e f → HasStayed d f
+stayed_then : (d e f : TaskEnd) → HasStayed d e → HasStayed e f → HasStayed d f
 stayed_then d e f a b = record {
   same = same_then d e f a.same b.same;
   next = b.next ∙ a.next;
@@ -279,30 +279,30 @@ stayed_then d e f a b = record {
   ready = λ r. b.ready (a.ready r);
 }
 
-pub all_stayed : (rows : List (List End)) → HaveStayed rows rows
+pub all_stayed : (rows : List (List TaskEnd)) → HaveStayed rows rows
 all_stayed rows = record { count = refl; sizes = λ p. refl; each = λ p q. stayed_self (end_in rows p q) }
 
-pub all_stayed_then : (old mid new : List (List End)) → HaveStayed old mid → HaveStayed mid new → HaveStayed old new
+pub all_stayed_then : (old mid new : List (List TaskEnd)) → HaveStayed old mid → HaveStayed mid new → HaveStayed old new
 all_stayed_then old mid new a b = record {
   count = b.count ∙ a.count;
   sizes = λ p. b.sizes p ∙ a.sizes p;
   each = λ p q. stayed_then (end_in old p q) (end_in mid p q) (end_in new p q) (a.each p q) (b.each p q);
 }
 
-pub alike_stayed : (old new : List (List End)) → AreElsewhere (λ s. ⊥) old new → HaveStayed old new
+pub alike_stayed : (old new : List (List TaskEnd)) → AreElsewhere (λ s. ⊥) old new → HaveStayed old new
 alike_stayed old new a = record {
   count = a.count;
   sizes = a.sizes;
   each = λ p q. subst (HasStayed (end_in old p q)) (sym (a.others p q (λ e. e))) (stayed_self (end_in old p q));
 }
 
-pub stood_still : (old new : List (List End)) → HaveStayed old new → HaveStood old new
+pub stood_still : (old new : List (List TaskEnd)) → HaveStayed old new → HaveStood old new
 stood_still old new s p q =
     let x = s.each p q in
     let f = x.flushed in
     record { next = x.next; flushed = λ w. omega (arith, f); writes = x.same.writes }
 
-pub rests_met : (t : Program) (lists : Lists) (old new : List (List End)) → HaveStayed old new → AreResting t lists old → AreResting t lists new
+pub rests_met : (t : Program) (lists : Lists) (old new : List (List TaskEnd)) → HaveStayed old new → AreResting t lists old → AreResting t lists new
 rests_met t lists old new s h = record {
   count = s.count ∙ h.count;
   sizes = λ p. s.sizes p ∙ h.sizes p;
@@ -317,7 +317,7 @@ rests_met t lists old new s h = record {
     served p q (Hands v) b = tt
 
 -- a meeting later says the same of the ends before
-pub behind_before : (N : Network) (old now : List (List End)) (c : ℕ) → HaveStayed old now → AreBehindOn N now c → AreBehindOn N old c
+pub behind_before : (N : Network) (old now : List (List TaskEnd)) (c : ℕ) → HaveStayed old now → AreBehindOn N now c → AreBehindOn N old c
 behind_before N old now c s h p r o q i j =
     let b = h p r o q i j in
     let n = (s.each r q).next in

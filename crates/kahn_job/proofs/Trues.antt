@@ -1,5 +1,5 @@
 -- A task after a run: what its standing says of its process, and its job.
-use Rattle.kahn_job.proofs.Common.{◌≡◌, ℕ, length, sym, ap, ◌∙◌, subst, network_of, instance_at, inputs_of, told_view, Work, width_of, IsTrueOf, standing_after, ◌<◌, List, Site, Told, IsAt, IsSameProcess, IsStill, site_of, End, AreServed, end_at, IsJob}
+use Rattle.kahn_job.proofs.Common.{◌≡◌, ℕ, length, sym, ap, ◌∙◌, subst, network_of, instance_at, inputs_of, told_view, Work, width_of, IsTrueOf, standing_after, ◌<◌, List, Site, CellView, IsAt, IsSameProcess, IsStill, site_of, TaskEnd, AreServed, end_at, IsJob}
 use Rattle.kahn_code.specs.declared.progress.Pause.{Pause}
 use Rattle.kahn_code.specs.Progress.{Paused, IsPause}
 use Rattle.kahn_job.specs.declared.standing.TaskStanding.{TaskStanding}
@@ -23,10 +23,10 @@ pub same_width : (w v : Work) → (v.cell.network ≡ w.cell.network) → (v.cel
 same_width w v n i =
     ap (λ t. length (instance_at (network_of t) v.cell.instance).actuals) n ∙ ap (λ p. length (instance_at (network_of w.cell.network) p).actuals) i
 
-abbrev site_served : Site → List End → Type 0
+abbrev site_served : Site → List TaskEnd → Type 0
 site_served s es = AreServed s.network s.input s.instance es
 
-pub ran : (w : Work) (c : Told) (s : Site) (es : List End) → IsJob w → IsSameProcess w.cell c → s ≡ site_of c → site_served s es → IsAt c (λ q. (end_at es q).next) →
+pub ran : (w : Work) (c : CellView) (s : Site) (es : List TaskEnd) → IsJob w → IsSameProcess w.cell c → s ≡ site_of c → site_served s es → IsAt c (λ q. (end_at es q).next) →
     IsJob (record { cell = c; ends = es })
 ran w c s es j names is served at = record {
   here = subst (λ n. n < length (network_of c.network).instances) (sym names.2) (subst (λ t. w.cell.instance < length (network_of t).instances) (sym names.0) j.here);
@@ -35,7 +35,7 @@ ran w c s es j names is served at = record {
 }
 
 -- a cell that did no event is the same
-pub same_cell : (c d : Told) → IsSameProcess c d → d.events ≡ c.events → IsStill c d → d ≡ c
+pub same_cell : (c d : CellView) → IsSameProcess c d → d.events ≡ c.events → IsStill c d → d ≡ c
 same_cell c d n e s = λ i. record {
   network = n.0 i;
   input = n.1 i;

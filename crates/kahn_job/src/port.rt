@@ -31,9 +31,9 @@ impl Model for TaskPort {
     ghost use Rattle.kahn_streams.specs.contracts.tree.Action as action;
     ghost use Rattle.kahn_streams.specs.contracts.tree.Form as form;
     ghost use Rattle.std.specs.Coded.{codes};
-    ghost use Rattle.kahn_job.specs.inner.Ends.{End};
+    ghost use Rattle.kahn_job.specs.inner.Ends.{TaskEnd};
 
-    ghost Value = { End };
+    ghost Value = { TaskEnd };
 
     ghost coded = { Prim.hlevel (codes, action.the_row.coded, form.the_row.coded) };
 

@@ -8,7 +8,7 @@ use Rattle.std.specs.declared.alloc.Global.{Global}
 use Rattle.std.specs.declared.string.String.{String}
 use Rattle.clap.specs.Words.{Row, Text, all_of, rows_of}
 use Rattle.clap.specs.declared.parser.matches.Found.{Found}
-use Rattle.kahn_line.specs.declared.parts.Plain.{Plain}
+use Rattle.kahn_line.specs.declared.parts.PlainNames.{PlainNames}
 
 -- what comes before and after the first such sign; a word without it is the first part alone
 abbrev pub parted : ℕ → Text → Text × Option Text
@@ -47,7 +47,7 @@ abbrev pub set_line : Option Text → Text → Text
 set_line input word = line_of_parts input (parted 61 word)
 
 -- the channel whose values stand alone in the lines of input
-abbrev pub input_named : Option Plain → Option Text
+abbrev pub input_named : Option PlainNames → Option Text
 input_named plain = option_map (λ p. string_bytes p.input) plain
 
 -- a text that is lent, if one is
@@ -62,7 +62,7 @@ columns_given (Some inputs) outputs plain = Some (inputs, outputs)
 columns_given None (Some outputs) plain = Some ([], Some outputs)
 
 -- the names of the channels whose values stand alone
-abbrev pub plain_parts : Plain → Text × Option Text
+abbrev pub plain_parts : PlainNames → Text × Option Text
 plain_parts p = (string_bytes p.input, option_map string_bytes p.output)
 
 -- all texts that were found for a name

@@ -12,5 +12,5 @@ pub use draw::{DrawOptions, read_draw_line};
 pub use explain::{ExplainOptions, read_explain_line};
 pub use line::{LineFault, Options, read_line};
 pub use live::{LiveOptions, read_live_line};
-pub use parts::{Plain, input_named, parted};
+pub use parts::{PlainNames, input_named, parted};
 pub use refusal::{tell_line, tell_no_memory, tell_words};

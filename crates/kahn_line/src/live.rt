@@ -10,7 +10,7 @@ use crate::line::{
     LineFault, bare, config_of, file_copied, flag_arg, number_arg, quantum_arg, text_arg,
     was_given, watch_arg,
 };
-use crate::parts::{Plain, input_named, joined_words, plain_of, set_lines};
+use crate::parts::{PlainNames, input_named, joined_words, plain_of, set_lines};
 use clap::{Arg, ArgAction, ArgMatches, Command};
 use kahn_streams::Config;
 use std::alloc::{AllocError, Global};
@@ -81,7 +81,7 @@ pub struct LiveOptions {
     /// The lines that are fed once the input has ended, in this order.
     pub at_end: Vec<String>,
     /// The channels whose values stand alone in the lines of input and output, if they do.
-    pub plain: Option<Plain>,
+    pub plain: Option<PlainNames>,
 }
 
 /// Makes the option of a line that is fed at the end of the input, which may be repeated.
@@ -180,7 +180,7 @@ fn live_command<'a>(alloc: Global) -> Result<Command<'a>, AllocError>
 fn lines_at_end(
     alloc: Global,
     matches: &ArgMatches<'_>,
-    plain: &Option<Plain>,
+    plain: &Option<PlainNames>,
 ) -> Result<Vec<String>, AllocError>
     ensures { IfOk result (λ lines. map string_bytes lines.items ≡ map (set_line (input_named plain.now)) (found_texts (found_of matches.now) (codes "at-end"))) }
 {

@@ -9,7 +9,7 @@ use std::convert::AsStr;
 
 /// Channels whose values stand alone in the lines of input and output.
 #[derive(Debug, Drop)]
-pub struct Plain {
+pub struct PlainNames {
     /// The name of the channel whose values are taken, or nothing where lines have names.
     pub input: String,
     /// The name of the channel whose values are shown, or nothing for the first stream of a report.
@@ -128,7 +128,7 @@ pub(crate) fn set_lines(
 }
 
 /// Returns the name of the channel whose values stand alone in the lines of input, if they do.
-pub fn input_named(plain: &Option<Plain>) -> Option<&str>
+pub fn input_named(plain: &Option<PlainNames>) -> Option<&str>
     ensures { option_copied result ≡ input_named plain.now }
 {
     match plain {
@@ -138,17 +138,17 @@ pub fn input_named(plain: &Option<Plain>) -> Option<&str>
 }
 
 /// Makes the channels of these names.
-fn named(alloc: Global, input: &str, output: Option<&str>) -> Result<Option<Plain>, AllocError>
+fn named(alloc: Global, input: &str, output: Option<&str>) -> Result<Option<PlainNames>, AllocError>
     ensures { IfOk result (λ p. option_map plain_parts p ≡ Some (input.now, option_map (λ t. t.now) output.entry)) }
 {
-    Ok(Some(Plain {
+    Ok(Some(PlainNames {
         input: String::from_str(alloc, input)?,
         output: copied(alloc, output)?,
     }))
 }
 
 /// Returns the channels that a word `IN,OUT` or `IN` names, if there is one.
-fn short_plain(alloc: Global, word: Option<&str>) -> Result<Option<Plain>, AllocError>
+fn short_plain(alloc: Global, word: Option<&str>) -> Result<Option<PlainNames>, AllocError>
     ensures { IfOk result (λ p. option_map plain_parts p ≡ option_map (parted 44) (option_map (λ t. t.now) word.entry)) }
 {
     let Some(word) = word else {
@@ -164,7 +164,7 @@ pub(crate) fn plain_of(
     inputs: Option<&str>,
     outputs: Option<&str>,
     word: Option<&str>,
-) -> Result<Option<Plain>, AllocError>
+) -> Result<Option<PlainNames>, AllocError>
     ensures { IfOk result (λ p. option_map plain_parts p ≡ columns_given (lent inputs.entry) (lent outputs.entry) (lent word.entry)) }
 {
     match (inputs, outputs) {

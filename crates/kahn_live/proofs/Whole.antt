@@ -7,7 +7,7 @@ use Rattle.kahn_streams.specs.declared.config.Config.{Config}
 use Rattle.kahn_streams.specs.declared.tree.Program.{Program}
 use Rattle.kahn_streams.specs.declared.fault.RunFault.{RunFault}
 use Rattle.kahn_fault.specs.declared.fault.Fault.{Fault}
-use Rattle.kahn_line.specs.declared.parts.Plain.{Plain}
+use Rattle.kahn_line.specs.declared.parts.PlainNames.{PlainNames}
 use Rattle.kahn_session.specs.Live.{HasOpened, Live}
 use Rattle.kahn_live.specs.Course.{Point, LiveTelling}
 use Rattle.kahn_live.specs.LinesMet.{AreAllMet, LinesGiven}
@@ -31,7 +31,7 @@ fresh left r input inner empty room =
     ∙ ap (λ (b : List ℕ). prepend_known b (left (reader_inner r))) empty ∙ prepend_none (left (reader_inner r)) ∙ ap left inner
 
 -- a session that was opened, in a form
-pub set_up : (plain : Option Plain) (t : Program) (config : Config) (first : Live) (r : Result Live RunFault) → HasOpened t config first → IsInForm plain first r → IsSetUp plain t config r
+pub set_up : (plain : Option PlainNames) (t : Program) (config : Config) (first : Live) (r : Result Live RunFault) → HasOpened t config first → IsInForm plain first r → IsSetUp plain t config r
 set_up plain t config first (Ok s) opened formed = (first, opened, formed)
 set_up plain t config first (Err f) opened formed = inr (first, opened, formed)
 

@@ -11,7 +11,7 @@ use Rattle.kahn_streams.specs.declared.tree.Program.{Program as Tree}
 use Rattle.kahn_streams.specs.declared.value.Failure.{Failure}
 use Rattle.kahn_sequential.specs.HeldRuns.{HeldRun}
 use Rattle.kahn_texts.specs.Formats.{content}
-use Rattle.kahn_inputs.specs.declared.refused.Part.{Part}
+use Rattle.kahn_inputs.specs.declared.refused.RefusedPart.{RefusedPart}
 use Rattle.kahn_hints.specs.Inputs.{input_names, inputs_words, unknown_input}
 use Rattle.kahn_inputs.specs.Fitting.{line_name}
 use Rattle.kahn_inputs.specs.Refused.{IsHeadPart, IsKindPart, IsValuePart}
@@ -146,15 +146,15 @@ is_hinted None before = before
 is_hinted (Some input) before = true
 
 -- why the line was refused was told, with a part of it and more words, and this is known then
-abbrev pub IsNewPut : Complaints → ℕ → TakeFault → Part → Option (List ℕ) → LiveTelling → LiveTelling → Type 0
+abbrev pub IsNewPut : Complaints → ℕ → TakeFault → RefusedPart → Option (List ℕ) → LiveTelling → LiveTelling → Type 0
 IsNewPut known number f part hint old new = WasToldOf (refusal_text old.path number f part.word.now part.words.now hint) (does_count old.keep_going f) known old new
 
-abbrev pub IsNewTold : ℕ → TakeFault → Part → Option (List ℕ) → LiveTelling → LiveTelling → Type 0
+abbrev pub IsNewTold : ℕ → TakeFault → RefusedPart → Option (List ℕ) → LiveTelling → LiveTelling → Type 0
 IsNewTold number f part hint old new =
     IsNewPut (record old.complaints { last = Some f; first = number; number = number; hinted = is_hinted hint old.complaints.hinted }) number f part hint old new
 
 -- the same, behind how many lines more were refused as the one that was told before it
-abbrev pub IsNextTold : ℕ → TakeFault → Part → Option (List ℕ) → LiveTelling → LiveTelling → Type 0
+abbrev pub IsNextTold : ℕ → TakeFault → RefusedPart → Option (List ℕ) → LiveTelling → LiveTelling → Type 0
 IsNextTold number f part hint old new = (mid : LiveTelling) × IsMoreTold old mid × IsNewTold number f part hint mid new
 
 -- the part of the line that is at fault, and what is wanted there
@@ -204,7 +204,7 @@ IsHintBy false s hint = hint ≡ None
 abbrev pub IsComplaint : Live → ℕ → List ℕ → TakeFault → Option (List ℕ) → Bool → LiveTelling → LiveTelling → Type 0
 IsComplaint s number line f hint true old new = IsTallied number f old new
 IsComplaint s number line f hint false old new =
-    (part : Part) × IsRefusedPart s.flow.run.network line f part.word.now part.words.now × IsNextTold number f part hint old new
+    (part : RefusedPart) × IsRefusedPart s.flow.run.network line f part.word.now part.words.now × IsNextTold number f part hint old new
 
 -- the line that was fed was refused, and that was told
 pub record IsRefused (s : Live) (number : ℕ) (line : List ℕ) (f : TakeFault) (old new : LiveTelling) : Type 0 where

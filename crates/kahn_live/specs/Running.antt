@@ -21,7 +21,7 @@ use Rattle.kahn_fault.specs.Telling.{WasWritten, pointer_text, told_text}
 use Rattle.kahn_fault.specs.declared.fault.Fault.{Fault}
 use Rattle.kahn_fault.specs.declared.fault.Fault.TheVariants.{Work}
 use Rattle.kahn_line.specs.declared.live.LiveOptions.{LiveOptions}
-use Rattle.kahn_line.specs.declared.parts.Plain.{Plain}
+use Rattle.kahn_line.specs.declared.parts.PlainNames.{PlainNames}
 use Rattle.kahn_hints.specs.Inputs.{names_of_channels, unknown_channel}
 use Rattle.kahn_session.specs.Refusals.{left_text, unknown_text}
 use Rattle.kahn_session.specs.Live.{HasOpened, IsFaulty, IsLastText, IsRinged, IsUnopened, Live, has_left}
@@ -42,16 +42,16 @@ use Rattle.kahn_live.specs.declared.telling.Teller.{Teller}
 abbrev pub first_name : List ℕ → List ℕ
 first_name names = before_first (λ b. b == 44) names
 
-abbrev pub first_shown : Plain → Option (List ℕ)
+abbrev pub first_shown : PlainNames → Option (List ℕ)
 first_shown p = option_map (λ names. first_name (string_bytes names)) p.output
 
 -- the name of the channel that is watched: that of `--watch`; where values stand alone the first one whose values are shown, and no other
-abbrev pub name_watched : Option Plain → Option (String Global) → Option (List ℕ)
+abbrev pub name_watched : Option PlainNames → Option (String Global) → Option (List ℕ)
 name_watched None watch = option_map string_bytes watch
 name_watched (Some p) watch = first_shown p
 
 -- the names of the channels that have to have streams
-abbrev pub names_shown : Option Plain → Option (String Global) → Option (List ℕ)
+abbrev pub names_shown : Option PlainNames → Option (String Global) → Option (List ℕ)
 names_shown None watch = option_map string_bytes watch
 names_shown (Some p) watch = option_map string_bytes p.output
 
@@ -70,13 +70,13 @@ ArePlainStreams h None r = IsFirstStream r
 ArePlainStreams h (Some names) r = AreNumbered h (string_bytes names) r
 
 -- the session in the form that is asked for; or why there is none
-abbrev pub IsInForm : Option Plain → Live → Result Live RunFault → Type 0
+abbrev pub IsInForm : Option PlainNames → Live → Result Live RunFault → Type 0
 IsInForm None s r = r ≡ Ok s
 IsInForm (Some p) s (Ok shown) = (columns : Vec ℕ Global) × ArePlainStreams s.flow.run p.output (Ok columns) × (shown ≡ record s { columns = columns.items })
 IsInForm (Some p) s (Err f) = ArePlainStreams s.flow.run p.output (Err f)
 
 -- a session of the network before its first part, in that form, or why there is none
-abbrev pub IsSetUp : Option Plain → Program → Config → Result Live RunFault → Type 0
+abbrev pub IsSetUp : Option PlainNames → Program → Config → Result Live RunFault → Type 0
 IsSetUp plain t config (Ok s) = (first : Live) × HasOpened t config first × IsInForm plain first (Ok s)
 IsSetUp plain t config (Err f) = IsUnopened t config f ⊎ ((first : Live) × HasOpened t config first × IsInForm plain first (Err f))
 
@@ -186,7 +186,7 @@ HasRunSession strict f s text out made old new r = (last : Point) × (ending : R
 -- what is asked for: the channels whose values stand alone, those that have to have streams, the lines behind those of the input, and whether
 -- the run is judged
 pub record Request : Type 0 where
-  pub plain : Option Plain
+  pub plain : Option PlainNames
   pub shown : Option (List ℕ)
   pub at_end : List (List ℕ)
   pub strict : Bool
@@ -199,7 +199,7 @@ abbrev pub named_input : List ℕ → Option (List ℕ)
 named_input [] = None
 named_input (b ∷ bs) = Some (b ∷ bs)
 
-abbrev pub input_of : Option Plain → Option (List ℕ)
+abbrev pub input_of : Option PlainNames → Option (List ℕ)
 input_of None = None
 input_of (Some p) = named_input (string_bytes p.input)
 

@@ -8,14 +8,16 @@ ghost use Rattle.kahn_live.specs.Course.{IsComplaint, IsFedPart, IsNameWords, ch
 
 use crate::lines::is_bare_line;
 use crate::telling::Teller;
-use kahn_inputs::{Part, head_part, inputs_words, kind_part, name_part, unknown_words, value_part};
+use kahn_inputs::{
+    RefusedPart, head_part, inputs_words, kind_part, name_part, unknown_words, value_part,
+};
 use kahn_session::{Session, TakeFault, is_want};
 use kahn_streams::{FeedFault, Network};
 use std::alloc::{AllocError, Global};
 use std::io::Write;
 
 /// No part of a line.
-const NO_PART: Part<'static> = Part {
+const NO_PART: RefusedPart<'static> = RefusedPart {
     word: b"",
     words: "",
 };
@@ -81,7 +83,12 @@ fn words_of(alloc: Global, network: &Network, line: &[u8], fault: TakeFault) -> 
 }
 
 /// The part of a line that is at fault where its values aren't fed, and what is wanted there; of a name these words.
-fn fed_part<'l>(network: &Network, line: &'l [u8], fault: FeedFault, words: &'l str) -> Part<'l>
+fn fed_part<'l>(
+    network: &Network,
+    line: &'l [u8],
+    fault: FeedFault,
+    words: &'l str,
+) -> RefusedPart<'l>
     requires { IsNameWords network.now line.now (Feed fault) words.now }
     ensures { IsFedPart network.now line.entry.now fault result.word.now result.words.now }
 {
@@ -95,7 +102,12 @@ fn fed_part<'l>(network: &Network, line: &'l [u8], fault: FeedFault, words: &'l 
 }
 
 /// The part of a line that is at fault where it isn't taken, and what is wanted there; of a name these words.
-fn refused_part<'l>(network: &Network, line: &'l [u8], fault: TakeFault, words: &'l str) -> Part<'l>
+fn refused_part<'l>(
+    network: &Network,
+    line: &'l [u8],
+    fault: TakeFault,
+    words: &'l str,
+) -> RefusedPart<'l>
     requires { IsNameWords network.now line.now fault words.now }
     ensures { IsRefusedPart network.now line.entry.now fault result.word.now result.words.now }
 {

@@ -13,7 +13,7 @@ use crate::taking::{Fed, wants_memory};
 use crate::telling::Teller;
 use kahn_fault::{Fault, WorkFault, checked};
 use kahn_hints::add_unknown_channel;
-use kahn_line::{LiveOptions, Plain};
+use kahn_line::{LiveOptions, PlainNames};
 use kahn_session::Session;
 use kahn_streams::{Config, Network, RunFault, Verdict};
 use std::alloc::{AllocError, Global};
@@ -51,7 +51,7 @@ fn first_name(names: &str) -> &str
 }
 
 /// The first of the names of the channels whose values are shown, where they stand alone and there are names.
-fn first_shown(plain: &Plain) -> Option<&str>
+fn first_shown(plain: &PlainNames) -> Option<&str>
     ensures { option_copied result ≡ first_shown plain.now }
 {
     match &plain.output {
@@ -62,7 +62,7 @@ fn first_shown(plain: &Plain) -> Option<&str>
 
 /// The name of the channel that is watched: where values stand alone, of the first one whose values are shown, so that it has a
 /// stream, and of no other one, whose stream may be the first.
-fn name_watched<'o>(watch: &'o Option<String>, plain: Option<&'o Plain>) -> Option<&'o str>
+fn name_watched<'o>(watch: &'o Option<String>, plain: Option<&'o PlainNames>) -> Option<&'o str>
     ensures { option_copied result ≡ name_watched (option_copied plain.entry) watch.entry.now }
 {
     match plain {
@@ -72,7 +72,7 @@ fn name_watched<'o>(watch: &'o Option<String>, plain: Option<&'o Plain>) -> Opti
 }
 
 /// The names of the channels that have to have streams.
-fn names_shown<'o>(watch: &'o Option<String>, plain: Option<&'o Plain>) -> Option<&'o str>
+fn names_shown<'o>(watch: &'o Option<String>, plain: Option<&'o PlainNames>) -> Option<&'o str>
     ensures { option_copied result ≡ names_shown (option_copied plain.entry) watch.entry.now }
 {
     match plain {
@@ -118,7 +118,7 @@ fn first_stream(alloc: Global) -> Result<Vec<usize>, RunFault>
 fn plain_streams(
     alloc: Global,
     session: &Session<'_>,
-    plain: &Plain,
+    plain: &PlainNames,
 ) -> Result<Vec<usize>, RunFault>
     ensures { ArePlainStreams session.now.flow.run plain.now.output result }
 {
@@ -132,7 +132,7 @@ fn plain_streams(
 fn in_form<'n>(
     alloc: Global,
     mut session: Session<'n>,
-    plain: Option<&Plain>,
+    plain: Option<&PlainNames>,
 ) -> Result<Session<'n>, RunFault>
     ensures { IsInForm (option_copied plain.entry) session.entry result }
 {
@@ -153,7 +153,7 @@ fn started<'n>(
     alloc: Global,
     network: &'n Network,
     config: Config,
-    plain: Option<&Plain>,
+    plain: Option<&PlainNames>,
 ) -> Result<Session<'n>, RunFault>
     ensures { IsSetUp (option_copied plain.entry) network.now config result }
 {
@@ -164,7 +164,7 @@ fn started<'n>(
 #[derive(Clone, Copy)]
 struct Requested<'a> {
     /// The channels whose values stand alone in the lines of input and output, where they do.
-    plain: Option<&'a Plain>,
+    plain: Option<&'a PlainNames>,
     /// The names of the channels that have to have streams.
     shown: Option<&'a str>,
     /// The lines behind those of the input.
@@ -195,7 +195,7 @@ fn channel_words(alloc: Global, network: &Network, name: &str) -> String
 }
 
 /// Whether values stand alone.
-fn is_plain(plain: Option<&Plain>) -> bool
+fn is_plain(plain: Option<&PlainNames>) -> bool
     ensures { result ≡ is_some (option_copied plain.entry) }
 {
     match plain {
@@ -278,7 +278,7 @@ fn named_input(name: &str) -> Option<&str>
 }
 
 /// The name of the channel whose values stand alone in the lines of input, where one is named.
-fn input_of(plain: Option<&Plain>) -> Option<&str>
+fn input_of(plain: Option<&PlainNames>) -> Option<&str>
     ensures { option_copied result ≡ input_of (option_copied plain.entry) }
 {
     match plain {

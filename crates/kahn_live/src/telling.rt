@@ -11,7 +11,7 @@ ghost use Rattle.kahn_live.specs.InputMet.{IsAlonePut};
 ghost use Rattle.kahn_live.specs.Running.{IsEndPut, IsEndTold, IsLastTold, IsLeftTold, IsWhyTold, untold};
 
 use kahn_fault::{Fault, live_status, tell, tell_explain};
-use kahn_inputs::Part;
+use kahn_inputs::RefusedPart;
 use kahn_session::{
     Session, TakeFault, is_want, take_words, write_alone, write_fault, write_left, write_more,
     write_refusal, write_stopped, write_unknown, write_waiting,
@@ -157,7 +157,13 @@ impl<E: Write> Teller<E> {
 
     /// Tells why the line of that number is refused, by the part of it that is at fault, and how bare numbers are taken, where an
     /// input channel is named.
-    fn tell_new(&mut self, number: u64, fault: TakeFault, part: Part<'_>, input: Option<&str>)
+    fn tell_new(
+        &mut self,
+        number: u64,
+        fault: TakeFault,
+        part: RefusedPart<'_>,
+        input: Option<&str>,
+    )
         ensures { IsNewTold number fault part.entry (option_copied input.entry) (telling_of E.contents self.old) (telling_of E.contents self.new) }
     {
         let hinted = is_hinted(input, self.hinted);
@@ -169,7 +175,7 @@ impl<E: Write> Teller<E> {
     }
 
     /// Writes it.
-    fn put_new(&mut self, number: u64, why: TakeFault, part: Part<'_>, hint: Option<&str>)
+    fn put_new(&mut self, number: u64, why: TakeFault, part: RefusedPart<'_>, hint: Option<&str>)
         ensures { IsNewPut (complaints_of self.old) number why part.entry (option_copied hint.entry) (telling_of E.contents self.old) (telling_of E.contents self.new) }
     {
         let told = write_refusal(
@@ -191,7 +197,7 @@ impl<E: Write> Teller<E> {
         &mut self,
         number: u64,
         fault: TakeFault,
-        part: Part<'_>,
+        part: RefusedPart<'_>,
         input: Option<&str>,
     )
         ensures { IsNextTold number fault part.entry (option_copied input.entry) (telling_of E.contents self.old) (telling_of E.contents self.new) }

@@ -7,7 +7,7 @@ use Rattle.std.proofs.lemmas.Bool.{lt-leb, le-ltb}
 use Rattle.std.proofs.lemmas.Str.{IsUtf8-take, chars-append, encodes-chars, length-encode, len_utf8_bounds}
 use Rattle.kahn_marks.specs.declared.columns.Row.{Row}
 use Rattle.kahn_marks.specs.declared.columns.Row.TheVariants.{Source, Blanks, Carets}
-use Rattle.kahn_marks.specs.Marks.{columns, is_near, near_piece, piece_of, row_of, times_over}
+use Rattle.kahn_marks.specs.Marks.{columns, is_near, near_piece, piece_of, shown_row, times_over}
 use Rattle.kahn_marks.proofs.Rows.{written}
 
 -- a character that isn't near
@@ -98,16 +98,16 @@ front_bytes : (i : ℕ) (line : List ℕ) → IsUtf8 line → IsCharBoundary lin
 front_bytes i line utf8 here = ap length (encodes-chars (take i line) (IsUtf8-take line i utf8 here)) ∙ length-take-le i line here.0
 
 cut : (row : Row) (from bytes i : ℕ) (line : List ℕ) → IsUtf8 line → IsCharBoundary line i
-    → row_of row line from bytes ≡ row_of row (take i line) from bytes ++ written row from bytes i (chars (drop i line))
+    → shown_row row line from bytes ≡ shown_row row (take i line) from bytes ++ written row from bytes i (chars (drop i line))
 cut row from bytes i line utf8 here =
     ap (λ l. written row from bytes 0 (chars l)) (sym (take-append-drop i line))
     ∙ ap (λ l. written row from bytes 0 l) (chars-append (take i line) (drop i line) (IsUtf8-take line i utf8 here))
     ∙ written_both row from bytes 0 (chars (take i line)) (chars (drop i line))
-    ∙ ap (λ n. row_of row (take i line) from bytes ++ written row from bytes n (chars (drop i line))) (omega (arith, front_bytes i line utf8 here))
+    ∙ ap (λ n. shown_row row (take i line) from bytes ++ written row from bytes n (chars (drop i line))) (omega (arith, front_bytes i line utf8 here))
 
 -- without what stands before all that is near
 pub from_near : (row : Row) (from bytes s : ℕ) (line : List ℕ) → IsUtf8 line → IsCharBoundary line s → s ≤ from - 80
-    → row_of row (drop s line) (from - s) bytes ≡ row_of row line from bytes
+    → shown_row row (drop s line) (from - s) bytes ≡ shown_row row line from bytes
 from_near row from bytes s line utf8 here before =
     sym (shifted row s (from - s) bytes 0 (chars (drop s line)))
     ∙ ap (λ f. written row f bytes (s + 0) (chars (drop s line))) (omega (arith, before))
@@ -117,8 +117,8 @@ from_near row from bytes s line utf8 here before =
 
 -- and without what stands behind it
 pub to_near : (row : Row) (from bytes e : ℕ) (line : List ℕ) → IsUtf8 line → IsCharBoundary line e → from + 80 ≤ e
-    → row_of row (take e line) from bytes ≡ row_of row line from bytes
+    → shown_row row (take e line) from bytes ≡ shown_row row line from bytes
 to_near row from bytes e line utf8 here past =
-    sym (append-nil (row_of row (take e line) from bytes))
-    ∙ ap (λ l. row_of row (take e line) from bytes ++ l) (sym (none_behind row from bytes e (chars (drop e line)) past))
+    sym (append-nil (shown_row row (take e line) from bytes))
+    ∙ ap (λ l. shown_row row (take e line) from bytes ++ l) (sym (none_behind row from bytes e (chars (drop e line)) past))
     ∙ sym (cut row from bytes e line utf8 here)

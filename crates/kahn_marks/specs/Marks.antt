@@ -62,8 +62,8 @@ with_places at [] = []
 with_places at (c ∷ cs) = (at, c) ∷ with_places (at + length (encode_utf8 c)) cs
 
 -- a row of a line
-abbrev pub row_of : Row → List ℕ → ℕ → ℕ → List ℕ
-row_of row line from bytes = flat_map (λ p. piece_of row from bytes p.0 p.1) (with_places 0 (chars line))
+abbrev pub shown_row : Row → List ℕ → ℕ → ℕ → List ℕ
+shown_row row line from bytes = flat_map (λ p. piece_of row from bytes p.0 p.1) (with_places 0 (chars line))
 
 -- one caret at least
 abbrev pub one_at_least : List ℕ → List ℕ
@@ -71,7 +71,7 @@ one_at_least [] = codes "^"
 one_at_least (c ∷ cs) = c ∷ cs
 
 abbrev pub carets_of : List ℕ → ℕ → ℕ → List ℕ
-carets_of line from bytes = one_at_least (row_of Carets line from bytes)
+carets_of line from bytes = one_at_least (shown_row Carets line from bytes)
 
 -- a line of a text, from 0; the empty one where it has not so many
 abbrev pub line_at : List ℕ → ℕ → List ℕ
@@ -79,12 +79,12 @@ line_at text n = slice_index_or (lines text) n []
 
 -- blanks and carets below it
 abbrev pub carets_text : List ℕ → ℕ → ℕ → List ℕ
-carets_text line from bytes = concat (row_of Blanks line from bytes ∷ carets_of line from bytes ∷ codes "\n" ∷ [])
+carets_text line from bytes = concat (shown_row Blanks line from bytes ∷ carets_of line from bytes ∷ codes "\n" ∷ [])
 
 -- the source line with its number, and these
 abbrev pub rows_text : List ℕ → List ℕ → ℕ → ℕ → List ℕ
 rows_text line number from bytes =
-    concat (codes " " ∷ number ∷ codes " | " ∷ row_of Source line from bytes ∷ codes "\n " ∷ [])
+    concat (codes " " ∷ number ∷ codes " | " ∷ shown_row Source line from bytes ∷ codes "\n " ∷ [])
     ++ times_over (length number) (codes " ") ++ codes " | " ++ carets_text line from bytes
 
 -- `PATH:LINE:COLUMN: SORT: WORDS`, where the sort is `error`, `note` or `warning`

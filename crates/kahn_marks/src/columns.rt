@@ -2,7 +2,7 @@
 
 ghost use Rattle.std.specs.Prelude.{◌≡◌, ◌++◌, ◌<◌, ℕ, IfOk, string_bytes};
 ghost use Rattle.kahn_marks.specs.declared.columns.Row.{Row};
-ghost use Rattle.kahn_marks.specs.Marks.{columns, is_format, is_kept_back, is_near, piece_of, row_of, shown_character};
+ghost use Rattle.kahn_marks.specs.Marks.{columns, is_format, is_kept_back, is_near, piece_of, shown_row, shown_character};
 
 use crate::pieces::add_repeated;
 use std::alloc::AllocError;
@@ -32,7 +32,7 @@ fn is_near(from: usize, at: usize) -> bool
 /// The part of a line that is enough for all of its rows, where the part that they mark begins at a byte of the line, and at
 /// which of its own bytes that begins then.
 pub(crate) fn near_part(line: &str, from: usize) -> (&str, usize)
-    ensures { (row : Row) (bytes : ℕ) → row_of row result.0.now result.1 bytes ≡ row_of row line.now from bytes }
+    ensures { (row : Row) (bytes : ℕ) → shown_row row result.0.now result.1 bytes ≡ shown_row row line.now from bytes }
 {
     let start = line.floor_char_boundary(from.saturating_sub(NEAR));
     let (_, behind) = line.split_at(start);
@@ -120,7 +120,7 @@ pub(crate) fn add_row(
     from: usize,
     bytes: usize,
 ) -> Result<(), AllocError>
-    ensures { IfOk result (λ _. string_bytes text.new ≡ string_bytes text.old ++ row_of row line.now from bytes) }
+    ensures { IfOk result (λ _. string_bytes text.new ≡ string_bytes text.old ++ shown_row row line.now from bytes) }
 {
     for (at, character) in line.char_indices() {
         add_piece(text, row, from, bytes, at, character)?;

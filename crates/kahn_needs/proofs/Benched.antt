@@ -7,7 +7,7 @@ use Rattle.kahn_streams.specs.Answers.{is_output}
 use Rattle.kahn_streams.specs.Inputs.{Lists, inputs_of}
 use Rattle.kahn_streams.specs.Meaning.{Store}
 use Rattle.kahn_streams.specs.Network.{Network, Writes, actual_at, instance_at, network_of, role_at}
-use Rattle.kahn_streams.specs.Script.{Outcome, Tapes, Script, Give, Fail, Waits, Sends, Turns, Rest, play, wait_at}
+use Rattle.kahn_streams.specs.Script.{ScriptOutcome, Tapes, Script, Give, Fail, Waits, Sends, Turns, Rest, play, wait_at}
 use Rattle.kahn_streams.specs.Steps.{empty}
 use Rattle.kahn_streams.specs.declared.value.Value.{Value}
 use Rattle.kahn_streams.specs.declared.value.Line.{Line}
@@ -22,7 +22,7 @@ use Rattle.kahn_code.proofs.Lists.{kept_none, one_first}
 use Rattle.kahn_code.proofs.Queued.{given_zero, set_each, taken_zero}
 use Rattle.kahn_code.specs.Cells.{AreKeptTokens, StoodBy, View, exec_on, sent_on}
 use Rattle.kahn_code.specs.Lines.{AreFirst, AreQueued, Lines, actual_here, next_at, place_at, queue_of, waiting_of}
-use Rattle.kahn_code.specs.Progress.{IsAt, IsPause, Paused, Told, site_of, told_view}
+use Rattle.kahn_code.specs.Progress.{IsAt, IsPause, Paused, CellView, site_of, told_view}
 use Rattle.kahn_code.specs.Standing.{LeavesOthers, Site, count}
 use Rattle.kahn_code.specs.declared.progress.Pause.{Pause}
 use Rattle.kahn_code.specs.declared.progress.Pause.TheVariants as pause
@@ -67,13 +67,13 @@ stood_first N I watch p x e taken sent kept printed = record {
     kept_by c ts f = subst (λ l. AreKeptTokens N I c l ts) (sym (nothing c)) (subst (AreKeptTokens N I c []) (sym f) (kept_none N I c))
 
 -- the cell of the next instance
-pub fresh_more : (t : Program) (lists : Lists) (watch : Option ℕ) (cells all : List Told) (n : ℕ) (x : Told) → AreUnmoved t lists watch cells n →
+pub fresh_more : (t : Program) (lists : Lists) (watch : Option ℕ) (cells all : List CellView) (n : ℕ) (x : CellView) → AreUnmoved t lists watch cells n →
     IsUnmoved t lists watch n x → all ≡ cells ++ x ∷ [] → AreUnmoved t lists watch all (n + 1)
 fresh_more t lists watch cells all n x h f is =
     let r = one_first (IsUnmoved t lists watch) cells all x n (record { count = h.count; each = h.each }) is f in
     record { count = r.count; each = r.each }
 
-pub fresh_one : (t : Program) (lists : Lists) (watch : Option ℕ) (n k : ℕ) (x : Told) → (x.network ≡ t) × (x.input ≡ lists) × (x.instance ≡ n) × (x.watch ≡ watch) →
+pub fresh_one : (t : Program) (lists : Lists) (watch : Option ℕ) (n k : ℕ) (x : CellView) → (x.network ≡ t) × (x.input ≡ lists) × (x.instance ≡ n) × (x.watch ≡ watch) →
     (x.events ≡ 0) × (x.printed ≡ []) → (x.taken ≡ replicate k 0) × (x.sent ≡ replicate k 0) × (x.kept ≡ replicate k []) → IsUnmoved t lists watch n x
 fresh_one t lists watch n k x names none lists' = record {
   network = names.0;
@@ -93,7 +93,7 @@ fresh_one t lists watch n k x names none lists' = record {
     sent q = ap (λ l. count l q) lists'.1 ∙ none_of k q 0
 
 -- cells at their openings over queues from which nothing was taken
-pub laid_first : (t code : Program) (lists : Lists) (watch : Option ℕ) (cells : List Told) (q : Lines) → IsWellWired t → code ≡ t →
+pub laid_first : (t code : Program) (lists : Lists) (watch : Option ℕ) (cells : List CellView) (q : Lines) → IsWellWired t → code ≡ t →
     AreUnmoved t lists watch cells (length (network_of t).instances) → (q.network ≡ t) × (q.input ≡ lists) → AreFirst t lists q.queues → AreQueued q →
     HaveSeats (seats_of t lists watch code cells q)
 laid_first t code lists watch cells q wired same fresh names first queued = record {
@@ -106,7 +106,7 @@ laid_first t code lists watch cells q wired same fresh names first queued = reco
   queued = queued;
 }
   where
-    each : (p : ℕ) (x : Told) → slice_get cells p ≡ Some x → HasItsSeat (seats_of t lists watch code cells q) p x
+    each : (p : ℕ) (x : CellView) → slice_get cells p ≡ Some x → HasItsSeat (seats_of t lists watch code cells q) p x
     each p x at =
         let o : IsUnmoved t lists watch p x = fresh.each p x at in
         record {
@@ -137,21 +137,21 @@ laid_first t code lists watch cells q wired same fresh names first queued = reco
 -- ---- a cell runs
 
 -- the same program, input, instance and watched channel
-abbrev pub IsSame : Told → Told → Type 0
+abbrev pub IsSame : CellView → CellView → Type 0
 IsSame old new = (new.network ≡ old.network) × (new.input ≡ old.input) × (new.instance ≡ old.instance) × (new.watch ≡ old.watch)
 
-abbrev pub ran : Seats → ℕ → Told → Lines → Seats
+abbrev pub ran : Seats → ℕ → CellView → Lines → Seats
 ran b p x q = record { network = b.network; input = b.input; watch = b.watch; code = b.code; cells = slice_set b.cells p x; queues = q }
 
 -- the queues as the ports of instance p
 abbrev pub ports_of : Lines → Site
 ports_of q = record { network = q.network; input = q.input; instance = q.instance }
 
-pub found : {b n : Seats} → b ≡ n → HaveSeats b → (p : ℕ) {x : Told} → p < length (network_of n.network).instances → x ≡ slice_index_or b.cells p x → slice_get b.cells p ≡ Some x
+pub found : {b n : Seats} → b ≡ n → HaveSeats b → (p : ℕ) {x : CellView} → p < length (network_of n.network).instances → x ≡ slice_index_or b.cells p x → slice_get b.cells p ≡ Some x
 found {b} is laid p {x} l =
     slice_get_read b.cells (length b.cells) p x refl (subst (λ k. p < k) (sym (laid.count ∙ ap (λ (y : Seats). length (network_of y.network).instances) is)) l)
 
-module _ {b : Seats} (laid : HaveSeats b) (p : ℕ) {x : Told} (at : slice_get b.cells p ≡ Some x) where
+module _ {b : Seats} (laid : HaveSeats b) (p : ℕ) {x : CellView} (at : slice_get b.cells p ≡ Some x) where
   abbrev lent : Lines
   lent = record { network = b.queues.network; input = b.queues.input; instance = p; queues = b.queues.queues }
 
@@ -169,7 +169,7 @@ module _ {b : Seats} (laid : HaveSeats b) (p : ℕ) {x : Told} (at : slice_get b
   pub at_is : (q : Lines) → q ≡ lent → IsAt x (λ r. next_at q.queues (actual_here q r))
   at_is q is = subst (λ (z : Lines). IsAt x (λ r. next_at z.queues (actual_here z r))) (sym is) seated.at
 
-  module _ (x' : Told) (q q' : Lines) (is : q ≡ lent) (same : IsSame x x') (site : ports_of q' ≡ site_of x')
+  module _ (x' : CellView) (q q' : Lines) (is : q ≡ lent) (same : IsSame x x') (site : ports_of q' ≡ site_of x')
       (stands : IsAt x' (λ r. next_at q'.queues (actual_here q' r))) (leaves : LeavesOthers (ports_of q) (place_at q) (place_at q')) (queued : AreQueued q')
       (quantum : ℕ) (z : Pause)
       (paused : code.Paused (network_of x'.network) (inputs_of x'.input) x'.watch x'.instance (told_view x')
@@ -220,7 +220,7 @@ module _ {b : Seats} (laid : HaveSeats b) (p : ℕ) {x : Told} (at : slice_get b
     leaves_here : LeavesOthers (record { network = b.queues.network; input = b.queues.input; instance = p }) (place_at b.queues) (place_at q')
     leaves_here = subst (λ (y : Lines). LeavesOthers (ports_of y) (place_at y) (place_at q')) is leaves
 
-    others : (o : ℕ) (d : Told) → (o ≡ p → ⊥) → slice_get b.cells o ≡ Some d → HasItsSeat now o d
+    others : (o : ℕ) (d : CellView) → (o ≡ p → ⊥) → slice_get b.cells o ≡ Some d → HasItsSeat now o d
     others o d n e =
         let s : HasItsSeat b o d = laid.each o d e in
         record {
@@ -252,7 +252,7 @@ module _ {b : Seats} (laid : HaveSeats b) (p : ℕ) {x : Told} (at : slice_get b
         ap (λ t. actual_at (instance_at (network_of t) x'.instance) r) network_is ∙
         ap (λ i. actual_at (instance_at (network_of b.network) i) r) instance_is
 
-    abbrev o : Outcome Store
+    abbrev o : ScriptOutcome Store
     o = (exec_on (network_of b.network) x'.events p paused_here.stood.tapes).outcome
 
     is_stopped : (z : Pause) → IsPause (network_of b.network) p dry ready (x'.events ≡ x.events + quantum) z o → IsStopped now p z o

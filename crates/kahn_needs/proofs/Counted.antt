@@ -13,7 +13,7 @@ use Rattle.kahn_streams.specs.declared.value.Line.TheVariants.{Channel, Print}
 use Rattle.kahn_streams.specs.declared.value.Value.{Value}
 use Rattle.kahn_code.proofs.Lists.{none_first, one_first}
 use Rattle.kahn_code.specs.Cells.{is_streamed, sent_on}
-use Rattle.kahn_code.specs.Progress.{Told}
+use Rattle.kahn_code.specs.Progress.{CellView}
 use Rattle.kahn_code.specs.Standing.{tokens}
 use Rattle.kahn_needs.specs.inner.Bench.{AreCounted, HaveSeats, Stood, Seats}
 use Rattle.kahn_needs.specs.inner.Finding.{HasCome, HasValue}
@@ -30,7 +30,7 @@ counted_more f xs all n x h e is =
 
 -- ---- the value at a place
 
-value_of_tokens : (b : Seats) (c : Line) (p : ℕ) (x : Told) (s : Stood b p x) (vs : List Value) (ts : List Token) (k n : ℕ) → map token_value ts ≡ vs → length vs ≡ n → k < n → (v : Value) →
+value_of_tokens : (b : Seats) (c : Line) (p : ℕ) (x : CellView) (s : Stood b p x) (vs : List Value) (ts : List Token) (k n : ℕ) → map token_value ts ≡ vs → length vs ≡ n → k < n → (v : Value) →
     ((t : Token) → slice_get ts k ≡ Some t → v ≡ t.value) → slice_get vs k ≡ Some v
 value_of_tokens b c p x s vs ts k n e l less v told =
     let a = ap length e in
@@ -45,7 +45,7 @@ or_true : (x y : Bool) → y ≡ true → (x || y) ≡ true
 or_true true y e = refl
 or_true false y e = e
 
-module _ (b : Seats) (laid : HaveSeats b) (c : ℕ) (s : Side) (writer : IsWriter (network_of b.network) c s) (x : Told) (at : slice_get b.cells s.instance ≡ Some x)
+module _ (b : Seats) (laid : HaveSeats b) (c : ℕ) (s : Side) (writer : IsWriter (network_of b.network) c s) (x : CellView) (at : slice_get b.cells s.instance ≡ Some x)
     (src : channel_source (network_of b.network) c ≡ Written s.instance) (watch : b.watch ≡ Some c) (k : ℕ) (v : Value)
     (told : (t : Token) → slice_get (tokens x.kept s.parameter) k ≡ Some t → v ≡ t.value) where
   streamed : is_streamed (network_of b.network) b.watch c ≡ true
@@ -58,9 +58,9 @@ module _ (b : Seats) (laid : HaveSeats b) (c : ℕ) (s : Side) (writer : IsWrite
       let w : actual_at (instance_at (network_of b.network) p) s.parameter ≡ Writes c = subst (λ i. actual_at (instance_at (network_of b.network) i) s.parameter ≡ Writes c) same writer.1 in
       let kept = stood.kept s.parameter c w streamed in
       value_of_tokens b (Channel c) p x' stood (sent_on (network_of b.network) x'.events p stood.tapes (Channel c)) (tokens x'.kept s.parameter) k come.3.0
-      kept.values (come.3.1 p is x' at' stood) come.3.2 v (subst (λ (y : Told). (t : Token) → slice_get (tokens y.kept s.parameter) k ≡ Some t → v ≡ t.value) e told)
+      kept.values (come.3.1 p is x' at' stood) come.3.2 v (subst (λ (y : CellView). (t : Token) → slice_get (tokens y.kept s.parameter) k ≡ Some t → v ≡ t.value) e told)
 
-pub value_there : {b n : Seats} (is : b ≡ n) (laid : HaveSeats b) (c : ℕ) (s : Side) (writer : IsWriter (network_of b.network) c s) {x : Told} → x ≡ slice_index_or b.cells s.instance x →
+pub value_there : {b n : Seats} (is : b ≡ n) (laid : HaveSeats b) (c : ℕ) (s : Side) (writer : IsWriter (network_of b.network) c s) {x : CellView} → x ≡ slice_index_or b.cells s.instance x →
     channel_source (network_of b.network) c ≡ Written s.instance → n.watch ≡ Some c → (k : ℕ) (v : Value) (ts : List Token) → ts ≡ tokens x.kept s.parameter →
     ((t : Token) → slice_get ts k ≡ Some t → v ≡ t.value) → HasCome n (Channel c) k → HasValue n (Channel c) k v
 value_there {b} {n} is laid c s writer {x} value src watch k v ts same told =
@@ -68,7 +68,7 @@ value_there {b} {n} is laid c s writer {x} value src watch k v ts same told =
     (value_here b laid c s writer x (found refl laid s.instance writer.0.0 value) src (ap (λ (y : Seats). y.watch) is ∙ watch) k v
     (subst (λ us. (t : Token) → slice_get us k ≡ Some t → v ≡ t.value) same told))
 
-module _ (b : Seats) (p : ℕ) (x : Told) (at : slice_get b.cells p ≡ Some x) (k : ℕ) (v : Value) (told : (t : Token) → slice_get x.printed k ≡ Some t → v ≡ t.value) where
+module _ (b : Seats) (p : ℕ) (x : CellView) (at : slice_get b.cells p ≡ Some x) (k : ℕ) (v : Value) (told : (t : Token) → slice_get x.printed k ≡ Some t → v ≡ t.value) where
   printed_here : HasCome b (Print p) k → HasValue b (Print p) k v
   printed_here come r is x' at' stood =
       let same : p ≡ r = same_writer is in
@@ -76,9 +76,9 @@ module _ (b : Seats) (p : ℕ) (x : Told) (at : slice_get b.cells p ≡ Some x) 
       let line : map token_value x'.printed ≡ sent_on (network_of b.network) x'.events r stood.tapes (Print p) =
       subst (λ i. map token_value x'.printed ≡ sent_on (network_of b.network) x'.events r stood.tapes (Print i)) (sym same) stood.printed.values in
       value_of_tokens b (Print p) r x' stood (sent_on (network_of b.network) x'.events r stood.tapes (Print p)) x'.printed k come.3.0
-      line (come.3.1 r is x' at' stood) come.3.2 v (subst (λ (y : Told). (t : Token) → slice_get y.printed k ≡ Some t → v ≡ t.value) e told)
+      line (come.3.1 r is x' at' stood) come.3.2 v (subst (λ (y : CellView). (t : Token) → slice_get y.printed k ≡ Some t → v ≡ t.value) e told)
 
-pub printed_value : {b n : Seats} (is : b ≡ n) (laid : HaveSeats b) (p : ℕ) → p < length (network_of n.network).instances → {x : Told} → x ≡ slice_index_or b.cells p x → (k : ℕ) (v : Value) (ts : List Token) → ts ≡ x.printed →
+pub printed_value : {b n : Seats} (is : b ≡ n) (laid : HaveSeats b) (p : ℕ) → p < length (network_of n.network).instances → {x : CellView} → x ≡ slice_index_or b.cells p x → (k : ℕ) (v : Value) (ts : List Token) → ts ≡ x.printed →
     ((t : Token) → slice_get ts k ≡ Some t → v ≡ t.value) → HasCome n (Print p) k → HasValue n (Print p) k v
 printed_value {b} {n} is laid p here {x} value k v ts same told =
     subst (λ (y : Seats). HasCome y (Print p) k → HasValue y (Print p) k v) is

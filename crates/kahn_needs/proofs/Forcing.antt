@@ -7,7 +7,7 @@ use Rattle.std.proofs.lemmas.Bool.{cases_lt}
 use Rattle.kahn_streams.specs.declared.value.Value.{Value}
 use Rattle.kahn_streams.specs.declared.value.Line.{Line}
 use Rattle.kahn_streams.specs.declared.value.Line.TheVariants.{Channel}
-use Rattle.kahn_streams.specs.Script.{Tapes, Script, Give, Fail, Waits, Sends, Turns, Rest, Outcome, Got, Dry, Fault, Cut as Unended, put, wait_at, play}
+use Rattle.kahn_streams.specs.Script.{Tapes, Script, Give, Fail, Waits, Sends, Turns, Rest, ScriptOutcome, Got, Dry, Fault, Cut as Unended, put, wait_at, play}
 use Rattle.kahn_streams.specs.Network.{Network, Actual, Reads, Writes, Hands, instance_at, actual_at, Written}
 use Rattle.kahn_streams.specs.Meaning.{Store}
 use Rattle.kahn_streams.specs.Solution.{Inputs, tape_of, tapes_of, out, goes_to, values_at, source, IsPrefix, opening}
@@ -284,7 +284,7 @@ module _ (N : Network) (I : Inputs) (watch : Option ℕ) (p : ℕ) (x : View) (s
       none (z ∷ zs) e = let f = ap length (longer_same N I p T G q h) in absurd (omega (arith, e, f))
 
   -- one that is at an end, or waits for what isn't there, doesn't come to it
-  pub stuck : (o : Outcome Store) → (exec_on N x.events p T).outcome ≡ o → (o ≡ Unended → ⊥) → ((q : ℕ) → o ≡ Dry q → length (G q) ≤ length (T q)) → ⊥
+  pub stuck : (o : ScriptOutcome Store) → (exec_on N x.events p T).outcome ≡ o → (o ≡ Unended → ⊥) → ((q : ℕ) → o ≡ Dry q → length (G q) ≤ length (T q)) → ⊥
   stuck o is over dry =
       let m = max the_V.events x.events in
       let a : j < length (values_at (goes_to N p d) (exec_on N m p V).sent) = runs_on V V are_V are_V the_V m (le-max_left the_V.events x.events) (covers_own V the_V) in
@@ -292,7 +292,7 @@ module _ (N : Network) (I : Inputs) (watch : Option ℕ) (p : ℕ) (x : View) (s
       let c = ap (λ z. length (values_at (goes_to N p d) z.sent)) framed in
       omega (arith, a, b, c, few)
     where
-      stays : (o' : Outcome Store) → o ≡ o' → Stays rest_V o'
+      stays : (o' : ScriptOutcome Store) → o ≡ o' → Stays rest_V o'
       stays (Got a) e = tt
       stays (Dry q) e = no_rest q (dry q e)
       stays (Fault k) e = tt
@@ -320,7 +320,7 @@ module _ (N : Network) (I : Inputs) (watch : Option ℕ) (p : ℕ) (x : View) (s
       (g : HoldsAt N I y (Channel c) (x.taken q)) × (g.0 < there.0)
   has_next q c reads is = ((at, by (cases_lt (length (T q)) (length (G q)))), at_sooner)
     where
-      same : (r : ℕ) → ◌≡◌ {A = Outcome Store} (Dry q) (Dry r) → q ≡ r
+      same : (r : ℕ) → ◌≡◌ {A = ScriptOutcome Store} (Dry q) (Dry r) → q ≡ r
       same r e = cc
 
       by : (length (T q) < length (G q)) ⊎ (length (G q) ≤ length (T q)) → x.taken q < length (held_in N I y at (Channel c))

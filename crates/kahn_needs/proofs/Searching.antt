@@ -7,7 +7,7 @@ use Rattle.kahn_streams.proofs.Sourced.{reads, reads_listed}
 use Rattle.kahn_streams.specs.Inputs.{Lists, inputs_of}
 use Rattle.kahn_streams.specs.Meaning.{Store}
 use Rattle.kahn_streams.specs.Network.{IsWriter, Network, Reads, Writes, Given, Written, actual_at, channel_source, instance_at, network_of, role_at}
-use Rattle.kahn_streams.specs.Script.{Outcome, Dry, Cut as Unended}
+use Rattle.kahn_streams.specs.Script.{ScriptOutcome, Dry, Cut as Unended}
 use Rattle.kahn_streams.specs.Solution.{Inputs, Ended, Faulted, Waiting as Waits_for, ending, input_list, source}
 use Rattle.kahn_streams.specs.Tokens.{token_value}
 use Rattle.kahn_streams.specs.declared.sides.Side.{Side}
@@ -20,7 +20,7 @@ use Rattle.kahn_streams.specs.inner.Sources.{IsFed}
 use Rattle.kahn_code.proofs.Queued.{set_each, set_here}
 use Rattle.kahn_code.specs.Cells.{StoodBy, exec_on, sent_on}
 use Rattle.kahn_code.specs.Lines.{Waiting, next_at, taken_of, waiting_of}
-use Rattle.kahn_code.specs.Progress.{AreCounts, Told, told_view}
+use Rattle.kahn_code.specs.Progress.{AreCounts, CellView, told_view}
 use Rattle.kahn_code.specs.Standing.{count}
 use Rattle.kahn_code.specs.declared.progress.Pause.{Pause}
 use Rattle.kahn_code.specs.declared.progress.Pause.TheVariants as pause
@@ -43,7 +43,7 @@ given_within N I y (Channel d) j e h =
 given_within N I y (Print p) j e h = absurd cc
 
 -- a cut has the events of a cell, and the values that it took
-abbrev Needs_all : Program → Lists → Cut → ℕ → Told → Type 0
+abbrev Needs_all : Program → Lists → Cut → ℕ → CellView → Type 0
 Needs_all t lists y o x =
     (x.events ≤ y.events o)
     × ((q e i : ℕ) → actual_at (instance_at (network_of t) o) q ≡ Reads e → i < count x.taken q → HoldsAt (network_of t) (inputs_of lists) y (Channel e) i)
@@ -56,7 +56,7 @@ module _ (b : Seats) (laid : HaveSeats b) where
   I = inputs_of b.input
 
   -- of the channel that it reads so many values were taken as the cell took
-  pub taken_there : (p q d : ℕ) (x : Told) → slice_get b.cells p ≡ Some x → actual_at (instance_at N p) q ≡ Reads d → taken_of (slice_get b.queues.queues d) ≡ count x.taken q
+  pub taken_there : (p q d : ℕ) (x : CellView) → slice_get b.cells p ≡ Some x → actual_at (instance_at N p) q ≡ Reads d → taken_of (slice_get b.queues.queues d) ≡ count x.taken q
   taken_there p q d x at e =
       let s = laid.each p x at in
       let own : actual_at (instance_at (network_of x.network) x.instance) q ≡ actual_at (instance_at N p) q =
@@ -74,7 +74,7 @@ module _ (b : Seats) (laid : HaveSeats b) where
   -- ---- what a pause tells
 
   module _ (c : Line) (k : ℕ) (d : Line) (j : ℕ) (demand : IsDemand b c k d j) (p : ℕ) (src : source N d ≡ Written p) (n : ℕ) (sent : HasSentSoMany b d n) (few : n ≤ j) where
-    less : (x : Told) → slice_get b.cells p ≡ Some x → (s : Stood b p x) → length (sent_on N x.events p s.tapes d) ≤ j
+    less : (x : CellView) → slice_get b.cells p ≡ Some x → (s : Stood b p x) → length (sent_on N x.events p s.tapes d) ≤ j
     less x at s = let e = sent p src x at s in omega (arith, e, few)
 
     -- it waits for a value that is wanted, and comes sooner
@@ -115,7 +115,7 @@ module _ (b : Seats) (laid : HaveSeats b) where
         by (inr w) s = let f : Given ≡ Written w.0 = sym s ∙ w.2 in absurd cc
 
     -- it is at an end, so there is none
-    over_by : (x : Told) → slice_get b.cells p ≡ Some x → (s : Stood b p x) → (o : Outcome Store) → (exec_on N x.events p s.tapes).outcome ≡ o → (o ≡ Unended → ⊥) →
+    over_by : (x : CellView) → slice_get b.cells p ≡ Some x → (s : Stood b p x) → (o : ScriptOutcome Store) → (exec_on N x.events p s.tapes).outcome ≡ o → (o ≡ Unended → ⊥) →
         ((q : ℕ) → o ≡ Dry q → ⊥) → (y : Cut) → HoldsIn b y c k → ⊥
     over_by x at s o is ended dry y there =
         stuck N I b.watch p (told_view x) s d src j (less x at s) y (demand.wanted y there) o is ended (λ q e. absurd (dry q e))
@@ -125,10 +125,10 @@ module _ (b : Seats) (laid : HaveSeats b) where
         let is : ending (exec_on N h.0.events p h.2.stood.tapes).outcome ≡ Some Ended = h.2.is in
         over_by h.0 h.1 h.2.stood (exec_on N h.0.events p h.2.stood.tapes).outcome refl (not_cut _ is) (not_dry _ is)
       where
-        not_cut : (o : Outcome Store) → ending o ≡ Some Ended → o ≡ Unended → ⊥
+        not_cut : (o : ScriptOutcome Store) → ending o ≡ Some Ended → o ≡ Unended → ⊥
         not_cut o e f = let g : None ≡ Some Ended = sym (ap ending f) ∙ e in cc
 
-        not_dry : (o : Outcome Store) → ending o ≡ Some Ended → (q : ℕ) → o ≡ Dry q → ⊥
+        not_dry : (o : ScriptOutcome Store) → ending o ≡ Some Ended → (q : ℕ) → o ≡ Dry q → ⊥
         not_dry o e q f = let g : Some (Waits_for q) ≡ Some Ended = sym (ap ending f) ∙ e in cc
 
     pub faulted : (z : Failure) → IsPausedAt b p (pause.Fault z) → (y : Cut) → HoldsIn b y c k → ⊥
@@ -136,10 +136,10 @@ module _ (b : Seats) (laid : HaveSeats b) where
         let is : ending (exec_on N h.0.events p h.2.stood.tapes).outcome ≡ Some (Faulted z) = h.2.is in
         over_by h.0 h.1 h.2.stood (exec_on N h.0.events p h.2.stood.tapes).outcome refl (not_cut _ is) (not_dry _ is)
       where
-        not_cut : (o : Outcome Store) → ending o ≡ Some (Faulted z) → o ≡ Unended → ⊥
+        not_cut : (o : ScriptOutcome Store) → ending o ≡ Some (Faulted z) → o ≡ Unended → ⊥
         not_cut o e f = let g : None ≡ Some (Faulted z) = sym (ap ending f) ∙ e in cc
 
-        not_dry : (o : Outcome Store) → ending o ≡ Some (Faulted z) → (q : ℕ) → o ≡ Dry q → ⊥
+        not_dry : (o : ScriptOutcome Store) → ending o ≡ Some (Faulted z) → (q : ℕ) → o ≡ Dry q → ⊥
         not_dry o e q f = let g : Some (Waits_for q) ≡ Some (Faulted z) = sym (ap ending f) ∙ e in cc
 
     -- ---- an event
@@ -162,13 +162,13 @@ module _ (b : Seats) (laid : HaveSeats b) where
             λ q e i r l. has_taken N I b.watch p (told_view a.old) before d src j (less a.old a.was before) y h (told_view a.new) after m q e r i l,
           )
 
-      on : (y : Cut) → HoldsAt N I y c k → (o : ℕ) (x : Told) → slice_get b'.cells o ≡ Some x → Needs_all b.network b.input y o x
+      on : (y : Cut) → HoldsAt N I y c k → (o : ℕ) (x : CellView) → slice_get b'.cells o ≡ Some x → Needs_all b.network b.input y o x
       on y there o x at =
           set_each (Needs_all b.network b.input y) b.cells p a.new (λ o' x' other at'. forced y there o' x' at') (one y there) o x (subst (λ l. slice_get l o ≡ Some x) a.cells at)
 
       pub forced_on : AreForced b' c k
       forced_on =
-          subst (λ (k' : Program × Lists). (y : Cut) → HoldsAt (network_of k'.0) (inputs_of k'.1) y c k → (o : ℕ) (x : Told) → slice_get b'.cells o ≡ Some x → Needs_all k'.0 k'.1 y o x)
+          subst (λ (k' : Program × Lists). (y : Cut) → HoldsAt (network_of k'.0) (inputs_of k'.1) y c k → (o : ℕ) (x : CellView) → slice_get b'.cells o ≡ Some x → Needs_all k'.0 k'.1 y o x)
           (λ i. (sym a.same.0 i, sym a.same.1 i)) on
 
 -- ---- the same demand later
@@ -240,7 +240,7 @@ paused_at b b' p z laid a =
 same_writer : {p r : ℕ} → Written p ≡ Written r → p ≡ r
 same_writer e = cc
 
-module _ {b n : Seats} (is : b ≡ n) (laid : HaveSeats b) (c : ℕ) (s : Side) (writer : IsWriter (network_of b.network) c s) {x : Told} (value : x ≡ slice_index_or b.cells s.instance x) where
+module _ {b n : Seats} (is : b ≡ n) (laid : HaveSeats b) (c : ℕ) (s : Side) (writer : IsWriter (network_of b.network) c s) {x : CellView} (value : x ≡ slice_index_or b.cells s.instance x) where
   cell_at : slice_get b.cells s.instance ≡ Some x
   cell_at = found refl laid s.instance writer.0.0 value
 
@@ -257,12 +257,12 @@ module _ {b n : Seats} (is : b ≡ n) (laid : HaveSeats b) (c : ℕ) (s : Side) 
   sent_here source_is p src x' at stood =
       let same : s.instance ≡ p = same_writer (sym source_is ∙ src) in
       let e : x ≡ x' = same_Some x x' (sym cell_at ∙ subst (λ i. slice_get b.cells i ≡ Some x') (sym same) at) in
-      stood.gave s.parameter c (subst (λ i. actual_at (instance_at (network_of b.network) i) s.parameter ≡ Writes c) same writer.1) ∙ ap (λ (y : Told). count y.sent s.parameter) (sym e)
+      stood.gave s.parameter c (subst (λ i. actual_at (instance_at (network_of b.network) i) s.parameter ≡ Writes c) same writer.1) ∙ ap (λ (y : CellView). count y.sent s.parameter) (sym e)
 
   pub sent_there : channel_source (network_of b.network) c ≡ Written s.instance → HasSentSoMany n (Channel c) (count x.sent s.parameter)
   sent_there source_is = subst (λ (y : Seats). HasSentSoMany y (Channel c) (count x.sent s.parameter)) is (sent_here source_is)
 
-pub printed_there : {b n : Seats} (is : b ≡ n) (laid : HaveSeats b) (p : ℕ) → p < length (network_of n.network).instances → {x : Told} → x ≡ slice_index_or b.cells p x →
+pub printed_there : {b n : Seats} (is : b ≡ n) (laid : HaveSeats b) (p : ℕ) → p < length (network_of n.network).instances → {x : CellView} → x ≡ slice_index_or b.cells p x →
     HasSentSoMany n (Print p) (length x.printed)
 printed_there {b} {n} is laid p here {x} value r src x' at stood =
     let same : p ≡ r = same_writer src in
@@ -271,4 +271,4 @@ printed_there {b} {n} is laid p here {x} value r src x' at stood =
     let e : x ≡ x' = same_Some x x' (sym at' ∙ at) in
     let line : sent_on (network_of n.network) x'.events r stood.tapes (Print p) ≡ map token_value x'.printed =
     subst (λ i. sent_on (network_of n.network) x'.events r stood.tapes (Print i) ≡ map token_value x'.printed) (sym same) (sym stood.printed.values) in
-    ap length line ∙ length-map x'.printed token_value ∙ ap (λ (y : Told). length y.printed) (sym e)
+    ap length line ∙ length-map x'.printed token_value ∙ ap (λ (y : CellView). length y.printed) (sym e)

@@ -25,7 +25,7 @@ use Rattle.kahn_code.proofs.Lists.{sent_stands, stand_in}
 use Rattle.kahn_code.proofs.Readers.{joins_within}
 use Rattle.kahn_code.specs.Cells.{AllStand, exec_on, sent_on}
 use Rattle.kahn_code.specs.Lines.{Waiting, given_of, next_at, taken_of}
-use Rattle.kahn_code.specs.Progress.{Told}
+use Rattle.kahn_code.specs.Progress.{CellView}
 use Rattle.kahn_code.specs.Standing.{count}
 use Rattle.kahn_needs.specs.Needs.{AreNeeds, Cut, Suffices, first_values, held_in}
 use Rattle.kahn_needs.specs.Laws.{IsMadeIn, of_input}
@@ -74,7 +74,7 @@ module _ (b : Seats) (laid : HaveSeats b) where
   abbrev I : Inputs
   I = inputs_of b.input
 
-  sent_there : (p q d : ℕ) (x : Told) → slice_get b.cells p ≡ Some x → actual_at (instance_at N p) q ≡ Writes d → is_output (role_at N d) ≡ false →
+  sent_there : (p q d : ℕ) (x : CellView) → slice_get b.cells p ≡ Some x → actual_at (instance_at N p) q ≡ Writes d → is_output (role_at N d) ≡ false →
       given_of (slice_get b.queues.queues d) ≡ count x.sent q
   sent_there p q d x at e inner =
       let s = laid.each p x at in
@@ -89,7 +89,7 @@ module _ (b : Seats) (laid : HaveSeats b) where
       let f : None ≡ Some g.0 = sym none ∙ g.1 in
       cc
 
-  did_by : (p : ℕ) (o : Option Told) → slice_get b.cells p ≡ o → Did b p
+  did_by : (p : ℕ) (o : Option CellView) → slice_get b.cells p ≡ o → Did b p
   did_by p (Some x) at =
       let s = (laid.each p x at).stood in
       record {
@@ -203,15 +203,15 @@ module _ (b : Seats) (laid : HaveSeats b) where
     -- ---- it is enough, and the least
 
     module _ (c : Line) (k : ℕ) (v : Value) (come : HasCome b c k) (value : HasValue b c k v) (forced : AreForced b c k) where
-      writer_there : (p : ℕ) → source N c ≡ Written p → (y : Told) × (slice_get b.cells p ≡ Some y) → slice_get (A c) k ≡ Some v
+      writer_there : (p : ℕ) → source N c ≡ Written p → (y : CellView) × (slice_get b.cells p ≡ Some y) → slice_get (A c) k ≡ Some v
       unfolding did_by did
       writer_there p s (y, at) = subst (λ l. slice_get l k ≡ Some v) (sym (A_is c (Written p) s)) (by (slice_get b.cells p) refl)
         where
-          by : (o : Option Told) (f : slice_get b.cells p ≡ o) → slice_get (sent_on N (did_by p o f).e p (did_by p o f).tapes c) k ≡ Some v
+          by : (o : Option CellView) (f : slice_get b.cells p ≡ o) → slice_get (sent_on N (did_by p o f).e p (did_by p o f).tapes c) k ≡ Some v
           by (Some z) f = value p s z f (laid.each p z f).stood
           by None f = let g : None ≡ Some y = sym f ∙ at in absurd cc
 
-      enough : (y : Told) → slice_get b.cells come.0 ≡ Some y → Suffices N I c k v x
+      enough : (y : CellView) → slice_get b.cells come.0 ≡ Some y → Suffices N I c k v x
       enough y at = (runs N I x A made c k v (writer_there come.0 come.1 (y, at))).suffices
 
       read_of : (d : ℕ) → source N (Channel d) ≡ Given → d < length N.channels → (p : ℕ) × (q : ℕ) × (actual_at (instance_at N p) q ≡ Reads d) × (p < length N.instances)
@@ -251,7 +251,7 @@ module _ (b : Seats) (laid : HaveSeats b) where
       within_events : (y : Cut) → HoldsAt N I y c k → (p : ℕ) → x.events p ≤ y.events p
       within_events y h p = by (slice_get b.cells p) refl
         where
-          by : (o : Option Told) → slice_get b.cells p ≡ o → x.events p ≤ y.events p
+          by : (o : Option CellView) → slice_get b.cells p ≡ o → x.events p ≤ y.events p
           by (Some z) at = let e = event_is p ∙ ap events_seen at in let f = (forced y h p z at).0 in omega (arith, e, f)
           by None at = let e = event_is p ∙ ap events_seen at in omega (arith, e)
 

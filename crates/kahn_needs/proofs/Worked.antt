@@ -15,7 +15,7 @@ use Rattle.kahn_streams.proofs.Framed.{Begins, begins_nil, begins_cons}
 use Rattle.kahn_streams.proofs.Runs.{ran}
 use Rattle.kahn_streams.proofs.Proved.{prefix_trans, prefix_get, values_append, script_at, chain, solves, out_grows, fits_all, iterates_rise}
 use Rattle.kahn_needs.specs.Needs.{Cut, Suffices, held_in, AreNeeds}
-use Rattle.kahn_needs.specs.Laws.{IsMadeIn, IsShortest, IsTakenBy, Wanted, IsForced, IsBegunWith, IsRaised, IsEnough, of_input, cut_of, NeedsAreFound}
+use Rattle.kahn_needs.specs.Laws.{IsMadeIn, IsShortest, IsTakenBy, NeededSoFar, IsForced, IsBegunWith, IsRaised, IsEnough, of_input, cut_of, NeedsAreFound}
 use Rattle.kahn_needs.proofs.Reaching.{Agree, AgreeAll, agree_below, agree_put, eqb_refl}
 use Rattle.kahn_needs.proofs.Needing.{take_below, take_length, Below, agree_tapes}
 use Rattle.kahn_needs.proofs.Told.{get_there, suffices_there, runs}
@@ -101,7 +101,7 @@ module _ (N : Network) (I : Inputs) (c : Line) (k : ℕ) (v : Value) (H : Histor
   stands_at : (d : Line) (j : ℕ) (w : Value) → slice_get (H d) j ≡ Some w → Stands N I d j w
   stands_at d j w e = let b = here d in (b.0, prefix_get _ _ b.1 j w e)
 
-  begins : (s : Wanted) → IsBegunWith c k s → IsForced N I c k v H s
+  begins : (s : NeededSoFar) → IsBegunWith c k s → IsForced N I c k v H s
   begins s b y h = (λ p. let e = b.events p in omega (arith, e), values)
     where
       values : (d : Line) (j : ℕ) (w : Value) → j < s.values d → slice_get (H d) j ≡ Some w → Suffices N I d j w y
@@ -112,7 +112,7 @@ module _ (N : Network) (I : Inputs) (c : Line) (k : ℕ) (v : Value) (H : Histor
           let f = g.1 in
           suffices_there N I d j w (stands_at d j w e) y h.0 (omega (arith, n, f))
 
-  raises : (s t : Wanted) (d : Line) (p j e : ℕ) → IsForced N I c k v H s → j < s.values d → j < length (H d) → source N d ≡ Written p →
+  raises : (s t : NeededSoFar) (d : Line) (p j e : ℕ) → IsForced N I c k v H s → j < s.values d → j < length (H d) → source N d ≡ Written p →
       IsShortest N p d j e H → IsRaised N H p e s t → IsForced N I c k v H t
   raises s t d p j e forced l there src short raised y h = (λ r. event r (raised.events r), λ x i w m f. value x i w f (raised.values x i m))
     where
@@ -140,7 +140,7 @@ module _ (N : Network) (I : Inputs) (c : Line) (k : ℕ) (v : Value) (H : Histor
 
   -- ---- the first values of H that are wanted are made by the cut that is wanted
 
-  module _ (s : Wanted) (forced : IsForced N I c k v H s) (enough : IsEnough N H s) (wanted : k < s.values c) where
+  module _ (s : NeededSoFar) (forced : IsForced N I c k v H s) (enough : IsEnough N H s) (wanted : k < s.values c) where
     firsts : Histories
     firsts d = take (s.values d) (H d)
 

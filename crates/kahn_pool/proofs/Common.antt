@@ -4,7 +4,7 @@ pub use Rattle.kahn_code.proofs.Lists.{at_last, stand_in}
 pub use Rattle.kahn_code.proofs.Readers.{driven, joins_parameter, joins_within}
 pub use Rattle.kahn_code.specs.Cells.{AllStand, StoodBy, View, exec_on, is_streamed}
 pub use Rattle.kahn_code.specs.Lines.{AreQueued, Joins, given_of}
-pub use Rattle.kahn_code.specs.Progress.{IsPause, Paused, AreCounts, Told, told_view}
+pub use Rattle.kahn_code.specs.Progress.{IsPause, Paused, AreCounts, CellView, told_view}
 pub use Rattle.kahn_code.specs.Standing.{count}
 pub use Rattle.kahn_code.specs.declared.{cell.Kept.Kept, progress.Pause.Pause}
 pub use Rattle.kahn_code.specs.inner.Gone.{Gone, nothing_gone}

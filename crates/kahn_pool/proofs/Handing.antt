@@ -1,6 +1,6 @@
 -- Jobs that go on from where the cells of a bench stand.
 use Rattle.std.proofs.Common.{arith, false, zero, suc, refl, [], ◌∷◌, ◌⊎◌, inl, inr, ◌<◌, ◌≤◌, ◌^◌, ◌≡◌, ℕ, ◌+◌, List, length, map, sym, ap, ◌∙◌, subst, Some, slice_get, slice_index_or, replicate, sum_by}
-use Rattle.kahn_pool.proofs.Common.{AreCounts, AreWhole, Lists, cell_for, seated_with, vacant_of, HaveFewTokens, AreQueued, MayRun, Round, RunState, View, cases_lt, events_at, given_of, length-map, prefix_refl, none_of, network_of, instance_at, actual_at, role_at, Actual, Reads, Writes, is_output, AreInputsExtended, inputs_of, Told, Gone, nothing_gone, Tapped, IsIdle, AreJobsAt, AreSamePlaces, StandsByQueue, cells_of, rows_of, row_there, settled_rest, end_at, end_in, Work, AllStandBy, AreHeld, HaveSettled, view_events, told_view, IsLaid, Table, all_events, gone_in, sight_of}
+use Rattle.kahn_pool.proofs.Common.{AreCounts, AreWhole, Lists, cell_for, seated_with, vacant_of, HaveFewTokens, AreQueued, MayRun, Round, RunState, View, cases_lt, events_at, given_of, length-map, prefix_refl, none_of, network_of, instance_at, actual_at, role_at, Actual, Reads, Writes, is_output, AreInputsExtended, inputs_of, CellView, Gone, nothing_gone, Tapped, IsIdle, AreJobsAt, AreSamePlaces, StandsByQueue, cells_of, rows_of, row_there, settled_rest, end_at, end_in, Work, AllStandBy, AreHeld, HaveSettled, view_events, told_view, IsLaid, Table, all_events, gone_in, sight_of}
 use Rattle.kahn_sequential.proofs.Benched.{get_map, mapped, actual_same, seated_at, sent_there, taken_there, viewed}
 use Rattle.kahn_sequential.proofs.Righted.{events_seen}
 use Rattle.kahn_sequential.proofs.Turns.{turn_bound}
@@ -45,7 +45,7 @@ module _ (b : Table) (laid : IsLaid b) (ws : List Work) (jobs : AreJobsAt b.netw
         }
 
     many : length us ≡ length (network_of b.network).instances
-    many = sym (length-map us (λ (w : Work). w.cell)) ∙ ap (λ (l : List Told). length l) cells ∙ laid.count
+    many = sym (length-map us (λ (w : Work). w.cell)) ∙ ap (λ (l : List CellView). length l) cells ∙ laid.count
 
     pub handed : AllStandBy b.network b.watch b.cells → (left : ℕ) → AreHeld b.network b.input b.watch (left + all_events (sight_of b)) us left
     handed stood left = record {
@@ -60,7 +60,7 @@ module _ (b : Table) (laid : IsLaid b) (ws : List Work) (jobs : AreJobsAt b.netw
     }
 
 -- what an instance wrote it sent, by an event each
-module _ (b : Table) (laid : IsLaid b) (counted : AreQueued b.queues) (counts : (p : ℕ) (c : Told) → slice_get b.cells p ≡ Some c → AreCounts c) (few : (p : ℕ) → events_at (sight_of b) p < 2 ^ 48) where
+module _ (b : Table) (laid : IsLaid b) (counted : AreQueued b.queues) (counts : (p : ℕ) (c : CellView) → slice_get b.cells p ≡ Some c → AreCounts c) (few : (p : ℕ) → events_at (sight_of b) p < 2 ^ 48) where
   few_written : (p q d : ℕ) → p < length (network_of b.network).instances → actual_at (instance_at (network_of b.network) p) q ≡ Writes d →
       is_output (role_at (network_of b.network) d) ≡ false → given_of (slice_get b.queues.queues d) ≤ 2 ^ 48
   few_written p q d here e inner =
@@ -88,14 +88,14 @@ pub few_events : (s : RunState) (r : Round) → MayRun s r → (p : ℕ) → eve
 few_events s r may p = let most = turn_bound s r p may in omega (arith, most)
 
 -- the cells of this input for this input
-pub same_input : (lists : Lists) (cells : List Told) → ((p : ℕ) (c : Told) → slice_get cells p ≡ Some c → c.input ≡ lists) → map (cell_for lists) cells ≡ cells
+pub same_input : (lists : Lists) (cells : List CellView) → ((p : ℕ) (c : CellView) → slice_get cells p ≡ Some c → c.input ≡ lists) → map (cell_for lists) cells ≡ cells
 same_input lists [] h = refl
 same_input lists (c ∷ cells) h =
-    ap (λ (d : Told). d ∷ map (cell_for lists) cells) (λ i. record c { input = sym (h zero c refl) i }) ∙ ap (λ l. c ∷ l) (same_input lists cells (λ p d e. h (suc p) d e))
+    ap (λ (d : CellView). d ∷ map (cell_for lists) cells) (λ i. record c { input = sym (h zero c refl) i }) ∙ ap (λ l. c ∷ l) (same_input lists cells (λ p d e. h (suc p) d e))
 
 -- a bench whose cells came back as they were
-pub seated_again : (b : Table) → IsLaid b → AreWhole (length (network_of b.network).instances) b.gone → (cells : List Told) → cells ≡ b.cells → seated_with (vacant_of b) cells ≡ b
+pub seated_again : (b : Table) → IsLaid b → AreWhole (length (network_of b.network).instances) b.gone → (cells : List CellView) → cells ≡ b.cells → seated_with (vacant_of b) cells ≡ b
 seated_again b laid whole cells same = λ i. record b { cells = same i; gone = gone i }
   where
     gone : replicate (length cells) nothing_gone ≡ b.gone
-    gone = ap (λ n. replicate n nothing_gone) (ap (λ (l : List Told). length l) same ∙ laid.count) ∙ sym whole
+    gone = ap (λ n. replicate n nothing_gone) (ap (λ (l : List CellView). length l) same ∙ laid.count) ∙ sym whole

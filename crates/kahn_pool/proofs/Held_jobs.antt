@@ -1,6 +1,6 @@
 -- The jobs of a held run: how they become tasks, and how tasks come to rest.
 use Rattle.std.proofs.Common.{false, true, IsOk, arith, ◌≡◌, ℕ, ◌+◌, List, length, map, sum_by, sym, ap, ◌∙◌, subst, Some, slice_get, Bool, Option, Result, Err}
-use Rattle.kahn_pool.proofs.Common.{length-map, Program, network_of, AreInputsExtended, Lists, inputs_of, StoodBy, Told, told_view, AreIdle, AreJoinedJobs, HaveMet, cells_of, rows_of, AreJoinedOn, IsJob, Work, all_idle, idle_grown, idle_met, events_told, woken_task, Tasked, AreUntouched, HaveGone, task_events, told_tale, work_of, all_told, at_mapped, mapped_at, IsConcluded, seen_of, AreEnded, AreHeld, AreHeldBy, HasEnded, HasRisen, HasStoppedPart, HaveRisen, cell_alone, cell_for, held_state, cell_of, RunState, Verdict, RunPart, Stopped, IsLack, CrewFault, NoMemory, IsWellWired, HaveChanged, SettlesTo, view_events, seen_events, same_Some, prefix_refl, AllStandBy}
+use Rattle.kahn_pool.proofs.Common.{length-map, Program, network_of, AreInputsExtended, Lists, inputs_of, StoodBy, CellView, told_view, AreIdle, AreJoinedJobs, HaveMet, cells_of, rows_of, AreJoinedOn, IsJob, Work, all_idle, idle_grown, idle_met, events_told, woken_task, Tasked, AreUntouched, HaveGone, task_events, told_tale, work_of, all_told, at_mapped, mapped_at, IsConcluded, seen_of, AreEnded, AreHeld, AreHeldBy, HasEnded, HasRisen, HasStoppedPart, HaveRisen, cell_alone, cell_for, held_state, cell_of, RunState, Verdict, RunPart, Stopped, IsLack, CrewFault, NoMemory, IsWellWired, HaveChanged, SettlesTo, view_events, seen_events, same_Some, prefix_refl, AllStandBy}
 use Rattle.kahn_streams.specs.declared.answer.End.{End as RunEnd}
 use Rattle.kahn_sequential.proofs.Righted.{events_seen}
 use Rattle.kahn_sequential.proofs.Lists.{map_map, sum_over, map_changed}
@@ -19,8 +19,8 @@ module _ {t : Program} (wired : IsWellWired t) {lists : Lists} {watch : Option �
   cells_after = cells_new ∙ over.cells_same gone asked
 
   -- the cell of a job is that of the task that was asked
-  cell_at : (p : ℕ) (c : Told) → slice_get (cells_of ws) p ≡ Some c → (x : Tasked) × (slice_get new p ≡ Some x) × (c ≡ x.work.cell)
-  cell_at p c e = mapped_at cell_of new p c (subst (λ (l : List Told). slice_get l p ≡ Some c) cells_new e)
+  cell_at : (p : ℕ) (c : CellView) → slice_get (cells_of ws) p ≡ Some c → (x : Tasked) × (slice_get new p ≡ Some x) × (c ≡ x.work.cell)
+  cell_at p c e = mapped_at cell_of new p c (subst (λ (l : List CellView). slice_get l p ≡ Some c) cells_new e)
 
   together : AreJoinedJobs t lists ws
   together = record {
@@ -30,9 +30,9 @@ module _ {t : Program} (wired : IsWellWired t) {lists : Lists} {watch : Option �
         let o = over.of_new gone asked p x.0 x.1 in
         let c = ap (λ (z : Work). z.cell) x.2 in (
           subst IsJob (sym x.2) (over.settled_new gone asked p x.0 x.1).job,
-          ap (λ (c : Told). c.network) c ∙ o.network,
-          ap (λ (c : Told). c.input) c ∙ o.input,
-          ap (λ (c : Told). c.instance) c ∙ o.instance,
+          ap (λ (c : CellView). c.network) c ∙ o.network,
+          ap (λ (c : CellView). c.input) c ∙ o.input,
+          ap (λ (c : CellView). c.instance) c ∙ o.instance,
         );
     joined = λ d. subst (λ l. AreJoinedOn (network_of t) (rows_of l) d) (sym same) (over.joined_new gone asked d);
   }
@@ -40,11 +40,11 @@ module _ {t : Program} (wired : IsWellWired t) {lists : Lists} {watch : Option �
   pub held_after : AreHeld t lists watch bound ws budget
   held_after = record {
     idle = all_idle t lists ws together;
-    watched = λ p c e. let x = cell_at p c e in ap (λ (d : Told). d.watch) x.2 ∙ (over.of_new gone asked p x.0 x.1).watched;
+    watched = λ p c e. let x = cell_at p c e in ap (λ (d : CellView). d.watch) x.2 ∙ (over.of_new gone asked p x.0 x.1).watched;
     stood = λ p c e.
         let x = cell_at p c e in
         let says = rests.says_here t wired lists watch new (over.tasks_new gone asked) (over.settled_new gone asked) p x.0 x.1 in
-        subst (λ (d : Told). StoodBy (network_of t) (inputs_of d.input) watch p (told_view d)) (sym x.2)
+        subst (λ (d : CellView). StoodBy (network_of t) (inputs_of d.input) watch p (told_view d)) (sym x.2)
         (subst (λ l. StoodBy (network_of t) (inputs_of l) watch p (told_view x.0.work.cell)) (sym (over.of_new gone asked p x.0 x.1).input) says.stood);
     events = ap (λ n. budget + n) (events_seen (cells_of ws)) ∙ ap (λ cs. budget + sum_by view_events (map told_view cs)) cells_new ∙ over.events_new gone asked;
   }
@@ -64,7 +64,7 @@ pub woken_events : {t : Program} {lists : Lists} {watch : Option ℕ} {bound : �
 woken_events {lists = lists} {ws = ws} {budget = budget} h same =
     ap (λ (l : List Tasked). budget + events_told told_tale l) same
     ∙ ap (λ n. budget + n) (sym (all_told (map (woken_task lists) ws)) ∙ sum_over task_events (woken_task lists) ws
-    ∙ sym (sum_over seen_events seen_of (cells_of ws) ∙ sum_over (λ (c : Told). c.events) (λ (w : Work). w.cell) ws)) ∙ h.events
+    ∙ sym (sum_over seen_events seen_of (cells_of ws) ∙ sum_over (λ (c : CellView). c.events) (λ (w : Work). w.cell) ws)) ∙ h.events
 
 module _ {t : Program} {lists : Lists} {watch : Option ℕ} {bound : ℕ} {ws : List Work} {budget : ℕ} (h : AreHeld t lists watch bound ws budget)
     {tasks : List Tasked} (woken : tasks ≡ map (woken_task lists) ws) {old : List Tasked} {total left : ℕ} (gone : HaveGone t lists watch total tasks old left)
@@ -72,14 +72,14 @@ module _ {t : Program} {lists : Lists} {watch : Option ℕ} {bound : ℕ} {ws : 
   pub have_risen : HaveRisen (cells_of ws) (cells_of us)
   have_risen p c d e f =
       let w = mapped_at (λ (w : Work). w.cell) ws p c e in
-      let y = mapped_at cell_of old p d (subst (λ (l : List Told). slice_get l p ≡ Some d) cells f) in
+      let y = mapped_at cell_of old p d (subst (λ (l : List CellView). slice_get l p ≡ Some d) cells f) in
       let first = subst (λ (l : List Tasked). slice_get l p ≡ Some (woken_task lists w.0)) (sym woken) (at_mapped (woken_task lists) ws p w.0 w.1) in
       let l = gone.later p (woken_task lists w.0) y.0 first y.1 in
       let risen : HasRisen w.0.cell y.0.work.cell = record {
         events = l.events;
         input = subst (λ i. AreInputsExtended (inputs_of w.0.cell.input) (inputs_of i)) (sym l.input) (h.idle.each p w.0 w.1).grown;
       } in
-      subst (λ (z : Told). HasRisen z d) (sym w.2) (subst (HasRisen w.0.cell) (sym y.2) risen)
+      subst (λ (z : CellView). HasRisen z d) (sym w.2) (subst (HasRisen w.0.cell) (sym y.2) risen)
 
   pub cells_still : {more : ℕ} → AreUntouched more tasks old left → cells_of us ≡ map (cell_for lists) (cells_of ws)
   cells_still u =
@@ -91,7 +91,7 @@ module _ {t : Program} {lists : Lists} {watch : Option ℕ} {bound : ℕ} {ws : 
 
 -- ---- jobs whose cells are as they were
 
-pub risen_here : (cells : List Told) → HaveRisen cells cells
+pub risen_here : (cells : List CellView) → HaveRisen cells cells
 risen_here cells p c d e f = subst (HasRisen c) (same_Some c d (sym e ∙ f)) (record { events = omega arith; input = λ k. prefix_refl (inputs_of c.input k) })
 
 -- but for their inputs
@@ -110,7 +110,7 @@ module _ {t : Program} {lists : Lists} {watch : Option ℕ} {bound : ℕ} {ws : 
   pub held_alike : (us : List Work) → cells_of us ≡ cells_of ws → AreIdle t lists us → AreHeld t lists watch bound us budget
   held_alike us same idle = record {
     idle = idle;
-    watched = subst (λ cells. (p : ℕ) (c : Told) → slice_get cells p ≡ Some c → c.watch ≡ watch) (sym same) h.watched;
+    watched = subst (λ cells. (p : ℕ) (c : CellView) → slice_get cells p ≡ Some c → c.watch ≡ watch) (sym same) h.watched;
     stood = subst (AllStandBy t watch) (sym same) h.stood;
     events = ap (λ cs. budget + sum_by seen_events (map seen_of cs)) same ∙ h.events;
   }

@@ -1,6 +1,6 @@
 -- What the cells of jobs keep.
 use Rattle.std.proofs.Common.{List, length, ap, ◌∙◌}
-use Rattle.kahn_pool.proofs.Common.{length-map, Program, network_of, Lists, Kept, Told, AreIdle, cells_of, Work, mapped_at, AreLists, AreKeptOf, count, idle}
+use Rattle.kahn_pool.proofs.Common.{length-map, Program, network_of, Lists, Kept, CellView, AreIdle, cells_of, Work, mapped_at, AreLists, AreKeptOf, count, idle}
 use Rattle.kahn_sequential.proofs.Kept.{lists_of_cells}
 
 pub idle_lists : {A : Type 0} (t : Program) (lists : Lists) (ws : List Work) → AreIdle t lists ws → (kept : List (Kept A)) → AreKeptOf (cells_of ws) kept →
@@ -10,5 +10,5 @@ idle_lists t lists ws idle kept h =
     (λ p c e.
     let w = mapped_at (λ (w : Work). w.cell) ws p c e in
     let o = idle.each p w.0 w.1 in
-    (ap (λ (d : Told). d.network) w.2 ∙ o.network, ap (λ (d : Told). d.instance) w.2 ∙ o.instance))
+    (ap (λ (d : CellView). d.network) w.2 ∙ o.network, ap (λ (d : CellView). d.instance) w.2 ∙ o.instance))
     kept h

@@ -1,9 +1,9 @@
 -- A run that is over.
 use Rattle.std.proofs.Common.{true≢false, arith, ◌≡◌, ◌⊎◌, inl, inr, ℕ, ◌+◌, ◌^◌, ◌<◌, ◌≤◌, Bool, true, List, [], length, map, sum_by, sym, ap, ◌∙◌, subst, Option, Some, slice_get}
-use Rattle.kahn_pool.proofs.Common.{length-map, Program, network_of, IsWellWired, Lists, count, told_view, end_at, AreBehindOn, AreJoinedOn, end_in, Work, same_lanes, Tasked, handed_to_task, is_over, task_rows, work_of, AreAll, HaveGone, IsQuietTask, IsOver, task_events, AreEndsOfTasks, IsSettledTask, IsToldAs, SettlesTo, cell_of, Verdict, IsVerdict, HasEndIn, view_events, IsConcluded, get_or_from_slice_get, get_or-le-sum_by, HaveChanged, cases_lt, get_or_past, all_events, Told}
+use Rattle.kahn_pool.proofs.Common.{length-map, Program, network_of, IsWellWired, Lists, count, told_view, end_at, AreBehindOn, AreJoinedOn, end_in, Work, same_lanes, Tasked, handed_to_task, is_over, task_rows, work_of, AreAll, HaveGone, IsQuietTask, IsOver, task_events, AreEndsOfTasks, IsSettledTask, IsToldAs, SettlesTo, cell_of, Verdict, IsVerdict, HasEndIn, view_events, IsConcluded, get_or_from_slice_get, get_or-le-sum_by, HaveChanged, cases_lt, get_or_past, all_events, CellView}
 use Rattle.kahn_streams.specs.declared.answer.End.{End}
 use Rattle.kahn_sequential.proofs.Benched.{got, within_get}
-use Rattle.kahn_job.specs.inner.Ends.{End as LaneEnd}
+use Rattle.kahn_job.specs.inner.Ends.{TaskEnd as LaneEnd}
 use Rattle.kahn_sequential.proofs.Lists.{old_item, map_changed, sum_over}
 use Rattle.kahn_job.specs.declared.standing.TaskStanding.TheVariants as standing
 use Rattle.kahn_streams.specs.declared.answer.Outcome.TheVariants as outcome
@@ -99,7 +99,7 @@ module _ {t : Program} {lists : Lists} {watch : Option ℕ} {bound : ℕ} {first
     pub events_new : budget + all_events (state_of_tasks t lists watch new) ≡ bound
     events_new =
         let a = gone.events in
-        let b = ap (λ cs. sum_by view_events (map told_view cs)) cells_same ∙ sum_over view_events told_view (map cell_of old) ∙ sum_over (λ (c : Told). c.events) cell_of old in
+        let b = ap (λ cs. sum_by view_events (map told_view cs)) cells_same ∙ sum_over view_events told_view (map cell_of old) ∙ sum_over (λ (c : CellView). c.events) cell_of old in
         omega (arith, a, b)
 
     pub over_new : {halted : Bool} → IsOver t lists old budget halted → IsOver t lists new budget halted

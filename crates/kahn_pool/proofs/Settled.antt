@@ -1,7 +1,7 @@
 -- Tasks that are asked what comes next.
 use Rattle.std.proofs.Common.{arith, ◌≡◌, ◌⊎◌, inl, inr, ℕ, ◌+◌, ◌<◌, ◌≤◌, List, length, refl, sym, subst}
 use Rattle.kahn_pool.proofs.Common.{network_of, Store, inputs_of, Pause, Paused, IsPause, told_view, IsReady, IsWithinInput, end_at, no_end, Work, TaskStanding, Tasked, Continues, IsTrueOf, standing_after, past_none, IsSaid, IsSettledTask, SettlesTo}
-use Rattle.kahn_job.specs.inner.Ends.{End}
+use Rattle.kahn_job.specs.inner.Ends.{TaskEnd}
 use Rattle.kahn_streams.specs.Script as script
 use Rattle.kahn_code.specs.declared.progress.Pause.TheVariants as pause
 use Rattle.kahn_job.specs.declared.standing.TaskStanding.TheVariants as standing
@@ -11,7 +11,7 @@ use Rattle.kahn_job.specs.declared.standing.TaskStanding.TheVariants as standing
 nothing_fed : IsWithinInput no_end
 nothing_fed t lists d none name ready = absurd (omega (arith, ready))
 
-pub fed_all : (es : List End) (n : ℕ) → length es ≡ n → ((q : ℕ) → q < n → IsWithinInput (end_at es q)) → (q : ℕ) → IsWithinInput (end_at es q)
+pub fed_all : (es : List TaskEnd) (n : ℕ) → length es ≡ n → ((q : ℕ) → q < n → IsWithinInput (end_at es q)) → (q : ℕ) → IsWithinInput (end_at es q)
 fed_all es n is h q = by (past_none es q)
   where
     by : (q < length es) ⊎ (end_at es q ≡ no_end) → IsWithinInput (end_at es q)

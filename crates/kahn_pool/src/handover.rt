@@ -8,13 +8,17 @@ ghost use Rattle.std.specs.Prelude.{◌≡◌, ◌<◌, ◌≤◌, ◌+◌, ◌^
 
 use kahn_code::Tap;
 use kahn_job::{Idle, jobs_at, seat, unseat};
-use kahn_sequential::{Bench, Vacant};
+use kahn_sequential::{Sequential, Vacant};
 use kahn_streams::{Input, NoMemory};
 use std::alloc::Global;
 
 /// Jobs that stand where the queues of a bench stand, with copies of the tokens that wait there, for `hand_over`. The bench stays as it is.
 /// Fails only if memory was refused.
-pub(crate) fn lanes(bench: &Bench<'_>, alloc: Global, input: &Input) -> Result<Vec<Idle>, NoMemory>
+pub(crate) fn lanes(
+    bench: &Sequential<'_>,
+    alloc: Global,
+    input: &Input,
+) -> Result<Vec<Idle>, NoMemory>
     requires input { bench.now.input ≡ input.now }
     requires few { (p : ℕ) → events_at (sight_of bench.now) p < 2 ^ 48 }
     ensures { IfOk result (λ idles. AreJobsAt bench.now.network bench.now.input bench.now.queues.queues idles.items) }
@@ -33,7 +37,7 @@ pub(crate) fn lanes(bench: &Bench<'_>, alloc: Global, input: &Input) -> Result<V
 
 /// The bench without its processes, and jobs that go on from where these stand, which have let go of nothing: the jobs that are
 /// given get their cells. Never allocates.
-pub(crate) fn hand_over<'n>(bench: Bench<'n>, mut idles: Vec<Idle>) -> (Vacant<'n>, Vec<Idle>)
+pub(crate) fn hand_over<'n>(bench: Sequential<'n>, mut idles: Vec<Idle>) -> (Vacant<'n>, Vec<Idle>)
     requires whole { AreWhole (length (network_of bench.network).instances) bench.gone }
     requires jobs { AreJobsAt bench.network bench.input bench.queues.queues idles.items }
     ensures laid { IsLaid bench.entry }
@@ -49,7 +53,7 @@ pub(crate) fn hand_over<'n>(bench: Bench<'n>, mut idles: Vec<Idle>) -> (Vacant<'
 }
 
 /// The bench with the cells of jobs that stand where its queues stand. The list that is given has room for all. Never allocates.
-pub(crate) fn taken_back<'n>(vacant: Vacant<'n>, idles: Vec<Idle>, taps: Vec<Tap>) -> Bench<'n>
+pub(crate) fn taken_back<'n>(vacant: Vacant<'n>, idles: Vec<Idle>, taps: Vec<Tap>) -> Sequential<'n>
     requires laid { IsLaid (seated_with vacant (cells_of idles.items)) }
     requires room { (taps.items ≡ []) × (length idles.items ≤ vec_capacity taps) }
     ensures { result ≡ seated_with vacant.entry (cells_of idles.items) }

@@ -12,7 +12,7 @@ use crate::part::PartRoom;
 use crate::workers::{HandRoom, run_on_workers, run_workers};
 use kahn_crew::Crewing;
 use kahn_sequential::{
-    Bench, QUANTUM, answered, finished_exactly, plan_of, room_for_answer, run_on_alone,
+    QUANTUM, Sequential, answered, finished_exactly, plan_of, room_for_answer, run_on_alone,
     run_until_wide, run_watched,
 };
 use kahn_streams::{Answer, Config, Gate, Input, Network, NoMemory, RunFault};
@@ -35,7 +35,7 @@ fn hand_room(
     alloc: Global,
     network: &Network,
     input: &Input,
-    bench: &Bench<'_>,
+    bench: &Sequential<'_>,
 ) -> Result<HandRoom, NoMemory>
     requires names { (bench.now.network ≡ network.now) × (bench.now.input ≡ input.now) }
     requires may { (r : RoundOf) × MayRun (sight_of bench.now) r }
@@ -68,7 +68,7 @@ fn run_first<R: Threads + Wait + Sync, G: Gate + Sync>(
     let Ok(ends) = Vec::with_capacity(alloc, network.instances()) else {
         return Err(RunFault::NoMemory);
     };
-    let mut bench = Bench::new(alloc, network, input, most.watch)?;
+    let mut bench = Sequential::new(alloc, network, input, most.watch)?;
     let (streams, kept) = room_for_answer(alloc, network, input, most.watch)?;
     let plan = most.plan(bound);
     let blank = Blank::new(1);

@@ -12,7 +12,7 @@ use crate::plan::RunPart;
 use kahn_code::{Kept, Tap, compile};
 use kahn_crew::{CrewFault, Crewing};
 use kahn_job::Idle;
-use kahn_sequential::{Bench, Round, fill, room_for_answer, run_on_alone};
+use kahn_sequential::{Round, Sequential, fill, room_for_answer, run_on_alone};
 use kahn_streams::{Answer, Gate, Input, Network, RunFault, Stream};
 use std::alloc::Global;
 use std::sync::Wait;
@@ -126,7 +126,7 @@ pub(crate) fn run_on_workers<R: Threads + Wait + Sync, G: Gate + Sync>(
     alloc: Global,
     network: &Network,
     input: &Input,
-    bench: Bench<'_>,
+    bench: Sequential<'_>,
     round: Round,
     streams: Vec<Stream>,
     kept: Vec<Kept>,

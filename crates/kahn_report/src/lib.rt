@@ -15,6 +15,6 @@ pub use working::work;
 // For the crates above.
 pub use kahn_fault::checked;
 pub use kahn_texts::{
-    LineFault, MOST_BYTES, channel_name, process_name, read_entries, read_line, write_closing,
+    EntryFault, MOST_BYTES, channel_name, process_name, read_entries, read_line, write_closing,
     write_line, write_line_counted, write_news, write_plain,
 };

@@ -1,8 +1,8 @@
 -- Cells that stand where their queues stand.
 use Rattle.std.proofs.Common.{Option, arith, ◌≡◌, inl, inr, ℕ, ◌+◌, ◌<◌, ◌≤◌, List, length, map, refl, sym, ap, ◌∙◌, subst, Some, slice_get, slice_set, slice_index_or, false, length-set, ◌⊎◌}
-use Rattle.kahn_sequential.proofs.Common.{Program, Lists, map-set_same, map-set, get_or_from_slice_get, slice_get_read, Network, Reads, Writes, network_of, instance_at, actual_at, role_at, IsFed, reads, reads_listed, Channel, Inputs, source, inputs_of, View, exec_on, is_output, AreQueued, queue_of, actual_here, place_at, next_at, taken_of, given_of, waiting_of, Waiting, Site, LeavesOthers, count, Told, told_view, site_of, IsAt, IsStill, set_each, set_here, joins_within, IsGiven, TookNoMore, TookAll, view_at, no_view, RunState, PausedAt, Value, Table, IsLaid, IsSeated, sight_of, Pause, IsPause, dry_reads, Store, IsPaused, Cut, Dry, HasRunCell, length-map}
+use Rattle.kahn_sequential.proofs.Common.{Program, Lists, map-set_same, map-set, get_or_from_slice_get, slice_get_read, Network, Reads, Writes, network_of, instance_at, actual_at, role_at, IsFed, reads, reads_listed, Channel, Inputs, source, inputs_of, View, exec_on, is_output, AreQueued, queue_of, actual_here, place_at, next_at, taken_of, given_of, waiting_of, Waiting, Site, LeavesOthers, count, CellView, told_view, site_of, IsAt, IsStill, set_each, set_here, joins_within, IsGiven, TookNoMore, TookAll, view_at, no_view, RunState, PausedAt, Value, Table, IsLaid, IsSeated, sight_of, Pause, IsPause, dry_reads, Store, IsPaused, Cut, Dry, HasRunCell, length-map}
 pub use Rattle.kahn_streams.proofs.By_number.{there as got, within as within_get, mapped as get_map}
-use Rattle.kahn_streams.specs.Script.{Outcome}
+use Rattle.kahn_streams.specs.Script.{ScriptOutcome}
 use Rattle.kahn_code.specs.Lines.{Lines as Queues}
 use Rattle.kahn_code.specs.declared.progress.Pause.TheVariants as pause
 use Rattle.kahn_code.specs.Progress as code
@@ -24,27 +24,27 @@ module _ (b : Table) (laid : IsLaid b) where
   abbrev views : List View
   views = map told_view b.cells
 
-  pub seated_at : (p : ℕ) → p < length N.instances → (c : Told) × (slice_get b.cells p ≡ Some c) × IsSeated b p c
+  pub seated_at : (p : ℕ) → p < length N.instances → (c : CellView) × (slice_get b.cells p ≡ Some c) × IsSeated b p c
   seated_at p l =
       let g = got b.cells p (subst (λ n. p < n) (sym laid.count) l) in
       (g.0, g.1, laid.each p g.0 g.1)
 
-  pub viewed : (p : ℕ) (c : Told) → slice_get b.cells p ≡ Some c → view_at views p ≡ told_view c
+  pub viewed : (p : ℕ) (c : CellView) → slice_get b.cells p ≡ Some c → view_at views p ≡ told_view c
   viewed p c e = mapped told_view b.cells p c no_view e
 
-  pub actual_same : (p q : ℕ) (c : Told) → IsSeated b p c → actual_at (instance_at (network_of c.network) c.instance) q ≡ actual_at (instance_at N p) q
+  pub actual_same : (p q : ℕ) (c : CellView) → IsSeated b p c → actual_at (instance_at (network_of c.network) c.instance) q ≡ actual_at (instance_at N p) q
   actual_same p q c s =
       ap (λ t. actual_at (instance_at (network_of t) c.instance) q) s.network ∙ ap (λ i. actual_at (instance_at N i) q) s.instance
 
   place_same : (p q : ℕ) → place_at b.queues p q ≡ next_at b.queues.queues (actual_at (instance_at N p) q)
   place_same p q = ap (λ t. next_at b.queues.queues (actual_at (instance_at (network_of t) p) q)) laid.network
 
-  pub taken_there : (p q d : ℕ) (c : Told) → IsSeated b p c → actual_at (instance_at N p) q ≡ Reads d →
+  pub taken_there : (p q d : ℕ) (c : CellView) → IsSeated b p c → actual_at (instance_at N p) q ≡ Reads d →
       taken_of (slice_get b.queues.queues d) ≡ count c.taken q
   taken_there p q d c s e =
       sym (ap (next_at b.queues.queues) e) ∙ sym (place_same p q) ∙ s.at.reads q d (actual_same p q c s ∙ e)
 
-  pub sent_there : (p q d : ℕ) (c : Told) → IsSeated b p c → actual_at (instance_at N p) q ≡ Writes d → is_output (role_at N d) ≡ false →
+  pub sent_there : (p q d : ℕ) (c : CellView) → IsSeated b p c → actual_at (instance_at N p) q ≡ Writes d → is_output (role_at N d) ≡ false →
       given_of (slice_get b.queues.queues d) ≡ count c.sent q
   sent_there p q d c s e inner =
       sym (ap (next_at b.queues.queues) e) ∙ sym (place_same p q) ∙
@@ -108,17 +108,17 @@ module _ (b : Table) (laid : IsLaid b) where
 -- ---- a cell runs
 
 -- the same program, input, instance and watched channel
-abbrev pub IsSame : Told → Told → Type 0
+abbrev pub IsSame : CellView → CellView → Type 0
 IsSame old new = (new.network ≡ old.network) × (new.input ≡ old.input) × (new.instance ≡ old.instance) × (new.watch ≡ old.watch)
 
-abbrev pub ran : Table → ℕ → Told → Queues → Table
+abbrev pub ran : Table → ℕ → CellView → Queues → Table
 ran b p c q = record { network = b.network; input = b.input; watch = b.watch; code = b.code; cells = slice_set b.cells p c; gone = b.gone; queues = q }
 
 -- the queues as the ports of instance p
 abbrev pub ports_of : Queues → Site
 ports_of q = record { network = q.network; input = q.input; instance = q.instance }
 
-pub laid_after : (b : Table) → IsLaid b → (p : ℕ) (c c' : Told) (q : Queues) → slice_get b.cells p ≡ Some c → IsSame c c' →
+pub laid_after : (b : Table) → IsLaid b → (p : ℕ) (c c' : CellView) (q : Queues) → slice_get b.cells p ≡ Some c → IsSame c c' →
     ports_of q ≡ site_of c' → IsAt c' (λ r. next_at q.queues (actual_at (instance_at (network_of q.network) q.instance) r)) →
     LeavesOthers (record { network = b.queues.network; input = b.queues.input; instance = p }) (place_at b.queues) (place_at q) → IsLaid (ran b p c' q)
 laid_after b laid p c c' q at same site stands leaves = record {
@@ -145,7 +145,7 @@ laid_after b laid p c c' q at same site stands leaves = record {
       at = subst (λ i. IsAt c' (λ r. next_at q.queues (actual_at (instance_at (network_of q.network) i) r))) is stands;
     }
 
-    others : (o : ℕ) (d : Told) → (o ≡ p → ⊥) → slice_get b.cells o ≡ Some d → IsSeated (ran b p c' q) o d
+    others : (o : ℕ) (d : CellView) → (o ≡ p → ⊥) → slice_get b.cells o ≡ Some d → IsSeated (ran b p c' q) o d
     others o d n e =
         let s : IsSeated b o d = laid.each o d e in
         record {
@@ -161,21 +161,21 @@ laid_after b laid p c c' q at same site stands leaves = record {
 
 -- ---- what rounds see of it
 
-view_same : (c c' : Told) → c'.events ≡ c.events → IsStill c c' → told_view c' ≡ told_view c
+view_same : (c c' : CellView) → c'.events ≡ c.events → IsStill c c' → told_view c' ≡ told_view c
 view_same c c' e s = cc
 
-pub views_after : (b : Table) (p : ℕ) (c c' : Told) (q : Queues) → slice_get b.cells p ≡ Some c →
+pub views_after : (b : Table) (p : ℕ) (c c' : CellView) (q : Queues) → slice_get b.cells p ≡ Some c →
     (sight_of (ran b p c' q)).cells ≡ slice_set (sight_of b).cells p (view_at (sight_of (ran b p c' q)).cells p)
 views_after b p c c' q at =
     map-set told_view b.cells p c' ∙
     ap (slice_set (map told_view b.cells) p)
     (sym (mapped told_view (slice_set b.cells p c') p c' no_view (set_here b.cells p c' (within_get b.cells p c at))))
 
-pub view_after : (b : Table) (p : ℕ) (c c' : Told) (q : Queues) → slice_get b.cells p ≡ Some c →
+pub view_after : (b : Table) (p : ℕ) (c c' : CellView) (q : Queues) → slice_get b.cells p ≡ Some c →
     view_at (sight_of (ran b p c' q)).cells p ≡ told_view c'
 view_after b p c c' q at = mapped told_view (slice_set b.cells p c') p c' no_view (set_here b.cells p c' (within_get b.cells p c at))
 
-pub still_after : (b : Table) (p : ℕ) (c c' : Told) (q : Queues) → slice_get b.cells p ≡ Some c → c'.events ≡ c.events → IsStill c c' →
+pub still_after : (b : Table) (p : ℕ) (c c' : CellView) (q : Queues) → slice_get b.cells p ≡ Some c → c'.events ≡ c.events → IsStill c c' →
     sight_of (ran b p c' q) ≡ sight_of b
 still_after b p c c' q at e s =
     ap (λ l. let r : RunState = record { network = network_of b.network; input = inputs_of b.input; watch = b.watch; cells = l } in r)
@@ -188,11 +188,11 @@ same_actual is laid p q = ap (λ t. actual_at (instance_at (network_of t) p) q) 
 
 -- ---- one run of a cell
 
-pub found : {b n : Table} → b ≡ n → IsLaid b → (p : ℕ) {c : Told} → p < length (network_of n.network).instances → c ≡ slice_index_or b.cells p c → slice_get b.cells p ≡ Some c
+pub found : {b n : Table} → b ≡ n → IsLaid b → (p : ℕ) {c : CellView} → p < length (network_of n.network).instances → c ≡ slice_index_or b.cells p c → slice_get b.cells p ≡ Some c
 found {b} is laid p {c} l =
     slice_get_read b.cells (length b.cells) p c refl (subst (λ k. p < k) (sym (laid.count ∙ ap (λ (x : Table). length (network_of x.network).instances) is)) l)
 
-module _ {b : Table} (laid : IsLaid b) (p : ℕ) {c : Told} (at : slice_get b.cells p ≡ Some c) where
+module _ {b : Table} (laid : IsLaid b) (p : ℕ) {c : CellView} (at : slice_get b.cells p ≡ Some c) where
   abbrev lent : Queues
   lent = record { network = b.queues.network; input = b.queues.input; instance = p; queues = b.queues.queues }
 
@@ -210,7 +210,7 @@ module _ {b : Table} (laid : IsLaid b) (p : ℕ) {c : Told} (at : slice_get b.ce
   pub at_is : (q : Queues) → q ≡ lent → IsAt c (λ r. next_at q.queues (actual_here q r))
   at_is q is = subst (λ (x : Queues). IsAt c (λ r. next_at x.queues (actual_here x r))) (sym is) seated.at
 
-  module _ (c' : Told) (q q' : Queues) (is : q ≡ lent) (same : IsSame c c') (site : ports_of q' ≡ site_of c')
+  module _ (c' : CellView) (q q' : Queues) (is : q ≡ lent) (same : IsSame c c') (site : ports_of q' ≡ site_of c')
       (stands : IsAt c' (λ r. next_at q'.queues (actual_here q' r))) (leaves : LeavesOthers (ports_of q) (place_at q) (place_at q')) where
     pub laid_now : IsLaid (ran b p c' q')
     laid_now = laid_after b laid p c c' q' at same site stands (subst (λ (x : Queues). LeavesOthers (ports_of x) (place_at x) (place_at q')) is leaves)
@@ -251,7 +251,7 @@ module _ {b : Table} (laid : IsLaid b) (p : ℕ) {c : Told} (at : slice_get b.ce
           subst (λ (k : Program × Lists × Option ℕ × ℕ). code.Paused (network_of k.0) (inputs_of k.1) k.2 k.3 (told_view c') (IsPause (network_of k.0) k.3 dry ready (c'.events ≡ c.events + quantum) z))
           (λ i. (mine.network i, mine.input i, mine.watch i, mine.instance i)) paused
 
-      abbrev o : Outcome Store
+      abbrev o : ScriptOutcome Store
       o = (exec_on (network_of b.network) c'.events p paused_here.stood.tapes).outcome
 
       -- what a pause says by the queues it says by what was given and taken

@@ -5,7 +5,7 @@ pub use Rattle.kahn_code.proofs.Queued.{given_zero, set_each, set_here, taken_ze
 pub use Rattle.kahn_code.proofs.Readers.{driven, joins_within}
 pub use Rattle.kahn_code.specs.Cells.{AllStand, AreKeptTokens, StoodBy, View, exec_on, is_streamed, sent_on}
 pub use Rattle.kahn_code.specs.Lines.{AreFirst, AreQueued, HasPoured, IsPoured, Joins, actual_here, given_of, next_at, place_at, queue_of, route_of, taken_of, waiting_of, Waiting}
-pub use Rattle.kahn_code.specs.Progress.{IsPause, AreCounts, IsAt, IsStill, Told, site_of, told_view}
+pub use Rattle.kahn_code.specs.Progress.{IsPause, AreCounts, IsAt, IsStill, CellView, site_of, told_view}
 pub use Rattle.kahn_code.specs.Standing.{LeavesOthers, Site, count, tokens}
 pub use Rattle.kahn_code.specs.declared.{cell.Kept.Kept, progress.Pause.Pause}
 pub use Rattle.kahn_code.specs.inner.Gone.{Gone, kept_behind, nothing_gone}

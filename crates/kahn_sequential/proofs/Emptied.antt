@@ -1,7 +1,7 @@
 -- Cells that let go of all that they kept, and how all stand.
 use Rattle.std.proofs.Common.{arith, ◌≡◌, ◌⊎◌, inl, inr, ℕ, zero, suc, ◌+◌, ◌<◌, ◌≤◌, true, Option, List, [], ◌∷◌, ◌++◌, length, map, refl, sym, ap, ◌∙◌, subst, Some, None, slice_get, slice_index_or, slice_set}
 use Rattle.std.proofs.lemmas.List.{length-set}
-use Rattle.kahn_sequential.proofs.Common.{HasForgotten, cases_eq, set_each, set_here, slice_get_read, length-map, Program, Input, network_of, instance_at, role_at, Lists, inputs_of, Token, StoodBy, AreQueued, taken_of, waiting_of, tokens, Told, told_view, Gone, nothing_gone, Tapped, Seen, same_Some, seen_at, seen_of, unseen, AllStandBy, HasEmptied, IsLaid, IsSeated, StandsAsTold, Table, gone_in, table_of, told_in, HaveChanged, mapped_at, cases_lt}
+use Rattle.kahn_sequential.proofs.Common.{HasForgotten, cases_eq, set_each, set_here, slice_get_read, length-map, Program, Input, network_of, instance_at, role_at, Lists, inputs_of, Token, StoodBy, AreQueued, taken_of, waiting_of, tokens, CellView, told_view, Gone, nothing_gone, Tapped, Seen, same_Some, seen_at, seen_of, unseen, AllStandBy, HasEmptied, IsLaid, IsSeated, StandsAsTold, Table, gone_in, table_of, told_in, HaveChanged, mapped_at, cases_lt}
 use Rattle.kahn_code.specs.Lines.{Lines as Queues}
 use Rattle.kahn_sequential.proofs.Benched.{got, mapped, get_map}
 use Rattle.kahn_sequential.proofs.Tapping.{found, tap_at}
@@ -99,7 +99,7 @@ stays_on h k = record {
   count = k.count ∙ h.count;
   each = λ p x z a c.
       let y = old_item k p z c in
-      y.2 ∙ ap (λ (t : Told). record t { spare = z.told.spare; print_spare = z.told.print_spare }) (h.each p x y.0 a y.1);
+      y.2 ∙ ap (λ (t : CellView). record t { spare = z.told.spare; print_spare = z.told.print_spare }) (h.each p x y.0 a y.1);
 }
 
 pub all_forgotten : {xs ys : List Tapped} → HaveChanged HasForgotten xs ys → HaveChanged HasSpent xs ys
@@ -138,7 +138,7 @@ pub all_stand_by : {t : Program} {lists : Lists} {watch : Option ℕ} {code : Pr
 all_stand_by {t} {watch = watch} taps laid each p c at =
     let x = mapped_at told_in taps p c at in
     let s = laid.each p c at in
-    let told = subst (λ (z : Told). StoodBy (network_of t) (inputs_of z.input) z.watch z.instance (told_view z)) (sym x.2) (each p x.0 x.1) in
+    let told = subst (λ (z : CellView). StoodBy (network_of t) (inputs_of z.input) z.watch z.instance (told_view z)) (sym x.2) (each p x.0 x.1) in
     subst (λ w. StoodBy (network_of t) (inputs_of c.input) w p (told_view c)) s.watch
     (subst (λ k. StoodBy (network_of t) (inputs_of c.input) c.watch k (told_view c)) s.instance told)
 

@@ -2,7 +2,7 @@
 use mathlib.Core.Path.{fun_ext}
 use Rattle.std.proofs.Common.{arith, ◌≡◌, ◌⊎◌, inl, inr, ℕ, suc, ◌+◌, List, [], ◌∷◌, ◌++◌, length, refl, sym, ap, ◌∙◌, subst, append-nil, le_refl, ◌<◌, Option}
 use Rattle.kahn_sequential.proofs.Common.{Channel, Inputs, StoodBy, View, Writes, actual_at, goes_to, sent_on, values_at, Value, Tapes, Script, Give, Fail, Sends, Turns, Rest, Got, Dry, Fault, Cut, Reached, wait_at, play, Step, empty, values_taken, since, and_then, halted, RanBy, Store, Network, instance_at, opening, and_more, play_on, play_taken, ran, cut_is_full, script_at, exec_alike, unrolled, IsPrefix, Stays, exec_on, widened, frame_play, dry_play}
-use Rattle.kahn_streams.specs.Script.{Waits, Outcome}
+use Rattle.kahn_streams.specs.Script.{Waits, ScriptOutcome}
 use Rattle.kahn_streams.specs.Steps.{sends_of}
 use Rattle.std.proofs.lemmas.List.{length-append}
 
@@ -22,7 +22,7 @@ module _ (N : Network) (p e : ℕ) (T U : Tapes) (x : (q : ℕ) → IsPrefix (T 
   framed k = ap (λ V. play e (script_at N e p) V) longer ∙ frame_play e (script_at N e p) T more k
 
   -- ended and faulted stay, and dry where the tape has no more
-  pub same_outcome : (o : Outcome Store) → (exec_on N e p T).outcome ≡ o → Stays more o → (exec_on N e p U).outcome ≡ o
+  pub same_outcome : (o : ScriptOutcome Store) → (exec_on N e p T).outcome ≡ o → Stays more o → (exec_on N e p U).outcome ≡ o
   same_outcome o d k = ap (λ r. r.outcome) (framed (subst (Stays more) (sym d) k)) ∙ d
 
   module _ (does : (exec_on N e p T).events ≡ e) where
@@ -32,7 +32,7 @@ module _ (N : Network) (p e : ℕ) (T U : Tapes) (x : (q : ℕ) → IsPrefix (T 
     same_by : {r : Reached Store} → exec_on N e p U ≡ r → r.events ≡ (exec_on N e p T).events → r.sent ≡ (exec_on N e p T).sent → r.left ≡ and_more (exec_on N e p T).left more → Same
     same_by s events sent left = ((ap (λ x. x.events) s ∙ events, ap (λ x. x.sent) s ∙ sent), ap (λ x. x.left) s ∙ left)
 
-    sends_by : (o : Outcome Store) → (exec_on N e p T).outcome ≡ o → Same
+    sends_by : (o : ScriptOutcome Store) → (exec_on N e p T).outcome ≡ o → Same
     sends_by (Dry q) d = by (more q) refl
       where
         by : (zs : List Value) → more q ≡ zs → Same

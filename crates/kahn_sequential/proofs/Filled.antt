@@ -1,6 +1,6 @@
 -- Streams filled from the lists of the cells, one by one.
 use Rattle.std.proofs.Common.{Option, arith, ◌≡◌, ℕ, ◌<◌, ◌≤◌, List, [], length, map, Some, refl, sym, ap, ◌∙◌, subst, slice_get, slice_set, slice_index_or, ◌+◌, zero, suc, ◌∷◌}
-use Rattle.kahn_sequential.proofs.Common.{Program, Lists, Told, AreKeptOf, AreOpen, network_of, inputs_of, told_view, map-set, length-map, get_or-set_other, get_or-map, slice_get-get_or, Line, Channel, Print, Token, source, Network, Writes, Source, Given, Written, Nobody, instance_at, actual_at, Kept, HaveChanged, Stream, RunState, AreStreams, view_at, IsFrom, stream_line, stream_lines, AreNamed, IsDeclared, IsFilled, IsFilledStream, OpensWith, AreLists, KeepsOtherLines, kept_lists, kept_in, printed_list, printed_in, map-set_same, set_each}
+use Rattle.kahn_sequential.proofs.Common.{Program, Lists, CellView, AreKeptOf, AreOpen, network_of, inputs_of, told_view, map-set, length-map, get_or-set_other, get_or-map, slice_get-get_or, Line, Channel, Print, Token, source, Network, Writes, Source, Given, Written, Nobody, instance_at, actual_at, Kept, HaveChanged, Stream, RunState, AreStreams, view_at, IsFrom, stream_line, stream_lines, AreNamed, IsDeclared, IsFilled, IsFilledStream, OpensWith, AreLists, KeepsOtherLines, kept_lists, kept_in, printed_list, printed_in, map-set_same, set_each}
 use Rattle.std.proofs.lemmas.List.{length-set}
 use Rattle.kahn_sequential.proofs.Lists.{map_changed, ChangedTo, next_old, one_changed, old_item}
 use Rattle.kahn_sequential.proofs.Named.{HasLine, has_line, line_at, declared, once}
@@ -104,14 +104,14 @@ module _ {A : Type 0} {N : Network} {ls : List (Kept A)} {old : List Stream} {ks
 -- ---- the streams of an answer
 
 -- what cells keep, as lists and as it is seen
-seen : (cells : List Told) (p : ℕ) → ((q : ℕ) → slice_index_or (slice_index_or (map (λ c. c.kept) cells) p []) q [] ≡ (view_at (map told_view cells) p).kept q)
+seen : (cells : List CellView) (p : ℕ) → ((q : ℕ) → slice_index_or (slice_index_or (map (λ c. c.kept) cells) p []) q [] ≡ (view_at (map told_view cells) p).kept q)
     × (slice_index_or (map (λ c. c.printed) cells) p [] ≡ (view_at (map told_view cells) p).printed)
 seen [] p = (λ q. refl, refl)
 seen (c ∷ cells) zero = (λ q. refl, refl)
 seen (c ∷ cells) (suc p) = seen cells p
 
 -- streams that are filled from the lists of these cells are those of the answer
-module _ {A : Type 0} (t : Program) (lists : Lists) (watch : Option ℕ) (cells : List Told) {ls : List (Kept A)} {old new : List Stream} (kept : AreKeptOf cells ls)
+module _ {A : Type 0} (t : Program) (lists : Lists) (watch : Option ℕ) (cells : List CellView) {ls : List (Kept A)} {old new : List Stream} (kept : AreKeptOf cells ls)
     (begun : AreOpen t lists watch old) (filled : HaveChanged (IsFilledStream (network_of t) ls) old new) where
   abbrev s : RunState
   s = record { network = network_of t; input = inputs_of lists; watch = watch; cells = map told_view cells }

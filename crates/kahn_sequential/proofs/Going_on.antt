@@ -1,6 +1,6 @@
 -- Cells that have done no fewer events: their streams have grown.
 use Rattle.std.proofs.Common.{arith, ◌≡◌, ◌⊎◌, inl, inr, ℕ, zero, suc, ◌≤◌, List, [], ◌∷◌, length, map, refl, sym, subst, Option, Some, slice_get, slice_index_or}
-use Rattle.kahn_sequential.proofs.Common.{Program, Line, Source, Given, Written, Nobody, network_of, instance_at, Channel, Print, AreInputsExtended, IsPrefix, source, inputs_of, prefix_refl, begins_nil, token_value, Told, told_view, GoesOn, HeldRun, Seen, seen_at, seen_of, unseen, given_so_far, so_far, writing, AllStandBy, HaveRisen}
+use Rattle.kahn_sequential.proofs.Common.{Program, Line, Source, Given, Written, Nobody, network_of, instance_at, Channel, Print, AreInputsExtended, IsPrefix, source, inputs_of, prefix_refl, begins_nil, token_value, CellView, told_view, GoesOn, HeldRun, Seen, seen_at, seen_of, unseen, given_so_far, so_far, writing, AllStandBy, HaveRisen}
 use Rattle.kahn_sequential.proofs.Benched.{got, mapped, within_get}
 use Rattle.kahn_sequential.proofs.Growing.{kept_grows, printed_grows}
 
@@ -14,16 +14,16 @@ pub grows_not : (x : Seen) → Grows x x
 grows_not x = record { events = omega arith; kept = λ q. prefix_refl (map token_value (slice_index_or x.kept q [])); printed = prefix_refl (map token_value x.printed) }
 
 -- the cell of an instance, or there is none
-there_or : (cells : List Told) (p : ℕ) → ((c : Told) × (slice_get cells p ≡ Some c)) ⊎ (seen_at (map seen_of cells) p ≡ unseen)
+there_or : (cells : List CellView) (p : ℕ) → ((c : CellView) × (slice_get cells p ≡ Some c)) ⊎ (seen_at (map seen_of cells) p ≡ unseen)
 there_or [] p = inr refl
 there_or (c ∷ cells) zero = inl (c, refl)
 there_or (c ∷ cells) (suc p) = there_or cells p
 
-pub seen_grows : (t : Program) (watch : Option ℕ) (cells later : List Told) → length later ≡ length cells → AllStandBy t watch cells → AllStandBy t watch later →
+pub seen_grows : (t : Program) (watch : Option ℕ) (cells later : List CellView) → length later ≡ length cells → AllStandBy t watch cells → AllStandBy t watch later →
     HaveRisen cells later → (p : ℕ) → Grows (seen_at (map seen_of cells) p) (seen_at (map seen_of later) p)
 seen_grows t watch cells later count old new risen p = by (there_or cells p)
   where
-    by : ((c : Told) × (slice_get cells p ≡ Some c)) ⊎ (seen_at (map seen_of cells) p ≡ unseen) → Grows (seen_at (map seen_of cells) p) (seen_at (map seen_of later) p)
+    by : ((c : CellView) × (slice_get cells p ≡ Some c)) ⊎ (seen_at (map seen_of cells) p ≡ unseen) → Grows (seen_at (map seen_of cells) p) (seen_at (map seen_of later) p)
     by (inl (c, e)) =
         let l = within_get cells p c e in
         let (d, f) = got later p (omega (arith, l, count)) in

@@ -1,6 +1,6 @@
 -- Cells at their openings over queues from which nothing was taken.
 use Rattle.std.proofs.Common.{arith, ◌≡◌, ℕ, zero, suc, ◌+◌, List, [], ◌∷◌, ◌++◌, length, map, replicate, sum_by, refl, sym, ap, ◌∙◌, Option, Some, slice_get, slice_index_or}
-use Rattle.kahn_sequential.proofs.Common.{map-append, replicate-append-replicate, sum_by-cons, Program, Writes, network_of, instance_at, actual_at, role_at, IsWellWired, writes, Lists, none_of, is_output, AreFirst, place_at, next_at, Told, told_view, IsAt, one_first, given_zero, taken_zero, view_events, nothing_gone, Tapped, IsOpening, IsLaid, IsSeated, AreOpeningCells, gone_in, table_of, told_in}
+use Rattle.kahn_sequential.proofs.Common.{map-append, replicate-append-replicate, sum_by-cons, Program, Writes, network_of, instance_at, actual_at, role_at, IsWellWired, writes, Lists, none_of, is_output, AreFirst, place_at, next_at, CellView, told_view, IsAt, one_first, given_zero, taken_zero, view_events, nothing_gone, Tapped, IsOpening, IsLaid, IsSeated, AreOpeningCells, gone_in, table_of, told_in}
 use Rattle.kahn_code.specs.Lines.{Lines as Queues}
 
 pub laid_first : (t code : Program) (lists : Lists) (watch : Option ℕ) (taps : List Tapped) (q : Queues) → IsWellWired t → code ≡ t →
@@ -15,7 +15,7 @@ laid_first t code lists watch taps q wired same cells_open names first = record 
   input = names.1;
 }
   where
-    each : (p : ℕ) (c : Told) → slice_get (map told_in taps) p ≡ Some c → IsSeated (table_of t lists watch code taps q) p c
+    each : (p : ℕ) (c : CellView) → slice_get (map told_in taps) p ≡ Some c → IsSeated (table_of t lists watch code taps q) p c
     each p c at =
         let o : IsOpening t lists watch p c = cells_open.each p c at in
         record {
@@ -45,7 +45,7 @@ laid_first t code lists watch taps q wired same cells_open names first = record 
         }
 
 -- one cell more
-pub opening_more : (t : Program) (lists : Lists) (watch : Option ℕ) (cells all : List Told) (n : ℕ) (c : Told) → AreOpeningCells t lists watch cells n →
+pub opening_more : (t : Program) (lists : Lists) (watch : Option ℕ) (cells all : List CellView) (n : ℕ) (c : CellView) → AreOpeningCells t lists watch cells n →
     IsOpening t lists watch n c → all ≡ cells ++ c ∷ [] → AreOpeningCells t lists watch all (n + 1)
 opening_more t lists watch cells all n c h o is =
     let r = one_first (IsOpening t lists watch) cells all c n (record { count = h.count; each = h.each }) is o in
@@ -59,7 +59,7 @@ whole_more taps all n x h e is = ap (map gone_in) is ∙ map-append gone_in taps
     more : (n : ℕ) → replicate n nothing_gone ++ nothing_gone ∷ [] ≡ replicate (n + 1) nothing_gone
     more n = replicate-append-replicate n 1 nothing_gone
 
-pub no_events : (cells : List Told) → ((p : ℕ) (c : Told) → slice_get cells p ≡ Some c → c.events ≡ 0) → sum_by view_events (map told_view cells) ≡ 0
+pub no_events : (cells : List CellView) → ((p : ℕ) (c : CellView) → slice_get cells p ≡ Some c → c.events ≡ 0) → sum_by view_events (map told_view cells) ≡ 0
 no_events [] h = refl
 no_events (c ∷ cells) h =
     let a = h zero c refl in

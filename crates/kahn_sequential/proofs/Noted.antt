@@ -1,6 +1,6 @@
 -- Ends that were noted, and the instances that were woken since.
 use Rattle.std.proofs.Common.{arith, ◌≡◌, ◌⊎◌, inl, inr, ℕ, zero, suc, ◌+◌, ◌==◌, ◌<◌, ◌≤◌, Bool, true, false, List, [], ◌∷◌, ◌++◌, length, append-nil, map, refl, sym, ap, ◌∙◌, subst, Option, Some, None, slice_get, slice_index_or, slice_set, eqb-true, if◌then◌else◌}
-use Rattle.kahn_sequential.proofs.Common.{AllStand, AreQueued, AreInputsExtended, Channel, Given, HasEndIn, HasTakenIn, HasVisited, Inputs, IsGiven, IsLaid, IsOutcomeOf, IsPoured, IsVerdict, IsWellWired, Line, Lists, More, Network, Nobody, Program, Reads, Round, RunState, Source, Store, StoodBy, Table, TookAll, Value, View, Writes, Written, actual_at, at_last, cases_eq, cases_lt, exec_on, get_or-set_other, handed_within, inputs_grow, inputs_of, instance_at, kept_grown, network_of, no_view, poured_grown, prefix_get, reads_listed, route_of, same_Some, set_each, sight_of, source, view_at, waiting_of, Gone, Seen, Told, nothing_gone, seen_at, seen_of, tokens, told_view}
+use Rattle.kahn_sequential.proofs.Common.{AllStand, AreQueued, AreInputsExtended, Channel, Given, HasEndIn, HasTakenIn, HasVisited, Inputs, IsGiven, IsLaid, IsOutcomeOf, IsPoured, IsVerdict, IsWellWired, Line, Lists, More, Network, Nobody, Program, Reads, Round, RunState, Source, Store, StoodBy, Table, TookAll, Value, View, Writes, Written, actual_at, at_last, cases_eq, cases_lt, exec_on, get_or-set_other, handed_within, inputs_grow, inputs_of, instance_at, kept_grown, network_of, no_view, poured_grown, prefix_get, reads_listed, route_of, same_Some, set_each, sight_of, source, view_at, waiting_of, Gone, Seen, CellView, nothing_gone, seen_at, seen_of, tokens, told_view}
 use Rattle.std.proofs.lemmas.List.{length-set}
 use Rattle.kahn_streams.specs.Network.{IsOnly, IsReader}
 use Rattle.kahn_streams.specs.Script as script
@@ -140,12 +140,12 @@ module _ (N : Network) (I : Inputs) (cells later : List View) (i : ℕ) (others 
       (subst (λ k. IsGiven N I cells c (source N (Channel c)) k) (ap (λ (v : View). v.taken q) (sym (others o n))) h)
 
 -- what is seen of a cell is what it keeps
-kept_seen : (cells : List Told) (p q : ℕ) → tokens (seen_at (map seen_of cells) p).kept q ≡ (view_at (map told_view cells) p).kept q
+kept_seen : (cells : List CellView) (p q : ℕ) → tokens (seen_at (map seen_of cells) p).kept q ≡ (view_at (map told_view cells) p).kept q
 kept_seen [] p q = refl
 kept_seen (c ∷ cells) zero q = refl
 kept_seen (c ∷ cells) (suc p) q = kept_seen cells p q
 
-printed_seen : (cells : List Told) (p : ℕ) → (seen_at (map seen_of cells) p).printed ≡ (view_at (map told_view cells) p).printed
+printed_seen : (cells : List CellView) (p : ℕ) → (seen_at (map seen_of cells) p).printed ≡ (view_at (map told_view cells) p).printed
 printed_seen [] p = refl
 printed_seen (c ∷ cells) zero = refl
 printed_seen (c ∷ cells) (suc p) = printed_seen cells p

@@ -1,6 +1,6 @@
 -- A run with these cells is right so far: what its streams have are the tapes of the right answer.
 use Rattle.std.proofs.Common.{arith, ◌≡◌, ℕ, zero, suc, ◌+◌, Bool, List, [], ◌∷◌, map, sum_by, refl, sym, ap, ◌∙◌, subst, Option, slice_index_or, ◌-◌}
-use Rattle.kahn_sequential.proofs.Common.{Program, Line, Network, Source, Given, Written, Nobody, network_of, Channel, Print, Inputs, IsWhole, source, Lists, inputs_of, token_value, Told, told_view, Settles, AreRight, HeldRun, IsLineOf, IsRightSoFar, given_so_far, so_far, writing, Plan, instance_at, seen_at, seen_events, seen_of, RunState, view_events, IsConcluded, view_at, Verdict, unseen, IsRight, stream_lines, Answer, AreStreams, run_with}
+use Rattle.kahn_sequential.proofs.Common.{Program, Line, Network, Source, Given, Written, Nobody, network_of, Channel, Print, Inputs, IsWhole, source, Lists, inputs_of, token_value, CellView, told_view, Settles, AreRight, HeldRun, IsLineOf, IsRightSoFar, given_so_far, so_far, writing, Plan, instance_at, seen_at, seen_events, seen_of, RunState, view_events, IsConcluded, view_at, Verdict, unseen, IsRight, stream_lines, Answer, AreStreams, run_with}
 use Rattle.kahn_streams.specs.declared.answer.End.{End}
 use Rattle.kahn_sequential.proofs.Assembling.{are_right, kept_values, nobodys_values, printed_values, whole_tapes, assembled}
 use Rattle.kahn_sequential.proofs.Sizes.{settles_ends}
@@ -18,15 +18,15 @@ pub answer_right : {s : RunState} {bound left : ℕ} {halted : Bool} (a : Answer
 answer_right a c streams e = let t = c.last.total in assembled a c streams (omega (arith, t, e))
 
 -- the events that contracts see are those of the cells
-pub events_seen : (cells : List Told) → sum_by seen_events (map seen_of cells) ≡ sum_by view_events (map told_view cells)
+pub events_seen : (cells : List CellView) → sum_by seen_events (map seen_of cells) ≡ sum_by view_events (map told_view cells)
 events_seen cells = sum_over seen_events seen_of cells ∙ sym (sum_over view_events told_view cells)
 
 -- where there are none, no process has any
-pub none_done : (cells : List Told) → sum_by seen_events (map seen_of cells) ≡ 0 → (p : ℕ) → (seen_at (map seen_of cells) p).events ≡ 0
+pub none_done : (cells : List CellView) → sum_by seen_events (map seen_of cells) ≡ 0 → (p : ℕ) → (seen_at (map seen_of cells) p).events ≡ 0
 none_done cells none p = let m = one_of_sum seen_events (map seen_of cells) p unseen refl in omega (arith, m, none)
 
 -- what is seen of a cell is what its view says
-pub seen_there : (cells : List Told) (p : ℕ) →
+pub seen_there : (cells : List CellView) (p : ℕ) →
     ((view_at (map told_view cells) p).events ≡ (seen_at (map seen_of cells) p).events)
     × ((q : ℕ) → (view_at (map told_view cells) p).kept q ≡ slice_index_or (seen_at (map seen_of cells) p).kept q [])
     × ((view_at (map told_view cells) p).printed ≡ (seen_at (map seen_of cells) p).printed)
@@ -34,7 +34,7 @@ seen_there [] p = (refl, λ q. refl, refl)
 seen_there (c ∷ cells) zero = (refl, λ q. refl, refl)
 seen_there (c ∷ cells) (suc p) = seen_there cells p
 
-module _ (t : Program) (lists : Lists) (watch : Option ℕ) (plan : Plan) (cells : List Told) (verdict : Option Verdict) where
+module _ (t : Program) (lists : Lists) (watch : Option ℕ) (plan : Plan) (cells : List CellView) (verdict : Option Verdict) where
   abbrev N : Network
   N = network_of t
 

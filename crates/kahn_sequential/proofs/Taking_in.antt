@@ -1,6 +1,6 @@
 -- A bench that goes on for a longer input.
 use Rattle.std.proofs.Common.{arith, ◌≡◌, ℕ, zero, suc, ◌+◌, ◌==◌, Bool, true, false, List, [], ◌∷◌, map, refl, sym, ap, ◌∙◌, subst, eqb-true, Option, Some, None, slice_get, if◌then◌else◌}
-use Rattle.kahn_sequential.proofs.Common.{length-map, Program, Input, Actual, Reads, Writes, Hands, network_of, instance_at, actual_at, role_at, writes, AreInputsExtended, Lists, inputs_of, HasPoured, given_of, next_at, place_at, taken_of, waiting_of, Waiting, Told, told_view, Tapped, regrown_tap, seen_of, HasTakenIn, IsLaid, IsSeated, Table, gone_in, table_of, told_in}
+use Rattle.kahn_sequential.proofs.Common.{length-map, Program, Input, Actual, Reads, Writes, Hands, network_of, instance_at, actual_at, role_at, writes, AreInputsExtended, Lists, inputs_of, HasPoured, given_of, next_at, place_at, taken_of, waiting_of, Waiting, CellView, told_view, Tapped, regrown_tap, seen_of, HasTakenIn, IsLaid, IsSeated, Table, gone_in, table_of, told_in}
 use Rattle.kahn_code.specs.Lines.{Lines as Queues}
 use Rattle.kahn_sequential.proofs.Benched.{get_map}
 use Rattle.kahn_sequential.proofs.Lists.{map_map}
@@ -9,8 +9,8 @@ given_sum : (o : Option Waiting) → given_of o ≡ taken_of o + waiting_of o
 given_sum None = refl
 given_sum (Some w) = refl
 
-regrown_from : (input : Lists) (taps : List Tapped) (p : ℕ) (c : Told) → slice_get (map told_in (map (regrown_tap input) taps)) p ≡ Some c →
-    (d : Told) × (slice_get (map told_in taps) p ≡ Some d) × (c ≡ record d { input = input })
+regrown_from : (input : Lists) (taps : List Tapped) (p : ℕ) (c : CellView) → slice_get (map told_in (map (regrown_tap input) taps)) p ≡ Some c →
+    (d : CellView) × (slice_get (map told_in taps) p ≡ Some d) × (c ≡ record d { input = input })
 regrown_from input [] p c e = absurd cc
 regrown_from input (x ∷ taps) zero c e = (x.told, refl, cc)
 regrown_from input (x ∷ taps) (suc p) c e = regrown_from input taps p c e

@@ -1,7 +1,7 @@
 -- Believed. Why a run is refused; a run that is held between its parts: what contracts see of it, and what its calls make of it
 -- (this project's profile).
 use Rattle.std.specs.Prelude.{◌≡◌, ◌⊎◌, ℕ, suc, ◌+◌, ◌<◌, ◌≤◌, ◌^◌, List, [], ◌∷◌, map, sum_by, Option, Some, None, slice_get, slice_index_or, if◌then◌else◌}
-use Rattle.kahn_sequential.specs.inner.Below.{Actual, Answer, AreInputsExtended, AreRight, Channel, Config, End, Entry, FeedFault, Finished, Given, HasEndAt, HasStream, Inputs, IsAllowed, IsEntryFed, IsPrefix, IsRight, IsUnrun, IsUnwelcome, IsWatched, IsWhole, Line, Lists, Network, Print, Program, RunFault, Settles, Source, Stream, Token, Told, Value, Verdict, Written, inputs_of, instance_at, is_written, network_of, source, stream_lines, token_value, values_of}
+use Rattle.kahn_sequential.specs.inner.Below.{Actual, Answer, AreInputsExtended, AreRight, Channel, Config, End, Entry, FeedFault, Finished, Given, HasEndAt, HasStream, Inputs, IsAllowed, IsEntryFed, IsPrefix, IsRight, IsUnrun, IsUnwelcome, IsWatched, IsWhole, Line, Lists, Network, Print, Program, RunFault, Settles, Source, Stream, Token, CellView, Value, Verdict, Written, inputs_of, instance_at, is_written, network_of, source, stream_lines, token_value, values_of}
 use Rattle.kahn_streams.specs.declared.fault.RunFault.TheVariants as fault
 use Rattle.kahn_sequential.specs.declared.held_fault.HeldFault.{HeldFault}
 use Rattle.kahn_sequential.specs.declared.held_fault.HeldFault.TheVariants as held
@@ -26,7 +26,7 @@ pub record Seen : Type 0 where
   pub kept : List (List Token)
   pub printed : List Token
 
-abbrev pub seen_of : Told → Seen
+abbrev pub seen_of : CellView → Seen
 seen_of c = record { events = c.events; kept = c.kept; printed = c.printed }
 
 abbrev pub unseen : Seen

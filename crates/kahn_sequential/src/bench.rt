@@ -1,6 +1,6 @@
 //! The processes of a network over its plain queues.
 
-ghost use Rattle.kahn_sequential.specs.inner.Below.{AreCounts, AreQueued, IsWithin, Input as InputRole, IsPoured, Lists, Reads, actual_at, inputs_of, instance_at, network_of, role_at, stream_lines, Told};
+ghost use Rattle.kahn_sequential.specs.inner.Below.{AreCounts, AreQueued, IsWithin, Input as InputRole, IsPoured, Lists, Reads, actual_at, inputs_of, instance_at, network_of, role_at, stream_lines, CellView};
 ghost use Rattle.kahn_sequential.specs.inner.Bench.{AreStreams, HasRunCell, all_events, events_at};
 ghost use Rattle.kahn_sequential.specs.inner.Gathered.{view_at};
 ghost use Rattle.kahn_sequential.specs.inner.Noted.{AreSpent, HasWoken, IsOnlyReader, IsReaderOf, IsReadyBehind, IsReadyBy, IsReadyByFirst};
@@ -27,7 +27,7 @@ const MOST_WAITING: usize = 1_048_576;
 
 /// The processes of a network over its plain queues. What they keep they let go of when they are told to.
 #[derive(Drop)]
-pub struct Bench<'n> {
+pub struct Sequential<'n> {
     network: &'n Network,
     input: About<Input>,
     watch: Option<usize>,
@@ -38,7 +38,7 @@ pub struct Bench<'n> {
     looks: Looks,
 }
 
-impl<'n> Model for Bench<'n> {
+impl<'n> Model for Sequential<'n> {
     ghost use Rattle.kahn_streams.specs.contracts.tree.Action as action;
     ghost use Rattle.kahn_streams.specs.contracts.tree.Form as form;
     ghost use Rattle.std.specs.Coded.{codes};
@@ -53,14 +53,14 @@ impl<'n> Model for Bench<'n> {
     ghost invariant = { λ b. IsLaid (table_of b.network.now b.input.value b.watch b.code.network.value b.taps.items b.queues) };
 }
 
-impl<'n> Bench<'n> {
+impl<'n> Sequential<'n> {
     /// All processes at their openings. Fails only if memory was refused.
     pub fn new(
         alloc: Global,
         network: &'n Network,
         input: &Input,
         watch: Option<usize>,
-    ) -> Result<Bench<'n>, CodeFault>
+    ) -> Result<Sequential<'n>, CodeFault>
         ensures names { IfOk result (λ b. (b.network ≡ network.now) × (b.input ≡ input.now) × (b.watch ≡ watch)) }
         ensures fresh { IfOk result (λ b. all_events (sight_of b) ≡ 0) }
         ensures whole { IfOk result (λ b. AreWhole (length (network_of network.now).instances) b.gone) }
@@ -71,7 +71,7 @@ impl<'n> Bench<'n> {
         let awake = Awake::new(alloc, network)?;
         let looks = Looks::new(alloc, network, &code)?;
         let _program = network.program();
-        Ok(Bench::named(network, input, watch, code, taps, queues, awake, looks))
+        Ok(Sequential::named(network, input, watch, code, taps, queues, awake, looks))
     }
 
     // The bench for the input that is named.
@@ -84,12 +84,12 @@ impl<'n> Bench<'n> {
         queues: Plain<Global>,
         awake: Awake,
         looks: Looks,
-    ) -> Bench<'n>
+    ) -> Sequential<'n>
         ghost input: { Lists }
         requires { IsLaid (table_of network.now input watch code.network.value taps.items queues) }
         ensures { result ≡ table_of network.now input watch code.network.value taps.items queues }
     {
-        Bench {
+        Sequential {
             network,
             input: About::named(),
             watch,
@@ -400,7 +400,7 @@ impl<'n> Bench<'n> {
 
     /// Says that no process counted more tokens than events. For the prover only.
     pub fn sized(&self)
-        ensures { (p : ℕ) (c : Told) → slice_get self.now.cells p ≡ Some c → AreCounts c }
+        ensures { (p : ℕ) (c : CellView) → slice_get self.now.cells p ≡ Some c → AreCounts c }
     {
         all_sized(&self.taps);
     }
@@ -437,7 +437,7 @@ impl<'n> Bench<'n> {
 }
 
 // Wakes the readers of the channels of the first parameters of an instance, but the instance itself, where something waits.
-fn wake_by(bench: &Bench<'_>, instance: usize, count: usize, woken: &mut Woken)
+fn wake_by(bench: &Sequential<'_>, instance: usize, count: usize, woken: &mut Woken)
     requires { instance < length (sight_of bench.now).network.instances }
     ensures { HasWoken (IsReadyByFirst bench.now instance count) woken.old woken.new }
 {
@@ -481,12 +481,12 @@ impl<'n> Vacant<'n> {
     }
 
     /// The bench with these taps, which have let go of nothing. Never allocates.
-    pub fn with_taps(self, taps: Vec<Tap>) -> Bench<'n>
+    pub fn with_taps(self, taps: Vec<Tap>) -> Sequential<'n>
         requires laid { IsLaid (seated_with self (map told_in taps.items)) }
         requires whole { AreWhole (length taps.items) (map gone_in taps.items) }
         ensures { result ≡ seated_with self.entry (map told_in taps.items) }
     {
-        Bench {
+        Sequential {
             network: self.network,
             input: self.input,
             watch: self.watch,

@@ -7,7 +7,7 @@ ghost use Rattle.kahn_sequential.specs.inner.Recording.{AreCountsOf, HasGiven, I
 ghost use Rattle.kahn_sequential.specs.inner.Workbench.{AreStreamsReady, AreWhole, IsLaid, sight_of};
 ghost use Rattle.std.specs.Prelude.{◌≡◌, ◌<◌, ◌≤◌, ◌^◌, [], IfOk, MatchResult, length, vec_capacity};
 
-use crate::bench::Bench;
+use crate::bench::Sequential;
 use crate::laws;
 use crate::plan::plan_of;
 use crate::rounds::{PartEnd, run_part_alone};
@@ -34,7 +34,7 @@ pub struct Counted {
 }
 
 // How many values a channel has had.
-fn sent_on(network: &Network, input: &Input, bench: &Bench<'_>, channel: usize) -> u64
+fn sent_on(network: &Network, input: &Input, bench: &Sequential<'_>, channel: usize) -> u64
     requires names { (bench.now.network ≡ network.now) × (bench.now.input ≡ input.now) }
     requires here { channel < length (network_of network.now).channels }
     ensures { HasGiven (sight_of bench.now) channel result }
@@ -46,7 +46,7 @@ fn sent_on(network: &Network, input: &Input, bench: &Bench<'_>, channel: usize) 
 }
 
 // The count of a channel.
-fn count_of(network: &Network, input: &Input, bench: &Bench<'_>, channel: usize) -> Count
+fn count_of(network: &Network, input: &Input, bench: &Sequential<'_>, channel: usize) -> Count
     requires names { (bench.now.network ≡ network.now) × (bench.now.input ≡ input.now) }
     requires laid { IsLaid bench.now }
     requires here { channel < length (network_of network.now).channels }
@@ -62,7 +62,7 @@ fn count_of(network: &Network, input: &Input, bench: &Bench<'_>, channel: usize)
 pub(crate) fn counts_of(
     network: &Network,
     input: &Input,
-    bench: &Bench<'_>,
+    bench: &Sequential<'_>,
     room: Vec<Count>,
 ) -> Vec<Count>
     requires names { (bench.now.network ≡ network.now) × (bench.now.input ≡ input.now) }
@@ -79,7 +79,7 @@ pub(crate) fn counts_of(
 
 // What comes of a run on a bench that ended so, with the counts of its channels. There is room for all that it wants.
 fn concluded(
-    bench: Bench<'_>,
+    bench: Sequential<'_>,
     part: PartEnd,
     streams: Vec<Stream>,
     kept: Vec<Kept>,
@@ -117,7 +117,7 @@ fn run_counting(
 {
     let ends = Vec::with_capacity(alloc, network.instances())?;
     let room = Vec::with_capacity(alloc, network.channels())?;
-    let mut bench = Bench::new(alloc, network, input, plan.watch)?;
+    let mut bench = Sequential::new(alloc, network, input, plan.watch)?;
     let (streams, kept) = room_for_answer(alloc, network, input, plan.watch)?;
     let blank = Blank::new(1);
     let part = run_part_alone::<Open, Brand>(blank, &mut bench, &Open, false, ends, plan);

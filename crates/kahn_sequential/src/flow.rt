@@ -5,7 +5,7 @@ ghost use Rattle.kahn_sequential.specs.inner.Below.{Holds, Input as InputRole, N
 ghost use Rattle.kahn_sequential.specs.HeldRuns.{IsLineOf, IsRightSoFar, IsUnstarted, seen_events};
 ghost use Rattle.kahn_sequential.specs.Flows.{AreNew, HasFlowed, HasLetGo, HasPouredIn, IsNotRun, IsRunOn, IsStale, IsUnpoured};
 
-use crate::bench::Bench;
+use crate::bench::Sequential;
 use crate::held_fault::HeldFault;
 use crate::numbers::{least_of, numbers_of};
 use crate::plan::plan_of;
@@ -32,7 +32,7 @@ const MOST_TURNED: usize = 16;
 pub struct Flow<'n> {
     alloc: Global,
     network: &'n Network,
-    bench: Bench<'n>,
+    bench: Sequential<'n>,
     plan: Plan,
     budget: u64,
     ends: Vec<End>,
@@ -90,7 +90,7 @@ fn make_room(tokens: &mut Vec<Carried>, count: usize) -> Result<(), NoMemory>
 }
 
 // The token of a value that stands there, for the names of what is at hand.
-fn token_for(_bench: &Bench<'_>, channel: usize, place: u64, value: Word) -> Token
+fn token_for(_bench: &Sequential<'_>, channel: usize, place: u64, value: Word) -> Token
     ghost names: { Names }
     requires { Holds names.network names.input (Line.Channel channel) place value }
     ensures { result.value ≡ value }
@@ -99,7 +99,7 @@ fn token_for(_bench: &Bench<'_>, channel: usize, place: u64, value: Word) -> Tok
 }
 
 // The token of a value of an input channel.
-fn input_token(bench: &Bench<'_>, channel: usize, place: u64, value: Value) -> Token
+fn input_token(bench: &Sequential<'_>, channel: usize, place: u64, value: Value) -> Token
     requires role { role_at (network_of bench.now.network) channel ≡ InputRole }
     requires here { slice_get (inputs_of bench.now.input channel) place ≡ Some value }
     ensures { result.value ≡ value }
@@ -108,7 +108,13 @@ fn input_token(bench: &Bench<'_>, channel: usize, place: u64, value: Value) -> T
 }
 
 // Adds the tokens of values that stand in the list of an input channel, from this place on. There is room for them.
-fn lend(bench: &Bench<'_>, tokens: &mut Vec<Carried>, channel: usize, place: u64, values: &[Value])
+fn lend(
+    bench: &Sequential<'_>,
+    tokens: &mut Vec<Carried>,
+    channel: usize,
+    place: u64,
+    values: &[Value],
+)
     requires role { role_at (network_of bench.now.network) channel ≡ InputRole }
     requires here { (k : ℕ) (v : ValueOf) → slice_get values.now k ≡ Some v → slice_get (inputs_of bench.now.input channel) (place + k) ≡ Some v }
     requires few { place + length values.now < 2 ^ 64 }
@@ -144,7 +150,7 @@ impl<'n> Flow<'n> {
         let numbers = numbers_of(alloc, network, &lines)?;
         let mut given = Vec::new(alloc);
         give_watched(network, &input, plan.watch, &mut given)?;
-        let bench = Bench::new(alloc, network, &input, plan.watch)?;
+        let bench = Sequential::new(alloc, network, &input, plan.watch)?;
         Ok(Flow {
             alloc,
             network,

@@ -30,7 +30,7 @@ pub use one::run_one;
 pub use recorded::{Recorded, run_recorded};
 
 // For the crates above.
-pub use bench::{Bench, Vacant};
+pub use bench::{Sequential, Vacant};
 pub use channel::channel_read;
 pub use flow::Flow;
 pub use one::{QUANTUM, answered, run_on_alone, run_watched};

@@ -6,7 +6,7 @@ ghost use Rattle.kahn_sequential.specs.inner.FlowBench.{IsPartEnd};
 ghost use Rattle.kahn_sequential.specs.inner.Workbench.{AreStreamsReady, AreWhole, IsRightAlone, IsWide};
 ghost use Rattle.std.specs.Prelude.{◌≡◌, ◌<◌, ◌^◌, length, IfOk, IfErr, None, vec_capacity};
 
-use crate::bench::Bench;
+use crate::bench::Sequential;
 use crate::laws;
 use crate::rounds::{PartEnd, Round, run_part_alone};
 use crate::streams::room_for_answer;
@@ -21,7 +21,7 @@ pub const QUANTUM: u64 = 1000;
 
 /// The answer of a run on a bench that ended so. There is room for all that it wants.
 pub fn answered(
-    bench: Bench<'_>,
+    bench: Sequential<'_>,
     part: PartEnd,
     streams: Vec<Stream>,
     kept: Vec<Kept>,
@@ -54,7 +54,7 @@ pub fn run_watched<G: Gate>(
     ensures { IfOk result (IsRightAlone network.now input.now plan.watch plan.bound) }
 {
     let ends = Vec::with_capacity(alloc, network.instances())?;
-    let mut bench = Bench::new(alloc, network, input, plan.watch)?;
+    let mut bench = Sequential::new(alloc, network, input, plan.watch)?;
     let (streams, kept) = room_for_answer(alloc, network, input, plan.watch)?;
     let blank = Blank::new(1);
     let part = run_part_alone::<G, Brand>(blank, &mut bench, gate, false, ends, plan);
@@ -67,7 +67,7 @@ pub fn run_watched<G: Gate>(
 /// The answer of a run that was left there, once it went on to its end on the caller's thread. The plan has the bound of the whole run.
 pub fn run_on_alone<G: Gate>(
     gate: &G,
-    mut bench: Bench<'_>,
+    mut bench: Sequential<'_>,
     round: Round,
     streams: Vec<Stream>,
     kept: Vec<Kept>,

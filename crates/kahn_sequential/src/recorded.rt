@@ -11,7 +11,7 @@ ghost use Rattle.kahn_sequential.specs.inner.Recording.{AreCountsOf, AreTurnShor
 ghost use Rattle.kahn_sequential.specs.inner.Workbench.{AreStreamsReady, AreWhole, HasComeToRest, HasWorked, IsInRound, MayRun, sight_of};
 ghost use Rattle.std.specs.Prelude.{◌≡◌, ◌<◌, ◌≤◌, ◌+◌, ◌^◌, length, false, true, vec_capacity, slice_get, IfOk, MatchResult, OnOk};
 
-use crate::bench::Bench;
+use crate::bench::Sequential;
 use crate::counted::{Count, counts_of};
 use crate::laws;
 use crate::plan::plan_of;
@@ -166,7 +166,7 @@ impl<'g, L: Ledger, G: Gate> Driver<'g, L, G> {
     fn recorded_round(
         &mut self,
         network: &Network,
-        bench: &mut Bench<'_>,
+        bench: &mut Sequential<'_>,
         round: &mut Round,
         streams: &mut Vec<Stream>,
     ) -> Result<(), NoMemory>
@@ -194,7 +194,7 @@ impl<'g, L: Ledger, G: Gate> Driver<'g, L, G> {
     fn recorded_rounds(
         &mut self,
         network: &Network,
-        bench: &mut Bench<'_>,
+        bench: &mut Sequential<'_>,
         first: Round,
         streams: &mut Vec<Stream>,
     ) -> Result<Round, NoMemory>
@@ -221,7 +221,7 @@ impl<'g, L: Ledger, G: Gate> Driver<'g, L, G> {
 fn run_to_rest<L: Ledger>(
     blank: Blank,
     network: &Network,
-    bench: &mut Bench<'_>,
+    bench: &mut Sequential<'_>,
     streams: &mut Vec<Stream>,
     ends: Vec<End>,
     plan: Plan,
@@ -255,7 +255,7 @@ fn run_to_rest<L: Ledger>(
 
 // What comes of a run on a bench that ended so, with the counts and the streams of its channels. There is room for all that it wants.
 fn concluded(
-    bench: Bench<'_>,
+    bench: Sequential<'_>,
     part: PartEnd,
     streams: Vec<Stream>,
     kept: Vec<Kept>,
@@ -298,7 +298,7 @@ fn run_kept(
     let ends = Vec::with_capacity(alloc, network.instances())?;
     let room = Vec::with_capacity(alloc, network.channels())?;
     let mut channels = channel_streams(alloc, network, input)?;
-    let mut bench = Bench::new(alloc, network, input, plan.watch)?;
+    let mut bench = Sequential::new(alloc, network, input, plan.watch)?;
     let (streams, kept) = room_for_answer(alloc, network, input, plan.watch)?;
     bench.stood();
     let blank = Blank::new(1);

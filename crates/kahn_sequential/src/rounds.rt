@@ -11,7 +11,7 @@ ghost use Rattle.kahn_streams.specs.declared.answer.Outcome.TheVariants as outco
 ghost use Rattle.kahn_code.specs.declared.progress.Pause.TheVariants as pause;
 ghost use Rattle.std.specs.Prelude.{◌≡◌, ◌⊎◌, ◌<◌, ◌≤◌, ◌+◌, ◌^◌, length, slice_set, true, vec_capacity, IfErr, IfOk, IfSome, MatchOption, MatchResult};
 
-use crate::bench::Bench;
+use crate::bench::Sequential;
 use kahn_code::{Pause, Steps};
 use kahn_streams::{End, Gate, Outcome, Plan, Verdict};
 use std::sync::ledger::{Blank, Ledger};
@@ -58,7 +58,7 @@ pub struct PartEnd {
 }
 
 // The end of an instance that paused so.
-fn end_of(bench: &Bench<'_>, instance: usize, stopped: Pause) -> End
+fn end_of(bench: &Sequential<'_>, instance: usize, stopped: Pause) -> End
     requires here { instance < length (sight_of bench.now).network.instances }
     requires paused { PausedAt (sight_of bench.now) instance stopped }
     ensures rests { HasEndIn (sight_of bench.now) instance result }
@@ -77,7 +77,7 @@ fn end_of(bench: &Bench<'_>, instance: usize, stopped: Pause) -> End
 
 impl Round {
     /// Before the first round of a run for so many events. The list of ends has room for each instance.
-    pub fn new(bench: &Bench<'_>, quantum: u64, bound: u64, ends: Vec<End>) -> Round
+    pub fn new(bench: &Sequential<'_>, quantum: u64, bound: u64, ends: Vec<End>) -> Round
         requires quantum { 0 < quantum }
         requires bound { all_events (sight_of bench.now) + bound < 2 ^ 48 }
         requires room { length (sight_of bench.now).network.instances ≤ vec_capacity ends }
@@ -153,7 +153,7 @@ impl<'g, L: Ledger, G: Gate> Driver<'g, L, G> {
     // Runs an instance for at most `quantum` events, as the bench does. A gate that isn't open is entered just before, if the instance
     // may go on.
     #[inline(always)]
-    fn run_gated(&mut self, bench: &mut Bench<'_>, instance: usize, quantum: u64) -> Pause
+    fn run_gated(&mut self, bench: &mut Sequential<'_>, instance: usize, quantum: u64) -> Pause
         requires here { instance < length (sight_of bench.old).network.instances }
         requires bound { events_at (sight_of bench.old) instance + quantum < 2 ^ 48 }
         ensures ran { HasRunCell (sight_of bench.old) (sight_of bench.new) instance quantum result }
@@ -172,7 +172,7 @@ impl<'g, L: Ledger, G: Gate> Driver<'g, L, G> {
 
     // The turn of an instance: runs it, and marks what was done.
     #[inline(always)]
-    fn take_turn(&mut self, bench: &mut Bench<'_>, round: &mut Round, instance: usize) -> Pause
+    fn take_turn(&mut self, bench: &mut Sequential<'_>, round: &mut Round, instance: usize) -> Pause
         requires here { instance < length (sight_of bench.old).network.instances }
         requires may { MayRun (sight_of bench.old) round.old }
         ensures { HasTakenTurn bench.old bench.new round.old round.new instance result }
@@ -188,7 +188,7 @@ impl<'g, L: Ledger, G: Gate> Driver<'g, L, G> {
 
     /// The turn of an instance, and how it stands then.
     #[inline(always)]
-    pub fn visit(&mut self, bench: &mut Bench<'_>, round: &mut Round, instance: usize) -> End
+    pub fn visit(&mut self, bench: &mut Sequential<'_>, round: &mut Round, instance: usize) -> End
         requires here { instance < length (sight_of bench.old).network.instances }
         requires may { MayRun (sight_of bench.old) round.old }
         ensures { HasVisited bench.old bench.new round.old round.new instance result }
@@ -199,7 +199,7 @@ impl<'g, L: Ledger, G: Gate> Driver<'g, L, G> {
 
     // The turn of an instance in a brief round. One that is far ahead of its readers is passed over, so that they come up to it.
     #[inline(always)]
-    fn visit_brief(&mut self, bench: &mut Bench<'_>, round: &mut Round, instance: usize)
+    fn visit_brief(&mut self, bench: &mut Sequential<'_>, round: &mut Round, instance: usize)
         requires here { instance < length (sight_of bench.old).network.instances }
         requires may { MayRun (sight_of bench.old) round.old }
         ensures { HasAdvanced bench.old bench.new round.old round.new }
@@ -211,7 +211,7 @@ impl<'g, L: Ledger, G: Gate> Driver<'g, L, G> {
     }
 
     // A round that notes no ends.
-    fn brief_round(&mut self, bench: &mut Bench<'_>, round: &mut Round)
+    fn brief_round(&mut self, bench: &mut Sequential<'_>, round: &mut Round)
         requires { MayRun (sight_of bench.old) round.old }
         ensures { HasAdvanced bench.old bench.new round.old round.new }
     {
@@ -223,7 +223,7 @@ impl<'g, L: Ledger, G: Gate> Driver<'g, L, G> {
     }
 
     // A round that notes the end of each instance.
-    fn noted_round(&mut self, bench: &mut Bench<'_>, round: &mut Round)
+    fn noted_round(&mut self, bench: &mut Sequential<'_>, round: &mut Round)
         requires { MayRun (sight_of bench.old) round.old }
         ensures { IsInRound bench.old round.old bench.new round.new (length (sight_of bench.new).network.instances) }
     {
@@ -237,7 +237,7 @@ impl<'g, L: Ledger, G: Gate> Driver<'g, L, G> {
     }
 
     // Asks all instances how they stand, for `next`.
-    fn ask_all(&mut self, bench: &mut Bench<'_>)
+    fn ask_all(&mut self, bench: &mut Sequential<'_>)
         requires bound { all_events (sight_of bench.old) < 2 ^ 48 }
         ensures same { sight_of bench.new ≡ sight_of bench.old }
         ensures worked { HasWorked bench.old bench.new }
@@ -251,12 +251,12 @@ impl<'g, L: Ledger, G: Gate> Driver<'g, L, G> {
     }
 
     // Whether there is work for several workers, to whom the run may be left.
-    fn leaves(&self, bench: &Bench<'_>) -> bool {
+    fn leaves(&self, bench: &Sequential<'_>) -> bool {
         self.may_leave && bench.wide() > 0
     }
 
     // Turns of those that may go on, one after another. Here and in brief rounds the round is a local value, which is quicker.
-    fn awake_turns(&mut self, bench: &mut Bench<'_>, last: Round) -> Round
+    fn awake_turns(&mut self, bench: &mut Sequential<'_>, last: Round) -> Round
         requires { MayRun (sight_of bench.old) last }
         ensures { HasAdvanced bench.old bench.new last result }
     {
@@ -276,7 +276,7 @@ impl<'g, L: Ledger, G: Gate> Driver<'g, L, G> {
     }
 
     // Brief rounds, after the first ones, until one in which nothing or little was done.
-    fn brief_rounds(&mut self, bench: &mut Bench<'_>, last: Round, is_first: bool) -> Round
+    fn brief_rounds(&mut self, bench: &mut Sequential<'_>, last: Round, is_first: bool) -> Round
         requires { MayRun (sight_of bench.old) last }
         ensures { HasAdvanced bench.old bench.new last result }
     {
@@ -299,7 +299,7 @@ impl<'g, L: Ledger, G: Gate> Driver<'g, L, G> {
 
     // What comes between two rounds that note their ends, if the gate is open: brief rounds, and if most turns of the last one did
     // nothing, turns of those that may go on. At other gates all take turns.
-    fn between_rounds(&mut self, bench: &mut Bench<'_>, last: Round, is_first: bool) -> Round
+    fn between_rounds(&mut self, bench: &mut Sequential<'_>, last: Round, is_first: bool) -> Round
         requires { MayRun (sight_of bench.old) last }
         ensures { HasAdvanced bench.old bench.new last result }
     {
@@ -315,7 +315,7 @@ impl<'g, L: Ledger, G: Gate> Driver<'g, L, G> {
 
     // Rounds, until one in which nothing was done; or, if the run may be left, until there is work for several workers: then it may go
     // on from the round that is the error.
-    fn last_round(&mut self, bench: &mut Bench<'_>, first: Round) -> Result<Round, Round>
+    fn last_round(&mut self, bench: &mut Sequential<'_>, first: Round) -> Result<Round, Round>
         requires { MayRun (sight_of bench.old) first }
         ensures last { MatchResult result (HasComeToRest bench.old bench.new first) (λ r. (self.old.may_leave ≡ true) × HasAdvanced bench.old bench.new first r) }
         ensures worked { HasWorked bench.old bench.new }
@@ -339,7 +339,11 @@ impl<'g, L: Ledger, G: Gate> Driver<'g, L, G> {
 
     /// Rounds to the end of a part; or, if the run may be left, until there is work for several workers: then it may go on from the round
     /// that is the error.
-    pub(crate) fn to_end(&mut self, bench: &mut Bench<'_>, first: Round) -> Result<PartEnd, Round>
+    pub(crate) fn to_end(
+        &mut self,
+        bench: &mut Sequential<'_>,
+        first: Round,
+    ) -> Result<PartEnd, Round>
         requires { MayRun (sight_of bench.old) first }
         ensures ended { IfOk result (IsPartEnd bench.new (all_events (sight_of bench.old) + first.left)) }
         ensures wide { IfErr result (λ r. (self.old.may_leave ≡ true) × HasAdvanced bench.old bench.new first r) }
@@ -381,7 +385,7 @@ pub fn verdict_of(memory: bool, ends: &[End]) -> Verdict
 /// run may go on. Steps are counted on a ledger of its own. The list of ends has room for each instance. Never allocates.
 pub fn run_until_wide<G: Gate, L: Ledger>(
     blank: Blank,
-    bench: &mut Bench<'_>,
+    bench: &mut Sequential<'_>,
     gate: &G,
     may_leave: bool,
     ends: Vec<End>,
@@ -408,7 +412,7 @@ pub fn run_until_wide<G: Gate, L: Ledger>(
 /// The same to the end, if the run may not be left. Returns nothing if it may be left and there is work for several workers.
 pub fn run_part_alone<G: Gate, L: Ledger>(
     blank: Blank,
-    bench: &mut Bench<'_>,
+    bench: &mut Sequential<'_>,
     gate: &G,
     may_leave: bool,
     ends: Vec<End>,

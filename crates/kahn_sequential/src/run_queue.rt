@@ -6,7 +6,7 @@ use std::collections::VecDeque;
 
 // Whether an instance may go on, and whether it stands in the queue.
 #[derive(Clone, Copy, Drop)]
-struct Place {
+struct QueuePlace {
     awake: bool,
     queued: bool,
 }
@@ -15,7 +15,7 @@ struct Place {
 /// one that is wrongly there does nothing in its turn.
 #[derive(Drop)]
 pub(crate) struct RunQueue {
-    places: Vec<Place>,
+    places: Vec<QueuePlace>,
     turns: VecDeque<usize>,
     // A reader that comes before all others, since something was just sent to it.
     next: Option<usize>,
@@ -26,7 +26,7 @@ pub(crate) struct RunQueue {
 impl RunQueue {
     /// No instance of `instances`. Fails only if memory was refused.
     pub(crate) fn new(alloc: Global, instances: usize) -> Result<RunQueue, NoMemory> {
-        let asleep = Place {
+        let asleep = QueuePlace {
             awake: false,
             queued: false,
         };

@@ -8,7 +8,7 @@ ghost use Rattle.kahn_sequential.specs.inner.Noted.{AreAtRest, AreNoted, AreNote
 ghost use Rattle.kahn_sequential.specs.inner.Workbench.{HasAdvanced, HasWorked, MayRun, sight_of};
 ghost use Rattle.std.specs.Prelude.{◌≡◌, ◌<◌, ◌≤◌, ◌+◌, ◌^◌, length, false, true, vec_capacity, IsTrue};
 
-use crate::bench::Bench;
+use crate::bench::Sequential;
 use crate::rounds::{Driver, PartEnd, Round};
 use crate::woken::Woken;
 use kahn_code::Steps;
@@ -36,7 +36,7 @@ impl<'g, L: Ledger, G: Gate> Driver<'g, L, G> {
     // The turn of an instance that was woken, which wakes the readers of what it wrote. Whether it is at rest then.
     fn settle_one(
         &mut self,
-        bench: &mut Bench<'_>,
+        bench: &mut Sequential<'_>,
         round: &mut Round,
         woken: &mut Woken,
         turned: &mut Woken,
@@ -66,7 +66,7 @@ impl<'g, L: Ledger, G: Gate> Driver<'g, L, G> {
     // Turns of those that were woken, until all are at rest. Whether they are, and nothing more than that was to be done.
     fn settle(
         &mut self,
-        bench: &mut Bench<'_>,
+        bench: &mut Sequential<'_>,
         round: &mut Round,
         woken: &mut Woken,
         turned: &mut Woken,
@@ -93,7 +93,7 @@ impl<'g, L: Ledger, G: Gate> Driver<'g, L, G> {
 // A part of so many events as the plan's bound, to its end.
 fn part_of<G: Gate, L: Ledger>(
     blank: Blank,
-    bench: &mut Bench<'_>,
+    bench: &mut Sequential<'_>,
     gate: &G,
     ends: Vec<End>,
     woken: &mut Woken,
@@ -141,7 +141,7 @@ fn part_of<G: Gate, L: Ledger>(
 /// were noted, those of the others stay. Steps are counted on a ledger of its own. Never allocates.
 pub(crate) fn run_on<G: Gate, L: Ledger>(
     blank: Blank,
-    bench: &mut Bench<'_>,
+    bench: &mut Sequential<'_>,
     gate: &G,
     ends: Vec<End>,
     woken: &mut Woken,

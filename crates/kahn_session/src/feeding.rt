@@ -8,7 +8,7 @@ ghost use Rattle.kahn_session.specs.Live.{IsFedBy, IsMeantLine, IsText, IsUnfedB
 use crate::fault::TakeFault;
 use crate::pace::Paced;
 use kahn_streams::{Network, Value, channel_meant};
-use kahn_texts::{LineFault, MOST_BYTES, read_line};
+use kahn_texts::{EntryFault, MOST_BYTES, read_line};
 use std::alloc::Global;
 use std::str;
 
@@ -24,9 +24,9 @@ fn entry_of_line(alloc: Global, line: &[u8]) -> Result<Option<(String, Vec<Value
     };
     match read_line(alloc, line) {
         Ok(entry) => Ok(entry),
-        Err(LineFault::NoHead) => Err(TakeFault::BadLine),
-        Err(LineFault::NoValues) => Err(TakeFault::BadValue),
-        Err(LineFault::NoMemory) => Err(TakeFault::NoMemory),
+        Err(EntryFault::NoHead) => Err(TakeFault::BadLine),
+        Err(EntryFault::NoValues) => Err(TakeFault::BadValue),
+        Err(EntryFault::NoMemory) => Err(TakeFault::NoMemory),
     }
 }
 

@@ -5,7 +5,7 @@ use Rattle.kahn_streams.specs.Types.{Value, Failure}
 use Rattle.kahn_streams.specs.declared.value.Value.TheVariants.{Logical}
 use Rattle.kahn_streams.specs.Syntax.{Expr, Literal, Variable, Wait, Negate, Not, Binary, Conditional, Stmt, Skip, Assign, Send, Print, Seq, If, While, Repeat}
 use Rattle.kahn_streams.specs.Arithmetic.{number, truth, ranged, apply}
-use Rattle.kahn_streams.specs.Script.{Port, Parameter, Printer, Tapes, Script, Give, Fail, Waits, Sends, Turns, Rest, Outcome, Got, Dry, Fault, Cut, Reached, after_event, after_send, put, wait_at, play}
+use Rattle.kahn_streams.specs.Script.{Port, Parameter, Printer, Tapes, Script, Give, Fail, Waits, Sends, Turns, Rest, ScriptOutcome, Got, Dry, Fault, Cut, Reached, after_event, after_send, put, wait_at, play}
 use Rattle.kahn_streams.specs.Meaning.{Store, constant, settle, value_of, turns_of, script_of}
 use Rattle.kahn_streams.specs.Compose.{go_on, and_so, ExpressionsCompose, StatementsCompose}
 
@@ -18,7 +18,7 @@ graft (Sends p v s) f = Sends p v (graft s f)
 graft (Turns s) f = Turns (graft s f)
 graft Rest f = Rest
 
-less : {A B : Type 0} (n : ℕ) (o : Outcome A) (r : Reached A) (f : A → Script B) →
+less : {A B : Type 0} (n : ℕ) (o : ScriptOutcome A) (r : Reached A) (f : A → Script B) →
     after_event (go_on n o r f) ≡ go_on (suc n) o (after_event r) f
 less n (Got a) r f =
     let e : suc n - suc r.events ≡ n - r.events = omega arith in
@@ -27,7 +27,7 @@ less n (Dry q) r f = refl
 less n (Fault k) r f = refl
 less n Cut r f = refl
 
-less_send : {A B : Type 0} (n : ℕ) (p : Port) (v : Value) (o : Outcome A) (r : Reached A) (f : A → Script B) →
+less_send : {A B : Type 0} (n : ℕ) (p : Port) (v : Value) (o : ScriptOutcome A) (r : Reached A) (f : A → Script B) →
     after_send p v (go_on n o r f) ≡ go_on (suc n) o (after_send p v r) f
 less_send n p v (Got a) r f =
     let e : suc n - suc r.events ≡ n - r.events = omega arith in

@@ -5,7 +5,7 @@ use Rattle.std.proofs.Math.Nat.{le-max_left, le-max_right}
 use Rattle.kahn_streams.specs.Types.{Value, Line}
 use Rattle.kahn_streams.specs.declared.value.Line.TheVariants.{Channel, Print}
 use Rattle.kahn_streams.specs.Syntax.{Number, Stmt}
-use Rattle.kahn_streams.specs.Script.{Tapes, Script, Give, Fail, Waits, Sends, Turns, Rest, Outcome, Got, Dry, Fault, Cut, Reached, after_event, after_send, put, wait_at, play}
+use Rattle.kahn_streams.specs.Script.{Tapes, Script, Give, Fail, Waits, Sends, Turns, Rest, ScriptOutcome, Got, Dry, Fault, Cut, Reached, after_event, after_send, put, wait_at, play}
 use Rattle.kahn_streams.specs.Meaning.{Store, exec, script_of}
 use Rattle.kahn_streams.specs.Network.{Network, Instance, Hands, instance_at, Source, Given, Written, Nobody}
 use Rattle.kahn_streams.specs.Solution.{IsWhole, Histories, Inputs, tapes_of, exec_at, out, values_at, goes_to, source, fed, input_list, iterate, IsPrefix, HasEnd, HasSizes, none_left, one_more, Ending, ending, AreInputsExtended, IsExtended}
@@ -53,7 +53,7 @@ more_exec b s n m T le h =
 pub says_so_again : (b : Stmt) → SaysSoAgain b
 says_so_again b n k s T h = more_exec b s n (n + k) T (omega arith) h
 
-over : {A : Type 0} (o : Outcome A) (x : Ending) → ending o ≡ Some x → o ≡ Cut → ⊥
+over : {A : Type 0} (o : ScriptOutcome A) (x : Ending) → ending o ≡ Some x → o ≡ Cut → ⊥
 over (Got a) x e f = absurd cc
 over (Dry q) x e f = absurd cc
 over (Fault k) x e f = absurd cc

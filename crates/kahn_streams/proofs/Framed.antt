@@ -2,7 +2,7 @@
 use mathlib.Core.Path.{fun_ext}
 use Rattle.std.proofs.Common.{◌≡◌, ℕ, zero, suc, ◌≤◌, ◌==◌, Bool, true, false, List, [], ◌∷◌, ◌++◌, refl, sym, ap, ◌∙◌, eqb-true, if◌then◌else◌, le_of_suc-le-suc, not-suc-le-zero, arith}
 use Rattle.kahn_streams.specs.Types.{Value}
-use Rattle.kahn_streams.specs.Script.{Tapes, Script, Give, Fail, Waits, Sends, Turns, Rest, Outcome, Got, Dry, Fault, Cut, Reached, at_once, after_event, after_send, put, wait_at, play}
+use Rattle.kahn_streams.specs.Script.{Tapes, Script, Give, Fail, Waits, Sends, Turns, Rest, ScriptOutcome, Got, Dry, Fault, Cut, Reached, at_once, after_event, after_send, put, wait_at, play}
 
 -- each tape with more behind it
 abbrev pub and_more : Tapes → Tapes → Tapes
@@ -23,7 +23,7 @@ abbrev pub cut_short : {A : Type 0} → Tapes → Reached A → Reached A
 cut_short U r = record { outcome = Cut; left = and_more r.left U; events = r.events; sent = r.sent }
 
 -- where it is dry, that tape is no longer
-abbrev pub Stays : {A : Type 0} → Tapes → Outcome A → Type 0
+abbrev pub Stays : {A : Type 0} → Tapes → ScriptOutcome A → Type 0
 Stays U (Got a) = Unit {0}
 Stays U (Dry q) = U q ≡ []
 Stays U (Fault k) = Unit {0}
@@ -58,13 +58,13 @@ dry_now n q T U [] go h e = absurd (h refl)
 dry_now zero q T U (u ∷ us) go h e = refl
 dry_now (suc n) q T U (u ∷ us) go h e = absurd (omega (arith, e))
 
-dry_index : {A : Type 0} → Outcome A → ℕ → ℕ
+dry_index : {A : Type 0} → ScriptOutcome A → ℕ → ℕ
 dry_index (Dry q) r = q
 dry_index (Got a) r = r
 dry_index (Fault k) r = r
 dry_index Cut r = r
 
-same_dry : {A : Type 0} {q r : ℕ} → ◌≡◌ {A = Outcome A} (Dry q) (Dry r) → q ≡ r
+same_dry : {A : Type 0} {q r : ℕ} → ◌≡◌ {A = ScriptOutcome A} (Dry q) (Dry r) → q ≡ r
 unfolding dry_index
 same_dry {r = r} e = ap (λ o. dry_index o r) e
 

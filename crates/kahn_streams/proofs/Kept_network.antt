@@ -9,7 +9,7 @@ use Rattle.kahn_streams.specs.View.{bytes_of}
 use Rattle.kahn_streams.specs.Made.{IsMadeOf}
 use Rattle.kahn_streams.specs.Network as N
 use Rattle.kahn_streams.specs.Network.{network_of, instance_at, instance_from, kind_at, role_at, channel_source, process_of, idle, IsOnly, IsWriter, IsReader, source_of, channel_names}
-use Rattle.kahn_streams.specs.Wires.{the_process as the_declared, Line, shown, line_of, lines_of, first, process_at, IsKept}
+use Rattle.kahn_streams.specs.Wires.{the_process as the_declared, Line, shown, channel_line, lines_of, first, process_at, IsKept}
 use Rattle.kahn_streams.specs.Wiring.{declared_channels, writers, readers, IsMade, IsWellWired}
 use Rattle.kahn_streams.specs.declared.wires.Wire.{Wire}
 use Rattle.kahn_streams.proofs.By_number.{there, within, mapped, the_process, all_at}
@@ -18,7 +18,7 @@ use Rattle.kahn_streams.proofs.Sided.{declared_there, channel_count, named_at, l
 -- the number of wires
 pub wire_count : (t : Program) (ws : List Wire) → map shown ws ≡ lines_of t → length ws ≡ length (network_of t).channels
 wire_count t ws h =
-    sym (length-map {B = Line} ws shown) ∙ ap (λ (z : List Line). length z) h ∙ length-map {B = Line} (declared_channels t.declarations.items) (line_of t) ∙ sym (channel_count t)
+    sym (length-map {B = Line} ws shown) ∙ ap (λ (z : List Line). length z) h ∙ length-map {B = Line} (declared_channels t.declarations.items) (channel_line t) ∙ sym (channel_count t)
 
 -- what a network says of the channel of a wire
 pub record IsWire (t : Program) (c : ℕ) (w : Wire) : Type 0 where
@@ -29,7 +29,7 @@ pub record IsWire (t : Program) (c : ℕ) (w : Wire) : Type 0 where
   pub source : channel_source (network_of t) c ≡ source_of w.writer
   pub reader : IsOnly (IsReader (network_of t) c) w.reader
 
-one_wire : (t : Program) → IsWellWired t → (c : ℕ) (e : Name × (Kind × Role)) → slice_get (declared_channels t.declarations.items) c ≡ Some e → (w : Wire) → shown w ≡ line_of t e → IsWire t c w
+one_wire : (t : Program) → IsWellWired t → (c : ℕ) (e : Name × (Kind × Role)) → slice_get (declared_channels t.declarations.items) c ≡ Some e → (w : Wire) → shown w ≡ channel_line t e → IsWire t c w
 one_wire t h c e at w is =
     let name : string_bytes w.name ≡ bytes_of e.0 = ap (λ (z : Line). z.0.0) is in
     let kind : w.kind ≡ e.1.0 = ap (λ (z : Line). z.0.1.0) is in
@@ -50,8 +50,8 @@ wire_at t ws h lines c w is =
     let lt : c < length (network_of t).channels = subst (λ z. c < z) (wire_count t ws lines) (within ws c w is) in
     let d = declared_there t c lt in
     let shown_there = mapped shown ws c w is in
-    let line_there = mapped (line_of t) (declared_channels t.declarations.items) c d.0 d.1 in
-    let alike : Some (shown w) ≡ Some (line_of t d.0) = sym shown_there ∙ ap (λ z. slice_get z c) lines ∙ line_there in
+    let line_there = mapped (channel_line t) (declared_channels t.declarations.items) c d.0 d.1 in
+    let alike : Some (shown w) ≡ Some (channel_line t d.0) = sym shown_there ∙ ap (λ z. slice_get z c) lines ∙ line_there in
     one_wire t h c d.0 d.1 w (unsome alike)
   where
     unsome : {a b : Line} → Some a ≡ Some b → a ≡ b

@@ -5,7 +5,7 @@ use Rattle.std.proofs.Math.Nat.{le-max_left, le-max_right}
 use Rattle.kahn_streams.specs.Types.{Value, Line}
 use Rattle.kahn_streams.specs.declared.value.Line.TheVariants.{Channel}
 use Rattle.kahn_streams.specs.Syntax.{Number}
-use Rattle.kahn_streams.specs.Script.{Port, Tapes, Script, Give, Outcome, Got, Dry, Fault, Cut, Reached, play}
+use Rattle.kahn_streams.specs.Script.{Port, Tapes, Script, Give, ScriptOutcome, Got, Dry, Fault, Cut, Reached, play}
 use Rattle.kahn_streams.specs.Meaning.{Store, script_of}
 use Rattle.kahn_streams.specs.Network.{Network, Instance, Actual, Reads, Writes, Hands, instance_at, actual_at, Source, Given, Written, Nobody}
 use Rattle.kahn_streams.specs.Solution.{Histories, Inputs, opening, tape_of, tapes_of, exec_at, out, values_at, goes_to, source, fed, input_list, iterate, IsPrefix, IsExtended}
@@ -206,7 +206,7 @@ cut_reached : {A : Type 0} (U : Tapes) (n : ℕ) (a b : Reached A) → a ≡ cut
     (a.outcome ≡ Cut) × (a.events ≡ n) × (a.sent ≡ b.sent)
 cut_reached U n a b e f = (ap (λ r. r.outcome) e, ap (λ r. r.events) e ∙ f, ap (λ r. r.sent) e)
 
-stays_of : {A : Type 0} (i : Instance) (H G : Histories) (h : Feeds i H G) (o : Outcome A) →
+stays_of : {A : Type 0} (i : Instance) (H G : Histories) (h : Feeds i H G) (o : ScriptOutcome A) →
     KeepsTape i H G o → Stays (more_of i H G h) o
 stays_of i H G h (Dry q) k = no_more (tapes_of i H q) (h q).0 (sym k ∙ (h q).1)
 stays_of i H G h (Got a) k = tt

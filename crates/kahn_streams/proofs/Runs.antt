@@ -2,7 +2,7 @@
 use mathlib.Core.Path.{fun_ext}
 use Rattle.std.proofs.Common.{◌≡◌, ℕ, zero, suc, ◌==◌, Bool, true, false, List, [], ◌∷◌, ◌++◌, length, refl, sym, ap, ◌∙◌, subst, eqb-true, if◌then◌else◌, append-nil, arith}
 use Rattle.kahn_streams.specs.Types.{Value}
-use Rattle.kahn_streams.specs.Script.{Tapes, Script, Give, Fail, Waits, Sends, Turns, Rest, Outcome, Dry, Cut, Reached, at_once, after_event, after_send, put, wait_at, play}
+use Rattle.kahn_streams.specs.Script.{Tapes, Script, Give, Fail, Waits, Sends, Turns, Rest, ScriptOutcome, Dry, Cut, Reached, at_once, after_event, after_send, put, wait_at, play}
 use Rattle.kahn_streams.specs.Steps.{Step, Took, Sent, Turned, Follows, here, took, sent, turned, empty, values_taken, sends_of, and_then, since, halted, RanBy}
 use Rattle.kahn_streams.proofs.Framed.{and_more}
 use Rattle.kahn_streams.proofs.Fuel.{Alike, gives, fails, waits_last, waits, sends_last, sends, turns_last, turns}
@@ -67,7 +67,7 @@ play_taken {A = A} {s = s} {s' = s'} {steps = steps} h =
     (play_on h 0 empty ∙
     (ap (since steps) (play_zero s') ∙ tidy steps (halted s'))))
   where
-    tidy : (steps : List Step) (o : Outcome A) → since steps (at_once o empty) ≡ record { outcome = o; left = empty; events = length steps; sent = sends_of steps }
+    tidy : (steps : List Step) (o : ScriptOutcome A) → since steps (at_once o empty) ≡ record { outcome = o; left = empty; events = length steps; sent = sends_of steps }
     tidy steps o = rw (and_then_zero steps, append-nil (sends_of steps)) refl
 
 -- ---- the steps of a run
@@ -88,7 +88,7 @@ ran_wait n q T go [] e step =
 ran_wait {A = A} zero q T go (v ∷ vs) e step =
     record { steps = []; to = Waits q go; follows = here; tapes = λ r. refl; events = refl; sent = refl; stopped = λ r f g. full e (same_dry f) g }
   where
-    same_dry : {r : ℕ} → ◌≡◌ {A = Outcome A} (Dry q) (Dry r) → q ≡ r
+    same_dry : {r : ℕ} → ◌≡◌ {A = ScriptOutcome A} (Dry q) (Dry r) → q ≡ r
     same_dry f = cc
 
     full : {r : ℕ} → T q ≡ v ∷ vs → q ≡ r → T r ≡ [] → ⊥

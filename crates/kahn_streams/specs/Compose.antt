@@ -2,17 +2,17 @@
 use Rattle.std.specs.Prelude.{◌≡◌, ℕ, ◌+◌, ◌-◌, ◌++◌, suc}
 use Rattle.kahn_streams.specs.Types.{Value}
 use Rattle.kahn_streams.specs.Syntax.{Expr, Stmt, While, If, Seq, Skip, Repeat}
-use Rattle.kahn_streams.specs.Script.{Tapes, Script, Give, Outcome, Got, Dry, Fault, Cut, Reached, play, at_once, after_event}
+use Rattle.kahn_streams.specs.Script.{Tapes, Script, Give, ScriptOutcome, Got, Dry, Fault, Cut, Reached, play, at_once, after_event}
 use Rattle.kahn_streams.specs.Meaning.{Store, value_of, script_of, eval, exec}
 
 -- what was reached, and from there what is reached by f on the tapes and the events that are left
 abbrev pub added : {A B : Type 0} → Reached A → Reached B → Reached B
 added r t = record { outcome = t.outcome; left = t.left; events = r.events + t.events; sent = r.sent ++ t.sent }
 
-abbrev pub ended_by : {A B : Type 0} → Outcome B → Reached A → Reached B
+abbrev pub ended_by : {A B : Type 0} → ScriptOutcome B → Reached A → Reached B
 ended_by o r = record { outcome = o; left = r.left; events = r.events; sent = r.sent }
 
-abbrev pub go_on : {A B : Type 0} → ℕ → Outcome A → Reached A → (A → Script B) → Reached B
+abbrev pub go_on : {A B : Type 0} → ℕ → ScriptOutcome A → Reached A → (A → Script B) → Reached B
 go_on n (Got a) r f = added r (play (n - r.events) (f a) r.left)
 go_on n (Dry q) r f = ended_by (Dry q) r
 go_on n (Fault k) r f = ended_by (Fault k) r

@@ -1,6 +1,6 @@
 -- Believed. What is wrong with a program, in the order in which it is looked for: with a body, with a whole program. Only the first
 -- is answered; those after it don't matter.
-use Rattle.kahn_streams.specs.Wiring.{Scope, is_closed, locals_of, scope_of, entries, Global, IsChannel, IsProcess, declared_channels, global, Handover, handed, handed_by, ends, writers, readers, side_at, takes, gives}
+use Rattle.kahn_streams.specs.Wiring.{Locals, is_closed, locals_of, scope_of, entries, Global, IsChannel, IsProcess, declared_channels, global, Handover, handed, handed_by, ends, writers, readers, side_at, takes, gives}
 use Rattle.std.specs.Prelude.{◌≡◌, ◌⊎◌, ℕ, Bool, true, false, List, [], ◌∷◌, ◌++◌, Option, None, Some, Result, Ok, Err, MatchResult, IsSome, if◌then◌else◌, suc, ◌+◌, map, length, nat_lt, nat_eq}
 use Rattle.std.proofs.Common.{bytes_eq}
 use Rattle.std.specs.Map.{lookup}
@@ -34,7 +34,7 @@ use Rattle.kahn_streams.specs.declared.tree.Taking.TheVariants as T
 use Rattle.kahn_streams.specs.declared.tree.Declaration.TheVariants as D
 use Rattle.kahn_streams.specs.declared.tree.Argument.TheVariants as A
 
-abbrev pub find : Scope → List ℕ → Option Taking
+abbrev pub find : Locals → List ℕ → Option Taking
 find s x = lookup (bytes_eq x) s
 
 -- the first fault, or what a part without faults gives
@@ -93,7 +93,7 @@ level_kind k end_of-Operand = k
 level_kind k (more_of-Operand o at e rest) = level_kind (gives o) rest
 
 -- the kind of an expression that has no fault inside
-abbrev pub kind_of : Scope → Form → Kind
+abbrev pub kind_of : Locals → Form → Kind
 kind_of s (Number z) = Integer
 kind_of s (F.Logical b) = Logical
 kind_of s (Variable x) = kind_in (find s (bytes_of x))
@@ -119,7 +119,7 @@ spanning a b = record { from = a.from; to = b.to }
 
 abbrev mutual
   -- what is wrong inside an expression, from left to right, and the kind of an operand after its inside
-  pub faults_in : Scope → Form → List CheckFault
+  pub faults_in : Locals → Form → List CheckFault
   faults_in s (Number z) = []
   faults_in s (F.Logical b) = []
   faults_in s (Variable x) = misread (find s (bytes_of x)) x.span
@@ -132,17 +132,17 @@ abbrev mutual
       (faults_in s t ++ wrong Logical (kind_of s t) at) ++ (faults_in s a ++ (faults_in s b ++ wrong (kind_of s a) (kind_of s b) at''))
 
   -- what is wrong with the operands of a level after the first; what is before has kind k and span `done`
-  pub level_faults : {m : _} → Scope → Kind → Span → Row_of-Operand m → List CheckFault
+  pub level_faults : {m : _} → Locals → Kind → Span → Row_of-Operand m → List CheckFault
   level_faults s k done end_of-Operand = []
   level_faults s k done (more_of-Operand o at e rest) =
       wrong_first (takes o) k done ++ (faults_in s e ++ (wrong_second (takes o) k (kind_of s e) at ++ level_faults s (gives o) (spanning done at) rest))
 
 -- an expression where kind k is wanted: its inside, then its kind
-abbrev pub faults_as : Kind → Scope → Expression → List CheckFault
+abbrev pub faults_as : Kind → Locals → Expression → List CheckFault
 faults_as k s e = faults_in s e.form ++ wrong k (kind_of s e.form) e.span
 
 abbrev mutual
-  pub faults_of : Scope → Action → List CheckFault
+  pub faults_of : Locals → Action → List CheckFault
   faults_of s Empty = []
   faults_of s (Assign x e) = misread (find s (bytes_of x)) x.span ++ faults_as (kind_in (find s (bytes_of x))) s e
   faults_of s (Send e q) = faults_in s e.form ++ (misused Out (find s (bytes_of q)) q.span ++ wrong (kind_in (find s (bytes_of q))) (kind_of s e.form) e.span)
@@ -152,15 +152,15 @@ abbrev mutual
   faults_of s (While' t p at a) = faults_as Logical s t ++ faults_of s a
   faults_of s (Repeat' p at a) = faults_of s a
 
-  pub row_faults : {m : _} → Scope → Row_of-Statement m → List CheckFault
+  pub row_faults : {m : _} → Locals → Row_of-Statement m → List CheckFault
   row_faults s end_of-Statement = []
   row_faults s (more_of-Statement at a rest) = faults_of s a ++ row_faults s rest
 
-  pub else_faults : Scope → Held-Action-If-2 → List CheckFault
+  pub else_faults : Locals → Held-Action-If-2 → List CheckFault
   else_faults s None' = []
   else_faults s (Some' p at a) = faults_of s a
 
-abbrev pub body_faults : Scope → List Statement → List CheckFault
+abbrev pub body_faults : Locals → List Statement → List CheckFault
 body_faults s [] = []
 body_faults s (t ∷ rest) = faults_of s t.action ++ body_faults s rest
 

@@ -1,7 +1,7 @@
 -- Believed. The laws of the meaning.
 use Rattle.std.specs.Prelude.{◌≡◌, ◌≤◌, ℕ, suc, ◌+◌, max, List, ◌++◌, slice_get, Some}
 use Rattle.kahn_streams.specs.Types.{Value, Line}
-use Rattle.kahn_streams.specs.Script.{Give, Tapes, play, Port, Outcome, Got, Dry, Fault, Cut, Reached}
+use Rattle.kahn_streams.specs.Script.{Give, Tapes, play, Port, ScriptOutcome, Got, Dry, Fault, Cut, Reached}
 use Rattle.kahn_streams.specs.Meaning.{Store, script_of, exec}
 use Rattle.kahn_streams.specs.Syntax.{Stmt}
 use Rattle.kahn_streams.specs.Inputs.{AreOfKind}
@@ -37,7 +37,7 @@ abbrev pub AreSame : {A : Type 0} → Reached A → Reached A → Type 0
 AreSame a b = (a.outcome ≡ b.outcome) × (a.events ≡ b.events) × (a.sent ≡ b.sent)
 
 -- if the outcome is dry, the tape of that parameter is the same
-abbrev pub KeepsTape : {A : Type 0} → Instance → Histories → Histories → Outcome A → Type 0
+abbrev pub KeepsTape : {A : Type 0} → Instance → Histories → Histories → ScriptOutcome A → Type 0
 KeepsTape i H G (Dry q) = tapes_of i G q ≡ tapes_of i H q
 KeepsTape i H G (Got a) = Unit {0}
 KeepsTape i H G (Fault k) = Unit {0}

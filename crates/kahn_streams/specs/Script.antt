@@ -22,19 +22,19 @@ pub data Script (A : Type 0) : Type 0 where
   Rest : Script A
 
 -- how far it came
-pub data Outcome (A : Type 0) : Type 0 where
-  Got : A → Outcome A
-  Dry : ℕ → Outcome A
-  Fault : Failure → Outcome A
-  Cut : Outcome A
+pub data ScriptOutcome (A : Type 0) : Type 0 where
+  Got : A → ScriptOutcome A
+  Dry : ℕ → ScriptOutcome A
+  Fault : Failure → ScriptOutcome A
+  Cut : ScriptOutcome A
 
 pub record Reached (A : Type 0) : Type 0 where
-  pub outcome : Outcome A
+  pub outcome : ScriptOutcome A
   pub left : Tapes
   pub events : ℕ
   pub sent : List (Port × Value)
 
-abbrev pub at_once : {A : Type 0} → Outcome A → Tapes → Reached A
+abbrev pub at_once : {A : Type 0} → ScriptOutcome A → Tapes → Reached A
 at_once o T = record { outcome = o; left = T; events = 0; sent = [] }
 
 abbrev pub after_event : {A : Type 0} → Reached A → Reached A

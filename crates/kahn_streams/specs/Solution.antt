@@ -7,7 +7,7 @@ use Rattle.kahn_streams.specs.declared.value.Value.TheVariants.{Integer, Logical
 use Rattle.kahn_streams.specs.declared.value.Line.TheVariants.{Channel, Print}
 use Rattle.kahn_streams.specs.declared.tree.Kind.TheVariants as KindOf
 use Rattle.kahn_streams.specs.Network.{Actual, Instance, Network, Reads, Writes, Hands, instance_at, actual_at, is_written, Source, Given, Written, Nobody, channel_source}
-use Rattle.kahn_streams.specs.Script.{Port, Parameter, Printer, Tapes, Outcome, Got, Dry, Fault, Cut, Reached}
+use Rattle.kahn_streams.specs.Script.{Port, Parameter, Printer, Tapes, ScriptOutcome, Got, Dry, Fault, Cut, Reached}
 use Rattle.kahn_streams.specs.Meaning.{Store, constant, exec}
 
 -- a history for each line
@@ -101,7 +101,7 @@ pub data Ending : Type 0 where
   Waiting : ℕ → Ending
   Faulted : Failure → Ending
 
-abbrev pub ending : {A : Type 0} → Outcome A → Option Ending
+abbrev pub ending : {A : Type 0} → ScriptOutcome A → Option Ending
 ending (Got a) = Some Ended
 ending (Dry q) = Some (Waiting q)
 ending (Fault k) = Some (Faulted k)

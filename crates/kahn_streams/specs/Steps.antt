@@ -1,7 +1,7 @@
 -- Believed. The events of a run, one by one.
 use Rattle.std.specs.Prelude.{◌≡◌, ℕ, suc, ◌==◌, List, [], ◌∷◌, ◌++◌, length, if◌then◌else◌}
 use Rattle.kahn_streams.specs.Types.{Value}
-use Rattle.kahn_streams.specs.Script.{Port, Tapes, Script, Waits, Sends, Turns, Reached, Outcome, play}
+use Rattle.kahn_streams.specs.Script.{Port, Tapes, Script, Waits, Sends, Turns, Reached, ScriptOutcome, play}
 
 pub data Step : Type 0 where
   Took : ℕ → Value → Step
@@ -45,24 +45,24 @@ abbrev pub since : {A : Type 0} → List Step → Reached A → Reached A
 since steps r = record { outcome = r.outcome; left = r.left; events = and_then steps r.events; sent = sends_of steps ++ r.sent }
 
 -- the outcome with no event and no value left
-abbrev pub halted : {A : Type 0} → Script A → Outcome A
-halted (Script.Give a) = Outcome.Got a
-halted (Script.Fail k) = Outcome.Fault k
-halted (Script.Waits q go) = Outcome.Dry q
-halted (Script.Sends p v s) = Outcome.Cut
-halted (Script.Turns s) = Outcome.Cut
-halted Script.Rest = Outcome.Cut
+abbrev pub halted : {A : Type 0} → Script A → ScriptOutcome A
+halted (Script.Give a) = ScriptOutcome.Got a
+halted (Script.Fail k) = ScriptOutcome.Fault k
+halted (Script.Waits q go) = ScriptOutcome.Dry q
+halted (Script.Sends p v s) = ScriptOutcome.Cut
+halted (Script.Turns s) = ScriptOutcome.Cut
+halted Script.Rest = ScriptOutcome.Cut
 
 -- with just the events done and the values taken, all is taken and the same is sent
 abbrev pub Replays : {A : Type 0} → Script A → List Step → Script A → Type 0
 Replays s steps to = play (length steps) s (values_taken steps) ≡ record { outcome = halted to; left = empty; events = length steps; sent = sends_of steps }
 
 -- where a run stopped: nothing more to do, a fault, an empty tape, or an event that isn't allowed any more
-abbrev pub StoppedAt : {A : Type 0} → Outcome A → Tapes → Script A → Type 0
-StoppedAt (Outcome.Got a) left s = s ≡ Script.Give a
-StoppedAt (Outcome.Fault k) left s = s ≡ Script.Fail k
-StoppedAt {A} (Outcome.Dry q) left s = ((go : Value → Script A) × (s ≡ Waits q go)) × (left q ≡ [])
-StoppedAt Outcome.Cut left s = (q : ℕ) → halted s ≡ Outcome.Dry q → left q ≡ [] → ⊥
+abbrev pub StoppedAt : {A : Type 0} → ScriptOutcome A → Tapes → Script A → Type 0
+StoppedAt (ScriptOutcome.Got a) left s = s ≡ Script.Give a
+StoppedAt (ScriptOutcome.Fault k) left s = s ≡ Script.Fail k
+StoppedAt {A} (ScriptOutcome.Dry q) left s = ((go : Value → Script A) × (s ≡ Waits q go)) × (left q ≡ [])
+StoppedAt ScriptOutcome.Cut left s = (q : ℕ) → halted s ≡ ScriptOutcome.Dry q → left q ≡ [] → ⊥
 
 -- what was reached was reached by these steps
 pub record RanBy {A : Type 0} (s : Script A) (T : Tapes) (r : Reached A) : Type 0 where

@@ -18,12 +18,12 @@ abbrev pub first : List Side → Option Side
 first [] = None
 first (e ∷ es) = Some e
 
-abbrev pub line_of : Program → Name × (Kind × Role) → Line
-line_of t c = ((bytes_of c.0, c.1), (first (writers t (bytes_of c.0)), first (readers t (bytes_of c.0))))
+abbrev pub channel_line : Program → Name × (Kind × Role) → Line
+channel_line t c = ((bytes_of c.0, c.1), (first (writers t (bytes_of c.0)), first (readers t (bytes_of c.0))))
 
 -- each declared channel with its first writer and its first reader
 abbrev pub lines_of : Program → List Line
-lines_of t = map (line_of t) (declared_channels t.declarations.items)
+lines_of t = map (channel_line t) (declared_channels t.declarations.items)
 
 abbrev pub the_process : Option Declaration → Option Process
 the_process None = None

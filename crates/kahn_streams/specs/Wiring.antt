@@ -82,8 +82,8 @@ Agrees w (S.Repeat a) = Agrees w a
 -- ---- what is declared
 
 -- what the names of a process stand for, in order of declaration
-abbrev pub Scope : Type 0
-Scope = List (List ℕ × Taking)
+abbrev pub Locals : Type 0
+Locals = List (List ℕ × Taking)
 
 -- the names that a process declares, its parameters first and then its variables, and what each stands for
 abbrev pub locals_of : Process → List (Name × Taking)
@@ -92,7 +92,7 @@ locals_of p = map (λ q. (q.name, q.taking)) p.parameters.items ++ map (λ v. (v
 abbrev pub entries : {A : Type 0} → List (Name × A) → List (List ℕ × A)
 entries xs = map (λ e. (bytes_of e.0, e.1)) xs
 
-abbrev pub scope_of : Process → Scope
+abbrev pub scope_of : Process → Locals
 scope_of p = entries (locals_of p)
 
 -- what a name of the program stands for

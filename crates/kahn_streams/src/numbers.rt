@@ -16,11 +16,11 @@ use std::marker::Model;
 #[derive(Drop)]
 pub struct Numbered<'p, A: Allocator = Global> {
     process: &'p Process,
-    numbers: Table<A>,
+    numbers: NumberTable<A>,
 }
 
 // Ordered, not hashed: if the seed of a hash is known, whoever chooses the names can make a look-up slow.
-type Table<A> = BTreeMap<String, usize, A>;
+type NumberTable<A> = BTreeMap<String, usize, A>;
 
 impl<'p, A: Allocator> Model for Numbered<'p, A> {
     ghost use Rattle.kahn_streams.specs.contracts.tree.Action as action;
@@ -42,7 +42,7 @@ impl<'p, A: Allocator> Model for Numbered<'p, A> {
 
 // Notes the number of a name, unless it has one.
 fn note<A: Allocator + Clone>(
-    numbers: &mut Table<A>,
+    numbers: &mut NumberTable<A>,
     name: &Name,
     number: usize,
 ) -> Result<(), NoMemory>

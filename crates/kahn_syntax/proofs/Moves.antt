@@ -1,5 +1,5 @@
 -- How the parts that are open go on, over what the parser reads.
-use Rattle.kahn_syntax.proofs.Common.{Action, StopsAs, head_parts, Then, Else, Do, On, End, ElseTail, StatementsTail, ◌≡◌, ◌≢◌, ℕ, ◌+◌, ◌≤◌, ◌<◌, List, [], ◌∷◌, ◌++◌, ◌⊎◌, ⊎_elim, length, true, false, cond, Some, None, Result, Ok, Err, true≢false, refl, sym, ap, ◌∙◌, subst, arith, append_assoc, Span, Class, Lexeme, MatchResult, Expression, Form, Covers, Statement, Stop, Refused, TooDeep, NoMemory, Terminal, word, terminal, terminals, First, Token, accepts, leads, class_of, a_kind, a_name, a_number, a_sign, a_word, an_operator, either, rules_of, starts, enters, followed, opened_by, argument_rules, declaration_rules, other_rules, process_rules, simple_rules, Part, ProgramPart, DeclarationsPart, DeclarationPart, ProcessPart, GroupsPart, GroupPart, VariablesPart, InstancePart, ArgumentsPart, ArgumentPart, ExpressionPart, OperatorsPart, StatementPart, SimplePart, GroupsTail, ArgumentsTail, TokenPart, LevelPart, levels, step, Refuses, TooFar, fate, Operator, Level, Or, operator_terminal, rank, Rung, whole, ors, denials, relations, sums, at, tighter, rung_of, Kind, kind_terminal, IsAbsent, Reads, Moves, Stops, Halts, ExpressionRead, StatementRead, IsStated, Begin, Close, If, Integer, Logical, NameClass, Not, NotWord, Process, Semicolon, SignClass, Word}
+use Rattle.kahn_syntax.proofs.Common.{Action, StopsAs, head_parts, Then, Else, Do, On, End, ElseTail, StatementsTail, ◌≡◌, ◌≢◌, ℕ, ◌+◌, ◌≤◌, ◌<◌, List, [], ◌∷◌, ◌++◌, ◌⊎◌, ⊎_elim, length, true, false, cond, Some, None, Result, Ok, Err, true≢false, refl, sym, ap, ◌∙◌, subst, arith, append_assoc, Span, Class, Lexeme, MatchResult, Expression, Form, Covers, Statement, Stop, Refused, TooDeep, NoMemory, Terminal, word, terminal, terminals, First, RuleToken, accepts, leads, class_of, a_kind, a_name, a_number, a_sign, a_word, an_operator, either, rules_of, starts, enters, followed, opened_by, argument_rules, declaration_rules, other_rules, process_rules, simple_rules, Part, ProgramPart, DeclarationsPart, DeclarationPart, ProcessPart, GroupsPart, GroupPart, VariablesPart, InstancePart, ArgumentsPart, ArgumentPart, ExpressionPart, OperatorsPart, StatementPart, SimplePart, GroupsTail, ArgumentsTail, TokenPart, LevelPart, levels, step, Refuses, TooFar, fate, Operator, Level, Or, operator_terminal, rank, Rung, whole, ors, denials, relations, sums, at, tighter, rung_of, Kind, kind_terminal, IsAbsent, Reads, Moves, Stops, Halts, ExpressionRead, StatementRead, IsStated, Begin, Close, If, Integer, Logical, NameClass, Not, NotWord, Process, Semicolon, SignClass, Word}
 use Rattle.kahn_syntax.proofs.WholePrograms.{take_kind, skip_variables}
 use Rattle.kahn_syntax.proofs.Steps.{go, runs, part, skips, refuses, passes, passes_one, follows, follows_some, starts_one, starts_followed, skip_level, skip_tail, take_token, IsChain, IsOther, open_chain, open_whole, open_denial, take_comparison, take_operator}
 use Rattle.kahn_syntax.proofs.Reached.{go_far}
@@ -55,7 +55,7 @@ deep text d p qs rs k i j x b f e q =
     subst (Stops text d (p ∷ qs) i) (sym q)
     (λ s l. ap (fate 64 (p ∷ qs ++ s)) e ∙ (go_far 64 (p ∷ qs ++ s) (rs ++ s) k (terminals text j) (f s) (b s l) ∙ ap TooFar n))
 
-pub token : (text : List ℕ) (d : ℕ) (t : Token) (qs : List Part) (k : Terminal) (i j : List Lexeme) → Bound d qs → accepts t k ≡ true →
+pub token : (text : List ℕ) (d : ℕ) (t : RuleToken) (qs : List Part) (k : Terminal) (i j : List Lexeme) → Bound d qs → accepts t k ≡ true →
     terminals text i ≡ k ∷ terminals text j → Moves text d (TokenPart t ∷ qs) qs i j
 token text d t qs k i j b h e = record { fates = λ s l. ap (fate 64 (TokenPart t ∷ qs ++ s)) e ∙ take_token t 64 (qs ++ s) k (terminals text j) h (b s l) }
 
@@ -63,7 +63,7 @@ some_is : (c e : Class) → Some c ≡ Some e → c ≡ e
 some_is c e p = cc
 
 -- a lexeme of the token's class is the token
-class_takes : (t : Token) (c : Class) (text : List ℕ) (at : Span) → class_of t ≡ Some c → accepts t (terminal text c at) ≡ true
+class_takes : (t : RuleToken) (c : Class) (text : List ℕ) (at : Span) → class_of t ≡ Some c → accepts t (terminal text c at) ≡ true
 class_takes (a_word NotWord) c text at e = absurd cc
 class_takes (either v w) c text at e = absurd cc
 class_takes (a_sign Not) c text at e = absurd cc
@@ -72,34 +72,34 @@ class_takes (an_operator o) c text at e = absurd cc
 class_takes t c text at e = subst (λ x. accepts t (terminal text x at) ≡ true) (some_is _ c e) refl
 
 -- an awaited lexeme
-pub expected : (text : List ℕ) (d : ℕ) (t : Token) (qs : List Part) (c : Class) (i j : List Lexeme) → Bound d qs → class_of t ≡ Some c → First c i j →
+pub expected : (text : List ℕ) (d : ℕ) (t : RuleToken) (qs : List Part) (c : Class) (i j : List Lexeme) → Bound d qs → class_of t ≡ Some c → First c i j →
     Moves text d (TokenPart t ∷ qs) qs i j
 expected text d t qs c i j b h f = token text d t qs (terminal text c f.0) i j b (class_takes t c text f.0 h) (f.1 text)
 
 -- a part of one rule, of which nothing may be there
-abbrev pub IsTail : Part → Token → List Part → Type 0
+abbrev pub IsTail : Part → RuleToken → List Part → Type 0
 IsTail p t ps = rules_of p ≡ (true, (t, ps) ∷ [])
 
 -- a lexeme with which a tail goes on
-pub goes : (text : List ℕ) (d : ℕ) (p : Part) (t : Token) (ps qs : List Part) (c : Class) (i j : List Lexeme) → Bound d (ps ++ qs) → IsTail p t ps → class_of t ≡ Some c → First c i j →
+pub goes : (text : List ℕ) (d : ℕ) (p : Part) (t : RuleToken) (ps qs : List Part) (c : Class) (i j : List Lexeme) → Bound d (ps ++ qs) → IsTail p t ps → class_of t ≡ Some c → First c i j →
     Moves text d (p ∷ qs) (ps ++ qs) i j
 goes text d p t ps qs c i j b e h f = one text d p qs (ps ++ qs) (terminal text c f.0) i j b
     (λ s. ap (λ x. opened_by (qs ++ s) (cond x.0 (step (qs ++ s) (terminal text c f.0)) None) (enters x.1 (terminal text c f.0))) e
     ∙ (ap (λ y. opened_by (qs ++ s) (step (qs ++ s) (terminal text c f.0)) (cond y (Some ps) None)) (class_takes t c text f.0 h) ∙ ap Some (sym (append_assoc ps qs s)))) (f.1 text)
 
 -- a tail that ends
-pub ends : (text : List ℕ) (d : ℕ) (p : Part) (t : Token) (ps qs : List Part) (c : Class) (i : List Lexeme) → IsTail p t ps → class_of t ≡ Some c → IsAbsent c i → Moves text d (p ∷ qs) qs i i
+pub ends : (text : List ℕ) (d : ℕ) (p : Part) (t : RuleToken) (ps qs : List Part) (c : Class) (i : List Lexeme) → IsTail p t ps → class_of t ≡ Some c → IsAbsent c i → Moves text d (p ∷ qs) qs i i
 ends text d p t ps qs c i e h a = record { fates = λ s l. skip_tail p t ps 64 (qs ++ s) (terminals text i) e (a t h text) }
 
 -- a member of a list, and the lexeme that leads to the next
-pub next_member : (text : List ℕ) (d : ℕ) (ps : List Part) (u : Part) (t : Token) (p : Part) (qs : List Part) (c : Class) (i o a j : List Lexeme) → Bound d (p ∷ u ∷ qs) → Depth d (u ∷ qs) d →
+pub next_member : (text : List ℕ) (d : ℕ) (ps : List Part) (u : Part) (t : RuleToken) (p : Part) (qs : List Part) (c : Class) (i o a j : List Lexeme) → Bound d (p ∷ u ∷ qs) → Depth d (u ∷ qs) d →
     IsTail u t (p ∷ u ∷ []) → class_of t ≡ Some c → Moves text d ps (p ∷ u ∷ qs) i o → Reads text d (p ∷ []) o a → First c a j → Moves text d ps (p ∷ u ∷ qs) i j
 next_member text d ps u t p qs c i o a j b l g k m r f =
     then m
     (then (call text d d (p ∷ []) (u ∷ qs) o a l r) (goes text d u t (p ∷ u ∷ []) qs c a j b g k f))
 
 -- the last one
-pub last_member : (text : List ℕ) (d : ℕ) (ps : List Part) (u : Part) (t : Token) (p : Part) (qs : List Part) (c : Class) (i o a : List Lexeme) → Depth d (u ∷ qs) d →
+pub last_member : (text : List ℕ) (d : ℕ) (ps : List Part) (u : Part) (t : RuleToken) (p : Part) (qs : List Part) (c : Class) (i o a : List Lexeme) → Depth d (u ∷ qs) d →
     IsTail u t (p ∷ u ∷ []) → class_of t ≡ Some c → Moves text d ps (p ∷ u ∷ qs) i o → Reads text d (p ∷ []) o a → IsAbsent c a → Moves text d ps qs i a
 last_member text d ps u t p qs c i o a l g k m r f =
     then m
@@ -116,12 +116,12 @@ refused text d p qs i x n h e =
     (λ s l. part p 64 (qs ++ s) (terminals text i) ∙ (ap (λ b. runs 64 b (rules_of p).1 (qs ++ s) (terminals text i)) n ∙ (refuses (rules_of p).1 64 (qs ++ s) (terminals text i) h
     ∙ ap (Refuses false) (terminals_length text i))))
 
-pub absent : (text : List ℕ) (d : ℕ) (t : Token) (qs : List Part) (i : List Lexeme) (x : Stop) → leads t (terminals text i) ≡ false → x ≡ Refused false (length i) →
+pub absent : (text : List ℕ) (d : ℕ) (t : RuleToken) (qs : List Part) (i : List Lexeme) (x : Stop) → leads t (terminals text i) ≡ false → x ≡ Refused false (length i) →
     Stops text d (TokenPart t ∷ qs) i x
 absent text d t qs i x h e = refused text d (TokenPart t) qs i x refl (starts_one t [] (terminals text i) false h) e
 
 -- an awaited lexeme that isn't there
-pub unexpected : (text : List ℕ) (d : ℕ) (t : Token) (qs : List Part) (c : Class) (i : List Lexeme) (x : Stop) → class_of t ≡ Some c →
+pub unexpected : (text : List ℕ) (d : ℕ) (t : RuleToken) (qs : List Part) (c : Class) (i : List Lexeme) (x : Stop) → class_of t ≡ Some c →
     IsAbsent c i × (x ≡ Refused false (length i)) → Stops text d (TokenPart t ∷ qs) i x
 unexpected text d t qs c i x h (a, e) = absent text d t qs i x (a t h text) e
 
@@ -283,7 +283,7 @@ pub declarations_end : (text : List ℕ) (qs : List Part) (i : List Lexeme) → 
 declarations_end text qs i h = nothing text 0 DeclarationsPart qs i refl (starts_followed declaration_rules (TokenPart (a_sign Semicolon) ∷ DeclarationsPart ∷ []) (terminals text i) ∙ h)
 
 -- a part of one rule that refuses what stands first
-pub no_part : (text : List ℕ) (p : Part) (t : Token) (ps qs : List Part) (i : List Lexeme) (x : Stop) → rules_of p ≡ (false, (t, ps) ∷ []) →
+pub no_part : (text : List ℕ) (p : Part) (t : RuleToken) (ps qs : List Part) (i : List Lexeme) (x : Stop) → rules_of p ≡ (false, (t, ps) ∷ []) →
     (leads t (terminals text i) ≡ false) × (x ≡ Refused false (length i)) → Stops text 0 (p ∷ qs) i x
 no_part text p t ps qs i x r (a, e) =
     refused text 0 p qs i x (ap (λ y. y.0) r) (ap (λ y. starts y.1 (terminals text i)) r ∙ starts_one t ps (terminals text i) false a) e

@@ -1,5 +1,5 @@
 -- No two trees spell one list: declarations, instances and programs.
-use Rattle.kahn_syntax.proofs.Common.{FormedStatements, Input, Output, Between, SomeBetween, Ended, SomeNames, ParameterGroup, VariableGroup, TakesAll, spelling, In, Out, ◌≡◌, ℕ, List, [], ◌∷◌, true, false, ⊎_elim, refl, sym, ap, ◌∙◌, subst, true≢false, Token, a_kind, accepts, leads, Further, Grouped, group, all_members, Kind, Role, Taking, Terminal, word, sign, name, empty, StatementTrees, no_statement, statement, statements_words, AreSome, DeclarationTree, channels, process, ArgumentTree, channel, InstanceTree, instance, ProgramTree, program, kind_terminal, role_words, taking_words, Parameters, Variables, SpellsDeclaration, Argues, Instantiates, May, Spells, StandsFirst, a_sign, a_word, Begin, Channel, Close, Comma, End, Integer, Logical, Open, Par, Process, Semicolon}
+use Rattle.kahn_syntax.proofs.Common.{FormedStatements, Input, Output, Between, SomeBetween, Ended, SomeNames, ParameterGroup, VariableGroup, TakesAll, spelling, In, Out, ◌≡◌, ℕ, List, [], ◌∷◌, true, false, ⊎_elim, refl, sym, ap, ◌∙◌, subst, true≢false, RuleToken, a_kind, accepts, leads, Further, Grouped, group, all_members, Kind, Role, Taking, Terminal, word, sign, name, empty, StatementTrees, no_statement, statement, statements_words, AreSome, DeclarationTree, channels, process, ArgumentTree, channel, InstanceTree, instance, ProgramTree, program, kind_terminal, role_words, taking_words, Parameters, Variables, SpellsDeclaration, Argues, Instantiates, May, Spells, StandsFirst, a_sign, a_word, Begin, Channel, Close, Comma, End, Integer, Logical, Open, Par, Process, Semicolon}
 use Rattle.kahn_streams.specs.declared.tree.Kind.TheVariants as kind
 use Rattle.kahn_streams.specs.declared.tree.Role.TheVariants as role
 use Rattle.kahn_streams.specs.declared.tree.Direction.TheVariants as direction
@@ -9,7 +9,7 @@ use Rattle.kahn_syntax.proofs.Unique.{tail_is}
 use Rattle.kahn_syntax.proofs.Blocks.{same_statements}
 
 -- what leads on stands there
-no_lead : (t : Token) (k : Terminal) (r x : List Terminal) → accepts t k ≡ true → leads t r ≡ false → r ≡ k ∷ x → ⊥
+no_lead : (t : RuleToken) (k : Terminal) (r x : List Terminal) → accepts t k ≡ true → leads t r ≡ false → r ≡ k ∷ x → ⊥
 no_lead t k r x u h e = true≢false (sym u ∙ (ap (leads t) (sym e) ∙ h))
 
 -- C holds of what stands behind a part: of the end, and of what k stands before
@@ -18,7 +18,7 @@ pub further_first : {X : Type 0} (k : Terminal) (P : X → List Terminal → Lis
 further_first k P C c [] ks r e h = subst C (sym e) h
 further_first k P C c (x ∷ xs) ks r (a, b, e, p, f) h = subst C (sym e) (c a)
 
-same_further : {X : Type 0} (t : Token) (k : Terminal) (P : X → List Terminal → List Terminal → Type 0) (C : List Terminal → Type 0) → accepts t k ≡ true → ((z : List Terminal) → C (k ∷ z))
+same_further : {X : Type 0} (t : RuleToken) (k : Terminal) (P : X → List Terminal → List Terminal → Type 0) (C : List Terminal → Type 0) → accepts t k ≡ true → ((z : List Terminal) → C (k ∷ z))
     → ((x y : X) (ks r q : List Terminal) → C r → C q → P x ks r → P y ks q → (x ≡ y) × (r ≡ q)) → (xs ys : List X) (ks r q : List Terminal) → leads t r ≡ false → leads t q ≡ false
     → C r → C q → Further (StandsFirst k) P xs ks r → Further (StandsFirst k) P ys ks q → (xs ≡ ys) × (r ≡ q)
 same_further t k P C u ck one [] [] ks r q x y c d e f = (refl, sym e ∙ f)
@@ -30,7 +30,7 @@ same_further t k P C u ck one (a ∷ xs) (b ∷ ys) ks r q x y c d (m, n, e, p, 
     let w = same_further t k P C u ck one xs ys n r q x y c d h (subst (λ j. Further (StandsFirst k) P ys j q) (sym z.1) h') in (cc, w.1)
 
 -- one or more of which the end tells nothing
-same_some : {X : Type 0} (t : Token) (k : Terminal) (P : X → List Terminal → List Terminal → Type 0) → accepts t k ≡ true
+same_some : {X : Type 0} (t : RuleToken) (k : Terminal) (P : X → List Terminal → List Terminal → Type 0) → accepts t k ≡ true
     → ((x y : X) (ks r q : List Terminal) → P x ks r → P y ks q → (x ≡ y) × (r ≡ q)) → (xs ys : List X) (ks r q : List Terminal) → leads t r ≡ false → leads t q ≡ false
     → SomeBetween (StandsFirst k) P xs ks r → SomeBetween (StandsFirst k) P ys ks q → (xs ≡ ys) × (r ≡ q)
 same_some t k P u one [] ys ks r q x y h g = absurd h

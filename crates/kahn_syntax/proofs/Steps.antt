@@ -1,5 +1,5 @@
 -- What single terminals do to what is open.
-use Rattle.kahn_syntax.proofs.Common.{◌≡◌, ◌≢◌, ℕ, ◌+◌, ◌≤◌, ◌==◌, ◌++◌, List, [], ◌∷◌, length, Bool, true, false, true≢false, cond, Option, Some, None, refl, sym, ap, ◌∙◌, append_assoc, arith, nat_le, nat_tests, Operator, Terminal, rank, operator_terminal, Rung, whole, ors, ands, denials, relations, sums, terms, factors, at, tighter, operator_of, rank_or, Token, a_word, an_operator, accepts, leads, Part, ExpressionPart, OperatorsPart, TokenPart, LevelPart, Rule, rules_of, expression_rules, relation_rules, or_rules, operator_rules, enters, starts, followed, opened_by, levels, may_end, step, Refuses, Whole, TooFar, Fate, onward, fate, If, NotWord}
+use Rattle.kahn_syntax.proofs.Common.{◌≡◌, ◌≢◌, ℕ, ◌+◌, ◌≤◌, ◌==◌, ◌++◌, List, [], ◌∷◌, length, Bool, true, false, true≢false, cond, Option, Some, None, refl, sym, ap, ◌∙◌, append_assoc, arith, nat_le, nat_tests, Operator, Terminal, rank, operator_terminal, Rung, whole, ors, ands, denials, relations, sums, terms, factors, at, tighter, operator_of, rank_or, RuleToken, a_word, an_operator, accepts, leads, Part, ExpressionPart, OperatorsPart, TokenPart, LevelPart, Rule, rules_of, expression_rules, relation_rules, or_rules, operator_rules, enters, starts, followed, opened_by, levels, may_end, step, Refuses, Whole, TooFar, Fate, onward, fate, If, NotWord}
 use Rattle.std.specs.Prelude.{is_some}
 use Rattle.kahn_streams.specs.declared.tree.Operator.TheVariants as operator
 use Rattle.kahn_syntax.proofs.Unique.{Ends, is_operator}
@@ -31,7 +31,7 @@ none_of rs k h = by (enters rs k) h
     by (Some ps) e = absurd (true≢false e)
 
 -- one rule alone
-pub starts_one : (t : Token) (ps : List Part) (r : List Terminal) (b : Bool) → leads t r ≡ b → starts ((t, ps) ∷ []) r ≡ b
+pub starts_one : (t : RuleToken) (ps : List Part) (r : List Terminal) (b : Bool) → leads t r ≡ b → starts ((t, ps) ∷ []) r ≡ b
 starts_one t ps [] b h = h
 starts_one t ps (k ∷ r) b h = by (accepts t k) ∙ h
   where
@@ -82,7 +82,7 @@ passes front rs m n s (k ∷ r) h =
         by true g again = absurd (true≢false g)
         by false g again = again g
 
-pub passes_one : (t : Token) (ps : List Part) (rs : List Rule) (m : ℕ) (s : List Part) (r : List Terminal) → leads t r ≡ false → runs m false ((t, ps) ∷ rs) s r ≡ runs m false rs s r
+pub passes_one : (t : RuleToken) (ps : List Part) (rs : List Rule) (m : ℕ) (s : List Part) (r : List Terminal) → leads t r ≡ false → runs m false ((t, ps) ∷ rs) s r ≡ runs m false rs s r
 passes_one t ps rs m s r h = passes ((t, ps) ∷ []) rs m false s r (starts_one t ps r false h)
 
 -- rules that are followed by parts do what they do above these
@@ -110,10 +110,10 @@ follows_some rs after m n s (k ∷ r) h =
     by (Some ps) e = refl
 
 -- a tail that doesn't go on
-pub skip_tail : (p : Part) (t : Token) (ps : List Part) (m : ℕ) (s : List Part) (r : List Terminal) → rules_of p ≡ (true, (t, ps) ∷ []) → leads t r ≡ false → fate m (p ∷ s) r ≡ fate m s r
+pub skip_tail : (p : Part) (t : RuleToken) (ps : List Part) (m : ℕ) (s : List Part) (r : List Terminal) → rules_of p ≡ (true, (t, ps) ∷ []) → leads t r ≡ false → fate m (p ∷ s) r ≡ fate m s r
 skip_tail p t ps m s r e h = part p m s r ∙ (ap (λ x. runs m x.0 x.1 s r) e ∙ skips ((t, ps) ∷ []) m s r (starts_one t ps r false h))
 
-pub take_token : (t : Token) (m : ℕ) (s : List Part) (k : Terminal) (r : List Terminal) → accepts t k ≡ true → levels s ≤ m →
+pub take_token : (t : RuleToken) (m : ℕ) (s : List Part) (k : Terminal) (r : List Terminal) → accepts t k ≡ true → levels s ≤ m →
     fate m (TokenPart t ∷ s) (k ∷ r) ≡ fate m s r
 take_token t m s k r h b = go m (TokenPart t ∷ s) s k r (ap (λ b. opened_by s None (cond b (Some []) None)) h) b
 

@@ -1,5 +1,5 @@
 -- What is open can be completed, and what is read is the beginning of trees for it.
-use Rattle.kahn_syntax.proofs.Common.{SomeBetween, Between, Ended, ParameterGroup, VariableGroup, TakesAll, spelling, ◌<◌, ◌≡◌, ℕ, ◌+◌, ◌≤◌, ◌==◌, ℤ, pos, List, [], ◌∷◌, Bool, true, false, cond, Option, Some, None, refl, sym, ap, ◌∙◌, subst, arith, ⊎_elim, ◌⊎◌, inl, inr, true≢false, Further, Grouped, group, all_members, nat_tests, Kind, Role, Taking, Operator, Terminal, word, sign, name, ExpressionTree, number, truth, variable, wait, negation, denial, bracket, conditional, OperandTrees, no_operand, operand, StatementTree, empty, assign, send, print, block, if_then, if_else, while_do, repeat, StatementTrees, no_statement, statement, operator_terminal, rank, expression_words, operands_words, statement_words, further_words, expression_nesting, operands_nesting, statement_nesting, statements_nesting, FormedOperands, FormedStatement, FormedStatements, IsSimple, DeclarationTree, channels, process, ArgumentTree, channel, InstanceTree, instance, kind_terminal, role_words, taking_words, SpellsDeclaration, Argues, Instantiates, May, declaration_nesting, declarations_nesting, StandsFirst, level_or_first, Rung, whole, ors, ands, denials, relations, sums, terms, factors, at, tighter, operator_of, Token, accepts, NamesTail, StatementsTail, GroupsTail, ArgumentsTail, InstancesTail, ElseTail, LastTail, Part, ProgramPart, DeclarationsPart, DeclarationPart, ProcessPart, RolePart, GroupsPart, GroupPart, TakingPart, VariablesPart, StatementPart, SimplePart, ExpressionPart, OperatorsPart, InstancePart, ArgumentsPart, ArgumentPart, TokenPart, LevelPart, levels, may_end, step, opened_by, enters, followed, rules_of, Rule, process_rules, declaration_rules, group_rules, simple_rules, other_rules, argument_rules, factor_rules, operand_rules, relation_rules, denial_rules, or_rules, expression_rules, operator_rules, either, an_operator, rank_or, letters_of, bytes_of_sign, bytes_eq, truth_terminal, append_assoc, Keyword, Sign, ◌++◌, a_sign, a_word, a_name, a_number, And, AtLeast, AtMost, Becomes, Begin, Close, Comma, Div, Do, Else, End, Equal, False, Greater, If, Integer, Less, Logical, Minus, Mod, NotWord, On, Open, OrWord, Par, Plus, Print, Repeat, Semicolon, Send, Then, Times, True, Unequal, Wait, While}
+use Rattle.kahn_syntax.proofs.Common.{SomeBetween, Between, Ended, ParameterGroup, VariableGroup, TakesAll, spelling, ◌<◌, ◌≡◌, ℕ, ◌+◌, ◌≤◌, ◌==◌, ℤ, pos, List, [], ◌∷◌, Bool, true, false, cond, Option, Some, None, refl, sym, ap, ◌∙◌, subst, arith, ⊎_elim, ◌⊎◌, inl, inr, true≢false, Further, Grouped, group, all_members, nat_tests, Kind, Role, Taking, Operator, Terminal, word, sign, name, ExpressionTree, number, truth, variable, wait, negation, denial, bracket, conditional, OperandTrees, no_operand, operand, StatementTree, empty, assign, send, print, block, if_then, if_else, while_do, repeat, StatementTrees, no_statement, statement, operator_terminal, rank, expression_words, operands_words, statement_words, further_words, expression_nesting, operands_nesting, statement_nesting, statements_nesting, FormedOperands, FormedStatement, FormedStatements, IsSimple, DeclarationTree, channels, process, ArgumentTree, channel, InstanceTree, instance, kind_terminal, role_words, taking_words, SpellsDeclaration, Argues, Instantiates, May, declaration_nesting, declarations_nesting, StandsFirst, level_or_first, Rung, whole, ors, ands, denials, relations, sums, terms, factors, at, tighter, operator_of, RuleToken, accepts, NamesTail, StatementsTail, GroupsTail, ArgumentsTail, InstancesTail, ElseTail, LastTail, Part, ProgramPart, DeclarationsPart, DeclarationPart, ProcessPart, RolePart, GroupsPart, GroupPart, TakingPart, VariablesPart, StatementPart, SimplePart, ExpressionPart, OperatorsPart, InstancePart, ArgumentsPart, ArgumentPart, TokenPart, LevelPart, levels, may_end, step, opened_by, enters, followed, rules_of, Rule, process_rules, declaration_rules, group_rules, simple_rules, other_rules, argument_rules, factor_rules, operand_rules, relation_rules, denial_rules, or_rules, expression_rules, operator_rules, either, an_operator, rank_or, letters_of, bytes_of_sign, bytes_eq, truth_terminal, append_assoc, Keyword, Sign, ◌++◌, a_sign, a_word, a_name, a_number, And, AtLeast, AtMost, Becomes, Begin, Close, Comma, Div, Do, Else, End, Equal, False, Greater, If, Integer, Less, Logical, Minus, Mod, NotWord, On, Open, OrWord, Par, Plus, Print, Repeat, Semicolon, Send, Then, Times, True, Unequal, Wait, While}
 use Rattle.std.specs.Prelude.{◌||◌, neg_ℤ}
 use Rattle.kahn_streams.specs.declared.tree.Kind.TheVariants as kind
 use Rattle.kahn_streams.specs.declared.tree.Role.TheVariants as role
@@ -19,7 +19,7 @@ abbrev pub Lists : Type 1
 Lists = List Terminal → Type 0
 
 -- the token, then what comes after
-abbrev pub One : Token → Lists → Lists
+abbrev pub One : RuleToken → Lists → Lists
 One a_name Next ks = (n : List ℕ) × (r : List Terminal) × (ks ≡ name n ∷ r) × Next r
 One a_number Next ks = (z : ℤ) × (r : List Terminal) × (ks ≡ grammar.numeral z ∷ r) × Next r
 One (a_word w) Next ks = (r : List Terminal) × (ks ≡ word w ∷ r) × Next r
@@ -126,7 +126,7 @@ sign_same g u e = sign_by_bytes g u ((bytes_eq-Decides (bytes_of_sign g) (bytes_
 test_same : (a b : ℕ) → (a == b) ≡ true → a ≡ b
 test_same a b e = grind (arith, nat_tests)
 
-takes_one : (t : Token) (k : Terminal) (Next : Lists) (ks : List Terminal) → accepts t k ≡ true → Next ks → One t Next (k ∷ ks)
+takes_one : (t : RuleToken) (k : Terminal) (Next : Lists) (ks : List Terminal) → accepts t k ≡ true → Next ks → One t Next (k ∷ ks)
 takes_one a_name (name n) Next ks e h = (n, ks, refl, h)
 takes_one a_number (grammar.numeral z) Next ks e h = (z, ks, refl, h)
 takes_one (a_word v) (word w) Next ks e h = (ks, ap (λ x. word x ∷ ks) (sym (word_same v w e)), h)
@@ -143,7 +143,7 @@ takes_one (an_operator o) k Next ks e h = by (operator_of k) refl (test_same (ra
     by (Some p) i f = (p, ks, f, ap (λ x. x ∷ ks) (is_terminal k p i), h)
 takes_one _ _ Next ks e h = absurd (true≢false (sym e))
 
-one_map : (t : Token) (P Q : Lists) → ((r : List Terminal) → P r → Q r) → (ks : List Terminal) → One t P ks → One t Q ks
+one_map : (t : RuleToken) (P Q : Lists) → ((r : List Terminal) → P r → Q r) → (ks : List Terminal) → One t P ks → One t Q ks
 one_map a_name P Q f ks (n, r, p, h) = (n, r, p, f r h)
 one_map a_number P Q f ks (z, r, p, h) = (z, r, p, f r h)
 one_map (a_word w) P Q f ks (r, p, h) = (r, p, f r h)
@@ -407,7 +407,7 @@ further m (p ∷ s) t k ks b e h = by (enters (rules_of p).1 k) refl e (λ f. fu
         let same : ps ++ s ≡ t = cc in
         found m p s k ks (rules_of p).1 ps (makes p m s (omega (arith, b, below p s))) i (subst (λ x. Fits m x ks) (sym same) h)
 
-some_token : (t : Token) (Next : Lists) → ((ks : List Terminal) × Next ks) → (ks : List Terminal) × One t Next ks
+some_token : (t : RuleToken) (Next : Lists) → ((ks : List Terminal) × Next ks) → (ks : List Terminal) × One t Next ks
 some_token a_name Next (r, h) = (_, ([], r, refl, h))
 some_token a_number Next (r, h) = (_, (pos 0, r, refl, h))
 some_token (a_word w) Next (r, h) = (_, (r, refl, h))

@@ -1,5 +1,5 @@
 -- A list that a tree spells is read whole: declarations, instances and programs.
-use Rattle.kahn_syntax.proofs.Common.{Token, rules_of, TakesAll, subst, SomeBetween, Between, Ended, SomeNames, ParameterGroup, VariableGroup, spelling, a_kind, ◌≡◌, ℕ, ◌+◌, ◌≤◌, List, [], ◌∷◌, true, false, Some, ⊎_elim, refl, ap, ◌∙◌, arith, Further, Grouped, group, Kind, Role, Taking, Terminal, word, sign, name, statements_words, DeclarationTree, channels, process, ArgumentTree, channel, InstanceTree, instance, ProgramTree, program, kind_terminal, role_words, taking_words, Parameters, Variables, SpellsDeclaration, Argues, Instantiates, May, Spells, declaration_nesting, declarations_nesting, nesting, StandsFirst, leads, NamesTail, StatementsTail, GroupsTail, ArgumentsTail, InstancesTail, LastTail, Part, ProgramPart, DeclarationsPart, DeclarationPart, RolePart, GroupsPart, GroupPart, TakingPart, VariablesPart, StatementPart, InstancePart, ArgumentsPart, ArgumentPart, TokenPart, levels, step, Whole, fate, a_word, a_sign, a_name, a_number, Begin, Channel, Close, Comma, End, False, In, Input, Integer, Logical, Minus, Open, Out, Output, Par, Process, Semicolon, True}
+use Rattle.kahn_syntax.proofs.Common.{RuleToken, rules_of, TakesAll, subst, SomeBetween, Between, Ended, SomeNames, ParameterGroup, VariableGroup, spelling, a_kind, ◌≡◌, ℕ, ◌+◌, ◌≤◌, List, [], ◌∷◌, true, false, Some, ⊎_elim, refl, ap, ◌∙◌, arith, Further, Grouped, group, Kind, Role, Taking, Terminal, word, sign, name, statements_words, DeclarationTree, channels, process, ArgumentTree, channel, InstanceTree, instance, ProgramTree, program, kind_terminal, role_words, taking_words, Parameters, Variables, SpellsDeclaration, Argues, Instantiates, May, Spells, declaration_nesting, declarations_nesting, nesting, StandsFirst, leads, NamesTail, StatementsTail, GroupsTail, ArgumentsTail, InstancesTail, LastTail, Part, ProgramPart, DeclarationsPart, DeclarationPart, RolePart, GroupsPart, GroupPart, TakingPart, VariablesPart, StatementPart, InstancePart, ArgumentsPart, ArgumentPart, TokenPart, levels, step, Whole, fate, a_word, a_sign, a_name, a_number, Begin, Channel, Close, Comma, End, False, In, Input, Integer, Logical, Minus, Open, Out, Output, Par, Process, Semicolon, True}
 use Rattle.kahn_streams.specs.declared.tree.Kind.TheVariants as kind
 use Rattle.kahn_streams.specs.declared.tree.Role.TheVariants as role
 use Rattle.kahn_streams.specs.declared.tree.Direction.TheVariants as direction
@@ -11,7 +11,7 @@ use Rattle.kahn_syntax.proofs.Steps.{go, take_token, skip_tail}
 use Rattle.kahn_syntax.proofs.WholeStatements.{whole_statements}
 
 -- none or more parts p, each behind k, which T tells
-whole_further : {X : Type 0} (T p : Part) (t : Token) (k : Terminal) (P : X → List Terminal → List Terminal → Type 0) (C : List Terminal → Type 0) (m : ℕ) (s : List Part) →
+whole_further : {X : Type 0} (T p : Part) (t : RuleToken) (k : Terminal) (P : X → List Terminal → List Terminal → Type 0) (C : List Terminal → Type 0) (m : ℕ) (s : List Part) →
     rules_of T ≡ (true, (t, p ∷ T ∷ []) ∷ []) → step (T ∷ s) k ≡ Some (p ∷ T ∷ s) → levels (p ∷ T ∷ s) ≤ m → ((z : List Terminal) → C (k ∷ z)) →
     ((x : X) (ks r : List Terminal) → C r → P x ks r → fate m (p ∷ T ∷ s) ks ≡ fate m (T ∷ s) r) →
     (xs : List X) (ks r : List Terminal) → leads t r ≡ false → C r → Further (StandsFirst k) P xs ks r → fate m (T ∷ s) ks ≡ fate m s r

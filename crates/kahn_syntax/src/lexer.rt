@@ -9,7 +9,7 @@ ghost use Rattle.kahn_syntax.specs.inner.Items.{IsItem};
 
 use crate::fault::SyntaxFault;
 use crate::lexeme::{Class, Keyword, Lexeme};
-use crate::lexer::forms::{Form, comment_end, form_at, is_blank};
+use crate::lexer::forms::{LexemeForm, comment_end, form_at, is_blank};
 use kahn_streams::Span;
 use std::alloc::Global;
 
@@ -81,9 +81,9 @@ fn item_at(text: &str, from: usize) -> Result<Item, SyntaxFault>
     ensures fault { IfErr result (IsFaultAt text.now from) }
 {
     match form_at(text.as_bytes(), from) {
-        Some(Form::Word(to)) => word_item(text, Span { from, to }),
-        Some(Form::Run(to)) => number_item(text, Span { from, to }),
-        Some(Form::Sign(sign, to)) => {
+        Some(LexemeForm::Word(to)) => word_item(text, Span { from, to }),
+        Some(LexemeForm::Run(to)) => number_item(text, Span { from, to }),
+        Some(LexemeForm::Sign(sign, to)) => {
             let span = Span { from, to };
             Ok(Item::Lexeme(Lexeme {
                 span,

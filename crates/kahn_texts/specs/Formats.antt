@@ -14,9 +14,9 @@ use Rattle.kahn_streams.specs.declared.tree.Program.{Program}
 use Rattle.kahn_streams.specs.declared.entries.InputFault.{InputFault}
 use Rattle.kahn_streams.specs.declared.value.Value.TheVariants.{Integer, Logical}
 use Rattle.kahn_streams.specs.Inputs.{Entry, entry_of, IsFirstRefused, IsInputOf, Lists}
-use Rattle.kahn_texts.specs.declared.entries.LineFault.{LineFault}
-use Rattle.kahn_texts.specs.declared.entries.LineFault.TheVariants.{NoHead, NoValues}
-use Rattle.kahn_texts.specs.declared.entries.LineFault.TheVariants as line_fault
+use Rattle.kahn_texts.specs.declared.entries.EntryFault.{EntryFault}
+use Rattle.kahn_texts.specs.declared.entries.EntryFault.TheVariants.{NoHead, NoValues}
+use Rattle.kahn_texts.specs.declared.entries.EntryFault.TheVariants as line_fault
 use Rattle.kahn_texts.specs.declared.input.TextFault.{TextFault}
 use Rattle.kahn_texts.specs.declared.input.TextFault.TheVariants.{BadLine, BadValue, Input, TooLong, NoMemory}
 use Rattle.kahn_texts.specs.declared.input.TextFault.TheVariants as text_fault
@@ -141,7 +141,7 @@ abbrev pub IsReadLine : List ℕ → Option (String Global × Vec Value Global) 
 IsReadLine line read = MatchOption read (AreBlanks line) (λ entry. IsEntry line (entry_of entry))
 
 -- why a line is no entry
-abbrev pub IsLineFault : List ℕ → LineFault → Type 0
+abbrev pub IsLineFault : List ℕ → EntryFault → Type 0
 IsLineFault line NoHead = HasNoHead line
 IsLineFault line NoValues = HasNoValues line
 IsLineFault line line_fault.NoMemory = Unit {0}

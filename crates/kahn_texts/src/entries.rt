@@ -16,7 +16,7 @@ pub const MOST_BYTES: usize = 16777216;
 
 /// Why a line is no entry.
 #[derive(Clone, Copy, Debug, PartialEq, Eq, Drop, Error)]
-pub enum LineFault {
+pub enum EntryFault {
     /// It doesn't begin with a name and a colon.
     #[error("not a name and a colon")]
     NoHead,
@@ -46,27 +46,27 @@ fn is_blank_line(line: &[u8]) -> bool
 }
 
 /// Reads a line that isn't blank.
-fn read_entry(alloc: Global, line: &[u8]) -> Result<(String, Vec<Value>), LineFault>
+fn read_entry(alloc: Global, line: &[u8]) -> Result<(String, Vec<Value>), EntryFault>
     requires { ¬ AreBlanks line.now }
     ensures { MatchResult result (λ entry. IsEntry line.now (entry_of entry)) (IsLineFault line.now) }
 {
     let Some(head) = head_of(line) else {
-        return Err(LineFault::NoHead);
+        return Err(EntryFault::NoHead);
     };
     let values = match read_values(alloc, head.rest) {
         Ok(values) => values,
-        Err(ValuesFault::NoValue) => return Err(LineFault::NoValues),
-        Err(ValuesFault::NoMemory) => return Err(LineFault::NoMemory),
+        Err(ValuesFault::NoValue) => return Err(EntryFault::NoValues),
+        Err(ValuesFault::NoMemory) => return Err(EntryFault::NoMemory),
     };
     match String::from_str(alloc, head.name) {
         Ok(name) => Ok((name, values)),
-        Err(_) => Err(LineFault::NoMemory),
+        Err(_) => Err(EntryFault::NoMemory),
     }
 }
 
 /// Reads a line of an input text, without its line feed: an entry, or nothing if it is blank. One carriage return before
 /// its end is dropped.
-pub fn read_line(alloc: Global, line: &[u8]) -> Result<Option<(String, Vec<Value>)>, LineFault>
+pub fn read_line(alloc: Global, line: &[u8]) -> Result<Option<(String, Vec<Value>)>, EntryFault>
     ensures { MatchResult result (IsReadLine (content_of line.now)) (IsLineFault (content_of line.now)) }
 {
     let line = content(line);
@@ -119,9 +119,9 @@ pub fn read_entries(
                     return Err(TextFault::NoMemory);
                 }
             }
-            Err(LineFault::NoHead) => return Err(TextFault::BadLine(number)),
-            Err(LineFault::NoValues) => return Err(TextFault::BadValue(number)),
-            Err(LineFault::NoMemory) => return Err(TextFault::NoMemory),
+            Err(EntryFault::NoHead) => return Err(TextFault::BadLine(number)),
+            Err(EntryFault::NoValues) => return Err(TextFault::BadValue(number)),
+            Err(EntryFault::NoMemory) => return Err(TextFault::NoMemory),
         }
     }
     Ok(entries)

@@ -25,7 +25,7 @@ pub use write::{write_counted, write_report};
 // For the crates above.
 pub use bytes::{flush, put, put_all, put_line, write_line, write_line_counted};
 pub use digits::{Lined, Spaced, put_values};
-pub use entries::{LineFault, MOST_BYTES, read_entries, read_line};
+pub use entries::{EntryFault, MOST_BYTES, read_entries, read_line};
 pub use names::{channel_name, process_name};
 pub use news::{write_closing, write_news};
 pub use plain::write_plain;

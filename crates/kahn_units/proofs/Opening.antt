@@ -7,13 +7,13 @@ use Rattle.kahn_streams.proofs.Sourced.{writes}
 use Rattle.kahn_streams.specs.Inputs.{Lists}
 use Rattle.kahn_streams.specs.Answers.{is_output}
 use Rattle.kahn_code.specs.Lines.{Lines as Queues, AreFirst, next_at}
-use Rattle.kahn_code.specs.Progress.{Told}
+use Rattle.kahn_code.specs.Progress.{CellView}
 use Rattle.kahn_streams.proofs.Entered.{none_of}
 use Rattle.kahn_code.proofs.Queued.{given_zero, taken_zero}
 use Rattle.kahn_units.specs.inner.Standing.{IsOfSite}
 
 -- the first cell stands where the queues stand, as the first instance's ports
-pub stands_first : (t : Program) (lists : Lists) (c : Told) (q : Queues) → IsWellWired t → 0 < length (network_of t).instances →
+pub stands_first : (t : Program) (lists : Lists) (c : CellView) (q : Queues) → IsWellWired t → 0 < length (network_of t).instances →
     (c.network ≡ t) × (c.input ≡ lists) × (c.instance ≡ 0) →
     (let n = length (instance_at (network_of t) 0).actuals in (c.taken ≡ replicate n 0) × (c.sent ≡ replicate n 0)) →
     (q.network ≡ t) × (q.input ≡ lists) → AreFirst t lists q.queues → IsOfSite c (record q { instance = 0 })

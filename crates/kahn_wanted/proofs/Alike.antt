@@ -8,7 +8,7 @@ use Rattle.kahn_syntax.specs.declared.lexeme.Class.TheVariants as class
 use Rattle.kahn_streams.specs.declared.span.Span.{Span}
 use Rattle.kahn_syntax.specs.Grammar.{Terminal, numeral, name}
 use Rattle.kahn_syntax.specs.Texts.{terminal, sign_terminal, Begins}
-use Rattle.kahn_syntax.specs.inner.Machine.{Token, a_name, accepts, Part, ProgramPart, Rule, rules_of, enters, opened_by, step}
+use Rattle.kahn_syntax.specs.inner.Machine.{RuleToken, a_name, accepts, Part, ProgramPart, Rule, rules_of, enters, opened_by, step}
 use Rattle.kahn_wanted.specs.Wanted.{class_of_terminal}
 use Rattle.kahn_wanted.specs.inner.Asked.{nowhere}
 use Rattle.kahn_wanted.specs.inner.Walk.{walked}
@@ -20,7 +20,7 @@ data Alike : Terminal → Terminal → Type 0 where
   numbers : (y z : ℤ) → Alike (numeral y) (numeral z)
   alone : (k : Terminal) → Alike k k
 
-takes_same : (t : Token) (k l : Terminal) → Alike k l → accepts t k ≡ accepts t l
+takes_same : (t : RuleToken) (k l : Terminal) → Alike k l → accepts t k ≡ accepts t l
 takes_same t _ _ (alone k) = refl
 takes_same a_name _ _ (names a b) = refl
 takes_same t _ _ (names a b) = refl

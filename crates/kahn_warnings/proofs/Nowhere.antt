@@ -21,7 +21,7 @@ use Rattle.kahn_streams.specs.declared.value.Line.TheVariants.{Channel}
 use Rattle.kahn_streams.specs.declared.value.Line.TheVariants as line
 use Rattle.kahn_streams.specs.Solution.{Faulted, HasEnd, Histories, Inputs, ending, exec_at, fed, goes_to, input_list, iterate, opening, out, source, tape_of, tapes_of, values_at}
 use Rattle.kahn_streams.specs.Meaning.{Store, constant, exec, read, script_of, settle, turns_of, value_of}
-use Rattle.kahn_streams.specs.Script.{Cut, Dry, Fail, Fault, Give, Got, Outcome, Port, Reached, Rest, Script, Sends, Tapes, Turns, Waits, play, put, wait_at}
+use Rattle.kahn_streams.specs.Script.{Cut, Dry, Fail, Fault, Give, Got, ScriptOutcome, Port, Reached, Rest, Script, Sends, Tapes, Turns, Waits, play, put, wait_at}
 use Rattle.kahn_warnings.specs.Constants.{chosen, combined, constant_of, inverted, negated}
 use Rattle.kahn_warnings.specs.Faults.{AreNumbersOf64, AreOf64Bits, FaultsLie, IsWrittenIn64, AreWrittenIn64, IsOperand, IsOf64Bits, fault_places, operator_can, place_where, sign_can, site_places}
 use Rattle.kahn_warnings.specs.Sites.{action_sites, else_sites, form_sites, level_sites, row_sites}
@@ -198,7 +198,7 @@ taken_free B n q T [] go h i f = (λ k e b. cc, tt)
 taken_free B zero q T (v ∷ vs) go h i f = (λ k e b. cc, tt)
 taken_free B (suc n) q T (v ∷ vs) go h i f = f n v (put T q vs) i.0 (put_short T q vs h i.1)
 
-failed : {A : Type 0} (B : Failure → Type 0) (j k : Failure) → (B j → ⊥) → ◌≡◌ {A = Outcome A} (Fault j) (Fault k) → B k → ⊥
+failed : {A : Type 0} (B : Failure → Type 0) (j k : Failure) → (B j → ⊥) → ◌≡◌ {A = ScriptOutcome A} (Fault j) (Fault k) → B k → ⊥
 failed B j k f e b =
     let is : k ≡ j = cc in
     f (subst B is b)
@@ -367,7 +367,7 @@ nowhere k names ss h n s T are e =
     (play_free (λ j. j ≡ k) n (script_of n (body_of names ss) s Give) T
     (script_free (λ j. j ≡ k) n (body_of names ss) s Give (none_body k names ss h) are.written are.stored (λ r i. tt)) are.taken).0 k e refl
 
-ended : {A : Type 0} (x : Outcome A) (k : Failure) → ending x ≡ Some (Faulted k) → x ≡ Fault k
+ended : {A : Type 0} (x : ScriptOutcome A) (k : Failure) → ending x ≡ Some (Faulted k) → x ≡ Fault k
 ended (Got a) k e = absurd cc
 ended (Dry q) k e = absurd cc
 ended (Fault j) k e =

@@ -10,7 +10,7 @@ use Rattle.kahn_streams.specs.declared.value.Failure.{Failure}
 use Rattle.kahn_streams.specs.declared.value.Value.TheVariants.{Integer, Logical}
 use Rattle.kahn_streams.specs.Arithmetic.{apply, number, ranged, truth}
 use Rattle.kahn_streams.specs.Meaning.{Store, constant, eval, exec, read, script_of, settle, turns_of, value_of}
-use Rattle.kahn_streams.specs.Script.{Cut, Dry, Fault, Give, Got, Outcome, Parameter, Printer, Script, Sends, Tapes, Turns, at_once, play}
+use Rattle.kahn_streams.specs.Script.{Cut, Dry, Fault, Give, Got, ScriptOutcome, Parameter, Printer, Script, Sends, Tapes, Turns, at_once, play}
 use Rattle.kahn_warnings.specs.Loops.{IsUnchanged}
 use Rattle.kahn_warnings.specs.Uses.{is_assigned_in, is_named, waits_in}
 
@@ -80,7 +80,7 @@ comes_to {A = A} (Conditional t a b) s next h =
     branch true p q = p
     branch false p q = q
 
-abbrev got_of : Outcome Value → Option Value
+abbrev got_of : ScriptOutcome Value → Option Value
 got_of (Got v) = Some v
 got_of (Dry q) = None
 got_of (Fault k) = None

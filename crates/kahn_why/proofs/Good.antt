@@ -9,7 +9,7 @@ use Rattle.kahn_streams.specs.Network.{Network, Source, Given, Written, Nobody, 
 use Rattle.kahn_streams.specs.declared.value.Value.{Value}
 use Rattle.kahn_streams.specs.declared.value.Line.{Line}
 use Rattle.kahn_streams.specs.declared.value.Line.TheVariants.{Channel}
-use Rattle.kahn_streams.specs.Script.{Outcome, Got, Dry, Fault, Cut, Reached, Tapes, play}
+use Rattle.kahn_streams.specs.Script.{ScriptOutcome, Got, Dry, Fault, Cut, Reached, Tapes, play}
 use Rattle.kahn_streams.specs.Laws.{AreSame, IsSolution, KeepsTape}
 use Rattle.kahn_streams.specs.Solution.{IsExtended, AreInputsExtended, Histories, Inputs, Ending, HasEnd, IsPrefix, ending, exec_at, fed, input_list, iterate, out, source, tape_of, tapes_of, values_at, goes_to}
 use Rattle.kahn_streams.proofs.Framed.{Stays, widened, frame_play}
@@ -56,7 +56,7 @@ choose_above false a x h = h
 more_of : (i : Instance) (H G : Histories) → Feeds i H G → Tapes
 more_of i H G h q = (h q).0
 
-stays_of : (i : Instance) (H G : Histories) (h : Feeds i H G) (o : Outcome Store) → KeepsTape i H G o → Stays (λ q. (h q).0) o
+stays_of : (i : Instance) (H G : Histories) (h : Feeds i H G) (o : ScriptOutcome Store) → KeepsTape i H G o → Stays (λ q. (h q).0) o
 stays_of i H G h (Dry q) k = no_more (tapes_of i H q) (h q).0 (sym k ∙ (h q).1)
 stays_of i H G h (Got a) k = tt
 stays_of i H G h (Fault f) k = tt
@@ -107,7 +107,7 @@ module _ (N : Network) (I J : Inputs) (A : Histories) (e : ℕ → ℕ) (stuck :
   fits_T : (p : ℕ) → (j : ℕ) × Feeds (instance_at N p) A (T j)
   fits_T p = fits_all T A grows_T below_T (Hands (Number (pos 0))) (instance_at N p).actuals
 
-  tape_kept : (p k : ℕ) → stuck p ≡ true → (o : Outcome Store) → (exec_at N (e p) p A).outcome ≡ o → KeepsTape (instance_at N p) A (T k) o
+  tape_kept : (p k : ℕ) → stuck p ≡ true → (o : ScriptOutcome Store) → (exec_at N (e p) p A).outcome ≡ o → KeepsTape (instance_at N p) A (T k) o
   tape_kept p k s (Dry r) x =
       let w = h.waits p r s x in
       ap (tape_of (T k)) w.2 ∙ (kept_T (Channel w.0) w.1 k w.3 w.4 ∙ sym (ap (tape_of A) w.2))
@@ -160,7 +160,7 @@ module _ (N : Network) (I J : Inputs) (A : Histories) (e : ℕ → ℕ) (stuck :
   fed_J : (p n : ℕ) → (fits_J p).0 ≤ n → Feeds (instance_at N p) A (iterate N J n)
   fed_J p n le q = prefix_trans _ _ _ ((fits_J p).1 q) (feeds (instance_at N p) (iterate N J (fits_J p).0) (iterate N J n) (iterates_rise N J (fits_J p).0 n le) q)
 
-  tape_held : (p n : ℕ) → stuck p ≡ true → (fits_J p).0 ≤ n → (o : Outcome Store) → (exec_at N (e p) p A).outcome ≡ o → KeepsTape (instance_at N p) A (iterate N J n) o
+  tape_held : (p n : ℕ) → stuck p ≡ true → (fits_J p).0 ≤ n → (o : ScriptOutcome Store) → (exec_at N (e p) p A).outcome ≡ o → KeepsTape (instance_at N p) A (iterate N J n) o
   tape_held p n s le (Dry r) x =
       let w = h.waits p r s x in
       both_ways _ _ (fed_J p n le r)

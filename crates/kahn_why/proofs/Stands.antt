@@ -5,7 +5,7 @@ use Rattle.std.specs.Prelude.{option_map}
 use Rattle.std.proofs.lemmas.Bool.{cases_eq}
 use Rattle.std.proofs.lemmas.Option.{slice_get-map, get_or_from_slice_get}
 use Rattle.kahn_streams.specs.Network.{Network, Reads, Written, actual_at, instance_at, channel_source}
-use Rattle.kahn_streams.specs.Script.{Outcome as Came, Dry, Cut}
+use Rattle.kahn_streams.specs.Script.{ScriptOutcome as Came, Dry, Cut}
 use Rattle.kahn_streams.specs.Meaning.{Store}
 use Rattle.kahn_streams.specs.Solution as net
 use Rattle.kahn_streams.specs.Solution.{Inputs, Histories, ending, exec_at, AreInputsExtended}

@@ -19,8 +19,8 @@ use Rattle.kahn_chain.specs.Reasons.{AreReasons, IsReasonFor}
 use Rattle.kahn_chain.specs.declared.reason.Reason.{Reason}
 use Rattle.kahn_texts.specs.Formats.{last_text}
 use Rattle.kahn_why.specs.declared.why.told.Explanation.{Explanation}
-use Rattle.kahn_why.specs.declared.why.told.Told.{Told}
-use Rattle.kahn_why.specs.declared.why.told.Told.TheVariants.{Fault, Deadlock, Stop}
+use Rattle.kahn_why.specs.declared.why.told.Finding.{Finding}
+use Rattle.kahn_why.specs.declared.why.told.Finding.TheVariants.{Fault, Deadlock, Stop}
 
 -- how the instances of an answer stand
 abbrev pub standings_of : Answer → List Standing
@@ -70,7 +70,7 @@ abbrev pub has_ring : List Reason → Bool
 has_ring = list_any (λ r. is_ring r.cause)
 
 -- a fault goes before a ring, and a ring before how the run ended
-abbrev pub came_to : Verdict → List Reason → Told
+abbrev pub came_to : Verdict → List Reason → Finding
 came_to v rs = if has_fault rs then Fault else if has_ring rs then Deadlock else Stop v
 
 -- the reasons are those of the answer's instances, the run came to that, and the last line is that of the report

@@ -6,7 +6,7 @@ ghost use Rattle.kahn_why.specs.inner.Told.{HasAdmitted, HasRefused, HasWritten,
 
 use crate::noting::warned_lines;
 use crate::refusing::refusal_note;
-use crate::why::Told;
+use crate::why::Finding;
 use kahn_fault::{WorkFault, checked};
 use kahn_streams::{Network, NoMemory, RunFault};
 use kahn_texts::write_line;
@@ -17,7 +17,7 @@ use std::io::Write;
 #[derive(Clone, Copy)]
 pub enum Came {
     /// A run stopped so.
-    Stopped(Told),
+    Stopped(Finding),
     /// The program text was refused, for a fault or for a warning, and it was told why.
     Refused,
 }

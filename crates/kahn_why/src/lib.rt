@@ -14,4 +14,4 @@ pub use telling::refuse_input;
 
 // For the crates above.
 pub use explaining::{Admitted, admit, write_both};
-pub use why::{Explanation, Told, causes, explained, explained_each};
+pub use why::{Explanation, Finding, causes, explained, explained_each};

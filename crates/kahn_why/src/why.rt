@@ -9,4 +9,4 @@ mod waits;
 mod words;
 
 pub use telling::{causes, explained, explained_each};
-pub use told::{Explanation, Told};
+pub use told::{Explanation, Finding};

@@ -6,8 +6,8 @@ use Rattle.kahn_chain.specs.Chain.{Awaits, Leads, LeadsOn, IsCause}
 use Rattle.kahn_chain.specs.declared.standing.Standing.{Standing}
 use Rattle.kahn_chain.specs.declared.standing.Cause.{Cause}
 use Rattle.kahn_chain.specs.declared.standing.Cause.TheVariants.{Input, Stopped, Ring}
-use Rattle.kahn_chain.specs.declared.walk.Step.{Step}
-use Rattle.kahn_chain.specs.declared.walk.Step.TheVariants.{On, Stop}
+use Rattle.kahn_chain.specs.declared.walk.WalkStep.{WalkStep}
+use Rattle.kahn_chain.specs.declared.walk.WalkStep.TheVariants.{On, Stop}
 use Rattle.kahn_chain.specs.declared.walk.Walked.{Walked}
 
 -- the cause is at instance z itself
@@ -17,7 +17,7 @@ IsHere N ss z (Stopped y s) = (y ≡ z) × IsCause N ss z (Stopped y s)
 IsHere N ss z (Ring y) = ⊥
 
 -- the one that z waits on, or why there is none
-abbrev pub IsStepFrom : Network → List Standing → ℕ → Step → Type 0
+abbrev pub IsStepFrom : Network → List Standing → ℕ → WalkStep → Type 0
 IsStepFrom N ss z (On w) = (w < length ss) × ((c : ℕ) × Awaits N ss z c w)
 IsStepFrom N ss z (Stop x) = IsHere N ss z x
 

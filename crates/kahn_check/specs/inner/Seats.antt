@@ -6,11 +6,11 @@ use Rattle.kahn_streams.specs.View.{bytes_of}
 use Rattle.kahn_streams.specs.Network.{process_of}
 use Rattle.kahn_streams.specs.Wires.{process_at}
 use Rattle.kahn_streams.specs.Wiring.{Global}
-use Rattle.kahn_check.specs.declared.instance.Seats.{Seats}
+use Rattle.kahn_check.specs.declared.instance.HandedOver.{HandedOver}
 use Rattle.kahn_check.specs.inner.Tables.{taken, handed_all, seats_faults}
 
 -- each side of a channel that an instance has, where the process of each instance is declared, and that no instance is wrong
-pub record AreSeated (t : Program) (g : List (List ℕ × Global)) (s : Seats) : Type 0 where
+pub record AreSeated (t : Program) (g : List (List ℕ × Global)) (s : HandedOver) : Type 0 where
   pub writers : s.writers ≡ taken Out (handed_all g 0 t.instances.items)
   pub readers : s.readers ≡ taken In (handed_all g 0 t.instances.items)
   pub processes : map (process_at t.declarations.items) s.processes.items ≡ map (λ i. process_of t.declarations.items (bytes_of i.process)) t.instances.items

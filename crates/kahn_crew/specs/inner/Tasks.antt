@@ -1,13 +1,13 @@
 -- Inner. What a task tells the board, and the tasks of a run before its next events.
 use Rattle.std.specs.Prelude.{◌≡◌, if◌then◌else◌, ◌==◌, ◌^◌, ◌<◌}
-use Rattle.kahn_crew.specs.inner.Words.{ℕ, Bool, true, false, List, map, option_map, option_map_or, position, Option, Some, None, Network, Actual, Reads, Writes, network_of, instance_at, actual_at, role_at, is_output, count, end_at, End, rows_of, Continues, Tasked, Work, Summary, TaskStanding, length, slice_get, Program, Lists, inputs_of, AreJoinedOn, IsDelivered, some, get_elem?, dealt, wired, Terms, Input}
+use Rattle.kahn_crew.specs.inner.Words.{ℕ, Bool, true, false, List, map, option_map, option_map_or, position, Option, Some, None, Network, Actual, Reads, Writes, network_of, instance_at, actual_at, role_at, is_output, count, end_at, TaskEnd, rows_of, Continues, Tasked, Work, Summary, TaskStanding, length, slice_get, Program, Lists, inputs_of, AreJoinedOn, IsDelivered, some, get_elem?, dealt, wired, Terms, Input}
 use Rattle.kahn_job.specs.declared.standing.TaskStanding.TheVariants as standing
 
 abbrev pub work_of : Tasked → Work
 work_of x = x.work
 
 -- the ends of all tasks
-abbrev pub task_rows : List Tasked → List (List End)
+abbrev pub task_rows : List Tasked → List (List TaskEnd)
 task_rows xs = rows_of (map work_of xs)
 
 -- what is handed to a parameter of the task's instance

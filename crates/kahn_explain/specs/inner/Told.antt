@@ -20,7 +20,7 @@ use Rattle.kahn_why.specs.inner.Told.{IsAdmitted}
 use Rattle.kahn_why.specs.declared.explaining.Admitted.{Admitted}
 use Rattle.kahn_why.specs.declared.explaining.Came.{Came}
 use Rattle.kahn_why.specs.declared.explaining.Came.TheVariants.{Stopped, Refused}
-use Rattle.kahn_why.specs.declared.why.told.Told.{Told}
+use Rattle.kahn_why.specs.declared.why.told.Finding.{Finding}
 use Rattle.kahn_explain.specs.Histories.{IsRecordedFor, IsRunTable}
 use Rattle.kahn_explain.specs.Needing.{IsAskable, IsFirstTold, IsPlaceGiven, values_on}
 use Rattle.kahn_explain.specs.Running.{BreaksOff, HasExplained, HasLooked, Replies, beside}
@@ -43,7 +43,7 @@ IsTableFor counts t run table = (lists : Lists) (config : Config) → IsRecorded
 
 -- a table, and why its run stopped
 abbrev pub IsTableMade : Bool → Program → List ℕ → Config → Reply → Type 0
-IsTableMade counts t text config x = (run : Recorded) × (told : Told) × (words : List ℕ) × IsRecordedFor t text config run
+IsTableMade counts t text config x = (run : Recorded) × (told : Finding) × (words : List ℕ) × IsRecordedFor t text config run
     × IsTableFor counts t run (string_bytes x.text) × IsToldFor t run.answer run.counts.items told words × (x.came ≡ Stopped told) × (string_bytes x.words ≡ beside told words)
 
 -- why a word asks for nothing

@@ -6,7 +6,7 @@ use Rattle.kahn_job.specs.inner.Words.{ℕ, Bool, true, Option, Some, Global, Na
 abbrev pub Lane : Type 0
 Lane = (ℕ × ℕ) × Global
 
-pub record End : Type 0 where
+pub record TaskEnd : Type 0 where
   -- tokens are taken here, or put here; neither if the parameter has no end
   pub reads : Bool
   pub writes : Bool
@@ -30,48 +30,48 @@ pub record End : Type 0 where
 abbrev pub Identity : Type 0
 Identity = Bool × Bool × Option Lane × Named
 
-abbrev pub identity_of : End → Identity
+abbrev pub identity_of : TaskEnd → Identity
 identity_of e = (e.reads, e.writes, e.lane, e.name)
 
 -- it is the same end, of the same channel
-pub record IsSame (old new : End) : Type 0 where
+pub record IsSame (old new : TaskEnd) : Type 0 where
   pub reads : new.reads ≡ old.reads
   pub writes : new.writes ≡ old.writes
   pub lane : new.lane ≡ old.lane
   pub name : new.name ≡ old.name
 
 -- they are the two ends of one lane
-abbrev pub ShareLane : End → End → Type 0
+abbrev pub ShareLane : TaskEnd → TaskEnd → Type 0
 ShareLane a b = (l : Lane) × (a.lane ≡ Some l) × (b.lane ≡ Some l)
 
 -- they are the writer's and the reader's end of one lane
-pub record MayMeet (writer reader : End) : Type 0 where
+pub record MayMeet (writer reader : TaskEnd) : Type 0 where
   pub writes : writer.writes ≡ true
   pub reads : reader.reads ≡ true
   pub lane : ShareLane writer reader
 
 -- no more was taken than was flushed, and less if the next take gives a token
-pub record IsBehind (writer reader : End) : Type 0 where
+pub record IsBehind (writer reader : TaskEnd) : Type 0 where
   pub within : reader.next ≤ writer.flushed
   pub more : 0 < reader.waiting → reader.next < writer.flushed
 
 -- it is the same end; nothing that was flushed is taken back, and no more is flushed than was put
-abbrev pub Advances : End → End → Type 0
+abbrev pub Advances : TaskEnd → TaskEnd → Type 0
 Advances old new = IsSame old new × (old.flushed ≤ new.flushed) × (new.flushed ≤ new.next)
 
 -- the next take gives a token
-abbrev pub IsReady : End → Type 0
+abbrev pub IsReady : TaskEnd → Type 0
 IsReady e = 0 < e.waiting
 
 -- all tokens that it knew of were taken, or 64 steals met another step since it was last asked: 64 segments have left the
 -- lane meanwhile
-abbrev pub IsDry : End → Type 0
+abbrev pub IsDry : TaskEnd → Type 0
 IsDry e = (e.known ≤ e.next) ⊎ (e.asked + 64 ≤ e.left)
 
 -- there is room for one token
-abbrev pub HasRoom : End → Type 0
+abbrev pub HasRoom : TaskEnd → Type 0
 HasRoom e = (e.filled < 64) × (e.filled < e.capacity)
 
 -- what was put was flushed
-abbrev pub IsFlushed : End → Type 0
+abbrev pub IsFlushed : TaskEnd → Type 0
 IsFlushed e = e.writes ≡ true → e.flushed ≡ e.next

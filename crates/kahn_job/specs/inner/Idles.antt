@@ -1,16 +1,16 @@
 -- Inner. Jobs on which nobody works, and jobs before their first event.
 use Rattle.std.specs.Prelude.{◌≡◌, ◌≤◌, ◌^◌}
-use Rattle.kahn_job.specs.inner.Words.{ℕ, Tapped, true, false, List, [], length, map, replicate, Option, None, Some, slice_get, slice_set, slice_index_or, Program, Side, Inner, Input, Output, Actual, Hands, Reads, Waiting, Writes, given_of, taken_of, network_of, instance_at, actual_at, role_at, AreInputsExtended, Lists, inputs_of, is_output, lane_name, Told, IsAt, IsOpening}
-use Rattle.kahn_job.specs.inner.Ends.{End, IsFlushed, ShareLane}
+use Rattle.kahn_job.specs.inner.Words.{ℕ, Tapped, true, false, List, [], length, map, replicate, Option, None, Some, slice_get, slice_set, slice_index_or, Program, Side, Inner, Input, Output, Actual, Hands, Reads, Waiting, Writes, given_of, taken_of, network_of, instance_at, actual_at, role_at, AreInputsExtended, Lists, inputs_of, is_output, lane_name, CellView, IsAt, IsOpening}
+use Rattle.kahn_job.specs.inner.Ends.{TaskEnd, IsFlushed, ShareLane}
 use Rattle.kahn_job.specs.inner.Berths.{AreServed, AreJoinedOn, HaveStayed, Serves, end_at, end_in}
 use Rattle.kahn_job.specs.inner.Settling.{AreResting}
 use Rattle.kahn_job.specs.inner.Ways.{no_end}
 use Rattle.kahn_job.specs.inner.Works.{IsSamePlace, Work, IsJob, grown_work}
 
-abbrev pub rows_of : List Work → List (List End)
+abbrev pub rows_of : List Work → List (List TaskEnd)
 rows_of ws = map (λ w. w.ends) ws
 
-abbrev pub cells_of : List Work → List Told
+abbrev pub cells_of : List Work → List CellView
 cells_of ws = map (λ w. w.cell) ws
 
 -- the cells are the same, and each end is at the same place
@@ -37,38 +37,38 @@ abbrev pub CanGoOn : Lists → Work → Type 0
 CanGoOn lists w = AreInputsExtended (inputs_of w.cell.input) (inputs_of lists) × IsJob (grown_work lists w)
 
 -- all ends are those of the channels for this input, and what was put is flushed
-pub record HaveSettled (t : Program) (lists : Lists) (rows : List (List End)) : Type 0 where
+pub record HaveSettled (t : Program) (lists : Lists) (rows : List (List TaskEnd)) : Type 0 where
   pub served : (p : ℕ) → AreServed t lists p (slice_index_or rows p [])
   pub flushed : (p q d : ℕ) → actual_at (instance_at (network_of t) p) q ≡ Writes d → is_output (role_at (network_of t) d) ≡ false →
       IsFlushed (end_in rows p q)
   pub joined : (d : ℕ) → AreJoinedOn (network_of t) rows d
 
 -- nothing was taken, put or flushed
-abbrev pub IsFresh : End → Type 0
+abbrev pub IsFresh : TaskEnd → Type 0
 IsFresh e = (e.next ≡ 0) × (e.flushed ≡ 0)
 
 -- the two ends of a channel, and `so` holds of them; of an inner channel they are those of one lane
-pub record AreEndsSo (t : Program) (so : Actual → End → Type 0) (whole : End → Type 0) (c : ℕ) (writer reader : End) : Type 0 where
+pub record AreEndsSo (t : Program) (so : Actual → TaskEnd → Type 0) (whole : TaskEnd → Type 0) (c : ℕ) (writer reader : TaskEnd) : Type 0 where
   pub puts : (role_at (network_of t) c ≡ Input → ⊥) → so (Writes c) writer
   pub takes : (role_at (network_of t) c ≡ Output → ⊥) → so (Reads c) reader
   pub lane : role_at (network_of t) c ≡ Inner → ShareLane writer reader
   pub every : whole writer × whole reader
 
 -- the two ends of a channel on which nothing was taken, put or flushed
-abbrev pub AreEndsOf : Program → Lists → ℕ → End → End → Type 0
+abbrev pub AreEndsOf : Program → Lists → ℕ → TaskEnd → TaskEnd → Type 0
 AreEndsOf t lists c writer reader = AreEndsSo t (Serves t lists) IsFresh c writer reader
 
 -- the end of a channel that is handed over stands where the queue of that stands
-abbrev pub StandsByQueue : Program → List Waiting → Actual → End → Type 0
+abbrev pub StandsByQueue : Program → List Waiting → Actual → TaskEnd → Type 0
 StandsByQueue t queues (Reads c) e = e.next ≡ taken_of (slice_get queues c)
 StandsByQueue t queues (Writes c) e = is_output (role_at (network_of t) c) ≡ false → e.next ≡ given_of (slice_get queues c)
 StandsByQueue t queues (Hands v) e = Unit {0}
 
-abbrev pub ServesAt : Program → Lists → List Waiting → Actual → End → Type 0
+abbrev pub ServesAt : Program → Lists → List Waiting → Actual → TaskEnd → Type 0
 ServesAt t lists queues a e = Serves t lists a e × StandsByQueue t queues a e
 
 -- no more was flushed than was put, and all that was put
-abbrev pub IsAhead : End → Type 0
+abbrev pub IsAhead : TaskEnd → Type 0
 IsAhead e = (e.flushed ≤ e.next) × IsFlushed e
 
 -- few tokens were put on each inner channel
@@ -76,11 +76,11 @@ abbrev pub HaveFewTokens : Program → List Waiting → Type 0
 HaveFewTokens t queues = (d : ℕ) → role_at (network_of t) d ≡ Inner → given_of (slice_get queues d) ≤ 2 ^ 48
 
 -- the two ends of a channel stand where its queue stands
-abbrev pub AreEndsAt : Program → Lists → List Waiting → ℕ → End → End → Type 0
+abbrev pub AreEndsAt : Program → Lists → List Waiting → ℕ → TaskEnd → TaskEnd → Type 0
 AreEndsAt t lists queues c writer reader = AreEndsSo t (ServesAt t lists queues) IsAhead c writer reader
 
 -- that parameter of that instance gets the end
-abbrev pub placed : List (List End) → Option Side → End → List (List End)
+abbrev pub placed : List (List TaskEnd) → Option Side → TaskEnd → List (List TaskEnd)
 placed rows None e = rows
 placed rows (Some s) e = slice_set rows s.instance (slice_set (slice_index_or rows s.instance []) s.parameter e)
 
@@ -102,13 +102,13 @@ pub record HaveNoEnds (t : Program) (lists : Lists) (watch : Option ℕ) (ws : L
 -- a job for each instance, whose ends are those of its channels for this input, and stand where these queues stand
 pub record AreJobsAt (t : Program) (lists : Lists) (queues : List Waiting) (ws : List Work) : Type 0 where
   pub count : length ws ≡ length (network_of t).instances
-  pub each : (p : ℕ) (c : Told) → slice_get (cells_of ws) p ≡ Some c → (c.network ≡ t) × (c.instance ≡ p)
+  pub each : (p : ℕ) (c : CellView) → slice_get (cells_of ws) p ≡ Some c → (c.network ≡ t) × (c.instance ≡ p)
   pub settled : HaveSettled t lists (rows_of ws)
   pub at : (p q : ℕ) → StandsByQueue t queues (actual_at (instance_at (network_of t) p) q) (end_in (rows_of ws) p q)
 
 -- the cells of the jobs and of the taps are those of the same instances
-abbrev pub AreSamePlaces : List Told → List Told → Type 0
-AreSamePlaces cells tolds = (p : ℕ) (c d : Told) → slice_get cells p ≡ Some c → slice_get tolds p ≡ Some d → IsSamePlace c d
+abbrev pub AreSamePlaces : List CellView → List CellView → Type 0
+AreSamePlaces cells tolds = (p : ℕ) (c d : CellView) → slice_get cells p ≡ Some c → slice_get tolds p ≡ Some d → IsSamePlace c d
 
-abbrev pub tolds_of : List Tapped → List Told
+abbrev pub tolds_of : List Tapped → List CellView
 tolds_of taps = map (λ x. x.told) taps

@@ -1,6 +1,6 @@
 -- Inner. What contracts see of a task: a job as workers pass it on, with what they have to know of it.
 use Rattle.std.specs.Prelude.{◌≡◌, ◌≤◌}
-use Rattle.kahn_job.specs.inner.Words.{ℕ, List, length, Some, network_of, Lists, inputs_of, Store, Outcome, Dry as IsDryAt, ending, Pause, Paused, told_view}
+use Rattle.kahn_job.specs.inner.Words.{ℕ, List, length, Some, network_of, Lists, inputs_of, Store, ScriptOutcome, Dry as IsDryAt, ending, Pause, Paused, told_view}
 use Rattle.kahn_streams.specs.Solution as end
 use Rattle.kahn_code.specs.declared.progress.Pause.TheVariants as pause
 use Rattle.kahn_job.specs.declared.standing.TaskStanding.{TaskStanding}
@@ -22,7 +22,7 @@ standing_after (pause.Fault k) = standing.Faulted k
 standing_after (pause.Dry q) = standing.Dry q
 
 -- what a standing means for the outcome of the process on the values that it took
-abbrev pub TellsOutcome : TaskStanding → Outcome Store → Type 0
+abbrev pub TellsOutcome : TaskStanding → ScriptOutcome Store → Type 0
 TellsOutcome standing.Going o = Unit {0}
 TellsOutcome standing.Ended o = ending o ≡ Some end.Ended
 TellsOutcome (standing.Faulted k) o = ending o ≡ Some (end.Faulted k)

@@ -1,16 +1,16 @@
 -- Inner. What is seen of an end, by what it does.
 use Rattle.std.specs.Prelude.{◌-◌}
 use Rattle.kahn_job.specs.inner.Words.{ℕ, true, false, length, Some, None, Global, Program, Lists, inputs_of, Sender, Receiver, sender_lane, receiver_lane, sender_name, receiver_name, flushed, sent, filled, capacity, received, waiting, heard, left, lane_name}
-use Rattle.kahn_job.specs.inner.Ends.{End}
+use Rattle.kahn_job.specs.inner.Ends.{TaskEnd}
 use Rattle.kahn_job.specs.declared.port.Way.{Way}
 use Rattle.kahn_job.specs.declared.port.Way.TheVariants as way
 
 -- no end
-abbrev pub no_end : End
+abbrev pub no_end : TaskEnd
 no_end = record { reads = false; writes = false; lane = None; name = None; next = 0; waiting = 0; known = 0; left = 0; asked = 0; flushed = 0; filled = 0; capacity = 0 }
 
 -- the reader's end of a lane, and how many segments it knew to have left when it was last asked
-abbrev pub taking : Receiver Global → ℕ → End
+abbrev pub taking : Receiver Global → ℕ → TaskEnd
 taking r asked = record no_end {
   reads = true;
   lane = Some (receiver_lane r);
@@ -23,7 +23,7 @@ taking r asked = record no_end {
 }
 
 -- an input channel, whose list is known whole
-abbrev pub feeding : Program → Lists → ℕ → ℕ → End
+abbrev pub feeding : Program → Lists → ℕ → ℕ → TaskEnd
 feeding t lists channel next = record no_end {
   reads = true;
   name = Some (lane_name t lists channel);
@@ -33,7 +33,7 @@ feeding t lists channel next = record no_end {
 }
 
 -- the writer's end of a lane
-abbrev pub putting : Sender Global → End
+abbrev pub putting : Sender Global → TaskEnd
 putting s = record no_end {
   writes = true;
   lane = Some (sender_lane s);
@@ -44,7 +44,7 @@ putting s = record no_end {
   capacity = capacity s;
 }
 
-abbrev pub end_of : Way → End
+abbrev pub end_of : Way → TaskEnd
 end_of (way.Takes r asked) = taking r asked.value
 end_of (way.Feeds f) = feeding f.network.value f.input.value f.channel f.next
 end_of (way.Puts s) = putting s

@@ -1,16 +1,16 @@
 -- Inner. What contracts see of a job: a cell with the ends of its channels.
 use Rattle.std.specs.Prelude.{◌≡◌, ◌+◌, ◌<◌}
-use Rattle.kahn_job.specs.inner.Words.{ℕ, false, List, length, Writes, network_of, instance_at, actual_at, role_at, Lists, inputs_of, Pause, is_output, Paused, IsPause, count, Told, IsAt, told_view}
-use Rattle.kahn_job.specs.inner.Ends.{End, IsDry, IsReady}
+use Rattle.kahn_job.specs.inner.Words.{ℕ, false, List, length, Writes, network_of, instance_at, actual_at, role_at, Lists, inputs_of, Pause, is_output, Paused, IsPause, count, CellView, IsAt, told_view}
+use Rattle.kahn_job.specs.inner.Ends.{TaskEnd, IsDry, IsReady}
 use Rattle.kahn_job.specs.inner.Berths.{AreServed, end_at}
 
 -- the cell, and the end that each of its parameters has
 pub record Work : Type 0 where
-  pub cell : Told
-  pub ends : List End
+  pub cell : CellView
+  pub ends : List TaskEnd
 
 -- they are cells of one instance of one network
-abbrev pub IsSamePlace : Told → Told → Type 0
+abbrev pub IsSamePlace : CellView → CellView → Type 0
 IsSamePlace c d = (d.network ≡ c.network) × (d.instance ≡ c.instance)
 
 -- how many parameters the process of the job has

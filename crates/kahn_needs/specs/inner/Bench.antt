@@ -10,7 +10,7 @@ use Rattle.kahn_streams.specs.Wiring.{IsWellWired}
 use Rattle.kahn_streams.specs.declared.tree.Program.{Program}
 use Rattle.kahn_code.specs.Cells.{StoodBy}
 use Rattle.kahn_code.specs.Lines.{AreQueued, Lines, place_at, taken_of, waiting_of}
-use Rattle.kahn_code.specs.Progress.{IsAt, Paused, Told, told_view}
+use Rattle.kahn_code.specs.Progress.{IsAt, Paused, CellView, told_view}
 use Rattle.kahn_code.specs.Standing.{count}
 use Rattle.kahn_code.specs.declared.progress.Pause.{Pause}
 use Rattle.kahn_code.specs.declared.progress.Pause.TheVariants as pause
@@ -21,19 +21,19 @@ pub record Seats : Type 0 where
   pub input : Lists
   pub watch : Option ℕ
   pub code : Program
-  pub cells : List Told
+  pub cells : List CellView
   pub queues : Lines
 
 -- what contracts see of these cells over these queues
-abbrev pub seats_of : Program → Lists → Option ℕ → Program → List Told → Lines → Seats
+abbrev pub seats_of : Program → Lists → Option ℕ → Program → List CellView → Lines → Seats
 seats_of t lists watch code cells queues = record { network = t; input = lists; watch = watch; code = code; cells = cells; queues = queues }
 
 -- what the cell of instance p of the table says of its process is true
-abbrev pub Stood : Seats → ℕ → Told → Type 0
+abbrev pub Stood : Seats → ℕ → CellView → Type 0
 Stood b p x = StoodBy (network_of b.network) (inputs_of b.input) b.watch p (told_view x)
 
 -- the cell is that of instance p, and stands where the queues stand
-pub record HasItsSeat (b : Seats) (p : ℕ) (x : Told) : Type 0 where
+pub record HasItsSeat (b : Seats) (p : ℕ) (x : CellView) : Type 0 where
   pub network : x.network ≡ b.network
   pub input : x.input ≡ b.input
   pub instance : x.instance ≡ p
@@ -46,7 +46,7 @@ pub record HaveSeats (b : Seats) : Type 0 where
   pub wired : IsWellWired b.network
   pub code : b.code ≡ b.network
   pub count : length b.cells ≡ length (network_of b.network).instances
-  pub each : (p : ℕ) (x : Told) → slice_get b.cells p ≡ Some x → HasItsSeat b p x
+  pub each : (p : ℕ) (x : CellView) → slice_get b.cells p ≡ Some x → HasItsSeat b p x
   pub network : b.queues.network ≡ b.network
   pub input : b.queues.input ≡ b.input
   pub queued : AreQueued b.queues
@@ -56,7 +56,7 @@ abbrev pub AreSeatsOf : Program → Lists → Option ℕ → Seats → Type 0
 AreSeatsOf t lists watch b = (b.network ≡ t) × (b.input ≡ lists) × (b.watch ≡ watch)
 
 -- the cell of instance p before its first event
-pub record IsUnmoved (t : Program) (lists : Lists) (watch : Option ℕ) (p : ℕ) (x : Told) : Type 0 where
+pub record IsUnmoved (t : Program) (lists : Lists) (watch : Option ℕ) (p : ℕ) (x : CellView) : Type 0 where
   pub network : x.network ≡ t
   pub input : x.input ≡ lists
   pub instance : x.instance ≡ p
@@ -67,13 +67,13 @@ pub record IsUnmoved (t : Program) (lists : Lists) (watch : Option ℕ) (p : ℕ
   pub stood : StoodBy (network_of t) (inputs_of lists) watch p (told_view x)
 
 -- those of the first n instances
-pub record AreUnmoved (t : Program) (lists : Lists) (watch : Option ℕ) (cells : List Told) (n : ℕ) : Type 0 where
+pub record AreUnmoved (t : Program) (lists : Lists) (watch : Option ℕ) (cells : List CellView) (n : ℕ) : Type 0 where
   pub count : length cells ≡ n
-  pub each : (p : ℕ) (x : Told) → slice_get cells p ≡ Some x → IsUnmoved t lists watch p x
+  pub each : (p : ℕ) (x : CellView) → slice_get cells p ≡ Some x → IsUnmoved t lists watch p x
 
 -- none has done or taken anything
-abbrev pub HaveNotMoved : List Told → Type 0
-HaveNotMoved cells = (p : ℕ) (x : Told) → slice_get cells p ≡ Some x → (x.events ≡ 0) × ((q : ℕ) → count x.taken q ≡ 0)
+abbrev pub HaveNotMoved : List CellView → Type 0
+HaveNotMoved cells = (p : ℕ) (x : CellView) → slice_get cells p ≡ Some x → (x.events ≡ 0) × ((q : ℕ) → count x.taken q ≡ 0)
 
 -- how instance p stopped: at its end, or where it waits for a channel whose queue is empty; of other pauses nothing is said
 abbrev pub IsStopped : Seats → ℕ → Pause → script.Outcome Store → Type 0
@@ -87,15 +87,15 @@ IsStopped b p pause.NoMemory o = Unit {0}
 -- instance p did an event at most, and stopped so
 pub record HasActed (b d : Seats) (p : ℕ) (z : Pause) : Type 0 where
   pub same : AreSeatsOf b.network b.input b.watch d
-  pub old : Told
+  pub old : CellView
   pub was : slice_get b.cells p ≡ Some old
-  pub new : Told
+  pub new : CellView
   pub cells : d.cells ≡ slice_set b.cells p new
   pub events : (old.events ≤ new.events) × (new.events ≤ old.events + 1)
   pub paused : Paused (network_of d.network) (inputs_of d.input) d.watch p (told_view new) (IsStopped d p z)
 
 -- the events of a cell
-abbrev pub events_seen : Option Told → ℕ
+abbrev pub events_seen : Option CellView → ℕ
 events_seen None = 0
 events_seen (Some x) = x.events
 

@@ -8,7 +8,7 @@ use Rattle.kahn_streams.specs.declared.value.Line.TheVariants.{Channel, Print}
 use Rattle.kahn_streams.specs.declared.value.Value.{Value}
 use Rattle.kahn_code.specs.Cells.{sent_on}
 use Rattle.kahn_code.specs.Lines.{taken_of}
-use Rattle.kahn_code.specs.Progress.{Paused, Told, told_view}
+use Rattle.kahn_code.specs.Progress.{Paused, CellView, told_view}
 use Rattle.kahn_code.specs.Standing.{count}
 use Rattle.kahn_code.specs.declared.progress.Pause.{Pause}
 use Rattle.kahn_needs.specs.Needs.{Cut, held_in}
@@ -41,7 +41,7 @@ IsWanted b c k d j = (y : Cut) → HoldsIn b y c k → HoldsIn b y d j
 -- each cut with a value at place k of line c has the events of each cell, and the values that these took
 abbrev pub AreForced : Seats → Line → ℕ → Type 0
 AreForced b c k =
-    (y : Cut) → HoldsIn b y c k → (p : ℕ) (x : Told) → slice_get b.cells p ≡ Some x →
+    (y : Cut) → HoldsIn b y c k → (p : ℕ) (x : CellView) → slice_get b.cells p ≡ Some x →
     (x.events ≤ y.events p)
     × ((q d j : ℕ) → actual_at (instance_at (network_of b.network) p) q ≡ Reads d → j < count x.taken q → HoldsIn b y (Channel d) j)
 
@@ -82,7 +82,7 @@ pub record IsSearchState (b : Seats) (c : Line) (k : ℕ) : Type 0 where
 -- n values were sent on the line
 abbrev pub HasSentSoMany : Seats → Line → ℕ → Type 0
 HasSentSoMany b c n =
-    (p : ℕ) → source (network_of b.network) c ≡ Written p → (x : Told) → slice_get b.cells p ≡ Some x → (s : Stood b p x) →
+    (p : ℕ) → source (network_of b.network) c ≡ Written p → (x : CellView) → slice_get b.cells p ≡ Some x → (s : Stood b p x) →
     length (sent_on (network_of b.network) x.events p s.tapes c) ≡ n
 
 -- a value was sent at that place of a line that an instance writes
@@ -93,13 +93,13 @@ HasCome b c k =
 -- it is v
 abbrev pub HasValue : Seats → Line → ℕ → Value → Type 0
 HasValue b c k v =
-    (p : ℕ) → source (network_of b.network) c ≡ Written p → (x : Told) → slice_get b.cells p ≡ Some x → (s : Stood b p x) →
+    (p : ℕ) → source (network_of b.network) c ≡ Written p → (x : CellView) → slice_get b.cells p ≡ Some x → (s : Stood b p x) →
     slice_get (sent_on (network_of b.network) x.events p s.tapes c) k ≡ Some v
 
 -- an instance stopped so
 abbrev pub IsPausedAt : Seats → ℕ → Pause → Type 0
 IsPausedAt b p z =
-    (x : Told) × (slice_get b.cells p ≡ Some x) × Paused (network_of b.network) (inputs_of b.input) b.watch p (told_view x) (IsStopped b p z)
+    (x : CellView) × (slice_get b.cells p ≡ Some x) × Paused (network_of b.network) (inputs_of b.input) b.watch p (told_view x) (IsStopped b p z)
 
 -- what a turn for the value at place j of line d tells, where that at place k of line c is sought
 abbrev pub IsTurnTold : Seats → Line → ℕ → Line → ℕ → Turn → Type 0

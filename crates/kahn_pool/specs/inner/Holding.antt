@@ -1,16 +1,16 @@
 -- Inner. The jobs of a held run.
 use Rattle.std.specs.Prelude.{◌≡◌, ℕ, ◌+◌, ◌<◌, ◌≤◌, ◌^◌, List, [], length, map, sum_by, Option, Some, Err, Result, MatchResult, slice_get, vec_capacity}
-use Rattle.kahn_pool.specs.inner.Below.{Answer, AreIdle, AreJobsAt, CrewFault, Crewing, End, HaveGone, IsAsConfigured, IsCrew, IsLack, IsRight, Left, Lists, NoMemory, Plan, Program, Tasked, Token, Told, Verdict, Work, cells_of, inputs_of, network_of, told_view}
+use Rattle.kahn_pool.specs.inner.Below.{Answer, AreIdle, AreJobsAt, CrewFault, Crewing, End, HaveGone, IsAsConfigured, IsCrew, IsLack, IsRight, Left, Lists, NoMemory, Plan, Program, Tasked, Token, CellView, Verdict, Work, cells_of, inputs_of, network_of, told_view}
 use Rattle.kahn_sequential.specs.HeldRuns.{HeldRun, seen_events, seen_of}
 use Rattle.kahn_pool.specs.{declared.part.PartRoom.PartRoom, declared.part.Stopped.Stopped, declared.plan.RunPart.RunPart, declared.workers.HandRoom.HandRoom}
 use Rattle.kahn_sequential.specs.{inner.Bench.RunState, inner.Parts.AreEnded, inner.Parts.HaveRisen, inner.Parts.run_with, inner.Streams.AreAllGiven, inner.Streams.AreGiven, inner.Workbench.AllStandBy, inner.Workbench.Table}
 
 -- the cell without its input
-abbrev pub cell_alone : Told → Told
+abbrev pub cell_alone : CellView → CellView
 cell_alone c = record c { input = [] }
 
 -- the cell for this input
-abbrev pub cell_for : Lists → Told → Told
+abbrev pub cell_for : Lists → CellView → CellView
 cell_for lists c = record c { input = lists }
 
 -- what rounds see of the jobs
@@ -20,7 +20,7 @@ held_state t lists watch ws = record { network = network_of t; input = inputs_of
 -- the jobs of all instances at rest, with so much left of the bound; what each cell says is true of its process
 pub record AreHeld (t : Program) (lists : Lists) (watch : Option ℕ) (bound : ℕ) (ws : List Work) (budget : ℕ) : Type 0 where
   pub idle : AreIdle t lists ws
-  pub watched : (p : ℕ) (c : Told) → slice_get (cells_of ws) p ≡ Some c → c.watch ≡ watch
+  pub watched : (p : ℕ) (c : CellView) → slice_get (cells_of ws) p ≡ Some c → c.watch ≡ watch
   pub stood : AllStandBy t watch (cells_of ws)
   pub events : budget + sum_by seen_events (map seen_of (cells_of ws)) ≡ bound
 

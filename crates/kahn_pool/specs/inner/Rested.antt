@@ -1,12 +1,12 @@
 -- Inner. How tasks stand when no more is run, and what stands in the answer for each.
 use Rattle.std.specs.Prelude.{◌≡◌, ◌⊎◌, ℕ, ◌<◌, ◌^◌, List, length, Some, slice_get}
-use Rattle.kahn_pool.specs.inner.Below.{AreAll, Continues, Cut, Dry, End, IsJob, IsReady, IsWithinInput, Lists, Outcome, Paused, Program, Reads, TaskStanding, Store, Tasked, TellsOutcome, Told, Work, actual_at, count, end_at, handed_to_task, inputs_of, instance_at, network_of, told_view}
+use Rattle.kahn_pool.specs.inner.Below.{AreAll, Continues, Cut, Dry, End, IsJob, IsReady, IsWithinInput, Lists, Outcome, Paused, Program, Reads, TaskStanding, Store, Tasked, TellsOutcome, CellView, Work, actual_at, count, end_at, handed_to_task, inputs_of, instance_at, network_of, told_view}
 use Rattle.kahn_pool.specs.declared.plan.RunPart.{RunPart}
 use Rattle.kahn_streams.specs.Script as script
 use Rattle.kahn_job.specs.declared.standing.TaskStanding.TheVariants as standing
 use Rattle.kahn_streams.specs.declared.answer.Outcome.TheVariants as outcome
 
-abbrev pub cell_of : Tasked → Told
+abbrev pub cell_of : Tasked → CellView
 cell_of x = x.work.cell
 
 -- what it says of the outcome of a process that no more is run: where it may go on it has a next event, or a token is

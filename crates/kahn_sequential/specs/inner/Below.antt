@@ -2,7 +2,7 @@
 pub use Rattle.kahn_code.specs.Cells.{AreKeptTokens, StoodBy, View, exec_on, is_streamed}
 pub use Rattle.kahn_code.specs.Lines.{AreQueued, IsPoured, Lines as Queues, Waiting, given_of, place_at, taken_of, waiting_of}
 pub use Rattle.kahn_code.specs.{Progress.Paused, Standing.tokens, declared.cell.Kept.Kept, declared.progress.Pause.Pause, inner.Tapped.HasForgotten, inner.Tapped.Tapped}
-pub use Rattle.kahn_code.specs.Progress.{AreCounts, IsAt, Told, told_view}
+pub use Rattle.kahn_code.specs.Progress.{AreCounts, IsAt, CellView, told_view}
 pub use Rattle.kahn_code.specs.inner.Gone.{Gone, kept_behind, nothing_gone}
 pub use Rattle.kahn_streams.specs.declared.plan.Plan.{Plan}
 pub use Rattle.kahn_code.specs.inner.Opening.{IsOpening}

@@ -1,6 +1,6 @@
 -- Inner. The cells of a network over its plain queues, as a run on one thread has them.
 use Rattle.std.specs.Prelude.{◌≡◌, ◌⊎◌, ℕ, ◌+◌, ◌<◌, ◌≤◌, ◌^◌, ◌==◌, true, cond, min, vec_capacity, List, [], ◌++◌, length, map, replicate, Option, Some, slice_get, slice_index_or, if◌then◌else◌}
-use Rattle.kahn_sequential.specs.inner.Below.{Answer, End, Gone, IsAt, IsCutShort, IsOpening, IsRight, IsWellWired, Kept, Lists, More, Pause, Program, Queues, StoodBy, Stream, Tapped, Token, Told, inputs_of, instance_at, kept_behind, most_values, network_of, nothing_gone, place_at, stream_line, stream_lines, tokens, told_view, waiting_of}
+use Rattle.kahn_sequential.specs.inner.Below.{Answer, End, Gone, IsAt, IsCutShort, IsOpening, IsRight, IsWellWired, Kept, Lists, More, Pause, Program, Queues, StoodBy, Stream, Tapped, Token, CellView, inputs_of, instance_at, kept_behind, most_values, network_of, nothing_gone, place_at, stream_line, stream_lines, tokens, told_view, waiting_of}
 use Rattle.kahn_sequential.specs.inner.Bench.{AreEnds, HasEndIn, HasRunCell, IsLast, LacksMemory, RunState, all_events, events_at}
 use Rattle.kahn_code.specs.declared.progress.Pause.TheVariants as pause
 use Rattle.kahn_sequential.specs.{HeldRuns.seen_at, HeldRuns.seen_of, declared.rounds.Round.Round, inner.Streams.IsOpenStream, inner.Streams.kept_lists, inner.Streams.printed_list}
@@ -11,11 +11,11 @@ pub record Table : Type 0 where
   pub input : Lists
   pub watch : Option ℕ
   pub code : Program
-  pub cells : List Told
+  pub cells : List CellView
   pub gone : List Gone
   pub queues : Queues
 
-abbrev pub told_in : Tapped → Told
+abbrev pub told_in : Tapped → CellView
 told_in x = x.told
 
 abbrev pub gone_in : Tapped → Gone
@@ -31,7 +31,7 @@ abbrev pub vacant_of : Table → Table
 vacant_of b = record b { cells = []; gone = [] }
 
 -- with these cells, which have let go of nothing
-abbrev pub seated_with : Table → List Told → Table
+abbrev pub seated_with : Table → List CellView → Table
 seated_with b cells = record b { cells = cells; gone = replicate (length cells) nothing_gone }
 
 -- none of so many cells has let go of anything
@@ -141,8 +141,8 @@ pub record HasTakenIn (c n : ℕ) (input : Lists) (old new : Table) : Type 0 whe
   pub waiting : (d : ℕ) → waiting_of (slice_get new.queues.queues d) ≡ waiting_of (slice_get old.queues.queues d) + (if c == d then n else 0)
 
 -- what these cells say of their processes is true
-abbrev pub AllStandBy : Program → Option ℕ → List Told → Type 0
-AllStandBy t watch cells = (p : ℕ) (c : Told) → slice_get cells p ≡ Some c → StoodBy (network_of t) (inputs_of c.input) watch p (told_view c)
+abbrev pub AllStandBy : Program → Option ℕ → List CellView → Type 0
+AllStandBy t watch cells = (p : ℕ) (c : CellView) → slice_get cells p ≡ Some c → StoodBy (network_of t) (inputs_of c.input) watch p (told_view c)
 
 -- what its tap says of a process
 abbrev pub StandsAsTold : Program → Tapped → Type 0
@@ -192,7 +192,7 @@ abbrev pub IsCrowded : Table → ℕ → ℕ → Type 0
 IsCrowded b c n = (most_values < waiting_of (slice_get b.queues.queues c) + n) ⊎ (2 ^ 48 ≤ length (inputs_of b.input c) + n)
 
 -- the cell is that of instance p, and stands where the queues stand
-pub record IsSeated (b : Table) (p : ℕ) (c : Told) : Type 0 where
+pub record IsSeated (b : Table) (p : ℕ) (c : CellView) : Type 0 where
   pub network : c.network ≡ b.network
   pub input : c.input ≡ b.input
   pub instance : c.instance ≡ p
@@ -204,14 +204,14 @@ pub record IsLaid (b : Table) : Type 0 where
   pub wired : IsWellWired b.network
   pub code : b.code ≡ b.network
   pub count : length b.cells ≡ length (network_of b.network).instances
-  pub each : (p : ℕ) (c : Told) → slice_get b.cells p ≡ Some c → IsSeated b p c
+  pub each : (p : ℕ) (c : CellView) → slice_get b.cells p ≡ Some c → IsSeated b p c
   pub network : b.queues.network ≡ b.network
   pub input : b.queues.input ≡ b.input
 
 -- the cells of the first n instances at their openings
-pub record AreOpeningCells (t : Program) (lists : Lists) (watch : Option ℕ) (cells : List Told) (n : ℕ) : Type 0 where
+pub record AreOpeningCells (t : Program) (lists : Lists) (watch : Option ℕ) (cells : List CellView) (n : ℕ) : Type 0 where
   pub count : length cells ≡ n
-  pub each : (p : ℕ) (c : Told) → slice_get cells p ≡ Some c → IsOpening t lists watch p c
+  pub each : (p : ℕ) (c : CellView) → slice_get cells p ≡ Some c → IsOpening t lists watch p c
 
 -- the streams of an answer before any cell's token was moved there: an input channel has its whole list
 pub record AreOpen (t : Program) (lists : Lists) (watch : Option ℕ) (streams : List Stream) : Type 0 where
@@ -227,7 +227,7 @@ pub record AreStreamsReady {A : Type 0} (t : Program) (lists : Lists) (watch : O
 abbrev pub parameter_count : {A : Type 0} → Kept A → ℕ
 parameter_count k = length k.kept.items
 
-abbrev pub actual_count : Told → ℕ
+abbrev pub actual_count : CellView → ℕ
 actual_count c = length (instance_at (network_of c.network) c.instance).actuals
 
 -- these lists are there of what the tap kept, after what it let go of
@@ -236,7 +236,7 @@ IsLeft x k =
     (kept_behind x.gone.kept (kept_lists k) ≡ x.told.kept) × (x.gone.printed ++ printed_list k ≡ x.told.printed) × (parameter_count k ≡ actual_count x.told)
 
 -- these are the lists that the cells kept
-pub record AreKeptOf {A : Type 0} (cells : List Told) (kept : List (Kept A)) : Type 0 where
-  pub sent : map kept_lists kept ≡ map (λ (c : Told). c.kept) cells
-  pub printed : map printed_list kept ≡ map (λ (c : Told). c.printed) cells
+pub record AreKeptOf {A : Type 0} (cells : List CellView) (kept : List (Kept A)) : Type 0 where
+  pub sent : map kept_lists kept ≡ map (λ (c : CellView). c.kept) cells
+  pub printed : map printed_list kept ≡ map (λ (c : CellView). c.printed) cells
   pub parameters : map parameter_count kept ≡ map actual_count cells

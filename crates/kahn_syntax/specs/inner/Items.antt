@@ -2,18 +2,18 @@
 use Rattle.std.specs.Prelude.{◌≡◌, ℕ, List}
 use Rattle.kahn_syntax.specs.Names.{Item}
 use Rattle.kahn_syntax.specs.declared.lexer.Item.TheVariants as item
-use Rattle.kahn_syntax.specs.declared.lexer.forms.Form.{Form}
-use Rattle.kahn_syntax.specs.declared.lexer.forms.Form.TheVariants as form
+use Rattle.kahn_syntax.specs.declared.lexer.forms.LexemeForm.{LexemeForm}
+use Rattle.kahn_syntax.specs.declared.lexer.forms.LexemeForm.TheVariants as form
 use Rattle.kahn_syntax.specs.Texts.{IsWord, IsRun, IsSign, IsLexemeAt, IsComment}
 
 -- the place after a form
-abbrev pub form_end : Form → ℕ
+abbrev pub form_end : LexemeForm → ℕ
 form_end (form.Word to) = to
 form_end (form.Run to) = to
 form_end (form.Sign s to) = to
 
 -- the bytes from a to the form's end have that form
-abbrev pub IsOfForm : List ℕ → Form → ℕ → Type 0
+abbrev pub IsOfForm : List ℕ → LexemeForm → ℕ → Type 0
 IsOfForm text (form.Word to) a = IsWord text a to
 IsOfForm text (form.Run to) a = IsRun text a to
 IsOfForm text (form.Sign s to) a = IsSign text s a to

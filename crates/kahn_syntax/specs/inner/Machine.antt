@@ -63,14 +63,14 @@ rung_of Sum = sums
 rung_of Term = terms
 
 -- terminals of one use: this keyword, one of these two, this sign, any number, any name, an operator of the level of this one
-pub data Token : Type 0 where
-  a_word : Keyword → Token
-  either : Keyword → Keyword → Token
-  a_sign : Sign → Token
-  a_number a_name : Token
-  an_operator : Operator → Token
+pub data RuleToken : Type 0 where
+  a_word : Keyword → RuleToken
+  either : Keyword → Keyword → RuleToken
+  a_sign : Sign → RuleToken
+  a_number a_name : RuleToken
+  an_operator : Operator → RuleToken
 
-abbrev pub accepts : Token → Terminal → Bool
+abbrev pub accepts : RuleToken → Terminal → Bool
 accepts (a_word v) (word w) = bytes_eq (letters_of v) (letters_of w)
 accepts (either u v) (word w) = bytes_eq (letters_of u) (letters_of w) || bytes_eq (letters_of v) (letters_of w)
 accepts (a_sign s) (sign t) = bytes_eq (bytes_of_sign s) (bytes_of_sign t)
@@ -80,12 +80,12 @@ accepts (an_operator o) k = rank_or (operator_of k) == rank o
 accepts _ _ = false
 
 -- the token stands first
-abbrev pub leads : Token → List Terminal → Bool
+abbrev pub leads : RuleToken → List Terminal → Bool
 leads t [] = false
 leads t (k ∷ r) = accepts t k
 
 -- the class of its lexemes, if one class alone has its terminals
-abbrev pub class_of : Token → Option Class
+abbrev pub class_of : RuleToken → Option Class
 class_of (a_word keyword.Not) = None
 class_of (a_word w) = Some (class.Word w)
 class_of (a_sign mark.Not) = None
@@ -101,20 +101,20 @@ pub data Part : Type 0 where
   ExpressionPart OperatorsPart : Rung → Part
   -- what may go on, or not
   NamesTail StatementsTail GroupsTail ArgumentsTail InstancesTail ElseTail LastTail : Part
-  TokenPart : Token → Part
+  TokenPart : RuleToken → Part
   -- the end of a level of nesting: nothing
   LevelPart : Part
 
 -- the parts that are open after one token of a part
 abbrev pub Rule : Type 0
-Rule = Token × List Part
+Rule = RuleToken × List Part
 
 -- the rules of a part that is read before these
 abbrev pub followed : List Part → List Rule → List Rule
 followed after [] = []
 followed after ((t, ps) ∷ rest) = (t, ps ++ after) ∷ followed after rest
 
-abbrev pub a_kind : Token
+abbrev pub a_kind : RuleToken
 a_kind = either keyword.Integer keyword.Logical
 
 -- the head of a process after its name

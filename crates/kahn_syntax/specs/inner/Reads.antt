@@ -5,7 +5,7 @@ use Rattle.kahn_syntax.specs.declared.parser.cursor.Stop.TheVariants.{NoMemory}
 use Rattle.kahn_syntax.specs.declared.lexeme.Sign.TheVariants as mark
 use Rattle.kahn_syntax.specs.Grammar.{Between, Ended, DeclarationTree, declaration_nesting, declarations_nesting, Terminal, word, sign, operator_terminal, ExpressionTree, binds, Formed, expression_nesting, FormedStatement, FormedStatements, IsSimple, AreSome, statement_nesting, statements_nesting}
 use Rattle.kahn_syntax.specs.Texts.{Covers, terminals, AreProper, declaration_tree, expression_tree, statement_tree, statement_trees, FormSpans, Takes, ArgumentSpans, DeclarationSpans, ExpressionSpans, StatementSpans, StatementsSpan}
-use Rattle.kahn_syntax.specs.inner.Machine.{Rung, whole, at, Token, class_of, leads, Part, ProgramPart, ExpressionPart, StatementPart, SimplePart, StatementsTail, TokenPart, levels, Fate, Refuses, TooFar, fate, a_word}
+use Rattle.kahn_syntax.specs.inner.Machine.{Rung, whole, at, RuleToken, class_of, leads, Part, ProgramPart, ExpressionPart, StatementPart, SimplePart, StatementsTail, TokenPart, levels, Fate, Refuses, TooFar, fate, a_word}
 
 -- an expression that may stand at this level
 abbrev pub FitsLevel : ℕ → ExpressionTree → Type 0
@@ -13,7 +13,7 @@ FitsLevel n e = (n ≤ binds e) × Formed e
 
 -- no token of this class stands first
 abbrev pub IsAbsent : Class → List Lexeme → Type 0
-IsAbsent wanted input = (t : Token) → class_of t ≡ Some wanted → (text : List ℕ) → leads t (terminals text input) ≡ false
+IsAbsent wanted input = (t : RuleToken) → class_of t ≡ Some wanted → (text : List ℕ) → leads t (terminals text input) ≡ false
 
 -- Whatever is open below, with `depth` levels: what was read of the input, up to the rest, turns these parts into those.
 pub record Moves (text : List ℕ) (depth : ℕ) (parts those : List Part) (input rest : List Lexeme) : Type 0 where

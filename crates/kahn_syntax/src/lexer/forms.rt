@@ -9,7 +9,7 @@ use crate::lexeme::Sign;
 
 /// A form that the text has at a place, with the place after it.
 #[derive(Clone, Copy)]
-pub enum Form {
+pub enum LexemeForm {
     Word(usize),
     Run(usize),
     Sign(Sign, usize),
@@ -129,20 +129,20 @@ fn sign_at(text: &[u8], from: usize) -> Option<(Sign, usize)>
 }
 
 /// Returns the longest form that begins here, if one does.
-pub fn form_at(text: &[u8], from: usize) -> Option<Form>
+pub fn form_at(text: &[u8], from: usize) -> Option<LexemeForm>
     requires { from < length text.now }
     ensures some { IfSome result (λ f. IsLongest text.now from (form_end f) × IsOfForm text.now f from) }
     ensures none { IfNone result ((n : ℕ) → n ≤ length text.now → ¬ (HasForm text.now from n)) }
 {
     let byte = text[from];
     if is_letter(byte) {
-        return Some(Form::Word(word_end(text, from + 1)));
+        return Some(LexemeForm::Word(word_end(text, from + 1)));
     }
     if is_digit(byte) {
-        return Some(Form::Run(run_end(text, from + 1)));
+        return Some(LexemeForm::Run(run_end(text, from + 1)));
     }
     let (sign, to) = sign_at(text, from)?;
-    Some(Form::Sign(sign, to))
+    Some(LexemeForm::Sign(sign, to))
 }
 
 /// Returns where the comment ends whose word ends here, if it does: after the next semicolon.

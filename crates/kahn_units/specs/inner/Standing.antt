@@ -3,9 +3,9 @@ use Rattle.std.specs.Prelude.{◌≡◌, ◌<◌, length}
 use Rattle.kahn_streams.specs.Network.{network_of}
 use Rattle.kahn_code.specs.Lines.{Lines, actual_here, next_at}
 use Rattle.kahn_code.specs.Standing.{Site}
-use Rattle.kahn_code.specs.Progress.{Told, site_of, IsAt}
+use Rattle.kahn_code.specs.Progress.{CellView, site_of, IsAt}
 
-pub record IsOfSite (c : Told) (q : Lines) : Type 0 where
+pub record IsOfSite (c : CellView) (q : Lines) : Type 0 where
   pub here : c.instance < length (network_of c.network).instances
   pub site : site_of c ≡ record { network = q.network; input = q.input; instance = q.instance }
   pub at : IsAt c (λ r. next_at q.queues (actual_here q r))

@@ -7,7 +7,7 @@ use Rattle.kahn_syntax.specs.declared.lexeme.Keyword.TheVariants as keyword
 use Rattle.kahn_syntax.specs.declared.lexeme.Sign.TheVariants as mark
 use Rattle.kahn_syntax.specs.Grammar.{Terminal}
 use Rattle.kahn_syntax.specs.Texts.{terminal}
-use Rattle.kahn_syntax.specs.inner.Machine.{Token, a_word, either, a_sign, a_number, a_name, an_operator, Rule, step, whole, ors, ands, denials, relations, sums, terms, factors, Part, ProgramPart, DeclarationsPart, RolePart, GroupsPart, GroupPart, TakingPart, VariablesPart, StatementPart, SimplePart, InstancePart, ArgumentsPart, ArgumentPart, ExpressionPart, OperatorsPart, NamesTail, StatementsTail, GroupsTail, ArgumentsTail, InstancesTail, ElseTail, LastTail, TokenPart, LevelPart}
+use Rattle.kahn_syntax.specs.inner.Machine.{RuleToken, a_word, either, a_sign, a_number, a_name, an_operator, Rule, step, whole, ors, ands, denials, relations, sums, terms, factors, Part, ProgramPart, DeclarationsPart, RolePart, GroupsPart, GroupPart, TakingPart, VariablesPart, StatementPart, SimplePart, InstancePart, ArgumentsPart, ArgumentPart, ExpressionPart, OperatorsPart, NamesTail, StatementsTail, GroupsTail, ArgumentsTail, InstancesTail, ElseTail, LastTail, TokenPart, LevelPart}
 use Rattle.kahn_wanted.specs.declared.awaited.Awaited.{Awaited}
 use Rattle.kahn_wanted.specs.declared.awaited.Awaited.TheVariants as awaited
 use Rattle.kahn_wanted.specs.declared.awaited.Single.{Single}
@@ -15,7 +15,7 @@ use Rattle.kahn_wanted.specs.declared.awaited.Single.TheVariants as single
 use Rattle.kahn_wanted.specs.declared.awaited.Lead.{Lead}
 use Rattle.kahn_wanted.specs.declared.awaited.Lead.TheVariants as lead
 
-abbrev pub lead_of : Lead → Token
+abbrev pub lead_of : Lead → RuleToken
 lead_of (lead.Word w) = a_word w
 lead_of (lead.Either v w) = either v w
 lead_of (lead.Sign s) = a_sign s
@@ -23,7 +23,7 @@ lead_of lead.Number = a_number
 lead_of lead.Name = a_name
 lead_of (lead.Operator o) = an_operator o
 
-abbrev pub single_token : Single → Token
+abbrev pub single_token : Single → RuleToken
 single_token single.Name = a_name
 single_token single.Number = a_number
 single_token single.Open = a_sign mark.Open

@@ -8,7 +8,7 @@ ghost use Rattle.kahn_why.specs.Why.{IsExplained, standings_of};
 
 use crate::why::lines::add_causes;
 use crate::why::story::Story;
-use crate::why::told::{Explanation, Told, came_to};
+use crate::why::told::{Explanation, Finding, came_to};
 use crate::why::verdict::add_verdict;
 use itoa::Buffer;
 use kahn_chain::{Reason, reasons};
@@ -114,7 +114,7 @@ pub fn causes(
     requires { AreStandings (network_of network.now) (map stands ends.now) }
 {
     let reasons = reasons(alloc, network, verdict, ends)?;
-    if let Told::Stop(Verdict::Finished) = came_to(verdict, &reasons) {
+    if let Finding::Stop(Verdict::Finished) = came_to(verdict, &reasons) {
         return Ok(String::new(alloc));
     }
     let count = ends.len();

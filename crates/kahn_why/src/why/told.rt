@@ -8,7 +8,7 @@ use kahn_streams::{Outcome, Verdict};
 
 /// What a run came to.
 #[derive(Clone, Copy)]
-pub enum Told {
+pub enum Finding {
     /// A process has a fault of arithmetic.
     Fault,
     /// Processes wait on one another in a ring, and none has a fault.
@@ -25,7 +25,7 @@ pub struct Explanation {
     /// Why each instance goes no further that hasn't ended.
     pub reasons: Vec<Reason>,
     /// What it came to.
-    pub told: Told,
+    pub told: Finding,
 }
 
 /// Whether an end is a fault.
@@ -57,14 +57,14 @@ fn has_ring(reasons: &[Reason]) -> bool
 }
 
 /// What a run came to that ended so.
-pub(crate) fn came_to(verdict: Verdict, reasons: &[Reason]) -> Told
+pub(crate) fn came_to(verdict: Verdict, reasons: &[Reason]) -> Finding
     ensures { result ≡ came_to verdict reasons.now }
 {
     if has_fault(reasons) {
-        Told::Fault
+        Finding::Fault
     } else if has_ring(reasons) {
-        Told::Deadlock
+        Finding::Deadlock
     } else {
-        Told::Stop(verdict)
+        Finding::Stop(verdict)
     }
 }

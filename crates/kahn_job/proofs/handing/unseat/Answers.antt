@@ -1,6 +1,6 @@
 use Rattle.std.proofs.Common.{arith, List, [], ◌∷◌, ◌++◌, map, replicate, length, sym, ap, ◌∙◌}
 use Rattle.std.proofs.lemmas.List.{length-append, map-append, replicate-append-replicate}
-use Rattle.kahn_job.proofs.Common.{Tapped, Told, Work, cells_of, nothing_gone, tolds_of}
+use Rattle.kahn_job.proofs.Common.{Tapped, CellView, Work, cells_of, nothing_gone, tolds_of}
 use Rattle.kahn_code.specs.inner.Gone.{Gone}
 use Rattle.kahn_job.proofs.handing.unseat.Goals as goal
 
@@ -16,8 +16,8 @@ loop-idle-preserved c =
     let many = length-append taps (x ∷ []) in (
       tt,
       tt,
-      ap tolds_of pushed ∙ map-append (λ (x : Tapped). x.told) taps (x ∷ []) ∙ ap (λ (l : List Told). l ++ x.told ∷ []) i.2
-          ∙ ap (λ (t : Told). cells_of done ++ t ∷ []) c.into_tap.ensures.0 ∙ sym (map-append (λ (w : Work). w.cell) done (w ∷ [])),
+      ap tolds_of pushed ∙ map-append (λ (x : Tapped). x.told) taps (x ∷ []) ∙ ap (λ (l : List CellView). l ++ x.told ∷ []) i.2
+          ∙ ap (λ (t : CellView). cells_of done ++ t ∷ []) c.into_tap.ensures.0 ∙ sym (map-append (λ (w : Work). w.cell) done (w ∷ [])),
       ap (map (λ (x : Tapped). x.gone)) pushed ∙ map-append (λ (x : Tapped). x.gone) taps (x ∷ []) ∙ ap (λ (l : List Gone). l ++ x.gone ∷ []) i.3
           ∙ ap (λ (g : Gone). replicate (length done) nothing_gone ++ g ∷ []) c.into_tap.ensures.1 ∙ replicate-append-replicate (length done) 1 nothing_gone ∙ ap (λ n. replicate n nothing_gone) (sym one),
       c.push_reserved.ensures.capacity ∙ i.4,

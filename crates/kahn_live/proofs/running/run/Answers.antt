@@ -2,7 +2,7 @@ use Rattle.std.proofs.Common.{◌∙◌, inr, List, Option, ℕ, ap, map, subst}
 use Rattle.std.specs.Prelude.{option_copied, string_bytes}
 use Rattle.std.specs.declared.alloc.Global.{Global}
 use Rattle.std.specs.declared.string.String.{String}
-use Rattle.kahn_line.specs.declared.parts.Plain.{Plain}
+use Rattle.kahn_line.specs.declared.parts.PlainNames.{PlainNames}
 use Rattle.kahn_live.specs.Course.{telling_of}
 use Rattle.kahn_live.specs.Running.{HasRunNetwork, Watches, name_watched, names_shown}
 use Rattle.kahn_live.proofs.running.run.Goals as goal
@@ -18,11 +18,11 @@ returns-in-Ok-checked g c =
     let made = g.W.Write.contents c.run_network.result.output in
     let new = telling_of g.E.Write.contents c.run_network.result.teller in
     let r = c.run_network.result.ending in
-    let is = c.name_watched-watch.ensures ∙ ap (λ (p : Option Plain). name_watched p o.config.watch) c.as_ref-columns.ensures.value in
+    let is = c.name_watched-watch.ensures ∙ ap (λ (p : Option PlainNames). name_watched p o.config.watch) c.as_ref-columns.ensures.value in
     let watches = subst (λ (n : Option (List ℕ)). Watches n o.config config) is c.in-Ok.ensures in
     let shown = names_shown o.plain o.config.watch in
-    let are = c.names_shown.ensures ∙ ap (λ (p : Option Plain). names_shown p o.config.watch) c.as_ref-columns.ensures.value in
-    let named = subst (λ (p : Option Plain). HasRunNetwork (record { plain = p; shown = option_copied c.names_shown.result; at_end = map string_bytes c.deref.result.now; strict = o.strict }) t config text out made old new r) c.as_ref-columns.ensures.value c.run_network.ensures in
+    let are = c.names_shown.ensures ∙ ap (λ (p : Option PlainNames). names_shown p o.config.watch) c.as_ref-columns.ensures.value in
+    let named = subst (λ (p : Option PlainNames). HasRunNetwork (record { plain = p; shown = option_copied c.names_shown.result; at_end = map string_bytes c.deref.result.now; strict = o.strict }) t config text out made old new r) c.as_ref-columns.ensures.value c.run_network.ensures in
     let watched = subst (λ (n : Option (List ℕ)). HasRunNetwork (record { plain = o.plain; shown = n; at_end = map string_bytes c.deref.result.now; strict = o.strict }) t config text out made old new r) are named in
     let ran = subst (λ (ls : List (String Global)). HasRunNetwork (record { plain = o.plain; shown = shown; at_end = map string_bytes ls; strict = o.strict }) t config text out made old new r) c.deref.ensures.value watched in
     inr (inr (t, config, c.in-Ok-checked.ensures, watches, ran))

@@ -1,11 +1,11 @@
 -- What is left of the line comes behind the row so far.
 use Rattle.std.proofs.Common.{◌≡◌, ◌++◌, IsUtf8, chars, flat_map, string_bytes}
 use Rattle.std.specs.Str.Iter.{char_indices_offset, char_indices_rest}
-use Rattle.kahn_marks.specs.Marks.{piece_of, row_of, with_places}
+use Rattle.kahn_marks.specs.Marks.{piece_of, shown_row, with_places}
 use Rattle.kahn_marks.proofs.columns.add_row.Given as goal
 
 abbrev pub invariant-loop-at : goal.invariant-loop-at
 invariant-loop-at l =
     IsUtf8 (char_indices_rest l.at-iterator)
     × (string_bytes l.text ++ flat_map (λ p. piece_of l.row l.from l.bytes p.0 p.1) (with_places (char_indices_offset l.at-iterator) (chars (char_indices_rest l.at-iterator)))
-    ≡ string_bytes l.initial.text ++ row_of l.row l.line l.from l.bytes)
+    ≡ string_bytes l.initial.text ++ shown_row l.row l.line l.from l.bytes)

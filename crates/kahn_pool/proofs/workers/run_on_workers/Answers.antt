@@ -1,5 +1,5 @@
 use Rattle.std.proofs.Common.{arith, rules, ◌≡◌, ℕ, ◌+◌, ◌∙◌, Option, Err, ap, length, map, sym, subst}
-use Rattle.kahn_pool.proofs.Common.{AreHeld, IsLaid, IsWide, Lists, NoMemory, Plan, Program, Table, Told, all_events, cell_for, cells_of, network_of, seated_with, sight_of, vacant_of}
+use Rattle.kahn_pool.proofs.Common.{AreHeld, IsLaid, IsWide, Lists, NoMemory, Plan, Program, Table, CellView, all_events, cell_for, cells_of, network_of, seated_with, sight_of, vacant_of}
 use Rattle.kahn_pool.proofs.Handing.{same_input, seated_again}
 use Rattle.kahn_pool.specs.inner.Holding.{IsRoomFor}
 use Rattle.kahn_pool.proofs.workers.run_on_workers.Goals as goal

@@ -1,5 +1,0 @@
-use Rattle.std.proofs.Common.{[]}
-use Rattle.kahn_check.proofs.names.Names.new.Given as goal
-
-abbrev pub ghost-named : goal.ghost-named
-ghost-named g a = []
