@@ -171,7 +171,7 @@ module _ (t : Program) (wired : IsWellWired t) (lists : Lists) (watch : Option �
         let le = h.1.within in
         (h.0, h.1.given, omega (arith, v, le))
 
-    told_as : (p : ℕ) (x : Tasked) → slice_get tasks p ≡ Some x → (u : Outcome) → IsToldAs t lists tasks x u → (o : script.Outcome Store) →
+    told_as : (p : ℕ) (x : Tasked) → slice_get tasks p ≡ Some x → (u : Outcome) → IsToldAs t lists tasks x u → (o : script.ScriptOutcome Store) →
         IsSaid x.work x.standing o → IsOutcomeOf N I cells p o u
     told_as p x e outcome.Ended h o k = subst (λ s. IsSaid x.work s o) h k
     told_as p x e (outcome.Faulted f) h o k = subst (λ s. IsSaid x.work s o) h k

@@ -35,7 +35,7 @@ pub says_ran : (w : Work) (s : TaskStanding) (z : Pause) (dry : ℕ → Type 0) 
     (IsPause (network_of w.cell.network) w.cell.instance dry (λ q. IsReady (end_at w.ends q)) spent z) → Says w s
 says_ran w s z dry spent e h = subst (Says w) (sym e) (record { stood = h.stood; is = by z _ h.is })
   where
-    by : (z : Pause) (o : script.Outcome Store) → IsPause (network_of w.cell.network) w.cell.instance dry (λ q. IsReady (end_at w.ends q)) spent z o →
+    by : (z : Pause) (o : script.ScriptOutcome Store) → IsPause (network_of w.cell.network) w.cell.instance dry (λ q. IsReady (end_at w.ends q)) spent z o →
         IsSaid w (standing_after z) o
     by pause.Spent o k = k.1
     by pause.NoMemory o k = inl k.0

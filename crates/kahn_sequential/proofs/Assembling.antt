@@ -170,14 +170,14 @@ module _ {state : RunState} {bound left : ℕ} {halted : Bool} {said : Verdict} 
 
   -- ---- outcomes
 
-  abbrev o : ℕ → script.Outcome Store
+  abbrev o : ℕ → script.ScriptOutcome Store
   o p = (exec_on N (e p) p (T p)).outcome
 
   -- one that is over stays so
-  lasts : (y : Ending) → ((q : ℕ) → y ≡ net.Waiting q → ⊥) → (p : ℕ) (z : script.Outcome Store) → o p ≡ z → ending z ≡ Some y → ending (exec_at N (e p) p A).outcome ≡ Some y
+  lasts : (y : Ending) → ((q : ℕ) → y ≡ net.Waiting q → ⊥) → (p : ℕ) (z : script.ScriptOutcome Store) → o p ≡ z → ending z ≡ Some y → ending (exec_at N (e p) p A).outcome ≡ Some y
   lasts y n p z d f = ap ending (same_outcome N p (e p) (T p) (tapes p) (extended p) z d (stays z f)) ∙ f
     where
-      stays : (z : script.Outcome Store) → ending z ≡ Some y → Stays (more N p (e p) (T p) (tapes p) (extended p)) z
+      stays : (z : script.ScriptOutcome Store) → ending z ≡ Some y → Stays (more N p (e p) (T p) (tapes p) (extended p)) z
       stays (Got s) f = tt
       stays (Dry q) f = absurd (n q cc)
       stays (Fault k) f = tt

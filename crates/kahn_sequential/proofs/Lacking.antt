@@ -20,7 +20,7 @@ one_tapes N I watch p c a b = fun_ext (λ q. by q (reads_or (actual_at (instance
     by q (inr n) = a.none q n ∙ sym (b.none q n)
 
 -- what is told of an instance that has a next event
-next_told : (s : RunState) (p : ℕ) (o : script.Outcome Store) (y : Outcome) → o ≡ Cut → IsOutcomeOf s.network s.input s.cells p o y → y ≡ More
+next_told : (s : RunState) (p : ℕ) (o : script.ScriptOutcome Store) (y : Outcome) → o ≡ Cut → IsOutcomeOf s.network s.input s.cells p o y → y ≡ More
 next_told s p o Ended cut h = absurd (none-some _ (sym (ap ending cut) ∙ h))
 next_told s p o (Faulted k) cut h = absurd (none-some _ (sym (ap ending cut) ∙ h))
 next_told s p o (Waits c) cut (q, r, dry, all) = let e : Cut ≡ script.Dry q = sym cut ∙ dry in absurd cc

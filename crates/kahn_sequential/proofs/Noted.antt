@@ -114,7 +114,7 @@ AreSo s later o y v =
     × IsOutcomeOf s.network s.input later o (exec_on s.network v.events o stood.tapes).outcome y.outcome
 
 -- where it paused
-abbrev pause_of : (s : RunState) (o : ℕ) (y : End) → HasEndIn s o y → script.Outcome Store
+abbrev pause_of : (s : RunState) (o : ℕ) (y : End) → HasEndIn s o y → script.ScriptOutcome Store
 pause_of s o y h = (exec_on s.network (view_at s.cells o).events o h.stood.tapes).outcome
 
 end_on : (s : RunState) (later : List View) (o : ℕ) (y : End) → view_at later o ≡ view_at s.cells o → (h : HasEndIn s o y) →

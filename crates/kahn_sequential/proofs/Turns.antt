@@ -11,11 +11,11 @@ use Rattle.kahn_streams.specs.Script as script
 use Rattle.kahn_code.specs.declared.progress.Pause.TheVariants as pause
 
 -- a pause and an outcome that say the same
-pub told_as : (s : RunState) (p : ℕ) (o : script.Outcome Store) (z z' : Pause) (x x' : Outcome) → z ≡ z' → x ≡ x' →
+pub told_as : (s : RunState) (p : ℕ) (o : script.ScriptOutcome Store) (z z' : Pause) (x x' : Outcome) → z ≡ z' → x ≡ x' →
     IsPaused s p z o → (IsPaused s p z' o → IsOutcomeOf s.network s.input s.cells p o x') → IsOutcomeOf s.network s.input s.cells p o x
 told_as s p o z z' x x' e f h go = subst (IsOutcomeOf s.network s.input s.cells p o) (sym f) (go (subst (λ y. IsPaused s p y o) e h))
 
-pub told_dry : (s : RunState) (p : ℕ) (o : script.Outcome Store) (q c : ℕ) → actual_at (instance_at s.network p) q ≡ Reads c →
+pub told_dry : (s : RunState) (p : ℕ) (o : script.ScriptOutcome Store) (q c : ℕ) → actual_at (instance_at s.network p) q ≡ Reads c →
     IsPaused s p (pause.Dry q) o → IsOutcomeOf s.network s.input s.cells p o (Waits c)
 told_dry s p o q c r h = let same : h.0 ≡ c = cc (h.1, r) in (q, r, h.2, subst (TookAll s.network s.input s.cells p q) same h.3)
 

@@ -11,7 +11,7 @@ cell_of x = x.work.cell
 
 -- what it says of the outcome of a process that no more is run: where it may go on it has a next event, or a token is
 -- ready on the channel that it reads
-abbrev pub IsSaid : Work → TaskStanding → script.Outcome Store → Type 0
+abbrev pub IsSaid : Work → TaskStanding → script.ScriptOutcome Store → Type 0
 IsSaid w standing.Going o = (o ≡ Cut) ⊎ ((q d : ℕ) × (handed_to_task w q ≡ Reads d) × (o ≡ Dry q) × IsReady (end_at w.ends q))
 IsSaid w s o = TellsOutcome s o
 

@@ -16,7 +16,7 @@ abbrev pub events_at : RunState → ℕ → ℕ
 events_at s p = (view_at s.cells p).events
 
 -- what a pause says of the outcome
-abbrev pub IsPaused : RunState → ℕ → Pause → script.Outcome Store → Type 0
+abbrev pub IsPaused : RunState → ℕ → Pause → script.ScriptOutcome Store → Type 0
 IsPaused s p pause.Ended o = ending o ≡ Some net.Ended
 IsPaused s p (pause.Fault k) o = ending o ≡ Some (net.Faulted k)
 IsPaused s p (pause.Dry q) o =

@@ -26,12 +26,12 @@ abbrev pub TookAll : Network → Inputs → List View → ℕ → ℕ → ℕ �
 TookAll N I cells p q c = IsGiven N I cells c (source N (Channel c)) ((view_at cells p).taken q)
 
 -- instance p is dry on a channel of which it did not take all
-abbrev pub HasUntaken : Network → Inputs → List View → ℕ → script.Outcome Store → Type 0
+abbrev pub HasUntaken : Network → Inputs → List View → ℕ → script.ScriptOutcome Store → Type 0
 HasUntaken N I cells p o =
     (q c n : ℕ) × (actual_at (instance_at N p) q ≡ Reads c) × (o ≡ Dry q) × IsGiven N I cells c (source N (Channel c)) n × ((view_at cells p).taken q < n)
 
 -- the rule of outcomes: what stands in the answer for a cell that is so
-abbrev pub IsOutcomeOf : Network → Inputs → List View → ℕ → script.Outcome Store → Outcome → Type 0
+abbrev pub IsOutcomeOf : Network → Inputs → List View → ℕ → script.ScriptOutcome Store → Outcome → Type 0
 IsOutcomeOf N I cells p o Ended = ending o ≡ Some net.Ended
 IsOutcomeOf N I cells p o (Faulted k) = ending o ≡ Some (net.Faulted k)
 IsOutcomeOf N I cells p o (Waits c) = (q : ℕ) × (actual_at (instance_at N p) q ≡ Reads c) × (o ≡ Dry q) × TookAll N I cells p q c
