@@ -1,45 +1,11 @@
 -- Tables in which each name stands for the same, and what they say is wrong.
-use Rattle.std.proofs.Common.{◌≡◌, inl, inr, ℕ, suc, ◌+◌, Bool, true, false, cond, List, [], ◌∷◌, ◌++◌, length, Option, None, Some, Ok, Err, refl, ap, sym, ◌∙◌, subst, append_assoc, bytes_eq, arith}
-use Rattle.std.specs.Option.{option_or}
-use Rattle.std.specs.Map.{lookup}
-use Rattle.kahn_streams.specs.declared.span.Span.{Span}
-use Rattle.kahn_streams.specs.declared.tree.Name.{Name}
-use Rattle.kahn_streams.specs.declared.tree.Kind.{Kind}
-use Rattle.kahn_streams.specs.declared.tree.Role.{Role}
-use Rattle.kahn_streams.specs.declared.tree.Direction.{Direction}
-use Rattle.kahn_streams.specs.declared.tree.Taking.{Taking}
-use Rattle.kahn_streams.specs.declared.tree.Parameter.{Parameter}
-use Rattle.kahn_streams.specs.declared.tree.Argument.{Argument}
-use Rattle.kahn_streams.specs.declared.tree.Declaration.{Declaration}
-use Rattle.kahn_streams.specs.declared.tree.Instance.{Instance}
-use Rattle.kahn_streams.specs.declared.sides.Side.{Side}
-use Rattle.kahn_streams.specs.declared.tree.Role.TheVariants.{Inner, Input, Output}
-use Rattle.kahn_streams.specs.declared.tree.Direction.TheVariants.{In, Out}
+use Rattle.kahn_check.proofs.Common.{◌≡◌, inl, inr, ℕ, suc, ◌+◌, Bool, true, false, cond, List, [], ◌∷◌, ◌++◌, length, Option, None, Some, Ok, Err, refl, ap, sym, ◌∙◌, subst, append_assoc, bytes_eq, arith, option_or, lookup, Span, Name, Kind, Role, Direction, Taking, Parameter, Argument, Declaration, Instance, Side, Inner, Input, Output, In, Out, bytes_of, entries, Global, IsChannel, IsProcess, handed, handed_in, parameters_of, side_at, same_direction, Handover, verdict, IsMet, most_channels, most_instances, too_many, repeated, process_faults, misplaced, miscounted, missing, CheckFault, NoWriter, NoReader, TooMany, channel_parts, declaration_parts, StandAlike, kept_first, kept_as, AreAsMany, HaveKept, got_first, seat_faults, seats_parts, sides_parts, Ends, HaveGot, held, taken, place_faults, places_faults, made_in, meant, handed_to, side_in, Table, as_channels, bytes_true, append-nil}
 use Rattle.kahn_streams.specs.declared.tree.Taking.TheVariants as T
 use Rattle.kahn_streams.specs.declared.tree.Argument.TheVariants as A
 use Rattle.kahn_streams.specs.declared.tree.Declaration.TheVariants as D
-use Rattle.kahn_streams.specs.View.{bytes_of}
-use Rattle.kahn_streams.specs.Wiring.{entries, Global, IsChannel, IsProcess, handed, handed_in, parameters_of, side_at, same_direction, Handover}
-use Rattle.kahn_streams.specs.Faults.{verdict, IsMet, most_channels, most_instances, too_many, repeated, process_faults, misplaced, miscounted, missing}
-use Rattle.kahn_streams.specs.declared.fault.CheckFault.{CheckFault}
-use Rattle.kahn_streams.specs.declared.fault.CheckFault.TheVariants.{NoWriter, NoReader, TooMany}
-use Rattle.kahn_check.specs.Parts.{channel_parts, declaration_parts}
-use Rattle.kahn_check.specs.inner.Firsts.{StandAlike, kept_first, kept_as, AreAsMany, HaveKept, got_first, seat_faults, seats_parts, sides_parts}
-use Rattle.kahn_check.specs.inner.Tables.{Ends, HaveGot, held, taken, place_faults, places_faults, made_in, meant, handed_to, side_in}
-use Rattle.kahn_streams.proofs.Handed.{Table, as_channels, bytes_true}
-use Rattle.kahn_check.proofs.Declared.{beyond}
-use Rattle.kahn_check.proofs.Wired.{placed}
-use Rattle.std.proofs.lemmas.List.{append-nil}
+use Rattle.kahn_check.proofs.{Declared.beyond, Wired.lookup_append, Wired.placed}
 
 -- ---- tables
-
-pub lookup_append : {X : Type 0} (test : List ℕ → Bool) (a c : List (List ℕ × X)) → lookup test (a ++ c) ≡ option_or (lookup test a) (lookup test c)
-lookup_append test [] c = refl
-lookup_append {X} test (e ∷ es) c = by (test e.0) (lookup_append test es c)
-  where
-    by : (b : Bool) → lookup test (es ++ c) ≡ option_or (lookup test es) (lookup test c) → cond b (Some e.1) (lookup test (es ++ c)) ≡ option_or (cond b (Some e.1) (lookup test es)) (lookup test c)
-    by true h = refl
-    by false h = h
 
 pub alike_more : {X : Type 0} (a b c : List (List ℕ × X)) → StandAlike a b → StandAlike (a ++ c) (b ++ c)
 alike_more a b c h x =

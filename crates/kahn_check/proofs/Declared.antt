@@ -1,22 +1,8 @@
 -- The declarations in turn.
-use Rattle.std.proofs.Common.{◌≡◌, ℕ, suc, ◌+◌, ◌≤◌, ◌<◌, Bool, true, false, cond, List, [], ◌∷◌, ◌++◌, Option, None, Some, IsSome, Err, refl, ap, sym, ◌∙◌, subst, bytes_eq, append_assoc, arith, nat_lt, length, inl, inr}
-use Rattle.std.specs.Map.{lookup}
-use Rattle.kahn_streams.specs.declared.tree.Name.{Name}
-use Rattle.kahn_streams.specs.declared.tree.Kind.{Kind}
-use Rattle.kahn_streams.specs.declared.tree.Role.{Role}
-use Rattle.kahn_streams.specs.declared.tree.Process.{Process}
-use Rattle.kahn_streams.specs.declared.tree.Declaration.{Declaration}
-use Rattle.kahn_streams.specs.View.{bytes_of}
-use Rattle.kahn_streams.specs.declared.fault.CheckFault.{CheckFault}
-use Rattle.kahn_streams.specs.declared.fault.CheckFault.TheVariants.{DeclaredTwice, TooMany}
-use Rattle.kahn_streams.specs.Faults.{verdict, IsMet, most_channels, repeated, channel_faults, process_faults, declaration_faults}
+use Rattle.kahn_check.proofs.Common.{◌≡◌, ℕ, suc, ◌+◌, ◌≤◌, ◌<◌, Bool, true, false, cond, List, [], ◌∷◌, ◌++◌, Option, None, Some, IsSome, Err, refl, ap, sym, ◌∙◌, subst, bytes_eq, append_assoc, arith, nat_lt, length, inl, inr, lookup, Name, Kind, Role, Process, Declaration, bytes_of, CheckFault, DeclaredTwice, TooMany, verdict, IsMet, most_channels, repeated, channel_faults, process_faults, declaration_faults, entries, declared_of, IsChannel, IsProcess, Table, as_channels, map-append, Vec}
 use Rattle.kahn_streams.specs.Wiring
-use Rattle.kahn_streams.specs.Wiring.{entries, declared_of, IsChannel, IsProcess}
-use Rattle.kahn_streams.proofs.Handed.{Table, as_channels}
 use Rattle.kahn_check.proofs.Walk.{verdict_err}
-use Rattle.std.proofs.lemmas.List.{map-append}
 use Rattle.kahn_streams.specs.declared.tree.Declaration.TheVariants as D
-use Rattle.std.specs.declared.vec.Vec.{Vec}
 use Rattle.std.specs.declared.alloc.Global.{Global}
 
 pub within : (n limit : ℕ) → n < limit → nat_lt n limit ≡ true

@@ -1,19 +1,7 @@
 -- What the names of a program stand for.
-use Rattle.std.proofs.Common.{◌≡◌, ◌⊎◌, inl, inr, Result, Ok, Err, MatchResult, ℕ, Bool, true, false, cond, List, [], ◌∷◌, ◌++◌, map, Option, None, Some, IsSome, IfSome, refl, sym, ap, subst, ◌∙◌, bytes_eq, zero, suc, drop}
-use Rattle.std.proofs.lemmas.List.{map-append}
-use Rattle.std.specs.Map.{lookup}
-use Rattle.std.specs.List.{AllByRecursion}
-use Rattle.kahn_streams.specs.declared.tree.Process.{Process}
-use Rattle.kahn_streams.specs.declared.tree.Declaration.{Declaration}
-use Rattle.kahn_streams.specs.declared.span.Span.{Span}
+use Rattle.kahn_check.proofs.Common.{◌≡◌, ◌⊎◌, inl, inr, Result, Ok, Err, MatchResult, ℕ, Bool, true, false, cond, List, [], ◌∷◌, ◌++◌, map, Option, None, Some, IsSome, IfSome, refl, sym, ap, subst, ◌∙◌, bytes_eq, zero, suc, drop, map-append, lookup, AllByRecursion, Process, Declaration, Span, CheckFault, NoMemory, DeclaredTwice, the_process, process_at, Global, global_of, option_global, IsPlaced, kept_first, kept_as}
 use Rattle.kahn_streams.specs.declared.tree.Declaration.TheVariants as D
-use Rattle.kahn_streams.specs.declared.fault.CheckFault.{CheckFault}
-use Rattle.kahn_streams.specs.declared.fault.CheckFault.TheVariants.{NoMemory, DeclaredTwice}
 use Rattle.kahn_check.specs.declared.globals.Entry.{Entry}
-use Rattle.kahn_streams.specs.Wires.{the_process, process_at}
-use Rattle.kahn_streams.specs.Wiring.{Global}
-use Rattle.kahn_check.specs.inner.Globals.{global_of, option_global, IsPlaced}
-use Rattle.kahn_check.specs.inner.Firsts.{kept_first, kept_as}
 
 abbrev pub shown : List (List ℕ × Entry) → List (List ℕ × Global)
 shown es = map (λ e. (e.0, global_of e.1)) es

@@ -1,27 +1,8 @@
 -- The declared channels in turn.
-use Rattle.std.proofs.Common.{◌≡◌, ℕ, Bool, true, false, cond, ◌&&◌, List, [], ◌∷◌, ◌++◌, map, Some, refl, ap, sym, ◌∙◌, subst, append_assoc, bytes_eq}
-use Rattle.std.specs.Map.{lookup}
-use Rattle.std.specs.declared.vec.Vec.{Vec}
+use Rattle.kahn_check.proofs.Common.{◌≡◌, ℕ, Bool, true, false, cond, ◌&&◌, List, [], ◌∷◌, ◌++◌, map, Some, refl, ap, sym, ◌∙◌, subst, append_assoc, bytes_eq, lookup, Vec, map-append, Name, Kind, Role, Direction, Declaration, Program, In, Out, bytes_of, CheckFault, IsMet, Ends, taken, handed_all, side_in, sides_in, as_lines, line_in, lines_in, Line, first, channel_line, lines_of, Handover, same_direction, ends, handed_from, declared_channels, Table}
 use Rattle.std.specs.declared.alloc.Global.{Global}
-use Rattle.std.proofs.lemmas.List.{map-append}
-use Rattle.kahn_streams.specs.declared.tree.Name.{Name}
-use Rattle.kahn_streams.specs.declared.tree.Kind.{Kind}
-use Rattle.kahn_streams.specs.declared.tree.Role.{Role}
-use Rattle.kahn_streams.specs.declared.tree.Direction.{Direction}
-use Rattle.kahn_streams.specs.declared.tree.Declaration.{Declaration}
-use Rattle.kahn_streams.specs.declared.tree.Program.{Program}
-use Rattle.kahn_streams.specs.declared.tree.Direction.TheVariants.{In, Out}
 use Rattle.kahn_streams.specs.declared.tree.Declaration.TheVariants as D
-use Rattle.kahn_streams.specs.View.{bytes_of}
-use Rattle.kahn_streams.specs.declared.fault.CheckFault.{CheckFault}
-use Rattle.kahn_streams.specs.Faults.{IsMet}
-use Rattle.kahn_check.specs.inner.Tables.{Ends, taken, handed_all, side_in, sides_in}
-use Rattle.kahn_check.specs.inner.Wires.{as_lines, line_in, lines_in}
-use Rattle.kahn_streams.specs.Wires.{Line, first, channel_line, lines_of}
-use Rattle.kahn_streams.specs.Wiring.{Handover, same_direction, ends, handed_from, declared_channels}
-use Rattle.kahn_check.proofs.Declared.{met_first}
-use Rattle.kahn_check.proofs.Linked.{sides_more, handed_same, table}
-use Rattle.kahn_streams.proofs.Handed.{Table}
+use Rattle.kahn_check.proofs.{Declared.met_first, Linked.sides_more, Linked.handed_same, Linked.table}
 
 pub lines_step : (w r : Ends) (kind : Kind) (role : Role) (x : Name) (xs : List Name) → side_in w r x role ≡ [] →
     sides_in w r (as_lines kind role (x ∷ xs)) ≡ sides_in w r (as_lines kind role xs)

@@ -1,32 +1,8 @@
 -- What is wrong by the tables is what is wrong by the definition.
-use Rattle.std.proofs.Common.{◌≡◌, ℕ, suc, Bool, true, false, cond, ◌&&◌, List, [], ◌∷◌, ◌++◌, length, Option, None, Some, refl, ap, sym, ◌∙◌, subst, bytes_eq, append_assoc}
-use Rattle.std.specs.Map.{lookup}
-use Rattle.kahn_streams.specs.declared.span.Span.{Span}
-use Rattle.kahn_streams.specs.declared.tree.Name.{Name}
-use Rattle.kahn_streams.specs.declared.tree.Kind.{Kind}
-use Rattle.kahn_streams.specs.declared.tree.Role.{Role}
-use Rattle.kahn_streams.specs.declared.tree.Direction.{Direction}
-use Rattle.kahn_streams.specs.declared.tree.Taking.{Taking}
-use Rattle.kahn_streams.specs.declared.tree.Parameter.{Parameter}
-use Rattle.kahn_streams.specs.declared.tree.Argument.{Argument}
-use Rattle.kahn_streams.specs.declared.tree.Instance.{Instance}
-use Rattle.kahn_streams.specs.declared.tree.Program.{Program}
-use Rattle.kahn_streams.specs.declared.sides.Side.{Side}
-use Rattle.kahn_streams.specs.declared.tree.Role.TheVariants.{Inner, Input, Output}
-use Rattle.kahn_streams.specs.declared.tree.Direction.TheVariants.{In, Out}
+use Rattle.kahn_check.proofs.Common.{◌≡◌, ℕ, suc, Bool, true, false, cond, ◌&&◌, List, [], ◌∷◌, ◌++◌, length, Option, None, Some, refl, ap, sym, ◌∙◌, subst, bytes_eq, append_assoc, lookup, Span, Name, Kind, Role, Direction, Taking, Parameter, Argument, Instance, Program, Side, Inner, Input, Output, In, Out, bytes_of, CheckFault, NoWriter, NoReader, IsMet, wrong, most_instances, too_many, miscounted, overtaken, misplaced, argument_faults, arguments_faults, made_faults, instance_faults, missing, side_faults, sides_faults, declaration_faults, faults, entries, Global, IsChannel, IsProcess, declared_of, declared_channels, global, Handover, handed, handed_by, handed_from, same_direction, ends, writers, readers, IsWellWired, side_at, is_closed, Ends, held, taken, place_faults, places_faults, made_in, handed_all, seats_faults, side_in, sides_in, Table}
 use Rattle.kahn_streams.specs.declared.tree.Taking.TheVariants as T
 use Rattle.kahn_streams.specs.declared.tree.Argument.TheVariants as A
-use Rattle.kahn_streams.specs.View.{bytes_of}
-use Rattle.kahn_streams.specs.declared.fault.CheckFault.{CheckFault}
-use Rattle.kahn_streams.specs.declared.fault.CheckFault.TheVariants.{NoWriter, NoReader}
-use Rattle.kahn_streams.specs.Faults.{IsMet, wrong, most_instances, too_many, miscounted, overtaken, misplaced, argument_faults, arguments_faults, made_faults, instance_faults, missing, side_faults, sides_faults, declaration_faults, faults}
-use Rattle.kahn_streams.specs.Wiring.{entries, Global, IsChannel, IsProcess, declared_of, declared_channels, global, Handover, handed, handed_by, handed_from, same_direction, ends, writers, readers, IsWellWired, side_at, is_closed}
-use Rattle.kahn_check.specs.inner.Tables.{Ends, held, taken, place_faults, places_faults, made_in, handed_all, seats_faults, side_in, sides_in}
-use Rattle.kahn_check.proofs.Wired.{well_wired}
-use Rattle.kahn_streams.proofs.Handed.{Table}
-use Rattle.kahn_check.proofs.Placed.{taken_append}
-use Rattle.kahn_check.proofs.Declared.{met_first, met_after}
-use Rattle.kahn_check.proofs.Typed.{both}
+use Rattle.kahn_check.proofs.{Wired.well_wired, Placed.taken_append, Declared.met_first, Declared.met_after, Typed.both}
 
 pub sides_more : (w r : Ends) (xs ys : List (Name × (Kind × Role))) → sides_in w r (xs ++ ys) ≡ sides_in w r xs ++ sides_in w r ys
 sides_more w r [] ys = refl

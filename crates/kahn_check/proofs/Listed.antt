@@ -1,12 +1,7 @@
 -- A name that is added to those that are found by their hash, or by their text.
-use Rattle.std.proofs.Common.{◌≡◌, ℕ, Bool, true, false, cond, List, [], ◌∷◌, ◌++◌, Option, None, Some, String, string_bytes, is_some, refl, ap, sym, ◌∙◌, bytes_eq, arith, nat_cmp, subst}
+use Rattle.kahn_check.proofs.Common.{◌≡◌, ℕ, Bool, true, false, cond, List, [], ◌∷◌, ◌++◌, Option, None, Some, String, string_bytes, is_some, refl, ap, sym, ◌∙◌, bytes_eq, arith, nat_cmp, subst, option_or, is_eq, lookup, update, bytes_true, AreFound, found, hashed}
 use Rattle.std.proofs.lemmas.Slice.Eq.{bytes_eq-Decides}
-use Rattle.std.specs.Option.{option_or}
-use Rattle.std.specs.Ordering.{is_eq}
-use Rattle.std.specs.Map.{lookup, update}
-use Rattle.kahn_streams.proofs.Handed.{bytes_true}
-use Rattle.kahn_check.specs.inner.Names.{AreFound, found, hashed}
-use Rattle.kahn_check.proofs.Alike.{lookup_append, or_none}
+use Rattle.kahn_check.proofs.{Alike.or_none, Wired.lookup_append}
 
 nat_same : (a b : ℕ) → is_eq (nat_cmp a b) ≡ true → a ≡ b
 nat_same a b h = grind (arith, h)

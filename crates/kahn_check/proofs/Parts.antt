@@ -1,19 +1,6 @@
 -- The parts of a program, put together, and the first fault of each.
-use Rattle.std.proofs.Common.{◌≡◌, ℕ, suc, ◌+◌, List, [], ◌∷◌, ◌++◌, map, refl, ap, sym, ◌∙◌, append_assoc, bytes_eq, length}
-use Rattle.std.specs.Map.{lookup}
-use Rattle.kahn_streams.specs.declared.tree.Name.{Name}
-use Rattle.kahn_streams.specs.declared.tree.Kind.{Kind}
-use Rattle.kahn_streams.specs.declared.tree.Role.{Role}
-use Rattle.kahn_streams.specs.declared.tree.Declaration.{Declaration}
-use Rattle.kahn_streams.specs.declared.tree.Instance.{Instance}
-use Rattle.kahn_streams.specs.declared.tree.Program.{Program}
+use Rattle.kahn_check.proofs.Common.{◌≡◌, ℕ, suc, ◌+◌, List, [], ◌∷◌, ◌++◌, map, refl, ap, sym, ◌∙◌, append_assoc, bytes_eq, length, lookup, Name, Kind, Role, Declaration, Instance, Program, bytes_of, entries, IsChannel, IsProcess, declared_channels, global, Handover, handed_by, CheckFault, verdict, most_channels, most_instances, too_many, repeated, process_faults, made_faults, channel_faults, declaration_faults, instance_faults, side_faults, sides_faults, faults, channel_parts, declaration_parts, instance_parts, parts, side_parts, together, firsts, unless_empty, faults_by_part, first_alone, Table, as_channels}
 use Rattle.kahn_streams.specs.declared.tree.Declaration.TheVariants as D
-use Rattle.kahn_streams.specs.View.{bytes_of}
-use Rattle.kahn_streams.specs.Wiring.{entries, IsChannel, IsProcess, declared_channels, global, Handover, handed_by}
-use Rattle.kahn_streams.specs.declared.fault.CheckFault.{CheckFault}
-use Rattle.kahn_streams.specs.Faults.{verdict, most_channels, most_instances, too_many, repeated, process_faults, made_faults, channel_faults, declaration_faults, instance_faults, side_faults, sides_faults, faults}
-use Rattle.kahn_check.specs.Parts.{channel_parts, declaration_parts, instance_parts, parts, side_parts, together, firsts, unless_empty, faults_by_part, first_alone}
-use Rattle.kahn_streams.proofs.Handed.{Table, as_channels}
 
 -- ---- put together they are the faults
 

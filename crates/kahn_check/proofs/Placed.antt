@@ -1,27 +1,8 @@
 -- Arguments and instances in turn, by tables.
-use Rattle.std.proofs.Common.{◌≡◌, ℕ, suc, ◌+◌, ◌≤◌, ◌<◌, Bool, true, false, cond, inr, List, [], ◌∷◌, ◌++◌, map, length, Option, None, Some, refl, ap, sym, ◌∙◌, subst, append_assoc, arith, nat_eq}
-use Rattle.kahn_streams.specs.declared.tree.Kind.{Kind}
-use Rattle.kahn_streams.specs.declared.tree.Role.{Role}
-use Rattle.kahn_streams.specs.declared.tree.Direction.{Direction}
-use Rattle.kahn_streams.specs.declared.tree.Process.{Process}
-use Rattle.kahn_streams.specs.declared.tree.Parameter.{Parameter}
-use Rattle.kahn_streams.specs.declared.tree.Argument.{Argument}
-use Rattle.kahn_streams.specs.declared.tree.Instance.{Instance}
-use Rattle.kahn_streams.specs.declared.tree.Declaration.{Declaration}
-use Rattle.kahn_streams.specs.declared.tree.Direction.TheVariants.{In, Out}
-use Rattle.kahn_streams.specs.View.{bytes_of}
-use Rattle.kahn_streams.specs.declared.fault.CheckFault.{CheckFault}
-use Rattle.kahn_streams.specs.declared.fault.CheckFault.TheVariants.{TooMany, Unknown, WrongCount}
-use Rattle.kahn_streams.specs.Faults.{verdict, IsMet, most_instances, miscounted}
-use Rattle.kahn_streams.specs.Wiring.{Global, IsChannel, IsProcess, Handover, handed, handed_in, parameters_of, same_direction, side_at}
-use Rattle.kahn_check.specs.inner.Tables.{Ends, taken, place_faults, places_faults, made_in, meant, handed_to, handed_all, seats_faults}
-use Rattle.kahn_streams.proofs.Handed.{Table}
+use Rattle.kahn_check.proofs.Common.{◌≡◌, ℕ, suc, ◌+◌, ◌≤◌, ◌<◌, Bool, true, false, cond, inr, List, [], ◌∷◌, ◌++◌, map, length, Option, None, Some, refl, ap, sym, ◌∙◌, subst, append_assoc, arith, nat_eq, Kind, Role, Direction, Process, Parameter, Argument, Instance, Declaration, In, Out, bytes_of, CheckFault, TooMany, Unknown, WrongCount, verdict, IsMet, most_instances, miscounted, Global, IsChannel, IsProcess, Handover, handed, handed_in, parameters_of, same_direction, side_at, Ends, taken, place_faults, places_faults, made_in, meant, handed_to, handed_all, seats_faults, Table, process_at, known, IsTable, map-append}
 use Rattle.kahn_streams.proofs.By_number.{the_process}
 use Rattle.kahn_streams.specs.Network.{process_of}
-use Rattle.kahn_streams.specs.Wires.{process_at}
-use Rattle.kahn_check.specs.inner.Globals.{known, IsTable}
 use Rattle.kahn_check.specs.declared.globals.Globals.{Globals}
-use Rattle.std.proofs.lemmas.List.{map-append}
 use Rattle.kahn_check.proofs.Declared.{within, beyond, met_first, met_after}
 
 pub taken_append : (d : Direction) (xs ys : List Handover) → taken d (xs ++ ys) ≡ taken d xs ++ taken d ys

@@ -1,11 +1,5 @@
 -- Names in turn, each of which may stand for something already.
-use Rattle.std.proofs.Common.{◌≡◌, ℕ, List, [], ◌∷◌, ◌++◌, Option, None, Some, IsSome, Err, refl, ap, bytes_eq, append_assoc}
-use Rattle.std.specs.Map.{lookup}
-use Rattle.kahn_streams.specs.declared.tree.Name.{Name}
-use Rattle.kahn_streams.specs.View.{bytes_of}
-use Rattle.kahn_streams.specs.declared.fault.CheckFault.TheVariants.{DeclaredTwice}
-use Rattle.kahn_streams.specs.Faults.{verdict, repeated, twice}
-use Rattle.kahn_streams.specs.Wiring.{entries}
+use Rattle.kahn_check.proofs.Common.{◌≡◌, ℕ, List, [], ◌∷◌, ◌++◌, Option, None, Some, IsSome, Err, refl, ap, bytes_eq, append_assoc, lookup, Name, bytes_of, DeclaredTwice, verdict, repeated, twice, entries}
 
 pub twice_new : {A : Type 0} (known : List (List ℕ × A)) (e : Name × A) (es : List (Name × A)) → lookup (bytes_eq (bytes_of e.0)) known ≡ None →
     twice known (e ∷ es) ≡ twice (known ++ (bytes_of e.0, e.1) ∷ []) es

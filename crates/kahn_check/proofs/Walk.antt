@@ -1,15 +1,6 @@
 -- How the first fault of a list goes by its parts, and rows as lists.
-use Rattle.std.proofs.Common.{◌≡◌, List, [], ◌∷◌, ◌++◌, Ok, Err, refl, ap, sym}
-use Rattle.kahn_streams.specs.declared.span.Span.{Span}
-use Rattle.kahn_streams.specs.declared.tree.Kind.{Kind}
-use Rattle.kahn_streams.specs.declared.tree.Form.{Row_of-Operand, end_of-Operand, more_of-Operand}
-use Rattle.kahn_streams.specs.declared.tree.Operand.{Operand}
-use Rattle.kahn_streams.specs.declared.tree.Action.{Row_of-Statement, end_of-Statement, more_of-Statement}
-use Rattle.kahn_streams.specs.declared.tree.Form.TheBlock.{items-the_row-Operand}
-use Rattle.kahn_streams.specs.declared.tree.Action.TheBlock.{items-the_row-Statement}
-use Rattle.kahn_streams.specs.Wiring.{takes, gives, Locals}
-use Rattle.kahn_streams.specs.declared.fault.CheckFault.{CheckFault}
-use Rattle.kahn_streams.specs.Faults.{verdict, wrong_first, wrong_second, spanning, faults_in, kind_of, level_faults, level_kind, row_faults, body_faults, faults_of}
+use Rattle.kahn_check.proofs.Common.{◌≡◌, List, [], ◌∷◌, ◌++◌, Ok, Err, refl, ap, sym, Span, Kind, Row_of-Operand, end_of-Operand, more_of-Operand, Row_of-Statement, end_of-Statement, more_of-Statement, takes, gives, Locals, CheckFault, verdict, wrong_first, wrong_second, spanning, faults_in, kind_of, level_faults, level_kind, row_faults, body_faults, faults_of}
+use Rattle.kahn_streams.specs.{declared.tree.Operand.Operand, declared.tree.Form.TheBlock.items-the_row-Operand, declared.tree.Action.TheBlock.items-the_row-Statement}
 
 -- a part without faults is passed over
 pub verdict_ok : {A B : Type 0} (xs ys : List CheckFault) (a b : A) (c : B) → verdict xs a ≡ Ok b → verdict (xs ++ ys) c ≡ verdict ys c

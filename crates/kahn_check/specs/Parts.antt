@@ -2,17 +2,8 @@
 use Rattle.std.specs.Prelude.{ℕ, suc, ◌+◌, List, [], ◌∷◌, ◌++◌, map, length}
 use Rattle.std.proofs.Common.{bytes_eq}
 use Rattle.std.specs.Map.{lookup}
-use Rattle.kahn_streams.specs.declared.tree.Name.{Name}
-use Rattle.kahn_streams.specs.declared.tree.Kind.{Kind}
-use Rattle.kahn_streams.specs.declared.tree.Role.{Role}
-use Rattle.kahn_streams.specs.declared.tree.Declaration.{Declaration}
-use Rattle.kahn_streams.specs.declared.tree.Instance.{Instance}
-use Rattle.kahn_streams.specs.declared.tree.Program.{Program}
+use Rattle.kahn_streams.specs.{declared.tree.Name.Name, declared.tree.Kind.Kind, declared.tree.Role.Role, declared.tree.Declaration.Declaration, declared.tree.Instance.Instance, declared.tree.Program.Program, View.bytes_of, Wiring.entries, Wiring.Global, Wiring.IsChannel, Wiring.IsProcess, Wiring.declared_channels, Wiring.global, Wiring.Handover, Wiring.handed_by, declared.fault.CheckFault.CheckFault, Faults.most_channels, Faults.most_instances, Faults.too_many, Faults.repeated, Faults.process_faults, Faults.made_faults, Faults.side_faults}
 use Rattle.kahn_streams.specs.declared.tree.Declaration.TheVariants as D
-use Rattle.kahn_streams.specs.View.{bytes_of}
-use Rattle.kahn_streams.specs.Wiring.{entries, Global, IsChannel, IsProcess, declared_channels, global, Handover, handed_by}
-use Rattle.kahn_streams.specs.declared.fault.CheckFault.{CheckFault}
-use Rattle.kahn_streams.specs.Faults.{most_channels, most_instances, too_many, repeated, process_faults, made_faults, side_faults}
 
 -- ---- the faults of each part, in the order of the walk
 

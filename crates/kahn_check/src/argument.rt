@@ -1,12 +1,8 @@
 //! Whether an argument is what its parameter wants.
 
 ghost use Rattle.std.specs.Prelude.{◌≡◌, IfOk};
-ghost use Rattle.kahn_streams.specs.declared.tree.Direction.TheVariants.{In, Out};
-ghost use Rattle.kahn_streams.specs.Faults.{verdict, second as second_of};
-ghost use Rattle.kahn_check.specs.inner.Firsts.{got_first};
-ghost use Rattle.kahn_check.specs.inner.Globals.{known};
-ghost use Rattle.kahn_check.specs.inner.Tables.{misplaced_in, place_faults, HandsOver};
-ghost use Rattle.kahn_streams.specs.Wiring.{handed, is_closed};
+ghost use Rattle.kahn_streams.specs.{declared.tree.Direction.TheVariants.In, declared.tree.Direction.TheVariants.Out, Faults.verdict, Faults.second as second_of, Wiring.handed, Wiring.is_closed};
+ghost use Rattle.kahn_check.specs.{inner.Firsts.got_first, inner.Globals.known, inner.Tables.misplaced_in, inner.Tables.place_faults, inner.Tables.HandsOver};
 
 use crate::expression::agree;
 use crate::globals::{Entry, Globals};

@@ -1,9 +1,8 @@
 //! The declarations of a program, in text order.
 
 ghost use Rattle.std.specs.Prelude.{◌≡◌, ◌≤◌, ◌+◌, [], List, OnOk, length};
-ghost use Rattle.kahn_streams.specs.Faults.{Checks, most_channels, channel_faults, declaration_faults};
+ghost use Rattle.kahn_streams.specs.{Faults.Checks, Faults.most_channels, Faults.channel_faults, Faults.declaration_faults, declared.tree.Declaration.Declaration};
 ghost use Rattle.kahn_check.specs.inner.Globals.{known, ArePlaced, HaveMore, IsTable};
-ghost use Rattle.kahn_streams.specs.declared.tree.Declaration.{Declaration};
 
 use crate::globals::{Entry, Globals};
 use crate::process::check_process;

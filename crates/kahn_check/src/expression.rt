@@ -2,8 +2,7 @@
 
 ghost use Rattle.std.specs.Prelude.{◌≡◌, Option, Some, None};
 ghost use Rattle.kahn_streams.specs.Faults.{verdict, wrong, wrong_first, wrong_second, misread, misused, kind_in, find, faults_in, kind_of, faults_as};
-ghost use Rattle.kahn_streams.specs.Wiring.{takes, gives};
-ghost use Rattle.kahn_streams.specs.View.{bytes_of};
+ghost use Rattle.kahn_streams.specs.{Wiring.takes, Wiring.gives, View.bytes_of};
 
 use crate::names::Scope;
 use kahn_streams::{CheckFault, Direction, Expression, Form, Kind, Name, Operator, Span, Taking};

@@ -3,11 +3,8 @@
 ghost use Rattle.std.specs.Prelude.{◌≡◌, [], IfOk, OnOk, IfSome, List};
 ghost use Rattle.std.specs.Map.{lookup};
 ghost use Rattle.std.proofs.Common.{bytes_eq};
-ghost use Rattle.kahn_streams.specs.declared.tree.Declaration.{Declaration};
-ghost use Rattle.kahn_streams.specs.View.{bytes_of};
-ghost use Rattle.kahn_streams.specs.Faults.{Declares};
-ghost use Rattle.kahn_check.specs.inner.Firsts.{kept_first};
-ghost use Rattle.kahn_check.specs.inner.Globals.{known, global_of, option_global, ArePlaced, IsPlaced};
+ghost use Rattle.kahn_streams.specs.{declared.tree.Declaration.Declaration, View.bytes_of, Faults.Declares};
+ghost use Rattle.kahn_check.specs.{inner.Firsts.kept_first, inner.Globals.known, inner.Globals.global_of, inner.Globals.option_global, inner.Globals.ArePlaced, inner.Globals.IsPlaced};
 
 use crate::names::NameTable;
 use kahn_streams::{CheckFault, Kind, Name, NoMemory, Process, Role};

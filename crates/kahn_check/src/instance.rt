@@ -2,9 +2,7 @@
 
 ghost use Rattle.std.specs.Prelude.{◌≡◌, [], MatchResult, length};
 ghost use Rattle.kahn_streams.specs.Faults.{Checks, IsMet};
-ghost use Rattle.kahn_check.specs.inner.Globals.{known, IsTable};
-ghost use Rattle.kahn_check.specs.inner.Seats.{AreSeated};
-ghost use Rattle.kahn_check.specs.inner.Tables.{HandsAll, seats_faults};
+ghost use Rattle.kahn_check.specs.{inner.Globals.known, inner.Globals.IsTable, inner.Seats.AreSeated, inner.Tables.HandsAll, inner.Tables.seats_faults};
 
 use crate::argument::place;
 use crate::globals::{Entry, Globals};

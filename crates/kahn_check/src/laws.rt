@@ -1,10 +1,8 @@
 //! The laws of the definitions. Each function does nothing: its contract is the law.
 
-ghost use Rattle.kahn_streams.specs.declared.tree.Program.{Program};
+ghost use Rattle.kahn_streams.specs.{declared.tree.Program.Program, Faults.verdict, Faults.faults, Wiring.IsWellWired};
 ghost use Rattle.std.specs.Prelude.{◌≡◌, ◌++◌, []};
 ghost use Rattle.kahn_check.specs.Parts.{parts, side_parts, faults_by_part, together};
-ghost use Rattle.kahn_streams.specs.Faults.{verdict, faults};
-ghost use Rattle.kahn_streams.specs.Wiring.{IsWellWired};
 
 /// A program is well wired exactly if the walk finds no fault.
 pub fn exact()

@@ -3,10 +3,8 @@
 ghost use Rattle.std.specs.Prelude.{◌≡◌, ◌++◌, ◌∷◌, [], List, ℕ, IfOk, MatchResult, None};
 ghost use Rattle.std.specs.Map.{lookup};
 ghost use Rattle.std.proofs.Common.{bytes_eq};
-ghost use Rattle.kahn_streams.specs.View.{bytes_of};
-ghost use Rattle.kahn_streams.specs.Faults.{Declares};
-ghost use Rattle.kahn_check.specs.inner.Firsts.{kept_first};
-ghost use Rattle.kahn_check.specs.inner.Names.{hashed};
+ghost use Rattle.kahn_streams.specs.{View.bytes_of, Faults.Declares};
+ghost use Rattle.kahn_check.specs.{inner.Firsts.kept_first, inner.Names.hashed};
 
 use kahn_streams::{About, CheckFault, Name, NoMemory, Side, Taking};
 use std::alloc::Global;

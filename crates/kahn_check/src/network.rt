@@ -1,8 +1,7 @@
 //! The check of a program.
 
 ghost use Rattle.std.specs.Prelude.{◌≡◌, MatchResult};
-ghost use Rattle.kahn_streams.specs.Faults.{IsMet, faults};
-ghost use Rattle.kahn_streams.specs.Wiring.{IsWellWired};
+ghost use Rattle.kahn_streams.specs.{Faults.IsMet, Faults.faults, Wiring.IsWellWired};
 
 use crate::declarations::declarations;
 use crate::instance::instances;

@@ -3,14 +3,9 @@
 ghost use Rattle.std.specs.Prelude.{◌≡◌, ◌≤◌, ◌+◌, ◌++◌, ◌∷◌, [], IfOk, OnOk, length};
 ghost use Rattle.std.specs.Map.{lookup};
 ghost use Rattle.std.proofs.Common.{bytes_eq};
-ghost use Rattle.kahn_streams.specs.View.{bytes_of};
-ghost use Rattle.kahn_streams.specs.Wiring.{declared_channels, declared_of, entries, handed, handed_in};
-ghost use Rattle.kahn_check.specs.Parts.{declaration_parts, faults_by_part};
-ghost use Rattle.kahn_streams.specs.Faults.{miscounted, most_channels, most_instances, process_faults, repeated, too_many};
+ghost use Rattle.kahn_streams.specs.{View.bytes_of, Wiring.declared_channels, Wiring.declared_of, Wiring.entries, Wiring.handed, Wiring.handed_in, Faults.miscounted, Faults.most_channels, Faults.most_instances, Faults.process_faults, Faults.repeated, Faults.too_many};
+ghost use Rattle.kahn_check.specs.{Parts.declaration_parts, Parts.faults_by_part, inner.Globals.known, inner.Tables.handed_all, inner.Tables.handed_to, inner.Tables.place_faults, inner.Tables.places_faults, inner.Wires.as_lines};
 ghost use Rattle.kahn_check.specs.inner.Firsts.{AreAsMany, HasAdded, HasAddedFirst, HasTold, HaveKept, HaveToldNames, StandAlike, fault_alone, first_fault, first_then, name_faults, seat_faults, seats_parts, sides_parts};
-ghost use Rattle.kahn_check.specs.inner.Globals.{known};
-ghost use Rattle.kahn_check.specs.inner.Tables.{handed_all, handed_to, place_faults, places_faults};
-ghost use Rattle.kahn_check.specs.inner.Wires.{as_lines};
 
 use crate::argument::{fits, keep};
 use crate::declarations::MOST_CHANNELS;

@@ -1,8 +1,7 @@
 //! Whether a process is sound: its names, and then its statements.
 
 ghost use Rattle.std.specs.Prelude.{◌≡◌, [], MatchResult};
-ghost use Rattle.kahn_streams.specs.Faults.{Checks, IsMet, twice, process_faults};
-ghost use Rattle.kahn_streams.specs.Wiring.{locals_of, scope_of};
+ghost use Rattle.kahn_streams.specs.{Faults.Checks, Faults.IsMet, Faults.twice, Faults.process_faults, Wiring.locals_of, Wiring.scope_of};
 
 use crate::names::Scope;
 use crate::statement::body;

@@ -1,11 +1,8 @@
 //! The declared channels, each with the writer and the reader that its role asks for.
 
 ghost use Rattle.std.specs.Prelude.{◌≡◌};
-ghost use Rattle.kahn_streams.specs.Faults.{verdict, Checks};
-ghost use Rattle.kahn_check.specs.inner.Tables.{side_in};
-ghost use Rattle.kahn_check.specs.inner.Wires.{AreWiresOf, HaveWires, as_lines, line_in};
-ghost use Rattle.kahn_streams.specs.Wires.{shown};
-ghost use Rattle.kahn_streams.specs.Wiring.{declared_channels};
+ghost use Rattle.kahn_streams.specs.{Faults.verdict, Faults.Checks, Wires.shown, Wiring.declared_channels};
+ghost use Rattle.kahn_check.specs.{inner.Tables.side_in, inner.Wires.AreWiresOf, inner.Wires.HaveWires, inner.Wires.as_lines, inner.Wires.line_in};
 
 use crate::names::ChannelSides;
 use kahn_streams::{CheckFault, Declaration, Kind, Name, Role, Wire};

@@ -1,16 +1,6 @@
 -- An answer put together from cells at rest is right.
-use mathlib.Core.Path.{fun_ext}
-use Rattle.std.proofs.Common.{arith, ◌≡◌, ◌⊎◌, inl, inr, ℕ, ◌<◌, ◌≤◌, List, [], length, map, refl, sym, ap, ◌∙◌, subst, true, Option, Some, None, slice_get, pos, sum_by, ◌+◌, ◌∷◌, zero, suc, false, true≢false, Bool}
-use Rattle.kahn_sequential.proofs.Common.{same_Some, Line, Channel, Print, Number, Dry, Cut, Got, Fault, Store, Network, idle, Reads, Writes, Hands, instance_at, actual_at, Source, Given, Written, Nobody, Histories, Inputs, tapes_of, exec_at, out, values_at, goes_to, source, fed, input_list, iterate, IsPrefix, Stands, IsWhole, HasEnd, Ending, ending, IsQuiet, IsSettled, begins_nil, prefix_refl, settled, AllStand, View, AreKeptTokens, is_streamed, token_value, Answer, Stream, Token, Verdict, Finished, Bound, Memory, Ended, Faulted, More, AreRight, IsRight, IsOutcome, IsWaiting, IsDryOn, IsEnd, HasStream, values_of, no_view, view_at, IsFrom, IsGiven, IsOutcomeOf, stand_in, StoodBy, cases_lt, there, none-some, get_or_past, Tapes, sent_on, sent_stands, exec_on, Stays, sum_by-cons, end_events, view_events, stream_lines, AreStreams, IsConcluded, IsVerdict, HasEndIn, RunState}
-use Rattle.kahn_streams.specs.declared.answer.End.{End}
-use Rattle.kahn_streams.specs.declared.answer.Outcome.{Outcome}
-use Rattle.kahn_streams.specs.declared.answer.Outcome.TheVariants.{Waits}
-use Rattle.kahn_sequential.proofs.Lists.{prefix_stands, both_stand, reads_or, nothing_more, same_writer}
-use Rattle.kahn_sequential.proofs.Events.{more, same_left, same_sends, same_outcome, next_event}
-use Rattle.kahn_sequential.proofs.Benched.{get_map}
-use Rattle.kahn_streams.proofs.Framed.{and_more}
-use Rattle.kahn_streams.specs.Solution.{tape_of}
-use Rattle.std.proofs.lemmas.List.{length-append}
+use Rattle.kahn_sequential.proofs.Common.{fun_ext, arith, ◌≡◌, ◌⊎◌, inl, inr, ℕ, ◌<◌, ◌≤◌, List, [], length, map, refl, sym, ap, ◌∙◌, subst, true, Option, Some, None, slice_get, pos, sum_by, ◌+◌, ◌∷◌, zero, suc, false, true≢false, Bool, same_Some, Line, Channel, Print, Number, Dry, Cut, Got, Fault, Store, Network, idle, Reads, Writes, Hands, instance_at, actual_at, Source, Given, Written, Nobody, Histories, Inputs, tapes_of, exec_at, out, values_at, goes_to, source, fed, input_list, iterate, IsPrefix, Stands, IsWhole, HasEnd, Ending, ending, IsQuiet, IsSettled, begins_nil, prefix_refl, settled, AllStand, View, AreKeptTokens, is_streamed, token_value, Answer, Stream, Token, Verdict, Finished, Bound, Memory, Ended, Faulted, More, AreRight, IsRight, IsOutcome, IsWaiting, IsDryOn, IsEnd, HasStream, values_of, no_view, view_at, IsFrom, IsGiven, IsOutcomeOf, stand_in, StoodBy, cases_lt, there, none-some, get_or_past, Tapes, sent_on, sent_stands, exec_on, Stays, sum_by-cons, end_events, view_events, stream_lines, AreStreams, IsConcluded, IsVerdict, HasEndIn, RunState, End, Outcome, Waits, and_more, tape_of, length-append}
+use Rattle.kahn_sequential.proofs.{Lists.prefix_stands, Lists.both_stand, Lists.reads_or, Lists.nothing_more, Lists.same_writer, Events.more, Events.same_left, Events.same_sends, Events.same_outcome, Events.next_event, Benched.get_map}
 use Rattle.kahn_streams.specs.Script as script
 use Rattle.kahn_streams.specs.Solution as net
 

@@ -1,9 +1,7 @@
 -- Cells that stand where their queues stand.
-use Rattle.std.proofs.Common.{Option, arith, ◌≡◌, inl, inr, ℕ, ◌+◌, ◌<◌, ◌≤◌, List, length, map, refl, sym, ap, ◌∙◌, subst, Some, slice_get, slice_set, slice_index_or, false, length-set, ◌⊎◌}
-use Rattle.kahn_sequential.proofs.Common.{Program, Lists, map-set_same, map-set, get_or_from_slice_get, slice_get_read, Network, Reads, Writes, network_of, instance_at, actual_at, role_at, IsFed, reads, reads_listed, Channel, Inputs, source, inputs_of, View, exec_on, is_output, AreQueued, queue_of, actual_here, place_at, next_at, taken_of, given_of, waiting_of, Waiting, Site, LeavesOthers, count, CellView, told_view, site_of, IsAt, IsStill, set_each, set_here, joins_within, IsGiven, TookNoMore, TookAll, view_at, no_view, RunState, PausedAt, Value, Table, IsLaid, IsSeated, sight_of, Pause, IsPause, dry_reads, Store, IsPaused, Cut, Dry, HasRunCell, length-map}
+use Rattle.std.proofs.Common.{length-set}
+use Rattle.kahn_sequential.proofs.Common.{Option, arith, ◌≡◌, inl, inr, ℕ, ◌+◌, ◌<◌, ◌≤◌, List, length, map, refl, sym, ap, ◌∙◌, subst, Some, slice_get, slice_set, slice_index_or, false, ◌⊎◌, Program, Lists, map-set_same, map-set, get_or_from_slice_get, slice_get_read, Network, Reads, Writes, network_of, instance_at, actual_at, role_at, IsFed, reads, reads_listed, Channel, Inputs, source, inputs_of, View, exec_on, is_output, AreQueued, queue_of, actual_here, place_at, next_at, taken_of, given_of, waiting_of, Waiting, Site, LeavesOthers, count, CellView, told_view, site_of, IsAt, IsStill, set_each, set_here, joins_within, IsGiven, TookNoMore, TookAll, view_at, no_view, RunState, PausedAt, Value, Table, IsLaid, IsSeated, sight_of, Pause, IsPause, dry_reads, Store, IsPaused, Cut, Dry, HasRunCell, length-map, ScriptOutcome, Lines as Queues}
 pub use Rattle.kahn_streams.proofs.By_number.{there as got, within as within_get, mapped as get_map}
-use Rattle.kahn_streams.specs.Script.{ScriptOutcome}
-use Rattle.kahn_code.specs.Lines.{Lines as Queues}
 use Rattle.kahn_code.specs.declared.progress.Pause.TheVariants as pause
 use Rattle.kahn_code.specs.Progress as code
 

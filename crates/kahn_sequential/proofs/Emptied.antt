@@ -1,15 +1,7 @@
 -- Cells that let go of all that they kept, and how all stand.
-use Rattle.std.proofs.Common.{arith, ◌≡◌, ◌⊎◌, inl, inr, ℕ, zero, suc, ◌+◌, ◌<◌, ◌≤◌, true, Option, List, [], ◌∷◌, ◌++◌, length, map, refl, sym, ap, ◌∙◌, subst, Some, None, slice_get, slice_index_or, slice_set}
-use Rattle.std.proofs.lemmas.List.{length-set}
-use Rattle.kahn_sequential.proofs.Common.{HasForgotten, cases_eq, set_each, set_here, slice_get_read, length-map, Program, Input, network_of, instance_at, role_at, Lists, inputs_of, Token, StoodBy, AreQueued, taken_of, waiting_of, tokens, CellView, told_view, Gone, nothing_gone, Tapped, Seen, same_Some, seen_at, seen_of, unseen, AllStandBy, HasEmptied, IsLaid, IsSeated, StandsAsTold, Table, gone_in, table_of, told_in, HaveChanged, mapped_at, cases_lt}
-use Rattle.kahn_code.specs.Lines.{Lines as Queues}
-use Rattle.kahn_sequential.proofs.Benched.{got, mapped, get_map}
-use Rattle.kahn_sequential.proofs.Tapping.{found, tap_at}
-use Rattle.kahn_sequential.proofs.Lists.{old_item, map_changed, map_map}
+use Rattle.kahn_sequential.proofs.Common.{arith, ◌≡◌, ◌⊎◌, inl, inr, ℕ, zero, suc, ◌+◌, ◌<◌, ◌≤◌, true, Option, List, [], ◌∷◌, ◌++◌, length, map, refl, sym, ap, ◌∙◌, subst, Some, None, slice_get, slice_index_or, slice_set, length-set, HasForgotten, cases_eq, set_each, set_here, slice_get_read, length-map, Program, Input, network_of, instance_at, role_at, Lists, inputs_of, Token, StoodBy, AreQueued, taken_of, waiting_of, tokens, CellView, told_view, Gone, nothing_gone, Tapped, Seen, same_Some, seen_at, seen_of, unseen, AllStandBy, HasEmptied, IsLaid, IsSeated, StandsAsTold, Table, gone_in, table_of, told_in, HaveChanged, mapped_at, cases_lt, Lines as Queues, Woken, AreSpent, AreSpentBut, IsTakenFrom, IsWoken, HasSpent, IsSameTap, IsSpent, IsSpentBy, IsSpentTap}
+use Rattle.kahn_sequential.proofs.{Benched.got, Benched.mapped, Benched.get_map, Tapping.found, Tapping.tap_at, Lists.old_item, Lists.map_changed, Lists.map_map}
 use Rattle.kahn_streams.proofs.Given_values.{no_channel}
-use Rattle.kahn_sequential.specs.declared.woken.Woken.{Woken}
-use Rattle.kahn_sequential.specs.inner.Noted.{AreSpent, AreSpentBut, IsTakenFrom, IsWoken}
-use Rattle.kahn_sequential.specs.inner.Workbench.{HasSpent, IsSameTap, IsSpent, IsSpentBy, IsSpentTap}
 
 -- ---- what it makes of a bench
 
@@ -100,12 +92,6 @@ stays_on h k = record {
   each = λ p x z a c.
       let y = old_item k p z c in
       y.2 ∙ ap (λ (t : CellView). record t { spare = z.told.spare; print_spare = z.told.print_spare }) (h.each p x y.0 a y.1);
-}
-
-pub all_forgotten : {xs ys : List Tapped} → HaveChanged HasForgotten xs ys → HaveChanged HasSpent xs ys
-all_forgotten h = record {
-  count = h.count;
-  each = λ p x y a b. let e = h.each p x y a b in (ap (λ (t : Tapped). t.told) e, subst IsSpentTap (sym e) (λ q. refl, refl));
 }
 
 pub fewer_left : (w w' : Woken) (r : ℕ) (xs ys : List Tapped) → AreSpentBut w xs → IsTakenFrom w (Some r) w' → ((z : Tapped) → slice_get ys r ≡ Some z → IsSpentTap z) →

@@ -1,10 +1,6 @@
 -- What longer tapes and one more event bring.
-use mathlib.Core.Path.{fun_ext}
-use Rattle.std.proofs.Common.{arith, ◌≡◌, ◌⊎◌, inl, inr, ℕ, suc, ◌+◌, List, [], ◌∷◌, ◌++◌, length, refl, sym, ap, ◌∙◌, subst, append-nil, le_refl, ◌<◌, Option}
-use Rattle.kahn_sequential.proofs.Common.{Channel, Inputs, StoodBy, View, Writes, actual_at, goes_to, sent_on, values_at, Value, Tapes, Script, Give, Fail, Sends, Turns, Rest, Got, Dry, Fault, Cut, Reached, wait_at, play, Step, empty, values_taken, since, and_then, halted, RanBy, Store, Network, instance_at, opening, and_more, play_on, play_taken, ran, cut_is_full, script_at, exec_alike, unrolled, IsPrefix, Stays, exec_on, widened, frame_play, dry_play}
-use Rattle.kahn_streams.specs.Script.{Waits, ScriptOutcome}
-use Rattle.kahn_streams.specs.Steps.{sends_of}
-use Rattle.std.proofs.lemmas.List.{length-append}
+use Rattle.kahn_sequential.proofs.Common.{fun_ext, arith, ◌≡◌, ◌⊎◌, inl, inr, ℕ, suc, ◌+◌, List, [], ◌∷◌, ◌++◌, length, refl, sym, ap, ◌∙◌, subst, append-nil, le_refl, ◌<◌, Option, Channel, Inputs, StoodBy, View, Writes, actual_at, goes_to, sent_on, values_at, Value, Tapes, Script, Give, Fail, Sends, Turns, Rest, Got, Dry, Fault, Cut, Reached, wait_at, play, Step, empty, values_taken, since, and_then, halted, RanBy, Store, Network, instance_at, opening, and_more, play_on, play_taken, ran, cut_is_full, script_at, exec_alike, unrolled, IsPrefix, Stays, exec_on, widened, frame_play, dry_play, ScriptOutcome, sends_of, length-append}
+use Rattle.kahn_streams.specs.Script.{Waits}
 
 -- ---- the same events and sends on longer tapes
 

@@ -1,22 +1,6 @@
 -- A flow: what its parts, more input and letting go make of it.
-use Rattle.std.proofs.Common.{vec_capacity, sum_by, arith, ◌≡◌, ◌⊎◌, inl, inr, true, ℕ, suc, ◌+◌, ◌-◌, ◌<◌, ◌≤◌, ◌^◌, List, [], ◌∷◌, ◌++◌, length, map, replicate, take, refl, sym, ap, ◌∙◌, subst, append-nil, Option, Some, slice_get, slice_index_or}
-use Rattle.kahn_sequential.proofs.Common.{length-map, map-append, take_all, take_at, Source, Given, Written, Nobody, Writes, channel_source, network_of, instance_at, actual_at, role_at, Token, Value, Line, Channel, Print, AreInputsExtended, source, Lists, inputs_of, none_of, prefix_refl, View, token_value, IsPoured, tokens, told_view, Gone, nothing_gone, poured_grown, GoesOn, IsLineOf, HeldRun, given_so_far, seen_at, seen_of, so_far, writing, stream_lines, Verdict, all_events, IsConcluded, AreEnded, AreNew, HasLetGo, IsRunOn, AreLent, IsFlowOf, flow_of, let_go_by, let_go_of, run_of_bench, no_view, AreAllGiven, AllStandBy, AreWhole, HasEmptied, HasTakenIn, HasWorked, IsLaid, IsVerdict, Table, sight_of, writes, HaveRisen, Plan, Program, seen_events}
-use Rattle.std.proofs.lemmas.List.{length-append}
-use Rattle.kahn_streams.specs.declared.answer.End.{End}
-use Rattle.kahn_sequential.proofs.Benched.{mapped}
-use Rattle.kahn_sequential.proofs.Giving.{input_role}
-use Rattle.kahn_sequential.proofs.Going_on.{Grows, goes_on, grows_not, seen_grows}
-use Rattle.kahn_sequential.proofs.Once_written.{input_watched, written_once}
-use Rattle.kahn_sequential.proofs.Named.{HasLine, has_line}
-use Rattle.kahn_sequential.proofs.Righted.{events_seen, settled_by}
-use Rattle.kahn_sequential.specs.declared.{rounds.PartEnd.PartEnd, woken.Woken.Woken}
-use Rattle.kahn_sequential.specs.inner.FlowBench.{IsPartEnd}
-use Rattle.kahn_sequential.specs.inner.Noted.{AreNoted, AreSpent, IsWoken}
-use Rattle.std.specs.declared.alloc.Global.{Global}
-use Rattle.std.specs.declared.vec.Vec.{Vec}
-use Rattle.kahn_sequential.specs.Flows.{IsStale}
-use Rattle.kahn_sequential.specs.inner.Numbers.{HoldNumbers, IsNumberOf}
-use Rattle.kahn_sequential.specs.inner.Workbench.{IsSpent}
+use Rattle.kahn_sequential.proofs.Common.{vec_capacity, sum_by, arith, ◌≡◌, ◌⊎◌, inl, inr, true, ℕ, suc, ◌+◌, ◌-◌, ◌<◌, ◌≤◌, ◌^◌, List, [], ◌∷◌, ◌++◌, length, map, replicate, take, refl, sym, ap, ◌∙◌, subst, append-nil, Option, Some, slice_get, slice_index_or, length-map, map-append, take_all, take_at, Source, Given, Written, Nobody, Writes, channel_source, network_of, instance_at, actual_at, role_at, Token, Value, Line, Channel, Print, AreInputsExtended, source, Lists, inputs_of, none_of, prefix_refl, View, token_value, IsPoured, tokens, told_view, Gone, nothing_gone, poured_grown, GoesOn, IsLineOf, HeldRun, given_so_far, seen_at, seen_of, so_far, writing, stream_lines, Verdict, all_events, IsConcluded, AreEnded, AreNew, HasLetGo, IsRunOn, AreLent, IsFlowOf, flow_of, let_go_by, let_go_of, run_of_bench, no_view, AreAllGiven, AllStandBy, AreWhole, HasEmptied, HasTakenIn, HasWorked, IsLaid, IsVerdict, Table, sight_of, writes, HaveRisen, Plan, Program, seen_events, length-append, End, PartEnd, Woken, IsPartEnd, AreNoted, AreSpent, IsWoken, Global, Vec, IsStale, HoldNumbers, IsNumberOf, IsSpent}
+use Rattle.kahn_sequential.proofs.{Benched.mapped, Giving.input_role, Going_on.Grows, Going_on.goes_on, Going_on.grows_not, Going_on.seen_grows, Once_written.input_watched, Once_written.written_once, Named.HasLine, Named.has_line, Righted.events_seen, Righted.settled_by}
 
 -- ---- it goes on
 

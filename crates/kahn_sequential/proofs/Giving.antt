@@ -1,6 +1,5 @@
 -- Streams of input channels, which get the whole list of the input.
-use Rattle.std.proofs.Common.{arith, ◌≡◌, ◌⊎◌, inl, inr, ℕ, suc, ◌-◌, ◌<◌, Bool, true, false, if◌then◌else◌, List, [], ◌∷◌, ◌++◌, length, map, Some, None, refl, sym, ap, ◌∙◌, subst, slice_get, append_assoc}
-use Rattle.kahn_sequential.proofs.Common.{same_Some, length-map, map-append, Role, Value, Inner, Input, Output, Channel, Token, Inputs, source, IsPrefix, Network, Instance, Source, Given, Written, Nobody, any_written, first_writer, source_by, channel_source, role_at, IsOwn, token_value, Stream, IsBegun, IsOpenStream, OpensWith, at_last}
+use Rattle.kahn_sequential.proofs.Common.{arith, ◌≡◌, ◌⊎◌, inl, inr, ℕ, suc, ◌-◌, ◌<◌, Bool, true, false, if◌then◌else◌, List, [], ◌∷◌, ◌++◌, length, map, Some, None, refl, sym, ap, ◌∙◌, subst, slice_get, append_assoc, same_Some, length-map, map-append, Role, Value, Inner, Input, Output, Channel, Token, Inputs, source, IsPrefix, Network, Instance, Source, Given, Written, Nobody, any_written, first_writer, source_by, channel_source, role_at, IsOwn, token_value, Stream, IsBegun, IsOpenStream, OpensWith, at_last}
 
 -- ---- the list of a channel, token by token
 

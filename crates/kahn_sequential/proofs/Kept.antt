@@ -1,6 +1,5 @@
 -- What the cells of jobs keep.
-use Rattle.std.proofs.Common.{◌≡◌, ℕ, ◌<◌, List, length, sym, ap, ◌∙◌, subst, Some, slice_get}
-use Rattle.kahn_sequential.proofs.Common.{same_Some, length-map, Program, network_of, instance_at, Kept, CellView, AreLists, kept_lists, AreKeptOf, actual_count, parameter_count, count}
+use Rattle.kahn_sequential.proofs.Common.{◌≡◌, ℕ, ◌<◌, List, length, sym, ap, ◌∙◌, subst, Some, slice_get, same_Some, length-map, Program, network_of, instance_at, Kept, CellView, AreLists, kept_lists, AreKeptOf, actual_count, parameter_count, count}
 use Rattle.kahn_sequential.proofs.Benched.{get_map, got, within_get}
 
 -- of cells that are those of the instances, in order

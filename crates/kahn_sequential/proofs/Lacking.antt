@@ -1,10 +1,5 @@
 -- An answer that want of memory cut short.
-use mathlib.Core.Path.{fun_ext}
-use Rattle.std.proofs.Common.{arith, ◌≡◌, ◌⊎◌, inl, inr, ℕ, ◌+◌, refl, sym, ap, ◌∙◌, subst, Option, Bool, true}
-use Rattle.kahn_sequential.proofs.Common.{none-some, there, Network, Reads, instance_at, actual_at, Channel, Cut, Store, Inputs, ending, View, Answer, Ended, Faulted, More, IsCutShort, view_at, IsOutcomeOf, RunState, events_at, IsLast, IsVerdict, LacksMemory, PausedAt, HasEndIn, StoodBy, exec_on, Tapes}
-use Rattle.kahn_streams.specs.declared.answer.End.{End}
-use Rattle.kahn_streams.specs.declared.answer.Outcome.{Outcome}
-use Rattle.kahn_streams.specs.declared.answer.Outcome.TheVariants.{Waits}
+use Rattle.kahn_sequential.proofs.Common.{fun_ext, arith, ◌≡◌, ◌⊎◌, inl, inr, ℕ, ◌+◌, refl, sym, ap, ◌∙◌, subst, Option, Bool, true, none-some, there, Network, Reads, instance_at, actual_at, Channel, Cut, Store, Inputs, ending, View, Answer, Ended, Faulted, More, IsCutShort, view_at, IsOutcomeOf, RunState, events_at, IsLast, IsVerdict, LacksMemory, PausedAt, HasEndIn, StoodBy, exec_on, Tapes, End, Outcome, Waits}
 use Rattle.kahn_sequential.proofs.Lists.{all_of_it, both_stand, reads_or}
 use Rattle.kahn_streams.specs.Script as script
 use Rattle.kahn_code.specs.declared.progress.Pause.TheVariants as pause

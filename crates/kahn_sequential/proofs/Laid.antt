@@ -1,7 +1,5 @@
 -- Cells at their openings over queues from which nothing was taken.
-use Rattle.std.proofs.Common.{arith, ◌≡◌, ℕ, zero, suc, ◌+◌, List, [], ◌∷◌, ◌++◌, length, map, replicate, sum_by, refl, sym, ap, ◌∙◌, Option, Some, slice_get, slice_index_or}
-use Rattle.kahn_sequential.proofs.Common.{map-append, replicate-append-replicate, sum_by-cons, Program, Writes, network_of, instance_at, actual_at, role_at, IsWellWired, writes, Lists, none_of, is_output, AreFirst, place_at, next_at, CellView, told_view, IsAt, one_first, given_zero, taken_zero, view_events, nothing_gone, Tapped, IsOpening, IsLaid, IsSeated, AreOpeningCells, gone_in, table_of, told_in}
-use Rattle.kahn_code.specs.Lines.{Lines as Queues}
+use Rattle.kahn_sequential.proofs.Common.{arith, ◌≡◌, ℕ, zero, suc, ◌+◌, List, [], ◌∷◌, ◌++◌, length, map, replicate, sum_by, refl, sym, ap, ◌∙◌, Option, Some, slice_get, slice_index_or, map-append, replicate-append-replicate, sum_by-cons, Program, Writes, network_of, instance_at, actual_at, role_at, IsWellWired, writes, Lists, none_of, is_output, AreFirst, place_at, next_at, CellView, told_view, IsAt, one_first, given_zero, taken_zero, view_events, nothing_gone, Tapped, IsOpening, IsLaid, IsSeated, AreOpeningCells, gone_in, table_of, told_in, Lines as Queues}
 
 pub laid_first : (t code : Program) (lists : Lists) (watch : Option ℕ) (taps : List Tapped) (q : Queues) → IsWellWired t → code ≡ t →
     AreOpeningCells t lists watch (map told_in taps) (length (network_of t).instances) → (q.network ≡ t) × (q.input ≡ lists) → AreFirst t lists q.queues →

@@ -1,8 +1,5 @@
 -- The lines of an answer: each is of the network, and none stands twice.
-use Rattle.std.proofs.Common.{arith, ◌≡◌, ℕ, zero, suc, ◌+◌, ◌<◌, Bool, true, false, if◌then◌else◌, List, [], ◌∷◌, ◌++◌, length, map, Option, Some, refl, sym, ap, ◌∙◌, subst, slice_get, ◌≤◌, drop, drop-cons, append-nil}
-use Rattle.kahn_sequential.proofs.Common.{Line, Integer, Inner, prints_in, Channel, Print, Network, is_streamed, stream_line, channel_lines, print_lines, stream_lines, Stream, AreNamed, IsDeclared, same_Some, idle, instance_at}
-use Rattle.kahn_streams.proofs.By_number.{mapped as get_map}
-use Rattle.std.proofs.lemmas.List.{drop_all}
+use Rattle.kahn_sequential.proofs.Common.{arith, ◌≡◌, ℕ, zero, suc, ◌+◌, ◌<◌, Bool, true, false, if◌then◌else◌, List, [], ◌∷◌, ◌++◌, length, map, Option, Some, refl, sym, ap, ◌∙◌, subst, slice_get, ◌≤◌, drop, drop-cons, append-nil, Line, Integer, Inner, prints_in, Channel, Print, Network, is_streamed, stream_line, channel_lines, print_lines, stream_lines, Stream, AreNamed, IsDeclared, same_Some, idle, instance_at, mapped as get_map, drop_all}
 
 module _ (N : Network) (watch : Option ℕ) where
   -- the network has that channel, which has a stream; or that instance

@@ -1,18 +1,6 @@
 -- Ends that were noted, and the instances that were woken since.
-use Rattle.std.proofs.Common.{arith, ◌≡◌, ◌⊎◌, inl, inr, ℕ, zero, suc, ◌+◌, ◌==◌, ◌<◌, ◌≤◌, Bool, true, false, List, [], ◌∷◌, ◌++◌, length, append-nil, map, refl, sym, ap, ◌∙◌, subst, Option, Some, None, slice_get, slice_index_or, slice_set, eqb-true, if◌then◌else◌}
-use Rattle.kahn_sequential.proofs.Common.{AllStand, AreQueued, AreInputsExtended, Channel, Given, HasEndIn, HasTakenIn, HasVisited, Inputs, IsGiven, IsLaid, IsOutcomeOf, IsPoured, IsVerdict, IsWellWired, Line, Lists, More, Network, Nobody, Program, Reads, Round, RunState, Source, Store, StoodBy, Table, TookAll, Value, View, Writes, Written, actual_at, at_last, cases_eq, cases_lt, exec_on, get_or-set_other, handed_within, inputs_grow, inputs_of, instance_at, kept_grown, network_of, no_view, poured_grown, prefix_get, reads_listed, route_of, same_Some, set_each, sight_of, source, view_at, waiting_of, Gone, Seen, CellView, nothing_gone, seen_at, seen_of, tokens, told_view}
-use Rattle.std.proofs.lemmas.List.{length-set}
-use Rattle.kahn_streams.specs.Network.{IsOnly, IsReader}
+use Rattle.kahn_sequential.proofs.Common.{arith, ◌≡◌, ◌⊎◌, inl, inr, ℕ, zero, suc, ◌+◌, ◌==◌, ◌<◌, ◌≤◌, Bool, true, false, List, [], ◌∷◌, ◌++◌, length, append-nil, map, refl, sym, ap, ◌∙◌, subst, Option, Some, None, slice_get, slice_index_or, slice_set, eqb-true, if◌then◌else◌, AllStand, AreQueued, AreInputsExtended, Channel, Given, HasEndIn, HasTakenIn, HasVisited, Inputs, IsGiven, IsLaid, IsOutcomeOf, IsPoured, IsVerdict, IsWellWired, Line, Lists, More, Network, Nobody, Program, Reads, Round, RunState, Source, Store, StoodBy, Table, TookAll, Value, View, Writes, Written, actual_at, at_last, cases_eq, cases_lt, exec_on, get_or-set_other, handed_within, inputs_grow, inputs_of, instance_at, kept_grown, network_of, no_view, poured_grown, prefix_get, reads_listed, route_of, same_Some, set_each, sight_of, source, view_at, waiting_of, Gone, Seen, CellView, nothing_gone, seen_at, seen_of, tokens, told_view, length-set, IsOnly, IsReader, End, Outcome, Ended, Faulted, Waits, Finished, Side, PartEnd, Woken, IsPartEnd, AreAtRest, AreNoted, AreNotedBut, HasWoken, IsAtRest, IsOnlyReader, IsReaderOf, IsReadyBehind, IsReadyBy, IsReadyByFirst, IsTakenFrom, IsWoken, AreSpent, IsSpent, IsSpentBy}
 use Rattle.kahn_streams.specs.Script as script
-use Rattle.kahn_streams.specs.declared.answer.End.{End}
-use Rattle.kahn_streams.specs.declared.answer.Outcome.{Outcome}
-use Rattle.kahn_streams.specs.declared.answer.Outcome.TheVariants.{Ended, Faulted, Waits}
-use Rattle.kahn_streams.specs.declared.answer.Verdict.TheVariants.{Finished}
-use Rattle.kahn_streams.specs.declared.sides.Side.{Side}
-use Rattle.kahn_sequential.specs.declared.{rounds.PartEnd.PartEnd, woken.Woken.Woken}
-use Rattle.kahn_sequential.specs.inner.FlowBench.{IsPartEnd}
-use Rattle.kahn_sequential.specs.inner.Noted.{AreAtRest, AreNoted, AreNotedBut, HasWoken, IsAtRest, IsOnlyReader, IsReaderOf, IsReadyBehind, IsReadyBy, IsReadyByFirst, IsTakenFrom, IsWoken, AreSpent}
-use Rattle.kahn_sequential.specs.inner.Workbench.{IsSpent, IsSpentBy}
 use Rattle.kahn_sequential.proofs.Benched.{took_all}
 
 -- ---- the list of those that were woken
@@ -75,9 +63,6 @@ reads_none N c none p (q, e) = none (record { instance = p; parameter = q }) (ha
 
 pub reads_one : (N : Network) (c : ℕ) (s : Side) → IsOnly (IsReader N c) (Some s) → IsOnlyReader N c (Some s.instance)
 reads_one N c s one p (q, e) = ap (λ (u : Side). u.instance) (one.1 (record { instance = p; parameter = q }) (handed_within N p q c (rw e refl), e))
-
-pub no_route : (b : Table) (r q : ℕ) → route_of (actual_at (instance_at (sight_of b).network r) q) ≡ None → (p : ℕ) → IsReadyBy b r q p → ⊥
-no_route b r q none p (c, w, rest) = let e : None ≡ Some c = sym none ∙ ap route_of w in absurd cc
 
 module _ (b : Table) (r q channel : ℕ) (route : route_of (actual_at (instance_at (sight_of b).network r) q) ≡ Some channel) where
   same : (c : ℕ) → actual_at (instance_at (sight_of b).network r) q ≡ Writes c → channel ≡ c

@@ -1,10 +1,6 @@
 -- The numbers of the streams that each instance writes.
-use Rattle.std.proofs.Common.{arith, ◌≡◌, ◌⊎◌, inl, inr, ℕ, zero, suc, ◌+◌, ◌<◌, ◌≤◌, List, [], ◌∷◌, ◌++◌, length, refl, sym, ap, ◌∙◌, subst, Some, slice_get, slice_index_or, slice_set}
-use Rattle.std.specs.declared.alloc.Global.{Global}
-use Rattle.std.specs.declared.vec.Vec.{Vec}
-use Rattle.kahn_sequential.proofs.Common.{Line, Network, Written, cases_eq, same_Some, slice_get_read, slice_get_within, source}
+use Rattle.kahn_sequential.proofs.Common.{arith, ◌≡◌, ◌⊎◌, inl, inr, ℕ, zero, suc, ◌+◌, ◌<◌, ◌≤◌, List, [], ◌∷◌, ◌++◌, length, refl, sym, ap, ◌∙◌, subst, Some, slice_get, slice_index_or, slice_set, Global, Vec, Line, Network, Written, cases_eq, same_Some, slice_get_read, slice_get_within, source, HoldNumbers, HoldNumbersTo, HasNumber, IsNumberOf}
 use Rattle.kahn_sequential.proofs.Noted.{at_end, keep}
-use Rattle.kahn_sequential.specs.inner.Numbers.{HoldNumbers, HoldNumbersTo, HasNumber, IsNumberOf}
 
 -- the numbers of one instance more aren't less
 pub each_least : (lists : List (Vec ℕ Global)) (instances : List ℕ) (n r from least next : ℕ) →
@@ -43,16 +39,3 @@ module _ (n : ℕ) (v w : Vec ℕ Global) (e : w.items ≡ v.items ++ n ∷ []) 
 
 pub none_more : (N : Network) (c : Line) (n : ℕ) (lists : List (Vec ℕ Global)) → ((p : ℕ) → source N c ≡ Written p → ⊥) → HasNumber N c n lists lists
 none_more N c n lists none = (λ p j h. h, λ p e. absurd (none p e))
-
-pub numbered_more : (N : Network) (lines : List Line) (n : ℕ) (c : Line) (old new : List (Vec ℕ Global)) → HoldNumbersTo n N lines old → slice_get lines n ≡ Some c →
-    HasNumber N c n old new → HoldNumbersTo (n + 1) N lines new
-numbered_more N lines n c old new before here h p j d lt at is = by (cases_eq j n)
-  where
-    by : (j ≡ n) ⊎ (j ≡ n → ⊥) → IsNumberOf new p j
-    by (inl e) =
-        let same = same_Some c d (sym here ∙ ap (slice_get lines) (sym e) ∙ at) in
-        subst (IsNumberOf new p) (sym e) (h.1 p (ap (source N) same ∙ is))
-    by (inr other) = h.0 p j (before p j d (omega (arith, lt, other)) at is)
-
-pub all_numbered : (N : Network) (lines : List Line) (n : ℕ) (lists : List (Vec ℕ Global)) → length lines ≤ n → HoldNumbersTo n N lines lists → HoldNumbers N lines lists
-all_numbered N lines n lists past h p j c at is = let l = slice_get_within lines j c at in h p j c (omega (arith, l, past)) at is

@@ -1,7 +1,6 @@
 -- The parameter that writes a channel is one, and an input channel with a stream is watched.
-use Rattle.std.proofs.Common.{arith, ◌≡◌, ℕ, suc, ◌+◌, ◌||◌, eqb-true, Some, None, Bool, true, false, List, [], ◌∷◌, refl, ap, subst, Option, slice_index_or, pos, if◌then◌else◌}
+use Rattle.kahn_sequential.proofs.Common.{arith, ◌≡◌, ℕ, suc, ◌+◌, ◌||◌, eqb-true, Some, None, Bool, true, false, List, [], ◌∷◌, refl, ap, subst, Option, slice_index_or, pos, if◌then◌else◌, Number, Program, Inner, Input, Output, Network, Instance, Actual, Hands, Reads, Role, Source, Written, Writes, any_written, channel_source, first_writer, idle, network_of, instance_at, actual_at, is_written, role_at, source_by, IsWellWired, is_streamed, is_output, is_watched, driven, writes, writing}
 use Rattle.kahn_sequential.proofs.Lists.{same_writer}
-use Rattle.kahn_sequential.proofs.Common.{Number, Program, Inner, Input, Output, Network, Instance, Actual, Hands, Reads, Role, Source, Written, Writes, any_written, channel_source, first_writer, idle, network_of, instance_at, actual_at, is_written, role_at, source_by, IsWellWired, is_streamed, is_output, is_watched, driven, writes, writing}
 
 -- ---- the parameter that writes a channel
 

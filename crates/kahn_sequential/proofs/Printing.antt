@@ -1,6 +1,5 @@
 -- The lines that are still to come, and which processes print.
-use Rattle.std.proofs.Common.{drop-cons, ◌≡◌, ℕ, zero, suc, ◌<◌, Bool, true, false, if◌then◌else◌, List, [], ◌∷◌, ◌++◌, length, drop, map, Option, Some, sym, ap, ◌∙◌, slice_get, append_assoc, cond, append-nil}
-use Rattle.kahn_sequential.proofs.Common.{Integer, Inner, Declaration, Process, Line, declaration_prints, process_prints, prints_in, Channel, Print, Network, instance_at, idle, process_at, is_streamed, channel_lines, print_lines}
+use Rattle.kahn_sequential.proofs.Common.{drop-cons, ◌≡◌, ℕ, zero, suc, ◌<◌, Bool, true, false, if◌then◌else◌, List, [], ◌∷◌, ◌++◌, length, drop, map, Option, Some, sym, ap, ◌∙◌, slice_get, append_assoc, cond, append-nil, Integer, Inner, Declaration, Process, Line, declaration_prints, process_prints, prints_in, Channel, Print, Network, instance_at, idle, process_at, is_streamed, channel_lines, print_lines}
 use Rattle.kahn_streams.specs.declared.tree.Declaration.TheVariants as D
 
 -- ---- processes

@@ -1,21 +1,8 @@
 -- What is kept of the channels after a turn, and in the end.
-use Rattle.std.proofs.Common.{arith, ◌≡◌, ◌⊎◌, inl, inr, ℕ, suc, ◌+◌, ◌-◌, ◌<◌, ◌≤◌, ◌==◌, Bool, true, false, cond, min, List, [], ◌∷◌, ◌++◌, length, refl, sym, ap, ◌∙◌, subst, Option, Some, None, slice_get}
-use Rattle.kahn_sequential.proofs.Common.{AllStandBy, AreKeptTokens, AreStreams, Answer, Channel, Finished, Given, HasRunCell, HasWorked, HaveChanged, Inner, Input, Inputs, IsConcluded, IsGiven, IsLaid, IsOpenStream, IsRight, IsWhole, Lists, Network, OpensWith, Output, Pause, Program, Reads, Role, Round, RunState, Side, Source, Stream, Table, View, Waiting, Writes, Written, actual_at, all_events, cases_eq, channel_source, events_at, get_or-set_other, given_of, inputs_of, instance_at, is_output, joins_within, length-map, network_of, no_view, one_first, prefix_refl, role_at, sight_of, slice_get_within, source, stream_lines, taken_of, told_view, token_value, turn_of, values_of, view_at, view_events, AllStand, StoodBy, mapped_at}
-use Rattle.kahn_code.specs.Lines.{Lines as Queues}
-use Rattle.kahn_streams.specs.Inputs.{Holds}
-use Rattle.kahn_streams.specs.Network.{IsServed, IsWriter}
-use Rattle.kahn_streams.proofs.Finding.{found}
-use Rattle.kahn_streams.proofs.Sided.{channel_served}
-use Rattle.kahn_streams.proofs.Sourced.{inputs, writes}
-use Rattle.kahn_streams.proofs.Token_lists.{token_stands}
-use Rattle.kahn_sequential.specs.Recordings.{AreCountsIn, AreHistoriesIn, IsHistoryIn}
-use Rattle.kahn_sequential.specs.inner.Recording.{AreCountsOf, AreOpenChannels, AreRecorded, AreTurnShort, HasGiven, IsCountOf, HasOthers, IsRecorded, AreTokensOf, IsSentOn, IsTurnShort, IsWrittenByOthers, StoodIn, TakesTurns, AreRecordedOf, AreTurnShortOf}
-use Rattle.kahn_sequential.proofs.Assembling.{assembled, assembled_long, assembled_taken, assembled_whole}
-use Rattle.kahn_sequential.proofs.Benched.{seated_at, sent_there, taken_there, viewed}
-use Rattle.kahn_sequential.proofs.Events.{none_sent}
-use Rattle.kahn_sequential.proofs.Growing.{one_event, sent_grows}
-use Rattle.kahn_sequential.proofs.Lists.{all_of_it, both_stand, old_item, one_of_sum, prefix_stands}
-use Rattle.kahn_sequential.specs.declared.counted.Count.{Count}
+use Rattle.kahn_sequential.proofs.Common.{arith, ◌≡◌, ◌⊎◌, inl, inr, ℕ, suc, ◌+◌, ◌-◌, ◌<◌, ◌≤◌, ◌==◌, Bool, true, false, cond, min, List, [], ◌∷◌, ◌++◌, length, refl, sym, ap, ◌∙◌, subst, Option, Some, None, slice_get, AllStandBy, AreKeptTokens, AreStreams, Answer, Channel, Finished, Given, HasRunCell, HasWorked, HaveChanged, Inner, Input, Inputs, IsConcluded, IsGiven, IsLaid, IsOpenStream, IsRight, IsWhole, Lists, Network, OpensWith, Output, Pause, Program, Reads, Role, Round, RunState, Side, Source, Stream, Table, View, Waiting, Writes, Written, actual_at, all_events, cases_eq, channel_source, events_at, get_or-set_other, given_of, inputs_of, instance_at, is_output, joins_within, length-map, network_of, no_view, one_first, prefix_refl, role_at, sight_of, slice_get_within, source, stream_lines, taken_of, told_view, token_value, turn_of, values_of, view_at, view_events, AllStand, StoodBy, mapped_at, Lines as Queues, Holds, IsServed, IsWriter, inputs, writes, AreCountsOf, AreOpenChannels, AreRecorded, AreTurnShort, HasGiven, IsCountOf, HasOthers, IsRecorded, AreTokensOf, IsSentOn, IsTurnShort, IsWrittenByOthers, StoodIn, TakesTurns, AreRecordedOf, AreTurnShortOf}
+use Rattle.kahn_streams.proofs.{Finding.found, Sided.channel_served, Token_lists.token_stands}
+use Rattle.kahn_sequential.specs.{Recordings.AreCountsIn, Recordings.AreHistoriesIn, Recordings.IsHistoryIn, declared.counted.Count.Count}
+use Rattle.kahn_sequential.proofs.{Assembling.assembled, Assembling.assembled_long, Assembling.assembled_taken, Assembling.assembled_whole, Benched.seated_at, Benched.sent_there, Benched.taken_there, Benched.viewed, Events.none_sent, Growing.one_event, Growing.sent_grows, Lists.all_of_it, Lists.both_stand, Lists.old_item, Lists.one_of_sum, Lists.prefix_stands}
 
 -- ---- the queues, as the cells see them
 
@@ -382,18 +369,6 @@ all_added t q p old new h k = record {
 -- a stream that stays
 pub stays_so : (t : Program) (q : Queues) (p c : ℕ) (x : Stream) → IsTurnShort t q p c x → (role_at (network_of t) c ≡ Inner → IsWrittenByOthers (network_of t) p c) → IsRecorded t q c x
 stays_so t q p c x h n = record { is = h.is; all = λ r. h.others r (n r) }
-
--- a stream that has all its tokens
-pub has_all : (t : Program) (q : Queues) (p c : ℕ) (x y : Stream) → IsTurnShort t q p c x → y.line ≡ x.line → role_at (network_of t) c ≡ Inner →
-    AreTokensOf q.network q.input c y.tokens.items → length y.tokens.items ≡ given_of (slice_get q.queues c) → IsRecorded t q c y
-has_all t q p c x y h line r right all = record {
-  is = record {
-    line = line ∙ h.is.line;
-    input = λ i. absurd (let e : Inner ≡ Input = sym r ∙ i in cc);
-    inner = λ i. subst (λ k. AreTokensOf k q.input c y.tokens.items) h.names right;
-  };
-  all = λ i. all;
-}
 
 -- one channel more that its writer doesn't read
 pub others_more : (N : Network) (n : ℕ) → ((d : ℕ) → d < n → HasOthers N d) → HasOthers N n → (d : ℕ) → d < n + 1 → HasOthers N d

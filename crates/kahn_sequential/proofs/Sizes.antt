@@ -1,11 +1,7 @@
 -- The events of an answer and the size of the solution.
-use mathlib.Core.Path.{fun_ext}
-use Rattle.std.proofs.Common.{arith, ◌≡◌, ◌≢◌, ◌↔◌, ℕ, zero, suc, ◌+◌, ◌≤◌, max, List, [], ◌∷◌, ◌++◌, length, sum_by, refl, sym, subst, le_trans, le_of_suc-le-suc, suc-le-suc, not-suc-le-zero, Option, Some, slice_get, pos, ap, ◌∙◌, slice_set, length-set}
-use Rattle.kahn_sequential.proofs.Common.{le-max_left, le-max_right, sum_by-cons, Value, Line, Number, Tapes, Script, Give, Fail, Sends, Turns, Rest, Reached, wait_at, play, Network, Instance, Hands, instance_at, Histories, Inputs, tapes_of, exec_at, iterate, IsPrefix, Ending, HasEnd, HasSizes, none_left, one_more, HasSize, and_more, put_more, play_alike, prefix_trans, Feeds, feeds, script_at, exec_alike, chain, iterates_rise, fits_all, Answer, Verdict, Finished, Bound, Memory, Ended, Faulted, More, AreRight, IsRight, IsOutcome, IsEnd, end_events, IsWithinBound, Settles, AreBegun, sum_by-set, slice_get_within, get_or_from_slice_get, set_each}
+use Rattle.kahn_sequential.proofs.Common.{fun_ext, arith, ◌≡◌, ◌≢◌, ◌↔◌, ℕ, zero, suc, ◌+◌, ◌≤◌, max, List, [], ◌∷◌, ◌++◌, length, sum_by, refl, sym, subst, le_trans, le_of_suc-le-suc, suc-le-suc, not-suc-le-zero, Option, Some, slice_get, pos, ap, ◌∙◌, slice_set, le-max_left, le-max_right, sum_by-cons, Value, Line, Number, Tapes, Script, Give, Fail, Sends, Turns, Rest, Reached, wait_at, play, Network, Instance, Hands, instance_at, Histories, Inputs, tapes_of, exec_at, iterate, IsPrefix, Ending, HasEnd, HasSizes, none_left, one_more, HasSize, and_more, put_more, play_alike, prefix_trans, Feeds, feeds, script_at, exec_alike, chain, iterates_rise, fits_all, Answer, Verdict, Finished, Bound, Memory, Ended, Faulted, More, AreRight, IsRight, IsOutcome, IsEnd, end_events, IsWithinBound, Settles, AreBegun, sum_by-set, slice_get_within, get_or_from_slice_get, set_each, End, Outcome, Waits}
+use Rattle.std.proofs.Common.{length-set}
 use Rattle.kahn_streams.specs.Script.{Waits}
-use Rattle.kahn_streams.specs.declared.answer.End.{End}
-use Rattle.kahn_streams.specs.declared.answer.Outcome.{Outcome}
-use Rattle.kahn_streams.specs.declared.answer.Outcome.TheVariants.{Waits}
 use Rattle.kahn_streams.specs.Solution as net
 
 -- ---- on longer tapes and with more events allowed no fewer events are done

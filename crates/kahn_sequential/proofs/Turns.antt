@@ -1,12 +1,7 @@
 -- Rounds over cells.
-use Rattle.std.proofs.Common.{arith, ◌≡◌, ◌⊎◌, inl, inr, ℕ, suc, ◌+◌, ◌^◌, ◌<◌, ◌≤◌, [], ◌∷◌, ◌++◌, length, sum_by, refl, sym, ap, ◌∙◌, subst, Some, slice_get, slice_set, length-append, Bool, true, false, cond, min, vec_capacity}
-use Rattle.kahn_sequential.proofs.Common.{Store, at_last, Pause, More, Reads, actual_at, instance_at, view_at, IsOutcomeOf, TookAll, Round, RunState, IsPaused, HasEndIn, events_at, view_events, all_events, weight, AreEnds, HasAdvanced, HasTakenTurn, HasRunCell, IsInRound, LacksMemory, Marked, MayRun, PausedAt, no_view, Table, sight_of, sum_by-set, HasWorked, turn_of}
-use Rattle.std.proofs.lemmas.List.{length-set}
-use Rattle.kahn_streams.specs.declared.answer.End.{End}
-use Rattle.kahn_streams.specs.declared.answer.Outcome.{Outcome}
-use Rattle.kahn_streams.specs.declared.answer.Outcome.TheVariants.{Waits}
-use Rattle.kahn_sequential.proofs.Tapping.{worked_on}
-use Rattle.kahn_sequential.proofs.Lists.{one_of_sum}
+use Rattle.std.proofs.Common.{length-append}
+use Rattle.kahn_sequential.proofs.Common.{arith, ◌≡◌, ◌⊎◌, inl, inr, ℕ, suc, ◌+◌, ◌^◌, ◌<◌, ◌≤◌, [], ◌∷◌, ◌++◌, length, sum_by, refl, sym, ap, ◌∙◌, subst, Some, slice_get, slice_set, Bool, true, false, cond, min, vec_capacity, Store, at_last, Pause, More, Reads, actual_at, instance_at, view_at, IsOutcomeOf, TookAll, Round, RunState, IsPaused, HasEndIn, events_at, view_events, all_events, weight, AreEnds, HasAdvanced, HasTakenTurn, HasRunCell, IsInRound, LacksMemory, Marked, MayRun, PausedAt, no_view, Table, sight_of, sum_by-set, HasWorked, turn_of, length-set, End, Outcome, Waits}
+use Rattle.kahn_sequential.proofs.{Tapping.worked_on, Lists.one_of_sum}
 use Rattle.kahn_streams.specs.Script as script
 use Rattle.kahn_code.specs.declared.progress.Pause.TheVariants as pause
 

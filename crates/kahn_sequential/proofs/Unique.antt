@@ -1,9 +1,5 @@
 -- Finished answers say the same.
-use Rattle.std.proofs.Common.{arith, ◌≡◌, ℕ, zero, suc, List, [], ◌∷◌, length, map, sum_by, refl, sym, ap, ◌∙◌, subst, Option, Some, slice_get}
-use Rattle.kahn_sequential.proofs.Common.{Network, Actual, Reads, Writes, Hands, instance_at, actual_at, Inputs, HasEnd, IsWhole, Ending, determined, Answer, Stream, Finished, Ended, Faulted, More, IsRight, IsEnd, AreOne, stream_line, values_of, end_events}
-use Rattle.kahn_streams.specs.declared.answer.End.{End}
-use Rattle.kahn_streams.specs.declared.answer.Outcome.{Outcome}
-use Rattle.kahn_streams.specs.declared.answer.Outcome.TheVariants.{Waits}
+use Rattle.kahn_sequential.proofs.Common.{arith, ◌≡◌, ℕ, zero, suc, List, [], ◌∷◌, length, map, sum_by, refl, sym, ap, ◌∙◌, subst, Option, Some, slice_get, Network, Actual, Reads, Writes, Hands, instance_at, actual_at, Inputs, HasEnd, IsWhole, Ending, determined, Answer, Stream, Finished, Ended, Faulted, More, IsRight, IsEnd, AreOne, stream_line, values_of, end_events, End, Outcome, Waits}
 use Rattle.kahn_streams.specs.Solution as net
 
 -- the channel of a parameter

@@ -1,6 +1,5 @@
 -- The channel that is to be watched, by its name.
-use Rattle.std.proofs.Common.{arith, ◌≡◌, ℕ, zero, suc, ◌<◌, ◌≤◌, Bool, true, false, List, [], ◌∷◌, length, Some, refl, sym, ap, ◌∙◌, subst, cond, slice_get, bytes_eq}
-use Rattle.kahn_sequential.proofs.Common.{Scope, place_of, bytes_self, bytes_true}
+use Rattle.kahn_sequential.proofs.Common.{arith, ◌≡◌, ℕ, zero, suc, ◌<◌, ◌≤◌, Bool, true, false, List, [], ◌∷◌, length, Some, refl, sym, ap, ◌∙◌, subst, cond, slice_get, bytes_eq, Scope, place_of, bytes_self, bytes_true}
 
 stands_in : (b : Bool) (x y : List ℕ) (ys : Scope) → bytes_eq x y ≡ b → (place_of ys x < length ys → slice_get ys (place_of ys x) ≡ Some x) →
     cond b 0 (suc (place_of ys x)) < suc (length ys) → slice_get (y ∷ ys) (cond b 0 (suc (place_of ys x))) ≡ Some x

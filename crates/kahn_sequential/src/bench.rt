@@ -1,10 +1,7 @@
 //! The processes of a network over its plain queues.
 
 ghost use Rattle.kahn_sequential.specs.inner.Below.{AreCounts, AreQueued, IsWithin, Input as InputRole, IsPoured, Lists, Reads, actual_at, inputs_of, instance_at, network_of, role_at, stream_lines, CellView};
-ghost use Rattle.kahn_sequential.specs.inner.Bench.{AreStreams, HasRunCell, all_events, events_at};
-ghost use Rattle.kahn_sequential.specs.inner.Gathered.{view_at};
-ghost use Rattle.kahn_sequential.specs.inner.Noted.{AreSpent, HasWoken, IsOnlyReader, IsReaderOf, IsReadyBehind, IsReadyBy, IsReadyByFirst};
-ghost use Rattle.kahn_sequential.specs.inner.Recording.{StoodIn};
+ghost use Rattle.kahn_sequential.specs.{inner.Bench.AreStreams, inner.Bench.HasRunCell, inner.Bench.all_events, inner.Bench.events_at, inner.Gathered.view_at, inner.Noted.AreSpent, inner.Noted.HasWoken, inner.Noted.IsOnlyReader, inner.Noted.IsReaderOf, inner.Noted.IsReadyBehind, inner.Noted.IsReadyBy, inner.Noted.IsReadyByFirst, inner.Recording.StoodIn};
 ghost use Rattle.kahn_sequential.specs.inner.Workbench.{AllStandBy, AreStreamsReady, AreWhole, HasEmptied, HasFresh, HasFreshPrints, HasTakenIn, HasWorked, IsCrowded, IsLaid, IsNextPlace, gone_in, seated_with, sight_of, table_of, told_in, vacant_of};
 ghost use Rattle.std.specs.Prelude.{◌≡◌, ◌<◌, ◌+◌, ◌^◌, ℕ, [], Some, length, map, slice_get, vec_capacity, IfOk, IfErr, IfSome, MatchOption, SomeIff};
 

@@ -1,10 +1,6 @@
 //! How many values each channel of a run had, and how many of them were taken.
 
-ghost use Rattle.kahn_sequential.specs.Recordings.{IsCountedRun};
-ghost use Rattle.kahn_sequential.specs.inner.Below.{IsUnrun, Settles, inputs_of, network_of};
-ghost use Rattle.kahn_sequential.specs.inner.FlowBench.{IsPartEnd};
-ghost use Rattle.kahn_sequential.specs.inner.Recording.{AreCountsOf, HasGiven, IsCountOf, IsCountedAlone};
-ghost use Rattle.kahn_sequential.specs.inner.Workbench.{AreStreamsReady, AreWhole, IsLaid, sight_of};
+ghost use Rattle.kahn_sequential.specs.{Recordings.IsCountedRun, inner.Below.IsUnrun, inner.Below.Settles, inner.Below.inputs_of, inner.Below.network_of, inner.FlowBench.IsPartEnd, inner.Recording.AreCountsOf, inner.Recording.HasGiven, inner.Recording.IsCountOf, inner.Recording.IsCountedAlone, inner.Workbench.AreStreamsReady, inner.Workbench.AreWhole, inner.Workbench.IsLaid, inner.Workbench.sight_of};
 ghost use Rattle.std.specs.Prelude.{◌≡◌, ◌<◌, ◌≤◌, ◌^◌, [], IfOk, MatchResult, length, vec_capacity};
 
 use crate::bench::Sequential;

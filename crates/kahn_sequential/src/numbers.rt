@@ -1,8 +1,6 @@
 //! The numbers of the streams that each instance writes.
 
-ghost use Rattle.kahn_sequential.specs.inner.Below.{network_of};
-ghost use Rattle.kahn_sequential.specs.inner.Numbers.{HoldNumbers, HasNumber, IsLeast, IsLineWriter, IsNumberOf, is_in, numbers_in};
-ghost use Rattle.kahn_sequential.specs.inner.Streams.{IsDeclared};
+ghost use Rattle.kahn_sequential.specs.{inner.Below.network_of, inner.Numbers.HoldNumbers, inner.Numbers.HasNumber, inner.Numbers.IsLeast, inner.Numbers.IsLineWriter, inner.Numbers.IsNumberOf, inner.Numbers.is_in, inner.Numbers.numbers_in, inner.Streams.IsDeclared};
 ghost use Rattle.std.specs.Prelude.{◌≡◌, ◌≤◌, ℕ, Some, length, slice_get, IfOk, OnOk};
 
 use kahn_streams::{Line, Network, NoMemory};

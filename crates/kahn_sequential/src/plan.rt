@@ -1,7 +1,6 @@
 //! The plan of a run, by its configuration.
 
-ghost use Rattle.kahn_sequential.specs.inner.Below.{IsAllowed, IsUndeclared, IsUnrun, IsWatched, UnknownWatch};
-ghost use Rattle.kahn_sequential.specs.HeldRuns.{IsUnstarted};
+ghost use Rattle.kahn_sequential.specs.{inner.Below.IsAllowed, inner.Below.IsUndeclared, inner.Below.IsUnrun, inner.Below.IsWatched, inner.Below.UnknownWatch, HeldRuns.IsUnstarted};
 ghost use Rattle.std.specs.Prelude.{◌≡◌, IfErr, IfOk, MatchResult};
 
 use kahn_streams::{Config, Network, Plan, RunFault, channel_named};

@@ -3,12 +3,8 @@
 //! Cells keep what they send on outputs. What they send on the other channels is copied from the queues after each of their turns. One
 //! process alone may take it in that turn: the one that sends it. So if a process reads a channel that it writes, a turn is one event.
 
-ghost use Rattle.kahn_sequential.specs.Recordings.{IsRecordedRun};
-ghost use Rattle.kahn_sequential.specs.inner.Below.{Inner, IsUnrun, Settles, given_of, inputs_of, network_of, role_at};
-ghost use Rattle.kahn_sequential.specs.inner.Bench.{all_events};
-ghost use Rattle.kahn_sequential.specs.inner.FlowBench.{IsPartEnd};
+ghost use Rattle.kahn_sequential.specs.{Recordings.IsRecordedRun, inner.Below.Inner, inner.Below.IsUnrun, inner.Below.Settles, inner.Below.given_of, inner.Below.inputs_of, inner.Below.network_of, inner.Below.role_at, inner.Bench.all_events, inner.FlowBench.IsPartEnd, inner.Workbench.AreStreamsReady, inner.Workbench.AreWhole, inner.Workbench.HasComeToRest, inner.Workbench.HasWorked, inner.Workbench.IsInRound, inner.Workbench.MayRun, inner.Workbench.sight_of};
 ghost use Rattle.kahn_sequential.specs.inner.Recording.{AreCountsOf, AreTurnShortOf, AreOpenChannels, AreRecorded, AreRecordedOf, AreTokensOf, HasOthers, IsReadByOthers, IsRecorded, IsRecordedAlone, IsTurnShort, IsWithinQueue, IsWrittenByOthers, ReadsNoOwn, TakesTurns};
-ghost use Rattle.kahn_sequential.specs.inner.Workbench.{AreStreamsReady, AreWhole, HasComeToRest, HasWorked, IsInRound, MayRun, sight_of};
 ghost use Rattle.std.specs.Prelude.{◌≡◌, ◌<◌, ◌≤◌, ◌+◌, ◌^◌, length, false, true, vec_capacity, slice_get, IfOk, MatchResult, OnOk};
 
 use crate::bench::Sequential;

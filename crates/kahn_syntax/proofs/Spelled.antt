@@ -1,11 +1,9 @@
 -- What a tree spells follows from what its parts take.
-use Rattle.kahn_syntax.proofs.Common.{declaration_nesting, lexemes, spelling, SomeBetween, SomeNames, ParameterGroup, VariableGroup, parameter_with, variable_with, ◌≡◌, ℕ, ◌≤◌, List, [], ◌∷◌, ◌++◌, map, inl, inr, refl, ap, ◌∙◌, arith, Further, Grouped, group, all_members, map-append, Form, Negate', Not', Bracket', Level', Conditional', Row_of-Operand, end_of-Operand, more_of-Operand, Action, Empty, Assign, Block', If', While', Repeat', Row_of-Statement, end_of-Statement, more_of-Statement, Held-Action-If-2, None', Some', Statement, Name, Kind, Taking, Parameter, OneVariable, Declaration, Argument, Instance, Program, kind_terminal, role_words, taking_words, Parameters, Variables, SpellsDeclaration, Argues, Instantiates, May, Spells, declarations_nesting, StandsFirst, Between, Ended, TakesAll, DeclarationSpans, ArgumentSpans, InstanceSpans, InstancesSpan, ProgramSpans, Takes, FormSpans, OperandRowSpans, ActionSpans, OtherSpans, StatementRowSpans, FurtherRowSpans, StatementsSpan, NameSpans, StatementSpans, Lexeme, Terminal, terminals, word, sign, name, StatementTree, truth_terminal, operator_terminal, expression_words, operands_words, statement_words, statements_words, further_words, name_of, form_tree, operands_row, expression_tree, action_tree, statements_row, chosen_of, statement_tree, statement_trees, declaration_tree, argument_tree, instance_tree, program_tree, Becomes, Begin, Channel, Close, Comma, Do, Else, End, If, Minus, NotWord, On, Open, Par, Print, Process, Repeat, Semicolon, Send, Then, Wait, While}
-use Rattle.kahn_streams.specs.declared.tree.Form.{Number, Logical, Variable, Wait}
-use Rattle.kahn_streams.specs.declared.tree.Action.{Send, Print}
+use Rattle.kahn_syntax.proofs.Common.{declaration_nesting, lexemes, spelling, SomeBetween, SomeNames, ParameterGroup, VariableGroup, parameter_with, variable_with, ◌≡◌, ℕ, ◌≤◌, List, [], ◌∷◌, ◌++◌, map, inl, inr, refl, ap, ◌∙◌, arith, Further, Grouped, group, all_members, map-append, Form, Negate', Not', Bracket', Level', Conditional', Row_of-Operand, end_of-Operand, more_of-Operand, Action, Empty, Assign, Block', If', While', Repeat', Row_of-Statement, end_of-Statement, more_of-Statement, Held-Action-If-2, None', Some', Statement, Name, Kind, Taking, Parameter, OneVariable, Declaration, Argument, Instance, Program, kind_terminal, role_words, taking_words, Parameters, Variables, SpellsDeclaration, Argues, Instantiates, May, Spells, declarations_nesting, StandsFirst, Between, Ended, TakesAll, DeclarationSpans, ArgumentSpans, InstanceSpans, InstancesSpan, ProgramSpans, Takes, FormSpans, OperandRowSpans, ActionSpans, OtherSpans, StatementRowSpans, FurtherRowSpans, StatementsSpan, NameSpans, StatementSpans, Lexeme, Terminal, terminals, word, sign, name, StatementTree, truth_terminal, operator_terminal, expression_words, operands_words, statement_words, statements_words, further_words, name_of, form_tree, operands_row, expression_tree, action_tree, statements_row, chosen_of, statement_tree, statement_trees, declaration_tree, argument_tree, instance_tree, program_tree, Becomes, Begin, Channel, Close, Comma, Do, Else, End, If, Minus, NotWord, On, Open, Par, Print, Process, Repeat, Semicolon, Send, Then, Wait, While, parameter_of, variable_of}
+use Rattle.kahn_streams.specs.{declared.tree.Form.Number, declared.tree.Form.Logical, declared.tree.Form.Variable, declared.tree.Form.Wait, declared.tree.Action.Send, declared.tree.Action.Print}
 use Rattle.kahn_streams.specs.declared.tree.Declaration.TheVariants as declared
 use Rattle.kahn_streams.specs.declared.tree.Argument.TheVariants as argued
 use Rattle.kahn_syntax.specs.Grammar as terminal
-use Rattle.kahn_syntax.specs.Texts.{parameter_of, variable_of}
 
 -- one terminal, and what follows it
 pub taken : (text : List ℕ) (k : Terminal) (xs a : List Lexeme) (r : List Terminal) → Takes text k xs a → terminals text a ≡ r → terminals text xs ≡ k ∷ r

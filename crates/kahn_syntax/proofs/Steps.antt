@@ -1,6 +1,5 @@
 -- What single terminals do to what is open.
-use Rattle.kahn_syntax.proofs.Common.{◌≡◌, ◌≢◌, ℕ, ◌+◌, ◌≤◌, ◌==◌, ◌++◌, List, [], ◌∷◌, length, Bool, true, false, true≢false, cond, Option, Some, None, refl, sym, ap, ◌∙◌, append_assoc, arith, nat_le, nat_tests, Operator, Terminal, rank, operator_terminal, Rung, whole, ors, ands, denials, relations, sums, terms, factors, at, tighter, operator_of, rank_or, RuleToken, a_word, an_operator, accepts, leads, Part, ExpressionPart, OperatorsPart, TokenPart, LevelPart, Rule, rules_of, expression_rules, relation_rules, or_rules, operator_rules, enters, starts, followed, opened_by, levels, may_end, step, Refuses, Whole, TooFar, Fate, onward, fate, If, NotWord}
-use Rattle.std.specs.Prelude.{is_some}
+use Rattle.kahn_syntax.proofs.Common.{◌≡◌, ◌≢◌, ℕ, ◌+◌, ◌≤◌, ◌==◌, ◌++◌, List, [], ◌∷◌, length, Bool, true, false, true≢false, cond, Option, Some, None, refl, sym, ap, ◌∙◌, append_assoc, arith, nat_le, nat_tests, Operator, Terminal, rank, operator_terminal, Rung, whole, ors, ands, denials, relations, sums, terms, factors, at, tighter, operator_of, rank_or, RuleToken, a_word, an_operator, accepts, leads, Part, ExpressionPart, OperatorsPart, TokenPart, LevelPart, Rule, rules_of, expression_rules, relation_rules, or_rules, operator_rules, enters, starts, followed, opened_by, levels, may_end, step, Refuses, Whole, TooFar, Fate, onward, fate, If, NotWord, is_some}
 use Rattle.kahn_streams.specs.declared.tree.Operator.TheVariants as operator
 use Rattle.kahn_syntax.proofs.Unique.{Ends, is_operator}
 

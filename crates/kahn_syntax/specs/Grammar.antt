@@ -4,11 +4,9 @@
 use Rattle.std.specs.Prelude.{◌≡◌, ℕ, ℤ, Bool, true, false, List, ◌∷◌, ◌+◌, ◌≤◌, ◌<◌, max, [], ◌++◌, map, ◌⊎◌, neg_ℤ}
 use Rattle.kahn_syntax.specs.declared.lexeme.Keyword.TheVariants as keyword
 use Rattle.kahn_syntax.specs.declared.lexeme.Sign.TheVariants as mark
-use Rattle.kahn_syntax.specs.declared.lexeme.Keyword.{Keyword}
-use Rattle.kahn_syntax.specs.declared.lexeme.Sign.{Sign}
+use Rattle.kahn_syntax.specs.{declared.lexeme.Keyword.Keyword, declared.lexeme.Sign.Sign, Names.Kind, Names.Role, Names.Taking}
 use Rattle.kahn_streams.specs.declared.tree.Operator.{Operator}
 use Rattle.kahn_streams.specs.declared.tree.Operator.TheVariants as operator
-use Rattle.kahn_syntax.specs.Names.{Kind, Role, Taking}
 use Rattle.kahn_streams.specs.declared.tree.{Kind.TheVariants.Integer, Kind.TheVariants.Logical, Role.TheVariants.Inner, Role.TheVariants.Input, Role.TheVariants.Output, Direction.TheVariants.In, Direction.TheVariants.Out, Taking.TheVariants.Channel, Taking.TheVariants.Value}
 
 -- a keyword, a sign, a number with its value, or a name with its bytes

@@ -1,8 +1,7 @@
 -- Believed. What a text is: its lexemes, by forms and classes; the program that they spell, each part with its span over the lexemes that
 -- it takes; or the fault for which it is refused.
 use Rattle.std.specs.Prelude.{◌≡◌, ℕ, ◌+◌, ◌≤◌, ◌<◌, ◌⊎◌, List, [], ◌∷◌, pos, length, slice_index, slice_range, codes, IsCharBoundary, map, string_bytes, ◌++◌, Option, Some, None}
-use Rattle.std.specs.Str.{str_to_ascii_lowercase}
-use Rattle.std.specs.Str.Parse.{digits_value}
+use Rattle.std.specs.{Str.str_to_ascii_lowercase, Str.Parse.digits_value}
 use Rattle.kahn_syntax.specs.Names.{Span, Lexeme, Class, Keyword, Sign, SyntaxFault, TooLong, BadCharacter, NumberTooLarge, CommentOpen, NameTooLong, NoMemory, Name, Form, Number, Logical, Variable, Wait, Negate', Not', Bracket', Level', Conditional', Row_of-Operand, end_of-Operand, more_of-Operand, Expression, Action, Empty, Assign, Send, Print, Block', If', While', Repeat', Row_of-Statement, end_of-Statement, more_of-Statement, Held-Action-If-2, None', Some', Statement, Parameter, OneVariable, Process, Declaration, Argument, Instance, Program, Kind, Taking, Expected, More, Nothing, Other}
 use Rattle.kahn_syntax.specs.declared.lexeme.Class.TheVariants as class
 use Rattle.kahn_syntax.specs.declared.lexeme.Keyword.TheVariants as keyword

@@ -1,8 +1,7 @@
 //! The keywords of the language.
 
 ghost use Rattle.std.specs.Prelude.{◌≡◌, IfSome, IfNone};
-ghost use Rattle.kahn_syntax.specs.declared.lexeme.Keyword.{Keyword};
-ghost use Rattle.kahn_syntax.specs.Texts.{letters_of, IsSpelled};
+ghost use Rattle.kahn_syntax.specs.{declared.lexeme.Keyword.Keyword, Texts.letters_of, Texts.IsSpelled};
 
 use crate::lexeme::Keyword;
 

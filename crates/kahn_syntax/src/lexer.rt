@@ -3,9 +3,8 @@
 mod forms;
 
 ghost use Rattle.std.specs.Prelude.{◌≡◌, ℕ, ◌+◌, ◌<◌, ◌≤◌, List, length, slice_index, All, IfOk, IfErr, IsCharBoundary};
-ghost use Rattle.kahn_syntax.specs.declared.lexeme.Lexeme.{Lexeme};
+ghost use Rattle.kahn_syntax.specs.{declared.lexeme.Lexeme.Lexeme, inner.Items.IsItem};
 ghost use Rattle.kahn_syntax.specs.Texts.{IsBlank, IsWord, IsRun, IsLongest, IsFaultAt, IsLexFault, IsSlice, Lexed, most_bytes};
-ghost use Rattle.kahn_syntax.specs.inner.Items.{IsItem};
 
 use crate::fault::SyntaxFault;
 use crate::lexeme::{Class, Keyword, Lexeme};

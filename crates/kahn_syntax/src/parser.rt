@@ -3,11 +3,7 @@
 //! Lists are read by loops, and recursion goes no deeper than the nesting of the text, which is limited.
 
 ghost use Rattle.std.specs.Prelude.{◌≡◌, ◌≤◌, ◌⊎◌, ℕ, List, IfOk, IfErr};
-ghost use Rattle.kahn_syntax.specs.declared.fault.SyntaxFault.{SyntaxFault};
-ghost use Rattle.kahn_syntax.specs.declared.fault.SyntaxFault.TheVariants.{NoMemory};
-ghost use Rattle.kahn_syntax.specs.declared.lexeme.Lexeme.{Lexeme};
-ghost use Rattle.kahn_syntax.specs.Texts.{terminals, AreLexemes, program_tree, IsProgram, IsTextFault};
-ghost use Rattle.kahn_syntax.specs.Grammar.{ProgramTree, Spells, nesting};
+ghost use Rattle.kahn_syntax.specs.{declared.fault.SyntaxFault.SyntaxFault, declared.fault.SyntaxFault.TheVariants.NoMemory, declared.lexeme.Lexeme.Lexeme, Texts.terminals, Texts.AreLexemes, Texts.program_tree, Texts.IsProgram, Texts.IsTextFault, Grammar.ProgramTree, Grammar.Spells, Grammar.nesting};
 
 mod build;
 mod cursor;

@@ -2,19 +2,8 @@
 use Rattle.std.specs.Prelude.{◌≡◌, ◌⊎◌, ◌≤◌, ℕ, suc, ◌+◌, List, [], ◌∷◌, ◌++◌, map, length, Option, None, Some, if◌then◌else◌}
 use Rattle.std.proofs.Common.{bytes_eq}
 use Rattle.std.specs.Map.{lookup}
-use Rattle.kahn_streams.specs.declared.tree.Name.{Name}
-use Rattle.kahn_streams.specs.declared.tree.Kind.{Kind}
-use Rattle.kahn_streams.specs.declared.tree.Role.{Role}
-use Rattle.kahn_streams.specs.declared.tree.Direction.{Direction}
-use Rattle.kahn_streams.specs.declared.tree.Declaration.{Declaration}
-use Rattle.kahn_streams.specs.declared.tree.Instance.{Instance}
-use Rattle.kahn_streams.specs.declared.tree.Direction.TheVariants.{In, Out}
-use Rattle.kahn_streams.specs.View.{bytes_of}
-use Rattle.kahn_streams.specs.Wiring.{Global, Handover, IsChannel, declared_of, entries, same_direction}
-use Rattle.kahn_streams.specs.declared.fault.CheckFault.{CheckFault}
-use Rattle.kahn_check.specs.Parts.{channel_parts, declaration_parts, first_alone, firsts}
-use Rattle.kahn_streams.specs.Faults.{most_channels, most_instances, repeated, too_many}
-use Rattle.kahn_check.specs.inner.Tables.{Ends, handed_to, made_in, meant, side_in, taken}
+use Rattle.kahn_streams.specs.{declared.tree.Name.Name, declared.tree.Kind.Kind, declared.tree.Role.Role, declared.tree.Direction.Direction, declared.tree.Declaration.Declaration, declared.tree.Instance.Instance, declared.tree.Direction.TheVariants.In, declared.tree.Direction.TheVariants.Out, View.bytes_of, Wiring.Global, Wiring.Handover, Wiring.IsChannel, Wiring.declared_of, Wiring.entries, Wiring.same_direction, declared.fault.CheckFault.CheckFault, Faults.most_channels, Faults.most_instances, Faults.repeated, Faults.too_many}
+use Rattle.kahn_check.specs.{Parts.channel_parts, Parts.declaration_parts, Parts.first_alone, Parts.firsts, inner.Tables.Ends, inner.Tables.handed_to, inner.Tables.made_in, inner.Tables.meant, inner.Tables.side_in, inner.Tables.taken}
 
 -- ---- tables
 

@@ -1,16 +1,9 @@
 -- Inner. What the names of a program stand for, as the map keeps it.
 use Rattle.std.specs.Prelude.{◌≡◌, ℕ, ◌+◌, ◌≤◌, List, ◌++◌, length, map, Option, None, Some}
 use Rattle.std.specs.List.{AllByRecursion}
-use Rattle.kahn_streams.specs.declared.tree.Declaration.{Declaration}
-use Rattle.kahn_streams.specs.declared.tree.Kind.{Kind}
-use Rattle.kahn_streams.specs.declared.tree.Name.{Name}
-use Rattle.kahn_streams.specs.declared.tree.Role.{Role}
-use Rattle.kahn_check.specs.declared.globals.Entry.{Entry}
+use Rattle.kahn_streams.specs.{declared.tree.Declaration.Declaration, declared.tree.Kind.Kind, declared.tree.Name.Name, declared.tree.Role.Role, Faults.most_channels, Wires.process_at, Wiring.Global, Wiring.IsChannel, Wiring.IsProcess, Wiring.declared_of, Wiring.entries}
+use Rattle.kahn_check.specs.{declared.globals.Entry.Entry, declared.globals.Globals.Globals}
 use Rattle.kahn_check.specs.declared.globals.Entry.TheVariants as E
-use Rattle.kahn_check.specs.declared.globals.Globals.{Globals}
-use Rattle.kahn_streams.specs.Faults.{most_channels}
-use Rattle.kahn_streams.specs.Wires.{process_at}
-use Rattle.kahn_streams.specs.Wiring.{Global, IsChannel, IsProcess, declared_of, entries}
 
 abbrev pub global_of : Entry → Global
 global_of (E.Channel kind role) = IsChannel kind role

@@ -1,10 +1,7 @@
 -- Inner. Names that are looked up by their hash, and by their text if another name has that hash.
 use Rattle.std.specs.Prelude.{◌≡◌, ℕ, List, Option, None, Some, String, string_bytes, if◌then◌else◌}
 use Rattle.std.proofs.Common.{bytes_eq}
-use Rattle.std.specs.Hash.{str}
-use Rattle.std.specs.Hash.DefaultHasher.{finish, initial, write}
-use Rattle.std.specs.List.{fold}
-use Rattle.std.specs.Map.{lookup}
+use Rattle.std.specs.{Hash.str, Hash.DefaultHasher.finish, Hash.DefaultHasher.initial, Hash.DefaultHasher.write, List.fold, Map.lookup}
 
 unfoldable pub hashed : List ℕ → ℕ
 hashed x = finish (fold write initial (str x))

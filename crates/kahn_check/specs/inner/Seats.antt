@@ -1,13 +1,7 @@
 -- Inner. What the instances of a program hand over.
 use Rattle.std.specs.Prelude.{◌≡◌, ℕ, List, [], map}
-use Rattle.kahn_streams.specs.declared.tree.Direction.TheVariants.{In, Out}
-use Rattle.kahn_streams.specs.declared.tree.Program.{Program}
-use Rattle.kahn_streams.specs.View.{bytes_of}
-use Rattle.kahn_streams.specs.Network.{process_of}
-use Rattle.kahn_streams.specs.Wires.{process_at}
-use Rattle.kahn_streams.specs.Wiring.{Global}
-use Rattle.kahn_check.specs.declared.instance.HandedOver.{HandedOver}
-use Rattle.kahn_check.specs.inner.Tables.{taken, handed_all, seats_faults}
+use Rattle.kahn_streams.specs.{declared.tree.Direction.TheVariants.In, declared.tree.Direction.TheVariants.Out, declared.tree.Program.Program, View.bytes_of, Network.process_of, Wires.process_at, Wiring.Global}
+use Rattle.kahn_check.specs.{declared.instance.HandedOver.HandedOver, inner.Tables.taken, inner.Tables.handed_all, inner.Tables.seats_faults}
 
 -- each side of a channel that an instance has, where the process of each instance is declared, and that no instance is wrong
 pub record AreSeated (t : Program) (g : List (List ℕ × Global)) (s : HandedOver) : Type 0 where

@@ -2,25 +2,11 @@
 use Rattle.std.specs.Prelude.{◌≡◌, ℕ, suc, List, [], ◌∷◌, ◌++◌, length, Option, None, Some, Result, if◌then◌else◌}
 use Rattle.std.proofs.Common.{bytes_eq}
 use Rattle.std.specs.Map.{lookup}
-use Rattle.kahn_streams.specs.declared.tree.Name.{Name}
-use Rattle.kahn_streams.specs.declared.tree.Kind.{Kind}
-use Rattle.kahn_streams.specs.declared.tree.Role.{Role}
-use Rattle.kahn_streams.specs.declared.tree.Direction.{Direction}
-use Rattle.kahn_streams.specs.declared.tree.Taking.{Taking}
-use Rattle.kahn_streams.specs.declared.tree.Parameter.{Parameter}
-use Rattle.kahn_streams.specs.declared.tree.Argument.{Argument}
-use Rattle.kahn_streams.specs.declared.tree.Instance.{Instance}
-use Rattle.kahn_streams.specs.declared.sides.Side.{Side}
+use Rattle.kahn_streams.specs.{declared.tree.Name.Name, declared.tree.Kind.Kind, declared.tree.Role.Role, declared.tree.Direction.Direction, declared.tree.Taking.Taking, declared.tree.Parameter.Parameter, declared.tree.Argument.Argument, declared.tree.Instance.Instance, declared.sides.Side.Side, declared.tree.Role.TheVariants.Inner, declared.tree.Role.TheVariants.Input, declared.tree.Role.TheVariants.Output, declared.tree.Direction.TheVariants.In, declared.tree.Direction.TheVariants.Out, View.bytes_of, Faults.Checks, Faults.wrong, Faults.most_instances, Faults.misplaced, Faults.too_many, Faults.miscounted, Faults.missing, declared.fault.CheckFault.CheckFault, declared.fault.CheckFault.TheVariants.Unknown, declared.fault.CheckFault.TheVariants.ChannelExpected, declared.fault.CheckFault.TheVariants.ValueExpected, declared.fault.CheckFault.TheVariants.NoWriter, declared.fault.CheckFault.TheVariants.NoReader}
 use Rattle.kahn_streams.specs.declared.tree.Kind.TheVariants as K
-use Rattle.kahn_streams.specs.declared.tree.Role.TheVariants.{Inner, Input, Output}
-use Rattle.kahn_streams.specs.declared.tree.Direction.TheVariants.{In, Out}
 use Rattle.kahn_streams.specs.declared.tree.Taking.TheVariants as T
 use Rattle.kahn_streams.specs.declared.tree.Argument.TheVariants as A
-use Rattle.kahn_streams.specs.View.{bytes_of}
-use Rattle.kahn_streams.specs.Faults.{Checks, wrong, most_instances, misplaced, too_many, miscounted, missing}
 use Rattle.kahn_streams.specs.Wiring.{Global, IsChannel, IsProcess, Handover, handed, handed_in, parameters_of, same_direction, side_at}
-use Rattle.kahn_streams.specs.declared.fault.CheckFault.{CheckFault}
-use Rattle.kahn_streams.specs.declared.fault.CheckFault.TheVariants.{Unknown, ChannelExpected, ValueExpected, NoWriter, NoReader}
 
 -- by a channel's name, the end that has this side of it
 abbrev pub Ends : Type 0

@@ -1,18 +1,9 @@
 -- Inner. The tables of the walk, as a network keeps them.
 use Rattle.std.specs.Prelude.{◌≡◌, List, ◌++◌, map, Result}
 use Rattle.std.proofs.Common.{bytes_eq}
-use Rattle.std.specs.Map.{lookup}
-use Rattle.std.specs.declared.alloc.Global.{Global}
-use Rattle.std.specs.declared.vec.Vec.{Vec}
-use Rattle.kahn_streams.specs.declared.tree.Name.{Name}
-use Rattle.kahn_streams.specs.declared.tree.Kind.{Kind}
-use Rattle.kahn_streams.specs.declared.tree.Role.{Role}
-use Rattle.kahn_streams.specs.View.{bytes_of}
-use Rattle.kahn_streams.specs.Faults.{Checks}
-use Rattle.kahn_streams.specs.declared.fault.CheckFault.{CheckFault}
+use Rattle.std.specs.{Map.lookup, declared.alloc.Global.Global, declared.vec.Vec.Vec}
+use Rattle.kahn_streams.specs.{declared.tree.Name.Name, declared.tree.Kind.Kind, declared.tree.Role.Role, View.bytes_of, Faults.Checks, declared.fault.CheckFault.CheckFault, Wires.Line, Wires.shown, declared.wires.Wire.Wire}
 use Rattle.kahn_check.specs.inner.Tables.{Ends, sides_in}
-use Rattle.kahn_streams.specs.Wires.{Line, shown}
-use Rattle.kahn_streams.specs.declared.wires.Wire.{Wire}
 
 -- the channels of one declaration
 abbrev pub as_lines : Kind → Role → List Name → List (Name × (Kind × Role))

@@ -1,10 +1,8 @@
 -- Inner. What the lexer meets at one place of a text.
 use Rattle.std.specs.Prelude.{◌≡◌, ℕ, List}
-use Rattle.kahn_syntax.specs.Names.{Item}
+use Rattle.kahn_syntax.specs.{Names.Item, declared.lexer.forms.LexemeForm.LexemeForm, Texts.IsWord, Texts.IsRun, Texts.IsSign, Texts.IsLexemeAt, Texts.IsComment}
 use Rattle.kahn_syntax.specs.declared.lexer.Item.TheVariants as item
-use Rattle.kahn_syntax.specs.declared.lexer.forms.LexemeForm.{LexemeForm}
 use Rattle.kahn_syntax.specs.declared.lexer.forms.LexemeForm.TheVariants as form
-use Rattle.kahn_syntax.specs.Texts.{IsWord, IsRun, IsSign, IsLexemeAt, IsComment}
 
 -- the place after a form
 abbrev pub form_end : LexemeForm → ℕ

@@ -6,8 +6,7 @@ use Rattle.kahn_syntax.specs.declared.lexeme.Keyword.TheVariants as keyword
 use Rattle.kahn_syntax.specs.declared.lexeme.Sign.TheVariants as mark
 use Rattle.kahn_syntax.specs.declared.lexeme.Class.TheVariants as class
 use Rattle.kahn_streams.specs.declared.tree.Operator.TheVariants as operator
-use Rattle.kahn_syntax.specs.Grammar.{Terminal, word, sign, name, numeral, rank}
-use Rattle.kahn_syntax.specs.Texts.{letters_of, bytes_of_sign}
+use Rattle.kahn_syntax.specs.{Grammar.Terminal, Grammar.word, Grammar.sign, Grammar.name, Grammar.numeral, Grammar.rank, Texts.letters_of, Texts.bytes_of_sign}
 
 -- the operator that a terminal is, if it is one
 abbrev pub operator_of : Terminal → Option Operator

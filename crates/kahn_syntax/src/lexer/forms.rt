@@ -1,9 +1,8 @@
 //! The forms of lexemes: words, runs of digits and signs.
 
 ghost use Rattle.std.specs.Prelude.{◌≡◌, ℕ, ◌+◌, ◌≤◌, ◌<◌, ◌↔◌, ◌∷◌, [], IsTrue, length, slice_index, IfSome, IfNone};
-ghost use Rattle.kahn_syntax.specs.declared.lexeme.Sign.{Sign};
+ghost use Rattle.kahn_syntax.specs.{declared.lexeme.Sign.Sign, inner.Items.IsOfForm, inner.Items.form_end};
 ghost use Rattle.kahn_syntax.specs.Texts.{IsBlank, IsDigit, IsLetter, IsWordByte, IsSign, IsLongest, HasForm, Closes, bytes_of_sign};
-ghost use Rattle.kahn_syntax.specs.inner.Items.{IsOfForm, form_end};
 
 use crate::lexeme::Sign;
 

@@ -1,10 +1,8 @@
 //! Nodes of the tree, made of their parts.
 
 ghost use Rattle.std.specs.Prelude.{◌≡◌, ◌<◌, length, IfOk, IfErr, MatchResult};
-ghost use Rattle.kahn_syntax.specs.declared.parser.cursor.Stop.TheVariants.{NoMemory};
-ghost use Rattle.kahn_syntax.specs.Texts.{expression_tree, form_tree, Covers};
+ghost use Rattle.kahn_syntax.specs.{declared.parser.cursor.Stop.TheVariants.NoMemory, Texts.expression_tree, Texts.form_tree, Texts.Covers, inner.Reads.IsStated, inner.Reads.SpansOperation};
 ghost use Rattle.kahn_syntax.specs.Grammar as tree;
-ghost use Rattle.kahn_syntax.specs.inner.Reads.{IsStated, SpansOperation};
 
 use crate::lexeme::Lexeme;
 use crate::parser::cursor::{Read, Stop, reach};

@@ -1,9 +1,7 @@
 //! The lexemes that are still to be read, and why reading stops.
 
 ghost use Rattle.std.specs.Prelude.{◌≡◌, ℕ, ◌≤◌, ◌<◌, ◌+◌, List, [], false, length, IfOk, IfErr, IfSome, IfNone, MatchOption};
-ghost use Rattle.kahn_syntax.specs.Texts.{First, AreProper, IsUnsigned, Placed, IsPast, Covers};
-ghost use Rattle.kahn_syntax.specs.inner.Reads.{IsAbsent};
-ghost use Rattle.kahn_syntax.specs.declared.parser.cursor.Stop.TheVariants.{Refused, TooDeep, NoMemory};
+ghost use Rattle.kahn_syntax.specs.{Texts.First, Texts.AreProper, Texts.IsUnsigned, Texts.Placed, Texts.IsPast, Texts.Covers, inner.Reads.IsAbsent, declared.parser.cursor.Stop.TheVariants.Refused, declared.parser.cursor.Stop.TheVariants.TooDeep, declared.parser.cursor.Stop.TheVariants.NoMemory};
 
 use crate::lexeme::{Class, Lexeme};
 use kahn_streams::Span;

@@ -3,9 +3,7 @@
 ghost use Rattle.std.specs.Prelude.{◌≡◌, ℕ, ◌≤◌, ◌+◌, length, Some};
 ghost use Rattle.kahn_syntax.specs.declared.lexeme.Keyword.TheVariants as keyword;
 ghost use Rattle.kahn_syntax.specs.declared.lexeme.Class.TheVariants as class;
-ghost use Rattle.kahn_syntax.specs.Texts.{First, AreProper, IsPast};
-ghost use Rattle.kahn_syntax.specs.inner.Reads.{ParsesBefore, ParsesExpression};
-ghost use Rattle.kahn_syntax.specs.inner.Machine.{a_word, class_of, denials, factors, relations, rung_of, tighter, whole};
+ghost use Rattle.kahn_syntax.specs.{Texts.First, Texts.AreProper, Texts.IsPast, inner.Reads.ParsesBefore, inner.Reads.ParsesExpression, inner.Machine.a_word, inner.Machine.class_of, inner.Machine.denials, inner.Machine.factors, inner.Machine.relations, inner.Machine.rung_of, inner.Machine.tighter, inner.Machine.whole};
 
 use crate::lexeme::{Class, Keyword, Lexeme, Sign};
 use crate::parser::build::{compared, made};

@@ -1,11 +1,7 @@
 //! Names and lists of names.
 
 ghost use Rattle.std.specs.Prelude.{◌≡◌, ◌+◌, ◌<◌, [], ◌∷◌, ◌⊎◌, false, length, IfOk, IfErr};
-ghost use Rattle.kahn_syntax.specs.declared.parser.cursor.Stop.TheVariants.{Refused, NoMemory};
-ghost use Rattle.kahn_syntax.specs.Grammar.{name, SomeNames};
-ghost use Rattle.kahn_syntax.specs.Texts.{terminals, AreProper, name_of, lexemes, NameSpans};
-ghost use Rattle.kahn_syntax.specs.inner.Machine.{leads, TokenPart, NamesTail, a_name};
-ghost use Rattle.kahn_syntax.specs.inner.Reads.{ParsesPart};
+ghost use Rattle.kahn_syntax.specs.{declared.parser.cursor.Stop.TheVariants.Refused, declared.parser.cursor.Stop.TheVariants.NoMemory, Grammar.name, Grammar.SomeNames, Texts.terminals, Texts.AreProper, Texts.name_of, Texts.lexemes, Texts.NameSpans, inner.Machine.leads, inner.Machine.TokenPart, inner.Machine.NamesTail, inner.Machine.a_name, inner.Reads.ParsesPart};
 
 use crate::lexeme::{Class, Lexeme, Sign};
 use crate::parser::cursor::{Read, Stop, past};

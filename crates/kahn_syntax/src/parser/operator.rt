@@ -2,9 +2,7 @@
 
 ghost use Rattle.std.specs.Prelude.{◌≡◌, ◌+◌, List, ℕ, ◌∷◌, false, length, IfSome, IfNone};
 ghost use Rattle.kahn_syntax.specs.declared.lexeme.Keyword.TheVariants as keyword;
-ghost use Rattle.kahn_syntax.specs.Grammar.{word, operator_terminal, rank};
-ghost use Rattle.kahn_syntax.specs.Texts.{terminals, AreProper, IsPast};
-ghost use Rattle.kahn_syntax.specs.inner.Machine.{a_word, at, leads, operator_rules, relations, rung_of, starts};
+ghost use Rattle.kahn_syntax.specs.{Grammar.word, Grammar.operator_terminal, Grammar.rank, Texts.terminals, Texts.AreProper, Texts.IsPast, inner.Machine.a_word, inner.Machine.at, inner.Machine.leads, inner.Machine.operator_rules, inner.Machine.relations, inner.Machine.rung_of, inner.Machine.starts};
 
 use crate::lexeme::{Class, Keyword, Lexeme, Sign};
 use crate::parser::cursor::next;

@@ -3,12 +3,9 @@
 ghost use Rattle.std.specs.Prelude.{◌≡◌, ◌≤◌, ◌<◌, ◌+◌, [], ◌∷◌, ℕ, ℤ, neg_ℤ, List, false, length, map, IfOk, IfErr, IfSome, IfNone};
 ghost use Rattle.kahn_syntax.specs.declared.lexeme.Keyword.TheVariants as keyword;
 ghost use Rattle.kahn_syntax.specs.declared.lexeme.Sign.TheVariants as mark;
-ghost use Rattle.kahn_syntax.specs.Grammar.{Terminal, sign, numeral, ProgramTree, Spells, nesting, May};
+ghost use Rattle.kahn_syntax.specs.{Grammar.Terminal, Grammar.sign, Grammar.numeral, Grammar.ProgramTree, Grammar.Spells, Grammar.nesting, Grammar.May, inner.Machine.leads, inner.Machine.InstancePart, inner.Machine.ArgumentsPart, inner.Machine.ArgumentPart, inner.Machine.InstancesTail, inner.Machine.LastTail, inner.Machine.a_number, declared.lexeme.Lexeme.Lexeme, inner.Reads.Reads, inner.Reads.Halts, inner.Reads.ClosedArgumentsSpan, inner.Reads.ParsesPart};
 ghost use Rattle.kahn_syntax.specs.Texts.{terminals, AreProper, IsFault, program_tree, IsPast, Takes, ArgumentSpans, InstanceSpans, InstancesSpan, ProgramSpans, IsWholeWithin};
-ghost use Rattle.kahn_syntax.specs.inner.Machine.{leads, InstancePart, ArgumentsPart, ArgumentPart, InstancesTail, LastTail, a_number};
 ghost use Rattle.kahn_syntax.specs.declared.fault.SyntaxFault.TheVariants as SyntaxFault;
-ghost use Rattle.kahn_syntax.specs.declared.lexeme.Lexeme.{Lexeme};
-ghost use Rattle.kahn_syntax.specs.inner.Reads.{Reads, Halts, ClosedArgumentsSpan, ParsesPart};
 
 use crate::fault::{SyntaxFault, What};
 use crate::lexeme::{Class, Keyword, Lexeme, Sign};

@@ -3,9 +3,7 @@
 ghost use Rattle.std.specs.Prelude.{◌≡◌, ◌≤◌, ◌+◌, [], ◌∷◌, true, length, MatchResult};
 ghost use Rattle.kahn_syntax.specs.declared.lexeme.Keyword.TheVariants as keyword;
 ghost use Rattle.kahn_syntax.specs.declared.lexeme.Class.TheVariants as class;
-ghost use Rattle.kahn_syntax.specs.Texts.{terminals, First, AreProper, IsPast};
-ghost use Rattle.kahn_syntax.specs.inner.Reads.{ParsesStatement, BodyRead, Stops};
-ghost use Rattle.kahn_syntax.specs.inner.Machine.{leads, StatementPart, SimplePart, StatementsTail, a_name};
+ghost use Rattle.kahn_syntax.specs.{Texts.terminals, Texts.First, Texts.AreProper, Texts.IsPast, inner.Reads.ParsesStatement, inner.Reads.BodyRead, inner.Reads.Stops, inner.Machine.leads, inner.Machine.StatementPart, inner.Machine.SimplePart, inner.Machine.StatementsTail, inner.Machine.a_name};
 
 use crate::lexeme::{Class, Keyword, Lexeme, Sign};
 use crate::parser::build::stated;

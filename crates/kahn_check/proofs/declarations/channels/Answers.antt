@@ -1,11 +1,4 @@
-use Rattle.std.proofs.Common.{arith, ◌≡◌, ◌<◌, ◌+◌, ◌++◌, ◌∷◌, [], drop, None, ap, sym, ◌∙◌, bytes_eq}
-use Rattle.std.proofs.lemmas.Grind.{common_steps}
-use Rattle.std.specs.Map.{lookup}
-use Rattle.kahn_streams.specs.View.{bytes_of}
-use Rattle.kahn_check.specs.inner.Globals.{known}
-use Rattle.kahn_streams.specs.Faults.{most_channels, channel_faults}
-use Rattle.kahn_streams.specs.Wiring.{entries, IsChannel}
-use Rattle.kahn_streams.proofs.Handed.{as_channels}
+use Rattle.kahn_check.proofs.Common.{arith, ◌≡◌, ◌<◌, ◌+◌, ◌++◌, ◌∷◌, [], drop, None, ap, sym, ◌∙◌, bytes_eq, common_steps, lookup, bytes_of, known, most_channels, channel_faults, entries, IsChannel, as_channels}
 use Rattle.kahn_check.proofs.Declared.{channel_new, more_channels}
 use Rattle.kahn_check.proofs.declarations.channels.Goals as goal
 

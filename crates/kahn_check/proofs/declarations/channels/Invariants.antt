@@ -1,9 +1,4 @@
-use Rattle.std.proofs.Common.{◌≡◌, ◌≤◌, ◌+◌, ◌++◌, List, drop}
-use Rattle.kahn_streams.specs.declared.tree.Declaration.{Declaration}
-use Rattle.kahn_check.specs.inner.Globals.{known, ArePlaced}
-use Rattle.kahn_streams.specs.Wiring.{entries}
-use Rattle.kahn_streams.specs.Faults.{most_channels, channel_faults}
-use Rattle.kahn_streams.proofs.Handed.{as_channels}
+use Rattle.kahn_check.proofs.Common.{◌≡◌, ◌≤◌, ◌+◌, ◌++◌, List, drop, Declaration, known, ArePlaced, entries, most_channels, channel_faults, as_channels}
 use Rattle.kahn_check.proofs.declarations.channels.Given as goal
 
 abbrev pub invariant-loop-name : goal.invariant-loop-name

@@ -1,7 +1,4 @@
-use Rattle.std.proofs.Common.{◌≡◌, ◌≤◌, ◌++◌, [], drop}
-use Rattle.kahn_check.specs.inner.Globals.{known, ArePlaced}
-use Rattle.kahn_streams.specs.Wiring.{entries, declared_of}
-use Rattle.kahn_streams.specs.Faults.{most_channels, declaration_faults}
+use Rattle.kahn_check.proofs.Common.{◌≡◌, ◌≤◌, ◌++◌, [], drop, known, ArePlaced, entries, declared_of, most_channels, declaration_faults}
 use Rattle.kahn_check.proofs.declarations.declarations.Given as goal
 
 abbrev pub invariant-loop-number : goal.invariant-loop-number

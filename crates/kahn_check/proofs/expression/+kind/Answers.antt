@@ -1,6 +1,5 @@
-use Rattle.std.proofs.Common.{rules, ◌≡◌, Ok}
+use Rattle.kahn_check.proofs.Common.{rules, ◌≡◌, Ok, verdict, faults_in, kind_of}
 use Rattle.kahn_check.proofs.Walk.{list_start, level_listed, level_kinds}
-use Rattle.kahn_streams.specs.Faults.{verdict, faults_in, kind_of}
 use Rattle.kahn_streams.specs.declared.tree.Form.TheViews.{the_lemmas}
 use Rattle.kahn_check.proofs.expression.+kind.Goals as goal
 

@@ -1,5 +1,4 @@
-use Rattle.std.proofs.Common.{◌≡◌, drop}
-use Rattle.kahn_streams.specs.Faults.{verdict, faults_in, kind_of}
+use Rattle.kahn_check.proofs.Common.{◌≡◌, drop, verdict, faults_in, kind_of}
 use Rattle.kahn_check.proofs.Walk.{list_faults, list_kind}
 use Rattle.kahn_check.proofs.expression.+kind.Given as goal
 

@@ -1,12 +1,5 @@
-use Rattle.std.proofs.Common.{rules, arith, ◌≡◌, ◌∙◌, sym, ap, subst, ◌<◌, ◌+◌, ◌∷◌, ◌++◌, [], Some, IfSome, drop, map, length}
-use Rattle.std.proofs.lemmas.Grind.{common_steps}
-use Rattle.kahn_streams.specs.declared.tree.Direction.TheVariants.{In, Out}
-use Rattle.kahn_streams.specs.Faults.{most_instances, IsMet}
+use Rattle.kahn_check.proofs.Common.{rules, arith, ◌≡◌, ◌∙◌, sym, ap, subst, ◌<◌, ◌+◌, ◌∷◌, ◌++◌, [], Some, IfSome, drop, map, length, common_steps, In, Out, most_instances, IsMet, known, IsPlaced, process_at, IsProcess, handed_in, places_faults, meant, seats_faults, taken, handed_all}
 use Rattle.kahn_check.specs.declared.globals.Entry.TheVariants as E
-use Rattle.kahn_check.specs.inner.Globals.{known, IsPlaced}
-use Rattle.kahn_streams.specs.Wires.{process_at}
-use Rattle.kahn_streams.specs.Wiring.{IsProcess, handed_in}
-use Rattle.kahn_check.specs.inner.Tables.{places_faults, meant, seats_faults, taken, handed_all}
 use Rattle.kahn_check.proofs.Placed.{seats_met, seats_step, seats_more, found_of, one_more}
 use Rattle.kahn_check.proofs.instance.instances.Goals as goal
 

@@ -1,8 +1,4 @@
-use Rattle.std.proofs.Common.{◌≡◌, ◌++◌, [], drop, map}
-use Rattle.kahn_streams.specs.declared.tree.Direction.TheVariants.{In, Out}
-use Rattle.kahn_check.specs.inner.Globals.{known}
-use Rattle.kahn_streams.specs.Wires.{process_at}
-use Rattle.kahn_check.specs.inner.Tables.{taken, handed_all, seats_faults}
+use Rattle.kahn_check.proofs.Common.{◌≡◌, ◌++◌, [], drop, map, In, Out, known, process_at, taken, handed_all, seats_faults}
 use Rattle.kahn_check.proofs.Placed.{found_of}
 use Rattle.kahn_check.proofs.instance.instances.Given as goal
 

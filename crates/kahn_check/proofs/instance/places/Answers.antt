@@ -1,8 +1,4 @@
-use Rattle.std.proofs.Common.{rules, arith, ◌≡◌, ◌∙◌, sym, subst, ◌+◌, ◌∷◌, drop}
-use Rattle.std.proofs.lemmas.Grind.{common_steps}
-use Rattle.kahn_streams.specs.Faults.{IsMet}
-use Rattle.kahn_check.specs.inner.Globals.{known}
-use Rattle.kahn_check.specs.inner.Tables.{place_faults, places_faults}
+use Rattle.kahn_check.proofs.Common.{rules, arith, ◌≡◌, ◌∙◌, sym, subst, ◌+◌, ◌∷◌, drop, common_steps, IsMet, known, place_faults, places_faults}
 use Rattle.kahn_check.proofs.Placed.{places_met}
 use Rattle.kahn_check.proofs.instance.places.Goals as goal
 

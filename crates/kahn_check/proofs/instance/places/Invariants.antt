@@ -1,8 +1,4 @@
-use Rattle.std.proofs.Common.{◌≡◌, ◌++◌, drop}
-use Rattle.kahn_streams.specs.declared.tree.Direction.TheVariants.{In, Out}
-use Rattle.kahn_check.specs.inner.Globals.{known}
-use Rattle.kahn_streams.specs.Wiring.{handed_in}
-use Rattle.kahn_check.specs.inner.Tables.{places_faults, taken}
+use Rattle.kahn_check.proofs.Common.{◌≡◌, ◌++◌, drop, In, Out, known, handed_in, places_faults, taken}
 use Rattle.kahn_check.proofs.instance.places.Given as goal
 
 abbrev pub invariant-loop-number : goal.invariant-loop-number

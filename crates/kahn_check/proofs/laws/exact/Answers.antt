@@ -1,5 +1,4 @@
-use Rattle.kahn_check.proofs.Wired.{well_wired}
-use Rattle.kahn_check.proofs.Unwired.{faultless}
+use Rattle.kahn_check.proofs.Wired.{faultless, well_wired}
 use Rattle.kahn_check.proofs.laws.exact.Goals as goal
 
 pub returns : goal.returns

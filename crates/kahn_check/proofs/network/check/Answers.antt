@@ -1,12 +1,5 @@
-use Rattle.std.proofs.Common.{rules, ◌≡◌, ◌∙◌, subst, [], map}
-use Rattle.kahn_streams.specs.Faults.{IsMet, declaration_faults}
-use Rattle.kahn_check.specs.inner.Globals.{known}
-use Rattle.kahn_check.specs.inner.Tables.{seats_faults, sides_in}
-use Rattle.kahn_streams.specs.Wiring.{declared_channels}
-use Rattle.kahn_check.proofs.Linked.{whole, met_instances, met_sides}
-use Rattle.kahn_check.proofs.Lines.{lines_by}
-use Rattle.kahn_check.specs.inner.Wires.{lines_in}
-use Rattle.kahn_streams.specs.Wires.{shown}
+use Rattle.kahn_check.proofs.Common.{rules, ◌≡◌, ◌∙◌, subst, [], map, IsMet, declaration_faults, known, seats_faults, sides_in, declared_channels, lines_in, shown}
+use Rattle.kahn_check.proofs.{Linked.whole, Linked.met_instances, Linked.met_sides, Lines.lines_by}
 use Rattle.kahn_check.proofs.network.check.Goals as goal
 
 pub returns-in_err-seats : goal.returns-in_err-seats

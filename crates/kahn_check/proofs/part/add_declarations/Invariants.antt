@@ -1,9 +1,4 @@
-use Rattle.std.proofs.Common.{◌≡◌, ◌≤◌, ◌++◌, [], drop}
-use Rattle.kahn_check.specs.Parts.{declaration_parts, firsts}
-use Rattle.kahn_check.specs.inner.Firsts.{StandAlike}
-use Rattle.kahn_check.specs.inner.Globals.{known}
-use Rattle.kahn_streams.specs.Faults.{most_channels}
-use Rattle.kahn_streams.specs.Wiring.{entries, declared_of}
+use Rattle.kahn_check.proofs.Common.{◌≡◌, ◌≤◌, ◌++◌, [], drop, declaration_parts, firsts, StandAlike, known, most_channels, entries, declared_of}
 use Rattle.kahn_check.proofs.part.add_declarations.Given as goal
 
 abbrev pub invariant-loop-number : goal.invariant-loop-number

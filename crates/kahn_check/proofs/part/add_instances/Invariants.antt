@@ -1,5 +1,4 @@
-use Rattle.std.proofs.Common.{drop}
-use Rattle.kahn_check.specs.inner.Globals.{known}
+use Rattle.kahn_check.proofs.Common.{drop, known}
 use Rattle.kahn_check.proofs.Told.{SeatsLeft}
 use Rattle.kahn_check.proofs.part.add_instances.Given as goal
 

@@ -1,7 +1,4 @@
-use Rattle.std.proofs.Common.{◌≡◌, ◌++◌, drop}
-use Rattle.kahn_check.specs.Parts.{firsts}
-use Rattle.kahn_check.specs.inner.Firsts.{sides_parts}
-use Rattle.kahn_check.specs.inner.Wires.{as_lines}
+use Rattle.kahn_check.proofs.Common.{◌≡◌, ◌++◌, drop, firsts, sides_parts, as_lines}
 use Rattle.kahn_check.proofs.part.add_sides.Given as goal
 
 abbrev pub invariant-loop-name : goal.invariant-loop-name

@@ -1,5 +1,4 @@
-use Rattle.std.proofs.Common.{drop}
-use Rattle.kahn_check.specs.inner.Globals.{known}
+use Rattle.kahn_check.proofs.Common.{drop, known}
 use Rattle.kahn_check.proofs.Told.{AreLeft}
 use Rattle.kahn_check.proofs.part.arguments.Given as goal
 

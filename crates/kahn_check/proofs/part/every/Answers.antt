@@ -1,6 +1,4 @@
-use Rattle.std.proofs.Common.{rules, ◌≡◌, false, true}
-use Rattle.kahn_check.specs.Parts.{firsts, parts}
-use Rattle.kahn_check.specs.inner.Globals.{known}
+use Rattle.kahn_check.proofs.Common.{rules, ◌≡◌, false, true, firsts, parts, known}
 use Rattle.kahn_check.proofs.Told.{none_left, some_left, told_before, sides_as_walked, told_some, told_sides}
 use Rattle.kahn_check.proofs.part.every.Goals as goal
 

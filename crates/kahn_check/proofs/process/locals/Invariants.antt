@@ -1,7 +1,4 @@
-use Rattle.std.proofs.Common.{◌≡◌, ◌++◌, [], map, drop}
-use Rattle.kahn_streams.specs.declared.tree.Taking.TheVariants.{Value}
-use Rattle.kahn_streams.specs.Wiring.{locals_of, scope_of, entries}
-use Rattle.kahn_streams.specs.Faults.{twice}
+use Rattle.kahn_check.proofs.Common.{◌≡◌, ◌++◌, [], map, drop, Value, locals_of, scope_of, entries, twice}
 use Rattle.kahn_check.proofs.process.locals.Given as goal
 
 abbrev pub invariant-loop-parameter : goal.invariant-loop-parameter

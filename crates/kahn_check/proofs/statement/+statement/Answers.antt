@@ -1,8 +1,5 @@
-use Rattle.std.proofs.Common.{rules, arith, ◌≡◌, Ok, ◌++◌}
+use Rattle.kahn_check.proofs.Common.{rules, arith, ◌≡◌, Ok, ◌++◌, verdict, find, faults_in, kind_of, misused, wrong, kind_in, bytes_of, Out}
 use Rattle.kahn_check.proofs.Walk.{row_listed, verdict_ok, verdict_err}
-use Rattle.kahn_streams.specs.Faults.{verdict, find, faults_in, kind_of, misused, wrong, kind_in}
-use Rattle.kahn_streams.specs.View.{bytes_of}
-use Rattle.kahn_streams.specs.declared.tree.Direction.TheVariants.{Out}
 use Rattle.kahn_streams.specs.declared.tree.Action.TheViews.{the_lemmas}
 use Rattle.kahn_check.proofs.statement.+statement.Goals as goal
 

@@ -1,5 +1,4 @@
-use Rattle.std.proofs.Common.{◌≡◌, drop}
-use Rattle.kahn_streams.specs.Faults.{verdict, faults_of, body_faults}
+use Rattle.kahn_check.proofs.Common.{◌≡◌, drop, verdict, faults_of, body_faults}
 use Rattle.kahn_check.proofs.statement.+statement.Given as goal
 
 abbrev pub invariant-loop-inner : goal.invariant-loop-inner

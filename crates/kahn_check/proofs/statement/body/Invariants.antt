@@ -1,5 +1,4 @@
-use Rattle.std.proofs.Common.{◌≡◌, drop}
-use Rattle.kahn_streams.specs.Faults.{verdict, body_faults}
+use Rattle.kahn_check.proofs.Common.{◌≡◌, drop, verdict, body_faults}
 use Rattle.kahn_check.proofs.statement.body.Given as goal
 
 abbrev pub invariant-loop-it : goal.invariant-loop-it

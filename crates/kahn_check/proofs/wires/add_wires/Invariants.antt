@@ -1,7 +1,4 @@
-use Rattle.std.proofs.Common.{◌≡◌, ◌++◌, map, drop}
-use Rattle.kahn_check.specs.inner.Tables.{sides_in}
-use Rattle.kahn_check.specs.inner.Wires.{as_lines, lines_in}
-use Rattle.kahn_streams.specs.Wires.{shown}
+use Rattle.kahn_check.proofs.Common.{◌≡◌, ◌++◌, map, drop, sides_in, as_lines, lines_in, shown}
 use Rattle.kahn_check.proofs.wires.add_wires.Given as goal
 
 abbrev pub invariant-loop-name : goal.invariant-loop-name

@@ -1,11 +1,5 @@
-use Rattle.std.proofs.Common.{rules, arith, ◌≡◌, ◌+◌, refl, ◌∙◌, sym, ap, subst, ◌∷◌, ◌++◌, [], drop, map}
-use Rattle.std.proofs.lemmas.Grind.{common_steps}
+use Rattle.kahn_check.proofs.Common.{rules, arith, ◌≡◌, ◌+◌, refl, ◌∙◌, sym, ap, subst, ◌∷◌, ◌++◌, [], drop, map, common_steps, IsMet, sides_in, as_lines, lines_in, shown, declared_channels}
 use Rattle.kahn_streams.specs.declared.tree.Declaration.TheVariants as D
-use Rattle.kahn_streams.specs.Faults.{IsMet}
-use Rattle.kahn_check.specs.inner.Tables.{sides_in}
-use Rattle.kahn_check.specs.inner.Wires.{as_lines, lines_in}
-use Rattle.kahn_streams.specs.Wires.{shown}
-use Rattle.kahn_streams.specs.Wiring.{declared_channels}
 use Rattle.kahn_check.proofs.Lines.{all_step, all_met, all_more}
 use Rattle.kahn_check.proofs.wires.all_wires.Goals as goal
 use Rattle.kahn_check.proofs.wires.all_wires.Goals.{in-Channels+in_ok-add_wires-in-Channels, in-Process}

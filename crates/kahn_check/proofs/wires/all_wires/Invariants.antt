@@ -1,8 +1,4 @@
-use Rattle.std.proofs.Common.{◌≡◌, ◌++◌, map, drop}
-use Rattle.kahn_check.specs.inner.Tables.{sides_in}
-use Rattle.kahn_check.specs.inner.Wires.{lines_in}
-use Rattle.kahn_streams.specs.Wires.{shown}
-use Rattle.kahn_streams.specs.Wiring.{declared_channels}
+use Rattle.kahn_check.proofs.Common.{◌≡◌, ◌++◌, map, drop, sides_in, lines_in, shown, declared_channels}
 use Rattle.kahn_check.proofs.wires.all_wires.Given as goal
 
 abbrev pub invariant-loop-declaration : goal.invariant-loop-declaration

@@ -1,5 +1,4 @@
-use Rattle.std.proofs.Common.{arith, ◌+◌}
-use Rattle.kahn_sequential.specs.inner.Noted.{IsReadyBy, IsReadyByFirst}
+use Rattle.kahn_sequential.proofs.Common.{arith, ◌+◌, IsReadyBy, IsReadyByFirst}
 use Rattle.kahn_sequential.proofs.Noted.{nobody_woken, ready_next, woken_on}
 use Rattle.kahn_sequential.proofs.bench.wake_by.Goals as goal
 

@@ -1,5 +1,4 @@
-use Rattle.std.proofs.Common.{subst, sym, refl, ap, ◌∙◌}
-use Rattle.kahn_sequential.proofs.Common.{network_of, Reads, joins_within, Joins, none-some, route_of, same_Some}
+use Rattle.kahn_sequential.proofs.Common.{subst, sym, refl, ap, ◌∙◌, network_of, Reads, joins_within, Joins, none-some, route_of, same_Some}
 use Rattle.kahn_sequential.proofs.channel.channel_read.Goals as goal
 
 pub channel-requires : goal.channel-requires

@@ -1,5 +1,4 @@
-use Rattle.std.proofs.Common.{◌-◌, refl}
-use Rattle.kahn_sequential.proofs.Common.{Answer}
+use Rattle.kahn_sequential.proofs.Common.{◌-◌, refl, Answer}
 use Rattle.kahn_sequential.proofs.Recording.{all_counted}
 use Rattle.kahn_sequential.proofs.counted.concluded.Goals as goal
 

@@ -1,6 +1,4 @@
-use Rattle.std.proofs.Common.{◌∙◌, ap, slice_get}
-use Rattle.kahn_code.specs.Lines.{Lines as Queues}
-use Rattle.kahn_sequential.proofs.Common.{taken_of}
+use Rattle.kahn_sequential.proofs.Common.{◌∙◌, ap, slice_get, Lines as Queues, taken_of}
 use Rattle.kahn_sequential.proofs.Recording.{taken_seen}
 use Rattle.kahn_sequential.proofs.counted.count_of.Goals as goal
 

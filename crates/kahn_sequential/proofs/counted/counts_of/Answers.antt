@@ -1,5 +1,4 @@
-use Rattle.std.proofs.Common.{rules}
-use Rattle.kahn_sequential.proofs.Common.{sight_of}
+use Rattle.kahn_sequential.proofs.Common.{rules, sight_of}
 use Rattle.kahn_sequential.proofs.Recording.{counts_more}
 use Rattle.kahn_sequential.proofs.counted.counts_of.Goals as goal
 

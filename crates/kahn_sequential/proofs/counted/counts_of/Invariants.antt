@@ -1,7 +1,5 @@
 -- The counts of the channels so far.
-use Rattle.std.proofs.Common.{◌≤◌, length, vec_capacity}
-use Rattle.kahn_sequential.proofs.Common.{network_of, sight_of}
-use Rattle.kahn_sequential.specs.inner.Recording.{AreCountsOf}
+use Rattle.kahn_sequential.proofs.Common.{◌≤◌, length, vec_capacity, network_of, sight_of, AreCountsOf}
 use Rattle.kahn_sequential.proofs.counted.counts_of.Given as goal
 
 abbrev pub invariant-loop-channel : goal.invariant-loop-channel

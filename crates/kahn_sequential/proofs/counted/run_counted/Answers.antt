@@ -1,16 +1,13 @@
-use Rattle.std.proofs.Common.{subst}
-use Rattle.kahn_sequential.proofs.Common.{inputs_of, network_of}
-use Rattle.kahn_sequential.specs.inner.Recording.{IsCountedAlone}
+use Rattle.kahn_sequential.proofs.Common.{subst, inputs_of, network_of, IsCountedAlone}
 use Rattle.kahn_sequential.proofs.counted.run_counted.Goals as goal
 
-pub returns-clause-told : goal.returns-clause-told
-returns-clause-told c =
+pub returns : goal.returns
+returns c =
     let plan = c.in_ok-plan.ensures in
-    let all = subst (λ n. IsCountedAlone c.args.network.now c.args.input c.in_ok-plan.plan.watch n c.in_ok-run_counting.field-0) plan.rest.1 c.in_ok-run_counting.ensures in
-    (plan.allowed, (c.in_ok-plan.plan.watch, plan.watched, all))
-
-pub returns-clause-exact : goal.returns-clause-exact
-returns-clause-exact c =
-    let plan = c.in_ok-plan.ensures in
-    let all = subst (λ n. IsCountedAlone c.args.network.now c.args.input c.in_ok-plan.plan.watch n c.in_ok-run_counting.field-0) plan.rest.1 c.in_ok-run_counting.ensures in
-    c.finished_exactly.ensures.settles (network_of c.args.network.now) (inputs_of c.args.input) c.args.config.bound c.in_ok-plan.plan.watch c.in_ok-run_counting.field-0.answer all.0
+    let watch = c.in_ok-plan.plan.watch in
+    let run = c.in_ok-run_counting.field-0 in
+    let all = subst (λ n. IsCountedAlone c.args.network.now c.args.input watch n run) plan.rest.1 c.in_ok-run_counting.ensures in
+    record {
+      told = (plan.allowed, (watch, plan.watched, all));
+      exact = c.finished_exactly.ensures.settles (network_of c.args.network.now) (inputs_of c.args.input) c.args.config.bound watch run.answer all.0;
+    }

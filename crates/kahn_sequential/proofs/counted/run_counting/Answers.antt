@@ -1,7 +1,4 @@
-use Rattle.std.proofs.Common.{ℕ, arith, ◌≡◌, ◌+◌, length, replicate, sym, ap, ◌∙◌, subst, Option, vec_capacity}
-use Rattle.kahn_sequential.proofs.Common.{Program, Lists, network_of, nothing_gone, AreStreamsReady, all_events, sight_of}
-use Rattle.kahn_sequential.specs.inner.FlowBench.{IsPartEnd}
-use Rattle.kahn_sequential.specs.inner.Recording.{AreCountsOf, IsCountedAlone}
+use Rattle.kahn_sequential.proofs.Common.{ℕ, arith, ◌≡◌, ◌+◌, length, replicate, sym, ap, ◌∙◌, subst, Option, vec_capacity, Program, Lists, network_of, nothing_gone, AreStreamsReady, all_events, sight_of, IsPartEnd, AreCountsOf, IsCountedAlone}
 use Rattle.kahn_sequential.proofs.counted.run_counting.Goals as goal
 
 pub counts_of-counts-requires-clause-names : goal.counts_of-counts-requires-clause-names

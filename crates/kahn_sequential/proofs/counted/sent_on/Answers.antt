@@ -1,6 +1,4 @@
-use Rattle.std.proofs.Common.{sym, ap, ◌∙◌, length, subst}
-use Rattle.kahn_sequential.proofs.Common.{Lists, inputs_of, network_of}
-use Rattle.kahn_streams.specs.Network.{IsWithin}
+use Rattle.kahn_sequential.proofs.Common.{sym, ap, ◌∙◌, length, subst, Lists, inputs_of, network_of, IsWithin}
 use Rattle.kahn_sequential.proofs.Recording.{has_input, has_sent}
 use Rattle.kahn_sequential.proofs.counted.sent_on.Goals as goal
 

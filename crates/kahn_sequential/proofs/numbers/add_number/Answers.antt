@@ -1,5 +1,4 @@
-use Rattle.std.proofs.Common.{rules}
-use Rattle.kahn_sequential.proofs.Common.{network_of}
+use Rattle.kahn_sequential.proofs.Common.{rules, network_of}
 use Rattle.kahn_sequential.proofs.Numbered.{one_more}
 use Rattle.kahn_sequential.proofs.numbers.add_number.Goals as goal
 

@@ -1,7 +1,5 @@
-use Rattle.std.proofs.Common.{arith, ◌<◌, length, slice_index_or, sym, subst}
-use Rattle.kahn_sequential.proofs.Common.{slice_get-get_or, slice_get_within}
+use Rattle.kahn_sequential.proofs.Common.{arith, ◌<◌, length, slice_index_or, sym, subst, slice_get-get_or, slice_get_within, is_in}
 use Rattle.kahn_sequential.proofs.Numbered.{each_least}
-use Rattle.kahn_sequential.specs.inner.Numbers.{is_in}
 use Rattle.kahn_sequential.proofs.numbers.least_of.Goals as goal
 
 pub loop-instance-preserved : goal.loop-instance-preserved

@@ -1,5 +1,4 @@
-use Rattle.std.proofs.Common.{◌≡◌, ◌<◌, ◌≤◌, ℕ, Some, slice_get}
-use Rattle.kahn_sequential.specs.inner.Numbers.{IsNumberOf}
+use Rattle.kahn_sequential.proofs.Common.{◌≡◌, ◌<◌, ◌≤◌, ℕ, Some, slice_get, IsNumberOf}
 use Rattle.kahn_sequential.proofs.numbers.least_of.Given as goal
 
 abbrev pub invariant-loop-instance : goal.invariant-loop-instance

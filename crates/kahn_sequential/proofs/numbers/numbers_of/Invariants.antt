@@ -1,6 +1,4 @@
-use Rattle.std.proofs.Common.{◌≡◌, length}
-use Rattle.kahn_sequential.proofs.Common.{network_of}
-use Rattle.kahn_sequential.specs.inner.Numbers.{HoldNumbersTo}
+use Rattle.kahn_sequential.proofs.Common.{◌≡◌, length, network_of, HoldNumbersTo}
 use Rattle.kahn_sequential.proofs.numbers.numbers_of.Given as goal
 
 abbrev pub invariant-loop-number : goal.invariant-loop-number

@@ -1,5 +1,4 @@
-use Rattle.std.proofs.Common.{◌≡◌, Some, refl, sym, ap, ◌∙◌, subst, slice_get}
-use Rattle.kahn_sequential.proofs.Common.{channel_names, IsUndeclared, IsWatched}
+use Rattle.kahn_sequential.proofs.Common.{◌≡◌, Some, refl, sym, ap, ◌∙◌, subst, slice_get, channel_names, IsUndeclared, IsWatched}
 use Rattle.kahn_sequential.proofs.Watching.{named_nowhere, named_there}
 use Rattle.kahn_sequential.proofs.plan.watched.Goals as goal
 

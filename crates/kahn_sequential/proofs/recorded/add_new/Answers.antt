@@ -1,9 +1,6 @@
-use Rattle.std.proofs.Common.{◌≡◌, ℕ, zero, suc, ◌+◌, ◌∙◌, ◌∷◌, ◌++◌, [], List, Some, ap, arith, length, slice_get, subst, sym}
-use Rattle.std.proofs.lemmas.List.{length-append}
+use Rattle.kahn_sequential.proofs.Common.{◌≡◌, ℕ, zero, suc, ◌+◌, ◌∙◌, ◌∷◌, ◌++◌, [], List, Some, ap, arith, length, slice_get, subst, sym, length-append, Token, AreTokensOf}
 use Rattle.kahn_code.proofs.Common.{same_Some}
-use Rattle.kahn_sequential.proofs.Common.{Token}
 use Rattle.kahn_sequential.specs.inner.Below.{Channel, IsOf, taken_of}
-use Rattle.kahn_sequential.specs.inner.Recording.{AreTokensOf}
 use Rattle.kahn_sequential.proofs.recorded.add_new.Goals as goal
 
 -- what is so of each at its place is so with one more

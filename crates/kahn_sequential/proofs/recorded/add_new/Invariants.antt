@@ -1,7 +1,5 @@
 -- All tokens before this one.
-use Rattle.std.proofs.Common.{◌≡◌, ◌+◌, length, slice_get}
-use Rattle.kahn_sequential.proofs.Common.{taken_of}
-use Rattle.kahn_sequential.specs.inner.Recording.{AreTokensOf}
+use Rattle.kahn_sequential.proofs.Common.{◌≡◌, ◌+◌, length, slice_get, taken_of, AreTokensOf}
 use Rattle.kahn_sequential.proofs.recorded.add_new.Given as goal
 
 abbrev pub invariant-loop-number : goal.invariant-loop-number

@@ -1,7 +1,5 @@
-use Rattle.std.proofs.Common.{rules, ◌∙◌}
-use Rattle.std.proofs.lemmas.List.{length-set}
-use Rattle.kahn_sequential.proofs.Lists.{all_changed, next_old, one_changed}
-use Rattle.kahn_sequential.proofs.Recording.{adds_one, all_added}
+use Rattle.kahn_sequential.proofs.Common.{rules, ◌∙◌, length-set}
+use Rattle.kahn_sequential.proofs.{Lists.all_changed, Lists.next_old, Lists.one_changed, Recording.adds_one, Recording.all_added}
 use Rattle.kahn_sequential.proofs.recorded.add_sent.Goals as goal
 
 pub add_sent_on-requires-clause-short : goal.add_sent_on-requires-clause-short

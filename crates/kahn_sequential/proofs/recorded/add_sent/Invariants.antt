@@ -1,8 +1,6 @@
 -- The channels so far.
-use Rattle.std.proofs.Common.{◌≡◌, length}
-use Rattle.kahn_sequential.proofs.Common.{network_of}
-use Rattle.kahn_sequential.proofs.Lists.{ChangedTo}
-use Rattle.kahn_sequential.proofs.Recording.{Adds}
+use Rattle.kahn_sequential.proofs.Common.{◌≡◌, length, network_of}
+use Rattle.kahn_sequential.proofs.{Lists.ChangedTo, Recording.Adds}
 use Rattle.kahn_sequential.proofs.recorded.add_sent.Given as goal
 
 abbrev pub invariant-loop-channel : goal.invariant-loop-channel

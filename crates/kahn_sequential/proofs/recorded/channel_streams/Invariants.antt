@@ -1,7 +1,5 @@
 -- The streams of the channels so far.
-use Rattle.std.proofs.Common.{◌≤◌, length, vec_capacity}
-use Rattle.kahn_sequential.proofs.Common.{network_of}
-use Rattle.kahn_sequential.specs.inner.Recording.{AreOpenChannels}
+use Rattle.kahn_sequential.proofs.Common.{◌≤◌, length, vec_capacity, network_of, AreOpenChannels}
 use Rattle.kahn_sequential.proofs.recorded.channel_streams.Given as goal
 
 abbrev pub invariant-loop-channel : goal.invariant-loop-channel

@@ -1,5 +1,4 @@
-use Rattle.std.proofs.Common.{◌-◌, refl}
-use Rattle.kahn_sequential.proofs.Common.{Answer}
+use Rattle.kahn_sequential.proofs.Common.{◌-◌, refl, Answer}
 use Rattle.kahn_sequential.proofs.Recording.{all_recorded}
 use Rattle.kahn_sequential.proofs.recorded.concluded.Goals as goal
 

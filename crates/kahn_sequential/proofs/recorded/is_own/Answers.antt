@@ -1,6 +1,4 @@
-use Rattle.std.proofs.Common.{subst, sym}
-use Rattle.kahn_sequential.proofs.Common.{network_of}
-use Rattle.kahn_sequential.specs.inner.Recording.{IsReadByOthers}
+use Rattle.kahn_sequential.proofs.Common.{subst, sym, network_of, IsReadByOthers}
 use Rattle.kahn_sequential.proofs.recorded.is_own.Goals as goal
 
 pub returns-in-Some : goal.returns-in-Some

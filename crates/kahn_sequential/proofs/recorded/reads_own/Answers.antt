@@ -1,5 +1,4 @@
-use Rattle.std.proofs.Common.{◌≤◌, arith, length, rules}
-use Rattle.kahn_sequential.proofs.Common.{network_of}
+use Rattle.kahn_sequential.proofs.Common.{◌≤◌, arith, length, rules, network_of}
 use Rattle.kahn_sequential.proofs.Recording.{others_more}
 use Rattle.kahn_sequential.proofs.recorded.reads_own.Goals as goal
 

@@ -1,7 +1,5 @@
 -- No process reads its own of the channels so far.
-use Rattle.std.proofs.Common.{ℕ, ◌<◌}
-use Rattle.kahn_sequential.proofs.Common.{network_of}
-use Rattle.kahn_sequential.specs.inner.Recording.{HasOthers}
+use Rattle.kahn_sequential.proofs.Common.{ℕ, ◌<◌, network_of, HasOthers}
 use Rattle.kahn_sequential.proofs.recorded.reads_own.Given as goal
 
 abbrev pub invariant-loop-channel : goal.invariant-loop-channel

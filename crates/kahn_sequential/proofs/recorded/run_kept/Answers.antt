@@ -1,8 +1,5 @@
-use Rattle.std.proofs.Common.{ℕ, arith, ◌≡◌, ◌+◌, length, replicate, sym, ap, ◌∙◌, subst, Option, vec_capacity}
-use Rattle.kahn_sequential.proofs.Common.{Program, Lists, network_of, nothing_gone, AreStreamsReady, all_events, sight_of}
+use Rattle.kahn_sequential.proofs.Common.{ℕ, arith, ◌≡◌, ◌+◌, length, replicate, sym, ap, ◌∙◌, subst, Option, vec_capacity, Program, Lists, network_of, nothing_gone, AreStreamsReady, all_events, sight_of, IsPartEnd, AreCountsOf, AreOpenChannels, IsRecordedAlone, TakesTurns}
 use Rattle.kahn_sequential.proofs.Recording.{opened}
-use Rattle.kahn_sequential.specs.inner.FlowBench.{IsPartEnd}
-use Rattle.kahn_sequential.specs.inner.Recording.{AreCountsOf, AreOpenChannels, IsRecordedAlone, TakesTurns}
 use Rattle.kahn_sequential.proofs.recorded.run_kept.Goals as goal
 
 pub run_to_rest-requires-clause-turns : goal.run_to_rest-requires-clause-turns

@@ -1,7 +1,5 @@
-use Rattle.std.proofs.Common.{◌+◌, subst, sym}
-use Rattle.kahn_sequential.proofs.Common.{IsLast, IsVerdict, all_events, network_of, sight_of}
+use Rattle.kahn_sequential.proofs.Common.{◌+◌, subst, sym, IsLast, IsVerdict, all_events, network_of, sight_of, TakesTurns}
 use Rattle.kahn_sequential.proofs.Benched.{within}
-use Rattle.kahn_sequential.specs.inner.Recording.{TakesTurns}
 use Rattle.kahn_sequential.proofs.recorded.run_to_rest.Goals as goal
 
 pub recorded_rounds-requires-clause-turns : goal.recorded_rounds-requires-clause-turns

@@ -1,5 +1,4 @@
-use Rattle.std.proofs.Common.{rules, ◌≡◌, ◌∙◌, add-one, ap, cond, [], ◌++◌, ◌∷◌}
-use Rattle.kahn_sequential.proofs.Common.{network_of, Channel, is_streamed}
+use Rattle.kahn_sequential.proofs.Common.{rules, ◌≡◌, ◌∙◌, add-one, ap, cond, [], ◌++◌, ◌∷◌, network_of, Channel, is_streamed}
 use Rattle.kahn_sequential.proofs.Printing.{channel_more}
 use Rattle.kahn_sequential.proofs.streams.add_channels.Goals as goal
 use Rattle.kahn_sequential.proofs.streams.add_channels.Goals.{then-eq, else-eq}

@@ -1,5 +1,4 @@
-use Rattle.std.proofs.Common.{◌≡◌, ◌++◌, drop}
-use Rattle.kahn_sequential.proofs.Common.{network_of, channel_lines}
+use Rattle.kahn_sequential.proofs.Common.{◌≡◌, ◌++◌, drop, network_of, channel_lines}
 use Rattle.kahn_sequential.proofs.streams.add_channels.Given as goal
 
 abbrev pub invariant-loop-channel : goal.invariant-loop-channel

@@ -1,5 +1,4 @@
-use Rattle.std.proofs.Common.{rules, ◌∙◌, add-one, ap, cond, [], ◌++◌, ◌∷◌}
-use Rattle.kahn_sequential.proofs.Common.{network_of, Print}
+use Rattle.kahn_sequential.proofs.Common.{rules, ◌∙◌, add-one, ap, cond, [], ◌++◌, ◌∷◌, network_of, Print}
 use Rattle.kahn_sequential.proofs.Printing.{print_more}
 use Rattle.kahn_sequential.proofs.streams.add_prints.Goals as goal
 

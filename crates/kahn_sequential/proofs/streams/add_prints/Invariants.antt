@@ -1,5 +1,4 @@
-use Rattle.std.proofs.Common.{◌≡◌, ◌++◌, drop}
-use Rattle.kahn_sequential.proofs.Common.{network_of, print_lines}
+use Rattle.kahn_sequential.proofs.Common.{◌≡◌, ◌++◌, drop, network_of, print_lines}
 use Rattle.kahn_sequential.proofs.streams.add_prints.Given as goal
 
 abbrev pub invariant-loop-instance : goal.invariant-loop-instance

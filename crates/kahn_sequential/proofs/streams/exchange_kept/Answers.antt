@@ -1,5 +1,4 @@
-use Rattle.std.proofs.Common.{ap, ◌∙◌, slice_set}
-use Rattle.kahn_sequential.proofs.Common.{map-set, kept_lists}
+use Rattle.kahn_sequential.proofs.Common.{ap, ◌∙◌, slice_set, map-set, kept_lists}
 use Rattle.kahn_sequential.proofs.streams.exchange_kept.Goals as goal
 
 pub returns-clause-kept : goal.returns-clause-kept

@@ -1,5 +1,4 @@
-use Rattle.std.proofs.Common.{◌≡◌, length}
-use Rattle.kahn_sequential.proofs.Common.{network_of}
+use Rattle.kahn_sequential.proofs.Common.{◌≡◌, length, network_of}
 use Rattle.kahn_sequential.proofs.Filled.{Filling}
 use Rattle.kahn_sequential.proofs.streams.fill.Given as goal
 

@@ -1,5 +1,4 @@
-use Rattle.std.proofs.Common.{refl, sym, ap, ◌∙◌, subst}
-use Rattle.kahn_sequential.proofs.Common.{network_of, IsDeclared}
+use Rattle.kahn_sequential.proofs.Common.{refl, sym, ap, ◌∙◌, subst, network_of, IsDeclared}
 use Rattle.kahn_sequential.proofs.Filled.{kept_taken, printed_taken}
 use Rattle.kahn_sequential.proofs.streams.fill_one.Goals as goal
 

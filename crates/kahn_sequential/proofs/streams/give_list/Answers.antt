@@ -1,5 +1,5 @@
-use Rattle.std.proofs.Common.{rules, arith, ◌≡◌, inl, inr, ◌+◌, [], ◌∷◌, length, length-append, refl, ap, ◌∙◌}
-use Rattle.kahn_sequential.proofs.Common.{slice_get_within, network_of, inputs_of, own_of}
+use Rattle.std.proofs.Common.{length-append}
+use Rattle.kahn_sequential.proofs.Common.{rules, arith, ◌≡◌, inl, inr, ◌+◌, [], ◌∷◌, length, refl, ap, ◌∙◌, slice_get_within, network_of, inputs_of, own_of}
 use Rattle.kahn_sequential.proofs.Giving.{begun_more, falls}
 use Rattle.kahn_sequential.proofs.streams.give_list.Goals as goal
 

@@ -1,5 +1,4 @@
-use Rattle.std.proofs.Common.{◌≡◌, ◌⊎◌, ◌-◌, length}
-use Rattle.kahn_sequential.proofs.Common.{Input, network_of, role_at, inputs_of, IsBegun}
+use Rattle.kahn_sequential.proofs.Common.{◌≡◌, ◌⊎◌, ◌-◌, length, Input, network_of, role_at, inputs_of, IsBegun}
 use Rattle.kahn_sequential.proofs.streams.give_list.Given as goal
 
 abbrev pub invariant-tokens : goal.invariant-tokens

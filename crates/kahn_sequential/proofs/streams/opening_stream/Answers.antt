@@ -1,5 +1,4 @@
-use Rattle.std.proofs.Common.{rules}
-use Rattle.kahn_sequential.proofs.Common.{network_of, inputs_of}
+use Rattle.kahn_sequential.proofs.Common.{rules, network_of, inputs_of}
 use Rattle.kahn_sequential.proofs.Giving.{begun_none, channel_opens}
 use Rattle.kahn_sequential.proofs.streams.opening_stream.Goals as goal
 

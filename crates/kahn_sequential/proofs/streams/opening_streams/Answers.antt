@@ -1,6 +1,4 @@
-use Rattle.std.proofs.Common.{◌<◌, ◌++◌, [], ◌∷◌, add-one, ap, ◌∙◌, length, take, sym, rules}
-use Rattle.std.proofs.Math.Seq.{take-suc}
-use Rattle.kahn_sequential.proofs.Common.{map-append, network_of, inputs_of, stream_line}
+use Rattle.kahn_sequential.proofs.Common.{◌<◌, ◌++◌, [], ◌∷◌, add-one, ap, ◌∙◌, length, take, sym, rules, take-suc, map-append, network_of, inputs_of, stream_line}
 use Rattle.kahn_sequential.proofs.Giving.{opens_more}
 use Rattle.kahn_sequential.proofs.streams.opening_streams.Goals as goal
 

@@ -1,5 +1,4 @@
-use Rattle.std.proofs.Common.{◌≡◌, ◌≤◌, ℕ, Some, length, map, slice_get, take, vec_capacity}
-use Rattle.kahn_sequential.proofs.Common.{Stream, network_of, inputs_of, IsOpenStream, stream_line}
+use Rattle.kahn_sequential.proofs.Common.{◌≡◌, ◌≤◌, ℕ, Some, length, map, slice_get, take, vec_capacity, Stream, network_of, inputs_of, IsOpenStream, stream_line}
 use Rattle.kahn_sequential.proofs.streams.opening_streams.Given as goal
 
 abbrev pub invariant-loop-number : goal.invariant-loop-number

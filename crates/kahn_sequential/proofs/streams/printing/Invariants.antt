@@ -1,5 +1,4 @@
-use Rattle.std.proofs.Common.{◌≡◌, ◌++◌, drop, map}
-use Rattle.kahn_sequential.proofs.Common.{declaration_prints}
+use Rattle.kahn_sequential.proofs.Common.{◌≡◌, ◌++◌, drop, map, declaration_prints}
 use Rattle.kahn_sequential.proofs.streams.printing.Given as goal
 
 abbrev pub invariant-loop-declaration : goal.invariant-loop-declaration

@@ -1,6 +1,4 @@
-use Rattle.std.proofs.Common.{◌∙◌, ap, sym, subst, IfSome}
-use Rattle.kahn_streams.specs.View.{bytes_of}
-use Rattle.kahn_check.specs.inner.Globals.{option_global, IsPlaced}
+use Rattle.kahn_check.proofs.Common.{◌∙◌, ap, sym, subst, IfSome, bytes_of, option_global, IsPlaced}
 use Rattle.kahn_check.proofs.Global_names.{find_global, placed_found}
 use Rattle.kahn_check.proofs.globals.Globals.find.Goals as goal
 

@@ -1,8 +1,4 @@
-use Rattle.std.proofs.Common.{◌≡◌, ◌∙◌, ap}
-use Rattle.std.proofs.lemmas.Result.{IfOk-weaker}
-use Rattle.kahn_check.specs.inner.Firsts.{kept_first}
-use Rattle.kahn_check.specs.inner.Globals.{global_of}
-use Rattle.kahn_streams.specs.View.{bytes_of}
+use Rattle.kahn_check.proofs.Common.{◌≡◌, ◌∙◌, ap, IfOk-weaker, kept_first, global_of, bytes_of}
 use Rattle.kahn_check.proofs.Global_names.{shown, kept_global}
 use Rattle.kahn_check.proofs.globals.Globals.keep.Goals as goal
 

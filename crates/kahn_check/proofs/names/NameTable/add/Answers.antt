@@ -1,10 +1,6 @@
-use Rattle.std.proofs.Common.{◌≡◌, ◌++◌, ◌∷◌, [], ap, ◌∙◌, sym, cond, is_some, Some, None, bytes_eq, nat_cmp, string_bytes}
+use Rattle.kahn_check.proofs.Common.{◌≡◌, ◌++◌, ◌∷◌, [], ap, ◌∙◌, sym, cond, is_some, Some, None, bytes_eq, nat_cmp, string_bytes, lookup, update, is_eq, bytes_of, hashed}
 use Rattle.std.proofs.lemmas.Map.Text.{btree_map_updates_text}
 use Rattle.std.specs.BTreeMap.{get, get_by_text}
-use Rattle.std.specs.Map.{lookup, update}
-use Rattle.std.specs.Ordering.{is_eq}
-use Rattle.kahn_streams.specs.View.{bytes_of}
-use Rattle.kahn_check.specs.inner.Names.{hashed}
 use Rattle.kahn_check.proofs.Listed.{first_found, other_found}
 use Rattle.kahn_check.proofs.names.NameTable.add.Goals as goal
 use Rattle.kahn_check.proofs.names.NameTable.add.Goals.{then-contains_key+in_ok-insert, else-contains_key+in_ok-insert-2+in-Some-1, else-contains_key+in_ok-insert-2+in-None-1}

@@ -1,5 +1,4 @@
-use Rattle.std.proofs.Common.{◌++◌, ◌∷◌, []}
-use Rattle.kahn_streams.specs.View.{bytes_of}
+use Rattle.kahn_check.proofs.Common.{◌++◌, ◌∷◌, [], bytes_of}
 use Rattle.kahn_check.proofs.names.NameTable.add.Given as goal
 
 abbrev pub ghost-in_order : goal.ghost-in_order

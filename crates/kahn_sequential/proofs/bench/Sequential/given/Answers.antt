@@ -1,5 +1,4 @@
-use Rattle.std.proofs.Common.{◌≡◌, ◌+◌, ◌<◌, ◌^◌, ap, ◌∙◌, subst, length, slice_get}
-use Rattle.kahn_sequential.proofs.Common.{SomeIff, network_of, role_at, inputs_of, taken_of, waiting_of, Table}
+use Rattle.kahn_sequential.proofs.Common.{◌≡◌, ◌+◌, ◌<◌, ◌^◌, ap, ◌∙◌, subst, length, slice_get, SomeIff, network_of, role_at, inputs_of, taken_of, waiting_of, Table}
 use Rattle.kahn_sequential.proofs.Emptied.{given_all}
 use Rattle.kahn_sequential.proofs.bench.Sequential.given.Goals as goal
 

@@ -1,5 +1,4 @@
-use Rattle.std.proofs.Common.{ap}
-use Rattle.kahn_sequential.proofs.Common.{Table, vacant_of}
+use Rattle.kahn_sequential.proofs.Common.{ap, Table, vacant_of}
 use Rattle.kahn_sequential.proofs.bench.Sequential.into_taps.Goals as goal
 
 pub returns-clause-vacant : goal.returns-clause-vacant

@@ -1,5 +1,4 @@
-use Rattle.std.proofs.Common.{ap, ◌∙◌}
-use Rattle.kahn_sequential.proofs.Common.{Table, sight_of, all_events}
+use Rattle.kahn_sequential.proofs.Common.{ap, ◌∙◌, Table, sight_of, all_events}
 use Rattle.kahn_sequential.proofs.Laid.{laid_first, no_events}
 use Rattle.kahn_sequential.proofs.bench.Sequential.new.Goals as goal
 

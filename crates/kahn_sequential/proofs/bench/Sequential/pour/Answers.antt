@@ -1,5 +1,4 @@
-use Rattle.std.proofs.Common.{length, sym, ap, ◌∙◌, subst}
-use Rattle.kahn_sequential.proofs.Common.{network_of, role_at, AreInputsExtended, inputs_of, HasPoured, poured_grown, HasTakenIn, IsLaid, Table, table_of}
+use Rattle.kahn_sequential.proofs.Common.{length, sym, ap, ◌∙◌, subst, network_of, role_at, AreInputsExtended, inputs_of, HasPoured, poured_grown, HasTakenIn, IsLaid, Table, table_of}
 use Rattle.kahn_sequential.proofs.Taking_in as Taking
 use Rattle.kahn_sequential.proofs.bench.Sequential.pour.Goals as goal
 

@@ -1,6 +1,4 @@
-use Rattle.std.proofs.Common.{arith, subst, None, Some}
-use Rattle.kahn_sequential.proofs.Common.{Table, network_of, sight_of}
-use Rattle.kahn_sequential.specs.inner.Noted.{IsOnlyReader}
+use Rattle.kahn_sequential.proofs.Common.{arith, subst, None, Some, Table, network_of, sight_of, IsOnlyReader}
 use Rattle.kahn_sequential.proofs.Noted.{none_past, reads_none, reads_one}
 use Rattle.kahn_sequential.proofs.bench.Sequential.reader_of.Goals as goal
 

@@ -1,5 +1,4 @@
-use Rattle.std.proofs.Common.{arith, subst}
-use Rattle.kahn_sequential.proofs.Common.{HasRunCell, IsLaid, Table, sight_of, table_of}
+use Rattle.kahn_sequential.proofs.Common.{arith, subst, HasRunCell, IsLaid, Table, sight_of, table_of}
 use Rattle.kahn_sequential.proofs.Benched
 use Rattle.kahn_sequential.proofs.Tapping as Tapping
 use Rattle.kahn_sequential.proofs.bench.Sequential.run.Goals as goal

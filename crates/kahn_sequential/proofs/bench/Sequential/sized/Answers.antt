@@ -1,5 +1,4 @@
-use Rattle.std.proofs.Common.{◌≡◌, List, Some, ap, slice_get, subst, sym}
-use Rattle.kahn_sequential.proofs.Common.{AreCounts, Table, Tapped, CellView, mapped_at, told_in}
+use Rattle.kahn_sequential.proofs.Common.{◌≡◌, List, Some, ap, slice_get, subst, sym, AreCounts, Table, Tapped, CellView, mapped_at, told_in}
 use Rattle.kahn_sequential.proofs.bench.Sequential.sized.Goals as goal
 
 pub returns : goal.returns

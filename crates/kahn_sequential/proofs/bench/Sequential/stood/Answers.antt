@@ -1,7 +1,5 @@
-use Rattle.std.proofs.Common.{◌≡◌, Some, sym, subst, slice_get}
-use Rattle.kahn_sequential.proofs.Common.{AllStandBy, Table, told_in}
-use Rattle.kahn_sequential.proofs.Emptied.{all_stand_by}
-use Rattle.kahn_sequential.proofs.Benched.{get_map}
+use Rattle.kahn_sequential.proofs.Common.{◌≡◌, Some, sym, subst, slice_get, AllStandBy, Table, told_in}
+use Rattle.kahn_sequential.proofs.{Emptied.all_stand_by, Benched.get_map}
 use Rattle.kahn_sequential.proofs.bench.Sequential.stood.Goals as goal
 
 pub all_stood-requires : goal.all_stood-requires

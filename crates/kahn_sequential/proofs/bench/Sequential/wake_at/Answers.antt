@@ -1,6 +1,4 @@
-use Rattle.std.proofs.Common.{◌≡◌}
-use Rattle.kahn_sequential.proofs.Common.{sight_of}
-use Rattle.kahn_sequential.specs.inner.Noted.{IsReaderOf}
+use Rattle.kahn_sequential.proofs.Common.{◌≡◌, sight_of, IsReaderOf}
 use Rattle.kahn_sequential.proofs.Noted.{nobody_woken, woken_as}
 use Rattle.kahn_sequential.proofs.bench.Sequential.wake_at.Goals as goal
 

@@ -1,8 +1,5 @@
-use Rattle.std.proofs.Common.{◌≡◌, ◌∙◌, ap, sym}
-use Rattle.kahn_sequential.proofs.Common.{route_of}
-use Rattle.kahn_sequential.specs.inner.Noted.{IsReadyBy}
-use Rattle.kahn_sequential.proofs.Benched.{same_actual}
-use Rattle.kahn_sequential.proofs.Noted.{nobody_reads, nobody_woken, own_reader, reader_is, woken_as}
+use Rattle.kahn_sequential.proofs.Common.{◌≡◌, ◌∙◌, ap, sym, route_of, IsReadyBy}
+use Rattle.kahn_sequential.proofs.{Benched.same_actual, Noted.nobody_reads, Noted.nobody_woken, Noted.own_reader, Noted.reader_is, Noted.woken_as}
 use Rattle.kahn_sequential.proofs.bench.Sequential.wake_behind.Goals as goal
 
 pub returns-in_default-reader_of : goal.returns-in_default-reader_of

@@ -1,8 +1,5 @@
-use Rattle.std.proofs.Common.{◌<◌, refl, subst, sym}
-use Rattle.kahn_sequential.proofs.Common.{handed_within, sight_of}
-use Rattle.kahn_sequential.specs.inner.Noted.{IsReadyBehind, IsReadyByFirst}
-use Rattle.kahn_sequential.proofs.Emptied.{fresh_within}
-use Rattle.kahn_sequential.proofs.Noted.{woken_as}
+use Rattle.kahn_sequential.proofs.Common.{◌<◌, refl, subst, sym, handed_within, sight_of, IsReadyBehind, IsReadyByFirst}
+use Rattle.kahn_sequential.proofs.{Emptied.fresh_within, Noted.woken_as}
 use Rattle.kahn_sequential.proofs.bench.Sequential.wake_readers.Goals as goal
 
 pub returns : goal.returns

@@ -1,8 +1,7 @@
-use Rattle.std.proofs.Common.{◌≡◌, ◌≤◌, List, Result, Ok, IfOk, IfNone, subst, sym}
+use Rattle.std.proofs.Common.{IfOk}
 use Rattle.kahn_streams.specs.declared.tree.Program.{Program}
 use Rattle.kahn_syntax.specs.declared.fault.SyntaxFault.{SyntaxFault}
-use Rattle.kahn_syntax.specs.Grammar.{Spells, Terminal, nesting}
-use Rattle.kahn_syntax.specs.Texts.{IsWholeWithin, program_tree, terminals}
+use Rattle.kahn_syntax.proofs.Common.{◌≡◌, ◌≤◌, List, Result, Ok, IfNone, subst, sym, Spells, Terminal, nesting, IsWholeWithin, program_tree, terminals}
 use Rattle.kahn_syntax.proofs.parser.program.lexemes_fault.Goals as goal
 use Rattle.kahn_syntax.proofs.parser.program.lexemes_fault.Goals.{in-Ok, in-Err}
 
