@@ -32,9 +32,8 @@ struct Written {
 #[derive(Drop)]
 pub(crate) struct Awake {
     written: Vec<Written>,
-    // The writers of whose channels some weren't looked at, and how many events the last turn had.
+    // The writers of whose channels some weren't looked at.
     noted: VecDeque<usize>,
-    done: u64,
     // The reader of each channel, if it found it empty.
     sleepers: Vec<Option<usize>>,
     queue: RunQueue,
@@ -76,7 +75,6 @@ impl Awake {
         Ok(Awake {
             written: written_by(alloc, network)?,
             noted: VecDeque::with_capacity(alloc, network.instances())?,
-            done: 0,
             sleepers: vec![in alloc; None; network.channels()]?,
             queue: RunQueue::new(alloc, network.instances())?,
             ahead: vec![in alloc; 0; network.instances()]?,
@@ -105,12 +103,6 @@ impl Awake {
         if let Some(sleeper) = self.sleepers.get_mut(channel) {
             *sleeper = Some(instance);
         }
-    }
-
-    /// Notes that a turn had so many events.
-    #[inline(always)]
-    pub(crate) fn note_done(&mut self, done: u64) {
-        self.done = done;
     }
 
     /// Whose turn it is; nobody's if all sleep.
@@ -182,14 +174,14 @@ impl Awake {
         true
     }
 
-    /// Wakes the readers that sleep at channels of this writer on which something waits now. Of many channels some are looked at now, and
-    /// the others after later turns, or when all sleep.
-    pub(crate) fn wake_readers(&mut self, instance: usize, queues: &Plain<Global>) {
+    /// Wakes the readers that sleep at channels of this writer on which something waits after its turn of `done` events. Of many channels
+    /// some are looked at now, and the others after later turns, or when all sleep.
+    pub(crate) fn wake_readers(&mut self, instance: usize, done: u64, queues: &Plain<Global>) {
         let Some(written) = self.written.get(instance) else {
             return;
         };
         if written.channels.len() > FEW {
-            self.wake_some(instance, queues);
+            self.wake_some(instance, done, queues);
             return;
         }
         for channel in &written.channels {
@@ -202,21 +194,21 @@ impl Awake {
     }
 
     // Wakes readers at the few channels of this writer, and at some of the others.
-    fn wake_some(&mut self, writer: usize, queues: &Plain<Global>) {
-        let (from, to) = self.next_part(writer);
+    fn wake_some(&mut self, writer: usize, done: u64, queues: &Plain<Global>) {
+        let (from, to) = self.next_part(writer, done);
         self.wake_between(writer, 0, FEW, queues);
         self.wake_between(writer, from, to, queues);
     }
 
     // The places of the others that are looked at now, after which the writer is noted.
-    fn next_part(&mut self, writer: usize) -> (usize, usize) {
+    fn next_part(&mut self, writer: usize, done: u64) -> (usize, usize) {
         let Some(written) = self.written.get_mut(writer) else {
             return (0, 0);
         };
         if !written.is_noted {
             written.is_noted = self.noted.push_back(writer).is_ok();
         }
-        if self.done >= MANY_EVENTS {
+        if done >= MANY_EVENTS {
             return (FEW, usize::MAX);
         }
         let from = written.from.max(FEW);

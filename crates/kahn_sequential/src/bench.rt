@@ -135,23 +135,25 @@ impl<'n> Sequential<'n> {
         channel_read(&self.code, instance, parameter)
     }
 
-    /// Notes a turn of `done` events, for `wide`, `passes_over` and `note_left`.
+    /// Whether a turn of `done` events is brief, and did something.
     #[inline(always)]
-    pub fn note_visit(&mut self, instance: usize, done: u64)
-        ensures { self.new ≡ self.old }
-    {
-        self.awake.note_done(done);
-        if self.looks.note_brief(done) {
-            return;
-        }
-        self.note_turn(instance, done);
+    pub(crate) fn is_brief(&self, done: u64) -> bool {
+        self.looks.is_brief(done)
     }
 
-    // Notes a turn that isn't brief, and begins the next look for work for several workers, if one is over.
-    fn note_turn(&mut self, instance: usize, done: u64)
+    /// Notes that so many events are left at the beginning of a part.
+    pub(crate) fn note_bound(&mut self, left: u64)
         ensures { self.new ≡ self.old }
     {
-        if self.looks.note_turn(instance, done) && self.looks.is_over() {
+        self.looks.note_bound(left);
+    }
+
+    /// Notes a turn of `done` events that isn't brief, after which so many are left, for `wide` and `passes_over`. Begins the next look
+    /// for work for several workers, if one is over.
+    pub(crate) fn note_turn(&mut self, instance: usize, done: u64, left: u64)
+        ensures { self.new ≡ self.old }
+    {
+        if self.looks.note_turn(instance, done, left) && self.looks.is_over() {
             let sent = self.sent();
             self.looks.turn(sent);
         }
@@ -176,12 +178,12 @@ impl<'n> Sequential<'n> {
         self.awake.note_status(instance, outcome, &self.queues);
     }
 
-    /// Notes how an instance stands after a turn, and that what it sent has come, for `next`.
-    pub fn note_left(&mut self, instance: usize, outcome: Outcome)
+    /// Notes how an instance stands after a turn of `done` events, and that what it sent has come, for `next`.
+    pub(crate) fn note_left(&mut self, instance: usize, outcome: Outcome, done: u64)
         ensures { self.new ≡ self.old }
     {
         self.awake.note_status(instance, outcome, &self.queues);
-        self.awake.wake_readers(instance, &self.queues);
+        self.awake.wake_readers(instance, done, &self.queues);
     }
 
     /// An instance that may go on, as far as is known.

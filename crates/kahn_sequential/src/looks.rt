@@ -46,9 +46,9 @@ pub(crate) struct Looks {
     // The work of an event of each instance, and the number of the look in which it had a long turn last.
     costs: Vec<u64>,
     last_long: Vec<u64>,
-    // How many events a turn has that isn't brief; no turn of fewer is long. How many events brief turns had.
-    least: u64,
-    brief: u64,
+    // How many events a brief turn has at most; none of those is long. How many events were left after the last other turn.
+    most: u64,
+    left: u64,
     // How much was done in other turns.
     done: u64,
     // The number of the look, how much was done and how many tokens were sent before it, and when it may be over.
@@ -99,8 +99,8 @@ impl Looks {
         Ok(Looks {
             costs,
             last_long: vec![in alloc; 0; network.instances()]?,
-            least: (LONG / most.max(1)).min(LONG_TURN),
-            brief: 0,
+            most: (LONG / most.max(1)).min(LONG_TURN).saturating_sub(1),
+            left: 0,
             done: 0,
             number: 1,
             from: 0,
@@ -117,25 +117,28 @@ impl Looks {
         })
     }
 
-    /// Notes a turn of `done` events, if it is brief.
+    /// Whether a turn of `done` events is brief, and did something.
     #[inline(always)]
-    pub(crate) fn note_brief(&mut self, done: u64) -> bool {
-        if done < self.least {
-            self.brief = self.brief.wrapping_add(done);
-            return true;
-        }
-        false
+    pub(crate) fn is_brief(&self, done: u64) -> bool {
+        done.wrapping_sub(1) < self.most
     }
 
-    /// Notes a turn of `done` events that isn't brief. Whether the look may be over.
-    pub(crate) fn note_turn(&mut self, instance: usize, done: u64) -> bool {
+    /// Notes that so many events are left at the beginning of a part.
+    pub(crate) fn note_bound(&mut self, left: u64) {
+        self.left = left;
+    }
+
+    /// Notes a turn of `done` events that isn't brief, after which so many are left: what was done since the last such turn was done in
+    /// brief ones. Whether the look may be over.
+    pub(crate) fn note_turn(&mut self, instance: usize, done: u64, left: u64) -> bool {
         let Some(cost) = self.costs.get(instance) else {
             return false;
         };
         let work = done.wrapping_mul(*cost);
+        let brief = self.left.wrapping_sub(left).wrapping_sub(done);
+        self.left = left;
         self.done = self.done.wrapping_add(work);
-        self.done = self.done.wrapping_add(self.brief.wrapping_mul(BRIEF_EVENT));
-        self.brief = 0;
+        self.done = self.done.wrapping_add(brief.wrapping_mul(BRIEF_EVENT));
         if work >= LONG {
             self.note_long(instance, work);
         }

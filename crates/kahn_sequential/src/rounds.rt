@@ -23,7 +23,10 @@ const AWAKE_TURNS: usize = 64;
 // This many rounds note their ends before brief rounds come, which note none, so that a short run ends with the round that it ends in.
 const NOTED_ROUNDS: usize = 4;
 
-// How many brief rounds come one after another at most: a number, since each loop needs an end.
+// How many brief rounds come between two looks at whether most turns did nothing; and how many such looks there are at most: a number,
+// since each loop needs an end.
+const TOGETHER: usize = 8;
+
 const BRIEF_ROUNDS: usize = 1_000_000;
 
 /// What is left to do in a run on one thread, and what its last round did.
@@ -100,10 +103,25 @@ impl Round {
         ensures { IsMarked done stopped self.old self.new }
     {
         self.left -= done;
-        self.idle_turns = self.idle_turns.wrapping_add(usize::from(done == 0));
         if matches!(stopped, Pause::NoMemory) {
             self.memory = true;
         }
+    }
+
+    // Notes a turn in which nothing or much was done.
+    #[inline(always)]
+    fn note_turn(&mut self, bench: &mut Sequential<'_>, instance: usize, done: u64)
+        ensures bench { bench.new ≡ bench.old }
+        ensures same { (self.new.quantum ≡ self.old.quantum) × (self.new.left ≡ self.old.left) × (self.new.memory ≡ self.old.memory) × (self.new.ends ≡ self.old.ends) }
+    {
+        if bench.is_brief(done) {
+            return;
+        }
+        if done == 0 {
+            self.idle_turns = self.idle_turns.wrapping_add(1);
+            return;
+        }
+        bench.note_turn(instance, done, self.left);
     }
 
     // How many events the next turn may do.
@@ -182,7 +200,7 @@ impl<'g, L: Ledger, G: Gate> Driver<'g, L, G> {
         let stopped = self.run_gated(bench, instance, quantum);
         let done = bench.events(instance) - before;
         round.mark(done, stopped);
-        bench.note_visit(instance, done);
+        round.note_turn(bench, instance, done);
         stopped
     }
 
@@ -199,18 +217,24 @@ impl<'g, L: Ledger, G: Gate> Driver<'g, L, G> {
 
     // The turn of an instance in a brief round. One that is far ahead of its readers is passed over, so that they come up to it.
     #[inline(always)]
-    fn visit_brief(&mut self, bench: &mut Sequential<'_>, round: &mut Round, instance: usize)
+    fn visit_brief(
+        &mut self,
+        bench: &mut Sequential<'_>,
+        round: &mut Round,
+        instance: usize,
+    ) -> Pause
         requires here { instance < length (sight_of bench.old).network.instances }
         requires may { MayRun (sight_of bench.old) round.old }
         ensures { HasAdvanced bench.old bench.new round.old round.new }
     {
         if bench.passes_over(instance) {
-            return;
+            return Pause::Spent;
         }
-        self.take_turn(bench, round, instance);
+        self.take_turn(bench, round, instance)
     }
 
-    // A round that notes no ends.
+    // A round that notes no ends. It is over where memory was refused, so that no turn asks whether it was.
+    #[tactic(auto, using(crate::proofs::Turns::moved_on))]
     fn brief_round(&mut self, bench: &mut Sequential<'_>, round: &mut Round)
         requires { MayRun (sight_of bench.old) round.old }
         ensures { HasAdvanced bench.old bench.new round.old round.new }
@@ -218,7 +242,26 @@ impl<'g, L: Ledger, G: Gate> Driver<'g, L, G> {
         let count = bench.instance_count();
         round.idle_turns = 0;
         for instance in 0..count {
-            self.visit_brief(bench, round, instance);
+            if round.memory {
+                return;
+            }
+            let stopped = self.visit_brief(bench, round, instance);
+            if matches!(stopped, Pause::NoMemory) {
+                return;
+            }
+        }
+    }
+
+    // Some brief rounds.
+    fn rounds_together(&mut self, bench: &mut Sequential<'_>, round: &mut Round)
+        requires { MayRun (sight_of bench.old) round.old }
+        ensures { HasAdvanced bench.old bench.new round.old round.new }
+    {
+        for _ in 0..TOGETHER {
+            if self.leaves(bench) {
+                return;
+            }
+            self.brief_round(bench, round);
         }
     }
 
@@ -269,8 +312,9 @@ impl<'g, L: Ledger, G: Gate> Driver<'g, L, G> {
             let Some(instance) = bench.next() else {
                 return round;
             };
+            let left = round.left;
             let end = self.visit(bench, &mut round, instance);
-            bench.note_left(instance, end.outcome);
+            bench.note_left(instance, end.outcome, left.wrapping_sub(round.left));
         }
         round
     }
@@ -292,7 +336,7 @@ impl<'g, L: Ledger, G: Gate> Driver<'g, L, G> {
                 return round;
             }
             left = round.left;
-            self.brief_round(bench, &mut round);
+            self.rounds_together(bench, &mut round);
         }
         round
     }
@@ -406,6 +450,7 @@ pub fn run_until_wide<G: Gate, L: Ledger>(
         may_leave,
     };
     let first = Round::new(bench, plan.quantum, plan.bound, ends);
+    bench.note_bound(plan.bound);
     driver.to_end(bench, first)
 }
 

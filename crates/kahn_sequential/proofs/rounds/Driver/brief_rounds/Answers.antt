@@ -3,7 +3,7 @@ use Rattle.kahn_sequential.proofs.Turns.{advanced_none, moved_on}
 use Rattle.kahn_sequential.proofs.rounds.Driver.brief_rounds.Goals as goal
 
 pub loop-preserved : goal.loop-preserved
-loop-preserved g c = moved_on c.loop.invariant c.brief_round.ensures
+loop-preserved g c = moved_on c.loop.invariant c.rounds_together.ensures
 
 pub loop-init : goal.loop-init
 loop-init g c = advanced_none c.args.last c.requires (search rules) refl

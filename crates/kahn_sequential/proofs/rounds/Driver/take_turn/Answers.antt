@@ -15,11 +15,13 @@ returns g c =
     let a : c.events-before.result ≡ events_at s p = c.events-before.ensures in
     let b : c.events.result ≡ events_at t p = c.events.ensures in
     let up : events_at s p ≤ events_at t p = ran.events.0 in
-    rw c.note_visit.ensures
+    let same = c.note_turn.ensures.same in
+    let mark = c.mark.ensures in
+    rw c.note_turn.ensures.bench
     (record {
       ran = rw (sym c.turn-quantum.ensures) ran;
       done = c.events.result - c.events-before.result;
       counts = omega (arith, a, b, up);
-      marked = c.mark.ensures;
+      marked = record { left = rw same.1 mark.left; marks = rw same.2 mark.marks; quantum = rw same.0 mark.quantum; ends = rw same.3 mark.ends };
       worked = c.run_gated-stopped.ensures.worked;
     })
