@@ -25,9 +25,9 @@ use Rattle.kahn_fault.specs.declared.work.WorkFault.TheVariants as work
 use Rattle.kahn_fault.specs.declared.fault.Fault.{Fault}
 use Rattle.kahn_fault.specs.declared.fault.Fault.TheVariants.{Open, Program, InputText, Work}
 
--- the line went out, or after a fault of the writer a prefix of it, by at most one write for each of its bytes, and one flush
+-- the line went out, or after a fault of the writer a prefix of it, by at most one write for each of its bytes
 abbrev pub WritesCounted : {X E : Type 0} → Option (List ℕ) → Option (List ℕ) → Result X E → ℕ → ℕ → List ℕ → Type 0
-WritesCounted old new result before after line = Writes old new result line × (after ≤ before + length line + 1)
+WritesCounted old new result before after line = Writes old new result line × (after ≤ before + length line)
 
 -- a line of words alone
 abbrev pub words_line : List ℕ → List ℕ

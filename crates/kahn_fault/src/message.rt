@@ -2,6 +2,7 @@
 
 ghost use Rattle.std.specs.Prelude.{◌≡◌, ◌<◌, ◌≤◌, length, decimal};
 ghost use Rattle.kahn_streams.specs.Written.{Writes};
+ghost use Rattle.kahn_texts.specs.Flushes.{FlushesOnce};
 ghost use Rattle.kahn_fault.specs.Message.{WritesCounted, numbered_line, words_line, two_line, between_line, place_line, placed_line, memory_line, what_words, syntax_span, syntax_words, check_span, check_words, entry_line, text_line, run_line, work_line, read_line, path_words, fault_text};
 
 use crate::fault::Fault;
@@ -10,7 +11,7 @@ use itoa::Buffer;
 use kahn_check::CheckFault;
 use kahn_streams::{InputFault, RunFault, Span, Steps};
 use kahn_syntax::{SyntaxFault, What};
-use kahn_texts::{ReadFault, TextFault, WriteFault, write_line_counted};
+use kahn_texts::{ReadFault, TextFault, WriteFault, flush_counted, put_line};
 use std::io::Write;
 use std::marker::Brand;
 use std::sync::ledger::{Blank, Ledger};
@@ -23,7 +24,7 @@ fn put_words<W: Write, L: Ledger>(
 ) -> Result<(), WriteFault>
     ensures { WritesCounted (W.contents writer.old) (W.contents writer.new) result writes.old writes.new (words_line words.now) }
 {
-    write_line_counted(writer, &[b"kahn: ", words.as_bytes(), b"\n"], writes)
+    put_line(writer, &[b"kahn: ", words.as_bytes(), b"\n"], writes)
 }
 
 /// Writes that memory was refused.
@@ -42,7 +43,7 @@ fn put_two<'a, W: Write, L: Ledger>(
 ) -> Result<(), WriteFault>
     ensures { WritesCounted (W.contents writer.old) (W.contents writer.new) result writes.old writes.new (two_line first.now second.now) }
 {
-    write_line_counted(
+    put_line(
         writer,
         &[b"kahn: ", first.as_bytes(), second.as_bytes(), b"\n"],
         writes,
@@ -59,7 +60,7 @@ fn put_between<'a, W: Write, L: Ledger>(
 ) -> Result<(), WriteFault>
     ensures { WritesCounted (W.contents writer.old) (W.contents writer.new) result writes.old writes.new (between_line before.now between.now after.now) }
 {
-    write_line_counted(
+    put_line(
         writer,
         &[
             b"kahn: ",
@@ -96,7 +97,7 @@ fn put_place<'a, W: Write, L: Ledger>(
 ) -> Result<(), WriteFault>
     ensures { WritesCounted (W.contents writer.old) (W.contents writer.new) result writes.old writes.new (numbered_line line.now column.now words.now) }
 {
-    write_line_counted(
+    put_line(
         writer,
         &[
             b"kahn: ",
@@ -354,8 +355,8 @@ pub(crate) fn path_words(path: &Option<String>) -> &str
     }
 }
 
-/// Writes the line of a fault as `fault_line` does, and counts its calls: at most one write for each byte of the line, and one flush.
-pub fn line_counted<W: Write, L: Ledger>(
+/// Writes the line of a fault.
+fn put_fault<W: Write, L: Ledger>(
     fault: &Fault,
     program: &str,
     writer: &mut W,
@@ -383,6 +384,21 @@ pub fn line_counted<W: Write, L: Ledger>(
     }
 }
 
+/// Writes the line of a fault as `fault_line` does, and counts its calls: at most one write for each byte of the line, and one flush.
+pub fn line_counted<W: Write, L: Ledger, M: Ledger>(
+    fault: &Fault,
+    program: &str,
+    writer: &mut W,
+    writes: &mut Steps<L>,
+    flushes: &mut Steps<M>,
+) -> Result<(), WriteFault>
+    ensures line { WritesCounted (W.contents writer.old) (W.contents writer.new) result writes.old writes.new (fault_text program.now fault.now) }
+    ensures once { FlushesOnce result flushes.old flushes.new }
+{
+    put_fault(fault, program, writer, writes)?;
+    flush_counted(writer, flushes)
+}
+
 /// A fault, and the program text that its spans are of.
 #[derive(Clone, Copy)]
 struct PlacedFault<'a> {
@@ -390,19 +406,26 @@ struct PlacedFault<'a> {
     program: &'a str,
 }
 
-/// Opens a count, and writes the line of a fault.
-fn line_opened<W: Write, L: Ledger>(
+/// Opens both counts, and writes the line of a fault.
+fn line_opened<W: Write, L: Ledger, M: Ledger>(
     writer: &mut W,
-    blank: Blank,
+    first: Blank,
+    second: Blank,
     placed: &PlacedFault<'_>,
 ) -> Result<(), WriteFault>
-    requires name { blank.name ≡ L.name }
-    requires parts { blank.parts ≡ L.parts }
-    requires some { 0 < blank.parts }
+    requires writes { (first.name ≡ L.name) × (first.parts ≡ L.parts) × (0 < first.parts) }
+    requires flushes { (second.name ≡ M.name) × (second.parts ≡ M.parts) × (0 < second.parts) }
     ensures { Writes (W.contents writer.old) (W.contents writer.new) result (fault_text placed.now.program.now placed.now.fault.now) }
 {
-    let mut writes = Steps::<L>::open(blank);
-    line_counted(placed.fault, placed.program, writer, &mut writes)
+    let mut writes = Steps::<L>::open(first);
+    let mut flushes = Steps::<M>::open(second);
+    line_counted(
+        placed.fault,
+        placed.program,
+        writer,
+        &mut writes,
+        &mut flushes,
+    )
 }
 
 /// Writes the line of a fault and a line feed, and flushes. A span in the fault is one of the program text; one beyond it
@@ -410,5 +433,6 @@ fn line_opened<W: Write, L: Ledger>(
 pub fn fault_line<W: Write>(fault: &Fault, program: &str, writer: &mut W) -> Result<(), WriteFault>
     ensures { Writes (W.contents writer.old) (W.contents writer.new) result (fault_text program.now fault.now) }
 {
-    line_opened::<W, Brand>(writer, Blank::new(1), &PlacedFault { fault, program })
+    let placed = PlacedFault { fault, program };
+    line_opened::<W, Brand, Brand>(writer, Blank::new(1), Blank::new(1), &placed)
 }

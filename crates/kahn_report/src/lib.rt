@@ -16,5 +16,5 @@ pub use working::work;
 pub use kahn_fault::checked;
 pub use kahn_texts::{
     EntryFault, MOST_BYTES, channel_name, process_name, read_entries, read_line, write_closing,
-    write_line, write_line_counted, write_news, write_plain,
+    write_line, write_news, write_plain,
 };

@@ -1,4 +1,5 @@
 pub mod Writing
+pub mod Flushes
 pub mod Ends
 pub mod Fresh
 pub mod Parts

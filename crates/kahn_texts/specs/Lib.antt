@@ -1,3 +1,4 @@
+pub mod Flushes
 pub mod Formats
 pub mod News
 pub mod Reading

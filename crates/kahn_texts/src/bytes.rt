@@ -91,26 +91,23 @@ pub fn put_line<W: Write, L: Ledger>(
     }
 }
 
-/// Flushes a writer, whose contents stay, and counts that too.
-pub fn flush<W: Write, L: Ledger>(writer: &mut W, writes: &mut Steps<L>) -> Result<(), WriteFault>
-    ensures kept { Keeps (W.contents writer.old) (W.contents writer.new) }
-    ensures once { writes.new ≡ writes.old + 1 }
+/// Flushes a writer, whose contents stay.
+pub(crate) fn flush<W: Write>(writer: &mut W) -> Result<(), WriteFault>
+    ensures { Keeps (W.contents writer.old) (W.contents writer.new) }
 {
-    writes.tick();
     writer.flush().map_err(|_| WriteFault::Failed)
 }
 
-/// Writes the pieces of a line and flushes, and counts both.
-pub fn write_line_counted<W: Write, L: Ledger>(
+/// The same, and counts it.
+pub fn flush_counted<W: Write, L: Ledger>(
     writer: &mut W,
-    pieces: &[&[u8]],
-    writes: &mut Steps<L>,
+    flushes: &mut Steps<L>,
 ) -> Result<(), WriteFault>
-    ensures text { Writes (W.contents writer.old) (W.contents writer.new) result (flat_map (λ piece. piece.now) pieces.now) }
-    ensures few { writes.new ≤ writes.old + length (flat_map (λ piece. piece.now) pieces.now) + 1 }
+    ensures kept { Keeps (W.contents writer.old) (W.contents writer.new) }
+    ensures once { flushes.new ≡ flushes.old + 1 }
 {
-    put_line(writer, pieces, writes)?;
-    flush(writer, writes)
+    flushes.tick();
+    flush(writer)
 }
 
 /// Opens a count, and writes a line.
@@ -119,13 +116,12 @@ fn write_line_opened<W: Write, L: Ledger>(
     blank: Blank,
     pieces: &[&[u8]],
 ) -> Result<(), WriteFault>
-    requires name { blank.name ≡ L.name }
-    requires parts { blank.parts ≡ L.parts }
-    requires some { 0 < blank.parts }
+    requires { (blank.name ≡ L.name) × (blank.parts ≡ L.parts) × (0 < blank.parts) }
     ensures { Writes (W.contents writer.old) (W.contents writer.new) result (flat_map (λ piece. piece.now) pieces.now) }
 {
     let mut writes = Steps::<L>::open(blank);
-    write_line_counted(writer, pieces, &mut writes)
+    put_line(writer, pieces, &mut writes)?;
+    flush(writer)
 }
 
 /// Writes the pieces of a line, and flushes. After a fault a prefix of them went out. Never allocates.

@@ -23,7 +23,7 @@ pub use several::write_report_by;
 pub use write::{write_counted, write_report};
 
 // For the crates above.
-pub use bytes::{flush, put, put_all, put_line, write_line, write_line_counted};
+pub use bytes::{flush_counted, put, put_all, put_line, write_line};
 pub use digits::{Lined, Spaced, put_values};
 pub use entries::{EntryFault, MOST_BYTES, read_entries, read_line};
 pub use names::{channel_name, process_name};

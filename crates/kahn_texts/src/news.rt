@@ -13,24 +13,6 @@ use std::io::Write;
 use std::marker::Brand;
 use std::sync::ledger::{Blank, Ledger};
 
-/// Writes the line of a stream with these new tokens, or nothing if there are none, and counts the writes.
-fn news_counted<W: Write, L: Ledger>(
-    writer: &mut W,
-    network: &Network,
-    line: Line,
-    tokens: &[Carried],
-    writes: &mut Steps<L>,
-) -> Result<(), WriteFault>
-    requires { IsLine network.now line }
-    ensures text { Writes (W.contents writer.old) (W.contents writer.new) result (more_text network.now line (map token_value tokens.now)) }
-    ensures few { writes.new ≤ writes.old + length (more_text network.now line (map token_value tokens.now)) }
-{
-    if tokens.is_empty() {
-        return Ok(());
-    }
-    put_tokens(writer, network, line, tokens, writes)
-}
-
 /// Opens a count, and writes what is new.
 fn news_opened<W: Write, L: Ledger>(
     writer: &mut W,
@@ -39,14 +21,15 @@ fn news_opened<W: Write, L: Ledger>(
     line: Line,
     tokens: &[Carried],
 ) -> Result<(), WriteFault>
-    requires name { blank.name ≡ L.name }
-    requires parts { blank.parts ≡ L.parts }
-    requires some { 0 < blank.parts }
+    requires blank { (blank.name ≡ L.name) × (blank.parts ≡ L.parts) × (0 < blank.parts) }
     requires line { IsLine network.now line }
     ensures { Writes (W.contents writer.old) (W.contents writer.new) result (more_text network.now line (map token_value tokens.now)) }
 {
+    if tokens.is_empty() {
+        return Ok(());
+    }
     let mut writes = Steps::<L>::open(blank);
-    news_counted(writer, network, line, tokens, &mut writes)
+    put_tokens(writer, network, line, tokens, &mut writes)
 }
 
 /// Writes what is new on a stream: a line with its heading, as in a report, and these values, or nothing if there are
@@ -63,8 +46,8 @@ pub fn write_news<W: Write>(
     news_opened::<W, Brand>(writer, Blank::new(1), network, line, tokens)
 }
 
-/// Writes the last lines of a report and flushes, and counts both.
-pub(crate) fn closing_counted<W: Write, L: Ledger>(
+/// Writes the last lines of a report.
+pub(crate) fn put_end_lines<W: Write, L: Ledger>(
     writer: &mut W,
     network: &Network,
     verdict: Verdict,
@@ -73,11 +56,10 @@ pub(crate) fn closing_counted<W: Write, L: Ledger>(
     writes: &mut Steps<L>,
 ) -> Result<(), WriteFault>
     ensures text { Writes (W.contents writer.old) (W.contents writer.new) result (closing_text network.now verdict ends.now events) }
-    ensures few { writes.new ≤ writes.old + length (closing_text network.now verdict ends.now events) + 1 }
+    ensures few { writes.new ≤ writes.old + length (closing_text network.now verdict ends.now events) }
 {
     put_ends(writer, network, ends, writes)?;
-    put_last(writer, verdict, events, writes)?;
-    flush(writer, writes)
+    put_last(writer, verdict, events, writes)
 }
 
 /// Opens a count, and writes the last lines of a report.
@@ -89,13 +71,12 @@ fn closing_opened<W: Write, L: Ledger>(
     ends: &[End],
     events: u64,
 ) -> Result<(), WriteFault>
-    requires name { blank.name ≡ L.name }
-    requires parts { blank.parts ≡ L.parts }
-    requires some { 0 < blank.parts }
+    requires { (blank.name ≡ L.name) × (blank.parts ≡ L.parts) × (0 < blank.parts) }
     ensures { Writes (W.contents writer.old) (W.contents writer.new) result (closing_text network.now verdict ends.now events) }
 {
     let mut writes = Steps::<L>::open(blank);
-    closing_counted(writer, network, verdict, ends, events, &mut writes)
+    put_end_lines(writer, network, verdict, ends, events, &mut writes)?;
+    flush(writer)
 }
 
 /// Writes the last lines of a report, those of the ends and of the verdict with the sum of the events, and flushes. After a

@@ -18,9 +18,7 @@ fn plain_opened<W: Write, L: Ledger>(
     blank: Blank,
     tokens: &[Carried],
 ) -> Result<(), WriteFault>
-    requires name { blank.name ≡ L.name }
-    requires parts { blank.parts ≡ L.parts }
-    requires some { 0 < blank.parts }
+    requires { (blank.name ≡ L.name) × (blank.parts ≡ L.parts) × (0 < blank.parts) }
     ensures { Writes (W.contents writer.old) (W.contents writer.new) result (plain_text (map token_value tokens.now)) }
 {
     let mut writes = Steps::<L>::open(blank);

@@ -74,9 +74,7 @@ fn read_opened<R: Read, L: Ledger>(
     blank: Blank,
     limit: usize,
 ) -> Result<String, ReadFault>
-    requires name { blank.name ≡ L.name }
-    requires parts { blank.parts ≡ L.parts }
-    requires some { 0 < blank.parts }
+    requires blank { (blank.name ≡ L.name) × (blank.parts ≡ L.parts) × (0 < blank.parts) }
     requires limit { limit < usize.MAX }
     ensures { IsTextRead (R.remaining reader.old) (R.remaining reader.new) limit result }
 {

@@ -2,15 +2,15 @@
 
 ghost use Rattle.std.specs.Prelude.{◌≡◌, ℕ, ◌+◌, ◌<◌, ◌≤◌, length, flat_map, All, IfOk, IfSome, slice_index_or};
 ghost use Rattle.kahn_streams.specs.Written.{Writes};
+ghost use Rattle.kahn_texts.specs.Flushes.{FlushesOnce};
 ghost use Rattle.kahn_texts.specs.Formats.{HasItsLines, IsLine, report_text, stream_text};
 ghost use denote.Param.Send.{IsSync};
 ghost use Rattle.kahn_texts.specs.inner.Pieces.{AreAllMadeTexts, AreMadeTexts, ArePieceTexts, IsMadeText, IsPiece, IsPieceText, piece_text};
 
 use crate::bytes::{WriteFault, put};
 use crate::made::{Made, placed, with_one};
-use crate::news::closing_counted;
 use crate::pieces::{Piece, part_size, pieces_of, put_piece, weight_of};
-use crate::write::{put_streams, write_report};
+use crate::write::{end_counted, put_streams, write_report};
 use kahn_streams::{Answer, Network, Steps, Stream};
 use std::alloc::{AllocError, Global};
 use std::io::Write;
@@ -43,9 +43,7 @@ fn text_opened<L: Ledger>(
     network: &Network,
     piece: Piece<'_>,
 ) -> Option<Vec<u8>>
-    requires name { blank.name ≡ L.name }
-    requires parts { blank.parts ≡ L.parts }
-    requires some { 0 < blank.parts }
+    requires blank { (blank.name ≡ L.name) × (blank.parts ≡ L.parts) × (0 < blank.parts) }
     requires piece { IsPiece network.now piece }
     ensures { IsPieceText network.now piece.entry result }
 {
@@ -274,7 +272,7 @@ fn put_streams_by<R: Threads + Sync, W: Write, L: Ledger>(
 }
 
 /// Writes the report text by `threads` threads and flushes, and counts both: at most one write for each byte, and one flush.
-fn several_counted<R: Threads + Sync, W: Write, L: Ledger>(
+fn several_counted<R: Threads + Sync, W: Write, L: Ledger, M: Ledger>(
     rt: &R,
     alloc: Global,
     writer: &mut W,
@@ -282,42 +280,46 @@ fn several_counted<R: Threads + Sync, W: Write, L: Ledger>(
     answer: &Answer,
     threads: usize,
     writes: &mut Steps<L>,
+    flushes: &mut Steps<M>,
 ) -> Result<(), WriteFault>
     requires lines { HasItsLines network.now answer.now }
     requires some { 0 < threads }
     ensures text { Writes (W.contents writer.old) (W.contents writer.new) result (report_text network.now answer.now) }
-    ensures few { writes.new ≤ writes.old + length (report_text network.now answer.now) + 1 }
+    ensures few { writes.new ≤ writes.old + length (report_text network.now answer.now) }
+    ensures once { FlushesOnce result flushes.old flushes.new }
 {
     put_streams_by(rt, alloc, writer, network, &answer.streams, threads, writes)?;
-    closing_counted(
-        writer,
-        network,
-        answer.verdict,
-        &answer.ends,
-        answer.events,
-        writes,
-    )
+    end_counted(writer, network, answer, writes, flushes)
 }
 
-/// Opens a count, and writes.
-fn several_opened<R: Threads + Sync, W: Write, L: Ledger>(
+/// Opens both counts, and writes.
+fn several_opened<R: Threads + Sync, W: Write, L: Ledger, M: Ledger>(
     rt: &R,
     alloc: Global,
     writer: &mut W,
-    blank: Blank,
+    first: Blank,
+    second: Blank,
     network: &Network,
     answer: &Answer,
     threads: usize,
 ) -> Result<(), WriteFault>
-    requires name { blank.name ≡ L.name }
-    requires parts { blank.parts ≡ L.parts }
-    requires some { 0 < blank.parts }
+    requires writes { (first.name ≡ L.name) × (first.parts ≡ L.parts) × (0 < first.parts) }
+    requires flushes { (second.name ≡ M.name) × (second.parts ≡ M.parts) × (0 < second.parts) }
     requires lines { HasItsLines network.now answer.now }
     requires threads { 0 < threads }
     ensures { Writes (W.contents writer.old) (W.contents writer.new) result (report_text network.now answer.now) }
 {
-    let mut writes = Steps::<L>::open(blank);
-    several_counted(rt, alloc, writer, network, answer, threads, &mut writes)
+    let (mut writes, mut flushes) = (Steps::<L>::open(first), Steps::<M>::open(second));
+    several_counted(
+        rt,
+        alloc,
+        writer,
+        network,
+        answer,
+        threads,
+        &mut writes,
+        &mut flushes,
+    )
 }
 
 /// Writes what `write_report` writes, by `threads` threads, at least one: they format the values, and the caller's thread,
@@ -335,7 +337,8 @@ pub fn write_report_by<R: Threads + Sync, W: Write>(
     requires some { 0 < threads }
     ensures { Writes (W.contents writer.old) (W.contents writer.new) result (report_text network.now answer.now) }
 {
-    several_opened::<R, W, Brand>(rt, alloc, writer, Blank::new(1), network, answer, threads)
+    let (first, second) = (Blank::new(1), Blank::new(1));
+    several_opened::<R, W, Brand, Brand>(rt, alloc, writer, first, second, network, answer, threads)
 }
 
 /// Returns how many threads write the report of a run by `workers` workers: no more than run side by side, and one if it is

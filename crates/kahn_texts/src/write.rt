@@ -2,12 +2,13 @@
 
 ghost use Rattle.std.specs.Prelude.{◌≡◌, ◌+◌, ◌<◌, ◌≤◌, length, flat_map, All};
 ghost use Rattle.kahn_streams.specs.Written.{Writes};
+ghost use Rattle.kahn_texts.specs.Flushes.{FlushesOnce, ending_text};
 ghost use Rattle.kahn_texts.specs.Formats.{report_text, line_head, tokens_text, stream_text, outcome_word, waited_name, end_words, end_text, ends_text, last_line, IsLine, HasItsLines};
 
-use crate::bytes::{WriteFault, put, put_all, put_line};
+use crate::bytes::{WriteFault, flush_counted, put, put_all, put_line};
 use crate::digits::{Spaced, put_values};
 use crate::names::{channel_name, process_name};
-use crate::news::closing_counted;
+use crate::news::put_end_lines;
 use itoa::Buffer;
 use kahn_streams::{Answer, Carried, End, Failure, Line, Network, Outcome, Steps, Stream, Verdict};
 use std::io::Write;
@@ -190,44 +191,63 @@ pub(crate) fn put_ends<W: Write, L: Ledger>(
     Ok(())
 }
 
-/// Writes the report text and flushes, and counts both: at most one write for each byte, and one flush. After a fault a prefix of it
-/// went out.
-pub fn write_counted<W: Write, L: Ledger>(
+/// Writes the last lines of the report of an answer and flushes, and counts both.
+pub(crate) fn end_counted<W: Write, L: Ledger, M: Ledger>(
     writer: &mut W,
     network: &Network,
     answer: &Answer,
     writes: &mut Steps<L>,
+    flushes: &mut Steps<M>,
 ) -> Result<(), WriteFault>
-    requires { HasItsLines network.now answer.now }
-    ensures text { Writes (W.contents writer.old) (W.contents writer.new) result (report_text network.now answer.now) }
-    ensures few { writes.new ≤ writes.old + length (report_text network.now answer.now) + 1 }
+    ensures text { Writes (W.contents writer.old) (W.contents writer.new) result (ending_text network.now answer.now) }
+    ensures few { writes.new ≤ writes.old + length (ending_text network.now answer.now) }
+    ensures once { FlushesOnce result flushes.old flushes.new }
 {
-    put_streams(writer, network, &answer.streams, writes)?;
-    closing_counted(
+    put_end_lines(
         writer,
         network,
         answer.verdict,
         &answer.ends,
         answer.events,
         writes,
-    )
+    )?;
+    flush_counted(writer, flushes)
 }
 
-/// Opens a count, and writes.
-fn write_opened<W: Write, L: Ledger>(
+/// Writes the report text and flushes, and counts both: at most one write for each byte, and one flush. After a fault a prefix of it
+/// went out.
+pub fn write_counted<W: Write, L: Ledger, M: Ledger>(
     writer: &mut W,
-    blank: Blank,
+    network: &Network,
+    answer: &Answer,
+    writes: &mut Steps<L>,
+    flushes: &mut Steps<M>,
+) -> Result<(), WriteFault>
+    requires { HasItsLines network.now answer.now }
+    ensures text { Writes (W.contents writer.old) (W.contents writer.new) result (report_text network.now answer.now) }
+    ensures few { writes.new ≤ writes.old + length (report_text network.now answer.now) }
+    ensures once { FlushesOnce result flushes.old flushes.new }
+{
+    put_streams(writer, network, &answer.streams, writes)?;
+    end_counted(writer, network, answer, writes, flushes)
+}
+
+/// Opens both counts, and writes.
+fn write_opened<W: Write, L: Ledger, M: Ledger>(
+    writer: &mut W,
+    first: Blank,
+    second: Blank,
     network: &Network,
     answer: &Answer,
 ) -> Result<(), WriteFault>
-    requires name { blank.name ≡ L.name }
-    requires parts { blank.parts ≡ L.parts }
-    requires some { 0 < blank.parts }
+    requires writes { (first.name ≡ L.name) × (first.parts ≡ L.parts) × (0 < first.parts) }
+    requires flushes { (second.name ≡ M.name) × (second.parts ≡ M.parts) × (0 < second.parts) }
     requires lines { HasItsLines network.now answer.now }
     ensures { Writes (W.contents writer.old) (W.contents writer.new) result (report_text network.now answer.now) }
 {
-    let mut writes = Steps::<L>::open(blank);
-    write_counted(writer, network, answer, &mut writes)
+    let mut writes = Steps::<L>::open(first);
+    let mut flushes = Steps::<M>::open(second);
+    write_counted(writer, network, answer, &mut writes, &mut flushes)
 }
 
 /// Writes the report text of an answer of a network, and flushes. After a fault a prefix of it went out.
@@ -239,5 +259,5 @@ pub fn write_report<W: Write>(
     requires { HasItsLines network.now answer.now }
     ensures { Writes (W.contents writer.old) (W.contents writer.new) result (report_text network.now answer.now) }
 {
-    write_opened::<W, Brand>(writer, Blank::new(1), network, answer)
+    write_opened::<W, Brand, Brand>(writer, Blank::new(1), Blank::new(1), network, answer)
 }

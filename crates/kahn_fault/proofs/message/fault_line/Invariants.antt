@@ -1,5 +1,8 @@
--- The count is opened on the blank's own ledger.
+-- The counts are opened on the blanks' own ledgers.
 use Rattle.kahn_fault.proofs.message.fault_line.Given as goal
 
-abbrev pub ghosts-line_opened : goal.ghosts-line_opened
-ghosts-line_opened g a = record { name = a.blank.name; parts = a.blank.parts }
+abbrev pub ghosts-line_opened-L-Ledger : goal.ghosts-line_opened-L-Ledger
+ghosts-line_opened-L-Ledger g a = record { name = a.first.name; parts = a.first.parts }
+
+abbrev pub ghosts-line_opened-M-Ledger : goal.ghosts-line_opened-M-Ledger
+ghosts-line_opened-M-Ledger g a = record { name = a.second.name; parts = a.second.parts }

@@ -1,13 +1,15 @@
-use Rattle.std.proofs.Common.{rules}
-use Rattle.kahn_fault.specs.Message.{fault_text}
-use Rattle.kahn_fault.proofs.Renamed.{told}
+use Rattle.kahn_texts.proofs.Flushes.{flushed_once, unflushed}
+use Rattle.kahn_texts.proofs.Writing.{fails, flushed}
 use Rattle.kahn_fault.proofs.message.line_counted.Goals as goal
 
-pub returns-in-Open : goal.returns-in-Open
-returns-in-Open g c = told _ _ _ _ _ _ (fault_text c.args.program.now c.args.fault.now) c.put_two.ensures (search rules)
+pub returns-in_err-put_fault-clause-line : goal.returns-in_err-put_fault-clause-line
+returns-in_err-put_fault-clause-line g c = (fails _ _ _ _ c.from_residual.ensures.0 c.in_err-put_fault.ensures.0, c.put_fault.ensures.1)
 
-pub returns-in-Program : goal.returns-in-Program
-returns-in-Program g c = told _ _ _ _ _ _ (fault_text c.args.program.now c.args.fault.now) c.put_read.ensures (search rules)
+pub returns-in_err-put_fault-clause-once : goal.returns-in_err-put_fault-clause-once
+returns-in_err-put_fault-clause-once g c = unflushed _ _ c.from_residual.ensures.0
 
-pub returns-in-InputText : goal.returns-in-InputText
-returns-in-InputText g c = told _ _ _ _ _ _ (fault_text c.args.program.now c.args.fault.now) c.put_read-in-InputText.ensures (search rules)
+pub returns-clause-line : goal.returns-clause-line
+returns-clause-line g c = (flushed _ _ _ _ _ c.in_ok-put_fault.ensures.0 c.flush_counted.ensures.kept, c.put_fault.ensures.1)
+
+pub returns-clause-once : goal.returns-clause-once
+returns-clause-once g c = flushed_once _ _ _ c.flush_counted.ensures.once

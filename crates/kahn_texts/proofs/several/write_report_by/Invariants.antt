@@ -1,5 +1,8 @@
--- The count is opened on the blank's own ledger.
+-- The counts are opened on the blanks' own ledgers.
 use Rattle.kahn_texts.proofs.several.write_report_by.Given as goal
 
-abbrev pub ghosts-several_opened : goal.ghosts-several_opened
-ghosts-several_opened g a = record { name = a.blank.name; parts = a.blank.parts }
+abbrev pub ghosts-several_opened-L-Ledger : goal.ghosts-several_opened-L-Ledger
+ghosts-several_opened-L-Ledger g a = record { name = a.first.name; parts = a.first.parts }
+
+abbrev pub ghosts-several_opened-M-Ledger : goal.ghosts-several_opened-M-Ledger
+ghosts-several_opened-M-Ledger g a = record { name = a.second.name; parts = a.second.parts }
