@@ -1,5 +1,5 @@
 -- What is wrong by the tables is what is wrong by the definition.
-use Rattle.kahn_check.proofs.Common.{first, ◌≡◌, ℕ, suc, Bool, true, false, cond, ◌&&◌, List, [], ◌∷◌, ◌++◌, length, Option, None, Some, refl, ap, sym, ◌∙◌, subst, bytes_eq, append_assoc, lookup, Span, Name, Kind, Role, Direction, Taking, Parameter, Argument, Instance, Program, Side, Inner, Input, Output, In, Out, bytes_of, CheckFault, NoWriter, NoReader, IsMet, wrong, most_instances, too_many, miscounted, overtaken, misplaced, argument_faults, arguments_faults, made_faults, instance_faults, missing, side_faults, sides_faults, declaration_faults, faults, entries, Global, IsChannel, IsProcess, declared_of, declared_channels, global, Handover, handed, handed_by, handed_from, same_direction, ends, writers, readers, IsWellWired, side_at, is_closed, Ends, held, taken, place_faults, places_faults, made_in, handed_all, seats_faults, side_in, sides_in, Table}
+use Rattle.kahn_check.proofs.Common.{arith, nat_tests, first, ◌≡◌, ℕ, suc, Bool, true, false, cond, ◌&&◌, List, [], ◌∷◌, ◌++◌, length, Option, None, Some, refl, ap, sym, ◌∙◌, subst, bytes_eq, append_assoc, lookup, Span, Name, Kind, Role, Direction, Taking, Parameter, Argument, Instance, Program, Side, Inner, Input, Output, In, Out, bytes_of, CheckFault, NoWriter, NoReader, IsMet, wrong, most_instances, too_many, miscounted, overtaken, misplaced, argument_faults, arguments_faults, made_faults, instance_faults, missing, side_faults, sides_faults, declaration_faults, faults, entries, Global, IsChannel, IsProcess, declared_of, declared_channels, global, Handover, handed, handed_by, handed_from, same_direction, ends, writers, readers, IsWellWired, side_at, is_closed, Ends, held, taken, place_faults, places_faults, made_in, handed_all, seats_faults, side_in, sides_in, Table}
 use Rattle.kahn_streams.specs.declared.tree.Taking.TheVariants as T
 use Rattle.kahn_streams.specs.declared.tree.Argument.TheVariants as A
 use Rattle.kahn_check.proofs.{Wired.well_wired, Placed.taken_append, Declared.met_first, Declared.met_after, Typed.both}
@@ -11,13 +11,7 @@ sides_more w r (x ∷ xs) ys = ap (λ z. side_in w r x.0 x.1.1 ++ z) (sides_more
 -- the table has the first of the ends
 pub first_taken : (d : Direction) (c : List ℕ) (hs : List Handover) → lookup (bytes_eq c) (taken d hs) ≡ first (ends d c hs)
 first_taken d c [] = refl
-first_taken d c (h ∷ hs) = by (same_direction d h.direction) (bytes_eq c h.channel) refl (first_taken d c hs)
-  where
-    by : (a b : Bool) → bytes_eq c h.channel ≡ b → lookup (bytes_eq c) (taken d hs) ≡ first (ends d c hs) →
-        lookup (bytes_eq c) (cond a ((h.channel, h.end) ∷ taken d hs) (taken d hs)) ≡ first (cond (a && b) (h.end ∷ ends d c hs) (ends d c hs))
-    by true true e i = ap (λ z. cond z (Some h.end) (lookup (bytes_eq c) (taken d hs))) e
-    by true false e i = ap (λ z. cond z (Some h.end) (lookup (bytes_eq c) (taken d hs))) e ∙ i
-    by false b e i = i
+first_taken d c (h ∷ hs) = grind (arith, nat_tests, first_taken d c hs)
 
 misplaced_first : (d : Direction) (k : Kind) (o : Option Global) (es : List Side) (at : Span) → misplaced d k o (held (first es)) at ≡ misplaced d k o es at
 misplaced_first d k o [] at = refl

@@ -7,12 +7,7 @@ use Rattle.kahn_check.proofs.Declared.{within, beyond, met_first, met_after}
 
 pub taken_append : (d : Direction) (xs ys : List Handover) → taken d (xs ++ ys) ≡ taken d xs ++ taken d ys
 taken_append d [] ys = refl
-taken_append d (x ∷ xs) ys = by (same_direction d x.direction) (taken_append d xs ys)
-  where
-    by : (b : Bool) → taken d (xs ++ ys) ≡ taken d xs ++ taken d ys →
-        cond b ((x.channel, x.end) ∷ taken d (xs ++ ys)) (taken d (xs ++ ys)) ≡ cond b ((x.channel, x.end) ∷ taken d xs) (taken d xs) ++ taken d ys
-    by true h = ap (λ r. (x.channel, x.end) ∷ r) h
-    by false h = h
+taken_append d (x ∷ xs) ys = grind (arith, nat_tests, taken_append d xs ys)
 
 pub taken_more : (d : Direction) (s : Ends) (i q : ℕ) (p : Parameter) (ps : List Parameter) (x : Argument) (xs : List Argument) →
     (s ++ taken d (handed (side_at i q) p.taking x)) ++ taken d (handed_in i (q + 1) ps xs) ≡ s ++ taken d (handed_in i q (p ∷ ps) (x ∷ xs))
