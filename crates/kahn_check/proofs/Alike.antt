@@ -28,11 +28,12 @@ alike_kept {X} g x w y = by (lookup (bytes_eq x) g) refl
     by None e = refl
     by (Some b) e = sym (lookup_append (bytes_eq y) g ((x, w) ∷ []) ∙ other b e (bytes_eq y x) refl)
 
-pub alike_then : {X : Type 0} (a b c : List (List ℕ × X)) → StandAlike a b → StandAlike b c → StandAlike a c
-alike_then a b c h i x = h x ∙ i x
-
 pub alike_is : {X : Type 0} (a b c : List (List ℕ × X)) → StandAlike a b → b ≡ c → StandAlike a c
 alike_is a b c h i = subst (StandAlike a) i h
+
+-- with the same entries after tables that are alike
+pub alike_on : {X : Type 0} (a b c all z : List (List ℕ × X)) → StandAlike a b → b ++ c ≡ all → StandAlike all z → StandAlike (a ++ c) z
+alike_on a b c all z h e i x = alike_more a b c h x ∙ ap (lookup (bytes_eq x)) e ∙ i x
 
 -- ---- numbers of channels
 
@@ -138,9 +139,7 @@ got_alike d s (h ∷ hs) = by (same_direction d h.direction) (got_alike d (kept_
         StandAlike (cond b (got_first d (kept_first s h.channel h.end) hs) (got_first d s hs)) (s ++ cond b ((h.channel, h.end) ∷ taken d hs) (taken d hs))
     by true more same =
         let e = (h.channel, h.end) ∷ [] in
-        alike_then (got_first d (kept_first s h.channel h.end) hs) (kept_first s h.channel h.end ++ taken d hs) (s ++ (h.channel, h.end) ∷ taken d hs) more
-        (alike_is (kept_first s h.channel h.end ++ taken d hs) ((s ++ e) ++ taken d hs) (s ++ (h.channel, h.end) ∷ taken d hs)
-        (alike_more (kept_first s h.channel h.end) (s ++ e) (taken d hs) (alike_kept s h.channel h.end)) (append_assoc s e (taken d hs)))
+        λ x. more x ∙ alike_more (kept_first s h.channel h.end) (s ++ e) (taken d hs) (alike_kept s h.channel h.end) x ∙ ap (lookup (bytes_eq x)) (append_assoc s e (taken d hs))
     by false more same = same
 
 pub got_kept : (w r w' r' : Ends) (hs : List Handover) → w' ≡ got_first Out w hs → r' ≡ got_first In r hs → HaveKept hs w r w' r'

@@ -11,6 +11,7 @@ pub use Rattle.kahn_streams.specs.View.{body_of, bytes_of, else_of, expr_of, exp
 pub use Rattle.kahn_streams.specs.Wires.{Line, channel_line, first, lines_of, process_at, shown, the_process}
 pub use Rattle.kahn_streams.specs.Wiring.{Agrees, AllFit, Fits, Global, Handover, HasKind, IsChannel, IsMade, IsOne, IsProcess, IsSound, IsTaken, IsWellWired, IsWired, Locals, declared_channels, declared_of, ends, entries, gives, global, handed, handed_by, handed_from, handed_in, is_closed, locals_of, parameters_of, processes_of, readers, same_direction, scope_of, side_at, takes, writers}
 pub use Rattle.std.proofs.Common.{Bool, Err, IfSome, IsSome, List, MatchResult, None, Ok, Option, Result, Some, String, [], ap, append_assoc, arith, bytes_eq, cond, drop, eqb-true, false, inl, inr, is_some, length, length-append, map, nat_cmp, nat_eq, nat_lt, refl, rules, string_bytes, subst, suc, sym, true, true≢false, zero, ℕ, ◌&&◌, ◌++◌, ◌+◌, ◌<◌, ◌==◌, ◌∙◌, ◌∷◌, ◌≡◌, ◌≤◌, ◌⊎◌}
+pub use Rattle.std.proofs.lemmas.Bool.Decides.{nat_tests}
 pub use Rattle.std.proofs.lemmas.Grind.{common_steps}
 pub use Rattle.std.proofs.lemmas.List.{append-nil, length-map, map-append}
 pub use Rattle.std.proofs.lemmas.Result.{IfOk-weaker}

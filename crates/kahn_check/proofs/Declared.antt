@@ -1,23 +1,15 @@
 -- The declarations in turn.
-use Rattle.kahn_check.proofs.Common.{◌≡◌, ℕ, suc, ◌+◌, ◌≤◌, ◌<◌, Bool, true, false, cond, List, [], ◌∷◌, ◌++◌, Option, None, Some, IsSome, Err, refl, ap, sym, ◌∙◌, subst, bytes_eq, append_assoc, arith, nat_lt, length, inl, inr, lookup, Name, Kind, Role, Process, Declaration, bytes_of, CheckFault, DeclaredTwice, TooMany, verdict, IsMet, most_channels, repeated, channel_faults, process_faults, declaration_faults, entries, declared_of, IsChannel, IsProcess, Table, as_channels, map-append, Vec}
+use Rattle.kahn_check.proofs.Common.{nat_tests, ◌≡◌, ℕ, suc, ◌+◌, ◌≤◌, ◌<◌, Bool, true, false, cond, List, [], ◌∷◌, ◌++◌, Option, None, Some, IsSome, Err, refl, ap, sym, ◌∙◌, subst, bytes_eq, append_assoc, arith, nat_lt, length, inl, inr, lookup, Name, Kind, Role, Process, Declaration, bytes_of, CheckFault, DeclaredTwice, TooMany, verdict, IsMet, most_channels, repeated, channel_faults, process_faults, declaration_faults, entries, declared_of, IsChannel, IsProcess, Table, as_channels, map-append, Vec}
 use Rattle.kahn_streams.specs.Wiring
 use Rattle.kahn_check.proofs.Walk.{verdict_err}
 use Rattle.kahn_streams.specs.declared.tree.Declaration.TheVariants as D
 use Rattle.std.specs.declared.alloc.Global.{Global}
 
 pub within : (n limit : ℕ) → n < limit → nat_lt n limit ≡ true
-within n limit h = by (nat_lt n limit) refl
-  where
-    by : (b : Bool) → nat_lt n limit ≡ b → b ≡ true
-    by true e = refl
-    by false e = absurd (grind (arith, e, h))
+within n limit h = grind (arith, nat_tests)
 
 pub beyond : (n limit : ℕ) → limit ≤ n → nat_lt n limit ≡ false
-beyond n limit h = by (nat_lt n limit) refl
-  where
-    by : (b : Bool) → nat_lt n limit ≡ b → b ≡ false
-    by true e = absurd (grind (arith, e, h))
-    by false e = refl
+beyond n limit h = grind (arith, nat_tests)
 
 pub channel_new : (g : Table) (n : ℕ) (kind : Kind) (role : Role) (x : Name) (xs : List Name) → n < most_channels → lookup (bytes_eq (bytes_of x)) g ≡ None →
     channel_faults g n kind role (x ∷ xs) ≡ channel_faults (g ++ (bytes_of x, IsChannel kind role) ∷ []) (n + 1) kind role xs

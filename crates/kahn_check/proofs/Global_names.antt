@@ -1,5 +1,5 @@
 -- What the names of a program stand for.
-use Rattle.kahn_check.proofs.Common.{◌≡◌, ◌⊎◌, inl, inr, Result, Ok, Err, MatchResult, ℕ, Bool, true, false, cond, List, [], ◌∷◌, ◌++◌, map, Option, None, Some, IsSome, IfSome, refl, sym, ap, subst, ◌∙◌, bytes_eq, zero, suc, drop, map-append, lookup, AllByRecursion, Process, Declaration, Span, CheckFault, NoMemory, DeclaredTwice, the_process, process_at, Global, global_of, option_global, IsPlaced, kept_first, kept_as}
+use Rattle.kahn_check.proofs.Common.{arith, nat_tests, ◌≡◌, ◌⊎◌, inl, inr, Result, Ok, Err, MatchResult, ℕ, Bool, true, false, cond, List, [], ◌∷◌, ◌++◌, map, Option, None, Some, IsSome, IfSome, refl, sym, ap, subst, ◌∙◌, bytes_eq, zero, suc, drop, map-append, lookup, AllByRecursion, Process, Declaration, Span, CheckFault, NoMemory, DeclaredTwice, the_process, process_at, Global, global_of, option_global, IsPlaced, kept_first, kept_as}
 use Rattle.kahn_streams.specs.declared.tree.Declaration.TheVariants as D
 use Rattle.kahn_check.specs.declared.globals.Entry.{Entry}
 
@@ -8,11 +8,7 @@ shown es = map (λ e. (e.0, global_of e.1)) es
 
 pub find_global : (x : List ℕ) (es : List (List ℕ × Entry)) → option_global (lookup (bytes_eq x) es) ≡ lookup (bytes_eq x) (shown es)
 find_global x [] = refl
-find_global x (e ∷ es) = by (bytes_eq x e.0) (find_global x es)
-  where
-    by : (b : Bool) → option_global (lookup (bytes_eq x) es) ≡ lookup (bytes_eq x) (shown es) → option_global (cond b (Some e.1) (lookup (bytes_eq x) es)) ≡ cond b (Some (global_of e.1)) (lookup (bytes_eq x) (shown es))
-    by true h = refl
-    by false h = h
+find_global x (e ∷ es) = grind (arith, nat_tests, find_global x es)
 
 find_none : (x : List ℕ) (es : List (List ℕ × Entry)) → lookup (bytes_eq x) es ≡ None → lookup (bytes_eq x) (shown es) ≡ None
 find_none x es h = sym (find_global x es) ∙ (λ i. option_global (h i))
@@ -38,11 +34,7 @@ declared_global (Err f) old new x w at (inr h) = inr (h.0, find_some x old h.1)
 
 pub placed_found : (ds : List Declaration) (x : List ℕ) (es : List (List ℕ × Entry)) → AllByRecursion (λ e. IsPlaced ds e.1) es → IfSome (lookup (bytes_eq x) es) (IsPlaced ds)
 placed_found ds x [] h = tt
-placed_found ds x (e ∷ es) h = by (bytes_eq x e.0) (placed_found ds x es h.1)
-  where
-    by : (b : Bool) → IfSome (lookup (bytes_eq x) es) (IsPlaced ds) → IfSome (cond b (Some e.1) (lookup (bytes_eq x) es)) (IsPlaced ds)
-    by true i = h.0
-    by false i = i
+placed_found ds x (e ∷ es) h = grind (arith, nat_tests, placed_found ds x es h.1, h.0)
 
 pub placed_more : (ds : List Declaration) (es : List (List ℕ × Entry)) (x : List ℕ) (w : Entry) → AllByRecursion (λ e. IsPlaced ds e.1) es → IsPlaced ds w →
     AllByRecursion (λ e. IsPlaced ds e.1) (es ++ (x, w) ∷ [])

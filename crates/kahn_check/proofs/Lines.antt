@@ -2,7 +2,7 @@
 use Rattle.kahn_check.proofs.Common.{◌≡◌, ℕ, Bool, true, false, cond, ◌&&◌, List, [], ◌∷◌, ◌++◌, map, Some, refl, ap, sym, ◌∙◌, subst, append_assoc, bytes_eq, lookup, Vec, map-append, Name, Kind, Role, Direction, Declaration, Program, In, Out, bytes_of, CheckFault, IsMet, Ends, taken, handed_all, side_in, sides_in, as_lines, line_in, lines_in, Line, first, channel_line, lines_of, Handover, same_direction, ends, handed_from, declared_channels, Table}
 use Rattle.std.specs.declared.alloc.Global.{Global}
 use Rattle.kahn_streams.specs.declared.tree.Declaration.TheVariants as D
-use Rattle.kahn_check.proofs.{Declared.met_first, Linked.sides_more, Linked.handed_same, Linked.table}
+use Rattle.kahn_check.proofs.{Declared.met_first, Linked.all_handed, Linked.first_taken, Linked.sides_more, Linked.handed_same, Linked.table}
 
 pub lines_step : (w r : Ends) (kind : Kind) (role : Role) (x : Name) (xs : List Name) → side_in w r x role ≡ [] →
     sides_in w r (as_lines kind role (x ∷ xs)) ≡ sides_in w r (as_lines kind role xs)
@@ -31,19 +31,6 @@ all_more w r kind role names rest known =
     ∙ ap (λ z. known ++ z) (sym (map-append (line_in w r) (as_lines kind role names.items) (declared_channels rest)))
 
 -- ---- the tables have the first writer and the first reader
-
-first_taken : (d : Direction) (c : List ℕ) (hs : List Handover) → lookup (bytes_eq c) (taken d hs) ≡ first (ends d c hs)
-first_taken d c [] = refl
-first_taken d c (h ∷ hs) = by (same_direction d h.direction) (bytes_eq c h.channel) refl (first_taken d c hs)
-  where
-    by : (a b : Bool) → bytes_eq c h.channel ≡ b → lookup (bytes_eq c) (taken d hs) ≡ first (ends d c hs) →
-        lookup (bytes_eq c) (cond a ((h.channel, h.end) ∷ taken d hs) (taken d hs)) ≡ first (cond (a && b) (h.end ∷ ends d c hs) (ends d c hs))
-    by true true e i = ap (λ z. cond z (Some h.end) (lookup (bytes_eq c) (taken d hs))) e
-    by true false e i = ap (λ z. cond z (Some h.end) (lookup (bytes_eq c) (taken d hs))) e ∙ i
-    by false b e i = i
-
-abbrev all_handed : Program → List Handover
-all_handed t = handed_from t 0 t.instances.items
 
 pub lines_same : (t : Program) (cs : List (Name × (Kind × Role))) → lines_in (taken Out (all_handed t)) (taken In (all_handed t)) cs ≡ map (channel_line t) cs
 lines_same t [] = refl

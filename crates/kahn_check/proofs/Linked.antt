@@ -1,5 +1,5 @@
 -- What is wrong by the tables is what is wrong by the definition.
-use Rattle.kahn_check.proofs.Common.{◌≡◌, ℕ, suc, Bool, true, false, cond, ◌&&◌, List, [], ◌∷◌, ◌++◌, length, Option, None, Some, refl, ap, sym, ◌∙◌, subst, bytes_eq, append_assoc, lookup, Span, Name, Kind, Role, Direction, Taking, Parameter, Argument, Instance, Program, Side, Inner, Input, Output, In, Out, bytes_of, CheckFault, NoWriter, NoReader, IsMet, wrong, most_instances, too_many, miscounted, overtaken, misplaced, argument_faults, arguments_faults, made_faults, instance_faults, missing, side_faults, sides_faults, declaration_faults, faults, entries, Global, IsChannel, IsProcess, declared_of, declared_channels, global, Handover, handed, handed_by, handed_from, same_direction, ends, writers, readers, IsWellWired, side_at, is_closed, Ends, held, taken, place_faults, places_faults, made_in, handed_all, seats_faults, side_in, sides_in, Table}
+use Rattle.kahn_check.proofs.Common.{arith, nat_tests, first, ◌≡◌, ℕ, suc, Bool, true, false, cond, ◌&&◌, List, [], ◌∷◌, ◌++◌, length, Option, None, Some, refl, ap, sym, ◌∙◌, subst, bytes_eq, append_assoc, lookup, Span, Name, Kind, Role, Direction, Taking, Parameter, Argument, Instance, Program, Side, Inner, Input, Output, In, Out, bytes_of, CheckFault, NoWriter, NoReader, IsMet, wrong, most_instances, too_many, miscounted, overtaken, misplaced, argument_faults, arguments_faults, made_faults, instance_faults, missing, side_faults, sides_faults, declaration_faults, faults, entries, Global, IsChannel, IsProcess, declared_of, declared_channels, global, Handover, handed, handed_by, handed_from, same_direction, ends, writers, readers, IsWellWired, side_at, is_closed, Ends, held, taken, place_faults, places_faults, made_in, handed_all, seats_faults, side_in, sides_in, Table}
 use Rattle.kahn_streams.specs.declared.tree.Taking.TheVariants as T
 use Rattle.kahn_streams.specs.declared.tree.Argument.TheVariants as A
 use Rattle.kahn_check.proofs.{Wired.well_wired, Placed.taken_append, Declared.met_first, Declared.met_after, Typed.both}
@@ -9,21 +9,11 @@ sides_more w r [] ys = refl
 sides_more w r (x ∷ xs) ys = ap (λ z. side_in w r x.0 x.1.1 ++ z) (sides_more w r xs ys) ∙ sym (append_assoc (side_in w r x.0 x.1.1) (sides_in w r xs) (sides_in w r ys))
 
 -- the table has the first of the ends
-abbrev first : List Side → List Side
-first [] = []
-first (e ∷ es) = e ∷ []
+pub first_taken : (d : Direction) (c : List ℕ) (hs : List Handover) → lookup (bytes_eq c) (taken d hs) ≡ first (ends d c hs)
+first_taken d c [] = refl
+first_taken d c (h ∷ hs) = grind (arith, nat_tests, first_taken d c hs)
 
-headed : (d : Direction) (c : List ℕ) (hs : List Handover) → held (lookup (bytes_eq c) (taken d hs)) ≡ first (ends d c hs)
-headed d c [] = refl
-headed d c (h ∷ hs) = by (same_direction d h.direction) (bytes_eq c h.channel) refl (headed d c hs)
-  where
-    by : (a b : Bool) → bytes_eq c h.channel ≡ b → held (lookup (bytes_eq c) (taken d hs)) ≡ first (ends d c hs) →
-        held (lookup (bytes_eq c) (cond a ((h.channel, h.end) ∷ taken d hs) (taken d hs))) ≡ first (cond (a && b) (h.end ∷ ends d c hs) (ends d c hs))
-    by true true e i = ap (λ z. held (cond z (Some h.end) (lookup (bytes_eq c) (taken d hs)))) e
-    by true false e i = ap (λ z. held (cond z (Some h.end) (lookup (bytes_eq c) (taken d hs)))) e ∙ i
-    by false b e i = i
-
-misplaced_first : (d : Direction) (k : Kind) (o : Option Global) (es : List Side) (at : Span) → misplaced d k o (first es) at ≡ misplaced d k o es at
+misplaced_first : (d : Direction) (k : Kind) (o : Option Global) (es : List Side) (at : Span) → misplaced d k o (held (first es)) at ≡ misplaced d k o es at
 misplaced_first d k o [] at = refl
 misplaced_first d k None (e ∷ es) at = refl
 misplaced_first d k (Some (IsProcess p)) (e ∷ es) at = refl
@@ -33,7 +23,7 @@ misplaced_first d k (Some (IsChannel kind role)) (e ∷ es) at = ap (λ z. wrong
     by true = refl
     by false = refl
 
-missing_first : (es : List Side) (f : CheckFault) → missing (first es) f ≡ missing es f
+missing_first : (es : List Side) (f : CheckFault) → missing (held (first es)) f ≡ missing es f
 missing_first [] f = refl
 missing_first (e ∷ es) f = refl
 
@@ -41,8 +31,8 @@ abbrev pub table : Program → Table
 table t = entries (declared_of t.declarations.items)
 
 link_argument : (t : Program) (before : List Handover) (w : Taking) (x : Argument) → place_faults (table t) (taken Out before) (taken In before) w x ≡ argument_faults t before w x
-link_argument t before (T.Channel Out k) (A.Channel n) = ap (λ z. misplaced Out k (global t n) z n.span) (headed Out (bytes_of n) before) ∙ misplaced_first Out k (global t n) (ends Out (bytes_of n) before) n.span
-link_argument t before (T.Channel In k) (A.Channel n) = ap (λ z. misplaced In k (global t n) z n.span) (headed In (bytes_of n) before) ∙ misplaced_first In k (global t n) (ends In (bytes_of n) before) n.span
+link_argument t before (T.Channel Out k) (A.Channel n) = ap (λ z. misplaced Out k (global t n) z n.span) (ap held (first_taken Out (bytes_of n) before)) ∙ misplaced_first Out k (global t n) (ends Out (bytes_of n) before) n.span
+link_argument t before (T.Channel In k) (A.Channel n) = ap (λ z. misplaced In k (global t n) z n.span) (ap held (first_taken In (bytes_of n) before)) ∙ misplaced_first In k (global t n) (ends In (bytes_of n) before) n.span
 link_argument t before (T.Channel d k) (A.Number z at) = refl
 link_argument t before (T.Channel d k) (A.Logical b at) = refl
 link_argument t before (T.Value k) (A.Channel n) = refl
@@ -79,13 +69,13 @@ link_handed : (t : Program) (i : ℕ) (xs : List Instance) → handed_all (table
 link_handed t i [] = refl
 link_handed t i (x ∷ xs) = ap (λ z. handed_by t i x ++ z) (link_handed t (suc i) xs)
 
-abbrev all_handed : Program → List Handover
+abbrev pub all_handed : Program → List Handover
 all_handed t = handed_from t 0 t.instances.items
 
 pub link_side : (t : Program) (n : Name) (role : Role) → side_in (taken Out (all_handed t)) (taken In (all_handed t)) n role ≡ side_faults t n role
 link_side t n role =
-    let w = headed Out (bytes_of n) (all_handed t) in
-    let r = headed In (bytes_of n) (all_handed t) in
+    let w = ap held (first_taken Out (bytes_of n) (all_handed t)) in
+    let r = ap held (first_taken In (bytes_of n) (all_handed t)) in
     let no_writer = ap (λ z. missing z (NoWriter n.span)) w ∙ missing_first (writers t (bytes_of n)) (NoWriter n.span) in
     let no_reader = ap (λ z. missing z (NoReader n.span)) r ∙ missing_first (readers t (bytes_of n)) (NoReader n.span) in
     by role no_writer no_reader

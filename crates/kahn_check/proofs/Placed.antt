@@ -1,5 +1,5 @@
 -- Arguments and instances in turn, by tables.
-use Rattle.kahn_check.proofs.Common.{◌≡◌, ℕ, suc, ◌+◌, ◌≤◌, ◌<◌, Bool, true, false, cond, inr, List, [], ◌∷◌, ◌++◌, map, length, Option, None, Some, refl, ap, sym, ◌∙◌, subst, append_assoc, arith, nat_eq, Kind, Role, Direction, Process, Parameter, Argument, Instance, Declaration, In, Out, bytes_of, CheckFault, TooMany, Unknown, WrongCount, verdict, IsMet, most_instances, miscounted, Global, IsChannel, IsProcess, Handover, handed, handed_in, parameters_of, same_direction, side_at, Ends, taken, place_faults, places_faults, made_in, meant, handed_to, handed_all, seats_faults, Table, process_at, known, IsTable, map-append}
+use Rattle.kahn_check.proofs.Common.{nat_tests, ◌≡◌, ℕ, suc, ◌+◌, ◌≤◌, ◌<◌, Bool, true, false, cond, inr, List, [], ◌∷◌, ◌++◌, map, length, Option, None, Some, refl, ap, sym, ◌∙◌, subst, append_assoc, arith, nat_eq, Kind, Role, Direction, Process, Parameter, Argument, Instance, Declaration, In, Out, bytes_of, CheckFault, TooMany, Unknown, WrongCount, verdict, IsMet, most_instances, miscounted, Global, IsChannel, IsProcess, Handover, handed, handed_in, parameters_of, same_direction, side_at, Ends, taken, place_faults, places_faults, made_in, meant, handed_to, handed_all, seats_faults, Table, process_at, known, IsTable, map-append}
 use Rattle.kahn_streams.proofs.By_number.{the_process}
 use Rattle.kahn_streams.specs.Network.{process_of}
 use Rattle.kahn_check.specs.declared.globals.Globals.{Globals}
@@ -7,12 +7,7 @@ use Rattle.kahn_check.proofs.Declared.{within, beyond, met_first, met_after}
 
 pub taken_append : (d : Direction) (xs ys : List Handover) → taken d (xs ++ ys) ≡ taken d xs ++ taken d ys
 taken_append d [] ys = refl
-taken_append d (x ∷ xs) ys = by (same_direction d x.direction) (taken_append d xs ys)
-  where
-    by : (b : Bool) → taken d (xs ++ ys) ≡ taken d xs ++ taken d ys →
-        cond b ((x.channel, x.end) ∷ taken d (xs ++ ys)) (taken d (xs ++ ys)) ≡ cond b ((x.channel, x.end) ∷ taken d xs) (taken d xs) ++ taken d ys
-    by true h = ap (λ r. (x.channel, x.end) ∷ r) h
-    by false h = h
+taken_append d (x ∷ xs) ys = grind (arith, nat_tests, taken_append d xs ys)
 
 pub taken_more : (d : Direction) (s : Ends) (i q : ℕ) (p : Parameter) (ps : List Parameter) (x : Argument) (xs : List Argument) →
     (s ++ taken d (handed (side_at i q) p.taking x)) ++ taken d (handed_in i (q + 1) ps xs) ≡ s ++ taken d (handed_in i q (p ∷ ps) (x ∷ xs))
@@ -36,18 +31,10 @@ places_met g w r i q p ps x xs f h = met_first (place_faults g w r p.taking x) _
 -- ---- instances
 
 alike : (n m : ℕ) → n ≡ m → nat_eq n m ≡ true
-alike n m h = by (nat_eq n m) refl
-  where
-    by : (b : Bool) → nat_eq n m ≡ b → b ≡ true
-    by true e = refl
-    by false e = absurd (grind (arith, e, h))
+alike n m h = grind (arith, nat_tests)
 
 unlike : (n m : ℕ) → (n ≡ m → ⊥) → nat_eq n m ≡ false
-unlike n m h = by (nat_eq n m) refl
-  where
-    by : (b : Bool) → nat_eq n m ≡ b → b ≡ false
-    by true e = absurd (h (grind (arith, e)))
-    by false e = refl
+unlike n m h = grind (arith, nat_tests)
 
 seat_opened : (g : Table) (w r : Ends) (i : ℕ) (x : Instance) (xs : List Instance) → i < most_instances → (o : Option Global) → meant g x ≡ o →
     seats_faults g w r i (x ∷ xs) ≡ made_in g w r i o x ++ seats_faults g (w ++ taken Out (handed_in i 0 (parameters_of o) x.arguments.items)) (r ++ taken In (handed_in i 0 (parameters_of o) x.arguments.items)) (suc i) xs

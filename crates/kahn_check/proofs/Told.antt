@@ -3,8 +3,8 @@ use Rattle.kahn_check.proofs.Common.{◌≡◌, inl, inr, ℕ, suc, ◌+◌, ◌
 use Rattle.std.specs.{Result.result_err, declared.alloc.Global.Global}
 use Rattle.kahn_streams.specs.declared.tree.Declaration.TheVariants as D
 use Rattle.kahn_streams.specs.Wiring
-use Rattle.kahn_check.proofs.Alike.{alike_more, alike_kept, alike_then, alike_is, same_names, same_declarations, same_places, same_seats, same_sides}
-use Rattle.kahn_check.proofs.{Declared.more_channels, Declared.more_declared, Declared.more_process, Linked.table, Linked.link_made, Linked.link_side, Linked.handed_same, Parts.firsts_append, Placed.taken_append, Placed.taken_more}
+use Rattle.kahn_check.proofs.Alike.{alike_more, alike_on, alike_kept, alike_is, same_names, same_declarations, same_places, same_seats, same_sides}
+use Rattle.kahn_check.proofs.{Declared.more_channels, Declared.more_declared, Declared.more_process, Linked.all_handed, Linked.table, Linked.link_made, Linked.link_side, Linked.handed_same, Parts.firsts_append, Placed.taken_append, Placed.taken_more}
 
 pub alone : (fs : List CheckFault) → fault_alone (first_fault fs) ≡ first_alone fs
 alone [] = refl
@@ -61,10 +61,7 @@ names_step kind role x xs g g' n n' fs fs' found all g0 n0 fs0 h is more grown l
           ap (λ z. fs' ++ firsts z) (same_names g' (g ++ e) n' (suc n) kind role xs alike many)
           ∙ one_told fs fs' (name_faults g n x) (channel_parts (g ++ e) (suc n) kind role xs) found is more
           ∙ h.told;
-      alike =
-          alike_then (g' ++ entries (as_channels kind role xs)) (g ++ entries (as_channels kind role (x ∷ xs))) (g0 ++ entries (as_channels kind role all))
-          (alike_is (g' ++ entries (as_channels kind role xs)) ((g ++ e) ++ entries (as_channels kind role xs)) (g ++ entries (as_channels kind role (x ∷ xs)))
-          (alike_more g' (g ++ e) (entries (as_channels kind role xs)) alike) (more_channels g kind role x xs)) h.alike;
+      alike = alike_on g' (g ++ e) (entries (as_channels kind role xs)) _ (g0 ++ entries (as_channels kind role all)) alike (more_channels g kind role x xs) h.alike;
     }
 
 number_end : (n m : ℕ) → AreAsMany (n + 0) m → AreAsMany n m
@@ -93,9 +90,7 @@ channels_told kind role names g g' n n' fs fs' h =
           (λ j. h.told j ++ firsts (same_declarations g' (g ++ e) n' (n + length names.items) rest h.alike h.number j))
           ∙ append_assoc fs (firsts mine) (firsts (declaration_parts (g ++ e) (n + length names.items) rest))
           ∙ ap (λ z. fs ++ z) (sym (firsts_append mine (declaration_parts (g ++ e) (n + length names.items) rest)));
-      alike = λ rest.
-          alike_is (g' ++ entries (declared_of rest)) ((g ++ e) ++ entries (declared_of rest)) (g ++ entries (declared_of (D.Channels kind role names ∷ rest)))
-          (alike_more g' (g ++ e) (entries (declared_of rest)) h.alike) (more_declared g kind role names rest);
+      alike = λ rest x. alike_more g' (g ++ e) (entries (declared_of rest)) h.alike x ∙ ap (lookup (bytes_eq x)) (more_declared g kind role names rest);
     }
 
 pub process_told : (p : Process) (g g' : Table) (n : ℕ) (fs fs' fs2 : List CheckFault) (found : Option CheckFault) → n ≤ most_channels → found ≡ first_fault (repeated (lookup (bytes_eq (bytes_of p.name)) g) p.name.span) →
@@ -109,9 +104,7 @@ process_told p g g' n fs fs' fs2 found le is more body grown =
           (λ j. body j ++ firsts (same_declarations g' (g ++ e) n n rest alike (inl refl) j))
           ∙ append_assoc fs' (first_alone (process_faults p)) (firsts (declaration_parts (g ++ e) n rest))
           ∙ one_told fs fs' (repeated (lookup (bytes_eq (bytes_of p.name)) g) p.name.span) (process_faults p ∷ declaration_parts (g ++ e) n rest) found is more;
-      alike = λ rest.
-          alike_is (g' ++ entries (declared_of rest)) ((g ++ e) ++ entries (declared_of rest)) (g ++ entries (declared_of (D.Process p ∷ rest)))
-          (alike_more g' (g ++ e) (entries (declared_of rest)) alike) (more_process g p rest);
+      alike = λ rest x. alike_more g' (g ++ e) (entries (declared_of rest)) alike x ∙ ap (lookup (bytes_eq x)) (more_process g p rest);
     }
 
 -- a body whose first fault was found, or none
@@ -147,12 +140,8 @@ arguments_step g i q p ps x xs w r w' r' found found' ps0 xs0 w0 r0 found0 h is 
           ∙ ap (λ m. first_then (first_then found (place_faults g w r p.taking x)) (places_faults g (w ++ out) (r ++ ins) i m ps xs)) step
           ∙ then_first found (place_faults g w r p.taking x) (places_faults g (w ++ out) (r ++ ins) i (suc q) ps xs)
           ∙ h.same;
-      writes = alike_then (w' ++ taken Out (handed_in i (q + 1) ps xs)) (w ++ taken Out (handed_in i q (p ∷ ps) (x ∷ xs))) (w0 ++ taken Out (handed_in i 0 ps0 xs0))
-          (alike_is (w' ++ taken Out (handed_in i (q + 1) ps xs)) ((w ++ out) ++ taken Out (handed_in i (q + 1) ps xs)) (w ++ taken Out (handed_in i q (p ∷ ps) (x ∷ xs)))
-          (alike_more w' (w ++ out) (taken Out (handed_in i (q + 1) ps xs)) grown.0) (taken_more Out w i q p ps x xs)) h.writes;
-      reads = alike_then (r' ++ taken In (handed_in i (q + 1) ps xs)) (r ++ taken In (handed_in i q (p ∷ ps) (x ∷ xs))) (r0 ++ taken In (handed_in i 0 ps0 xs0))
-          (alike_is (r' ++ taken In (handed_in i (q + 1) ps xs)) ((r ++ ins) ++ taken In (handed_in i (q + 1) ps xs)) (r ++ taken In (handed_in i q (p ∷ ps) (x ∷ xs)))
-          (alike_more r' (r ++ ins) (taken In (handed_in i (q + 1) ps xs)) grown.1) (taken_more In r i q p ps x xs)) h.reads;
+      writes = alike_on w' (w ++ out) (taken Out (handed_in i (q + 1) ps xs)) _ (w0 ++ taken Out (handed_in i 0 ps0 xs0)) grown.0 (taken_more Out w i q p ps x xs) h.writes;
+      reads = alike_on r' (r ++ ins) (taken In (handed_in i (q + 1) ps xs)) _ (r0 ++ taken In (handed_in i 0 ps0 xs0)) grown.1 (taken_more In r i q p ps x xs) h.reads;
     }
 
 done : (g : Table) (i q : ℕ) (ps : List Parameter) (xs : List Argument) (w r : Ends) (found : Option CheckFault) (ps0 : List Parameter) (xs0 : List Argument) (w0 r0 : Ends) (found0 : Option CheckFault) →
@@ -265,12 +254,8 @@ seats_onward g i x xs w r w' r' fs fs' xs0 w0 r0 fs0 h more grown =
           ∙ ap (λ m. (fs ++ first_alone (seat_faults g w r i x)) ++ firsts (seats_parts g (w ++ out) (r ++ ins) m xs)) step
           ∙ append_assoc fs (first_alone (seat_faults g w r i x)) (firsts (seats_parts g (w ++ out) (r ++ ins) (suc i) xs))
           ∙ h.told;
-      writes = alike_then (w' ++ taken Out (handed_all g (i + 1) xs)) (w ++ taken Out (handed_all g i (x ∷ xs))) (w0 ++ taken Out (handed_all g 0 xs0))
-          (alike_is (w' ++ taken Out (handed_all g (i + 1) xs)) ((w ++ out) ++ taken Out (handed_all g (i + 1) xs)) (w ++ taken Out (handed_all g i (x ∷ xs)))
-          (alike_more w' (w ++ out) (taken Out (handed_all g (i + 1) xs)) grown.0) (all_more Out g w i x xs)) h.writes;
-      reads = alike_then (r' ++ taken In (handed_all g (i + 1) xs)) (r ++ taken In (handed_all g i (x ∷ xs))) (r0 ++ taken In (handed_all g 0 xs0))
-          (alike_is (r' ++ taken In (handed_all g (i + 1) xs)) ((r ++ ins) ++ taken In (handed_all g (i + 1) xs)) (r ++ taken In (handed_all g i (x ∷ xs)))
-          (alike_more r' (r ++ ins) (taken In (handed_all g (i + 1) xs)) grown.1) (all_more In g r i x xs)) h.reads;
+      writes = alike_on w' (w ++ out) (taken Out (handed_all g (i + 1) xs)) _ (w0 ++ taken Out (handed_all g 0 xs0)) grown.0 (all_more Out g w i x xs) h.writes;
+      reads = alike_on r' (r ++ ins) (taken In (handed_all g (i + 1) xs)) _ (r0 ++ taken In (handed_all g 0 xs0)) grown.1 (all_more In g r i x xs) h.reads;
     }
 
 pub seats_end : (g : Table) (i : ℕ) (w r : Ends) (fs : List CheckFault) (xs0 : List Instance) (w0 r0 : Ends) (fs0 : List CheckFault) → SeatsLeft g i [] w r fs xs0 w0 r0 fs0 →
@@ -333,9 +318,6 @@ parts_told t g ds is alike h i =
 handed_alike : (g h : Table) (i : ℕ) (xs : List Instance) → StandAlike g h → handed_all g i xs ≡ handed_all h i xs
 handed_alike g h i [] a = refl
 handed_alike g h i (x ∷ xs) a = λ j. handed_in i 0 (parameters_of (a (bytes_of x.process) j)) x.arguments.items ++ handed_alike g h (suc i) xs a j
-
-abbrev all_handed : Program → List Handover
-all_handed t = handed_from t 0 t.instances.items
 
 link_side_parts : (t : Program) (cs : List (Name × (Kind × Role))) → sides_parts (taken Out (all_handed t)) (taken In (all_handed t)) cs ≡ map (λ c. side_faults t c.0 c.1.1) cs
 link_side_parts t [] = refl

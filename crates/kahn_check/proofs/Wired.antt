@@ -1,5 +1,5 @@
 -- A program is well wired exactly where it has no faults.
-use Rattle.kahn_check.proofs.Common.{◌↔◌, option_or, keys, bytes_true, bytes_turned, AtMostOne, Table, ends_append, as_channels, bytes_self, ◌≡◌, ℕ, suc, ◌+◌, ◌≤◌, ◌<◌, Bool, true, false, cond, ◌&&◌, List, [], ◌∷◌, ◌++◌, map, length, Option, None, Some, refl, ap, sym, ◌∙◌, subst, bytes_eq, append_assoc, arith, length-append, nat_lt, nat_eq, true≢false, append-nil, length-map, AllByRecursion, lookup, Span, Name, Kind, Role, Direction, Taking, Parameter, Process, Declaration, Argument, Instance, Program, Side, Inner, Input, Output, In, Out, bytes_of, CheckFault, wrong, most_channels, most_instances, too_many, repeated, twice, process_faults, body_faults, channel_faults, declaration_faults, overtaken, misplaced, argument_faults, arguments_faults, miscounted, made_faults, instance_faults, missing, side_faults, sides_faults, faults, locals_of, scope_of, entries, Global, IsChannel, IsProcess, declared_of, declared_channels, processes_of, global, Handover, handed, handed_in, handed_by, handed_from, parameters_of, same_direction, ends, writers, readers, IsOne, IsWired, Fits, AllFit, IsMade, IsSound, IsWellWired, side_at, is_closed, IsServed, served, ◌⊎◌, inl, inr, map-append, TooMany, WrongCount}
+use Rattle.kahn_check.proofs.Common.{nat_tests, ◌↔◌, option_or, keys, bytes_true, bytes_turned, AtMostOne, Table, ends_append, as_channels, bytes_self, ◌≡◌, ℕ, suc, ◌+◌, ◌≤◌, ◌<◌, Bool, true, false, cond, ◌&&◌, List, [], ◌∷◌, ◌++◌, map, length, Option, None, Some, refl, ap, sym, ◌∙◌, subst, bytes_eq, append_assoc, arith, length-append, nat_lt, nat_eq, true≢false, append-nil, length-map, AllByRecursion, lookup, Span, Name, Kind, Role, Direction, Taking, Parameter, Process, Declaration, Argument, Instance, Program, Side, Inner, Input, Output, In, Out, bytes_of, CheckFault, wrong, most_channels, most_instances, too_many, repeated, twice, process_faults, body_faults, channel_faults, declaration_faults, overtaken, misplaced, argument_faults, arguments_faults, miscounted, made_faults, instance_faults, missing, side_faults, sides_faults, faults, locals_of, scope_of, entries, Global, IsChannel, IsProcess, declared_of, declared_channels, processes_of, global, Handover, handed, handed_in, handed_by, handed_from, parameters_of, same_direction, ends, writers, readers, IsOne, IsWired, Fits, AllFit, IsMade, IsSound, IsWellWired, side_at, is_closed, IsServed, served, ◌⊎◌, inl, inr, map-append, TooMany, WrongCount}
 use Rattle.std.specs.List.{IsDistinct}
 use Rattle.kahn_streams.specs.declared.tree.Kind.TheVariants as K
 use Rattle.kahn_streams.specs.declared.tree.Taking.TheVariants as T
@@ -66,11 +66,7 @@ distinct es = let o = once [] es in ((λ h. o.0 (h, all_true (λ y. lookup (byte
 -- ---- declarations
 
 within : (limit n : ℕ) (at : Span) → (n < limit) ↔ (too_many limit n at ≡ [])
-within limit n at = by (nat_lt n limit) refl
-  where
-    by : (b : Bool) → nat_lt n limit ≡ b → (n < limit) ↔ (cond b [] (TooMany at ∷ []) ≡ [])
-    by true e = ((λ h. refl), (λ h. grind (arith, e)))
-    by false e = ((λ h. absurd (grind (arith, e, h))), (λ h. cc))
+within limit n at = ((λ h. grind (arith, nat_tests)), (λ h. grind (arith, nat_tests)))
 
 sound : (p : Process) → IsSound p ↔ (process_faults p ≡ [])
 sound p = two (twice [] (locals_of p)) (body_faults (scope_of p) p.statements.items) (distinct (locals_of p)) (agrees_body (scope_of p) p.statements.items)
@@ -167,11 +163,7 @@ all_fit t before i q (p ∷ ps) (x ∷ xs) e h =
     (fits t before p.taking x (nil_left here _ h), all_fit t (before ++ handed (side_at i q) p.taking x) i (suc q) ps xs (omega arith) (nil_right here _ h))
 
 counted : (n m : ℕ) (at : Span) → (n ≡ m) ↔ (miscounted n m at ≡ [])
-counted n m at = by (nat_eq n m) refl
-  where
-    by : (b : Bool) → nat_eq n m ≡ b → (n ≡ m) ↔ (cond b [] (WrongCount at ∷ []) ≡ [])
-    by true e = ((λ h. refl), (λ h. grind (arith, e)))
-    by false e = ((λ h. absurd (grind (arith, e, h))), (λ h. cc))
+counted n m at = ((λ h. grind (arith, nat_tests)), (λ h. grind (arith, nat_tests)))
 
 -- ---- instances
 
@@ -292,11 +284,7 @@ declared known n (D.Process p ∷ rest) =
 
 pub lookup_append : {X : Type 0} (test : List ℕ → Bool) (a c : List (List ℕ × X)) → lookup test (a ++ c) ≡ option_or (lookup test a) (lookup test c)
 lookup_append test [] c = refl
-lookup_append {X} test (e ∷ es) c = by (test e.0) (lookup_append test es c)
-  where
-    by : (b : Bool) → lookup test (es ++ c) ≡ option_or (lookup test es) (lookup test c) → cond b (Some e.1) (lookup test (es ++ c)) ≡ option_or (cond b (Some e.1) (lookup test es)) (lookup test c)
-    by true h = refl
-    by false h = h
+lookup_append test (e ∷ es) c = grind (arith, nat_tests, lookup_append test es c)
 
 lookup_skip : {A : Type 0} (test : List ℕ → Bool) (known ys : List (List ℕ × A)) → lookup test known ≡ None → lookup test (known ++ ys) ≡ lookup test ys
 lookup_skip test known ys h = lookup_append test known ys ∙ ap (λ o. option_or o (lookup test ys)) h

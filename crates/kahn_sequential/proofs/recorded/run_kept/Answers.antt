@@ -18,32 +18,20 @@ counts_of-counts-requires-clause-names c =
     let n = c.in_ok-bench.ensures.names in
     (w.network ∙ n.0, w.input ∙ n.1)
 
-pub concluded-requires-clause-ended : goal.concluded-requires-clause-ended
-concluded-requires-clause-ended c =
-    let b = c.in_ok-bench.bench in
-    let none = c.in_ok-bench.ensures.fresh in
-    let all : all_events (sight_of b) + c.args.plan.bound ≡ c.args.plan.bound = omega (arith, none) in
-    subst (λ n. IsPartEnd c.run_to_rest.new.bench n c.in_ok-part.part) all c.in_ok-part.ensures.concluded
-
-pub concluded-requires-clause-whole : goal.concluded-requires-clause-whole
-concluded-requires-clause-whole c =
-    let w = c.in_ok-part.ensures.worked in
+pub concluded-requires : goal.concluded-requires
+concluded-requires c =
     let b = c.in_ok-bench.ensures in
-    w.gone ∙ b.whole ∙ ap (λ t. replicate (length (network_of t).instances) nothing_gone) (sym (w.network ∙ b.names.0))
-
-pub concluded-requires-clause-ready : goal.concluded-requires-clause-ready
-concluded-requires-clause-ready c =
-    let w = c.in_ok-part.ensures.worked in
-    let n = c.in_ok-bench.ensures.names in
-    let kept = c.in_ok-streams.kept in
-    subst (λ (x : Program × Lists × Option ℕ). AreStreamsReady x.0 x.1 x.2 c.in_ok-streams.streams.items kept.items (vec_capacity kept))
-    (λ i. (sym (w.network ∙ n.0) i, sym (w.input ∙ n.1) i, sym (w.watch ∙ n.2) i)) c.in_ok-streams.ensures
-
-pub concluded-requires-clause-counts : goal.concluded-requires-clause-counts
-concluded-requires-clause-counts c =
-    let w = c.in_ok-part.ensures.worked in
-    let n = c.in_ok-bench.ensures.names in
-    subst (λ t. AreCountsOf (sight_of c.run_to_rest.new.bench) c.counts_of-counts.result.items (length (network_of t).channels)) (sym (w.network ∙ n.0)) c.counts_of-counts.ensures
+    let end = c.in_ok-part.ensures in
+    let w = end.worked in
+    let network = w.network ∙ b.names.0 in
+    let all : all_events (sight_of c.in_ok-bench.bench) + c.args.plan.bound ≡ c.args.plan.bound = omega (arith, b.fresh) in
+    record {
+      ended = subst (λ n. IsPartEnd c.run_to_rest.new.bench n c.in_ok-part.part) all end.concluded;
+      whole = w.gone ∙ b.whole ∙ ap (λ t. replicate (length (network_of t).instances) nothing_gone) (sym network);
+      ready = rw (network, w.input ∙ b.names.1, w.watch ∙ b.names.2) c.in_ok-streams.ensures;
+      counts = subst (λ t. AreCountsOf (sight_of c.run_to_rest.new.bench) c.counts_of-counts.result.items (length (network_of t).channels)) (sym network) c.counts_of-counts.ensures;
+      recorded = end.recorded;
+    }
 
 pub returns : goal.returns
 returns c =

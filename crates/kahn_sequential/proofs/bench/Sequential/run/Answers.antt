@@ -3,26 +3,18 @@ use Rattle.kahn_sequential.proofs.Benched
 use Rattle.kahn_sequential.proofs.Tapping as Tapping
 use Rattle.kahn_sequential.proofs.bench.Sequential.run.Goals as goal
 
-pub run-pause-requires-clause-code : goal.run-pause-requires-clause-code
-run-pause-requires-clause-code g c =
-    let at = Tapping.found c.self.inside.taps.items c.self.view_is c.self.invariant c.args.instance c.requires.here c.index_mut.ensures.value in
-    Benched.code_is c.self.invariant c.args.instance at
-
-pub run-pause-requires-clause-ports : goal.run-pause-requires-clause-ports
-run-pause-requires-clause-ports g c =
-    let at = Tapping.found c.self.inside.taps.items c.self.view_is c.self.invariant c.args.instance c.requires.here c.index_mut.ensures.value in
-    Benched.ports_are c.self.invariant c.args.instance at c.at.new.self c.at.ensures
-
-pub run-pause-requires-clause-at : goal.run-pause-requires-clause-at
-run-pause-requires-clause-at g c =
-    let at = Tapping.found c.self.inside.taps.items c.self.view_is c.self.invariant c.args.instance c.requires.here c.index_mut.ensures.value in
-    Benched.at_is c.self.invariant c.args.instance at c.at.new.self c.at.ensures
-
-pub run-pause-requires-clause-events : goal.run-pause-requires-clause-events
-run-pause-requires-clause-events g c =
-    let e = Tapping.events_here c.self.inside.taps.items c.self.view_is c.self.invariant c.args.instance c.requires.here c.index_mut.ensures.value in
+pub run-pause-requires : goal.run-pause-requires
+run-pause-requires g c =
+    let taps = c.self.inside.taps.items in
+    let here = Tapping.found taps c.self.view_is c.self.invariant c.args.instance c.requires.here c.index_mut.ensures.value in
+    let e = Tapping.events_here taps c.self.view_is c.self.invariant c.args.instance c.requires.here c.index_mut.ensures.value in
     let l = c.requires.bound in
-    omega (arith, e, l)
+    record {
+      code = Benched.code_is c.self.invariant c.args.instance here;
+      ports = Benched.ports_are c.self.invariant c.args.instance here c.at.new.self c.at.ensures;
+      at = Benched.at_is c.self.invariant c.args.instance here c.at.new.self c.at.ensures;
+      events = omega (arith, e, l);
+    }
 
 pub invariant_of-self : goal.invariant_of-self
 invariant_of-self g c =
