@@ -148,8 +148,7 @@ impl<'n> Sequential<'n> {
         self.looks.note_bound(left);
     }
 
-    /// Notes a turn of `done` events that isn't brief, after which so many are left, for `wide` and `passes_over`. Begins the next look
-    /// for work for several workers, if one is over.
+    /// Notes a turn of `done` events that isn't brief, after which so many are left, for `wide` and `passes_over`.
     pub(crate) fn note_turn(&mut self, instance: usize, done: u64, left: u64)
         ensures { self.new ≡ self.old }
     {
@@ -157,10 +156,9 @@ impl<'n> Sequential<'n> {
             let sent = self.sent();
             self.looks.turn(sent);
         }
-        if done < LONG_TURN {
-            return;
+        if done >= LONG_TURN {
+            self.awake.note_ahead(instance, &self.queues);
         }
-        self.awake.note_ahead(instance, &self.queues);
     }
 
     /// Whether an instance is passed over in this round, since it was far ahead of its readers.
