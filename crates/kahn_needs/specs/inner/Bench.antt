@@ -76,7 +76,7 @@ abbrev pub HaveNotMoved : List CellView → Type 0
 HaveNotMoved cells = (p : ℕ) (x : CellView) → slice_get cells p ≡ Some x → (x.events ≡ 0) × ((q : ℕ) → count x.taken q ≡ 0)
 
 -- how instance p stopped: at its end, or where it waits for a channel whose queue is empty; of other pauses nothing is said
-abbrev pub IsStopped : Seats → ℕ → Pause → script.Outcome Store → Type 0
+abbrev pub IsStopped : Seats → ℕ → Pause → script.ScriptOutcome Store → Type 0
 IsStopped b p pause.Ended o = ending o ≡ Some end.Ended
 IsStopped b p (pause.Fault k) o = ending o ≡ Some (end.Faulted k)
 IsStopped b p (pause.Dry q) o =
