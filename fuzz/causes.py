@@ -177,12 +177,19 @@ def verdict_of(checked, inputs, ends, causes, last):
 
 
 def counts_of(checked, inputs, last):
-    """How many values each channel had and its reader took, of a run that finished; else nothing."""
+    """How many values each channel had and its reader took, and how many turns and prints each process did, of a run that finished; else nothing."""
     network = ref.Network(checked, inputs)
     if not last.startswith("finished") or not network.run(int(last.split()[1])):
-        return []
+        return [], []
     taken = {c: n for p in network.processes for c, n in p.taken.items()}
-    return [(len(network.tape(c)), taken.get(c, 0)) for c in range(len(checked.channels))]
+    others = [p.events - sum(p.taken.values()) - sum(len(sent) for line, sent in p.sent.items() if line != "print") for p in network.processes]
+    return [(len(network.tape(c)), taken.get(c, 0)) for c in range(len(checked.channels))], others
+
+
+def are_events(rows, others, ends):
+    """Whether the events that the report tells of each process are what it sent and took by these rows, and its turns and prints."""
+    sent = [sum(int(row[3 + side]) for row in rows for side in (0, 1) if row[1 + side].startswith(f"{p + 1} ")) for p in range(len(ends))]
+    return [events for _, _, events in ends] == [both + other for both, other in zip(sent, others)]
 
 
 def untaken(checked, counts):
@@ -210,7 +217,7 @@ def wanted_of(checked, text, inputs, ends, last):
         elif word != "ended" and causes[z][1] == z:
             members = [p for p in open_ones if causes[p][1] == z and causes[p][2]] or [z]
             once += [line for p in members for line in [lines[p], *below(checked, ends, causes, p, waiting if p == z else [])]]
-    first, end = [verdict_of(checked, inputs, ends, causes, last), *untaken(checked, counts_of(checked, inputs, last))], [GO_ON] * last.startswith("stopped by bound") + [last]
+    first, end = [verdict_of(checked, inputs, ends, causes, last), *untaken(checked, counts_of(checked, inputs, last)[0])], [GO_ON] * last.startswith("stopped by bound") + [last]
     told = tuple("".join(line + "\n" for line in [*first, *lines, *end]) for lines in (once, each))
     whys = [why for why, _, _ in causes.values()]
     status = 8 if any(word.startswith("fault") for word, _, _ in ends) else 7 if "ring" in whys else 3 if last.startswith("stopped by bound") else 0
@@ -278,10 +285,11 @@ def one(explain, kahn, at, seed):
         wrong, places = differs(ran, told, status, placed)
         if wrong:
             return wrong, " ".join(words + more)
-    if counts := counts_of(checked, inputs, last):
+    counts, others = counts_of(checked, inputs, last)
+    if counts:
         rows = [row.split(",") for row in fuzz.asked(explain, *words, workers, "--channels").stdout.decode().splitlines()[1:]]
-        if [tuple(map(int, row[3:])) for row in rows] != [(sent, taken, sent - taken) for sent, taken in counts]:
-            return f"{rows}, not {counts}", " ".join(words + ["--channels"])
+        if [tuple(map(int, row[3:])) for row in rows] != [(sent, taken, sent - taken) for sent, taken in counts] or not are_events(rows, others, ends):
+            return f"{rows}, not {counts} {others} {ends}", " ".join(words + ["--channels"])
     tried = lasts(checked, inputs, ends, causes, text, places, rng)
     if isinstance(tried, str):
         return tried, " ".join(words)

@@ -11,12 +11,12 @@ use Rattle.kahn_streams.specs.declared.tree.Program.{Program}
 use Rattle.kahn_streams.specs.declared.value.Line.{Line}
 use Rattle.kahn_streams.specs.declared.value.Line.TheVariants.{Channel, Print}
 use Rattle.kahn_streams.specs.declared.value.Value.{Value}
-use Rattle.kahn_needs.specs.Finding.{AreNeedsFound, IsSeeking, Seeking, cut_told}
-use Rattle.kahn_needs.specs.Laws.{of_input}
+use Rattle.kahn_needs.specs.Finding.{AreNeedsFound, IsSeeking, Seeking, cut_told, of_input}
 use Rattle.kahn_needs.specs.Needs.{AreNeeds, Cut}
 use Rattle.kahn_needs.specs.declared.needs.Found.{Found}
 use Rattle.kahn_needs.specs.declared.needs.Found.TheVariants as found
-use Rattle.kahn_needs.proofs.Told.{get_there, one_cut, parts}
+use Rattle.kahn_needs.proofs.Told.{one_cut, parts}
+use Rattle.kahn_needs.proofs.Ways.{get_there}
 use Rattle.kahn_explain.specs.Needing.{IsFirstNeeding, NeedsNot, values_on}
 use Rattle.kahn_explain.specs.inner.Told.{EndsSearch}
 

@@ -1,23 +1,19 @@
 -- What a value needs is what its writer's shortest run to it needs.
-use Rattle.std.proofs.Common.{arith, ◌≡◌, ◌↔◌, ℕ, zero, suc, ◌+◌, ◌≤◌, ◌<◌, max, List, [], ◌∷◌, length, refl, sym, ap, ◌∙◌, subst, le_refl, Some, slice_get, slice_index_or, pos, length-take}
+use Rattle.std.proofs.Common.{arith, ◌≡◌, ◌↔◌, ℕ, zero, suc, ◌≤◌, ◌<◌, max, List, [], ◌∷◌, length, refl, sym, ap, subst, Some, slice_get, slice_index_or, pos, length-take}
 use Rattle.std.proofs.Math.Nat.{le-max_left, le-max_right}
 use Rattle.std.proofs.lemmas.Option.{slice_get_within}
 use Rattle.kahn_streams.specs.declared.value.Value.{Value}
 use Rattle.kahn_streams.specs.declared.value.Line.{Line}
 use Rattle.kahn_streams.specs.declared.value.Line.TheVariants.{Channel}
 use Rattle.kahn_streams.specs.Syntax.{Number}
-use Rattle.kahn_streams.specs.Script.{play}
 use Rattle.kahn_streams.specs.Network.{Network, Actual, Reads, Writes, Hands, instance_at, actual_at, Given, Written}
-use Rattle.kahn_streams.specs.Solution.{Histories, Inputs, tape_of, tapes_of, exec_at, out, source, Stands}
-use Rattle.kahn_streams.proofs.Proved.{prefix_get, script_at}
-use Rattle.kahn_needs.specs.Needs.{Cut, held_in, Suffices, IsCutWithin}
+use Rattle.kahn_streams.specs.Solution.{Histories, Inputs, IsPrefix, iterate, tape_of, source, Stands}
+use Rattle.kahn_streams.proofs.Proved.{prefix_get}
+use Rattle.kahn_needs.specs.Needs.{Cut, held_in, Suffices}
 use Rattle.kahn_needs.specs.Laws.{IsShortest, IsTakenBy, GoBack}
-use Rattle.kahn_needs.proofs.Reaching.{Covers}
-use Rattle.kahn_needs.proofs.Needing.{take_length, held_given, held_written, held_made, Below, Run, run, out_enough, out_needed, tape_rises}
-use Rattle.kahn_needs.proofs.Told.{get_there, suffices_there}
-
-within_refl : (x : Cut) → IsCutWithin x x
-within_refl x = (λ d. le_refl (x.values d), λ p. le_refl (x.events p))
+use Rattle.kahn_needs.proofs.Needing.{take_length, held_all, held_before, held_given, held_within, held_written, tape_grows, within_refl}
+use Rattle.kahn_needs.proofs.Told.{suffices_there}
+use Rattle.kahn_needs.proofs.Ways.{AllOf, enough, get_there, needed, taken, taken_left}
 
 -- ---- an input
 
@@ -43,93 +39,64 @@ given N I d k v y e h = (there, back)
 
 -- ---- one iterate for all parameters
 
-module _ (N : Network) (I : Inputs) (y : Cut) where
-  join_at : (a default : Actual) (rest : List Actual) (t : ℕ → ℕ) → ((n : ℕ) × (t 0 ≤ length (tape_of (held_in N I y n) a))) →
-      ((n : ℕ) × ((q : ℕ) → t (suc q) ≤ length (tape_of (held_in N I y n) (slice_index_or rest q default)))) →
-      (n : ℕ) × ((q : ℕ) → t q ≤ length (tape_of (held_in N I y n) (slice_index_or (a ∷ rest) q default)))
-  join_at a default rest t one all = (max one.0 all.0, each)
-    where
-      each : (q : ℕ) → t q ≤ length (tape_of (held_in N I y (max one.0 all.0)) (slice_index_or (a ∷ rest) q default))
-      each zero = tape_rises N I y y one.0 (max one.0 all.0) (within_refl y) (le-max_left one.0 all.0) a (t 0) one.1
-      each (suc q) = tape_rises N I y y all.0 (max one.0 all.0) (within_refl y) (le-max_right one.0 all.0) (slice_index_or rest q default) (t (suc q)) (all.1 q)
+for_all : (N : Network) (I : Inputs) (y : Cut) (default : Actual) → ((A : Histories) → tape_of A default ≡ []) → (actuals : List Actual) (t : ℕ → ℕ) →
+    ((q : ℕ) → (n : ℕ) × (t q ≤ length (tape_of (held_in N I y n) (slice_index_or actuals q default)))) →
+    (n : ℕ) × ((q : ℕ) → t q ≤ length (tape_of (held_in N I y n) (slice_index_or actuals q default)))
+for_all N I y default none [] t h = (0, λ q. let g = (h q).1 in let e = ap length (none (held_in N I y (h q).0)) in let f = ap length (none (held_in N I y 0)) in omega (arith, g, e, f))
+for_all N I y default none (a ∷ rest) t h = by (h 0) (for_all N I y default none rest (λ q. t (suc q)) (λ q. h (suc q)))
+  where
+    later : {m n : ℕ} → m ≤ n → (a : Actual) (t : ℕ) → t ≤ length (tape_of (held_in N I y m) a) → t ≤ length (tape_of (held_in N I y n) a)
+    later {m} {n} le a t = tape_grows t a _ _ (held_within N I y y (within_refl y) m n le)
 
-  for_all : (default : Actual) → ((A : Histories) → tape_of A default ≡ []) → (actuals : List Actual) (t : ℕ → ℕ) →
-      ((q : ℕ) → (n : ℕ) × (t q ≤ length (tape_of (held_in N I y n) (slice_index_or actuals q default)))) →
-      (n : ℕ) × ((q : ℕ) → t q ≤ length (tape_of (held_in N I y n) (slice_index_or actuals q default)))
-  for_all default none [] t h = (0, λ q. subst (λ l. t q ≤ length l) (none (held_in N I y (h q).0) ∙ sym (none (held_in N I y 0))) (h q).1)
-  for_all default none (a ∷ rest) t h = join_at a default rest t (h 0) (for_all default none rest (λ q. t (suc q)) (λ q. h (suc q)))
+    by : ((n : ℕ) × (t 0 ≤ length (tape_of (held_in N I y n) a))) → ((n : ℕ) × ((q : ℕ) → t (suc q) ≤ length (tape_of (held_in N I y n) (slice_index_or rest q default)))) →
+        (n : ℕ) × ((q : ℕ) → t q ≤ length (tape_of (held_in N I y n) (slice_index_or (a ∷ rest) q default)))
+    by one all = (max one.0 all.0, each)
+      where
+        each : (q : ℕ) → t q ≤ length (tape_of (held_in N I y (max one.0 all.0)) (slice_index_or (a ∷ rest) q default))
+        each zero = later (le-max_left one.0 all.0) a (t 0) one.1
+        each (suc q) = later (le-max_right one.0 all.0) (slice_index_or rest q default) (t (suc q)) (all.1 q)
 
 -- ---- a line that an instance writes
 
-module _ (N : Network) (I : Inputs) (c : Line) (p k e : ℕ) (v : Value) (H : Histories) (y : Cut) (src : source N c ≡ Written p) (here : Below N I H)
-    (short : IsShortest N p c k e H) (stands : Stands N I c k v) where
+module _ (N : Network) (I : Inputs) (c : Line) (p k e : ℕ) (v : Value) (H : Histories) (y : Cut) (src : source N c ≡ Written p)
+    (here : (c : Line) → (m : ℕ) × IsPrefix (H c) (iterate N I m c)) (short : IsShortest N p c k e H) (stands : Stands N I c k v) where
   abbrev Wants : Type 0
   Wants = (q d j : ℕ) (w : Value) → actual_at (instance_at N p) q ≡ Reads d → IsTakenBy N p e H q j → slice_get (H (Channel d)) j ≡ Some w → Suffices N I (Channel d) j w y
 
-  the_run : Run N I e H here c p k
-  the_run = run N I e H here c p k short.there
+  stand : AllOf N I H
+  stand d j w f = let b = here d in (b.0, prefix_get _ _ b.1 j w f)
 
-  on_itself : (the_run.events ≤ e) × Covers the_run.taken (tapes_of (instance_at N p) H)
-  on_itself = out_needed N I e H here c p k the_run e H here short.there
-
-  same_events : the_run.events ≡ e
-  same_events = by (λ l. let s = short.sooner the_run.events l in let g = out_enough N I e H here c p k the_run the_run.events H here (le_refl the_run.events) on_itself.1 in omega (arith, s, g))
-    where
-      by : (the_run.events < e → ⊥) → the_run.events ≡ e
-      by h = let l = on_itself.0 in omega (arith, l, h)
-
-  taken_left : (q : ℕ) → length (tapes_of (instance_at N p) H q) ≡ the_run.taken q + length ((exec_at N e p H).left q)
-  taken_left q =
-      subst (λ f. length (tapes_of (instance_at N p) H q) ≡ the_run.taken q + length ((play f (script_at N e p) (tapes_of (instance_at N p) H)).left q)) same_events
-      (the_run.left q)
-
-  held_before : (n : ℕ) → k < length (held_in N I y n c) → (m : ℕ) × (k < length (out N (y.events p) p (held_in N I y m) c))
-  held_before zero h =
-      let none : held_in N I y 0 c ≡ [] = rw src refl in
-      let l : k < 0 = subst (λ s. k < length s) none h in
-      absurd (omega (arith, l))
-  held_before (suc n) h = (n, subst (λ s. k < length s) (held_written N I y n c p src) h)
-
-  tape_there : (q d j m : ℕ) → actual_at (instance_at N p) q ≡ Reads d → j < length (tapes_of (instance_at N p) (held_in N I y m) q) → j < length (held_in N I y m (Channel d))
-  tape_there q d j m a l = subst (λ x. j < length (tape_of (held_in N I y m) x)) a l
+  abbrev t : ℕ → ℕ
+  t = taken N I p c k e H stand short
 
   there : Suffices N I c k v y → (e ≤ y.events p) × Wants
   there s =
-      let b = held_before s.0 (slice_get_within (held_in N I y s.0 c) k v s.1) in
-      let g = out_needed N I e H here c p k the_run (y.events p) (held_in N I y b.0) (held_made N I y b.0).below b.1 in
-      let same = same_events in (
-        omega (arith, g.0, same),
+      let b = held_before N I y c p k s.0 src (slice_get_within (held_in N I y s.0 c) k v s.1) in
+      let g = needed N I p c k e H stand short (y.events p) (held_in N I y b.0) (held_all N I y b.0) b.2 in (
+        g.0,
         λ q d j w a h at.
-            let l = taken_left q in
+            let l = taken_left N I p c k e H stand short q in
             let f = g.1 q in
-            let below = here (Channel d) in
-            suffices_there N I (Channel d) j w (below.0, prefix_get _ _ below.1 j w at) y b.0
-            (tape_there q d j b.0 a (omega (arith, h, l, f))),
+            let x = ap (λ a. length (tape_of (held_in N I y b.0) a)) a in
+            suffices_there N I (Channel d) j w (stand (Channel d) j w at) y b.0 (omega (arith, h, l, f, x)),
       )
 
-  one_tape : Wants → (q t : ℕ) (a : Actual) → actual_at (instance_at N p) q ≡ a → t ≡ the_run.taken q → (n : ℕ) × (t ≤ length (tape_of (held_in N I y n) a))
-  one_tape wants q zero a at e' = (0, omega arith)
-  one_tape wants q (suc j) (Reads d) at e' =
-      let l : the_run.taken q ≤ length (H (Channel d)) = subst (λ x. the_run.taken q ≤ length (tape_of H x)) at (on_itself.1 q) in
-      let f = taken_left q in
-      let w = get_there (H (Channel d)) j v (omega (arith, l, e')) in
-      let s = wants q d j w.0 at (omega (arith, f, e')) w.1 in
+  one_tape : Wants → (q n : ℕ) (a : Actual) → actual_at (instance_at N p) q ≡ a → n ≡ t q → (m : ℕ) × (n ≤ length (tape_of (held_in N I y m) a))
+  one_tape wants q zero a at is = (0, omega arith)
+  one_tape wants q (suc j) (Reads d) at is =
+      let f = taken_left N I p c k e H stand short q in
+      let x = ap (λ a. length (tape_of H a)) at in
+      let w = get_there (H (Channel d)) j v (omega (arith, f, x, is)) in
+      let s = wants q d j w.0 at (omega (arith, f, is)) w.1 in
       (s.0, let g = slice_get_within (held_in N I y s.0 (Channel d)) j w.0 s.1 in omega (arith, g))
-  one_tape wants q (suc j) (Writes d) at e' =
-      let l : the_run.taken q ≤ 0 = subst (λ x. the_run.taken q ≤ length (tape_of H x)) at (on_itself.1 q) in
-      absurd (omega (arith, l, e'))
-  one_tape wants q (suc j) (Hands u) at e' =
-      let l : the_run.taken q ≤ 0 = subst (λ x. the_run.taken q ≤ length (tape_of H x)) at (on_itself.1 q) in
-      absurd (omega (arith, l, e'))
+  one_tape wants q (suc j) (Writes d) at is = let f = taken_left N I p c k e H stand short q in let x = ap (λ a. length (tape_of H a)) at in absurd (omega (arith, f, x, is))
+  one_tape wants q (suc j) (Hands u) at is = let f = taken_left N I p c k e H stand short q in let x = ap (λ a. length (tape_of H a)) at in absurd (omega (arith, f, x, is))
 
   back : (e ≤ y.events p) × Wants → Suffices N I c k v y
   back h =
-      let all = for_all N I y (Hands (Number (pos 0))) (λ A. refl) (instance_at N p).actuals the_run.taken (λ q. one_tape h.1 q (the_run.taken q) (actual_at (instance_at N p) q) refl refl) in
-      let same = same_events in
-      let l = h.0 in
+      let all = for_all N I y (Hands (Number (pos 0))) (λ A. refl) (instance_at N p).actuals t (λ q. one_tape h.1 q (t q) (actual_at (instance_at N p) q) refl refl) in
       suffices_there N I c k v stands y (suc all.0)
-      (subst (λ s. k < length s) (sym (held_written N I y all.0 c p src))
-      (out_enough N I e H here c p k the_run (y.events p) (held_in N I y all.0) (held_made N I y all.0).below (omega (arith, l, same)) all.1))
+      (subst (λ s. k < length s) (sym (held_written N I y all.0 c p src)) (enough N I p c k e H stand short (y.events p) (held_in N I y all.0) (held_all N I y all.0) h.0 all.1))
 
 pub go_back : (N : Network) (I : Inputs) → GoBack N I
 go_back N I =

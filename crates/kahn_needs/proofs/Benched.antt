@@ -7,9 +7,9 @@ use Rattle.kahn_streams.specs.Answers.{is_output}
 use Rattle.kahn_streams.specs.Inputs.{Lists, inputs_of}
 use Rattle.kahn_streams.specs.Meaning.{Store}
 use Rattle.kahn_streams.specs.Network.{Network, Writes, actual_at, instance_at, network_of, role_at}
-use Rattle.kahn_streams.specs.Script.{ScriptOutcome, Tapes, Script, Give, Fail, Waits, Sends, Turns, Rest, play, wait_at}
+use Rattle.kahn_streams.proofs.Runs.{play_zero}
+use Rattle.kahn_streams.specs.Script.{ScriptOutcome}
 use Rattle.kahn_streams.specs.Steps.{empty}
-use Rattle.kahn_streams.specs.declared.value.Value.{Value}
 use Rattle.kahn_streams.specs.declared.value.Line.{Line}
 use Rattle.kahn_streams.specs.declared.token.Token.{Token}
 use Rattle.kahn_streams.proofs.Dry.{dry_reads}
@@ -28,29 +28,16 @@ use Rattle.kahn_code.specs.declared.progress.Pause.{Pause}
 use Rattle.kahn_code.specs.declared.progress.Pause.TheVariants as pause
 use Rattle.kahn_code.specs.Progress as code
 use Rattle.kahn_needs.specs.inner.Bench.{AreUnmoved, HasActed, IsUnmoved, HaveSeats, HasItsSeat, IsStopped, Seats, seats_of}
-use Rattle.kahn_needs.proofs.Reaching.{left_zero, sent_zero}
 
 -- ---- a cell at its opening
-
-pub events_zero : {A : Type 0} (s : Script A) (T : Tapes) → (play 0 s T).events ≡ 0
-events_zero (Give a) T = refl
-events_zero (Fail f) T = refl
-events_zero (Waits q go) T = by (T q)
-  where
-    by : (vs : List Value) → (wait_at 0 q T vs (λ i w V. play i (go w) V)).events ≡ 0
-    by [] = refl
-    by (v ∷ vs) = refl
-events_zero (Sends p v s) T = refl
-events_zero (Turns s) T = refl
-events_zero Rest T = refl
 
 -- what is said of a cell that has done nothing is true
 pub stood_first : (N : Network) (I : Inputs) (watch : Option ℕ) (p : ℕ) (x : View) → x.events ≡ 0 → ((q : ℕ) → x.taken q ≡ 0) → ((q : ℕ) → x.sent q ≡ 0) →
     ((q : ℕ) → x.kept q ≡ []) → x.printed ≡ [] → StoodBy N I watch p x
 stood_first N I watch p x e taken sent kept printed = record {
   tapes = empty;
-  does = subst (λ n. (exec_on N n p empty).events ≡ n) (sym e) (events_zero (script_at N 0 p) empty);
-  all = subst (λ n. (exec_on N n p empty).left ≡ empty) (sym e) (left_zero (script_at N 0 p) empty);
+  does = subst (λ n. (exec_on N n p empty).events ≡ n) (sym e) (ap (λ r. r.events) (play_zero (script_at N 0 p)));
+  all = subst (λ n. (exec_on N n p empty).left ≡ empty) (sym e) (ap (λ r. r.left) (play_zero (script_at N 0 p)));
   stand = λ q d r k w h. absurd cc;
   took = λ q. sym (taken q);
   none = λ q n. refl;
@@ -61,7 +48,7 @@ stood_first N I watch p x e taken sent kept printed = record {
 }
   where
     nothing : (c : Line) → sent_on N x.events p empty c ≡ []
-    nothing c = subst (λ n. sent_on N n p empty c ≡ []) (sym e) (ap (values_at (goes_to N p c)) (sent_zero (script_at N 0 p) empty))
+    nothing c = subst (λ n. sent_on N n p empty c ≡ []) (sym e) (ap (λ r. values_at (goes_to N p c) r.sent) (play_zero (script_at N 0 p)))
 
     kept_by : (c : Line) (ts : List Token) → ts ≡ [] → AreKeptTokens N I c (sent_on N x.events p empty c) ts
     kept_by c ts f = subst (λ l. AreKeptTokens N I c l ts) (sym (nothing c)) (subst (AreKeptTokens N I c []) (sym f) (kept_none N I c))

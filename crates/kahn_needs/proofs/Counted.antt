@@ -18,7 +18,7 @@ use Rattle.kahn_code.specs.Standing.{tokens}
 use Rattle.kahn_needs.specs.inner.Bench.{AreCounted, HaveSeats, Stood, Seats}
 use Rattle.kahn_needs.specs.inner.Finding.{HasCome, HasValue}
 use Rattle.kahn_needs.proofs.Benched.{found}
-use Rattle.kahn_needs.proofs.Reaching.{eqb_refl}
+use Rattle.kahn_needs.proofs.Ways.{eqb_refl}
 
 pub counted_none : (f : ℕ → ℕ) (xs : List ℕ) → xs ≡ [] → AreCounted f xs 0
 counted_none f xs e = let r = none_first (λ d x. x ≡ f d) xs e in record { count = r.count; each = r.each }

@@ -1,18 +1,18 @@
 -- For each value of the solution there is a least cut in which it stands.
-use Rattle.std.proofs.Common.{arith, ◌≡◌, ◌⊎◌, inl, inr, ℕ, zero, suc, ◌≤◌, ◌<◌, ◌==◌, max, Bool, true, false, List, [], ◌∷◌, ◌++◌, length, take, refl, sym, ap, ◌∙◌, subst, eqb-true, eq-or-lt_of_le, le_of_suc-le-suc, not-suc-le-zero, le_refl, pos, slice_index_or, if◌then◌else◌, length-append, length-take}
+use Rattle.std.proofs.Common.{arith, ◌≡◌, ℕ, zero, suc, ◌≤◌, ◌<◌, ◌==◌, max, Bool, true, false, List, [], ◌∷◌, ◌++◌, length, take, refl, sym, ap, subst, eqb-true, le_of_suc-le-suc, not-suc-le-zero, le_refl, pos, slice_index_or, if◌then◌else◌, length-append, length-take}
 use Rattle.std.proofs.Math.Nat.{le-max_left, le-max_right}
 use Rattle.kahn_streams.specs.declared.value.Value.{Value}
 use Rattle.kahn_streams.specs.declared.value.Line.{Line}
 use Rattle.kahn_streams.specs.declared.value.Line.TheVariants.{Channel, Print}
 use Rattle.kahn_streams.specs.Syntax.{Number}
-use Rattle.kahn_streams.specs.Script.{play}
 use Rattle.kahn_streams.specs.Network.{Network, Actual, Reads, Writes, Hands, instance_at, actual_at, Source, Given, Written, Nobody}
-use Rattle.kahn_streams.specs.Solution.{Histories, Inputs, tape_of, tapes_of, exec_at, out, goes_to, source, fed, input_list, iterate, IsPrefix}
-use Rattle.kahn_streams.proofs.Fuel.{play_alike}
-use Rattle.kahn_streams.proofs.Proved.{prefix_refl, prefix_trans, feeds, script_at, exec_alike, out_grows, chain, solves, iterates_rise, fits_all}
+use Rattle.kahn_streams.specs.Solution.{Histories, Inputs, tape_of, tapes_of, out, source, fed, input_list, iterate, IsExtended, IsPrefix}
+use Rattle.kahn_streams.proofs.Proved.{prefix_refl, prefix_get, feeds, out_grows}
+use Rattle.kahn_code.proofs.Lists.{sent_stands, stand_in}
+use Rattle.kahn_code.specs.Cells.{AllStand}
 use Rattle.kahn_needs.specs.Needs.{Cut, first_values, held_in, IsCutWithin}
-use Rattle.kahn_needs.specs.Laws.{IsMadeIn}
-use Rattle.kahn_needs.proofs.Reaching.{Agree, agree_below, Covers, Shortest, shortest, Sends_more, eqb_refl}
+use Rattle.kahn_needs.specs.Laws.{IsMadeIn, IsShortest}
+use Rattle.kahn_needs.proofs.Ways.{AllOf, are_tapes, enough, eqb_refl, fewest, needed, taken, taken_left}
 
 -- ---- lists and numbers
 
@@ -22,7 +22,7 @@ prefix_length xs ys h =
     let f = length-append xs h.0 in
     omega (arith, e, f)
 
-take_grows : (a b : ℕ) (xs : List Value) → a ≤ b → IsPrefix (take a xs) (take b xs)
+pub take_grows : (a b : ℕ) (xs : List Value) → a ≤ b → IsPrefix (take a xs) (take b xs)
 take_grows zero b xs le = (take b xs, refl)
 take_grows (suc a) zero xs le = absurd (not-suc-le-zero le)
 take_grows (suc a) (suc b) [] le = ([], refl)
@@ -35,9 +35,6 @@ take_below (suc a) (x ∷ xs) = let r = take_below a xs in (r.0, ap (λ l. x ∷
 
 pub take_length : (a : ℕ) (xs : List Value) → length (take a xs) ≤ a
 take_length a xs = let e = length-take a xs in omega (arith, e)
-
-take_more : (k : ℕ) (xs : List Value) → k < length xs → k < length (take (suc k) xs)
-take_more k xs h = let e = length-take (suc k) xs in omega (arith, e, h)
 
 -- this number at one place, and 0 at all others
 only : ℕ → ℕ → ℕ → ℕ
@@ -57,8 +54,8 @@ only_below p j f h r = by (r == p) refl
 
 -- ---- cuts
 
-abbrev nothing : Cut
-nothing = record { values = λ c. 0; events = λ p. 0 }
+pub within_refl : (x : Cut) → IsCutWithin x x
+within_refl x = (λ d. le_refl (x.values d), λ p. le_refl (x.events p))
 
 abbrev join : Cut → Cut → Cut
 join x y = record { values = λ c. max (x.values c) (y.values c); events = λ p. max (x.events p) (y.events p) }
@@ -69,26 +66,13 @@ join_left x y = (λ c. le-max_left (x.values c) (y.values c), λ p. le-max_left 
 join_right : (x y : Cut) → IsCutWithin y (join x y)
 join_right x y = (λ c. le-max_right (x.values c) (y.values c), λ p. le-max_right (x.events p) (y.events p))
 
-both_below : (a b m : ℕ) → a ≤ m → b ≤ m → max a b ≤ m
-both_below a b m h g = omega (arith, h, g)
-
 join_below : (x y z : Cut) → IsCutWithin x z → IsCutWithin y z → IsCutWithin (join x y) z
-join_below x y z h g = (λ c. both_below (x.values c) (y.values c) (z.values c) (h.0 c) (g.0 c), λ p. both_below (x.events p) (y.events p) (z.events p) (h.1 p) (g.1 p))
+join_below x y z h g = (λ c. both (h.0 c) (g.0 c), λ p. both (h.1 p) (g.1 p))
+  where
+    both : {a b m : ℕ} → a ≤ m → b ≤ m → max a b ≤ m
+    both h g = omega (arith, h, g)
 
-nothing_below : (z : Cut) → IsCutWithin nothing z
-nothing_below z = (λ c. omega arith, λ p. omega arith)
-
--- ---- histories that rise
-
-rises_by : (T : ℕ → Histories) → ((m : ℕ) (c : Line) → IsPrefix (T m c) (T (suc m) c)) → (n m : ℕ) (c : Line) →
-    (n ≡ suc m) ⊎ (n < suc m) → (n ≤ m → IsPrefix (T n c) (T m c)) → IsPrefix (T n c) (T (suc m) c)
-rises_by T step n m c (inl e) f = subst (λ k. IsPrefix (T n c) (T k c)) e (prefix_refl (T n c))
-rises_by T step n m c (inr l) f = prefix_trans (T n c) (T m c) (T (suc m) c) (f (le_of_suc-le-suc l)) (step m c)
-
-rises : (T : ℕ → Histories) → ((m : ℕ) (c : Line) → IsPrefix (T m c) (T (suc m) c)) → (n m : ℕ) → n ≤ m → (c : Line) → IsPrefix (T n c) (T m c)
-rises T step zero zero le c = prefix_refl (T zero c)
-rises T step (suc n) zero le c = absurd (not-suc-le-zero le)
-rises T step n (suc m) le c = rises_by T step n m c (eq-or-lt_of_le le) (λ l. rises T step n m l c)
+-- ---- what is held
 
 fed_both : (N : Network) (I J : Inputs) → ((d : ℕ) → IsPrefix (I d) (J d)) → (src : Source) (f g : ℕ → List Value) (c : Line) →
     ((p : ℕ) → IsPrefix (f p) (g p)) → IsPrefix (fed src I f c) (fed src J g c)
@@ -97,28 +81,37 @@ fed_both N I J h Given f g (Print p) k = prefix_refl []
 fed_both N I J h (Written p) f g c k = k p
 fed_both N I J h Nobody f g c k = prefix_refl []
 
--- a larger cut of longer inputs holds longer histories
+-- a larger cut of longer inputs holds longer histories, and later ones too
 pub held_more : (N : Network) (I J : Inputs) (x y : Cut) → ((d : ℕ) → IsPrefix (first_values x.values I d) (first_values y.values J d)) → ((p : ℕ) → x.events p ≤ y.events p) →
-    (n : ℕ) (c : Line) → IsPrefix (held_in N I x n c) (held_in N J y n c)
-held_more N I J x y h e zero c = fed_both N (first_values x.values I) (first_values y.values J) h (source N c) _ _ c (λ p. prefix_refl [])
-held_more N I J x y h e (suc n) c =
+    (n m : ℕ) → n ≤ m → IsExtended (held_in N I x n) (held_in N J y m)
+held_more N I J x y h e zero zero le c = fed_both N (first_values x.values I) (first_values y.values J) h (source N c) _ _ c (λ p. prefix_refl [])
+held_more N I J x y h e zero (suc m) le c = fed_both N (first_values x.values I) (first_values y.values J) h (source N c) _ _ c (λ p. (_, refl))
+held_more N I J x y h e (suc n) zero le c = absurd (not-suc-le-zero le)
+held_more N I J x y h e (suc n) (suc m) le c =
     fed_both N (first_values x.values I) (first_values y.values J) h (source N c) _ _ c (λ p.
-    out_grows N (x.events p) (y.events p) p (held_in N I x n) (held_in N J y n) c (e p)
-    (feeds (instance_at N p) (held_in N I x n) (held_in N J y n) (λ d. held_more N I J x y h e n d)))
+    out_grows N (x.events p) (y.events p) p (held_in N I x n) (held_in N J y m) c (e p)
+    (feeds (instance_at N p) (held_in N I x n) (held_in N J y m) (held_more N I J x y h e n m (le_of_suc-le-suc le))))
 
-pub held_within : (N : Network) (I : Inputs) (x y : Cut) → IsCutWithin x y → (n : ℕ) (c : Line) → IsPrefix (held_in N I x n c) (held_in N I y n c)
+pub held_within : (N : Network) (I : Inputs) (x y : Cut) → IsCutWithin x y → (n m : ℕ) → n ≤ m → IsExtended (held_in N I x n) (held_in N I y m)
 held_within N I x y h = held_more N I I x y (λ d. take_grows (x.values d) (y.values d) (I d) (h.0 d)) h.1
 
-module _ (N : Network) (I : Inputs) (x : Cut) where
-  held_chain : (n : ℕ) (c : Line) → IsPrefix (held_in N I x n c) (held_in N I x (suc n) c)
-  held_chain zero c = fed_both N (first_values x.values I) (first_values x.values I) (λ d. prefix_refl _) (source N c) _ _ c (λ p. (_, refl))
-  held_chain (suc n) c =
-      fed_both N (first_values x.values I) (first_values x.values I) (λ d. prefix_refl _) (source N c) _ _ c (λ p.
-      out_grows N (x.events p) (x.events p) p (held_in N I x n) (held_in N I x (suc n)) c (le_refl (x.events p))
-      (feeds (instance_at N p) (held_in N I x n) (held_in N I x (suc n)) (λ d. held_chain n d)))
+-- what is fed stands, if what is sent does
+pub fed_stands : (N : Network) (I J : Inputs) (c : Line) (f : ℕ → List Value) → ((d : ℕ) → IsPrefix (I d) (J d)) → ((p : ℕ) → source N c ≡ Written p → AllStand N J c (f p)) →
+    (src : Source) → source N c ≡ src → AllStand N J c (fed src I f c)
+fed_stands N I J (Channel d) f longer sent Given e k v at = (0, rw e (prefix_get (I d) (J d) (longer d) k v at))
+fed_stands N I J (Print p) f longer sent Given e k v at = absurd cc
+fed_stands N I J c f longer sent (Written p) e k v at = sent p e k v at
+fed_stands N I J c f longer sent Nobody e k v at = absurd cc
 
-  pub held_rises : (n m : ℕ) → n ≤ m → (c : Line) → IsPrefix (held_in N I x n c) (held_in N I x m c)
-  held_rises = rises (held_in N I x) held_chain
+module _ (N : Network) (I : Inputs) (x : Cut) where
+  -- in all inputs that begin with the values of the cut
+  pub held_stands : (J : Inputs) → ((d : ℕ) → IsPrefix (first_values x.values I d) (J d)) → (n : ℕ) → AllOf N J (held_in N I x n)
+  held_stands J longer zero c = fed_stands N (first_values x.values I) J c (λ p. []) longer (λ p e k v at. absurd cc) (source N c) refl
+  held_stands J longer (suc n) c = fed_stands N (first_values x.values I) J c _ longer (λ p e k v at. let T = are_tapes N J p (held_in N I x n) (held_stands J longer n) in
+      sent_stands N J p (tapes_of (instance_at N p) (held_in N I x n)) T.stand T.none (x.events p) k c v e at) (source N c) refl
+
+  pub held_all : (n : ℕ) → AllOf N I (held_in N I x n)
+  held_all = held_stands I (λ d. take_below (x.values d) (I d))
 
   pub held_given : (n : ℕ) (c : Line) → source N c ≡ Given → held_in N I x n c ≡ input_list (first_values x.values I) c
   held_given zero c e = rw e refl
@@ -127,217 +120,147 @@ module _ (N : Network) (I : Inputs) (x : Cut) where
   pub held_written : (n : ℕ) (c : Line) (p : ℕ) → source N c ≡ Written p → held_in N I x (suc n) c ≡ out N (x.events p) p (held_in N I x n) c
   held_written n c p e = rw e refl
 
-  -- what is held is in the iterates of all inputs that begin with the values of the cut
-  module _ (J : Inputs) (longer : (d : ℕ) → IsPrefix (first_values x.values I d) (J d)) where
-    below_by : (n : ℕ) → ((c : Line) → (m : ℕ) × IsPrefix (held_in N I x n c) (iterate N J m c)) → (c : Line) (src : Source) → source N c ≡ src →
-        (m : ℕ) × IsPrefix (fed src (first_values x.values I) (λ p. out N (x.events p) p (held_in N I x n) c) c) (iterate N J m c)
-    below_by n h c Given e = (0, rw e (fed_both N (first_values x.values I) J longer Given (λ p. []) (λ p. []) c (λ p. prefix_refl [])))
-    below_by n h c Nobody e = (0, (_, refl))
-    below_by n h c (Written p) e =
-        let all = fits_all (iterate N J) (held_in N I x n) (chain N J) h (Hands (Number (pos 0))) (instance_at N p).actuals in (
-          suc (max (x.events p) all.0),
-          prefix_trans _ _ _ (out_grows N (x.events p) (x.events p) p (held_in N I x n) (iterate N J all.0) c (le_refl (x.events p)) all.1) (solves N J c p (x.events p) all.0 e),
-        )
+  -- a value that an instance sends was sent on what was held before
+  pub held_before : (c : Line) (p k n : ℕ) → source N c ≡ Written p → k < length (held_in N I x n c) → (m : ℕ) × (m < n) × (k < length (out N (x.events p) p (held_in N I x m) c))
+  held_before c p k zero e h =
+      let none : held_in N I x 0 c ≡ [] = rw e refl in
+      let l : k < 0 = subst (λ s. k < length s) none h in
+      absurd (omega (arith, l))
+  held_before c p k (suc n) e h = (n, omega arith, subst (λ s. k < length s) (held_written n c p e) h)
 
-    pub held_below : (n : ℕ) (c : Line) → (m : ℕ) × IsPrefix (held_in N I x n c) (iterate N J m c)
-    held_below zero c = (0, fed_both N (first_values x.values I) J longer (source N c) _ _ c (λ p. prefix_refl []))
-    held_below (suc n) c = below_by n (λ d. held_below n d) c (source N c) refl
+  made_written : (n : ℕ) (c : Line) (p : ℕ) → source N c ≡ Written p → IsPrefix (held_in N I x n c) (out N (x.events p) p (held_in N I x n) c)
+  made_written zero c p e = rw e (_, refl)
+  made_written (suc n) c p e =
+      subst (λ l. IsPrefix l (out N (x.events p) p (held_in N I x (suc n)) c)) (sym (held_written n c p e))
+      (out_grows N (x.events p) (x.events p) p (held_in N I x n) (held_in N I x (suc n)) c (le_refl (x.events p))
+      (feeds (instance_at N p) (held_in N I x n) (held_in N I x (suc n)) (held_within N I x x (within_refl x) n (suc n) (omega arith))))
 
--- ---- histories that a cut makes
+  pub held_made : (n : ℕ) → IsMadeIn N I x (held_in N I x n)
+  held_made n =
+      record {
+        below = λ c. stand_in N I c (held_in N I x n c) (held_all n c);
+        given = λ d e. subst (λ l. length l ≤ x.values d) (sym (held_given n (Channel d) e)) (take_length (x.values d) (I d));
+        written = made_written n;
+      }
 
-made_written : (N : Network) (I : Inputs) (x : Cut) (n : ℕ) (c : Line) (p : ℕ) → source N c ≡ Written p → IsPrefix (held_in N I x n c) (out N (x.events p) p (held_in N I x n) c)
-made_written N I x zero c p e = rw e (_, refl)
-made_written N I x (suc n) c p e =
-    subst (λ l. IsPrefix l (out N (x.events p) p (held_in N I x (suc n)) c)) (sym (held_written N I x n c p e))
-    (out_grows N (x.events p) (x.events p) p (held_in N I x n) (held_in N I x (suc n)) c (le_refl (x.events p))
-    (feeds (instance_at N p) (held_in N I x n) (held_in N I x (suc n)) (held_chain N I x n)))
+-- ---- the least cut that holds what is wanted
 
-pub held_made : (N : Network) (I : Inputs) (x : Cut) (n : ℕ) → IsMadeIn N I x (held_in N I x n)
-held_made N I x n =
-    record {
-      below = λ c. held_below N I x I (λ d. take_below (x.values d) (I d)) n c;
-      given = λ d e. subst (λ l. length l ≤ x.values d) (sym (held_given N I x n (Channel d) e)) (take_length (x.values d) (I d));
-      written = λ c p e. made_written N I x n c p e;
-    }
-
--- ---- tapes below the iterates agree
-
-abbrev pub Below : Network → Inputs → Histories → Type 0
-Below N I A = (c : Line) → (m : ℕ) × IsPrefix (A c) (iterate N I m c)
-
-agree_lines : (N : Network) (I : Inputs) (A B : Histories) (c : Line) → Below N I A → Below N I B → Agree (A c) (B c)
-agree_lines N I A B c h g =
-    let m = max (h c).0 (g c).0 in
-    agree_below (A c) (B c) (iterate N I m c)
-    (prefix_trans _ _ _ (h c).1 (iterates_rise N I (h c).0 m (le-max_left (h c).0 (g c).0) c))
-    (prefix_trans _ _ _ (g c).1 (iterates_rise N I (g c).0 m (le-max_right (h c).0 (g c).0) c))
-
-pub agree_tapes : (N : Network) (I : Inputs) (A B : Histories) → Below N I A → Below N I B → (a : Actual) → Agree (tape_of A a) (tape_of B a)
-agree_tapes N I A B h g (Reads c) = agree_lines N I A B (Channel c) h g
-agree_tapes N I A B h g (Writes c) = tt
-agree_tapes N I A B h g (Hands v) = tt
-
--- ---- the shortest run on histories that begin the solution's, beside a run on any others
-
-module _ (N : Network) (I : Inputs) (n : ℕ) (H : Histories) (here : Below N I H) (c : Line) (p k : ℕ) where
-  abbrev pub Run : Type 0
-  Run = Shortest (goes_to N p c) n (script_at N n p) (tapes_of (instance_at N p) H) k
-
-  pub run : k < length (out N n p H c) → Run
-  run h = shortest (goes_to N p c) n (script_at N n p) (tapes_of (instance_at N p) H) k h
-
-  same_exec : (f : ℕ) (A : Histories) → exec_at N f p A ≡ play f (script_at N (max f n) p) (tapes_of (instance_at N p) A)
-  same_exec f A = play_alike (exec_alike N f (max f n) p (le-max_left f n)) (tapes_of (instance_at N p) A)
-
-  pub out_enough : (r : Run) (f : ℕ) (A : Histories) → Below N I A → r.events ≤ f → Covers r.taken (tapes_of (instance_at N p) A) → k < length (out N f p A c)
-  out_enough r f A below le h =
-      subst (Sends_more (goes_to N p c) k) (sym (same_exec f A))
-      (r.enough f (script_at N (max f n) p) (tapes_of (instance_at N p) A) (exec_alike N n (max f n) p (le-max_right f n))
-      (λ q. agree_tapes N I H A here below (actual_at (instance_at N p) q)) le h)
-
-  pub out_needed : (r : Run) (f : ℕ) (A : Histories) → Below N I A → k < length (out N f p A c) → (r.events ≤ f) × Covers r.taken (tapes_of (instance_at N p) A)
-  out_needed r f A below h =
-      r.needed f (script_at N (max f n) p) (tapes_of (instance_at N p) A) (exec_alike N n (max f n) p (le-max_right f n))
-      (λ q. agree_tapes N I H A here below (actual_at (instance_at N p) q))
-      (subst (Sends_more (goes_to N p c) k) (same_exec f A) h)
-
--- ---- the least cut
-
--- more than k values on line c
-pub record Found (N : Network) (I : Inputs) (c : Line) (k : ℕ) : Type 0 where
+pub record Least (N : Network) (I : Inputs) (P : Histories → Type 0) : Type 0 where
   pub cut : Cut
-  pub enough : (n : ℕ) × (k < length (held_in N I cut n c))
-  pub least : (y : Cut) (A : Histories) → IsMadeIn N I y A → k < length (A c) → IsCutWithin cut y
+  pub enough : (n : ℕ) × P (held_in N I cut n)
+  pub least : (y : Cut) (A : Histories) → IsMadeIn N I y A → P A → IsCutWithin cut y
 
--- so many values at a parameter
-record At_one (N : Network) (I : Inputs) (a : Actual) (t : ℕ) : Type 0 where
-  cut : Cut
-  enough : (n : ℕ) × (t ≤ length (tape_of (held_in N I cut n) a))
-  least : (y : Cut) (A : Histories) → IsMadeIn N I y A → t ≤ length (tape_of A a) → IsCutWithin cut y
+abbrev pub Grows : (Histories → Type 0) → Type 0
+Grows P = (H G : Histories) → IsExtended H G → P H → P G
 
--- at all parameters
-record At_all (N : Network) (I : Inputs) (at : ℕ → Actual) (t : ℕ → ℕ) : Type 0 where
-  cut : Cut
-  enough : (n : ℕ) × ((q : ℕ) → t q ≤ length (tape_of (held_in N I cut n) (at q)))
-  least : (y : Cut) (A : Histories) → IsMadeIn N I y A → ((q : ℕ) → t q ≤ length (tape_of A (at q))) → IsCutWithin cut y
-
-pub tape_rises : (N : Network) (I : Inputs) (x y : Cut) (n m : ℕ) → IsCutWithin x y → n ≤ m → (a : Actual) (t : ℕ) → t ≤ length (tape_of (held_in N I x n) a) → t ≤ length (tape_of (held_in N I y m) a)
-tape_rises N I x y n m w le (Reads c) t h =
-    let l = prefix_length (held_in N I x n (Channel c)) (held_in N I y m (Channel c)) (prefix_trans _ _ _ (held_within N I x y w n (Channel c)) (held_rises N I y n m le (Channel c))) in
-    omega (arith, h, l)
-tape_rises N I x y n m w le (Writes c) t h = h
-tape_rises N I x y n m w le (Hands v) t h = h
+pub tape_grows : (t : ℕ) (a : Actual) → Grows (λ A. t ≤ length (tape_of A a))
+tape_grows t (Reads d) H G h l = let m = prefix_length (H (Channel d)) (G (Channel d)) (h (Channel d)) in omega (arith, l, m)
+tape_grows t (Writes d) H G h l = l
+tape_grows t (Hands v) H G h l = l
 
 module _ (N : Network) (I : Inputs) where
-  -- on an input
-  given_more : (d k : ℕ) (e : source N (Channel d) ≡ Given) → k < length (I d) →
-      k < length (held_in N I (record { values = only d (suc k); events = λ p. 0 }) 0 (Channel d))
-  given_more d k e h =
-      subst (λ l. k < length l) (sym (held_given N I (record { values = only d (suc k); events = λ p. 0 }) 0 (Channel d) e))
-      (subst (λ m. k < length (take m (I d))) (sym (only_there d (suc k))) (take_more k (I d) h))
+  abbrev nothing : Cut
+  nothing = record { values = λ c. 0; events = λ p. 0 }
 
-  found_given : (c : Line) (k : ℕ) → source N c ≡ Given → k < length (input_list I c) → Found N I c k
-  found_given (Channel d) k e h =
+  none_wanted : (P : Histories → Type 0) → P (held_in N I nothing 0) → Least N I P
+  none_wanted P h = record { cut = nothing; enough = (0, h); least = λ y A made g. (λ c. omega arith, λ p. omega arith) }
+
+  both_wanted : (P Q R : Histories → Type 0) → Grows P → Grows Q → Least N I P → Least N I Q → ((A : Histories) → P A → Q A → R A) → ((A : Histories) → R A → P A × Q A) → Least N I R
+  both_wanted P Q R p q x y there back =
+      let n = max x.enough.0 y.enough.0 in
+      let z = join x.cut y.cut in
       record {
-        cut = record { values = only d (suc k); events = λ p. 0 };
-        enough = (0, given_more d k e h);
-        least = λ y A made g. (
-          only_below d (suc k) y.values (let l = made.given d e in omega (arith, g, l)),
-          λ p. omega arith,
+        cut = z;
+        enough = (
+          n,
+          there (held_in N I z n) (p _ _ (held_within N I x.cut z (join_left x.cut y.cut) x.enough.0 n (le-max_left x.enough.0 y.enough.0)) x.enough.1)
+              (q _ _ (held_within N I y.cut z (join_right x.cut y.cut) y.enough.0 n (le-max_right x.enough.0 y.enough.0)) y.enough.1),
         );
+        least = λ w A made h. join_below x.cut y.cut w (x.least w A made (back A h).0) (y.least w A made (back A h).1);
       }
+
+  -- more than k values of a line
+  abbrev pub Found : Line → ℕ → Type 0
+  Found c k = Least N I (λ A. k < length (A c))
+
+  found_given : (c : Line) (k : ℕ) → source N c ≡ Given → k < length (input_list I c) → Found c k
   found_given (Print p) k e h = absurd (omega (arith, h))
+  found_given (Channel d) k e h =
+      let x : Cut = record { values = only d (suc k); events = λ p. 0 } in
+      let f = ap length (held_given N I x 0 (Channel d) e) in
+      let g = length-take (only d (suc k) d) (I d) in
+      let t = only_there d (suc k) in
+      record {
+        cut = x;
+        enough = (0, omega (arith, f, g, t, h));
+        least = λ y A made g. (only_below d (suc k) y.values (let l = made.given d e in omega (arith, g, l)), λ p. omega arith);
+      }
 
-  -- on a line that an instance writes
-  module _ (n : ℕ) (before : (d k : ℕ) → k < length (iterate N I n (Channel d)) → Found N I (Channel d) k) where
-    at_read : (d t : ℕ) → t ≤ length (iterate N I n (Channel d)) → At_one N I (Reads d) t
-    at_read d zero h = record { cut = nothing; enough = (0, omega arith); least = λ y A made g. nothing_below y }
-    at_read d (suc t) h =
-        let f = before d t (omega (arith, h)) in
-        record {
-          cut = f.cut;
-          enough = (f.enough.0, let l = f.enough.1 in omega (arith, l));
-          least = λ y A made g. f.least y A made (omega (arith, g));
-        }
-
-    at_one : (a : Actual) (t : ℕ) → t ≤ length (tape_of (iterate N I n) a) → At_one N I a t
-    at_one (Reads d) t h = at_read d t h
-    at_one (Writes d) t h = record { cut = nothing; enough = (0, h); least = λ y A made g. nothing_below y }
-    at_one (Hands v) t h = record { cut = nothing; enough = (0, h); least = λ y A made g. nothing_below y }
-
-    at_both : (default a : Actual) (rest : List Actual) (t : ℕ → ℕ) → At_one N I a (t 0) → At_all N I (λ q. slice_index_or rest q default) (λ q. t (suc q)) →
-        At_all N I (λ q. slice_index_or (a ∷ rest) q default) t
-    at_both default a rest t one all =
-        record {
-          cut = join one.cut all.cut;
-          enough = (max one.enough.0 all.enough.0, each);
-          least = λ y A made h. join_below one.cut all.cut y (one.least y A made (h 0)) (all.least y A made (λ q. h (suc q)));
-        }
-      where
-        each : (q : ℕ) → t q ≤ length (tape_of (held_in N I (join one.cut all.cut) (max one.enough.0 all.enough.0)) (slice_index_or (a ∷ rest) q default))
-        each zero =
-            tape_rises N I one.cut (join one.cut all.cut) one.enough.0 (max one.enough.0 all.enough.0) (join_left one.cut all.cut) (le-max_left one.enough.0 all.enough.0)
-            a (t 0) one.enough.1
-        each (suc q) =
-            tape_rises N I all.cut (join one.cut all.cut) all.enough.0 (max one.enough.0 all.enough.0) (join_right one.cut all.cut) (le-max_right one.enough.0 all.enough.0)
-            (slice_index_or rest q default) (t (suc q)) (all.enough.1 q)
+  -- at one parameter, and at all
+  module _ (n : ℕ) (before : (d k : ℕ) → k < length (iterate N I n (Channel d)) → Found (Channel d) k) where
+    at_one : (a : Actual) (t : ℕ) → t ≤ length (tape_of (iterate N I n) a) → Least N I (λ A. t ≤ length (tape_of A a))
+    at_one (Reads d) zero h = none_wanted (λ A. zero ≤ length (A (Channel d))) (omega arith)
+    at_one (Reads d) (suc t) h = before d t h
+    at_one (Writes d) t h = none_wanted (λ A. t ≤ 0) h
+    at_one (Hands v) t h = none_wanted (λ A. t ≤ 0) h
 
     at_all : (default : Actual) → ((A : Histories) → tape_of A default ≡ []) → (actuals : List Actual) (t : ℕ → ℕ) →
-        ((q : ℕ) → t q ≤ length (tape_of (iterate N I n) (slice_index_or actuals q default))) → At_all N I (λ q. slice_index_or actuals q default) t
-    at_all default none [] t h =
-        record {
-          cut = nothing;
-          enough = (0, λ q. subst (λ l. t q ≤ length l) (none (iterate N I n) ∙ sym (none (held_in N I nothing 0))) (h q));
-          least = λ y A made g. nothing_below y;
-        }
-    at_all default none (a ∷ rest) t h = at_both default a rest t (at_one a (t 0) (h 0)) (at_all default none rest (λ q. t (suc q)) (λ q. h (suc q)))
+        ((q : ℕ) → t q ≤ length (tape_of (iterate N I n) (slice_index_or actuals q default))) → Least N I (λ A. (q : ℕ) → t q ≤ length (tape_of A (slice_index_or actuals q default)))
+    at_all default none [] t h = none_wanted (λ A. (q : ℕ) → t q ≤ length (tape_of A default)) (λ q. let g = h q in let e = ap length (none (iterate N I n)) in let f = ap length (none (held_in N I nothing 0)) in omega (arith, g, e, f))
+    at_all default none (a ∷ rest) t h =
+        both_wanted (λ A. t 0 ≤ length (tape_of A a)) (λ A. (q : ℕ) → t (suc q) ≤ length (tape_of A (slice_index_or rest q default)))
+        (λ A. (q : ℕ) → t q ≤ length (tape_of A (slice_index_or (a ∷ rest) q default)))
+        (tape_grows (t 0) a) (λ H G e g q. tape_grows (t (suc q)) (slice_index_or rest q default) H G e (g q))
+        (at_one a (t 0) (h 0)) (at_all default none rest (λ q. t (suc q)) (λ q. h (suc q))) there (λ A g. (g 0, λ q. g (suc q)))
+      where
+        there : (A : Histories) → t 0 ≤ length (tape_of A a) → ((q : ℕ) → t (suc q) ≤ length (tape_of A (slice_index_or rest q default))) → (q : ℕ) → t q ≤ length (tape_of A (slice_index_or (a ∷ rest) q default))
+        there A l g zero = l
+        there A l g (suc q) = g q
 
-    iterate_below : Below N I (iterate N I n)
-    iterate_below d = (n, prefix_refl (iterate N I n d))
-
+    -- on a line that an instance sends
     module _ (c : Line) (p k : ℕ) (src : source N c ≡ Written p) where
-      abbrev Here : Type 0
-      Here = Run N I n (iterate N I n) iterate_below c p k
+      abbrev H : Histories
+      H = iterate N I n
 
-      abbrev with_run : Here → Cut → Cut
-      with_run r x = join x (record { values = λ d. 0; events = only p r.events })
+      stand : AllOf N I H
+      stand c j v e = (n, e)
 
-      events_there : (r : Here) (x : Cut) → r.events ≤ (with_run r x).events p
-      events_there r x =
-          let e = only_there p r.events in
-          let l = le-max_right (x.events p) (only p r.events p) in
-          omega (arith, e, l)
+      module _ (e : ℕ) (short : IsShortest N p c k e H) where
+        abbrev t : ℕ → ℕ
+        t = taken N I p c k e H stand short
 
-      written_more : (r : Here) (all : At_all N I (actual_at (instance_at N p)) r.taken) → k < length (held_in N I (with_run r all.cut) (suc all.enough.0) c)
-      written_more r all =
-          let x = with_run r all.cut in
-          subst (λ l. k < length l) (sym (held_written N I x all.enough.0 c p src))
-          (out_enough N I n (iterate N I n) iterate_below c p k r (x.events p) (held_in N I x all.enough.0) (held_made N I x all.enough.0).below (events_there r all.cut)
-          (λ q. tape_rises N I all.cut x all.enough.0 all.enough.0 (join_left all.cut _) (le_refl all.enough.0) (actual_at (instance_at N p) q) (r.taken q) (all.enough.1 q)))
+        found_by : Least N I (λ A. (q : ℕ) → t q ≤ length (tape_of A (actual_at (instance_at N p) q))) → Found c k
+        found_by all =
+            let x = join all.cut (record { values = λ d. 0; events = only p e }) in
+            let m = all.enough.0 in
+            let o = only_there p e in
+            let l = le-max_right (all.cut.events p) (only p e p) in
+            record {
+              cut = x;
+              enough = (
+                suc m,
+                subst (λ l. k < length l) (sym (held_written N I x m c p src))
+                    (enough N I p c k e H stand short (x.events p) (held_in N I x m) (held_all N I x m) (omega (arith, o, l))
+                    (λ q. tape_grows (t q) (actual_at (instance_at N p) q) _ _ (held_within N I all.cut x (join_left all.cut _) m m (le_refl m)) (all.enough.1 q))),
+              );
+              least = λ y A made h.
+                  let l = prefix_length (A c) (out N (y.events p) p A c) (made.written c p src) in
+                  let g = needed N I p c k e H stand short (y.events p) A (λ d j v f. let b = made.below d in (b.0, prefix_get _ _ b.1 j v f)) (omega (arith, h, l)) in
+                  join_below all.cut _ y (all.least y A made g.1) (λ d. omega arith, only_below p e y.events g.0);
+            }
 
-      written_least : (r : Here) (all : At_all N I (actual_at (instance_at N p)) r.taken) (y : Cut) (A : Histories) → IsMadeIn N I y A → k < length (A c) → IsCutWithin (with_run r all.cut) y
-      written_least r all y A made h =
-          let l = prefix_length (A c) (out N (y.events p) p A c) (made.written c p src) in
-          let g = out_needed N I n (iterate N I n) iterate_below c p k r (y.events p) A made.below (omega (arith, h, l)) in
-          join_below all.cut _ y (all.least y A made g.1) (λ d. omega arith, only_below p r.events y.events g.0)
+        found_short : Found c k
+        found_short = found_by (at_all (Hands (Number (pos 0))) (λ A. refl) (instance_at N p).actuals t (λ q. let l = taken_left N I p c k e H stand short q in omega (arith, l)))
 
-      found_by : (r : Here) (all : At_all N I (actual_at (instance_at N p)) r.taken) → Found N I c k
-      found_by r all =
-          record { cut = with_run r all.cut; enough = (suc all.enough.0, written_more r all); least = written_least r all }
+      found_written : k < length (out N n p H c) → Found c k
+      found_written h = let f = fewest (λ e. length (out N e p H c)) k n h in found_short f.0 (record { there = f.1; sooner = f.2 })
 
-      found_written : k < length (out N n p (iterate N I n) c) → Found N I c k
-      found_written h =
-          let r : Here = run N I n (iterate N I n) iterate_below c p k h in
-          found_by r
-          (at_all (Hands (Number (pos 0))) (λ A. refl) (instance_at N p).actuals r.taken
-          (out_needed N I n (iterate N I n) iterate_below c p k r n (iterate N I n) iterate_below h).1)
-
-  found_source : (c : Line) (k : ℕ) (f : ℕ → List Value) (src : Source) → source N c ≡ src → ((p : ℕ) → source N c ≡ Written p → k < length (f p) → Found N I c k) →
-      k < length (fed src I f c) → Found N I c k
+  found_source : (c : Line) (k : ℕ) (f : ℕ → List Value) (src : Source) → source N c ≡ src → ((p : ℕ) → source N c ≡ Written p → k < length (f p) → Found c k) →
+      k < length (fed src I f c) → Found c k
   found_source c k f Given e step h = found_given c k e h
   found_source c k f (Written p) e step h = step p e h
   found_source c k f Nobody e step h = absurd (omega (arith, h))
 
-  pub found : (n : ℕ) (c : Line) (k : ℕ) → k < length (iterate N I n c) → Found N I c k
+  pub found : (n : ℕ) (c : Line) (k : ℕ) → k < length (iterate N I n c) → Found c k
   found zero c k h = found_source c k (λ p. []) (source N c) refl (λ p e g. absurd (omega (arith, g))) h
   found (suc n) c k h = found_source c k _ (source N c) refl (λ p e g. found_written n (λ d j l. found n (Channel d) j l) c p k e g) h

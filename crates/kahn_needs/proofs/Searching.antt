@@ -1,15 +1,12 @@
 -- One turn of a search: what is forced stays so, and what a process waits for is wanted.
-use Rattle.std.proofs.Common.{arith, ◌≡◌, inl, inr, ℕ, zero, suc, le_refl, ◌+◌, ◌≤◌, ◌<◌, length, map, take, refl, sym, ap, ◌∙◌, subst, Option, Some, None, slice_get, slice_index_or}
-use Rattle.std.proofs.lemmas.List.{length-map}
+use Rattle.std.proofs.Common.{arith, ◌≡◌, inl, inr, ℕ, zero, suc, le_refl, ◌+◌, ◌≤◌, ◌<◌, length, take, refl, sym, ap, ◌∙◌, subst, Option, Some, slice_get, slice_index_or}
 use Rattle.std.proofs.lemmas.Option.{same_Some}
 use Rattle.kahn_streams.proofs.By_number.{there, within}
 use Rattle.kahn_streams.proofs.Sourced.{reads, reads_listed}
 use Rattle.kahn_streams.specs.Inputs.{Lists, inputs_of}
-use Rattle.kahn_streams.specs.Meaning.{Store}
 use Rattle.kahn_streams.specs.Network.{IsWriter, Network, Reads, Writes, Given, Written, actual_at, channel_source, instance_at, network_of, role_at}
-use Rattle.kahn_streams.specs.Script.{ScriptOutcome, Dry, Cut as Unended}
-use Rattle.kahn_streams.specs.Solution.{Inputs, Ended, Faulted, Waiting as Waits_for, ending, input_list, source}
-use Rattle.kahn_streams.specs.Tokens.{token_value}
+use Rattle.kahn_streams.specs.Script.{Dry}
+use Rattle.kahn_streams.specs.Solution.{Inputs, Ending, Ended, Faulted, Waiting as Waits_for, ending, input_list, out, source, tape_of}
 use Rattle.kahn_streams.specs.declared.sides.Side.{Side}
 use Rattle.kahn_streams.specs.declared.tree.Program.{Program}
 use Rattle.kahn_streams.specs.declared.tree.Role.TheVariants.{Input}
@@ -24,14 +21,14 @@ use Rattle.kahn_code.specs.Progress.{AreCounts, CellView, told_view}
 use Rattle.kahn_code.specs.Standing.{count}
 use Rattle.kahn_code.specs.declared.progress.Pause.{Pause}
 use Rattle.kahn_code.specs.declared.progress.Pause.TheVariants as pause
-use Rattle.kahn_needs.specs.Needs.{Cut}
+use Rattle.kahn_needs.specs.Needs.{Cut, held_in}
 use Rattle.kahn_needs.specs.declared.search.Chain.{Chain}
 use Rattle.kahn_needs.specs.Finding.{IsNetworkLine}
 use Rattle.kahn_needs.specs.inner.Bench.{HasActed, HaveSeats, AreSeatsOf, Stood, Seats}
 use Rattle.kahn_needs.specs.inner.Finding.{AreForced, HasSentSoMany, HoldsIn, HoldsAt, IsWaitChain, IsDemand, IsNoLater, IsPausedAt, IsSooner, IsWanted}
 use Rattle.kahn_needs.proofs.Benched.{found}
-use Rattle.kahn_needs.proofs.Forcing.{goes_further, has_next, has_taken, stuck}
-use Rattle.kahn_needs.proofs.Needing.{held_given, prefix_length, take_below}
+use Rattle.kahn_needs.proofs.Needing.{held_all, held_before, held_given, prefix_length, take_below}
+use Rattle.kahn_needs.proofs.Ways as way
 
 -- of an input a cut has no more than its list
 pub given_within : (N : Network) (I : Inputs) (y : Cut) (d : Line) (j : ℕ) → source N d ≡ Given → HoldsAt N I y d j → j < length (input_list I d)
@@ -77,6 +74,10 @@ module _ (b : Seats) (laid : HaveSeats b) where
     less : (x : CellView) → slice_get b.cells p ≡ Some x → (s : Stood b p x) → length (sent_on N x.events p s.tapes d) ≤ j
     less x at s = let e = sent p src x at s in omega (arith, e, few)
 
+    -- what was held when the value was sent, in a cut in which it is
+    before : (y : Cut) (there : HoldsAt N I y d j) → (m : ℕ) × (m < there.0) × (j < length (out N (y.events p) p (held_in N I y m) d))
+    before y there = held_before N I y d p j there.0 src there.1
+
     -- it waits for a value that is wanted, and comes sooner
     pub waits_for : (q e : ℕ) → IsPausedAt b p (pause.Dry q) → actual_at (instance_at N p) q ≡ Reads e →
         IsDemand b c k (Channel e) (taken_of (slice_get b.queues.queues e)) × IsSooner b d j (Channel e) (taken_of (slice_get b.queues.queues e))
@@ -96,8 +97,12 @@ module _ (b : Seats) (laid : HaveSeats b) where
         dry = h.2.is.2
 
         sooner : IsSooner b d j (Channel e) (taken_of (slice_get b.queues.queues e))
-        sooner y there = subst (λ i. (g : HoldsAt N I y (Channel e) i) × (g.0 < there.0)) (sym (taken_there p q e h.0 h.1 r))
-            (has_next N I b.watch p (told_view h.0) h.2.stood d src j (less h.0 h.1 h.2.stood) y there q e r dry)
+        sooner y there =
+            let m = before y there in
+            let l = way.waits_there N I b.watch p (told_view h.0) h.2.stood d j (less h.0 h.1 h.2.stood) (y.events p) (held_in N I y m.0) (held_all N I y m.0) m.2 q dry in
+            let f = ap (λ a. length (tape_of (held_in N I y m.0) a)) r in
+            let t = taken_there p q e h.0 h.1 r in
+            ((m.0, omega (arith, l, f, t)), m.1)
 
         same : {x y : ℕ} → Reads x ≡ Reads y → x ≡ y
         same f = cc
@@ -115,38 +120,23 @@ module _ (b : Seats) (laid : HaveSeats b) where
         by (inr w) s = let f : Given ≡ Written w.0 = sym s ∙ w.2 in absurd cc
 
     -- it is at an end, so there is none
-    over_by : (x : CellView) → slice_get b.cells p ≡ Some x → (s : Stood b p x) → (o : ScriptOutcome Store) → (exec_on N x.events p s.tapes).outcome ≡ o → (o ≡ Unended → ⊥) →
-        ((q : ℕ) → o ≡ Dry q → ⊥) → (y : Cut) → HoldsIn b y c k → ⊥
-    over_by x at s o is ended dry y there =
-        stuck N I b.watch p (told_view x) s d src j (less x at s) y (demand.wanted y there) o is ended (λ q e. absurd (dry q e))
+    over_by : (e : Ending) → ((q : ℕ) → e ≡ Waits_for q → ⊥) → (x : CellView) → slice_get b.cells p ≡ Some x → (s : Stood b p x) → ending (exec_on N x.events p s.tapes).outcome ≡ Some e →
+        (y : Cut) → HoldsIn b y c k → ⊥
+    over_by e none x at s is y there =
+        let m = before y (demand.wanted y there) in
+        way.not_over N I b.watch p (told_view x) s d j (less x at s) (y.events p) (held_in N I y m.0) (held_all N I y m.0) m.2 e is none
 
     pub ended : IsPausedAt b p pause.Ended → (y : Cut) → HoldsIn b y c k → ⊥
-    ended h =
-        let is : ending (exec_on N h.0.events p h.2.stood.tapes).outcome ≡ Some Ended = h.2.is in
-        over_by h.0 h.1 h.2.stood (exec_on N h.0.events p h.2.stood.tapes).outcome refl (not_cut _ is) (not_dry _ is)
-      where
-        not_cut : (o : ScriptOutcome Store) → ending o ≡ Some Ended → o ≡ Unended → ⊥
-        not_cut o e f = let g : None ≡ Some Ended = sym (ap ending f) ∙ e in cc
-
-        not_dry : (o : ScriptOutcome Store) → ending o ≡ Some Ended → (q : ℕ) → o ≡ Dry q → ⊥
-        not_dry o e q f = let g : Some (Waits_for q) ≡ Some Ended = sym (ap ending f) ∙ e in cc
+    ended h = over_by Ended (λ q e. absurd cc) h.0 h.1 h.2.stood h.2.is
 
     pub faulted : (z : Failure) → IsPausedAt b p (pause.Fault z) → (y : Cut) → HoldsIn b y c k → ⊥
-    faulted z h =
-        let is : ending (exec_on N h.0.events p h.2.stood.tapes).outcome ≡ Some (Faulted z) = h.2.is in
-        over_by h.0 h.1 h.2.stood (exec_on N h.0.events p h.2.stood.tapes).outcome refl (not_cut _ is) (not_dry _ is)
-      where
-        not_cut : (o : ScriptOutcome Store) → ending o ≡ Some (Faulted z) → o ≡ Unended → ⊥
-        not_cut o e f = let g : None ≡ Some (Faulted z) = sym (ap ending f) ∙ e in cc
-
-        not_dry : (o : ScriptOutcome Store) → ending o ≡ Some (Faulted z) → (q : ℕ) → o ≡ Dry q → ⊥
-        not_dry o e q f = let g : Some (Waits_for q) ≡ Some (Faulted z) = sym (ap ending f) ∙ e in cc
+    faulted z h = over_by (Faulted z) (λ q e. absurd cc) h.0 h.1 h.2.stood h.2.is
 
     -- ---- an event
 
     module _ (forced : AreForced b c k) (b' : Seats) (z : Pause) (a : HasActed b b' p z) where
-      before : Stood b p a.old
-      before = (laid.each p a.old a.was).stood
+      stood : Stood b p a.old
+      stood = (laid.each p a.old a.was).stood
 
       after : Stood b p a.new
       after =
@@ -155,11 +145,16 @@ module _ (b : Seats) (laid : HaveSeats b) where
 
       one : (y : Cut) → HoldsAt N I y c k → Needs_all b.network b.input y p a.new
       one y there =
-          let h = demand.wanted y there in
-          let g = goes_further N I b.watch p (told_view a.old) before d src j (less a.old a.was before) y h in
-          let m = a.events.1 in (
-            omega (arith, g, m),
-            λ q e i r l. has_taken N I b.watch p (told_view a.old) before d src j (less a.old a.was before) y h (told_view a.new) after m q e r i l,
+          let m = before y (demand.wanted y there) in
+          let A = held_in N I y m.0 in
+          let less' = less a.old a.was stood in
+          let g = way.goes_further N I b.watch p (told_view a.old) stood d j less' (y.events p) A (held_all N I y m.0) m.2 in
+          let one_more = a.events.1 in (
+            omega (arith, g, one_more),
+            λ q e i r l.
+                let t = way.taken_there N I b.watch p (told_view a.old) stood d j less' (y.events p) A (held_all N I y m.0) m.2 (told_view a.new) after one_more q in
+                let f = ap (λ a. length (tape_of A a)) r in
+                (m.0, omega (arith, t, f, l)),
           )
 
       on : (y : Cut) → HoldsAt N I y c k → (o : ℕ) (x : CellView) → slice_get b'.cells o ≡ Some x → Needs_all b.network b.input y o x
@@ -173,27 +168,24 @@ module _ (b : Seats) (laid : HaveSeats b) where
 
 -- ---- the same demand later
 
-pub demand_on : (b b' : Seats) → AreSeatsOf b.network b.input b.watch b' → (c : Line) (k : ℕ) (d : Line) (j : ℕ) → IsDemand b c k d j → IsDemand b' c k d j
-demand_on b b' names c k d j h = record {
-  listed = subst (λ t. IsNetworkLine (network_of t) d) (sym names.0) h.listed;
-  wanted = subst (λ (k' : Program × Lists). (y : Cut) → HoldsAt (network_of k'.0) (inputs_of k'.1) y c k → HoldsAt (network_of k'.0) (inputs_of k'.1) y d j) both h.wanted;
-  given = subst (λ (k' : Program × Lists). source (network_of k'.0) d ≡ Given → length (input_list (inputs_of k'.1) d) ≤ j) both h.given;
-}
-  where
-    both : ◌≡◌ {A = Program × Lists} (b.network, b.input) (b'.network, b'.input)
-    both i = (sym names.0 i, sym names.1 i)
+module _ (b b' : Seats) (names : AreSeatsOf b.network b.input b.watch b') (c : Line) (k : ℕ) where
+  still : (P : Network → Inputs → Type 0) → P (network_of b.network) (inputs_of b.input) → P (network_of b'.network) (inputs_of b'.input)
+  still P = subst (λ (t : Program × Lists). P (network_of t.0) (inputs_of t.1)) (λ i. (sym names.0 i, sym names.1 i))
 
--- and the same chain
-pub chain_on : (b b' : Seats) → AreSeatsOf b.network b.input b.watch b' → (c : Line) (k : ℕ) (x : Chain) → IsWaitChain b c k x → IsWaitChain b' c k x
-chain_on b b' names c k x h = record {
-  demanded = demand_on b b' names c k x.demand.line x.demand.place h.demanded;
-  marked = subst (λ (k' : Program × Lists). (y : Cut) → HoldsAt (network_of k'.0) (inputs_of k'.1) y c k → HoldsAt (network_of k'.0) (inputs_of k'.1) y x.mark.line x.mark.place) both h.marked;
-  later = subst (λ (k' : Program × Lists). (y : Cut) (h' : HoldsAt (network_of k'.0) (inputs_of k'.1) y x.mark.line x.mark.place) →
-      (g : HoldsAt (network_of k'.0) (inputs_of k'.1) y x.demand.line x.demand.place) × (g.0 ≤ h'.0)) both h.later;
-}
-  where
-    both : ◌≡◌ {A = Program × Lists} (b.network, b.input) (b'.network, b'.input)
-    both i = (sym names.0 i, sym names.1 i)
+  pub demand_on : (d : Line) (j : ℕ) → IsDemand b c k d j → IsDemand b' c k d j
+  demand_on d j h = record {
+    listed = still (λ N I. IsNetworkLine N d) h.listed;
+    wanted = still (λ N I. (y : Cut) → HoldsAt N I y c k → HoldsAt N I y d j) h.wanted;
+    given = still (λ N I. source N d ≡ Given → length (input_list I d) ≤ j) h.given;
+  }
+
+  -- and the same chain
+  pub chain_on : (x : Chain) → IsWaitChain b c k x → IsWaitChain b' c k x
+  chain_on x h = record {
+    demanded = demand_on x.demand.line x.demand.place h.demanded;
+    marked = still (λ N I. (y : Cut) → HoldsAt N I y c k → HoldsAt N I y x.mark.line x.mark.place) h.marked;
+    later = still (λ N I. (y : Cut) (h' : HoldsAt N I y x.mark.line x.mark.place) → (g : HoldsAt N I y x.demand.line x.demand.place) × (g.0 ≤ h'.0)) h.later;
+  }
 
 -- one that begins with a demand
 pub chain_begun : (b : Seats) (c : Line) (k : ℕ) (d : Line) (j : ℕ) → IsDemand b c k d j → (y : Cut) (h : HoldsIn b y d j) → (g : HoldsIn b y d j) × (g.0 ≤ h.0)
@@ -261,14 +253,3 @@ module _ {b n : Seats} (is : b ≡ n) (laid : HaveSeats b) (c : ℕ) (s : Side) 
 
   pub sent_there : channel_source (network_of b.network) c ≡ Written s.instance → HasSentSoMany n (Channel c) (count x.sent s.parameter)
   sent_there source_is = subst (λ (y : Seats). HasSentSoMany y (Channel c) (count x.sent s.parameter)) is (sent_here source_is)
-
-pub printed_there : {b n : Seats} (is : b ≡ n) (laid : HaveSeats b) (p : ℕ) → p < length (network_of n.network).instances → {x : CellView} → x ≡ slice_index_or b.cells p x →
-    HasSentSoMany n (Print p) (length x.printed)
-printed_there {b} {n} is laid p here {x} value r src x' at stood =
-    let same : p ≡ r = same_writer src in
-    let at' : slice_get n.cells r ≡ Some x =
-    subst (λ i. slice_get n.cells i ≡ Some x) same (subst (λ (y : Seats). slice_get y.cells p ≡ Some x) is (found is laid p here value)) in
-    let e : x ≡ x' = same_Some x x' (sym at' ∙ at) in
-    let line : sent_on (network_of n.network) x'.events r stood.tapes (Print p) ≡ map token_value x'.printed =
-    subst (λ i. sent_on (network_of n.network) x'.events r stood.tapes (Print i) ≡ map token_value x'.printed) (sym same) (sym stood.printed.values) in
-    ap length line ∙ length-map x'.printed token_value ∙ ap (λ (y : CellView). length y.printed) (sym e)

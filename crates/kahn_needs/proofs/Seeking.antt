@@ -1,13 +1,11 @@
 -- A search that goes on from one place to a later one.
-use Rattle.std.proofs.Common.{arith, ◌≡◌, ℕ, ◌≤◌, sym, ap, ◌∙◌, subst, refl}
-use Rattle.kahn_streams.specs.Inputs.{Lists, inputs_of}
-use Rattle.kahn_streams.specs.Network.{Given, network_of}
-use Rattle.kahn_streams.specs.Solution.{source}
+use Rattle.std.proofs.Common.{arith, ◌≡◌, ℕ, ◌≤◌, sym, ap, ◌∙◌, subst}
+use Rattle.kahn_streams.specs.Inputs.{Lists}
 use Rattle.kahn_streams.specs.declared.tree.Program.{Program}
 use Rattle.kahn_streams.specs.declared.value.Line.{Line}
-use Rattle.kahn_needs.specs.Finding.{IsNetworkLine, IsSeeking, Seeking}
-use Rattle.kahn_needs.specs.inner.Bench.{AreSeatsOf, HaveNotMoved, HaveSeats, Seats}
-use Rattle.kahn_needs.specs.inner.Finding.{AreForced, IsDemand, IsSearchState, seeking_of, watch_of}
+use Rattle.kahn_needs.specs.Finding.{Seeking}
+use Rattle.kahn_needs.specs.inner.Bench.{AreSeatsOf, Seats}
+use Rattle.kahn_needs.specs.inner.Finding.{AreForced, IsDemand, IsSearchState, seeking_of}
 
 -- the value that is sought is a demand
 pub root_there : (b : Seats) (c : Line) (k n : ℕ) → IsSearchState b c n → IsDemand b c k c k
@@ -15,18 +13,6 @@ root_there b c k n s = record { listed = s.listed; wanted = λ y h. h; given = �
 
 pub forced_later : (b : Seats) (c : Line) (n k : ℕ) → n ≤ k → AreForced b c n → AreForced b c k
 forced_later b c n k le forced y h = let l = h.1 in forced y (h.0, omega (arith, l, le))
-
-pub state_later : (b b' : Seats) (c : Line) (n k : ℕ) → IsSearchState b c n → AreSeatsOf b.network b.input b.watch b' → AreForced b' c k → IsSearchState b' c k
-state_later b b' c n k s names forced = record {
-  listed = subst (λ t. IsNetworkLine (network_of t) c) (sym names.0) s.listed;
-  written = λ e. s.written (subst (λ t. source (network_of t) c ≡ Given) names.0 e);
-  watch = names.2 ∙ s.watch;
-  forced = forced;
-}
-
-pub seeking_later : {s : Seeking} (b b' : Seats) (c : Line) (n k : ℕ) → seeking_of b c n ≡ s → AreSeatsOf b.network b.input b.watch b' → IsSeeking s.network s.input s.line k (seeking_of b' c k)
-seeking_later b b' c n k view names =
-    (names.0 ∙ ap (λ (x : Seeking). x.network) view, names.1 ∙ ap (λ (x : Seeking). x.input) view, ap (λ (x : Seeking). x.line) view, refl)
 
 -- what holds of the seats holds of what contracts see of the search
 pub as_sought : {s : Seeking} (b b' : Seats) (c : Line) (n : ℕ) (P : Program → Lists → Line → Type 0) → seeking_of b c n ≡ s → AreSeatsOf b.network b.input b.watch b' →

@@ -1,24 +1,25 @@
 -- What all cells did for a value, and nothing more, is what it needs.
 use mathlib.Core.Path.{fun_ext}
-use Rattle.std.proofs.Common.{arith, ◌≡◌, ◌⊎◌, inl, inr, ℕ, zero, suc, ◌≤◌, ◌<◌, List, [], ◌∷◌, length, take, refl, sym, ap, ◌∙◌, subst, Option, Some, None, false, slice_get, slice_index_or, length-take}
+use Rattle.std.proofs.Common.{arith, ◌≡◌, ◌⊎◌, inl, inr, ℕ, zero, suc, ◌≤◌, ◌<◌, List, [], ◌∷◌, length, refl, sym, ap, ◌∙◌, subst, le_refl, Option, Some, None, false, slice_get, slice_index_or, length-take}
 use Rattle.std.proofs.lemmas.Bool.{cases_lt}
 use Rattle.std.proofs.lemmas.List.{get_or_past}
 use Rattle.std.proofs.lemmas.Option.{get_or_from_slice_get, slice_get_within}
 use Rattle.kahn_streams.proofs.By_number.{there}
-use Rattle.kahn_streams.proofs.Proved.{prefix_refl, prefix_get, script_at}
+use Rattle.kahn_streams.proofs.Framed.{grows_play}
+use Rattle.kahn_streams.proofs.Proved.{values_append, script_at}
 use Rattle.kahn_streams.proofs.Sided.{channel_served}
 use Rattle.kahn_streams.proofs.Sourced.{outputs, reads, reads_listed}
 use Rattle.kahn_streams.specs.Answers.{is_output}
 use Rattle.kahn_streams.specs.Inputs.{Lists, inputs_of}
 use Rattle.kahn_streams.specs.Network.{IsServed, Network, Reads, Writes, Given, Written, Nobody, Source, actual_at, instance_at, network_of, role_at}
 use Rattle.kahn_streams.specs.Script.{Tapes, play}
-use Rattle.kahn_streams.specs.Solution.{Histories, Inputs, fed, goes_to, input_list, IsPrefix, out, source, tape_of, tapes_of, values_at, exec_at, Stands}
+use Rattle.kahn_streams.specs.Solution.{Histories, Inputs, fed, goes_to, IsPrefix, out, source, tape_of, tapes_of, values_at, Stands}
 use Rattle.kahn_streams.specs.Steps.{empty}
 use Rattle.kahn_streams.specs.declared.tree.Program.{Program}
 use Rattle.kahn_streams.specs.declared.tree.Role.{Role}
 use Rattle.kahn_streams.specs.declared.tree.Role.TheVariants.{Inner, Input, Output}
 use Rattle.kahn_streams.specs.declared.value.Line.{Line}
-use Rattle.kahn_streams.specs.declared.value.Line.TheVariants.{Channel, Print}
+use Rattle.kahn_streams.specs.declared.value.Line.TheVariants.{Channel}
 use Rattle.kahn_streams.specs.declared.value.Value.{Value}
 use Rattle.kahn_streams.specs.inner.Sources.{IsFed}
 use Rattle.kahn_code.proofs.Lists.{sent_stands, stand_in}
@@ -28,15 +29,13 @@ use Rattle.kahn_code.specs.Lines.{Waiting, given_of, next_at, taken_of}
 use Rattle.kahn_code.specs.Progress.{CellView}
 use Rattle.kahn_code.specs.Standing.{count}
 use Rattle.kahn_needs.specs.Needs.{AreNeeds, Cut, Suffices, first_values, held_in}
-use Rattle.kahn_needs.specs.Laws.{IsMadeIn, of_input}
-use Rattle.kahn_needs.specs.Finding.{cut_told}
+use Rattle.kahn_needs.specs.Laws.{IsMadeIn}
+use Rattle.kahn_needs.specs.Finding.{cut_told, of_input}
 use Rattle.kahn_needs.specs.inner.Bench.{AreCounted, HaveSeats, Seats, events_in, events_seen, taken_in}
 use Rattle.kahn_needs.specs.inner.Finding.{AreForced, HasCome, HasValue, HoldsIn, HoldsAt}
-use Rattle.kahn_needs.proofs.Celled.{sent_more}
-use Rattle.kahn_needs.proofs.Benched.{events_zero}
-use Rattle.kahn_needs.proofs.Reaching.{left_zero}
-use Rattle.kahn_needs.proofs.Forcing.{AreTapes, both_stand, reads_or}
-use Rattle.kahn_needs.proofs.Needing.{held_given, take_below, take_length}
+use Rattle.kahn_streams.proofs.Runs.{play_zero}
+use Rattle.kahn_needs.proofs.Ways.{AreTapes, both_stand, reads_or}
+use Rattle.kahn_needs.proofs.Needing.{fed_stands, held_given, take_below, take_length}
 use Rattle.kahn_needs.proofs.Searching.{given_there, taken_there}
 use Rattle.kahn_needs.proofs.Told.{have_needs, runs}
 
@@ -105,8 +104,8 @@ module _ (b : Seats) (laid : HaveSeats b) where
   did_by p None at = record {
     e = 0;
     tapes = empty;
-    does = events_zero (script_at N 0 p) empty;
-    all = left_zero (script_at N 0 p) empty;
+    does = ap (λ r. r.events) (play_zero (script_at N 0 p));
+    all = ap (λ r. r.left) (play_zero (script_at N 0 p));
     are = record { stand = λ q d r k v h. absurd cc; none = λ q n. refl };
     same = sym (ap events_seen at);
     took = λ q d r. absurd (no_cell p at (joins_within N p q d (rw r refl)));
@@ -135,16 +134,8 @@ module _ (b : Seats) (laid : HaveSeats b) where
     A c = fed (source N c) (first_values x.values I) (λ p. sent_on N (did p).e p (did p).tapes c) c
 
     stands : (c : Line) → AllStand N I c (A c)
-    stands c = by (source N c) refl
-      where
-        given : (c : Line) → source N c ≡ Given → AllStand N I c (input_list (first_values x.values I) c)
-        given (Channel d) s k v h = (0, rw s (prefix_get (take (x.values d) (I d)) (I d) (take_below (x.values d) (I d)) k v h))
-        given (Print p) s k v h = absurd cc
-
-        by : (src : Source) → source N c ≡ src → AllStand N I c (fed src (first_values x.values I) (λ p. sent_on N (did p).e p (did p).tapes c) c)
-        by Given s = given c s
-        by (Written p) s = λ k v h. sent_stands N I p (did p).tapes (did p).are.stand (did p).are.none (did p).e k c v s h
-        by Nobody s = λ k v h. absurd cc
+    stands c = fed_stands N (first_values x.values I) I c (λ p. sent_on N (did p).e p (did p).tapes c) (λ d. take_below (x.values d) (I d))
+        (λ p s k v h. sent_stands N I p (did p).tapes (did p).are.stand (did p).are.none (did p).e k c v s h) (source N c) refl
 
     A_is : (c : Line) (src : Source) → source N c ≡ src → A c ≡ fed src (first_values x.values I) (λ p. sent_on N (did p).e p (did p).tapes c) c
     A_is c src s = ap (λ o. fed o (first_values x.values I) (λ p. sent_on N (did p).e p (did p).tapes c) c) s
@@ -184,10 +175,13 @@ module _ (b : Seats) (laid : HaveSeats b) where
             (both_stand N I (Channel d) ((did p).tapes q) (A (Channel d)) ((did p).are.stand q d r) (stands (Channel d)) (omega (arith, t, l)))
         by (inr n) = subst (λ l. IsPrefix l (tapes_of (instance_at N p) A q)) (sym ((did p).are.none q n)) (_, refl)
 
-    same_sent : (p : ℕ) → (exec_at N (did p).e p A).sent ≡ (exec_on N (did p).e p (did p).tapes).sent
-    same_sent p =
-        ap (λ T. (play (did p).e (script_at N (did p).e p) T).sent) (fun_ext (λ q. (begins p q).1)) ∙
-        sent_more (did p).e (script_at N (did p).e p) (did p).tapes (λ q. (begins p q).0) (did p).does (did p).all
+    -- on them it sends at least what it sent on its tapes
+    sends : (p : ℕ) (c : Line) → IsPrefix (sent_on N (did p).e p (did p).tapes c) (out N (did p).e p A c)
+    sends p c =
+        let T = (did p).tapes in
+        let more = grows_play (did p).e (did p).e (script_at N (did p).e p) T (λ q. (begins p q).0) (le_refl (did p).e) in
+        let there = ap (λ U. values_at (goes_to N p c) (play (did p).e (script_at N (did p).e p) U).sent) (fun_ext (λ q. (begins p q).1)) in
+        (values_at (goes_to N p c) more.0, there ∙ (ap (values_at (goes_to N p c)) more.1 ∙ values_append (goes_to N p c) (exec_on N (did p).e p T).sent more.0))
 
     events_same : (p : ℕ) → (did p).e ≡ x.events p
     events_same p = (did p).same ∙ sym (event_is p)
@@ -196,8 +190,7 @@ module _ (b : Seats) (laid : HaveSeats b) where
     made = record {
       below = λ c. stand_in N I c (A c) (stands c);
       given = λ d s. subst (λ l. length l ≤ x.values d) (sym (A_is (Channel d) Given s)) (take_length (x.values d) (I d));
-      written = λ c p s. subst (λ n. IsPrefix (A c) (out N n p A c)) (events_same p)
-          (subst (IsPrefix (A c)) (A_is c (Written p) s ∙ ap (values_at (goes_to N p c)) (sym (same_sent p))) (prefix_refl (A c)));
+      written = λ c p s. subst (λ n. IsPrefix (A c) (out N n p A c)) (events_same p) (subst (λ l. IsPrefix l (out N (did p).e p A c)) (sym (A_is c (Written p) s)) (sends p c));
     }
 
     -- ---- it is enough, and the least

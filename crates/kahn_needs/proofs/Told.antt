@@ -1,45 +1,37 @@
 -- The laws of needs, proved.
 use mathlib.Core.Path.{fun_ext}
-use Rattle.std.proofs.Common.{arith, ◌≡◌, ◌⊎◌, inl, inr, ℕ, zero, suc, ◌≤◌, ◌<◌, List, [], ◌∷◌, ◌++◌, length, take, refl, sym, ap, ◌∙◌, subst, le_refl, eq-or-lt_of_le, le_trans, Option, Some, None, slice_get, slice_index_or, get_or}
-use Rattle.std.proofs.lemmas.List.{take-append-le}
-use Rattle.std.proofs.lemmas.Option.{slice_get_within, slice_get-get_or}
+use Rattle.std.proofs.Common.{arith, ◌≡◌, ◌⊎◌, inl, inr, ℕ, zero, suc, ◌≤◌, ◌<◌, List, [], ◌∷◌, ◌++◌, length, take, refl, sym, ap, ◌∙◌, subst, le_refl, eq-or-lt_of_le, le_trans, Option, Some, None, slice_get, slice_index_or}
+use Rattle.std.proofs.lemmas.List.{get_or_past, take-append-le}
+use Rattle.std.proofs.lemmas.Option.{slice_get_within}
 use Rattle.kahn_streams.specs.declared.value.Value.{Value}
 use Rattle.kahn_streams.specs.declared.value.Line.{Line}
 use Rattle.kahn_streams.specs.declared.value.Line.TheVariants.{Channel}
 use Rattle.kahn_streams.specs.declared.answer.End.{End}
 use Rattle.kahn_streams.specs.declared.answer.Verdict.{Verdict}
-use Rattle.kahn_streams.specs.Network.{Network, Instance, idle, instance_at, Given, Written}
+use Rattle.kahn_streams.specs.Network.{Network, idle, instance_at, Given, Written}
 use Rattle.kahn_streams.specs.Solution.{Histories, Inputs, out, source, iterate, IsPrefix, Stands, AreInputsExtended}
 use Rattle.kahn_streams.specs.Answers.{AreRight}
 use Rattle.kahn_streams.proofs.Proved.{prefix_refl, prefix_trans, prefix_get, feeds, out_grows, chain, one_value}
 use Rattle.kahn_streams.proofs.Finished.{inputs_grow}
+use Rattle.kahn_code.proofs.Lists.{stand_in}
 use Rattle.kahn_needs.specs.Needs.{Cut, first_values, held_in, Suffices, IsCutWithin, AreNeeds}
 use Rattle.kahn_needs.specs.Laws.{AreInOrder, AreParts, HaveNeeds, AreOneCut, AreEnough, AreExact, IsMadeIn, AreRunsNeeds, AreDone, AreSameNeeds, IsTight, AreTight}
-use Rattle.kahn_needs.proofs.Needing.{take_below, held_more, held_within, held_below, held_made, Found, found}
+use Rattle.kahn_needs.proofs.Needing.{take_below, held_all, held_made, held_more, held_stands, held_within, Found, found}
+use Rattle.kahn_needs.proofs.Ways.{get_there}
 
 pub parts : (N : Network) (I : Inputs) → AreParts N I
-parts N I = record { more = held_within N I; begin = λ x. held_below N I x I (λ d. take_below (x.values d) (I d)) }
+parts N I = record { more = λ x y w n. held_within N I x y w n n (le_refl n); begin = λ x n c. stand_in N I c (held_in N I x n c) (held_all N I x n c) }
 
 -- ---- a place that is filled has the value that stands there
 
-pub get_there : (xs : List Value) (k : ℕ) (v : Value) → k < length xs → (w : Value) × (slice_get xs k ≡ Some w)
-get_there xs k v h = (get_or xs k v, slice_get-get_or xs k v h)
-
 module _ (N : Network) (I : Inputs) (c : Line) (k : ℕ) (v : Value) where
   stands_below : (x : Cut) → Suffices N I c k v x → Stands N I c k v
-  stands_below x s =
-      let b = held_below N I x I (λ d. take_below (x.values d) (I d)) s.0 c in
-      (b.0, prefix_get _ _ b.1 k v s.1)
+  stands_below x s = held_all N I x s.0 c k v s.1
 
   pub suffices_there : Stands N I c k v → (x : Cut) (n : ℕ) → k < length (held_in N I x n c) → Suffices N I c k v x
   suffices_there s x n h =
       let g = get_there (held_in N I x n c) k v h in
-      (n, subst (λ w. slice_get (held_in N I x n c) k ≡ Some w) (one_value N I c k g.0 v (stands_of g.0 (n, g.1)) s) g.1)
-    where
-      stands_of : (w : Value) → ((m : ℕ) × (slice_get (held_in N I x m c) k ≡ Some w)) → Stands N I c k w
-      stands_of w t =
-          let b = held_below N I x I (λ d. take_below (x.values d) (I d)) t.0 c in
-          (b.0, prefix_get _ _ b.1 k w t.1)
+      (n, subst (λ w. slice_get (held_in N I x n c) k ≡ Some w) (one_value N I c k g.0 v (held_all N I x n c k g.0 g.1) s) g.1)
 
   -- the least cut, also among all that make histories which have the value
   pub the_needs : Stands N I c k v → Found N I c k
@@ -84,9 +76,7 @@ one_cut N I c k v w x y h g =
 -- ---- inputs
 
 pub enough : (N : Network) → AreEnough N
-enough N I J c k v x h longer =
-    let b = held_below N I x J longer h.enough.0 c in
-    (b.0, prefix_get _ _ b.1 k v h.enough.1)
+enough N I J c k v x h longer = held_stands N I x J longer h.enough.0 c k v h.enough.1
 
 -- with so many events each, and so many values
 abbrev all_of : Inputs → ℕ → Cut
@@ -124,7 +114,7 @@ exact N I J c k v x h shorter = (needed, λ l. enough N I J c k v x h (λ d. sub
 suffices_alike : (N : Network) (I J : Inputs) (c : Line) (k : ℕ) (v : Value) (x : Cut) → ((d : ℕ) → take (x.values d) (I d) ≡ take (x.values d) (J d)) → Suffices N I c k v x
     → Suffices N J c k v x
 suffices_alike N I J c k v x same s =
-    (s.0, prefix_get _ _ (held_more N I J x x (λ d. subst (IsPrefix (take (x.values d) (I d))) (same d) (prefix_refl _)) (λ p. le_refl (x.events p)) s.0 c) k v s.1)
+    (s.0, prefix_get _ _ (held_more N I J x x (λ d. subst (IsPrefix (take (x.values d) (I d))) (same d) (prefix_refl _)) (λ p. le_refl (x.events p)) s.0 s.0 (le_refl s.0) c) k v s.1)
 
 kept : (N : Network) (I J : Inputs) (c : Line) (k : ℕ) (v : Value) (x : Cut) → AreInputsExtended I J → AreNeeds N I c k v x → AreNeeds N J c k v x
 kept N I J c k v x longer h =
@@ -158,7 +148,7 @@ runs N I y A made c k v e =
     let h = (needs_of N I c k v s).enough in
     record {
       needed = λ x g. within_made N I c k v x g y A made e;
-      suffices = (h.0, prefix_get _ _ (held_within N I f.cut y w h.0 c) k v h.1);
+      suffices = (h.0, prefix_get _ _ (held_within N I f.cut y w h.0 h.0 (le_refl h.0) c) k v h.1);
     }
 
 -- the cut of an answer
@@ -187,20 +177,15 @@ module _ (N : Network) (I : Inputs) (bound : ℕ) (verdict : Verdict) (ends : Li
   unfolding events_in
   sends_all c p src (Some x) e = subst (λ l. IsPrefix (run.tapes c) l) (sym (run.sends p x e c src)) (prefix_refl (run.tapes c))
   sends_all c p src None e =
-      nothing_below_it N I c p src (past_end N.instances p (past_ends ends p e)) (run.tapes c) (run.others c) (out N 0 p run.tapes c)
+      nothing_below_it N I c p src (past_end (past_ends ends p e)) (run.tapes c) (run.others c) (out N 0 p run.tapes c)
     where
       past_ends : (xs : List End) (k : ℕ) → slice_get xs k ≡ None → length xs ≤ k
       past_ends [] k f = omega arith
       past_ends (x ∷ xs) zero f = absurd cc
       past_ends (x ∷ xs) (suc k) f = let l = past_ends xs k f in omega (arith, l)
 
-      past : (xs : List Instance) (k : ℕ) → length xs ≤ k → slice_index_or xs k idle ≡ idle
-      past [] k l = refl
-      past (x ∷ xs) zero l = absurd (omega (arith, l))
-      past (x ∷ xs) (suc k) l = past xs k (omega (arith, l))
-
-      past_end : (xs : List Instance) (k : ℕ) → length ends ≤ k → slice_index_or N.instances k idle ≡ idle
-      past_end xs k l = let e = run.instances in past N.instances k (omega (arith, l, e))
+      past_end : length ends ≤ p → slice_index_or N.instances p idle ≡ idle
+      past_end l = let e = run.instances in get_or_past N.instances p idle (omega (arith, l, e))
 
   answer_made : IsMadeIn N I (cut_of I ends) run.tapes
   answer_made =

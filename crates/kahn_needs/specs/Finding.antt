@@ -1,13 +1,12 @@
 -- Believed. What is told of the needs of a value.
 use Rattle.std.specs.Prelude.{◌≡◌, ℕ, ◌<◌, List, length, slice_index_or}
 use Rattle.kahn_streams.specs.Inputs.{Lists}
-use Rattle.kahn_streams.specs.Network.{Network}
+use Rattle.kahn_streams.specs.Network.{Network, Source, Given, Written, Nobody}
 use Rattle.kahn_streams.specs.Solution.{Inputs, Stands, source}
 use Rattle.kahn_streams.specs.declared.tree.Program.{Program}
 use Rattle.kahn_streams.specs.declared.value.Line.{Line}
 use Rattle.kahn_streams.specs.declared.value.Line.TheVariants.{Channel, Print}
 use Rattle.kahn_streams.specs.declared.value.Value.{Value}
-use Rattle.kahn_needs.specs.Laws.{of_input}
 use Rattle.kahn_needs.specs.Needs.{AreNeeds, Cut}
 use Rattle.kahn_needs.specs.declared.needs.Found.{Found}
 use Rattle.kahn_needs.specs.declared.needs.Found.TheVariants as found
@@ -16,6 +15,11 @@ use Rattle.kahn_needs.specs.declared.needs.Found.TheVariants as found
 abbrev pub IsNetworkLine : Network → Line → Type 0
 IsNetworkLine N (Channel c) = c < length N.channels
 IsNetworkLine N (Print p) = p < length N.instances
+
+abbrev pub of_input : Source → ℕ → ℕ
+of_input Given n = n
+of_input (Written p) n = 0
+of_input Nobody n = 0
 
 -- so many values of each input, and so many events of each instance
 abbrev pub cut_told : Network → List ℕ → List ℕ → Cut

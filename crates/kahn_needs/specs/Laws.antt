@@ -1,15 +1,12 @@
 -- Believed. The laws of needs.
-use Rattle.std.specs.Prelude.{◌≡◌, ◌⊎◌, ◌↔◌, ℕ, ◌+◌, ◌≤◌, ◌<◌, List, length, slice_get, Some}
+use Rattle.std.specs.Prelude.{◌≡◌, ◌↔◌, ℕ, ◌+◌, ◌≤◌, ◌<◌, List, length, slice_get, Some}
 use Rattle.kahn_streams.specs.declared.value.Value.{Value}
 use Rattle.kahn_streams.specs.declared.value.Line.{Line}
 use Rattle.kahn_streams.specs.declared.value.Line.TheVariants.{Channel}
 use Rattle.kahn_streams.specs.declared.answer.End.{End}
 use Rattle.kahn_streams.specs.declared.answer.Verdict.{Verdict}
-use Rattle.kahn_streams.specs.Network.{Network, Reads, instance_at, actual_at, Source, Given, Written, Nobody}
-use Rattle.kahn_streams.specs.Solution.{Histories, Inputs, source, out, opening, exec_at, tapes_of, IsPrefix, iterate, Stands, AreInputsExtended}
-use Rattle.kahn_streams.specs.Script.{Tapes}
-use Rattle.kahn_streams.specs.Meaning.{exec}
-use Rattle.kahn_streams.specs.Steps.{empty}
+use Rattle.kahn_streams.specs.Network.{Network, Reads, instance_at, actual_at, Given, Written}
+use Rattle.kahn_streams.specs.Solution.{Histories, Inputs, source, out, exec_at, tapes_of, IsPrefix, iterate, Stands, AreInputsExtended}
 use Rattle.kahn_streams.specs.Answers.{AreRight}
 use Rattle.kahn_needs.specs.Needs.{Cut, first_values, held_in, Suffices, IsCutWithin, AreNeeds}
 
@@ -98,60 +95,3 @@ pub record GoBack (N : Network) (I : Inputs) : Type 0 where
       Suffices N I c k v y
       ↔ ((e ≤ y.events p)
       × ((q d j : ℕ) (w : Value) → actual_at (instance_at N p) q ≡ Reads d → IsTakenBy N p e H q j → slice_get (H (Channel d)) j ≡ Some w → Suffices N I (Channel d) j w y))
-
--- ---- what a program does that finds them
-
--- how many values of each line and how many events of each instance are wanted so far
-pub record NeededSoFar : Type 0 where
-  pub values : Line → ℕ
-  pub events : ℕ → ℕ
-
--- each cut that suffices for the value has these events, and suffices for these values of H
-abbrev pub IsForced : Network → Inputs → Line → ℕ → Value → Histories → NeededSoFar → Type 0
-IsForced N I c k v H s =
-    (y : Cut) → Suffices N I c k v y →
-    ((p : ℕ) → s.events p ≤ y.events p) × ((d : Line) (j : ℕ) (w : Value) → j < s.values d → slice_get (H d) j ≡ Some w → Suffices N I d j w y)
-
--- at first the value itself and those before it are wanted
-pub record IsBegunWith (c : Line) (k : ℕ) (s : NeededSoFar) : Type 0 where
-  pub values : (d : Line) (j : ℕ) → j < s.values d → (d ≡ c) × (j ≤ k)
-  pub events : (p : ℕ) → s.events p ≡ 0
-
--- then also the e events of instance p, and what it takes with them
-pub record IsRaised (N : Network) (H : Histories) (p e : ℕ) (s t : NeededSoFar) : Type 0 where
-  pub values : (d : Line) (j : ℕ) → j < t.values d →
-      (j < s.values d) ⊎ ((q : ℕ) × (x : ℕ) × (d ≡ Channel x) × (actual_at (instance_at N p) q ≡ Reads x) × IsTakenBy N p e H q j)
-  pub events : (r : ℕ) → (t.events r ≤ s.events r) ⊎ ((r ≡ p) × (t.events r ≤ e))
-
--- until on H each instance sends with its events the values that are wanted, and takes none but these
-pub record IsEnough (N : Network) (H : Histories) (s : NeededSoFar) : Type 0 where
-  pub there : (d : Line) → s.values d ≤ length (H d)
-  pub sent : (d : Line) (p : ℕ) → source N d ≡ Written p → s.values d ≤ length (out N (s.events p) p H d)
-  pub taken : (p q d j : ℕ) → actual_at (instance_at N p) q ≡ Reads d → IsTakenBy N p (s.events p) H q j → j < s.values (Channel d)
-
--- the cut that is wanted
-abbrev pub of_input : Source → ℕ → ℕ
-of_input Given n = n
-of_input (Written p) n = 0
-of_input Nobody n = 0
-
-abbrev pub cut_of : Network → NeededSoFar → Cut
-cut_of N s = record { values = λ d. of_input (source N (Channel d)) (s.values (Channel d)); events = s.events }
-
--- that finds the needs, over any histories that begin the solution's and have the value
-pub record IsFoundBy (N : Network) (I : Inputs) (c : Line) (k : ℕ) (v : Value) (H : Histories) : Type 0 where
-  pub begins : (s : NeededSoFar) → IsBegunWith c k s → IsForced N I c k v H s
-  pub raises : (s t : NeededSoFar) (d : Line) (p j e : ℕ) → IsForced N I c k v H s → j < s.values d → j < length (H d) → source N d ≡ Written p →
-      IsShortest N p d j e H → IsRaised N H p e s t → IsForced N I c k v H t
-  pub ends : (s : NeededSoFar) → IsForced N I c k v H s → IsEnough N H s → k < s.values c → AreNeeds N I c k v (cut_of N s)
-
-abbrev pub NeedsAreFound : Network → Inputs → Type 0
-NeedsAreFound N I =
-    (c : Line) (k : ℕ) (v : Value) (H : Histories) → ((d : Line) → (m : ℕ) × IsPrefix (H d) (iterate N I m d)) → slice_get (H c) k ≡ Some v → IsFoundBy N I c k v H
-
--- what an instance did with just the values that it took (`StoodBy` of a cell), told on histories that begin with these
-abbrev pub IsToldByCells : Network → Type 0
-IsToldByCells N =
-    (p e : ℕ) (T : Tapes) (H : Histories) → (exec e (instance_at N p).body (opening (instance_at N p)) T).events ≡ e →
-    (exec e (instance_at N p).body (opening (instance_at N p)) T).left ≡ empty → ((q : ℕ) → IsPrefix (T q) (tapes_of (instance_at N p) H q)) →
-    ((exec_at N e p H).sent ≡ (exec e (instance_at N p).body (opening (instance_at N p)) T).sent) × ((q j : ℕ) → IsTakenBy N p e H q j ↔ (j < length (T q)))

@@ -2,7 +2,7 @@
 
 ghost use Rattle.kahn_streams.specs.Network.{Network};
 ghost use Rattle.kahn_streams.specs.Solution.{Inputs};
-ghost use Rattle.kahn_needs.specs.Laws.{AreDone, AreEnough, AreExact, NeedsAreFound, AreInOrder, AreOneCut, AreParts, AreRunsNeeds, AreSameNeeds, AreTight, GoBack, HaveNeeds, IsToldByCells};
+ghost use Rattle.kahn_needs.specs.Laws.{AreDone, AreEnough, AreExact, AreInOrder, AreOneCut, AreParts, AreRunsNeeds, AreSameNeeds, AreTight, GoBack, HaveNeeds};
 ghost use Rattle.kahn_needs.specs.Example.{SecondDoubled};
 
 /// A larger cut holds longer histories, and each of them begins the solution's.
@@ -59,13 +59,6 @@ pub fn go_back()
     ensures { (N : Network) (I : Inputs) → GoBack N I }
 {}
 
-/// A program finds them: it begins with the value, goes on with the shortest run of a writer to a value that is wanted and with what this run
-/// takes, and ends where each instance sends what is wanted and takes nothing else.
-#[tactic(auto, using(crate::proofs::Worked::are_found))]
-pub fn are_found()
-    ensures { (N : Network) (I : Inputs) → NeedsAreFound N I }
-{}
-
 /// A value needs all that those before it on its line need.
 pub fn in_order()
     ensures { (N : Network) (I : Inputs) → AreInOrder N I }
@@ -75,9 +68,4 @@ pub fn in_order()
 #[tactic(auto, using(crate::proofs::Doubled::second_doubled))]
 pub fn second_doubled()
     ensures { SecondDoubled }
-{}
-
-/// What an instance did with just the values that it took, it does on longer tapes, and takes the same.
-pub fn told_by_cells()
-    ensures { (N : Network) → IsToldByCells N }
 {}
