@@ -1,5 +1,5 @@
 -- Believed. Why the instances of an answer go no further, and which of them never will.
-use Rattle.std.specs.Prelude.{◌≡◌, ℕ, List, ◌++◌, Bool, true, false, if◌then◌else◌, map, string_bytes}
+use Rattle.std.specs.Prelude.{◌≡◌, ◌==◌, ℕ, List, [], ◌++◌, Bool, codes, decimal, true, false, if◌then◌else◌, map, string_bytes}
 use Rattle.std.specs.List.{list_any}
 use Rattle.kahn_streams.specs.Network.{Network, network_of}
 use Rattle.kahn_streams.specs.Solution.{Inputs, AreInputsExtended}
@@ -14,6 +14,7 @@ use Rattle.kahn_streams.specs.declared.answer.End.{End}
 use Rattle.kahn_streams.specs.declared.answer.Outcome.{Outcome}
 use Rattle.kahn_streams.specs.declared.answer.Outcome.TheVariants as outcome
 use Rattle.kahn_streams.specs.declared.answer.Verdict.{Verdict}
+use Rattle.kahn_streams.specs.declared.answer.Verdict.TheVariants as verdict
 use Rattle.kahn_streams.specs.declared.tree.Program.{Program}
 use Rattle.kahn_chain.specs.Reasons.{AreReasons, IsReasonFor}
 use Rattle.kahn_chain.specs.declared.reason.Reason.{Reason}
@@ -72,6 +73,30 @@ has_ring = list_any (λ r. is_ring r.cause)
 -- a fault goes before a ring, and a ring before how the run ended
 abbrev pub came_to : Verdict → List Reason → Finding
 came_to v rs = if has_fault rs then Fault else if has_ring rs then Deadlock else Stop v
+
+-- the first words of what a run came to, with how many processes have a fault, or how many rings there are
+abbrev pub finding_lead : Finding → ℕ → List ℕ
+finding_lead Fault n = if n == 1 then codes "1 process has a fault" else decimal n ++ codes " processes have a fault"
+finding_lead Deadlock n = if n == 1 then codes "deadlock: " else decimal n ++ codes " deadlocks"
+finding_lead (Stop verdict.Finished) n = codes "no deadlock and no fault"
+finding_lead (Stop verdict.Bound) n = codes "stopped by the bound"
+finding_lead (Stop verdict.Memory) n = codes "stopped for want of memory"
+
+abbrev pub BeginsWith : Finding → List ℕ → Type 0
+BeginsWith f text = (n : ℕ) × (behind : List ℕ) × (text ≡ finding_lead f n ++ behind)
+
+-- whether nothing is told of a run that came to that: it finished without a fault and a ring
+abbrev pub is_silent : Finding → Bool
+is_silent (Stop verdict.Finished) = true
+is_silent f = false
+
+abbrev pub IsFindingTold : Bool → Finding → List ℕ → Type 0
+IsFindingTold true f text = text ≡ []
+IsFindingTold false f text = BeginsWith f text
+
+-- what is told of a run with this verdict and these ends
+abbrev pub AreCauses : Program → Verdict → List End → List ℕ → Type 0
+AreCauses t v ends text = (rs : List Reason) × AreReasons (network_of t) v ends rs × IsFindingTold (is_silent (came_to v rs)) (came_to v rs) text
 
 -- the reasons are those of the answer's instances, the run came to that, and the last line is that of the report
 pub record IsExplained (t : Program) (a : Answer) (e : Explanation) : Type 0 where

@@ -4,17 +4,17 @@ ghost use Rattle.std.specs.Prelude.{◌≡◌, ◌++◌, IfOk, map, string_bytes
 ghost use Rattle.kahn_texts.specs.Formats.{last_text};
 ghost use Rattle.kahn_streams.specs.Network.{network_of};
 ghost use Rattle.kahn_chain.specs.Chain.{AreStandings, stands};
-ghost use Rattle.kahn_why.specs.Why.{IsExplained, standings_of};
+ghost use Rattle.kahn_why.specs.Why.{AreCauses, BeginsWith, IsExplained, standings_of};
 
 use crate::why::lines::add_causes;
 use crate::why::story::Story;
-use crate::why::told::{Explanation, Finding, came_to};
-use crate::why::verdict::add_verdict;
+use crate::why::told::{Explanation, Finding, came_to, is_silent};
+use crate::why::verdict::finding_words;
 use itoa::Buffer;
 use kahn_chain::{Reason, reasons};
 use kahn_marks::add;
 use kahn_streams::{Answer, End, Input, Network, Verdict};
-use kahn_syntax::{SyntaxFault, lex};
+use kahn_syntax::{Lexeme, SyntaxFault, lex};
 use std::alloc::{AllocError, Global};
 
 /// Adds the last line of the report of an answer.
@@ -31,7 +31,16 @@ fn add_last(text: &mut String, answer: &Answer) -> Result<(), AllocError>
     add(text, &[word, events, "\n"])
 }
 
-/// What came of a run, and each cause once, or each instance.
+/// The lexemes of a program text, or none where it has a fault.
+fn lexemes_of(alloc: Global, program: &str) -> Result<Vec<Lexeme>, AllocError> {
+    match lex(alloc, program) {
+        Ok(lexemes) => Ok(lexemes),
+        Err(SyntaxFault::NoMemory) => Err(AllocError),
+        Err(_) => Ok(Vec::new(alloc)),
+    }
+}
+
+/// What a run came to, in a line, and each cause once, or each instance.
 fn words(
     alloc: Global,
     path: &str,
@@ -40,14 +49,13 @@ fn words(
     fed: Option<&Input>,
     verdict: Verdict,
     reasons: &[Reason],
+    finding: Finding,
     instances: usize,
     each: bool,
-) -> Result<String, AllocError> {
-    let lexemes = match lex(alloc, program) {
-        Ok(lexemes) => lexemes,
-        Err(SyntaxFault::NoMemory) => return Err(AllocError),
-        Err(_) => Vec::new(alloc),
-    };
+) -> Result<String, AllocError>
+    ensures { IfOk result (λ text. BeginsWith finding (string_bytes text)) }
+{
+    let lexemes = lexemes_of(alloc, program)?;
     let story = Story {
         alloc,
         path,
@@ -58,9 +66,10 @@ fn words(
         verdict,
         reasons,
     };
-    let mut text = String::new(alloc);
-    add_verdict(&mut text, &story)?;
-    add_causes(&mut text, &story, instances, each)?;
+    let mut text = finding_words(&story, finding)?;
+    let mut behind = String::from_str(alloc, "\n")?;
+    add_causes(&mut behind, &story, instances, each)?;
+    text.push_str(behind.as_str())?;
     Ok(text)
 }
 
@@ -87,13 +96,13 @@ fn told(
 {
     let verdict = answer.verdict;
     let reasons = reasons(alloc, network, verdict, &answer.ends)?;
+    let told = came_to(verdict, &reasons);
     let count = answer.ends.len();
     let mut text = words(
-        alloc, path, program, network, fed, verdict, &reasons, count, each,
+        alloc, path, program, network, fed, verdict, &reasons, told, count, each,
     )?;
     add_way_on(&mut text, verdict)?;
     add_last(&mut text, answer)?;
-    let told = came_to(verdict, &reasons);
     Ok(Explanation {
         text,
         reasons,
@@ -112,14 +121,16 @@ pub fn causes(
     ends: &[End],
 ) -> Result<String, AllocError>
     requires { AreStandings (network_of network.now) (map stands ends.now) }
+    ensures { IfOk result (λ words. AreCauses network.now verdict ends.now (string_bytes words)) }
 {
     let reasons = reasons(alloc, network, verdict, ends)?;
-    if let Finding::Stop(Verdict::Finished) = came_to(verdict, &reasons) {
+    let finding = came_to(verdict, &reasons);
+    if is_silent(finding) {
         return Ok(String::new(alloc));
     }
     let count = ends.len();
     words(
-        alloc, path, program, network, None, verdict, &reasons, count, false,
+        alloc, path, program, network, None, verdict, &reasons, finding, count, false,
     )
 }
 

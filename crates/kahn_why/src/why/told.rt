@@ -1,7 +1,7 @@
 //! What is told of a run that stopped.
 
 ghost use Rattle.std.specs.Prelude.{◌≡◌};
-ghost use Rattle.kahn_why.specs.Why.{came_to, has_fault, has_ring, is_fault, is_ring};
+ghost use Rattle.kahn_why.specs.Why.{came_to, has_fault, has_ring, is_fault, is_ring, is_silent};
 
 use kahn_chain::{Cause, Reason};
 use kahn_streams::{Outcome, Verdict};
@@ -29,7 +29,7 @@ pub struct Explanation {
 }
 
 /// Whether an end is a fault.
-fn is_fault(outcome: Outcome) -> bool
+pub(crate) fn is_fault(outcome: Outcome) -> bool
     ensures { result ≡ is_fault outcome }
 {
     matches!(outcome, Outcome::Faulted(_))
@@ -66,5 +66,15 @@ pub(crate) fn came_to(verdict: Verdict, reasons: &[Reason]) -> Finding
         Finding::Deadlock
     } else {
         Finding::Stop(verdict)
+    }
+}
+
+/// Whether nothing is told of a run that came to that.
+pub(crate) fn is_silent(finding: Finding) -> bool
+    ensures { result ≡ is_silent finding }
+{
+    match finding {
+        Finding::Stop(Verdict::Finished) => true,
+        _ => false,
     }
 }
