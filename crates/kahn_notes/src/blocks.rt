@@ -49,10 +49,7 @@ fn ending_words(place: Place, begin: Indented, end: Option<Indented>) -> Words {
 
 /// Whether the lexeme with a number is a `begin`.
 fn is_begin(place: Place, number: Option<usize>) -> bool {
-    match number {
-        Some(number) => finds("begin", place.lexemes.get(number).copied()),
-        None => false,
-    }
+    matches!(number, Some(number) if finds("begin", place.lexemes.get(number).copied()))
 }
 
 /// What is said of the `begin` with a number, whose block ends before the lexeme with another number, if it is open there; one that
@@ -87,6 +84,20 @@ fn guard_before(place: Place, all: &[Indented], number: usize) -> Option<Lexeme>
     None
 }
 
+/// An `end`, with a word behind it that says what it ends, where nothing else stands on that.
+fn with_word(place: Place, number: usize, end: Span) -> Span {
+    let rest = place.lexemes.get(number..).unwrap_or(&[]);
+    match rest {
+        [_, word, behind, ..]
+            if finds("if while repeat process name", Some(*word))
+                && finds("; end else", Some(*behind)) => {
+            let to = word.span.to;
+            Span { to, ..end }
+        }
+        _ => end,
+    }
+}
+
 /// What is said of the `end` with a number: it is one too many, or closes several statements without a block behind what leads to them.
 fn surplus(place: Place, all: &[Indented], number: usize) -> Saying {
     let alloc = place.alloc;
@@ -97,7 +108,8 @@ fn surplus(place: Place, all: &[Indented], number: usize) -> Saying {
         let words =
             "`end` has no `begin`: an `if`, a `while` or a `repeat` has no `end` of its own";
         let head = Some((end.span, String::from_str(alloc, words)?));
-        return Ok(Some((head, Some(replacement(alloc, end.span, "")?), None)));
+        let part = with_word(place, number, end.span);
+        return Ok(Some((head, Some(replacement(alloc, part, "")?), None)));
     };
     let word = class_word(guard.what);
     let mut words = joined(alloc, &["several statements stand behind `", word, "`"])?;
@@ -118,7 +130,12 @@ pub(crate) fn closer_said(place: Place, spot: Spot) -> Saying {
     let (Some(guard), Some(end)) = (guard_before(place, &all, number), all.get(number)) else {
         return Ok(None);
     };
-    let fix = replacement(place.alloc, end.span, "end")?;
+    let next = place.lexemes.get(number.saturating_add(1));
+    let to = match next {
+        Some(next) if finds("false", Some(*next)) => next.span.to,
+        _ => end.span.to,
+    };
+    let fix = replacement(place.alloc, Span { to, ..end.span }, "end")?;
     let fix = mending(place.alloc, place.text, place.span, Some(fix))?;
     let word = class_word(guard.what);
     let mut words = joined(place.alloc, &["insert `begin` after `", word, "`"])?;

@@ -5,15 +5,16 @@ ghost use Rattle.kahn_notes.specs.Notes.{Mends};
 
 use crate::foreign::line_help;
 use crate::mending::{Fixed, mending};
-use crate::rewriting::rewritten;
+use crate::rewriting::{KINDS, rewritten};
 use crate::said::replacement;
-use crate::table::cell;
+use crate::table::{cell, has_word, row_of};
 use kahn_marks::Fix;
 use kahn_syntax::{Span, SyntaxFault};
 use std::alloc::Global;
 
-/// What stands there, behind `0` where it is told behind a digit alone, `&9` for `&` before one, and `1:` for `:` behind a line's number; what
-/// is put in its place if the text goes on with it; and what is said. The first that holds is told.
+/// What stands there: `0` before it is for a digit, `9` behind it too; `1:` is `:` behind a line's number, `:k` before a kind, `:t` behind `if` or
+/// `while`, and `?:` is `?` before a `:` on its line. Then what is put in its place if the text goes on with it, and what is said. The first
+/// that holds is told.
 const CHARACTERS: &str = "
 0. |  | ; numbers are whole
 0_ |  | ; a number has decimal digits alone
@@ -39,8 +40,17 @@ _ |  | ; a name begins with a letter
 || | or par | ; it is the word `or`, and between instances `par`
 | | or par | ; it is the word `or`, and between instances `par`
 ~ | not | ; it is the word `not`
+?: |  | ; a choice is `if .. then .. else ..`
 ? |  | ; a value is taken by `X := wait(C)`, and a choice is `if .. then .. else ..`
-: | ; then do | ; `:` stands before `=` alone; behind a test stands `then` or `do`, and a kind before its names
+:k |  | ; a kind stands before its names
+:t | then do | ; behind a test stands `then` or `do`
+: | ; | ; `:` stands before `=` alone
+\u{FF1A} | : := | ; a colon is `:`
+\u{FF1B} | ; | ; a semicolon is `;`
+\u{FF0C} | , | ; a comma is `,`
+\u{FF08} | ( | ; a bracket is `(`
+\u{FF09} | ) | ; a bracket is `)`
+\u{FF1D} | = | ; equal is `=`
 $ @ | nothing | ; a name begins with a letter, and has letters, digits and `_`
 ``` |  | ; the lines of a fence are no part of a program
 ` | nothing | ; names and operators stand without such marks
@@ -60,37 +70,54 @@ $ @ | nothing | ; a name begins with a letter, and has letters, digits and `_`
 ";
 
 /// Whether a text ends with a line that has a number alone.
-fn is_label(before: &[u8]) -> bool {
-    let mut digits = 0usize;
-    for byte in before.iter().rev() {
-        match *byte {
-            b'0'..=b'9' => digits = digits.saturating_add(1),
-            b'\n' => return 0 < digits,
-            b' ' | b'\t' => {}
-            _ => return false,
-        }
-    }
-    false
+fn is_label(before: &str) -> bool {
+    let (_, line) = before.rsplit_once('\n').unwrap_or(("", before));
+    let digits = line.trim();
+    let digits = digits.strip_prefix("-").unwrap_or(digits);
+    !digits.is_empty() && digits.bytes().all(|byte| byte.is_ascii_digit())
 }
 
-/// Whether a part of a row stands at a byte.
-fn stands(bytes: &[u8], at: usize, key: &str) -> bool {
-    let rest = bytes.get(at..).unwrap_or(&[]);
-    let before = bytes.get(at.saturating_sub(1)).unwrap_or(&b' ');
+/// The first word behind a sign.
+fn next_word(rest: &str) -> &str {
+    let mut words = rest
+        .get(1..)
+        .unwrap_or("")
+        .split(|character: char| !character.is_ascii_alphanumeric());
+    words.find(|word| !word.is_empty()).unwrap_or("")
+}
+
+/// Whether the last line of a text has the word of a test.
+fn is_test(before: &str) -> bool {
+    let (_, line) = before.rsplit_once('\n').unwrap_or(("", before));
+    let mut words = line.split_whitespace();
+    let test = words.find(|word| has_word("if while", word));
+    test.is_some() && !words.any(|word| has_word("then do else", word))
+}
+
+/// Whether a part of a row stands behind a text, before another one.
+fn stands(before: &str, rest: &str, key: &str) -> bool {
+    let bytes = rest.as_bytes();
     match (key, key.strip_prefix("0")) {
-        ("1:", _) => is_label(bytes.get(..at).unwrap_or(&[])) && rest.starts_with(b":"),
-        ("&9", _) => matches!(rest, [_, b'0'..=b'9', ..] | [_, b' ', b'0'..=b'9', ..])
-            && rest.starts_with(b"&"),
-        (_, Some(key)) => before.is_ascii_digit() && rest.starts_with(key.as_bytes()),
-        (_, None) => rest.starts_with(key.as_bytes()),
+        (":k", _) => rest.starts_with(":") && row_of(KINDS, next_word(rest)).is_some(),
+        (":t", _) => rest.starts_with(":") && is_test(before),
+        ("1:", _) => is_label(before) && rest.starts_with(":"),
+        ("?:", _) => rest.starts_with("?") && rest.lines().next().unwrap_or("").find(":").is_some(),
+        ("&9", _) => matches!(
+            bytes,
+            [b'&', b'0'..=b'9', ..] | [b'&', b' ', b'0'..=b'9', ..]
+        ),
+        (_, Some(key)) => matches!(before.as_bytes().last(), Some(b'0'..=b'9'))
+            && rest.starts_with(key),
+        (_, None) => rest.starts_with(key),
     }
 }
 
 /// The row of the character that begins at a byte, and the part of it that stands there.
-fn row_at(bytes: &[u8], at: usize) -> Option<(&'static str, &'static str)> {
+fn row_at(text: &str, at: usize) -> Option<(&'static str, &'static str)> {
+    let (before, rest) = text.split_at_checked(at)?;
     for row in CHARACTERS.lines() {
         for key in cell(row, 0).split(" ") {
-            if !key.is_empty() && stands(bytes, at, key) {
+            if !key.is_empty() && stands(before, rest, key) {
                 return Some((row, key));
             }
         }
@@ -104,8 +131,7 @@ fn place_help(text: &str, at: usize) -> &'static str {
     if let Some(help) = line_help(text, at) {
         return help;
     }
-    let bytes = text.as_bytes();
-    match (row_at(bytes, at), bytes.get(at)) {
+    match (row_at(text, at), text.as_bytes().get(at)) {
         (Some((row, _)), _) => cell(row, 2),
         (None, None | Some(0..=0x7F | 0xC2 | 0xE2 | 0xEF)) => "",
         (None, _) => "; a name has ASCII letters, digits and `_`",
@@ -129,10 +155,11 @@ pub(crate) fn character_fix(alloc: Global, text: &str, plain: &str, span: Span) 
     if let Some(fix) = told(alloc, text, plain, span, rewritten)? {
         return Ok(Some(fix));
     }
-    let Some((row, key)) = row_at(text.as_bytes(), span.from) else {
+    let Some((row, key)) = row_at(text, span.from) else {
         return Ok(None);
     };
-    let to = span.from.saturating_add(key.len());
+    let bytes = if key.starts_with(":") { 1 } else { key.len() };
+    let to = span.from.saturating_add(bytes);
     for put in cell(row, 1).split_whitespace() {
         let put = if put == "nothing" { "" } else { put };
         let fix = replacement(alloc, Span { to, ..span }, put)?;

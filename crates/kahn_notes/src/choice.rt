@@ -2,7 +2,8 @@
 
 use crate::place::{Place, back, before, behind, found, is_declared, lexeme_at, name_at};
 use crate::split::is_late_else;
-use crate::table::{are_joined, cell, class_of, finds};
+use crate::table::{are_joined, cell, finds, row_of};
+use crate::words::class_word;
 use kahn_marks::part_of;
 use kahn_syntax::Lexeme;
 use kahn_wanted::{Change, Reach, Spot};
@@ -53,16 +54,6 @@ pub(crate) fn offers_of(alloc: Global, all: Vec<Reach>, at: usize) -> Result<Off
     Ok(Offers { whole, best, all })
 }
 
-/// The first of those that are looked for that is one of some.
-pub(crate) fn first_of(some: &[Change], looked_for: &[Change]) -> Option<Change> {
-    for change in looked_for {
-        if some.contains(change) {
-            return Some(*change);
-        }
-    }
-    None
-}
-
 /// Whether two lexemes are the same, and not numbers, `+` or `-`, which may stand side by side.
 fn are_twice(text: &str, one: Option<Lexeme>, other: Option<Lexeme>) -> bool {
     let (Some(one), Some(other)) = (one, other) else {
@@ -75,10 +66,8 @@ fn are_twice(text: &str, one: Option<Lexeme>, other: Option<Lexeme>) -> bool {
 
 /// Whether `:=` isn't left out at a place: before a `(`, behind a name that isn't declared.
 fn is_call(place: Place) -> bool {
-    match name_at(place, Spot::Before) {
-        Some(name) => finds("(", found(place)) && !is_declared(place, 1, name),
-        None => false,
-    }
+    let name = name_at(place, Spot::Before);
+    finds("(", found(place)) && matches!(name, Some(name) if !is_declared(place, 1, name))
 }
 
 /// Whether a product is written without `*` at a place: behind a number or a bracket, before a bracket or a name that is declared.
@@ -103,71 +92,58 @@ fn may_lack(place: Place, word: &str) -> bool {
     }
 }
 
-/// Adds leaving out a lexeme, where a test holds.
-fn add_less(changes: &mut Vec<Change>, spot: Spot, holds: bool) -> Result<(), AllocError> {
-    if holds {
-        changes.push(Change { spot, put: None })?;
-    }
-    Ok(())
+/// Where a word stands among some.
+fn number_of(words: &str, word: &str) -> Option<usize> {
+    words.split_whitespace().position(|one| one == word)
 }
 
-/// Adds putting one of these lexemes there, each where a test holds.
-fn add_more(
-    changes: &mut Vec<Change>,
-    place: Place,
-    spot: Spot,
-    words: &str,
-) -> Result<(), AllocError> {
-    for word in words.split_whitespace() {
-        if spot != Spot::Between || may_lack(place, word) {
-            let put = class_of(word);
-            changes.push(Change { spot, put })?;
-        }
-    }
-    Ok(())
-}
+/// The changes that are looked for, by their ranks: leaving out one of two same lexemes; these, what one is often written for, and leaving
+/// out a `;` or `,` before an `else`, where one statement stands before that; and what is often left out.
+pub(crate) const TWICE: (usize, usize) = (0, 2);
 
-/// Adds what is often meant by a lexeme.
-fn add_others(changes: &mut Vec<Change>, place: Place, spot: Spot) -> Result<(), AllocError> {
-    for row in OTHERS.lines() {
-        if finds(cell(row, 0), lexeme_at(place, spot)) {
-            add_more(changes, place, spot, cell(row, 1))?;
-        }
-    }
-    Ok(())
-}
+pub(crate) const LIKELY: (usize, usize) = (0, 100);
 
-/// Leaving out one of two same lexemes, there or before.
-pub(crate) fn twice(place: Place) -> Result<Vec<Change>, AllocError> {
-    let mut changes = Vec::new(place.alloc);
-    let (text, one) = (place.text, before(place));
-    add_less(&mut changes, Spot::Here, are_twice(text, one, found(place)))?;
-    add_less(
-        &mut changes,
-        Spot::Before,
-        are_twice(text, back(place, 2), one),
-    )?;
-    Ok(changes)
-}
+pub(crate) const LACKING: (usize, usize) = (100, 200);
 
-/// The changes that are looked for first, in their order: leaving out one of two same lexemes, what one is often written for, and leaving
-/// out a `;` before an `else`, where one statement stands before that.
-pub(crate) fn likely(place: Place) -> Result<Vec<Change>, AllocError> {
-    let mut changes = twice(place)?;
+/// The rank of a change.
+fn rank(place: Place, change: Change) -> Option<usize> {
     let (one, here, next) = (before(place), found(place), behind(place));
-    let is_role = finds(ROLES, here) && (finds(ROLES, one) || finds(ROLES, next));
-    let is_late = finds(";", here) && finds("else", next);
-    add_less(&mut changes, Spot::Here, is_role)?;
-    add_others(&mut changes, place, Spot::Here)?;
-    add_others(&mut changes, place, Spot::Before)?;
-    add_less(&mut changes, Spot::Here, is_late)?;
-    add_less(&mut changes, Spot::Before, is_late_else(place))?;
-    Ok(changes)
+    let Some(class) = change.put else {
+        return match change.spot {
+            Spot::Here if are_twice(place.text, one, here) => Some(0),
+            Spot::Before if are_twice(place.text, back(place, 2), one) => Some(1),
+            Spot::Here if finds(ROLES, here) && (finds(ROLES, one) || finds(ROLES, next)) => Some(
+                2,
+            ),
+            Spot::Here if finds("; ,", here) && finds("else", next) => Some(90),
+            Spot::Before if is_late_else(place) => Some(91),
+            _ => None,
+        };
+    };
+    let word = class_word(class);
+    if change.spot == Spot::Between {
+        let number = number_of(LEFT_OUT, word)?;
+        return if may_lack(place, word) {
+            Some(number.saturating_add(100))
+        } else {
+            None
+        };
+    }
+    let row = row_of(OTHERS, class_word(lexeme_at(place, change.spot)?.what))?;
+    let number = number_of(cell(row, 1), word)?;
+    Some(number.saturating_add(if change.spot == Spot::Here { 10 } else { 50 }))
 }
 
-/// What is often left out there.
-pub(crate) fn left_out(place: Place) -> Result<Vec<Change>, AllocError> {
-    let mut changes = Vec::new(place.alloc);
-    add_more(&mut changes, place, Spot::Between, LEFT_OUT)?;
-    Ok(changes)
+/// The change of the least rank, of those that are offered and have one within.
+pub(crate) fn first_of(place: Place, ranks: (usize, usize)) -> Option<Change> {
+    let (from, mut least, mut first) = (ranks.0, ranks.1, None);
+    for change in &place.offers.best {
+        if let Some(rank) = rank(place, *change) {
+            if from <= rank && rank < least {
+                least = rank;
+                first = Some(*change);
+            }
+        }
+    }
+    first
 }

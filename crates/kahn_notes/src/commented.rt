@@ -5,8 +5,9 @@ ghost use Rattle.kahn_notes.specs.Notes.{Mends};
 
 use crate::characters::character_fix;
 use crate::earlier::{blanked, said_before};
-use crate::said::Words;
-use kahn_marks::{Note, Sort, add, add_spot, place, simple};
+use crate::mending::mending;
+use crate::said::{Saying, Words, insertion};
+use kahn_marks::{Note, Sort, add, add_spot, part_of, place, simple};
 use kahn_streams::NoMemory;
 use kahn_syntax::Span;
 use kahn_wanted::comment_before;
@@ -26,6 +27,23 @@ pub(crate) fn comment_words(alloc: Global, text: &str, comment: Span) -> Words {
     add(&mut words, &[verb, " the `;`"])?;
     add_spot(&mut words, " at ", text, end)?;
     Ok(words)
+}
+
+/// What is said of a comment that goes on over lines, if the text goes on with a `;` at the end of its first line.
+pub(crate) fn unended_said(alloc: Global, text: &str, span: Span, comment: Span) -> Saying {
+    let Some((line, _)) = part_of(text, comment).split_once("\n") else {
+        return Ok(None);
+    };
+    let (from, to) = (
+        comment.from,
+        comment.from.saturating_add(line.trim_end().len()),
+    );
+    let fix = insertion(alloc, to, Span { from, to }, ";")?;
+    let Some(fix) = mending(alloc, text, span, Some(fix))? else {
+        return Ok(None);
+    };
+    let words = String::from_str(alloc, "a comment ends with `;`")?;
+    Ok(Some((Some((Span { from, to }, words)), Some(fix), None)))
 }
 
 /// The same of the comment before a byte that has to do with what stands there.

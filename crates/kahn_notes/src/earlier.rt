@@ -1,7 +1,5 @@
 //! What goes wrong before a character that isn't of the language.
 
-ghost use Rattle.kahn_syntax.specs.Texts.{IsTextFault};
-
 use crate::said::{Words, changed_words, joined};
 use crate::unexpected::unexpected_note;
 use kahn_marks::{Note, Other, add_repeated, part_of};
@@ -52,30 +50,6 @@ fn words_of(alloc: Global, plain: &str, note: &Note) -> Words {
     }
 }
 
-/// What is said of a lexeme that can't stand, where it stands before a place.
-fn said_of(
-    alloc: Global,
-    plain: &str,
-    fault: SyntaxFault,
-    place: Span,
-) -> Result<Option<Other>, NoMemory>
-    requires { IsTextFault plain.now fault }
-{
-    match fault {
-        SyntaxFault::Expected(span, what) => {
-            if place.from <= span.from {
-                return Ok(None);
-            }
-            let note = unexpected_note(alloc, plain, span, what)?;
-            let span = note.span;
-            let words = words_of(alloc, plain, &note)?;
-            Ok(Some(Other { span, words }))
-        }
-        SyntaxFault::NoMemory => Err(NoMemory),
-        _ => Ok(None),
-    }
-}
-
 /// What is said of the first lexeme that can't stand, where it stands before a place; nothing where a change there mends the text.
 pub(crate) fn said_before(
     alloc: Global,
@@ -87,10 +61,16 @@ pub(crate) fn said_before(
     if is_mended {
         return Ok(others);
     }
-    if let Err(fault) = parse(alloc, plain) {
-        if let Some(other) = said_of(alloc, plain, fault, place)? {
-            others.push(other)?;
+    match parse(alloc, plain) {
+        Err(SyntaxFault::Expected(span, what)) => {
+            if span.from < place.from {
+                let note = unexpected_note(alloc, plain, span, what)?;
+                let (span, words) = (note.span, words_of(alloc, plain, &note)?);
+                others.push(Other { span, words })?;
+            }
+            Ok(others)
         }
+        Err(SyntaxFault::NoMemory) => Err(NoMemory),
+        _ => Ok(others),
     }
-    Ok(others)
 }

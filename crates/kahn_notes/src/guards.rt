@@ -33,10 +33,14 @@ pub(crate) fn guard_of(seats: &[Indented], number: usize, end: Indented) -> Opti
             (Class::Word(Keyword::End), _) => depth.saturating_add(1),
             (_, _) => depth,
         };
-        if (end.first && seat.deep < end.deep) || (!end.first && seat.line != end.line) {
+        let leads = depth == 0 && leads_on(seat.what, next);
+        if end.first && seat.deep < end.deep {
+            return if leads { Some(before.len()) } else { found };
+        }
+        if !end.first && seat.line != end.line {
             return found;
         }
-        if depth == 0 && leads_on(seat.what, next) && (is_level || !end.first) {
+        if leads && (is_level || !end.first) {
             found = Some(before.len());
         }
         if is_level && (seat.first || found.is_some()) {

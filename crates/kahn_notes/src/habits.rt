@@ -39,6 +39,8 @@ any | name | +:= | a statement begins with `send`, `print`, `if`, `while`, `repe
 any | name number | +, +) -; | a comma stands between two arguments: `P(A, B)`
 any | number | +name -declaration | a name begins with a letter
 any | if | +operator -; | a choice among values is `if T then A else B`
+) | name | +; -end -, | `;` stands behind the parameters, and variables behind `begin`: `process P(integer in U); begin integer X; .. end`
+end | begin | +; -end | a file has one program, which ends before this `begin`
 end | if while repeat do process | always | an `end` stands alone: no word says what it ends
 any | if while repeat wait send print | +declaration | statements stand in processes alone
 ; | name if while repeat send print | +begin | the body of a process stands between `begin` and `end`
@@ -57,7 +59,8 @@ any | ; end else par | +on | `on` and a channel stand behind the value: `send E 
 any | ; end else par | +( | brackets stand behind the name of a process, also where they are empty: `p()`
 any | ; end else par on do then ) , | +else -end | an `if` among values has its `else`: `if E then E else E`
 any | + | +value | no `+` stands before a value: leave it out
-any | + - * < > <> <= >= and div mod or = := | +, +) | an instance hands over channels and literals, by their places: `P(A, -1, true)`
+any | = := | +, +) | an instance hands over channels and literals, by their places: `P(A, -1, true)`
+any | + - * < > <> <= >= and div mod or | +, +) | an argument is no expression: an instance hands over channels and literals: `P(A, -1, true)`
 any | + - * < > <> <= >= and div mod or = | -, +arithmetic | a comparison has two sides: `0 < X and X < 3`
 any | + - * < > <> <= >= and div mod or | -, +:= | a statement that begins with a name assigns to it, `X := E`; `send E on C` sends a value
 name | + - * < > <> <= >= and div mod or | -, +) | one channel alone stands between these brackets: `wait(C) + 1`

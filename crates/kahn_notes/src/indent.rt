@@ -50,6 +50,11 @@ fn said_if(holds: bool, misfit: Misfit) -> Option<Misfit> {
     if holds { Some(misfit) } else { None }
 }
 
+/// Whether a lexeme leads to a statement that nothing follows.
+fn is_repeat(seats: &[Indented], number: usize) -> bool {
+    matches!(seats.get(number), Some(seat) if seat.what == Class::Word(Keyword::Repeat))
+}
+
 /// What an `end` says: it is less indented than its block, where `end`s are missing; or where there are too many, it is deeper, closes
 /// statements without a block, or closes the last one.
 fn at_end(walk: &mut BlockWalk, seats: &[Indented], at: usize, seat: Indented) -> Option<Misfit> {
@@ -63,11 +68,13 @@ fn at_end(walk: &mut BlockWalk, seats: &[Indented], at: usize, seat: Indented) -
         return said_if(is_shallow, Misfit::Unclosed(top.number, at));
     }
     let is_sure = first && seat.deep > top.begin.deep;
-    let is_deep = far && (is_sure || (!first && guard_of(seats, at, seat).is_some()));
+    let guard = guard_of(seats, at, seat);
+    let is_deep = far && (is_sure || (!first && guard.is_some()));
     if is_deep || walk.open.is_empty() {
         return Some(Misfit::Surplus(if is_sure { at } else { doubt }));
     }
-    if far && !first {
+    let leads = matches!(guard, Some(guard) if is_repeat(seats, guard));
+    if (far && !first) || (!far && leads && walk.doubt.is_none()) {
         walk.doubt = Some(at);
     }
     None

@@ -13,6 +13,7 @@ mod habits;
 mod held;
 mod indent;
 mod layout;
+mod lines;
 mod listing;
 mod mending;
 mod patterns;

@@ -1,180 +1,126 @@
 //! What several words and signs are often written for.
 
-/// What stands there, and what is put in its place; the first is told with which the text is read past it. Capital letters stand for what
-/// is kept: `A` to `C` names, `O` the name of a channel that is written, `K` a kind, `D` a direction, `R` a role, `V` a word for `wait`,
-/// `S` one for `send`, `P` one that starts, `E` to `G` expressions, `N` names
-/// alone, and `T` what stands there to the end of the line; `|` stands between words of which there is one.
-pub(crate) const PATTERNS: [(&str, &str); 168] = [
-    // Values are taken and sent.
-    ("A : = < - B", "A := wait(B)"),
-    ("V A from B", "A := wait(B)"),
-    ("V ( A , B )", "B := wait(A)"),
-    ("V [ A ]", "wait(A)"),
-    ("V on|for|from A", "wait(A)"),
-    ("let A = V B", "A := wait(B)"),
-    ("A < - V B", "A := wait(B)"),
-    ("V A", "wait(A)"),
-    ("A . V ( )", "wait(A)"),
-    ("A ? B", "B := wait(A)"),
-    ("S ( E , O )", "send E on O"),
-    ("S ( O , E )", "send E on O"),
-    ("S E D O", "send E on O"),
-    ("S E - > O", "send E on O"),
-    ("S O , E", "send E on O"),
-    ("S O : = E", "send E on O"),
-    ("S O < - E", "send E on O"),
-    ("on A S E", "send E on A"),
-    ("S O E", "send E on O"),
-    ("O . S ( E )", "send E on O"),
-    ("O ! E", "send E on O"),
-    ("O < - E", "send E on O"),
-    ("A < - B + E", "A := B + E"),
-    ("A < - B", "A := wait(B)"),
-    ("A < - E", "A := E"),
-    ("A - > B", "B := wait(A)"),
-    ("E - > O", "send E on O"),
-    ("A : = E if F else G", "A := if F then E else G"),
-    ("A : S", "S"),
-    ("send E ? F : G on", "send if E then F else G on"),
-    ("A : = E ? F : G", "A := if E then F else G"),
-    // Values are computed.
-    ("inc ( A )", "A := A + 1"),
-    ("dec ( A )", "A := A - 1"),
-    ("` mod `", "mod"),
-    ("` div `", "div"),
-    ("max ( E , F )", "(if E > F then E else F)"),
-    ("min ( E , F )", "(if E < F then E else F)"),
-    ("abs ( E )", "(if E < 0 then -(E) else E)"),
-    ("elif|elsif|elseif", "else if"),
-    ("negate A", "-A"),
-    ("and then", "and"),
-    ("or else", "or"),
-    ("andalso", "and"),
-    ("orelse", "or"),
-    ("not =", "<>"),
-    ("mod ( E , F )", "(E) mod (F)"),
-    ("div ( E , F )", "(E) div (F)"),
-    ("is", "="),
-    ("x", "*"),
-    ("times", "*"),
-    ("plus", "+"),
-    ("minus", "-"),
-    ("rem", "mod"),
-    ("on ( A )", "on A"),
-    ("let mut A = E", "A := E"),
-    ("let A : = E", "A := E"),
-    ("let|set A = E", "A := E"),
-    ("A + = E", "A := A + E"),
-    ("A - = E", "A := A - E"),
-    ("A : = B + +", "A := B + 1"),
-    ("+ + A", "A := A + 1"),
-    ("A + +", "A := A + 1"),
-    ("A - -", "A := A - 1"),
-    (": =", ":="),
-    ("= = =", "="),
-    ("= =", "="),
-    ("A = = E", "A := E"),
-    ("repeat - >", "repeat"),
-    ("add E to A", "A := A + E"),
-    ("= <", "<="),
-    ("= >", ">="),
-    ("< =", "<="),
-    ("> =", ">="),
-    // Parameters and variables.
-    (", A chan < - K", "; K out A"),
-    (", A < - chan K", "; K in A"),
-    ("A chan < - K", "K out A"),
-    ("A < - chan K", "K in A"),
-    ("D A : K", "K D A"),
-    (") - >", ");"),
-    (") is|do|=", ");"),
-    (") =", "); begin"),
-    ("let A : K = 0", "K A"),
-    ("A : : K", "K A"),
-    ("A : K D", "K D A"),
-    ("D A K", "K D A"),
-    ("channel A : K R", "K R channel A"),
-    ("channel A : K", "K channel A"),
-    ("A : D K", "K D A"),
-    ("( A : K", "(K in A"),
-    ("; A : K )", "; K out A)"),
-    (", A : K )", "; K out A)"),
-    ("var A : K", "K A"),
-    ("var A K", "K A"),
-    ("R A : K", "K R channel A"),
-    ("K : A", "K A"),
-    ("A : K", "K A"),
-    ("D K A", "K D A"),
-    ("K A D", "K D A"),
-    ("A D K", "K D A"),
-    ("A K D", "K D A"),
-    ("K D channel A", "K D A"),
-    ("K input channel A", "K in A"),
-    ("K output channel A", "K out A"),
-    ("input K A", "K in A"),
-    ("output K A", "K out A"),
-    ("D channel A", "integer D A"),
-    (", D A", "; integer D A"),
-    (") - > K D A", "; K D A)"),
-    ("K A = 0|false", "K A"),
-    ("K A : = 0", "K A"),
-    ("K A ; B ;", "K A, B;"),
-    // Channels, instances, comments.
-    ("R K channel A", "K R channel A"),
-    ("channel R A", "R channel A"),
-    ("R channel A", "integer R channel A"),
-    ("A : = make ( chan K )", "K channel A"),
-    ("K channel A ; B ;", "K channel A, B;"),
-    ("channel|chan of K A", "K channel A"),
-    ("channel < K > A", "K channel A"),
-    ("chan|channel K A", "K channel A"),
-    ("channel A", "integer channel A"),
-    ("var A = channel ( )", "integer channel A"),
-    ("A = channel ( )", "integer channel A"),
-    ("A = channel ( K )", "K channel A"),
-    ("A = R ( K )", "K R channel A"),
-    ("process A ( T", "A(T"),
-    ("process A [", "process A("),
-    ("A [ E ]", "A(E)"),
-    ("[ E ]", "(E)"),
-    ("process A begin", "process A(); begin"),
-    ("process A = B (", "process B("),
-    ("A = B ( E )", "B(E, A)"),
-    ("A : B (", "B("),
-    ("A : = B ( E )", "B(E, A)"),
-    ("process A ( E ) par process", "A(E) par"),
-    ("P A (", "A("),
-    ("( K A", "(A"),
-    (", K A", ", A"),
-    ("( D A", "(A"),
-    (", D A", ", A"),
-    ("D A", "integer D A"),
-    ("( A = B", "(B"),
-    (", A = B", ", B"),
-    ("( A : B", "(B"),
-    (", A : B", ", B"),
-    ("A main ( ) {", "begin"),
-    (") {", "); begin"),
-    ("if E {", "if E then begin"),
-    ("while E {", "while E do begin"),
-    ("begin {", "begin"),
-    ("for|loop {", "repeat begin"),
-    ("package|program A ;", ""),
-    ("import|program|module A", ""),
-    ("# define T", ""),
-    ("repeat forever", "repeat"),
-    ("then :", "then"),
-    ("else :", "else"),
-    ("do :", "do"),
-    ("end program", "end"),
-    ("; % T", "; comment T;"),
-    ("end % T", "end comment T;"),
-    ("/ / T", "comment T;"),
-    ("{ N }", "comment N;"),
-    ("comment T", "comment T;"),
-    ("/ * T * /", "comment T;"),
-    ("( * T * )", "comment T;"),
-    ("- - T", "comment T;"),
-    ("# T", "comment T;"),
-    ("/ /", "div"),
-];
+/// What is put in, and what stands there, in one form or several; the first is told with which the text is read past it. Capital letters
+/// stand for what is kept: `A` to `C` names, `O` the name of a channel that is written, `K` a kind, `D` a direction, `R` a role, `V` a word
+/// for `wait`, `S` one for `send`, `P` one that starts, `E` to `G` expressions, `N` names alone, `L` names with commas between, and `T` what
+/// stands there to the end of the line; `|` without blanks stands between words of which there is one.
+pub(crate) const PATTERNS: &str = "\
+A := wait(B) | A : = < - B | V A from B
+B := wait(A) | V ( A , B )
+wait(A) | V [ A ] | V on|for|from A
+A := wait(B) | let A = V B | A < - V B
+wait(A) | V A | A . V ( )
+B := wait(A) | A ? B
+send E on O | S ( E , O ) | S ( O , E ) | S E D O | S E - > O | S O , E | S O : = E | S O < - E
+send E on A | on A S E
+send E on O | S O E | O . S ( E ) | O ! E | O < - E
+A := B + E | A < - B + E
+A := wait(B) | A < - B
+A := E | A < - E
+B := wait(A) | A - > B
+send E on O | E - > O
+A := if F then E else G | A : = E if F else G
+S | A : S
+send if E then F else G on | send E ? F : G on
+A := if E then F else G | A : = E ? F : G
+A := A + 1 | inc ( A )
+A := A - 1 | dec ( A ) | A - -
+mod | ` mod ` | rem
+div | ` div `
+(if E > F then E else F) | max ( E , F )
+(if E < F then E else F) | min ( E , F )
+(if E < 0 then -(E) else E) | abs ( E )
+else if | elif|elsif|elseif
+else begin | else if begin
+-A | negate A
+and | and then | andalso
+or | or else | orelse
+<> | not =
+(E) mod (F) | mod ( E , F )
+(E) div (F) | div ( E , F )
+= | is
+* | x | times
++ | plus
+- | minus
+on A | on ( A )
+A := E | let mut A = E | let A : = E | let|set A = E
+A := A + E | A + = E | add E to A
+A := A - E | A - = E
+A := B + 1 | A : = B + +
+A := A + 1 | + + A | A + +
+:= | : =
+= | = = = | = =
+A := E | A = = E
+repeat | repeat - > | repeat forever
+<= | = < | < =
+>= | = > | > =
+; K out A | , A chan < - K
+; K in A | , A < - chan K
+K out A | A chan < - K
+K in A | A < - chan K
+K D L | D L : K | L : K D
+); | ) - > | ) is|do|=
+); begin | ) =
+K A | let A : K = 0 | A : : K
+K A) | K A : = E ) | K A = E )
+K D A | D A K | D K A | K A D | A D K | A K D | K D channel A
+K R channel A | channel A : K R
+K channel L | channel L : K
+K D L | L : D K
+(K in L | ( L : K
+; K out L) | ; L : K )
+; K out A) | , A : K )
+K L | var L : K
+K A | var A K
+K R channel A | R A : K
+K A | K : A
+K L | L : K
+K in A | K input channel A | input K A
+K out A | K output channel A | output K A
+integer D A | D channel A
+; integer D A | , D A
+; K D A) | ) - > K D A
+K A | K A = 0|false | K A : = 0
+K A, B; | K A ; B ;
+K R channel A | R K channel A
+R channel A | channel R A
+integer R channel A | R channel A
+K channel A | A : = make ( chan K )
+K channel A, B; | K channel A ; B ;
+K channel A | channel|chan of K A | channel < K > A | chan|channel K A
+K R channel A | channel K A R
+integer channel A | channel A | var A = channel ( ) | A = channel ( )
+K channel A | A = channel ( K )
+K R channel A | A = R ( K )
+A(T | process A ( T
+process A( | process A [
+A(E) | A [ E ]
+(E) | [ E ]
+process A(); begin | process A begin
+process B( | process A = B (
+B(E, A) | A = B ( E ) | A : = B ( E )
+B( | A : B (
+A(E) par | process A ( E ) par process
+A( | P A (
+(A | ( K A | ( D A
+, A | , K A | , D A
+integer D A | D A
+(B | ( A = B | ( A : B
+, B | , A = B | , A : B
+begin | A main ( ) {
+); begin | ) {
+if E then begin | if E {
+while E do begin | while E {
+begin | begin {
+repeat begin | for|loop {
+ | package|program A ; | import|program|module A | # define T
+then | then :
+else | else :
+do | do :
+end | end program
+; comment T; | ; % T
+end comment T; | end % T
+comment T; | / / T
+comment N; | { N }
+comment T; | comment T | / * T * / | ( * T * ) | - - T | # T
+div | / /";

@@ -63,11 +63,10 @@ pub(crate) fn front<T>(items: &[T], count: usize) -> &[T] {
 
 /// The name there, if it is one.
 pub(crate) fn name_at<'p>(place: Place<'p>, spot: Spot) -> Option<&'p str> {
-    let lexeme = lexeme_at(place, spot)?;
-    if lexeme.what == Class::Name {
-        return Some(part_of(place.text, lexeme.span));
+    match lexeme_at(place, spot) {
+        Some(lexeme) if lexeme.what == Class::Name => Some(part_of(place.text, lexeme.span)),
+        _ => None,
     }
-    None
 }
 
 /// Whether a lexeme is this name.

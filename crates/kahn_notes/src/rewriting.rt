@@ -22,18 +22,20 @@ const TRIES: usize = 16;
 /// How many bytes are read for them at most.
 const MOST_READ: usize = 4_000_000;
 
-/// Words for `wait`, for `send`, and for what starts something.
-const WAITS: &str = "wait receive recv read get take await";
-
-const SENDS: &str = "send put emit write push give output";
-
-const STARTS: &str = "go call spawn start run launch new exec doco";
+/// The words of which a capital letter stands for one.
+const LETTERS: &str = "
+V | wait receive recv read get take await
+S | send put emit write push give output
+P | go call spawn start run launch new exec doco
+D | in out
+R | input output
+";
 
 /// Where no expression goes on.
 const ENDS: &str = "; ) ] } begin end else";
 
 /// The kinds, by what they are called elsewhere.
-const KINDS: &str = "
+pub(crate) const KINDS: &str = "
 int integer i32 i64 number | integer
 logical bool boolean | logical
 ";
@@ -119,13 +121,11 @@ fn letter_of(piece: &str) -> Option<u8> {
 fn fits(window: Window, piece: &str, word: &str) -> bool {
     match piece {
         "K" => row_of(KINDS, word).is_some(),
-        "D" => has_word("in out", word),
-        "R" => has_word("input output", word),
-        "V" => has_word(WAITS, word),
-        "S" => has_word(SENDS, word),
-        "P" => has_word(STARTS, word),
         "O" => is_written(window, word),
-        _ if letter_of(piece).is_some() => is_name(word),
+        _ if letter_of(piece).is_some() => match row_of(LETTERS, piece) {
+            Some(row) => has_word(cell(row, 1), word),
+            None => is_name(word),
+        },
         _ => piece.split("|").any(|one| word.eq_ignore_ascii_case(one)),
     }
 }
@@ -138,6 +138,7 @@ fn is_ended(window: Window, number: usize, piece: &str, next: &str) -> bool {
         || match piece {
             "T" => false,
             "N" => !is_name(word),
+            "L" => word != "," && !is_name(word),
             _ => has_word(ENDS, word),
         }
 }
@@ -161,7 +162,7 @@ fn end_of_run(window: Window, from: usize, piece: &str, next: &str) -> usize {
 /// How many words and signs stand before what is behind a piece of a pattern, where that fits at a number of them.
 fn end_of(window: Window, from: usize, piece: &str, next: &str) -> Option<usize> {
     let end = match piece {
-        "E" | "F" | "G" | "T" | "N" => end_of_run(window, from, piece, next),
+        "E" | "F" | "G" | "T" | "N" | "L" => end_of_run(window, from, piece, next),
         _ if fits(window, piece, word_of(window, from)) => from.saturating_add(1),
         _ => from,
     };
@@ -230,6 +231,15 @@ fn waits_twice(window: Window, template: &str, bindings: &[Binding]) -> bool {
     false
 }
 
+/// What is put there, at the end of a line with a `;` behind it, or before a comment.
+fn ended(alloc: Global, put: &str, is_last: bool) -> Words {
+    match (is_last, put.starts_with("comment ")) {
+        (false, _) => String::from_str(alloc, put),
+        (true, true) => joined(alloc, &["; ", put]),
+        (true, false) => joined(alloc, &[put, ";"]),
+    }
+}
+
 /// The change of a pattern that fits from a number on, if the text is read past it then; at the end of a line also with a `;` behind it, or
 /// before a comment.
 fn change_at(
@@ -253,20 +263,16 @@ fn change_at(
         None => window.text.len(),
     };
     let put = filled(window, put, &bindings)?;
-    let fix = replacement(window.alloc, part, put.as_str())?;
-    let behind = Span { from, to: from };
-    let fix = mending(window.alloc, window.plain, behind, Some(fix))?;
-    if fix.is_some() || end < window.line {
-        return Ok(fix);
+    for is_last in [false, true] {
+        let put = ended(window.alloc, put.as_str(), is_last)?;
+        let fix = replacement(window.alloc, part, put.as_str())?;
+        let place = Span { from, to: from };
+        let fix = mending(window.alloc, window.plain, place, Some(fix))?;
+        if fix.is_some() || end < window.line {
+            return Ok(fix);
+        }
     }
-    let pieces = if put.starts_with("comment ") {
-        ["; ", put.as_str()]
-    } else {
-        [put.as_str(), ";"]
-    };
-    let put = joined(window.alloc, &pieces)?;
-    let fix = replacement(window.alloc, part, put.as_str())?;
-    mending(window.alloc, window.plain, behind, Some(fix))
+    Ok(None)
 }
 
 /// What is put in the place of several words and signs round a place: the first pattern that fits and with which the text is read past it.
@@ -285,11 +291,14 @@ pub(crate) fn rewritten(alloc: Global, text: &str, plain: &str, at: usize) -> Fi
     };
     let first = window.number.saturating_sub(BEFORE);
     let mut tries = TRIES.min(MOST_READ.checked_div(text.len()).unwrap_or(0));
-    for (pattern, template) in &PATTERNS {
-        let words = pattern.split_whitespace().collect::<Vec<&str>>(alloc)?;
-        for start in first..window.number.saturating_add(1) {
-            if let Some(fix) = change_at(window, start, &words, template, &mut tries)? {
-                return Ok(Some(fix));
+    for row in PATTERNS.lines() {
+        let (template, patterns) = row.split_once(" | ").unwrap_or(("", ""));
+        for pattern in patterns.split(" | ") {
+            let words = pattern.split_whitespace().collect::<Vec<&str>>(alloc)?;
+            for start in first..window.number.saturating_add(1) {
+                if let Some(fix) = change_at(window, start, &words, template, &mut tries)? {
+                    return Ok(Some(fix));
+                }
             }
         }
     }

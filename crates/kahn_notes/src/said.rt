@@ -80,13 +80,16 @@ pub(crate) fn changed_words(alloc: Global, old: &str, put: &str) -> Words {
 }
 
 /// What is said of several words and signs that a change replaces.
-pub(crate) fn rewriting_said(place: Place, fix: Fix) -> Result<Said, AllocError> {
+pub(crate) fn rewriting_said(place: Place, fix: Option<Fix>) -> Saying {
+    let Some(fix) = fix else {
+        return Ok(None);
+    };
     if fix.span.from == place.span.from {
-        return Ok((None, Some(fix), None));
+        return Ok(Some((None, Some(fix), None)));
     }
     let old = part_of(place.text, fix.span);
     let words = changed_words(place.alloc, old, fix.put.as_str())?;
-    Ok((Some((fix.span, words)), Some(fix), None))
+    Ok(Some((Some((fix.span, words)), Some(fix), None)))
 }
 
 /// What is said of a change.

@@ -19,30 +19,20 @@ pub(crate) fn has_word(words: &str, word: &str) -> bool {
 
 /// The row of a table whose first cell has a word.
 pub(crate) fn row_of(table: &'static str, word: &str) -> Option<&'static str> {
-    for row in table.lines() {
-        if has_word(cell(row, 0), word) {
-            return Some(row);
-        }
-    }
-    None
+    table.lines().find(|row| has_word(cell(row, 0), word))
 }
 
 /// The class that is written so.
 pub(crate) fn class_of(word: &str) -> Option<Class> {
-    for class in &CLASSES {
-        if class_word(*class) == word {
-            return Some(*class);
-        }
-    }
-    None
+    CLASSES
+        .iter()
+        .find(|class| class_word(**class) == word)
+        .copied()
 }
 
 /// Whether there is a lexeme, of one of the classes that are written so.
 pub(crate) fn finds(words: &str, lexeme: Option<Lexeme>) -> bool {
-    match lexeme {
-        Some(lexeme) => has_word(words, class_word(lexeme.what)),
-        None => false,
-    }
+    matches!(lexeme, Some(lexeme) if has_word(words, class_word(lexeme.what)))
 }
 
 /// Whether all of a group may stand, or one of a class, in no group.
@@ -61,18 +51,12 @@ pub(crate) fn may_stand(word: &str, wanted: &Wanted) -> bool {
 
 /// Whether no byte stands between the lexemes before a place and at it.
 pub(crate) fn are_joined(place: Place) -> bool {
-    match (before(place), found(place)) {
-        (Some(one), Some(other)) => one.span.to == other.span.from,
-        (_, _) => false,
-    }
+    matches!((before(place), found(place)), (Some(one), Some(other)) if one.span.to == other.span.from)
 }
 
 /// Whether the name before a place is declared.
 fn is_known(place: Place) -> bool {
-    match name_at(place, Spot::Before) {
-        Some(name) => is_declared(place, 1, name),
-        None => false,
-    }
+    matches!(name_at(place, Spot::Before), Some(name) if is_declared(place, 1, name))
 }
 
 /// Whether a lexeme is what a cell says: of one of these classes, any, or none.
@@ -105,10 +89,6 @@ fn fits(row: &'static str, place: Place) -> bool {
 
 /// The words of the first row of a table that fits at a place.
 pub(crate) fn advice(table: &'static str, place: Place) -> Option<&'static str> {
-    for row in table.lines() {
-        if fits(row, place) {
-            return Some(cell(row, 3));
-        }
-    }
-    None
+    let row = table.lines().find(|row| fits(row, place))?;
+    Some(cell(row, 3))
 }

@@ -7,7 +7,7 @@ ghost use Rattle.kahn_syntax.specs.Texts.{IsTextFault};
 ghost use Rattle.kahn_notes.specs.Notes.{IsExpected, IsNoteAt, IsThereOrFixed, IsToldAt, Mends};
 
 use crate::choice::offers_of;
-use crate::commented::comment_words;
+use crate::commented::{comment_words, unended_said};
 use crate::listing::add_wanted;
 use crate::mending::mending;
 use crate::place::Place;
@@ -57,6 +57,9 @@ fn said_of(
     };
     let offers = offers_of(alloc, all, at.number)?;
     if let Some(it) = comment {
+        if let Some(said) = unended_said(alloc, text, span, it)? {
+            return Ok(Some(said));
+        }
         let is_first = at.number == 0 && !offers.whole;
         if is_first || swallows(text.as_bytes(), it.from, it.to.min(text.len()), true) {
             return Ok(None);
