@@ -77,11 +77,7 @@ same_declarations a b n m (D.Process p ∷ rest) h i =
 same_place : (g h : Table) (w v r s : Ends) (k : Taking) (x : Argument) → StandAlike g h → StandAlike w v → StandAlike r s → place_faults g w r k x ≡ place_faults h v s k x
 same_place g h w v r s (T.Channel Out k) (A.Channel n) a b c = λ j. misplaced Out k (a (bytes_of n) j) (held (b (bytes_of n) j)) n.span
 same_place g h w v r s (T.Channel In k) (A.Channel n) a b c = λ j. misplaced In k (a (bytes_of n) j) (held (c (bytes_of n) j)) n.span
-same_place g h w v r s (T.Channel d k) (A.Number z at) a b c = refl
-same_place g h w v r s (T.Channel d k) (A.Logical z at) a b c = refl
-same_place g h w v r s (T.Value k) (A.Channel n) a b c = refl
-same_place g h w v r s (T.Value k) (A.Number z at) a b c = refl
-same_place g h w v r s (T.Value k) (A.Logical z at) a b c = refl
+same_place g h w v r s _ _ a b c = refl
 
 pub same_places : (g h : Table) (w v r s : Ends) (i q : ℕ) (ps : List Parameter) (xs : List Argument) → StandAlike g h → StandAlike w v → StandAlike r s →
     places_faults g w r i q ps xs ≡ places_faults h v s i q ps xs
@@ -168,8 +164,6 @@ pub got_fresh : (g : Table) (w r w' r' : Ends) (e : Side) (k : Taking) (x : Argu
     HaveGot (handed e k x) w r w' r'
 got_fresh g w r w' r' e (T.Channel Out k) (A.Channel n) h i j = (i ∙ added w (bytes_of n) e (fresh Out k (lookup (bytes_eq (bytes_of n)) g) (lookup (bytes_eq (bytes_of n)) w) n.span h), j ∙ sym (append-nil r))
 got_fresh g w r w' r' e (T.Channel In k) (A.Channel n) h i j = (i ∙ sym (append-nil w), j ∙ added r (bytes_of n) e (fresh In k (lookup (bytes_eq (bytes_of n)) g) (lookup (bytes_eq (bytes_of n)) r) n.span h))
-got_fresh g w r w' r' e (T.Channel d k) (A.Number z at) h i j = cc
-got_fresh g w r w' r' e (T.Channel d k) (A.Logical z at) h i j = cc
-got_fresh g w r w' r' e (T.Value k) (A.Channel n) h i j = cc
 got_fresh g w r w' r' e (T.Value k) (A.Number z at) h i j = (i ∙ sym (append-nil w), j ∙ sym (append-nil r))
 got_fresh g w r w' r' e (T.Value k) (A.Logical z at) h i j = (i ∙ sym (append-nil w), j ∙ sym (append-nil r))
+got_fresh g w r w' r' e _ _ h i j = cc

@@ -42,10 +42,9 @@ placed_more ds [] x w h i = (i, tt)
 placed_more ds (e ∷ es) x w h i = (h.0, placed_more ds es x w h.1 i)
 
 pub placed_here : (k : ℕ) (all : List Declaration) (p : Process) (rest : List Declaration) → drop k all ≡ D.Process p ∷ rest → process_at all k ≡ Some p
-placed_here zero [] p rest h = cc
 placed_here zero (e ∷ es) p rest h = let same : e ≡ D.Process p = cc in ap (λ d. the_process (Some d)) same
-placed_here (suc k) [] p rest h = cc
 placed_here (suc k) (e ∷ es) p rest h = placed_here k es p rest h
+placed_here _ _ p rest h = cc
 
 pub kept_global : (es : List (List ℕ × Entry)) (x : List ℕ) (w : Entry) → shown (kept_first es x w) ≡ kept_first (shown es) x (global_of w)
 kept_global es x w = by (lookup (bytes_eq x) es) ∙ ap (λ o. kept_as o (shown es) x (global_of w)) (find_global x es)

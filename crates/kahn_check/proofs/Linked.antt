@@ -14,14 +14,12 @@ first_taken d c [] = refl
 first_taken d c (h ∷ hs) = grind (arith, nat_tests, first_taken d c hs)
 
 misplaced_first : (d : Direction) (k : Kind) (o : Option Global) (es : List Side) (at : Span) → misplaced d k o (held (first es)) at ≡ misplaced d k o es at
-misplaced_first d k o [] at = refl
-misplaced_first d k None (e ∷ es) at = refl
-misplaced_first d k (Some (IsProcess p)) (e ∷ es) at = refl
 misplaced_first d k (Some (IsChannel kind role)) (e ∷ es) at = ap (λ z. wrong k kind at ++ z) (by (is_closed d role))
   where
     by : (b : Bool) → overtaken d b (e ∷ []) at ≡ overtaken d b (e ∷ es) at
     by true = refl
     by false = refl
+misplaced_first d k _ _ at = refl
 
 missing_first : (es : List Side) (f : CheckFault) → missing (held (first es)) f ≡ missing es f
 missing_first [] f = refl
@@ -33,11 +31,7 @@ table t = entries (declared_of t.declarations.items)
 link_argument : (t : Program) (before : List Handover) (w : Taking) (x : Argument) → place_faults (table t) (taken Out before) (taken In before) w x ≡ argument_faults t before w x
 link_argument t before (T.Channel Out k) (A.Channel n) = ap (λ z. misplaced Out k (global t n) z n.span) (ap held (first_taken Out (bytes_of n) before)) ∙ misplaced_first Out k (global t n) (ends Out (bytes_of n) before) n.span
 link_argument t before (T.Channel In k) (A.Channel n) = ap (λ z. misplaced In k (global t n) z n.span) (ap held (first_taken In (bytes_of n) before)) ∙ misplaced_first In k (global t n) (ends In (bytes_of n) before) n.span
-link_argument t before (T.Channel d k) (A.Number z at) = refl
-link_argument t before (T.Channel d k) (A.Logical b at) = refl
-link_argument t before (T.Value k) (A.Channel n) = refl
-link_argument t before (T.Value k) (A.Number z at) = refl
-link_argument t before (T.Value k) (A.Logical b at) = refl
+link_argument t before _ _ = refl
 
 link_arguments : (t : Program) (before : List Handover) (i q : ℕ) (ps : List Parameter) (xs : List Argument) →
     places_faults (table t) (taken Out before) (taken In before) i q ps xs ≡ arguments_faults t before i q ps xs

@@ -58,9 +58,8 @@ first_same ((f ∷ fs) ∷ ps) = refl
 
 unless_first : (fs gs xs ys : List CheckFault) → verdict fs (tt {0}) ≡ verdict xs (tt {0}) → verdict gs (tt {0}) ≡ verdict ys (tt {0}) → verdict (unless_empty fs gs) (tt {0}) ≡ verdict (xs ++ ys) (tt {0})
 unless_first [] gs [] ys h i = i
-unless_first [] gs (x ∷ xs) ys h i = cc
-unless_first (f ∷ fs) gs [] ys h i = cc
 unless_first (f ∷ fs) gs (x ∷ xs) ys h i = h
+unless_first _ gs _ ys h i = cc
 
 pub first : (t : Program) → verdict (faults_by_part t) (tt {0}) ≡ verdict (faults t) (tt {0})
 first t =

@@ -82,8 +82,6 @@ IsFair g d c hs = AtMostOne (ends d c hs) × IsShut g d c hs
 
 pub placed : (d : Direction) (k : Kind) (o : Option Global) (taken : List Side) (at : Span) → misplaced d k o taken at ≡ [] →
     (role : Role) × (o ≡ Some (IsChannel k role)) × (is_closed d role ≡ false) × (taken ≡ [])
-placed d k None taken at h = cc
-placed d k (Some (IsProcess p)) taken at h = cc
 placed d k (Some (IsChannel kind role)) taken at h = by (is_closed d role) refl taken (nil_right (wrong k kind at) _ h) ((kinds k kind at).1 (nil_left (wrong k kind at) _ h))
   where
     by : (b : Bool) → is_closed d role ≡ b → (xs : List Side) → overtaken d b xs at ≡ [] → kind ≡ k →
@@ -91,17 +89,16 @@ placed d k (Some (IsChannel kind role)) taken at h = by (is_closed d role) refl 
     by true e xs i same = cc
     by false e [] i same = (role, ap (λ z. Some (IsChannel z role)) same, e, refl)
     by false e (x ∷ xs) i same = cc
+placed d k _ taken at h = cc
 
 same_ways : (d e : Direction) → same_direction d e ≡ true → d ≡ e
 same_ways In In h = refl
-same_ways In Out h = cc
-same_ways Out In h = cc
 same_ways Out Out h = refl
+same_ways _ _ h = cc
 
 and_true : (a b : Bool) → (a && b) ≡ true → (a ≡ true) × (b ≡ true)
 and_true true true h = (refl, refl)
-and_true true false h = cc
-and_true false b h = cc
+and_true _ _ h = cc
 
 -- one more argument
 pub fair_argument : (t : Program) (before : List Handover) (e : Side) (w : Taking) (x : Argument) → argument_faults t before w x ≡ [] → (d : Direction) (c : List ℕ) →
@@ -148,11 +145,9 @@ fair_arguments t before i q (p ∷ ps) (x ∷ xs) h d c fair =
 
 fits : (t : Program) (before : List Handover) (w : Taking) (x : Argument) → argument_faults t before w x ≡ [] → Fits t w x
 fits t before (T.Channel d k) (A.Channel n) h = let p = placed d k (global t n) (ends d (bytes_of n) before) n.span h in (p.0, p.1)
-fits t before (T.Channel d k) (A.Number z at) h = cc
-fits t before (T.Channel d k) (A.Logical b at) h = cc
-fits t before (T.Value k) (A.Channel n) h = cc
 fits t before (T.Value k) (A.Number z at) h = sym ((kinds k K.Integer at).1 h)
 fits t before (T.Value k) (A.Logical b at) h = sym ((kinds k K.Logical at).1 h)
+fits t before _ _ h = cc
 
 all_fit : (t : Program) (before : List Handover) (i q : ℕ) (ps : List Parameter) (xs : List Argument) → length ps ≡ length xs → arguments_faults t before i q ps xs ≡ [] → AllFit t ps xs
 all_fit t before i q [] [] e h = tt
