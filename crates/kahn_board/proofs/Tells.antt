@@ -35,6 +35,10 @@ module _ {T : Type 0} where
   drew st m r n = (r ≡ st.first → (n ≡ (record (after_step m.0) { drawn = st.first - st.second }, m.1)) × ((p : ℕ) → IsIn m.0 p → slice_index m.0.events_when_got p + (st.first - st.second) < 2 ^ 48))
       × (r ≢ st.first → n ≡ (after_step m.0, m.1))
 
+-- how many steps a seat made
+abbrev pub steps_of : {T : Type 0} → Sat T → ℕ
+steps_of m = m.0.steps
+
 -- the slot that a seat took last
 abbrev pub first_of : {T : Type 0} → List (ℕ × Option T) → ℕ
 first_of [] = 0

@@ -99,14 +99,22 @@ module _ {T : Type 0} where
   abbrev pub at_moment : (St T → Type 0) → ℕ → Play T → Play T
   at_moment holds id then st m r n = then st m r n × WordWas holds id m.0 st.word r
 
-  -- the seat may step on the word of a table, which becomes f n if it was n, and learns what the play says
+  -- whatever it finds, the seat's view has one step more then
+  abbrev pub CountsStep : Sat T → (ℕ → Sat T → Type 0) → Type 0
+  CountsStep m then = (r : ℕ) (n : Sat T) → then r n → n.0.steps ≡ m.0.steps + 1
+
+  -- the seat may step on the word of a table, which becomes f n if it was n, and learns what the play says; it counts the step
   abbrev pub MayStep : (St T → Type 0) → TableId → shared.Seat (Option T) SeatView → ℕ → ℕ → ℕ → (ℕ → ℕ) → Play T → Type 0
   MayStep holds z s word old new f play = (s.table_id ≡ z) × (word < z.words) × Allows holds z.slots s.id s.me word f (play (step z.slots word old new none) s.me)
+      × CountsStep s.me (play (step z.slots word old new none) s.me)
 
-  -- it stepped, and the word was r at a moment of the call
+  -- it stepped, and learnt what the play says of r
+  abbrev pub HasLearnt : TableId → shared.Seat (Option T) SeatView → shared.Seat (Option T) SeatView → ℕ → ℕ → ℕ → Play T → ℕ → Type 0
+  HasLearnt z s t word old new play r = (t.table_id ≡ s.table_id) × (t.id ≡ s.id) × play (step z.slots word old new none) s.me r t.me
+
+  -- the same, and the word was r at a moment of the call
   abbrev pub HasPlayed : (St T → Type 0) → TableId → shared.Seat (Option T) SeatView → shared.Seat (Option T) SeatView → ℕ → ℕ → ℕ → Play T → ℕ → Type 0
-  HasPlayed holds z s t word old new play r =
-      (t.table_id ≡ s.table_id) × (t.id ≡ s.id) × at_moment holds s.id play (step z.slots word old new none) s.me r t.me
+  HasPlayed holds z s t word old new play r = HasLearnt z s t word old new (at_moment holds s.id play) r
 
   -- its view becomes f of the step's number and of what it was
   abbrev pub becomes : (ℕ → SeatView → SeatView) → Play T

@@ -1,29 +1,29 @@
-//! The board, and the seats that step on it.
+//! The board. No other file reaches its table, and each step on a word counts in the view of the seat that makes it.
 
-ghost use Rattle.std.specs.Prelude.{◌≡◌, ◌≢◌, ℕ, ◌+◌, ◌*◌, ◌^◌, ◌<◌, ◌≤◌, ◌==◌, [], map, length, Option, slice_index, slice_index_or, None, Some};
-ghost use Rattle.std.specs.VecDeque.{deque_capacity};
+ghost use Rattle.std.specs.Prelude.{◌≡◌, ℕ, ◌+◌, ◌-◌, ◌*◌, ◌%◌, ◌^◌, ◌<◌, ◌≤◌, ◌==◌, [], ◌∷◌, length, Option, slice_index, slice_index_or, None, Some, IfOk, IfErr};
 ghost use Rattle.std.specs.Vec.{vec_capacity};
-ghost use Rattle.kahn_board.specs.Plays.{Facts};
 ghost use Rattle.kahn_board.specs.Rule.{holds, wired, channel_at, budget_at, count_at, halted_at};
 
-use crate::plays::{CountingUp, GivingBack, Halting, Notes, SeesBudget, SeesCount, SeesHalted};
+use crate::closing::{Both, Closed, SplitsSeat};
+use crate::opening::{into_slots, out_of_slots, reserved};
 use crate::rule::{Reports, Rule, Terms};
+use crate::seat::{Seat, TableSeat};
 use crate::view::SeatView;
-use atomic_table::{Play, Table};
+use atomic_table::{Play, Refused, Table};
+use kahn_streams::{Network, NoMemory};
 use std::alloc::Global;
 use std::collections::VecDeque;
 use std::marker::Brand;
-
-type TableSeat<T> = atomic_table::Seat<Option<T>, SeatView>;
+use std::snapshot::Snapshot;
 
 /// Where the cells of a network are kept.
 pub struct Board<T: Reports> {
-    pub(crate) table: Table<Option<T>, SeatView, Terms<T>, Rule<T>, Global>,
+    table: Table<Option<T>, SeatView, Terms<T>, Rule<T>, Global>,
     pub instances: usize,
     pub channels: usize,
     pub readers: Vec<Option<usize>, Global>,
     // The memory of the list that `close` returns.
-    pub(crate) room: Vec<T, Global>,
+    room: Vec<T, Global>,
     ghost sized: { (table.shared.table_id.words ≡ 8 * (instances + channels) + 24) × (table.shared.table_id.slots ≡ instances) },
     ghost counts: { ((wired table.shared.key).instances ≡ instances) × ((wired table.shared.key).channels ≡ channels) },
     ghost limits: { (instances ≤ 256) × (channels ≤ 1024) },
@@ -33,10 +33,15 @@ pub struct Board<T: Reports> {
 
 impl<T: Reports> Board<T> {
     ghost use prog.Atomic.{either};
-    ghost use Rattle.kahn_board.specs.Plays.{HasPlayed, MayStep};
+    ghost use Rattle.atomic_table.specs.Table.{rest};
+    ghost use Rattle.kahn_board.specs.Plays.{HasPlayed, HasLearnt, MayStep};
 
     // A load: the word had this value at some moment of the call.
-    fn load<P: Play<Option<T>, SeatView>>(&self, seat: &mut TableSeat<T>, word: usize) -> u64
+    pub(crate) fn load<P: Play<Option<T>, SeatView>>(
+        &self,
+        seat: &mut TableSeat<T>,
+        word: usize,
+    ) -> u64
         requires { MayStep (holds T.told T.after self.now.table.shared.key) self.now.table.shared.table_id seat.old word 0 0 (λ n. n) P.then }
         ensures { HasPlayed (holds T.told T.after self.now.table.shared.key) self.now.table.shared.table_id seat.old seat.new word 0 0 P.then result }
     {
@@ -44,7 +49,7 @@ impl<T: Reports> Board<T> {
     }
 
     // A load whose play names a number of the caller's.
-    fn load_with<P>(&self, seat: &mut TableSeat<T>, word: usize, number: u64) -> u64
+    pub(crate) fn load_with<P>(&self, seat: &mut TableSeat<T>, word: usize, number: u64) -> u64
     where
         P: Play<Option<T>, SeatView>,
         requires { MayStep (holds T.told T.after self.now.table.shared.key) self.now.table.shared.table_id seat.old word 0 0 (λ n. n) P.then }
@@ -55,7 +60,13 @@ impl<T: Reports> Board<T> {
     }
 
     // A compare-and-exchange: the word had the value found at some moment of the call.
-    fn compare_exchange<P>(&self, seat: &mut TableSeat<T>, word: usize, old: u64, new: u64) -> u64
+    pub(crate) fn compare_exchange<P>(
+        &self,
+        seat: &mut TableSeat<T>,
+        word: usize,
+        old: u64,
+        new: u64,
+    ) -> u64
     where
         P: Play<Option<T>, SeatView>,
         requires { MayStep (holds T.told T.after self.now.table.shared.key) self.now.table.shared.table_id seat.old word old new (λ n. either (n == old) new n) P.then }
@@ -65,9 +76,70 @@ impl<T: Reports> Board<T> {
         shared.compare_exchange::<Brand>(seat, word, old, new)
     }
 
+    // A store.
+    pub(crate) fn store<P: Play<Option<T>, SeatView>>(
+        &self,
+        seat: &mut TableSeat<T>,
+        word: usize,
+        new: u64,
+    )
+        requires { MayStep (holds T.told T.after self.now.table.shared.key) self.now.table.shared.table_id seat.old word new 0 (λ _. new) (λ st m _. P.then st m new) }
+        ensures { HasLearnt self.now.table.shared.table_id seat.old seat.new word new 0 P.then new }
+    {
+        self.table.shared.store::<P>(seat, word, new)
+    }
+
+    // A swap.
+    pub(crate) fn swap<P: Play<Option<T>, SeatView>>(
+        &self,
+        seat: &mut TableSeat<T>,
+        word: usize,
+        new: u64,
+    ) -> u64
+        requires { MayStep (holds T.told T.after self.now.table.shared.key) self.now.table.shared.table_id seat.old word new 0 (λ _. new) P.then }
+        ensures { HasLearnt self.now.table.shared.table_id seat.old seat.new word new 0 P.then result }
+    {
+        self.table.shared.swap::<P>(seat, word, new)
+    }
+
+    // An addition.
+    pub(crate) fn fetch_add<P: Play<Option<T>, SeatView>>(
+        &self,
+        seat: &mut TableSeat<T>,
+        word: usize,
+        k: u64,
+    ) -> u64
+        requires { MayStep (holds T.told T.after self.now.table.shared.key) self.now.table.shared.table_id seat.old word k 0 (λ n. (n + k) % 2 ^ 64) P.then }
+        ensures { HasLearnt self.now.table.shared.table_id seat.old seat.new word k 0 P.then result }
+    {
+        self.table.shared.fetch_add::<P>(seat, word, k)
+    }
+
+    // A subtraction.
+    pub(crate) fn fetch_sub<P: Play<Option<T>, SeatView>>(
+        &self,
+        seat: &mut TableSeat<T>,
+        word: usize,
+        k: u64,
+    ) -> u64
+        requires { MayStep (holds T.told T.after self.now.table.shared.key) self.now.table.shared.table_id seat.old word k 0 (λ n. (n + (2 ^ 64 - k)) % 2 ^ 64) P.then }
+        ensures { HasLearnt self.now.table.shared.table_id seat.old seat.new word k 0 P.then result }
+    {
+        self.table.shared.fetch_sub::<P>(seat, word, k)
+    }
+
+    // Puts `new` into the slot that the seat took last, and returns what it held. No word is touched.
+    pub(crate) fn exchange(&self, seat: &mut TableSeat<T>, slot: usize, new: Option<T>) -> Option<T>
+        requires { (seat.old.table_id ≡ self.now.table.shared.table_id) × ((old : Option T) × (seat.old.me.1 ≡ (slot, old) ∷ rest seat.old.me.1)) }
+        ensures same { (seat.new.table_id ≡ seat.old.table_id) × (seat.new.id ≡ seat.old.id) }
+        ensures slots { (seat.old.me.1 ≡ (slot, result) ∷ rest seat.old.me.1) × (seat.new.me ≡ (seat.old.me.0, (slot, new) ∷ rest seat.old.me.1)) }
+    {
+        self.table.shared.exchange(seat, slot, new)
+    }
+
     // The word of the channel.
     #[inline(always)]
-    fn channel_word(&self, channel: usize) -> usize
+    pub(crate) fn channel_word(&self, channel: usize) -> usize
         requires { channel < self.now.channels }
         ensures { result ≡ channel_at (wired self.now.table.shared.key) channel }
     {
@@ -84,7 +156,7 @@ impl<T: Reports> Board<T> {
 
     // The word of the count.
     #[inline(always)]
-    fn count_word(&self) -> usize
+    pub(crate) fn count_word(&self) -> usize
         ensures { result ≡ count_at (wired self.now.table.shared.key) }
     {
         self.budget_word() + 8
@@ -99,7 +171,7 @@ impl<T: Reports> Board<T> {
     }
 
     // The reader of the channel, which has one.
-    fn reader(&self, channel: usize) -> usize
+    pub(crate) fn reader(&self, channel: usize) -> usize
         requires { (channel < self.now.channels) × ((p : ℕ) × ((wired self.now.table.shared.key).reader channel ≡ Some p)) }
         ensures { (wired self.now.table.shared.key).reader channel ≡ Some result }
     {
@@ -108,261 +180,106 @@ impl<T: Reports> Board<T> {
         };
         reader
     }
-
-    /// Whether the instance looks ready: a hint for a worker that spins. No clause says more.
-    pub fn looks_ready(&self, p: usize) -> bool
-        requires { p < self.now.instances }
-    {
-        self.table.shared.peek(8 * p) == 0
-    }
 }
 
-/// One worker's access to the board.
-#[derive(Drop)]
-pub struct Seat<T> {
-    pub(crate) seat: TableSeat<T>,
-    // The instances in its hands, the one whose slot it took last first.
-    pub held: VecDeque<usize, Global>,
-    ghost facts: { Facts seat.me seat.table_id held.items (deque_capacity held) },
-}
+impl<T: Reports> Board<T> {
+    ghost use Rattle.kahn_board.specs.Calls.{IsAtBoard, IsSameSeat, AreCut, IsFree, after_joining};
+    ghost use Rattle.kahn_board.specs.Opening.{ClosesBoard, Opens};
+    ghost use Rattle.kahn_board.specs.Rule.{all_parts, belongs, dealt, opening_view};
+    ghost use Rattle.kahn_board.specs.Wires.{wires};
 
-impl<T: Reports> Seat<T> {
-    ghost use Rattle.kahn_board.specs.Calls.{Becomes, Claims, IsAtBoard, LooksAt, IsSameSeat, IsFirstSlot, KeepsAll, Swaps, MayLeave, OwesFew, GivesUp, Parks, Publishes, Draws, CountsDown, Looks, downs_of};
-    ghost use Rattle.kahn_board.specs.Wires.{TellsEnd, TellsWait};
-    ghost use Rattle.kahn_board.specs.declared.board.Rest.TheVariants.{Over};
-    ghost use Rattle.kahn_board.specs.Plays.{Carries, IsIn, after_halting, after_counting_up, after_giving_back, after_reporting};
-    ghost use Rattle.atomic_table.specs.Table.{turned as shifted};
-    ghost use Rattle.kahn_board.specs.Rule.{belongs, wired};
-
-    /// Whether the instance was ready at some moment of the call. An idle worker looks before it claims, since a claim writes
-    /// a word.
-    pub fn looks_ready(&mut self, board: &Board<T>, p: usize) -> bool
-        requires { IsAtBoard board.now self.old × (p < board.now.instances) }
-        ensures { LooksAt T.told T.after board.now.table.shared.key self.old self.new p result }
+    /// Makes a board and its first seat. All instances are ready, `published[c]` tokens of channel c are published, the
+    /// budget is the bound and the count is the number of instances. `NoMemory` comes with the cells.
+    pub fn new(
+        alloc: Global,
+        network: &Network,
+        published: &[u64],
+        cells: Vec<T, Global>,
+        bound: u64,
+    ) -> Result<(Board<T>, Seat<T>), (NoMemory, Vec<T, Global>)>
+        requires { Opens T.told T.after (wires network.now) bound published.now cells.items }
+        ensures seat { IfOk result (λ t. (t.1.seat.table_id ≡ t.0.table.shared.table_id) × (t.1.seat.me ≡ (opening_view (wires network.now), []))) }
+        ensures board { IfOk result (λ t. let key = t.0.table.shared.key in (key.network.value ≡ network.now) × (key.bound ≡ bound) × (key.cells.value ≡ cells)) }
+        ensures published { IfOk result (λ t. (c : ℕ) → c < length published.now → (dealt T.told t.0.table.shared.key).published c ≡ slice_index published.now c) }
+        ensures refused { IfErr result (λ e. e.1.items ≡ cells.items) }
     {
-        let found = board.load::<Notes>(&mut self.seat, 8 * p);
-        found == 0
-    }
-
-    /// Takes the instance into the seat's hands if it is ready, with its cell at home. `None` if it isn't: then nothing
-    /// changes but what the seat knows.
-    pub fn claim(&mut self, board: &Board<T>, p: usize) -> Option<()>
-        requires { IsAtBoard board.now self.old × (p < board.now.instances) }
-        ensures { Claims T.told T.after board.now.table.shared.key self.old self.new p result }
-    {
-        let found = board.compare_exchange::<Brand>(&mut self.seat, 8 * p, 0, 1);
-        if found != 0 {
-            return None;
-        }
-        self.held.push_front_reserved(p);
-        Some(())
-    }
-
-    // Moves the first slot after the others.
-    fn rotate(&mut self)
-        requires { 0 < length self.old.held.items }
-        ensures { IsSameSeat self.old self.new × (self.new.seat.me ≡ (self.old.seat.me.0, shifted self.old.seat.me.1)) }
-    {
-        let first = self.held.pop_front().unwrap();
-        self.held.push_back_reserved(first);
-        self.seat.turn();
-    }
-
-    // Moves its slot to the front.
-    fn bring_to_front(&mut self, p: usize)
-        requires { IsIn self.old.seat.me.0 p }
-        ensures same { IsSameSeat self.old self.new × (self.new.seat.me.0 ≡ self.old.seat.me.0) }
-        ensures first { IsFirstSlot self.new p }
-        ensures kept { KeepsAll self.old self.new }
-    {
-        while *self.held.front().unwrap() != p {
-            self.rotate();
-        }
-    }
-
-    /// Moves the cell out, the only one that the seat has of the instance.
-    pub fn take_cell(&mut self, board: &Board<T>, p: usize) -> T
-        requires board { IsAtBoard board.now self.old }
-        requires held { IsIn self.old.seat.me.0 p × ((y : T) × Carries self.old.seat.me.1 p (Some y)) }
-        ensures swaps { Swaps self.old self.new p (Some result) None }
-        ensures only { (y : T) → Carries self.old.seat.me.1 p (Some y) → y ≡ result }
-    {
-        self.bring_to_front(p);
-        let shared = &board.table.shared;
-        shared.exchange(&mut self.seat, p, None).unwrap()
-    }
-
-    /// Puts the cell back.
-    pub fn put_back(&mut self, board: &Board<T>, p: usize, cell: T)
-        requires board { IsAtBoard board.now self.old }
-        requires held { IsIn self.old.seat.me.0 p × Carries self.old.seat.me.1 p None }
-        ensures { Swaps self.old self.new p None (Some cell) }
-    {
-        self.bring_to_front(p);
-        let old = board.table.shared.exchange(&mut self.seat, p, Some(cell));
-        let None = old else { unreachable!() };
-    }
-
-    /// Sets the instance down: it is ready again, or over.
-    pub fn set_down(&mut self, board: &Board<T>, p: usize, rest: Rest)
-        requires board { IsAtBoard board.now self.old }
-        requires held { MayLeave T.told T.after board.now.table.shared.key self.old p (λ y. rest ≡ Over → TellsEnd (T.told y)) }
-        requires few { OwesFew self.old.seat.me.0 }
-        ensures { GivesUp T.told self.old self.new p (downs_of rest) }
-    {
-        self.bring_to_front(p);
-        let new = match rest {
-            Rest::Ready => 0,
-            Rest::Over => 2,
+        let Ok((wiring, words, held, slots)) = reserved(alloc, network, published, bound) else {
+            return Err((NoMemory, cells));
         };
-        let shared = &board.table.shared;
-        shared.store::<Brand>(&mut self.seat, 8 * p, new);
-        let _ = self.held.pop_front();
-    }
-
-    /// Parks the instance on the channel. False only if other than `taken` tokens of it are published.
-    pub fn park(&mut self, board: &Board<T>, p: usize, channel: usize, taken: u64) -> bool
-        requires board { IsAtBoard board.now self.old }
-        requires reads { (channel < board.now.channels) × ((wired board.now.table.shared.key).reader channel ≡ Some p) × (taken < 2 ^ 48) }
-        requires held { MayLeave T.told T.after board.now.table.shared.key self.old p (λ y. TellsWait (T.told y) channel taken) }
-        requires few { OwesFew self.old.seat.me.0 }
-        ensures { Parks T.told T.after board.now.table.shared.key self.old self.new p channel taken result }
-    {
-        self.bring_to_front(p);
-        let word = board.channel_word(channel);
-        let found = board.compare_exchange::<Brand>(&mut self.seat, word, 2 * taken, 2 * taken + 1);
-        if found != 2 * taken {
-            return false;
-        }
-        let _ = self.held.pop_front();
-        true
-    }
-
-    /// Publishes `count` tokens of the channel. Returns its reader if it was parked on it: the seat has the reader now.
-    pub fn publish(&mut self, board: &Board<T>, channel: usize, count: u64) -> Option<usize>
-        requires board { IsAtBoard board.now self.old }
-        requires few { (channel < board.now.channels) × (count < 2 ^ 48) }
-        requires writer { (q : ℕ) × ((wired board.now.table.shared.key).writer channel ≡ Some q) × IsIn self.old.seat.me.0 q }
-        ensures { Publishes T.told (belongs T.after board.now.table.shared.key) (wired board.now.table.shared.key) self.old self.new channel count result }
-    {
-        let word = board.channel_word(channel);
-        let shared = &board.table.shared;
-        let found = shared.swap::<Brand>(&mut self.seat, word, 2 * count);
-        if found % 2 == 0 {
-            return None;
-        }
-        let reader = board.reader(channel);
-        self.held.push_front_reserved(reader);
-        Some(reader)
-    }
-
-    /// Pays the count up that is owed longest.
-    pub fn count_up(&mut self, board: &Board<T>)
-        requires board { IsAtBoard board.now self.old }
-        requires owes { 0 < length self.old.seat.me.0.owed }
-        ensures { Becomes (after_counting_up self.old.seat.me.0) self.old self.new }
-    {
-        let shared = &board.table.shared;
-        shared.fetch_add::<CountingUp>(&mut self.seat, board.count_word(), 1);
-    }
-
-    /// Pays a count down.
-    pub fn count_down(&mut self, board: &Board<T>)
-        requires board { IsAtBoard board.now self.old }
-        requires owes { 0 < self.old.seat.me.0.down }
-        ensures { CountsDown T.told T.after board.now.table.shared.key self.old self.new }
-    {
-        let shared = &board.table.shared;
-        shared.fetch_sub::<Brand>(&mut self.seat, board.count_word(), 1);
-    }
-
-    /// Draws up to `quantum` events from the budget.
-    pub fn draw(&mut self, board: &Board<T>, quantum: u64) -> Draw
-        requires board { IsAtBoard board.now self.old }
-        requires ready { (0 < quantum) × (self.old.seat.me.0.drawn ≡ 0) }
-        ensures { Draws T.told T.after board.now.table.shared.key self.old self.new quantum result }
-    {
-        let word = board.budget_word();
-        let found = board.load::<Notes>(&mut self.seat, word);
-        if found == 0 {
-            return Draw::Empty;
-        }
-        let n = quantum.min(found);
-        if board.compare_exchange::<Brand>(&mut self.seat, word, found, found - n) == found {
-            Draw::Got(n)
-        } else {
-            Draw::Lost
+        let terms = Terms {
+            network: Snapshot::of(network),
+            words: Snapshot::of(&words),
+            cells: Snapshot::of(&cells),
+            bound,
+        };
+        let (cells, slots) = into_slots(cells, slots);
+        match Table::new(alloc, words.as_slice(), slots, &terms) {
+            Err(Refused { slots }) => Err((NoMemory, out_of_slots(slots, cells))),
+            Ok((table, seat)) => {
+                let board = Board {
+                    table,
+                    instances: wiring.instances,
+                    channels: wiring.channels,
+                    readers: wiring.readers,
+                    room: cells,
+                };
+                Ok((board, Seat { seat, held }))
+            }
         }
     }
 
-    /// Reports that `n` events of the draw were done. The others may still be done.
-    pub fn report_done(&mut self, board: &Board<T>, n: u64)
-        requires board { IsAtBoard board.now self.old }
-        requires drawn { n ≤ self.old.seat.me.0.drawn }
-        ensures { Becomes (after_reporting self.old.seat.me.0 n) self.old self.new }
+    /// Splits off a second seat, with one part of the first.
+    pub fn split(
+        &self,
+        alloc: Global,
+        mut seat: Seat<T>,
+    ) -> Result<(Seat<T>, Seat<T>), (NoMemory, Seat<T>)>
+        requires { IsAtBoard self.now seat × (1 < seat.seat.me.0.parts) × IsFree seat.seat.me.0 }
+        ensures made { IfOk result (λ t. AreCut seat t.0 t.1) }
+        ensures refused { IfErr result (λ e. e.1 ≡ seat) }
     {
-        board.load_with::<Brand>(&mut self.seat, board.budget_word(), n);
+        let Ok(held) = VecDeque::with_capacity(alloc, self.instances) else {
+            return Err((NoMemory, seat));
+        };
+        let second = self.table.shared.split_seat::<SplitsSeat>(&mut seat.seat);
+        Ok((seat, Seat { seat: second, held }))
     }
 
-    /// Gives back `n` events of the draw, which weren't done. The others were.
-    pub fn give_back(&mut self, board: &Board<T>, n: u64)
-        requires board { IsAtBoard board.now self.old }
-        requires drawn { n ≤ self.old.seat.me.0.drawn }
-        ensures { Becomes (after_giving_back self.old.seat.me.0 n) self.old self.new }
+    /// Joins two seats to one.
+    pub fn join(&self, mut seat: Seat<T>, other: Seat<T>) -> Seat<T>
+        requires { IsAtBoard self.now seat × IsAtBoard self.now other × IsFree other.seat.me.0 }
+        ensures { IsSameSeat seat result × (result.seat.me ≡ (after_joining seat.seat.me.0 other.seat.me.0, seat.seat.me.1)) }
     {
-        let shared = &board.table.shared;
-        shared.fetch_add::<GivingBack>(&mut self.seat, board.budget_word(), n);
+        let shared = &self.table.shared;
+        shared.join_seat::<Both>(&mut seat.seat, other.seat);
+        seat
     }
 
-    /// Halts the run.
-    pub fn halt(&mut self, board: &Board<T>)
-        requires board { IsAtBoard board.now self.old }
-        ensures { Becomes (after_halting self.old.seat.me.0) self.old self.new }
+    /// Returns each cell, in order, the budget, and whether the run was halted.
+    pub fn close(self, seat: Seat<T>) -> Closed<T>
+        requires { IsAtBoard self seat × (seat.seat.me.0.parts ≡ all_parts) × IsFree seat.seat.me.0 }
+        ensures { ClosesBoard T.told (belongs T.after self.table.shared.key) (wired self.table.shared.key) (dealt T.told self.table.shared.key) result seat.seat.me.0 }
     {
-        let shared = &board.table.shared;
-        shared.store::<Halting>(&mut self.seat, board.halted_word(), 1);
-    }
-
-    /// Whether there is a reason to leave.
-    pub fn look(&mut self, board: &Board<T>) -> Look
-        requires board { IsAtBoard board.now self.old }
-        ensures { Looks T.told T.after board.now.table.shared.key self.old self.new result }
-    {
-        if board.load::<SeesHalted>(&mut self.seat, board.halted_word()) != 0 {
-            return Look::Halted;
+        let budget_word = self.budget_word();
+        let halted_word = self.halted_word();
+        let Board {
+            table,
+            instances,
+            channels: _,
+            readers: _,
+            room: mut cells,
+        } = self;
+        let mut closed = table.close_with(seat.seat);
+        let budget = closed.word(budget_word);
+        let halted = closed.word(halted_word);
+        for i in 0..instances {
+            cells.push_reserved(closed.take(i).unwrap());
         }
-        if board.load::<SeesCount>(&mut self.seat, board.count_word()) == 0 {
-            return Look::Quiet;
-        }
-        if board.load::<SeesBudget>(&mut self.seat, board.budget_word()) == 0 {
-            Look::NoBudget
-        } else {
-            Look::Go
+        closed.free();
+        Closed {
+            cells,
+            budget,
+            halted: halted != 0,
         }
     }
-}
-
-/// How an instance is set down.
-#[derive(Clone, Copy)]
-pub enum Rest {
-    Ready,
-    Over,
-}
-
-/// The result of a draw.
-#[derive(Clone, Copy)]
-pub enum Draw {
-    Got(u64),
-    /// Another step came between.
-    Lost,
-    Empty,
-}
-
-/// The result of a look.
-#[derive(Clone, Copy)]
-pub enum Look {
-    Halted,
-    Quiet,
-    NoBudget,
-    Go,
 }

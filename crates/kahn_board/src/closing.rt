@@ -1,20 +1,16 @@
-//! Splits and joins seats, and closes the board.
+//! Splits and joins the seats of a crew.
 
-ghost use Rattle.std.specs.Prelude.{◌≡◌, ℕ, ◌+◌, ◌*◌, ◌^◌, ◌<◌, ◌≤◌, [], Option, Some, length, slice_index, replicate, All, IfOk, IfErr};
-ghost use mathlib.Core.Option.{some};
-ghost use lib.ListN.{get_elem?};
-ghost use Rattle.kahn_board.specs.Rule.{belongs, dealt, wired, all_parts};
-ghost use Rattle.kahn_board.specs.Calls.{IsAtBoard, IsSameSeat, AreCut, IsFree, after_joining};
-ghost use Rattle.kahn_board.specs.Opening.{ClosesBoard};
+ghost use Rattle.std.specs.Prelude.{◌≡◌, ◌<◌, ◌≤◌, length, All, IfOk, IfErr};
+ghost use Rattle.kahn_board.specs.Rule.{all_parts};
 ghost use Rattle.kahn_board.specs.inner.Turn.{AddUp, IsDoneAt, IsLoneSeat, SitsAt, parts_of, done_of, raised_of};
 
-use crate::board::{Board, Seat};
+use crate::board::Board;
 use crate::rule::Reports;
+use crate::seat::Seat;
 use crate::view::SeatView;
 use atomic_table::{Join, Split};
 use kahn_streams::NoMemory;
 use std::alloc::Global;
-use std::collections::VecDeque;
 
 /// How a seat's view is split: the second part is an unused seat.
 pub struct SplitsSeat;
@@ -37,63 +33,6 @@ impl Join<SeatView> for Both {
     ghost both = { after_joining };
 
     ghost spent = { spent };
-}
-
-impl<T: Reports> Board<T> {
-    /// Splits off a second seat, with one part of the first.
-    pub fn split(
-        &self,
-        alloc: Global,
-        mut seat: Seat<T>,
-    ) -> Result<(Seat<T>, Seat<T>), (NoMemory, Seat<T>)>
-        requires { IsAtBoard self.now seat × (1 < seat.seat.me.0.parts) × IsFree seat.seat.me.0 }
-        ensures made { IfOk result (λ t. AreCut seat t.0 t.1) }
-        ensures refused { IfErr result (λ e. e.1 ≡ seat) }
-    {
-        let Ok(held) = VecDeque::with_capacity(alloc, self.instances) else {
-            return Err((NoMemory, seat));
-        };
-        let second = self.table.shared.split_seat::<SplitsSeat>(&mut seat.seat);
-        Ok((seat, Seat { seat: second, held }))
-    }
-
-    /// Joins two seats to one.
-    pub fn join(&self, mut seat: Seat<T>, other: Seat<T>) -> Seat<T>
-        requires { IsAtBoard self.now seat × IsAtBoard self.now other × IsFree other.seat.me.0 }
-        ensures { IsSameSeat seat result × (result.seat.me ≡ (after_joining seat.seat.me.0 other.seat.me.0, seat.seat.me.1)) }
-    {
-        let shared = &self.table.shared;
-        shared.join_seat::<Both>(&mut seat.seat, other.seat);
-        seat
-    }
-
-    /// Returns each cell, in order, the budget, and whether the run was halted.
-    pub fn close(self, seat: Seat<T>) -> Closed<T>
-        requires { IsAtBoard self seat × (seat.seat.me.0.parts ≡ all_parts) × IsFree seat.seat.me.0 }
-        ensures { ClosesBoard T.told (belongs T.after self.table.shared.key) (wired self.table.shared.key) (dealt T.told self.table.shared.key) result seat.seat.me.0 }
-    {
-        let budget_word = self.budget_word();
-        let halted_word = self.halted_word();
-        let Board {
-            table,
-            instances,
-            channels: _,
-            readers: _,
-            room: mut cells,
-        } = self;
-        let mut closed = table.close_with(seat.seat);
-        let budget = closed.word(budget_word);
-        let halted = closed.word(halted_word);
-        for i in 0..instances {
-            cells.push_reserved(closed.take(i).unwrap());
-        }
-        closed.free();
-        Closed {
-            cells,
-            budget,
-            halted: halted != 0,
-        }
-    }
 }
 
 /// What a closed board returns.

@@ -8,13 +8,15 @@ mod laws;
 mod opening;
 mod plays;
 mod rule;
+mod seat;
 mod turn;
 mod view;
 mod wiring;
 
-pub use board::{Board, Draw, Look, Rest, Seat};
+pub use board::Board;
 pub use closing::Closed;
 pub use laws::quiet_is_final;
+pub use seat::{Draw, Look, Rest, Seat};
 
 // For the crates above.
 pub use closing::{join_all, split_all};

@@ -1,21 +1,15 @@
 //! How a board is made.
 
-ghost use Rattle.std.specs.Prelude.{◌≡◌, ℕ, ◌+◌, ◌*◌, ◌^◌, ◌<◌, ◌≤◌, List, length, slice_index, slice_index_or, replicate, [], IfOk, IfErr, Some, None, map};
+ghost use Rattle.std.specs.Prelude.{◌≡◌, ℕ, ◌+◌, ◌*◌, ◌^◌, ◌<◌, ◌≤◌, List, length, slice_index, [], IfOk, Some, map};
 ghost use Rattle.std.specs.Vec.{vec_capacity};
 ghost use Rattle.std.specs.VecDeque.{deque_capacity};
-ghost use Rattle.kahn_board.specs.Opening.{Opens};
 ghost use Rattle.kahn_board.specs.inner.Turn.{AreFirstWords, IsWiringOf};
 ghost use Rattle.kahn_board.specs.Wires.{wires};
-ghost use Rattle.kahn_board.specs.Rule.{dealt, opening_view};
 
-use crate::board::{Board, Seat};
-use crate::rule::{Reports, Terms};
 use crate::wiring::Wiring;
-use atomic_table::{Refused, Table};
 use kahn_streams::{Network, NoMemory};
 use std::alloc::{AllocError, Global};
 use std::collections::VecDeque;
-use std::snapshot::Snapshot;
 
 // Lays the first words, eight apart: 0 for each instance, twice the number published for each channel, the bound, the
 // number of instances, and 0.
@@ -39,7 +33,7 @@ fn lay_words(
 }
 
 // Moves the cells into slots, and returns their empty list.
-fn into_slots<T>(
+pub(crate) fn into_slots<T>(
     mut cells: Vec<T, Global>,
     mut slots: Vec<Option<T>, Global>,
 ) -> (Vec<T, Global>, Vec<Option<T>, Global>)
@@ -54,7 +48,10 @@ fn into_slots<T>(
 }
 
 // Moves the cells back into their list.
-fn out_of_slots<T>(mut slots: Vec<Option<T>, Global>, mut cells: Vec<T, Global>) -> Vec<T, Global>
+pub(crate) fn out_of_slots<T>(
+    mut slots: Vec<Option<T>, Global>,
+    mut cells: Vec<T, Global>,
+) -> Vec<T, Global>
     requires full { (xs : List T) × (slots.items ≡ map Some xs) }
     requires room { (cells.items ≡ []) × (length slots.items ≤ vec_capacity cells) }
     ensures { slots.items ≡ map Some result.items }
@@ -69,14 +66,14 @@ fn out_of_slots<T>(mut slots: Vec<Option<T>, Global>, mut cells: Vec<T, Global>)
 }
 
 // All that a board allocates but its table: the first words, the list of a seat, and the slots.
-type Reserved<T> = (
+pub(crate) type Reserved<T> = (
     Wiring,
     Vec<u64, Global>,
     VecDeque<usize, Global>,
     Vec<Option<T>, Global>,
 );
 
-fn reserved<T>(
+pub(crate) fn reserved<T>(
     alloc: Global,
     network: &Network,
     published: &[u64],
@@ -93,46 +90,4 @@ fn reserved<T>(
     let held = VecDeque::with_capacity(alloc, wiring.instances)?;
     let slots = Vec::with_capacity(alloc, wiring.instances)?;
     Ok((wiring, words, held, slots))
-}
-
-impl<T: Reports> Board<T> {
-    /// Makes a board and its first seat. All instances are ready, `published[c]` tokens of channel c are published, the
-    /// budget is the bound and the count is the number of instances. `NoMemory` comes with the cells.
-    pub fn new(
-        alloc: Global,
-        network: &Network,
-        published: &[u64],
-        cells: Vec<T, Global>,
-        bound: u64,
-    ) -> Result<(Board<T>, Seat<T>), (NoMemory, Vec<T, Global>)>
-        requires { Opens T.told T.after (wires network.now) bound published.now cells.items }
-        ensures seat { IfOk result (λ t. (t.1.seat.table_id ≡ t.0.table.shared.table_id) × (t.1.seat.me ≡ (opening_view (wires network.now), []))) }
-        ensures board { IfOk result (λ t. let key = t.0.table.shared.key in (key.network.value ≡ network.now) × (key.bound ≡ bound) × (key.cells.value ≡ cells)) }
-        ensures published { IfOk result (λ t. (c : ℕ) → c < length published.now → (dealt T.told t.0.table.shared.key).published c ≡ slice_index published.now c) }
-        ensures refused { IfErr result (λ e. e.1.items ≡ cells.items) }
-    {
-        let Ok((wiring, words, held, slots)) = reserved(alloc, network, published, bound) else {
-            return Err((NoMemory, cells));
-        };
-        let terms = Terms {
-            network: Snapshot::of(network),
-            words: Snapshot::of(&words),
-            cells: Snapshot::of(&cells),
-            bound,
-        };
-        let (cells, slots) = into_slots(cells, slots);
-        match Table::new(alloc, words.as_slice(), slots, &terms) {
-            Err(Refused { slots }) => Err((NoMemory, out_of_slots(slots, cells))),
-            Ok((table, seat)) => {
-                let board = Board {
-                    table,
-                    instances: wiring.instances,
-                    channels: wiring.channels,
-                    readers: wiring.readers,
-                    room: cells,
-                };
-                Ok((board, Seat { seat, held }))
-            }
-        }
-    }
 }

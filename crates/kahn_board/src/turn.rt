@@ -4,12 +4,13 @@ ghost use Rattle.std.specs.Prelude.{◌≡◌, ◌≢◌, ℕ, ◌+◌, ◌-◌,
 ghost use Rattle.kahn_board.specs.Rule.{wired};
 ghost use Rattle.kahn_board.specs.Wires.{TellsEnd, TellsWait};
 ghost use Rattle.kahn_board.specs.Calls.{IsAtBoard, Was, Looks};
-ghost use Rattle.kahn_board.specs.declared.board.Look.{Look};
-ghost use Rattle.kahn_board.specs.declared.board.Look.TheVariants.{Go};
+ghost use Rattle.kahn_board.specs.declared.seat.Look.{Look};
+ghost use Rattle.kahn_board.specs.declared.seat.Look.TheVariants.{Go};
 ghost use Rattle.kahn_board.specs.inner.Turn.{DrawsAgain, FitsDraw, drawn_of, BeginsTurn, EndsTurn, IsBetween, IsBetweenTurns, IsSeatOf, HoldsInTurn, Knows, HasPublished, SetsLate, SetsReady, SetsStill};
 
-use crate::board::{Board, Draw, Look, Rest, Seat};
+use crate::board::Board;
 use crate::rule::Reports;
+use crate::seat::{Draw, Look, Rest, Seat};
 
 // How often it draws at most when other workers come between.
 const DRAWS: usize = 64;

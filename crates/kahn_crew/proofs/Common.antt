@@ -15,7 +15,7 @@ pub use Rattle.kahn_board.proofs.{Sole.no_writer, Sole.nothing, Sole.sole_first,
 pub use Rattle.kahn_board.specs.{Calls.Becomes, Calls.LooksAt, Calls.Swaps, Opening.Opens, Plays.Sat, Plays.SeesMore, Plays.after_reporting, Wires.Wires}
 pub use Rattle.kahn_board.specs.Rule.{belongs, dealt, events_told, holds, wired}
 unfoldable pub use Rattle.kahn_board.specs.Wires.{wires}
-pub use Rattle.kahn_board.specs.declared.{board.Seat.Seat, rule.Terms.Terms, view.SeatView.SeatView}
+pub use Rattle.kahn_board.specs.declared.{seat.Seat.Seat, rule.Terms.Terms, view.SeatView.SeatView}
 pub use Rattle.kahn_board.specs.inner.Turn.{Fits, HasPublished, HoldsInTurn, InTurn, IsBetween, Knows, RestsWith}
 pub use Rattle.kahn_code.proofs.Readers.{driven, joins_parameter, joins_within, reads_once}
 pub use Rattle.kahn_code.specs.{Lines.Joins, Lines.route_of, Progress.AreCounts, Standing.count}

@@ -27,12 +27,15 @@ pub struct Worker {
     pub start: usize,
 }
 
-// An instance that looks ready, from the one with that number on, round all of them.
-fn looking_ready(run: &Run<'_>, start: usize) -> Option<usize> {
-    let count = run.board.instances;
+// An instance that looks ready, from the worker's start on, round all of them.
+fn looking_ready(run: &Run<'_>, worker: &mut Worker) -> Option<usize>
+    requires { SitsWith run.now 0 worker.old.seat }
+    ensures { IsSameWorker worker.old worker.new × SitsWith run.now 0 worker.new.seat }
+{
+    let (count, start) = (run.board.instances, worker.start);
     for step in 0..count {
         let p = (start % count + step) % count;
-        if run.board.looks_ready(p) {
+        if worker.seat.looks_ready(run.board, p) {
             return Some(p);
         }
     }
@@ -40,12 +43,15 @@ fn looking_ready(run: &Run<'_>, start: usize) -> Option<usize> {
 }
 
 // Waits a little, until an instance has looked ready for some time: it is seldom taken from the worker that woke it then.
-fn wait_a_little(run: &Run<'_>, rest: &Idling, start: usize) {
+fn wait_a_little(run: &Run<'_>, worker: &mut Worker, rest: &Idling)
+    requires { SitsWith run.now 0 worker.old.seat }
+    ensures { IsSameWorker worker.old worker.new × SitsWith run.now 0 worker.new.seat }
+{
     let mut last = None;
     let mut since = 0;
     for look in 0..rest.pauses() {
         rest.pause();
-        let found = looking_ready(run, start);
+        let found = looking_ready(run, worker);
         if found != last {
             last = found;
             since = look;
@@ -65,7 +71,7 @@ fn pick_next(run: &Run<'_>, worker: &mut Worker, rest: &Idling) -> Option<usize>
     if let Some(p) = pick_hinted(run, worker, false) {
         return Some(p);
     }
-    wait_a_little(run, rest, worker.start);
+    wait_a_little(run, worker, rest);
     if let Some(p) = pick_hinted(run, worker, true) {
         return Some(p);
     }

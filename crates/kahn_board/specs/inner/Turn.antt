@@ -6,8 +6,8 @@ use Rattle.kahn_board.specs.Rule.{belongs, wired, IsDone, KnowsHalted, all_parts
 use Rattle.kahn_board.specs.Wires.{Summary, FlushedAll, flushed_of, events_past, Wires, wires}
 use Rattle.kahn_board.specs.Plays.{Carries, Sat, IsIn, SeesMore, after_giving_up, after_step, after_counting_down}
 use Rattle.kahn_streams.specs.declared.tree.Program.{Program}
-use Rattle.kahn_board.specs.declared.{board.Draw.Draw, board.Seat.Seat, rule.Terms.Terms, view.SeatView.SeatView, wiring.Wiring.Wiring}
-use Rattle.kahn_board.specs.declared.board.Draw.TheVariants.{Got, Lost, Empty}
+use Rattle.kahn_board.specs.declared.{seat.Draw.Draw, seat.Seat.Seat, rule.Terms.Terms, view.SeatView.SeatView, wiring.Wiring.Wiring}
+use Rattle.kahn_board.specs.declared.seat.Draw.TheVariants.{Got, Lost, Empty}
 
 -- what is kept of the network of a program
 pub record IsWiringOf (program : Program) (w : Wiring) : Type 0 where

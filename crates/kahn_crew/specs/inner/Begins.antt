@@ -1,7 +1,7 @@
 -- Inner. When a worker may begin an instance, and that one for which each draw was lost gets a hint.
 use Rattle.std.specs.Prelude.{◌≡◌, ◌⊎◌, ◌*◌, ◌/◌, ◌<◌}
 use Rattle.crossbeam_deque.specs.Handles.{worker_index}
-use Rattle.kahn_board.specs.{declared.board.Draw.Draw, declared.board.Draw.TheVariants.Lost, inner.Turn.DrawsAgain}
+use Rattle.kahn_board.specs.{declared.seat.Draw.Draw, declared.seat.Draw.TheVariants.Lost, inner.Turn.DrawsAgain}
 use Rattle.kahn_crew.specs.inner.Words.{ℕ, false, Seat, Tasked}
 use Rattle.kahn_crew.specs.declared.{run.Run.Run, worker.Worker.Worker}
 use Rattle.kahn_crew.specs.inner.Tasks.{IsLater, told_tale}

@@ -1,5 +1,0 @@
-use Rattle.kahn_board.proofs.Common.{drew}
-use Rattle.kahn_board.proofs.board.Seat.draw.Given as goal
-
-abbrev pub ghosts-compare_exchange : goal.ghosts-compare_exchange
-ghosts-compare_exchange g a = record { then = drew }

@@ -1,0 +1,12 @@
+use Rattle.kahn_board.proofs.Common.{rules, arith, ap, steps_of}
+use Rattle.kahn_board.proofs.Hot.{uses_some}
+use Rattle.kahn_board.proofs.Placed.{placed}
+use Rattle.kahn_board.proofs.seat.Seat.report_done.Goals as goal
+
+pub load_with-requires : goal.load_with-requires
+load_with-requires g c = let b = c.args.board.now in (
+  search rules,
+  omega (arith, c.budget_word.ensures, b.sized.0, b.counts.0, b.counts.1),
+  uses_some _ _ _ _ _ _ _ _ _ (placed b c.args.self.now c.requires.board) c.budget_word.ensures c.requires.drawn,
+  (λ _ _ e. ap steps_of e),
+)
