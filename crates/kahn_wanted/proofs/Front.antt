@@ -4,9 +4,8 @@ use Rattle.std.proofs.Math.Seq.{drop-cons, get_or-append_seam}
 use Rattle.std.proofs.lemmas.List.{take_all, take-append-le, take-append-drop}
 use Rattle.std.proofs.lemmas.Option.{get_or_from_slice_get, slice_get-get_or, slice_get_past, slice_get_within}
 use Rattle.kahn_streams.specs.declared.span.Span.{Span}
-use Rattle.kahn_syntax.specs.declared.lexeme.Lexeme.{Lexeme}
+use Rattle.kahn_syntax.specs.declared.{lexeme.Lexeme.Lexeme, fault.What.What}
 use Rattle.kahn_syntax.specs.declared.fault.SyntaxFault.TheVariants.{Expected}
-use Rattle.kahn_syntax.specs.declared.fault.What.{What}
 use Rattle.kahn_syntax.specs.declared.fault.What.TheVariants.{More, Nothing, Other}
 use Rattle.kahn_syntax.specs.Texts.{terminals, AreLexemes, IsLexFault, BeginsWithin, IsFault, IsTextFault}
 use Rattle.kahn_syntax.specs.Grammar.{Spells}

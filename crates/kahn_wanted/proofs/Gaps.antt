@@ -3,8 +3,8 @@ use Rattle.std.proofs.Common.{◌≡◌, ℕ, ◌+◌, ◌≤◌, ◌<◌, ◌�
 use Rattle.std.proofs.lemmas.List.{drop_more}
 use Rattle.kahn_syntax.specs.Texts.{IsBlank, IsComment, Gap, no_gap, then_blank, then_comment, Lexed, IsLexemeAt}
 use Rattle.kahn_syntax.specs.declared.lexeme.Lexeme.{Lexeme}
-use Rattle.kahn_syntax.proofs.OneList.{comment_dark, comment_grows, same_comment}
 use Rattle.kahn_streams.specs.declared.span.Span.{Span}
+use Rattle.kahn_syntax.proofs.OneList.{comment_dark, comment_grows, same_comment}
 use Rattle.kahn_wanted.specs.Comments.{AreComments, behind_a_blank, behind_a_lexeme, behind_a_comment, at_the_end, span_of}
 use Rattle.kahn_wanted.specs.inner.Passing.{Passed}
 
@@ -72,7 +72,7 @@ after_comment text at to end gap some light is =
     let rest : Gap text end to = subst (λ m. Gap text m to) (same_comment text at h.0 end h.1 is) h.2 in
     (rest, gap_le text end to rest, comment_grows text at end is)
 
-pub no_both : (b : Bool) → b ≡ true → b ≡ false → ⊥
+no_both : (b : Bool) → b ≡ true → b ≡ false → ⊥
 no_both b h k = cc
 
 pub light_of : (b : Bool) (B : Type 0) → (B → b ≡ true) → b ≡ false → B → ⊥

@@ -1,7 +1,6 @@
 -- Which terminals a part of the grammar begins with, by the classes of lexemes.
 use Rattle.std.proofs.Common.{◌≡◌, ◌&&◌, ◌||◌, not, false, codes, bytes_eq, refl}
-use Rattle.kahn_syntax.specs.declared.lexeme.Keyword.{Keyword}
-use Rattle.kahn_syntax.specs.declared.lexeme.Sign.{Sign}
+use Rattle.kahn_syntax.specs.declared.lexeme.{Keyword.Keyword, Sign.Sign}
 use Rattle.kahn_syntax.specs.declared.lexeme.Sign.TheVariants as mark
 use Rattle.kahn_syntax.specs.Grammar.{Terminal, word}
 use Rattle.kahn_syntax.specs.Texts.{bytes_of_sign, letters_of, sign_terminal}

@@ -1,10 +1,9 @@
 -- One lexeme more, and which blocks are open then.
 use Rattle.std.proofs.Common.{◌≡◌, ◌≤◌, ◌<◌, ◌-◌, ◌+◌, ◌∙◌, ℕ, zero, suc, List, [], ◌∷◌, ◌++◌, append-nil, append_assoc, ap, arith, drop, get_or, length, length-append, length-take, refl, sym, take}
 use Rattle.std.proofs.lemmas.List.{at_drop_all, at_drop_more, take_all}
-use Rattle.kahn_syntax.specs.declared.lexeme.Class.{Class}
+use Rattle.kahn_syntax.specs.declared.lexeme.{Class.Class, Lexeme.Lexeme}
 use Rattle.kahn_syntax.specs.declared.lexeme.Class.TheVariants as class
 use Rattle.kahn_syntax.specs.declared.lexeme.Keyword.TheVariants as word
-use Rattle.kahn_syntax.specs.declared.lexeme.Lexeme.{Lexeme}
 use Rattle.kahn_wanted.specs.Blocks.{block_of, closed_from, closed_in, open_blocks}
 use Rattle.kahn_wanted.specs.inner.Open.{blocks_after, open_on}
 

@@ -6,4 +6,3 @@ mod Unchanged
 mod Unseen
 mod Innocent
 mod Nowhere
-mod Reading
