@@ -1,20 +1,8 @@
 -- The table of classes, and lists of them.
-use Rattle.std.proofs.Common.{◌≡◌, ℕ, ℤ, pos, ◌+◌, ◌≤◌, ◌<◌, ◌↔◌, List, [], ◌∷◌, ◌++◌, length, take, get_or, refl, sym, ap, ◌∙◌, subst, append_assoc, append-nil, lit<, All, Contains, flat_map}
-use Rattle.std.specs.Prelude.{slice_range}
-use Rattle.std.proofs.lemmas.List.{take_all}
-use Rattle.std.proofs.lemmas.List.Elements.{All-contains, All-more, All-push, All-weaker, All-append, Contains-append_left}
-use Rattle.kahn_syntax.specs.declared.lexeme.{Class.Class, Keyword.Keyword, Sign.Sign}
-use Rattle.kahn_streams.specs.declared.span.Span.{Span}
+use Rattle.kahn_wanted.proofs.Common.{All, All-append, All-contains, All-more, All-push, All-weaker, AllMayCome, AreOf, AreWanted, Begins, CLASSES, Class, Contains, Contains-append_left, IsToldIfItComes, Keyword, LexemeGroup, List, Sign, Span, Terminal, Wanted, [], ap, append-nil, append_assoc, class_of_terminal, flat_map, get_or, length, lit<, members, pos, refl, sign_terminal, slice_range, subst, sym, take, take_all, terminal, terminal_with, told_classes, ℕ, ℤ, ◌++◌, ◌+◌, ◌<◌, ◌↔◌, ◌∙◌, ◌∷◌, ◌≡◌, ◌≤◌}
 use Rattle.kahn_syntax.specs.declared.lexeme.Class.TheVariants as class
 use Rattle.kahn_syntax.specs.declared.lexeme.Keyword.TheVariants as keyword
 use Rattle.kahn_syntax.specs.declared.lexeme.Sign.TheVariants as mark
-use Rattle.kahn_syntax.specs.Grammar.{Terminal}
-use Rattle.kahn_syntax.specs.Texts.{Begins, terminal, sign_terminal}
-use Rattle.kahn_wanted.specs.declared.asked.TheConstants.{CLASSES}
-use Rattle.kahn_wanted.specs.declared.groups.{LexemeGroup.LexemeGroup, Wanted.Wanted}
-use Rattle.kahn_wanted.specs.Wanted.{AreWanted, class_of_terminal, members, told_classes}
-use Rattle.kahn_wanted.specs.inner.Asked.{AllMayCome, AreOf, IsTold}
-use Rattle.kahn_wanted.specs.inner.Walk.{terminal_with}
 
 word_there : (w : Keyword) → Contains CLASSES (class.Word w)
 word_there keyword.And = (2, lit< tt, refl)
@@ -84,7 +72,7 @@ wanted_of ks ws w (sound, whole) is t x =
     let c = class_of_terminal (terminal t x.what x.span) in
     let (n, z, same) = of_class t x.what x.span in (
       (λ h. subst (λ k. Begins (ks ++ k ∷ [])) same (All-contains (AllMayCome ks) ws c sound ((is c).0 h) n z)),
-      (λ h. (is c).1 (All-contains (IsTold ks ws) CLASSES c whole (there t x.what x.span) (n, z, subst (λ k. Begins (ks ++ k ∷ [])) (sym same) h))),
+      (λ h. (is c).1 (All-contains (IsToldIfItComes ks ws) CLASSES c whole (there t x.what x.span) (n, z, subst (λ k. Begins (ks ++ k ∷ [])) (sym same) h))),
     )
 
 -- ---- a list that grows: P holds of each in it, and K of it and each of the first of some classes

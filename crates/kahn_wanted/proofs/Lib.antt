@@ -1,3 +1,4 @@
+mod Common
 mod Classes
 mod Front
 mod Gaps

@@ -1,21 +1,7 @@
 -- What is open behind terminals tells whether one more may stand there.
-use Rattle.std.proofs.Common.{◌≡◌, ◌∙◌, ℕ, ℤ, pos, ◌+◌, ◌≤◌, ◌<◌, drop, get_or, List, [], ◌∷◌, ◌++◌, Bool, true, false, Option, Some, None, append-nil, append_assoc, arith, cond, length, max, refl, subst, sym, ap, ⊎_elim}
-use Rattle.std.specs.Prelude.{is_some, slice_range}
-use Rattle.std.proofs.lemmas.List.{at_drop_more}
-use Rattle.kahn_streams.specs.declared.span.Span.{Span}
-use Rattle.kahn_syntax.specs.declared.lexeme.{Class.Class, Lexeme.Lexeme}
+use Rattle.kahn_wanted.proofs.Common.{AllMayCome, Awaited, Begins, Bool, Class, Fits, Lexeme, List, May, MayPass, None, OneMayCome, Option, Part, ProgramPart, Some, Span, Spells, StandsFirst, Terminal, Whole, [], ap, append-nil, append_assoc, arith, at_drop_more, awaited_part, awaited_parts, cond, drop, enters, false, fate, fits_some, further, get_or, go, go_far, go_none, is_some, le_or, left_open, length, levels, max, may_end, nesting, opened_by, pos, program, refl, rules_of, sign, slice_range, step, subst, sym, terminal, terminal_with, terminals, true, walked, whole_far, whole_program, whole_refuses, ℕ, ℤ, ⊎_elim, ◌++◌, ◌+◌, ◌<◌, ◌∙◌, ◌∷◌, ◌≡◌, ◌≤◌}
 use Rattle.kahn_syntax.specs.declared.lexeme.Class.TheVariants as class
 use Rattle.kahn_syntax.specs.declared.lexeme.Sign.TheVariants as mark
-use Rattle.kahn_syntax.specs.Grammar.{Terminal, Spells, May, StandsFirst, nesting, program, sign}
-use Rattle.kahn_syntax.specs.Texts.{Begins, terminal, terminals}
-use Rattle.kahn_syntax.specs.inner.Machine.{Part, ProgramPart, Whole, enters, fate, levels, may_end, opened_by, rules_of, step}
-use Rattle.kahn_syntax.proofs.Reached.{go_far, go_none, le_or, whole_far, whole_refuses}
-use Rattle.kahn_syntax.proofs.Steps.{go}
-use Rattle.kahn_syntax.proofs.Viable.{Fits, fits_some, further}
-use Rattle.kahn_syntax.proofs.WholePrograms.{whole_program}
-use Rattle.kahn_wanted.specs.declared.awaited.Awaited.{Awaited}
-use Rattle.kahn_wanted.specs.inner.Asked.{AllMayCome, OneMayCome}
-use Rattle.kahn_wanted.specs.inner.Walk.{MayPass, left_open, awaited_part, awaited_parts, terminal_with, walked}
 
 -- ---- a stack that is written from its bottom
 

@@ -1,15 +1,5 @@
 -- What a set of names got, one part of a body after another.
-use Rattle.std.proofs.Common.{◌≡◌, ◌∙◌, ◌||◌, ◌++◌, ℕ, Bool, true, false, cond, if◌then◌else◌, is_some, nat_eq, List, [], ◌∷◌, Option, None, Some, arith, bytes_eq, flat_map, refl, ap, sym}
-use Rattle.std.proofs.lemmas.Grind.{common_steps}
-use Rattle.std.specs.Cmp.Lexicographic.{nat_list_eq_equiv}
-use Rattle.std.specs.Map.{lookup}
-use Rattle.std.specs.Option.{option_or}
-use Rattle.kahn_check.proofs.Alike.{alike_kept, lookup_append}
-use Rattle.kahn_check.specs.inner.Firsts.{kept_first}
-use Rattle.kahn_streams.specs.Syntax.{Stmt}
-use Rattle.kahn_streams.specs.View.{Scope, statement_of}
-use Rattle.kahn_streams.specs.declared.tree.Statement.{Statement}
-use Rattle.kahn_warnings.specs.inner.Collecting.{contains}
+use Rattle.kahn_warnings.proofs.Common.{Bool, List, None, Option, Scope, Some, Statement, Stmt, [], alike_kept, ap, arith, bytes_eq, common_steps, cond, contains, false, flat_map, if◌then◌else◌, is_some, kept_first, lookup, lookup_append, nat_eq, nat_list_eq_equiv, option_or, refl, statement_of, sym, true, ℕ, ◌++◌, ◌||◌, ◌∙◌, ◌∷◌, ◌≡◌}
 use Rattle.kahn_warnings.proofs.Lists.{any_in, or_false}
 
 or_true : (b : Bool) → b || true ≡ true

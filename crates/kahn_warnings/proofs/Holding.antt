@@ -1,18 +1,5 @@
 -- Expressions with a value by their constants have it.
-use mathlib.Core.Path.{fun_ext}
-use Rattle.std.proofs.Common.{◌≡◌, ◌∙◌, ℕ, zero, suc, ◌&&◌, Bool, true, false, Option, Some, None, Result, Ok, Err, neg_ℤ, not, ap, sym, refl, if◌then◌else◌}
-use Rattle.std.proofs.lemmas.Option.{none-some, same_Some}
-use Rattle.std.specs.Prelude.{int_div, int_rem}
-use Rattle.std.specs.Result.{result_err, result_ok}
-use Rattle.kahn_streams.specs.Syntax.{Expr, Literal, Variable, Wait, Negate, Not, Binary, Conditional, Stmt, If, While}
-use Rattle.kahn_streams.specs.declared.{tree.Operator.Operator, value.Value.Value, value.Failure.Failure}
-use Rattle.kahn_streams.specs.declared.tree.Operator.TheVariants.{Divide, Remainder}
-use Rattle.kahn_streams.specs.declared.value.Value.TheVariants.{Logical}
-use Rattle.kahn_streams.specs.declared.value.Failure.TheVariants.{Division}
-use Rattle.kahn_streams.specs.Arithmetic.{apply, is_zero, number, ranged, truth}
-use Rattle.kahn_streams.specs.Meaning.{Store, constant, exec, script_of, settle, turns_of, value_of}
-use Rattle.kahn_streams.specs.Script.{Fail, Give, Script, Tapes, Turns, play}
-use Rattle.kahn_warnings.specs.Constants.{ConstantsHold, chosen, constant_of, divides, combined, inverted, negate_fault, negated, sure_fault}
+use Rattle.kahn_warnings.proofs.Common.{Binary, Bool, Conditional, ConstantsHold, Divide, Division, Err, Expr, Fail, Failure, Give, If, Literal, Logical, Negate, None, Not, Ok, Operator, Option, Remainder, Result, Script, Some, Stmt, Store, Tapes, Turns, Value, Variable, Wait, While, ap, apply, chosen, combined, constant, constant_of, divides, exec, false, fun_ext, if◌then◌else◌, int_div, int_rem, inverted, is_zero, neg_ℤ, negate_fault, negated, none-some, not, number, play, ranged, refl, result_err, result_ok, same_Some, script_of, settle, suc, sure_fault, sym, true, truth, turns_of, value_of, zero, ℕ, ◌&&◌, ◌∙◌, ◌≡◌}
 
 good_ok : (r : Result Value Failure) (v : Value) → result_ok r ≡ Some v → r ≡ Ok v
 good_ok (Ok w) v e = ap Ok (same_Some w v e)

@@ -1,17 +1,6 @@
 -- Operators that aren't told have no such fault.
-use Rattle.std.proofs.Common.{arith, ◌≡◌, ◌∙◌, ℕ, zero, suc, ℤ, pos, negsuc, neg_ℤ, ◌+ℤ◌, ◌-ℤ◌, ◌*ℤ◌, ◌<◌, ◌≤◌, ◌^◌, ◌/◌, ◌&&◌, Bool, true, false, Option, Some, None, Result, Ok, Err, refl, sym, ap, subst, nat_lt, int_div, int_rem, if◌then◌else◌, Less as Before, Equal as Same, Greater as Behind}
-use Rattle.std.proofs.lemmas.Int.{ints, rem_below}
-use Rattle.std.specs.Ordering.{is_eq}
-use Rattle.std.specs.Result.{result_err}
-use Rattle.std.proofs.Math.Nat.{div-le_self, div-lt_self}
-use Rattle.std.specs.Prelude.{cond, int_lt, unsigned_abs}
-use Rattle.kahn_streams.specs.declared.{tree.Operator.Operator, value.Value.Value, value.Failure.Failure}
-use Rattle.kahn_streams.specs.declared.tree.Operator.TheVariants.{Add, Subtract, Multiply, Divide, Remainder}
-use Rattle.kahn_streams.specs.declared.value.Value.TheVariants.{Integer, Logical}
-use Rattle.kahn_streams.specs.declared.value.Failure.TheVariants.{Overflow, Division}
-use Rattle.kahn_streams.specs.Arithmetic.{apply, arithmetic, fits_64, is_zero, number, ranged}
-use Rattle.kahn_warnings.specs.Constants.{divides}
-use Rattle.kahn_warnings.specs.Faults.{IsOperand, IsOf64Bits, can_divide, can_fail, is_failure, operator_can, sign_can}
+use Rattle.kahn_warnings.proofs.Common.{Add, Bool, Divide, Division, Err, Failure, Integer, IsOf64Bits, IsOperand, Logical, Multiply, None, Ok, Operator, Option, Overflow, Remainder, Result, Some, Subtract, Value, ap, apply, arith, arithmetic, can_divide, can_fail, cond, div-le_self, div-lt_self, divides, false, fits_64, if◌then◌else◌, int_div, int_lt, int_rem, ints, is_eq, is_failure, is_zero, nat_lt, neg_ℤ, negsuc, number, operator_can, pos, ranged, refl, rem_below, result_err, sign_can, subst, suc, sym, true, unsigned_abs, zero, ℕ, ℤ, ◌&&◌, ◌*ℤ◌, ◌+ℤ◌, ◌-ℤ◌, ◌/◌, ◌<◌, ◌^◌, ◌∙◌, ◌≡◌, ◌≤◌}
+use Rattle.std.proofs.Common.{Less as Before, Equal as Same, Greater as Behind}
 
 true_not : (b : Bool) → b ≡ true → b ≡ false → ⊥
 true_not true e f = cc

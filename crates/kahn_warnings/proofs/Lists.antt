@@ -1,20 +1,5 @@
 -- The operands of a level and the statements of a block and of a body, one after another.
-use Rattle.std.proofs.Common.{◌≡◌, ◌||◌, ◌++◌, ◌∙◌, Bool, true, false, List, [], ◌∷◌, Option, None, Some, refl, ap, sym, append_assoc, drop, take, length, ◌≤◌, ℕ, flat_map, if◌then◌else◌}
-use Rattle.std.specs.Option.{option_or}
-use Rattle.std.proofs.lemmas.List.{at_drop_all, take_all}
-use Rattle.kahn_streams.specs.declared.{span.Span.Span, tree.Operand.Operand, tree.Statement.Statement}
-use Rattle.kahn_streams.specs.declared.tree.Form.{Row_of-Operand, end_of-Operand, more_of-Operand}
-use Rattle.kahn_streams.specs.declared.tree.Action.{Action, Row_of-Statement, end_of-Statement, more_of-Statement}
-use Rattle.kahn_streams.specs.Syntax.{Expr, Stmt}
-use Rattle.kahn_streams.specs.View.{Scope, body_of, expr_of, expression_of, level_of, row_of, statement_of, stmt_of}
-use Rattle.kahn_streams.specs.declared.tree.Form.TheBlock.{items-the_row-Operand}
-use Rattle.kahn_streams.specs.declared.tree.Action.TheBlock.{items-the_row-Statement}
-use Rattle.kahn_warnings.specs.Loops.{is_seen, never_ends}
-use Rattle.kahn_warnings.specs.Uses.{any_varies_by, is_assigned_in, is_named, is_used_in, varies_by, waits_in}
-use Rattle.kahn_warnings.specs.Warnings.{block_items, first_standing, first_unreached, list_warnings, row_warnings, statement_warnings}
-use Rattle.kahn_warnings.specs.Warned.{warned}
-use Rattle.kahn_warnings.specs.declared.warning.Warning.{Warning}
-use Rattle.kahn_warnings.specs.declared.warning.WarningKind.TheVariants.{Unreached}
+use Rattle.kahn_warnings.proofs.Common.{Action, Bool, Expr, List, None, Operand, Option, Row_of-Operand, Row_of-Statement, Scope, Some, Span, Statement, Stmt, Unreached, Warning, [], any_varies_by, ap, append_assoc, at_drop_all, block_items, body_of, drop, end_of-Operand, end_of-Statement, expr_of, expression_of, false, first_standing, first_unreached, flat_map, if◌then◌else◌, is_assigned_in, is_named, is_seen, is_used_in, items-the_row-Operand, items-the_row-Statement, length, level_of, list_warnings, more_of-Operand, more_of-Statement, never_ends, option_or, refl, row_of, row_warnings, statement_of, statement_warnings, stmt_of, sym, take, take_all, true, varies_by, waits_in, warned, ℕ, ◌++◌, ◌||◌, ◌∙◌, ◌∷◌, ◌≡◌, ◌≤◌}
 
 pub or_false : (b : Bool) → b || false ≡ b
 or_false true = refl

@@ -1,26 +1,8 @@
 -- A body without a place never ends with that fault.
-use Rattle.std.proofs.Common.{arith, ◌≡◌, ◌∙◌, ℕ, zero, suc, neg_ℤ, ◌++◌, ◌==◌, not, Bool, true, false, List, [], ◌∷◌, Option, Some, None, Result, Ok, Err, refl, sym, ap, flat_map, subst, slice_set, if◌then◌else◌}
-use Rattle.std.specs.List.{AllByRecursion}
-use Rattle.std.specs.Result.{result_ok}
-use Rattle.kahn_streams.specs.declared.{span.Span.Span, tree.Operator.Operator, tree.Statement.Statement, value.Value.Value, value.Failure.Failure, value.Line.Line}
-use Rattle.kahn_streams.specs.declared.tree.Form.{Form, Negate', Not', Bracket', Level', Conditional', Row_of-Operand, end_of-Operand, more_of-Operand}
-use Rattle.kahn_streams.specs.declared.tree.Action.{Action, Block', If', While', Repeat', Row_of-Statement, end_of-Statement, more_of-Statement, Held-Action-If-2, None', Some'}
+use Rattle.kahn_warnings.proofs.Common.{Action, Actual, AllByRecursion, AreNumbersOf64, AreOf64Bits, AreWrittenIn64, Assign, Binary, Block', Bool, Bracket', Channel, Conditional, Conditional', ConstantSite, Cut, Dry, Err, Expr, Fail, Failure, Fault, Faulted, FaultsLie, Form, Give, Given, Got, Hands, HasEnd, Held-Action-If-2, Histories, If, If', Inputs, IsOf64Bits, IsOperand, IsWrittenIn64, Level', Line, List, Literal, Logical, Negate, Negate', Network, Nobody, None, None', Not, Not', Ok, Operator, Option, Port, Print, Reached, Reads, Repeat, Repeat', Rest, Result, Row_of-Operand, Row_of-Statement, Scope, Script, ScriptOutcome, Send, Sends, Seq, Skip, Some, Some', Source, Span, Statement, Stmt, Store, Tapes, Turns, Value, Variable, Wait, Waits, While, While', Writes, Written, [], action_sites, actual_at, ap, apply, arith, body_of, chosen, combined, constant, constant_of, else_of, else_sites, end_of-Operand, end_of-Statement, ending, exec, exec_at, expr_of, false, fault_places, fed, flat_map, form_sites, goes_to, if◌then◌else◌, input_list, instance_at, inverted, iterate, level_of, level_sites, more_of-Operand, more_of-Statement, neg_ℤ, negated, not, number, opening, operator_can, out, place_where, play, put, ranged, read, refl, result_ok, row_of, row_sites, script_of, settle, sign_can, site_places, slice_set, source, stmt_of, subst, suc, sym, tape_of, tapes_of, true, truth, turns_of, value_of, values_at, wait_at, zero, ℕ, ◌++◌, ◌==◌, ◌∙◌, ◌∷◌, ◌≡◌}
 use Rattle.kahn_streams.specs.declared.tree.Form as form
 use Rattle.kahn_streams.specs.declared.tree.Action as action
-use Rattle.kahn_streams.specs.Syntax.{Expr, Literal, Variable, Wait, Negate, Not, Binary, Conditional, Stmt, Skip, Assign, Send, Print, Seq, If, While, Repeat}
-use Rattle.kahn_streams.specs.View.{Scope, body_of, else_of, expr_of, level_of, row_of, stmt_of}
-use Rattle.kahn_streams.specs.declared.value.Value.TheVariants.{Logical}
-use Rattle.kahn_streams.specs.Arithmetic.{apply, number, ranged, truth}
-use Rattle.kahn_streams.specs.Network.{Actual, Given, Hands, Network, Nobody, Reads, Source, Writes, Written, actual_at, instance_at}
-use Rattle.kahn_streams.specs.declared.value.Line.TheVariants.{Channel}
 use Rattle.kahn_streams.specs.declared.value.Line.TheVariants as line
-use Rattle.kahn_streams.specs.Solution.{Faulted, HasEnd, Histories, Inputs, ending, exec_at, fed, goes_to, input_list, iterate, opening, out, source, tape_of, tapes_of, values_at}
-use Rattle.kahn_streams.specs.Meaning.{Store, constant, exec, read, script_of, settle, turns_of, value_of}
-use Rattle.kahn_streams.specs.Script.{Cut, Dry, Fail, Fault, Give, Got, ScriptOutcome, Port, Reached, Rest, Script, Sends, Tapes, Turns, Waits, play, put, wait_at}
-use Rattle.kahn_warnings.specs.Constants.{chosen, combined, constant_of, inverted, negated}
-use Rattle.kahn_warnings.specs.Faults.{AreNumbersOf64, AreOf64Bits, FaultsLie, IsWrittenIn64, AreWrittenIn64, IsOperand, IsOf64Bits, fault_places, operator_can, place_where, sign_can, site_places}
-use Rattle.kahn_warnings.specs.Sites.{action_sites, else_sites, form_sites, level_sites, row_sites}
-use Rattle.kahn_warnings.specs.declared.sites.ConstantSite.{ConstantSite}
 use Rattle.kahn_warnings.proofs.Innocent as innocent
 
 -- ---- expressions and statements none of whose operators can have such a fault

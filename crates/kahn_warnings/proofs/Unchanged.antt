@@ -1,17 +1,6 @@
 -- A loop that gives no value to a name of its test, which doesn't wait, never ends once that came true; and a name that gets no value keeps
 -- the one that it has.
-use mathlib.Core.Path.{fun_ext}
-use Rattle.std.proofs.Common.{arith, ◌≡◌, ◌∙◌, ℕ, zero, suc, ◌||◌, Bool, true, false, true≢false, Option, Some, None, Result, Ok, Err, neg_ℤ, pos, not, ap, sym, refl, nat_eq, slice_set, subst}
-use Rattle.std.proofs.lemmas.List.{get_or-set_other}
-use Rattle.std.proofs.lemmas.Option.{none-some, same_Some}
-use Rattle.kahn_streams.specs.Syntax.{Constant, Expr, Literal, Variable, Wait, Negate, Not, Binary, Conditional, Stmt, Skip, Assign, Send, Print, Seq, If, While, Repeat}
-use Rattle.kahn_streams.specs.declared.value.{Value.Value, Failure.Failure}
-use Rattle.kahn_streams.specs.declared.value.Value.TheVariants.{Integer, Logical}
-use Rattle.kahn_streams.specs.Arithmetic.{apply, number, ranged, truth}
-use Rattle.kahn_streams.specs.Meaning.{Store, constant, eval, exec, read, script_of, settle, turns_of, value_of}
-use Rattle.kahn_streams.specs.Script.{Cut, Dry, Fault, Give, Got, ScriptOutcome, Parameter, Printer, Script, Sends, Tapes, Turns, at_once, play}
-use Rattle.kahn_warnings.specs.Loops.{IsUnchanged}
-use Rattle.kahn_warnings.specs.Uses.{is_assigned_in, is_named, waits_in}
+use Rattle.kahn_warnings.proofs.Common.{Assign, Binary, Bool, Conditional, Constant, Cut, Dry, Err, Expr, Failure, Fault, Give, Got, If, Integer, IsUnchanged, Literal, Logical, Negate, None, Not, Ok, Option, Parameter, Print, Printer, Repeat, Result, Script, ScriptOutcome, Send, Sends, Seq, Skip, Some, Stmt, Store, Tapes, Turns, Value, Variable, Wait, While, ap, apply, arith, at_once, constant, eval, exec, false, fun_ext, get_or-set_other, is_assigned_in, is_named, nat_eq, neg_ℤ, none-some, not, number, play, pos, ranged, read, refl, same_Some, script_of, settle, slice_set, subst, suc, sym, true, true≢false, truth, turns_of, value_of, waits_in, zero, ℕ, ◌||◌, ◌∙◌, ◌≡◌}
 
 left : (x y : Bool) → x ≡ true → (x || y) ≡ true
 left true y h = refl

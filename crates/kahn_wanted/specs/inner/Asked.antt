@@ -13,12 +13,12 @@ AllMayCome ks c = (n : List ℕ) (z : ℤ) → Begins (ks ++ terminal_with n z c
 abbrev pub OneMayCome : List Terminal → Class → Type 0
 OneMayCome ks c = (n : List ℕ) × (z : ℤ) × Begins (ks ++ terminal_with n z c ∷ [])
 
-abbrev pub IsTold : List Terminal → List Class → Class → Type 0
-IsTold ks ws c = OneMayCome ks c → Contains ws c
+abbrev pub IsToldIfItComes : List Terminal → List Class → Class → Type 0
+IsToldIfItComes ks ws c = OneMayCome ks c → Contains ws c
 
 -- of some classes just those are told that may come
 abbrev pub AreOf : List Terminal → List Class → List Class → Type 0
-AreOf ks some ws = All (AllMayCome ks) ws × All (IsTold ks ws) some
+AreOf ks some ws = All (AllMayCome ks) ws × All (IsToldIfItComes ks ws) some
 
 -- the lexeme with this span stands behind others that begin a program within the limit
 abbrev pub StandsBehind : List ℕ → List Lexeme → Span → Type 0

@@ -1,10 +1,4 @@
-use Rattle.std.proofs.Common.{◌<◌, ◌∙◌, [], ◌∷◌, ap, get_or, length, sym, arith}
-use Rattle.std.proofs.lemmas.List.Elements.{Contains-append_left, Contains-push}
-use Rattle.kahn_syntax.specs.declared.lexeme.Class.TheVariants.{Word}
-use Rattle.kahn_syntax.specs.declared.lexeme.Keyword.TheVariants.{And}
-use Rattle.kahn_syntax.specs.Texts.{terminals}
-use Rattle.kahn_wanted.specs.inner.Asked.{AllMayCome, IsTold}
-use Rattle.kahn_wanted.specs.inner.Walk.{awaited_parts}
+use Rattle.kahn_wanted.proofs.Common.{AllMayCome, And, Contains-append_left, Contains-push, IsToldIfItComes, Word, [], ap, arith, awaited_parts, get_or, length, sym, terminals, ◌<◌, ◌∙◌, ◌∷◌}
 use Rattle.kahn_wanted.proofs.Classes.{all_grown, one_less, one_more}
 use Rattle.kahn_wanted.proofs.Walking.{may_come, none_comes}
 use Rattle.kahn_wanted.proofs.asked.coming.Goals as goal
@@ -24,14 +18,14 @@ loop-class-preserved c text =
     let is = c.in_ok-stack.ensures text ∙ ap awaited_parts (sym c.deref.ensures.value) in
     elim c.if-branch.branch [
       | then-branch+in_ok-push w ↦
-          one_more (AllMayCome ks) (IsTold ks) some i (Word And) old new (λ y d k p. Contains-append_left old (y ∷ []) d (k p)) below
+          one_more (AllMayCome ks) (IsToldIfItComes ks) some i (Word And) old new (λ y d k p. Contains-append_left old (y ∷ []) d (k p)) below
           (cc (w.wanted-is, w.in_ok-push.ensures.items)) (may_come ks s x may is c.in_ok-may_pass.ensures w.if-branch.true) (λ p. Contains-push old x) (c.loop-class.invariant text)
       | else-branch w ↦
-          one_less (AllMayCome ks) (IsTold ks) some i (Word And) old new below (cc (w.wanted-is))
+          one_less (AllMayCome ks) (IsToldIfItComes ks) some i (Word And) old new below (cc (w.wanted-is))
           (λ p. absurd (none_comes ks s x may is c.in_ok-may_pass.ensures w.if-branch.false p)) (c.loop-class.invariant text)
     ]
 
 pub returns : goal.returns
 returns c text =
     let ks = terminals text c.args.before.now in
-    all_grown (AllMayCome ks) (IsTold ks) c.args.some.now c.loop-class.class-index c.loop-class.wanted.items (omega arith) (c.loop-class.invariant text)
+    all_grown (AllMayCome ks) (IsToldIfItComes ks) c.args.some.now c.loop-class.class-index c.loop-class.wanted.items (omega arith) (c.loop-class.invariant text)

@@ -1,8 +1,4 @@
-use Rattle.std.proofs.Common.{◌↔◌, Contains, List, ℕ, subst}
-use Rattle.std.proofs.lemmas.Result.{IfOk-weaker}
-use Rattle.kahn_syntax.specs.declared.lexeme.Class.{Class}
-use Rattle.kahn_syntax.specs.Texts.{terminals}
-use Rattle.kahn_wanted.specs.Wanted.{AreWanted, told_classes}
+use Rattle.kahn_wanted.proofs.Common.{AreWanted, Class, Contains, IfOk-weaker, List, subst, terminals, told_classes, ℕ, ◌↔◌}
 use Rattle.kahn_wanted.proofs.Classes.{wanted_of}
 use Rattle.kahn_wanted.proofs.found.wanted_behind.Goals as goal
 

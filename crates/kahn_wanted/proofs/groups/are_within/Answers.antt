@@ -1,8 +1,4 @@
-use Rattle.std.proofs.Common.{◌<◌, ◌≤◌, length, subst, arith, All, Contains}
-use Rattle.std.proofs.lemmas.List.{take_all}
-use Rattle.std.proofs.lemmas.List.Elements.{All-more}
-use Rattle.kahn_syntax.specs.declared.lexeme.Class.TheVariants.{Word}
-use Rattle.kahn_syntax.specs.declared.lexeme.Keyword.TheVariants.{And}
+use Rattle.kahn_wanted.proofs.Common.{All, All-more, And, Contains, Word, arith, length, subst, take_all, ◌<◌, ◌≤◌}
 use Rattle.kahn_wanted.proofs.groups.are_within.Goals as goal
 
 pub loop-class-preserved : goal.loop-class-preserved

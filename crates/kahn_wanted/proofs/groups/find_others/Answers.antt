@@ -1,7 +1,4 @@
-use Rattle.std.proofs.Common.{◌<◌, Contains, ◌++◌, get_or, length, arith, [], ◌∷◌}
-use Rattle.std.proofs.lemmas.List.Elements.{Contains-append_left, Contains-append_right, Contains-get_or, Contains-push}
-use Rattle.kahn_syntax.specs.declared.lexeme.Class.TheVariants.{Word}
-use Rattle.kahn_syntax.specs.declared.lexeme.Keyword.TheVariants.{And}
+use Rattle.kahn_wanted.proofs.Common.{And, Contains, Contains-append_left, Contains-append_right, Contains-get_or, Contains-push, Word, [], arith, get_or, length, ◌++◌, ◌<◌, ◌∷◌}
 use Rattle.kahn_wanted.proofs.Classes.{IsAmong, all_grown, one_less, one_more, still_among}
 use Rattle.kahn_wanted.proofs.groups.find_others.Goals as goal
 use Rattle.kahn_wanted.proofs.groups.find_others.Goals.{then-not-has+in_ok-push, else-not-has}

@@ -1,7 +1,5 @@
 -- None of the rules so far has it.
-use Rattle.std.proofs.Common.{◌≡◌, List, ℕ, ℤ, drop}
-use Rattle.kahn_syntax.specs.inner.Machine.{enters}
-use Rattle.kahn_wanted.specs.inner.Walk.{rules_as, terminal_with}
+use Rattle.kahn_wanted.proofs.Common.{List, drop, enters, rules_as, terminal_with, ℕ, ℤ, ◌≡◌}
 use Rattle.kahn_wanted.proofs.leads.by_rules.Given as goal
 
 abbrev pub invariant-loop-rule : goal.invariant-loop-rule

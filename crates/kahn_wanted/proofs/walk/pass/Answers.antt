@@ -1,7 +1,4 @@
-use Rattle.std.proofs.Common.{◌≡◌, ◌∙◌, List, None, Some, ℕ, ℤ, ap, sym}
-use Rattle.std.specs.Prelude.{is_some}
-use Rattle.kahn_syntax.specs.inner.Machine.{enters, step}
-use Rattle.kahn_wanted.specs.inner.Walk.{left_open, awaited_parts, terminal_with}
+use Rattle.kahn_wanted.proofs.Common.{List, None, Some, ap, awaited_parts, enters, is_some, left_open, step, sym, terminal_with, ℕ, ℤ, ◌∙◌, ◌≡◌}
 use Rattle.kahn_wanted.proofs.Walking.{entered, skipped, stopped}
 use Rattle.kahn_wanted.proofs.walk.pass.Goals as goal
 

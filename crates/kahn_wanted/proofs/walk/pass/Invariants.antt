@@ -1,7 +1,5 @@
 -- What the lexeme does is what it does at the parts that are left.
-use Rattle.std.proofs.Common.{◌≡◌, List, ℕ, ℤ, length}
-use Rattle.kahn_syntax.specs.inner.Machine.{step}
-use Rattle.kahn_wanted.specs.inner.Walk.{awaited_parts, terminal_with}
+use Rattle.kahn_wanted.proofs.Common.{List, awaited_parts, length, step, terminal_with, ℕ, ℤ, ◌≡◌}
 use Rattle.kahn_wanted.proofs.walk.pass.Given as goal
 
 abbrev pub invariant-parts : goal.invariant-parts

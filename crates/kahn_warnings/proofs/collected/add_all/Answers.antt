@@ -1,7 +1,4 @@
-use Rattle.std.proofs.Common.{arith, ◌≡◌, ◌+◌, [], ◌∷◌, drop}
-use Rattle.std.proofs.lemmas.Grind.{common_steps}
-use Rattle.kahn_warnings.specs.inner.Collecting.{contains}
-use Rattle.kahn_warnings.specs.Uses.{is_assigned_in, is_used_in}
+use Rattle.kahn_warnings.proofs.Common.{[], arith, common_steps, contains, drop, is_assigned_in, is_used_in, ◌+◌, ◌∷◌, ◌≡◌}
 use Rattle.kahn_warnings.proofs.Getting.{got_begun, got_done, got_next}
 use Rattle.kahn_warnings.proofs.Lists.{body_is_assigned_in, body_is_used_in}
 use Rattle.kahn_warnings.proofs.collected.add_all.Goals as goal

@@ -1,10 +1,4 @@
-use Rattle.std.proofs.Common.{◌≡◌, ◌<◌, ◌++◌, ℕ, List, [], ◌∷◌, All, arith, get_or, length, refl, subst, sym}
-use Rattle.std.proofs.lemmas.List.Elements.{All-push, Contains-get_or}
-use Rattle.kahn_streams.specs.declared.span.Span.{Span}
-use Rattle.kahn_wanted.specs.Comments.{EndsLine}
-use Rattle.kahn_warnings.specs.Comments.{IsCommentWarning}
-use Rattle.kahn_warnings.specs.declared.warning.Warning.{Warning}
-use Rattle.kahn_warnings.specs.declared.warning.WarningKind.TheVariants.{LongComment}
+use Rattle.kahn_warnings.proofs.Common.{All, All-push, Contains-get_or, EndsLine, IsCommentWarning, List, LongComment, Span, Warning, [], arith, get_or, length, refl, subst, sym, ℕ, ◌++◌, ◌<◌, ◌∷◌, ◌≡◌}
 use Rattle.kahn_warnings.proofs.comments.warnings_of.Goals as goal
 use Rattle.kahn_warnings.proofs.comments.warnings_of.Goals.{then-swallows+in_ok-push, else-swallows}
 

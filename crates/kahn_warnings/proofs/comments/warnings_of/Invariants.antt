@@ -1,6 +1,5 @@
 -- The warnings so far are of the comments.
-use Rattle.std.proofs.Common.{All}
-use Rattle.kahn_warnings.specs.Comments.{IsCommentWarning}
+use Rattle.kahn_warnings.proofs.Common.{All, IsCommentWarning}
 use Rattle.kahn_warnings.proofs.comments.warnings_of.Given as goal
 
 abbrev pub invariant-loop-comment : goal.invariant-loop-comment

@@ -1,5 +1,4 @@
-use Rattle.std.proofs.Common.{arith, ◌≡◌, ◌∙◌, ◌+◌, [], ◌∷◌, drop}
-use Rattle.std.proofs.lemmas.Grind.{common_steps}
+use Rattle.kahn_warnings.proofs.Common.{[], arith, common_steps, drop, ◌+◌, ◌∙◌, ◌∷◌, ◌≡◌}
 use Rattle.kahn_warnings.proofs.Lists.{all_told, one_on}
 use Rattle.kahn_warnings.proofs.program.add_body.Goals as goal
 
