@@ -1,5 +1,3 @@
 mod Refused
-mod Renamed
-mod Bodies
 mod Places
 pub mod Worked

@@ -1,7 +1,6 @@
 -- What each part of the work says of the whole.
 use Rattle.std.proofs.Common.{ℕ, List, Option, Err, inl, inr, refl}
-use Rattle.kahn_streams.specs.declared.tree.Program.{Program}
-use Rattle.kahn_streams.specs.declared.config.Config.{Config}
+use Rattle.kahn_streams.specs.declared.{tree.Program.Program, config.Config.Config}
 use Rattle.kahn_fault.specs.declared.work.WorkFault.{WorkFault}
 use Rattle.kahn_fault.specs.declared.work.WorkFault.TheVariants.{Syntax, Check, Text, Run, Write}
 use Rattle.kahn_fault.specs.Work.{IsChecked, IsUnchecked, IsUnanswered, IsWorked}

@@ -5,3 +5,4 @@ pub mod Status
 pub mod Telling
 pub mod Texts
 pub mod Work
+pub mod inner

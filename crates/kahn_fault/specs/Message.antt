@@ -1,28 +1,21 @@
 -- Believed. What the program says of a fault: one line.
 use Rattle.std.specs.Prelude.{ℕ, ◌+◌, ◌≤◌, List, [], ◌∷◌, codes, decimal, length, min, string_bytes, Option, Some, None, Result}
 use Rattle.std.specs.List.{concat}
-use Rattle.std.specs.declared.alloc.Global.{Global}
-use Rattle.std.specs.declared.string.String.{String}
+use Rattle.std.specs.declared.{alloc.Global.Global, string.String.String}
 use Rattle.kahn_streams.specs.Place.{line_of, column_of}
 use Rattle.kahn_streams.specs.Written.{Writes}
-use Rattle.kahn_streams.specs.declared.span.Span.{Span}
-use Rattle.kahn_streams.specs.declared.entries.InputFault.{InputFault}
-use Rattle.kahn_syntax.specs.declared.fault.SyntaxFault.{SyntaxFault}
-use Rattle.kahn_syntax.specs.declared.fault.SyntaxFault.TheVariants as syntax
-use Rattle.kahn_syntax.specs.declared.fault.What.{What}
+use Rattle.kahn_streams.specs.declared.{span.Span.Span, entries.InputFault.InputFault, fault.CheckFault.CheckFault, fault.RunFault.RunFault}
+use Rattle.kahn_syntax.specs.declared.fault.{SyntaxFault.SyntaxFault, What.What}
 use Rattle.kahn_syntax.specs.declared.fault.What.TheVariants.{More, Nothing, Other}
-use Rattle.kahn_streams.specs.declared.fault.CheckFault.{CheckFault}
+use Rattle.kahn_syntax.specs.declared.fault.SyntaxFault.TheVariants as syntax
 use Rattle.kahn_streams.specs.declared.fault.CheckFault.TheVariants as checked
 use Rattle.kahn_streams.specs.declared.entries.InputFault.TheVariants as input
-use Rattle.kahn_streams.specs.declared.fault.RunFault.{RunFault}
 use Rattle.kahn_streams.specs.declared.fault.RunFault.TheVariants as run
-use Rattle.kahn_texts.specs.declared.input.TextFault.{TextFault}
+use Rattle.kahn_texts.specs.declared.{input.TextFault.TextFault, read.ReadFault.ReadFault}
 use Rattle.kahn_texts.specs.declared.input.TextFault.TheVariants as text
-use Rattle.kahn_texts.specs.declared.read.ReadFault.{ReadFault}
 use Rattle.kahn_texts.specs.declared.read.ReadFault.TheVariants as read
-use Rattle.kahn_fault.specs.declared.work.WorkFault.{WorkFault}
+use Rattle.kahn_fault.specs.declared.{work.WorkFault.WorkFault, fault.Fault.Fault}
 use Rattle.kahn_fault.specs.declared.work.WorkFault.TheVariants as work
-use Rattle.kahn_fault.specs.declared.fault.Fault.{Fault}
 use Rattle.kahn_fault.specs.declared.fault.Fault.TheVariants.{Open, Program, InputText, Work}
 
 -- the line went out, or after a fault of the writer a prefix of it, by at most one write for each of its bytes

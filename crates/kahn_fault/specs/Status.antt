@@ -10,9 +10,8 @@ use Rattle.kahn_streams.specs.declared.fault.RunFault.TheVariants as run
 use Rattle.kahn_texts.specs.declared.input.TextFault.TheVariants as text
 use Rattle.kahn_texts.specs.declared.read.ReadFault.{ReadFault}
 use Rattle.kahn_texts.specs.declared.read.ReadFault.TheVariants as read
-use Rattle.kahn_fault.specs.declared.work.WorkFault.{WorkFault}
+use Rattle.kahn_fault.specs.declared.{work.WorkFault.WorkFault, fault.Fault.Fault}
 use Rattle.kahn_fault.specs.declared.work.WorkFault.TheVariants as work
-use Rattle.kahn_fault.specs.declared.fault.Fault.{Fault}
 use Rattle.kahn_fault.specs.declared.fault.Fault.TheVariants.{Open, Program, InputText, Work}
 
 -- of a text that wasn't read

@@ -1,18 +1,14 @@
 -- Believed. What the whole work does, from the bytes of the texts to the bytes of the report.
 use Rattle.std.specs.Prelude.{◌≡◌, ℕ, ◌≤◌, ◌⊎◌, List, Option, Some, None, Result, Ok, Err, string_bytes}
-use Rattle.std.specs.declared.string.String.{String}
-use Rattle.std.specs.declared.alloc.Global.{Global}
+use Rattle.std.specs.declared.{string.String.String, alloc.Global.Global}
 use Rattle.std.specs.Io.KnownBytes.{Appends}
-use Rattle.kahn_streams.specs.declared.tree.Program.{Program}
-use Rattle.kahn_streams.specs.declared.config.Config.{Config}
+use Rattle.kahn_streams.specs.declared.{tree.Program.Program, config.Config.Config, answer.Answer.Answer, answer.Verdict.Verdict}
 use Rattle.kahn_syntax.specs.Texts.{program_tree, IsProgram, IsTextFault as IsSyntaxFault}
 use Rattle.kahn_syntax.specs.Grammar.{nesting}
 use Rattle.kahn_streams.specs.Network.{network_of}
 use Rattle.kahn_streams.specs.Faults.{faults, IsMet}
 use Rattle.kahn_streams.specs.Wiring.{IsWellWired}
 use Rattle.kahn_streams.specs.Inputs.{Lists, inputs_of}
-use Rattle.kahn_streams.specs.declared.answer.Answer.{Answer}
-use Rattle.kahn_streams.specs.declared.answer.Verdict.{Verdict}
 use Rattle.kahn_streams.specs.declared.answer.Verdict.TheVariants.{Finished}
 use Rattle.kahn_streams.specs.Answers.{Settles, IsRightRun, IsUnrun}
 use Rattle.kahn_fault.specs.declared.work.WorkFault.{WorkFault}

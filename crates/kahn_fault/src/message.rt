@@ -1,9 +1,10 @@
 //! What the program says of a fault: one line.
 
-ghost use Rattle.std.specs.Prelude.{◌≡◌, ◌<◌, ◌≤◌, length, decimal};
+ghost use Rattle.std.specs.Prelude.{◌≡◌, ◌<◌, ◌≤◌, List, ℕ, length, decimal};
 ghost use Rattle.kahn_streams.specs.Written.{Writes};
 ghost use Rattle.kahn_texts.specs.Flushes.{FlushesOnce};
-ghost use Rattle.kahn_fault.specs.Message.{WritesCounted, numbered_line, words_line, two_line, between_line, place_line, placed_line, memory_line, what_words, syntax_span, syntax_words, check_span, check_words, entry_line, text_line, run_line, work_line, read_line, path_words, fault_text};
+ghost use Rattle.kahn_fault.specs.Message.{WritesCounted, numbered_line, words_line, two_line, between_line, place_line, placed_line, what_words, syntax_span, syntax_words, check_span, check_words, entry_line, text_line, run_line, work_line, read_line, path_words, fault_text};
+ghost use Rattle.kahn_fault.specs.inner.Said.{said_line};
 
 use crate::fault::Fault;
 use crate::work::WorkFault;
@@ -16,6 +17,19 @@ use std::io::Write;
 use std::marker::Brand;
 use std::sync::ledger::{Blank, Ledger};
 
+/// What a line says.
+#[derive(Clone, Copy)]
+enum Said<'a> {
+    /// Words alone.
+    Words(&'a str),
+    /// Words and a path, or a path and words.
+    Two(&'a str, &'a str),
+    /// A number between words.
+    Numbered(&'static str, usize, &'static str),
+    /// A place in the program text, if there is one, and words.
+    Placed(Option<Span>, &'static str),
+}
+
 /// Writes a line of words alone.
 fn put_words<W: Write, L: Ledger>(
     writer: &mut W,
@@ -25,13 +39,6 @@ fn put_words<W: Write, L: Ledger>(
     ensures { WritesCounted (W.contents writer.old) (W.contents writer.new) result writes.old writes.new (words_line words.now) }
 {
     put_line(writer, &[b"kahn: ", words.as_bytes(), b"\n"], writes)
-}
-
-/// Writes that memory was refused.
-fn put_memory<W: Write, L: Ledger>(writer: &mut W, writes: &mut Steps<L>) -> Result<(), WriteFault>
-    ensures { WritesCounted (W.contents writer.old) (W.contents writer.new) result writes.old writes.new memory_line }
-{
-    put_words(writer, "no memory", writes)
 }
 
 /// Writes a line of two parts.
@@ -151,6 +158,23 @@ fn put_placed<W: Write, L: Ledger>(
     }
 }
 
+/// Writes a line.
+fn put_said<W: Write, L: Ledger>(
+    writer: &mut W,
+    program: &str,
+    said: Said<'_>,
+    writes: &mut Steps<L>,
+) -> Result<(), WriteFault>
+    ensures { WritesCounted (W.contents writer.old) (W.contents writer.new) result writes.old writes.new (said_line program.now said.entry) }
+{
+    match said {
+        Said::Words(words) => put_words(writer, words, writes),
+        Said::Two(first, second) => put_two(writer, first, second, writes),
+        Said::Numbered(before, number, after) => put_number(writer, before, number, after, writes),
+        Said::Placed(place, words) => put_placed(writer, program, place, words, writes),
+    }
+}
+
 /// Returns why a lexeme is unexpected.
 fn what_words(what: What) -> &'static str
     ensures { result.now ≡ what_words what }
@@ -235,113 +259,68 @@ pub fn check_words(fault: CheckFault) -> &'static str
     }
 }
 
-/// Writes the line of an entry of the input text.
-fn put_entry<W: Write, L: Ledger>(
-    writer: &mut W,
-    fault: InputFault,
-    writes: &mut Steps<L>,
-) -> Result<(), WriteFault>
-    ensures { WritesCounted (W.contents writer.old) (W.contents writer.new) result writes.old writes.new (entry_line fault) }
-{
-    let (entry, words) = match fault {
-        InputFault::UnknownName(entry) => (entry, ": no such channel"),
-        InputFault::NotAnInput(entry) => (entry, ": not an input channel"),
-        InputFault::GivenTwice(entry) => (entry, ": given twice"),
-        InputFault::WrongKind(entry) => (entry, ": kind does not agree"),
-        InputFault::TooMany(entry) => (entry, ": too many values"),
-        InputFault::NoMemory => return put_memory(writer, writes),
-    };
-    put_number(writer, "input entry ", entry, words, writes)
-}
-
-/// Writes the line of an input text that is refused.
-fn put_text<W: Write, L: Ledger>(
-    writer: &mut W,
-    fault: TextFault,
-    writes: &mut Steps<L>,
-) -> Result<(), WriteFault>
-    ensures { WritesCounted (W.contents writer.old) (W.contents writer.new) result writes.old writes.new (text_line fault) }
+/// Returns what is said of an entry of the input text.
+fn entry_said(fault: InputFault) -> Said<'static>
+    ensures { (program : List ℕ) → said_line program result ≡ entry_line fault }
 {
     match fault {
-        TextFault::BadLine(line) => put_number(
-            writer,
-            "input line ",
-            line,
-            ": not a name and a colon",
-            writes,
-        ),
-        TextFault::BadValue(line) => {
-            put_number(writer, "input line ", line, ": not a value", writes)
-        }
-        TextFault::Input(fault) => put_entry(writer, fault, writes),
-        TextFault::TooLong => put_words(writer, "input text is too long", writes),
-        TextFault::NoMemory => put_memory(writer, writes),
+        InputFault::UnknownName(at) => Said::Numbered("input entry ", at, ": no such channel"),
+        InputFault::NotAnInput(at) => Said::Numbered("input entry ", at, ": not an input channel"),
+        InputFault::GivenTwice(at) => Said::Numbered("input entry ", at, ": given twice"),
+        InputFault::WrongKind(at) => Said::Numbered("input entry ", at, ": kind does not agree"),
+        InputFault::TooMany(at) => Said::Numbered("input entry ", at, ": too many values"),
+        InputFault::NoMemory => Said::Words("no memory"),
     }
 }
 
-/// Writes the line of a run that has no answer.
-fn put_run<W: Write, L: Ledger>(
-    writer: &mut W,
-    fault: RunFault,
-    writes: &mut Steps<L>,
-) -> Result<(), WriteFault>
-    ensures { WritesCounted (W.contents writer.old) (W.contents writer.new) result writes.old writes.new (run_line fault) }
-{
-    let words = match fault {
-        RunFault::BadConfig => "configuration is out of range",
-        RunFault::UnknownWatch => "watched channel is not declared",
-        RunFault::NoMemory => "no memory",
-        RunFault::NoThread => "no thread",
-        RunFault::Stalled => "workers stalled",
-    };
-    put_words(writer, words, writes)
-}
-
-/// Writes the line of a run without a report.
-fn put_work<W: Write, L: Ledger>(
-    writer: &mut W,
-    program: &str,
-    fault: WorkFault,
-    writes: &mut Steps<L>,
-) -> Result<(), WriteFault>
-    ensures { WritesCounted (W.contents writer.old) (W.contents writer.new) result writes.old writes.new (work_line program.now fault) }
+/// Returns what is said of an input text that is refused.
+fn text_said(fault: TextFault) -> Said<'static>
+    ensures { (program : List ℕ) → said_line program result ≡ text_line fault }
 {
     match fault {
-        WorkFault::Syntax(fault) => put_placed(
-            writer,
-            program,
-            syntax_span(fault),
-            syntax_words(fault),
-            writes,
-        ),
-        WorkFault::Check(fault) => put_placed(
-            writer,
-            program,
-            check_span(fault),
-            check_words(fault),
-            writes,
-        ),
-        WorkFault::Text(fault) => put_text(writer, fault, writes),
-        WorkFault::Run(fault) => put_run(writer, fault, writes),
-        WorkFault::Write(_) => put_words(writer, "report could not be written", writes),
+        TextFault::BadLine(line) => Said::Numbered("input line ", line, ": not a name and a colon"),
+        TextFault::BadValue(line) => Said::Numbered("input line ", line, ": not a value"),
+        TextFault::Input(fault) => entry_said(fault),
+        TextFault::TooLong => Said::Words("input text is too long"),
+        TextFault::NoMemory => Said::Words("no memory"),
     }
 }
 
-/// Writes the line of a text that wasn't read: its path, and what is said if it is too long.
-fn put_read<W: Write, L: Ledger>(
-    writer: &mut W,
-    path: &str,
-    long: &str,
-    fault: ReadFault,
-    writes: &mut Steps<L>,
-) -> Result<(), WriteFault>
-    ensures { WritesCounted (W.contents writer.old) (W.contents writer.new) result writes.old writes.new (read_line path.now long.now fault) }
+/// Returns what is said of a run that has no answer.
+fn run_said(fault: RunFault) -> Said<'static>
+    ensures { (program : List ℕ) → said_line program result ≡ run_line fault }
 {
     match fault {
-        ReadFault::Failed => put_two(writer, "cannot read ", path, writes),
-        ReadFault::TooLong => put_words(writer, long, writes),
-        ReadFault::NotUtf8 => put_two(writer, path, " is not UTF-8", writes),
-        ReadFault::NoMemory => put_memory(writer, writes),
+        RunFault::BadConfig => Said::Words("configuration is out of range"),
+        RunFault::UnknownWatch => Said::Words("watched channel is not declared"),
+        RunFault::NoMemory => Said::Words("no memory"),
+        RunFault::NoThread => Said::Words("no thread"),
+        RunFault::Stalled => Said::Words("workers stalled"),
+    }
+}
+
+/// Returns what is said of a run without a report.
+fn work_said(fault: WorkFault) -> Said<'static>
+    ensures { (program : List ℕ) → said_line program result ≡ work_line program fault }
+{
+    match fault {
+        WorkFault::Syntax(fault) => Said::Placed(syntax_span(fault), syntax_words(fault)),
+        WorkFault::Check(fault) => Said::Placed(check_span(fault), check_words(fault)),
+        WorkFault::Text(fault) => text_said(fault),
+        WorkFault::Run(fault) => run_said(fault),
+        WorkFault::Write(_) => Said::Words("report could not be written"),
+    }
+}
+
+/// Returns what is said of a text that wasn't read, by its path and what is said if it is too long.
+fn read_said<'a>(path: &'a str, long: &'a str, fault: ReadFault) -> Said<'a>
+    ensures { (program : List ℕ) → said_line program result ≡ read_line path.now long.now fault }
+{
+    match fault {
+        ReadFault::Failed => Said::Two("cannot read ", path),
+        ReadFault::TooLong => Said::Words(long),
+        ReadFault::NotUtf8 => Said::Two(path, " is not UTF-8"),
+        ReadFault::NoMemory => Said::Words("no memory"),
     }
 }
 
@@ -355,6 +334,20 @@ pub(crate) fn path_words(path: &Option<String>) -> &str
     }
 }
 
+/// Returns what is said of a fault.
+fn fault_said(fault: &Fault) -> Said<'_>
+    ensures { (program : List ℕ) → said_line program result ≡ fault_text program fault.now }
+{
+    match fault {
+        Fault::Open(path) => Said::Two("cannot read ", path.as_str()),
+        Fault::Program(path, fault) => {
+            read_said(path_words(path), "program text is too long", *fault)
+        }
+        Fault::InputText(path, fault) => read_said(path.as_str(), "input text is too long", *fault),
+        Fault::Work(fault) => work_said(*fault),
+    }
+}
+
 /// Writes the line of a fault.
 fn put_fault<W: Write, L: Ledger>(
     fault: &Fault,
@@ -364,24 +357,7 @@ fn put_fault<W: Write, L: Ledger>(
 ) -> Result<(), WriteFault>
     ensures { WritesCounted (W.contents writer.old) (W.contents writer.new) result writes.old writes.new (fault_text program.now fault.now) }
 {
-    match fault {
-        Fault::Open(path) => put_two(writer, "cannot read ", path.as_str(), writes),
-        Fault::Program(path, fault) => put_read(
-            writer,
-            path_words(path),
-            "program text is too long",
-            *fault,
-            writes,
-        ),
-        Fault::InputText(path, fault) => put_read(
-            writer,
-            path.as_str(),
-            "input text is too long",
-            *fault,
-            writes,
-        ),
-        Fault::Work(fault) => put_work(writer, program, *fault, writes),
-    }
+    put_said(writer, program, fault_said(fault), writes)
 }
 
 /// Writes the line of a fault as `fault_line` does, and counts its calls: at most one write for each byte of the line, and one flush.

@@ -1,22 +1,8 @@
 -- The table of classes, and lists of them.
-use Rattle.std.proofs.Common.{◌≡◌, ℕ, ◌+◌, ◌≤◌, ◌<◌, ◌↔◌, List, [], ◌∷◌, ◌++◌, length, take, get_or, refl, sym, ap, ◌∙◌, subst, append_assoc, append-nil, lit<, All, Contains, flat_map}
-use Rattle.std.proofs.lemmas.List.{take_all}
-use Rattle.std.proofs.lemmas.List.Elements.{All-contains, All-more, All-push, All-weaker, All-append, Contains-append_left, Contains-append_right, Contains-push, Contains-get_or}
-use Rattle.kahn_syntax.specs.declared.lexeme.Class.{Class}
+use Rattle.kahn_wanted.proofs.Common.{All, All-append, All-contains, All-more, All-push, All-weaker, AllMayCome, AreOf, AreWanted, Begins, CLASSES, Class, Contains, Contains-append_left, IsToldIfItComes, Keyword, LexemeGroup, List, Sign, Span, Terminal, Wanted, [], ap, append-nil, append_assoc, class_of_terminal, flat_map, get_or, length, lit<, members, pos, refl, sign_terminal, slice_range, subst, sym, take, take_all, terminal, terminal_with, told_classes, ℕ, ℤ, ◌++◌, ◌+◌, ◌<◌, ◌↔◌, ◌∙◌, ◌∷◌, ◌≡◌, ◌≤◌}
 use Rattle.kahn_syntax.specs.declared.lexeme.Class.TheVariants as class
-use Rattle.kahn_syntax.specs.declared.lexeme.Keyword.{Keyword}
 use Rattle.kahn_syntax.specs.declared.lexeme.Keyword.TheVariants as keyword
-use Rattle.kahn_syntax.specs.declared.lexeme.Sign.{Sign}
 use Rattle.kahn_syntax.specs.declared.lexeme.Sign.TheVariants as mark
-use Rattle.kahn_syntax.specs.declared.lexeme.Lexeme.{Lexeme}
-use Rattle.kahn_streams.specs.declared.span.Span.{Span}
-use Rattle.kahn_syntax.specs.Texts.{terminal, terminals, sign_terminal}
-use Rattle.kahn_wanted.specs.declared.asked.TheConstants.{CLASSES}
-use Rattle.kahn_wanted.specs.declared.groups.LexemeGroup.{LexemeGroup}
-use Rattle.kahn_wanted.specs.declared.groups.Wanted.{Wanted}
-use Rattle.kahn_wanted.specs.Wanted.{AreWanted, class_of_terminal, members, told_classes}
-use Rattle.kahn_wanted.specs.inner.Asked.{AreOf}
-use Rattle.kahn_wanted.proofs.Alike.{stands, tried}
 
 word_there : (w : Keyword) → Contains CLASSES (class.Word w)
 word_there keyword.And = (2, lit< tt, refl)
@@ -72,42 +58,48 @@ there text class.Name at = (0, lit< tt, refl)
 there text (class.Number n) at = (1, lit< tt, refl)
 there text (class.Sign s) at = sign_there s
 
+-- a terminal is one of its class
+of_class : (t : List ℕ) (c : Class) (at : Span) → (n : List ℕ) × (z : ℤ) × (terminal_with n z (class_of_terminal (terminal t c at)) ≡ terminal t c at)
+of_class t (class.Word w) at = ([], pos 0, refl)
+of_class t class.Name at = (slice_range t at.from at.to, pos 0, refl)
+of_class t (class.Number z) at = ([], z, refl)
+of_class t (class.Sign mark.Not) at = ([], pos 0, refl)
+of_class t (class.Sign s) at = ([], pos 0, refl)
+
 -- what is told of the table is told of all lexemes
-pub wanted_of : (text : List ℕ) (before : List Lexeme) (ws : List Class) (w : Wanted) → AreOf text before CLASSES ws → ((c : Class) → Contains (told_classes w) c ↔ Contains ws c)
-    → AreWanted (terminals text before) w
-wanted_of text before ws w of is t x =
+pub wanted_of : (ks : List Terminal) (ws : List Class) (w : Wanted) → AreOf ks CLASSES ws → ((c : Class) → Contains (told_classes w) c ↔ Contains ws c) → AreWanted ks w
+wanted_of ks ws w (sound, whole) is t x =
     let c = class_of_terminal (terminal t x.what x.span) in
-    let here = there t x.what x.span in (
-      (λ h. stands text t (terminals text before) x.what x.span ((of c here).0 ((is c).0 h))),
-      (λ h. (is c).1 ((of c here).1 (tried text t (terminals text before) x.what x.span h))),
+    let (n, z, same) = of_class t x.what x.span in (
+      (λ h. subst (λ k. Begins (ks ++ k ∷ [])) same (All-contains (AllMayCome ks) ws c sound ((is c).0 h) n z)),
+      (λ h. (is c).1 (All-contains (IsToldIfItComes ks ws) CLASSES c whole (there t x.what x.span) (n, z, subst (λ k. Begins (ks ++ k ∷ [])) (sym same) h))),
     )
 
--- ---- of the first classes of some those were told for which P holds
+-- ---- a list that grows: P holds of each in it, and K of it and each of the first of some classes
 
-abbrev pub AreTold : (Class → Type 0) → List Class → ℕ → List Class → Type 0
-AreTold P some i ws = All P ws × All (λ c. P c → Contains ws c) (take i some)
+abbrev pub Grown : (Class → Type 0) → (List Class → Class → Type 0) → List Class → ℕ → List Class → Type 0
+Grown P K some i ws = All P ws × All (K ws) (take i some)
 
-pub one_more : (P : Class → Type 0) (some : List Class) (i : ℕ) (d : Class) (old new : List Class) → i < length some → new ≡ old ++ get_or some i d ∷ [] → P (get_or some i d)
-    → AreTold P some i old → AreTold P some (i + 1) new
-one_more P some i d old new below e holds h =
-    let x = get_or some i d in
-    subst (λ l. AreTold P some (i + 1) l) (sym e) (
-      All-push P old x h.0 holds,
-      All-more (λ c. P c → Contains (old ++ x ∷ []) c) some i d below
-          (All-weaker (λ c. P c → Contains old c) (λ c. P c → Contains (old ++ x ∷ []) c) (λ c f p. Contains-append_left old (x ∷ []) c (f p)) (take i some) h.1)
-          (λ p. Contains-push old x),
-    )
+module _ (P : Class → Type 0) (K : List Class → Class → Type 0) (some : List Class) (i : ℕ) where
+  pub one_more : (d : Class) (old new : List Class) → ((x c : Class) → K old c → K (old ++ x ∷ []) c) → i < length some → new ≡ old ++ get_or some i d ∷ []
+      → P (get_or some i d) → K (old ++ get_or some i d ∷ []) (get_or some i d) → Grown P K some i old → Grown P K some (i + 1) new
+  one_more d old new grows below e holds here h =
+      let x = get_or some i d in
+      let all = All-weaker (K old) (K (old ++ x ∷ [])) (λ c k. grows x c k) (take i some) h.1 in
+      subst (Grown P K some (i + 1)) (sym e) (All-push P old x h.0 holds, All-more (K (old ++ x ∷ [])) some i d below all here)
 
-pub one_less : (P : Class → Type 0) (some : List Class) (i : ℕ) (d : Class) (old new : List Class) → i < length some → new ≡ old → (P (get_or some i d) → ⊥)
-    → AreTold P some i old → AreTold P some (i + 1) new
-one_less P some i d old new below e fails h =
-    subst (λ l. AreTold P some (i + 1) l) (sym e) (h.0, All-more (λ c. P c → Contains old c) some i d below h.1 (λ p. absurd (fails p)))
+  pub one_less : (d : Class) (old new : List Class) → i < length some → new ≡ old → K old (get_or some i d) → Grown P K some i old → Grown P K some (i + 1) new
+  one_less d old new below e here h = subst (Grown P K some (i + 1)) (sym e) (h.0, All-more (K old) some i d below h.1 here)
 
-pub all_told : (P : Class → Type 0) (some : List Class) (i : ℕ) (ws : List Class) → length some ≤ i → AreTold P some i ws → (c : Class) → Contains some c → Contains ws c ↔ P c
-all_told P some i ws past h c m = (
-  (λ k. All-contains P ws c h.0 k),
-  All-contains (λ x. P x → Contains ws x) some c (subst (All (λ x. P x → Contains ws x)) (take_all i some past) h.1) m,
-)
+  pub all_grown : (ws : List Class) → length some ≤ i → Grown P K some i ws → All P ws × All (K ws) some
+  all_grown ws past h = (h.0, subst (All (K ws)) (take_all i some past) h.1)
+
+-- those that weren't told
+abbrev pub IsAmong : List Class → List Class → Class → Type 0
+IsAmong said ws c = Contains (said ++ ws) c
+
+pub still_among : (said old : List Class) (x c : Class) → IsAmong said old c → IsAmong said (old ++ x ∷ []) c
+still_among said old x c m = subst (λ l. Contains l c) (append_assoc said old (x ∷ [])) (Contains-append_left (said ++ old) (x ∷ []) c m)
 
 -- ---- groups
 
@@ -132,28 +124,3 @@ all_grouped classes said others w e s o h c = (
   (λ m. All-contains (Contains classes) (said ++ others) c (All-append (Contains classes) said others s o) (subst (λ l. Contains l c) e m)),
   (λ m. subst (λ l. Contains l c) (sym e) (All-contains (Contains (said ++ others)) classes c h m)),
 )
-
--- ---- those that weren't told
-
-abbrev pub AreOthers : List Class → List Class → ℕ → List Class → Type 0
-AreOthers classes said i others = All (Contains classes) others × All (Contains (said ++ others)) (take i classes)
-
-pub other_more : (classes said : List Class) (i : ℕ) (d : Class) (old new : List Class) → i < length classes → new ≡ old ++ get_or classes i d ∷ []
-    → AreOthers classes said i old → AreOthers classes said (i + 1) new
-other_more classes said i d old new below e h =
-    let x = get_or classes i d in
-    subst (λ l. AreOthers classes said (i + 1) l) (sym e) (
-      All-push (Contains classes) old x h.0 (Contains-get_or classes i d below),
-      All-more (Contains (said ++ (old ++ x ∷ []))) classes i d below
-          (All-weaker (Contains (said ++ old)) (Contains (said ++ (old ++ x ∷ []))) (λ c m. subst (λ l. Contains l c) (append_assoc said old (x ∷ [])) (Contains-append_left (said ++ old) (x ∷ []) c m)) (take i classes) h.1)
-          (Contains-append_right said (old ++ x ∷ []) x (Contains-push old x)),
-    )
-
-pub other_less : (classes said : List Class) (i : ℕ) (d : Class) (old new : List Class) → i < length classes → new ≡ old → Contains said (get_or classes i d)
-    → AreOthers classes said i old → AreOthers classes said (i + 1) new
-other_less classes said i d old new below e there h =
-    subst (λ l. AreOthers classes said (i + 1) l) (sym e) (h.0, All-more (Contains (said ++ old)) classes i d below h.1 (Contains-append_left said old (get_or classes i d) there))
-
--- of a loop with an early end
-pub within_more : (classes some : List Class) (i : ℕ) (d : Class) → i < length some → Contains classes (get_or some i d) → All (Contains classes) (take i some) → All (Contains classes) (take (i + 1) some)
-within_more classes some i d below here h = All-more (Contains classes) some i d below h here

@@ -1,21 +1,5 @@
 -- The lexemes before a fault.
-use Rattle.std.proofs.Common.{◌≡◌, ℕ, ◌+◌, ◌≤◌, ◌<◌, List, [], ◌∷◌, ◌++◌, length, take, drop, get_or, slice_get, Some, sym, ap, ◌∙◌, subst, arith, append_assoc, append-nil, add-one, length-append, ⊎_elim}
-use Rattle.std.proofs.Math.Seq.{drop-cons, get_or-append_seam}
-use Rattle.std.proofs.lemmas.List.{take_all, take-append-le, take-append-drop}
-use Rattle.std.proofs.lemmas.Option.{get_or_from_slice_get, slice_get-get_or, slice_get_past, slice_get_within}
-use Rattle.kahn_streams.specs.declared.span.Span.{Span}
-use Rattle.kahn_syntax.specs.declared.lexeme.Lexeme.{Lexeme}
-use Rattle.kahn_syntax.specs.declared.fault.SyntaxFault.TheVariants.{Expected}
-use Rattle.kahn_syntax.specs.declared.fault.What.{What}
-use Rattle.kahn_syntax.specs.declared.fault.What.TheVariants.{More, Nothing, Other}
-use Rattle.kahn_syntax.specs.Texts.{terminals, AreLexemes, IsLexFault, BeginsWithin, IsFault, IsTextFault}
-use Rattle.kahn_syntax.specs.Grammar.{Spells}
-use Rattle.kahn_syntax.proofs.Meaning.{terminals_append}
-use Rattle.kahn_syntax.proofs.OneList.{same_lexemes}
-use Rattle.kahn_syntax.proofs.Reached.{le_or}
-use Rattle.kahn_wanted.specs.Wanted.{AreWanted, IsAtFault, IsInstead, IsPlace}
-use Rattle.kahn_wanted.specs.declared.found.Unexpected.{Unexpected}
-use Rattle.kahn_wanted.specs.inner.Asked.{StandsBehind}
+use Rattle.kahn_wanted.proofs.Common.{AreLexemes, AreWanted, BeginsWithin, Expected, IsAtFault, IsFault, IsInstead, IsLexFault, IsPlace, IsTextFault, Lexeme, List, More, Nothing, Other, Some, Span, Spells, StandsBehind, Unexpected, What, [], add-one, ap, append-nil, append_assoc, arith, drop, drop-cons, get_or, get_or-append_seam, get_or_from_slice_get, le_or, length, length-append, same_lexemes, slice_get, slice_get-get_or, slice_get_past, slice_get_within, subst, sym, take, take-append-drop, take-append-le, take_all, terminals, terminals_append, ℕ, ⊎_elim, ◌++◌, ◌+◌, ◌<◌, ◌∙◌, ◌∷◌, ◌≡◌, ◌≤◌}
 
 -- what begins with more within the limit begins with less
 within_front : (text : List ℕ) (n : ℕ) (before : List Lexeme) → BeginsWithin (terminals text before) → BeginsWithin (terminals text (take n before))

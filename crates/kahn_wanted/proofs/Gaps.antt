@@ -1,12 +1,5 @@
 -- What stands between two lexemes, read from the left.
-use Rattle.std.proofs.Common.{◌≡◌, ℕ, ◌+◌, ◌≤◌, ◌<◌, ◌⊎◌, List, [], ◌∷◌, ◌++◌, Bool, true, false, append-nil, length, drop, get_or, refl, sym, ap, subst, ◌∙◌, arith, inl, inr, append_assoc}
-use Rattle.std.proofs.lemmas.List.{drop_more}
-use Rattle.kahn_syntax.specs.Texts.{IsBlank, IsComment, Gap, no_gap, then_blank, then_comment, Lexed, IsLexemeAt}
-use Rattle.kahn_syntax.specs.declared.lexeme.Lexeme.{Lexeme}
-use Rattle.kahn_syntax.proofs.OneList.{comment_dark, comment_grows, same_comment}
-use Rattle.kahn_streams.specs.declared.span.Span.{Span}
-use Rattle.kahn_wanted.specs.Comments.{AreComments, behind_a_blank, behind_a_lexeme, behind_a_comment, at_the_end, span_of}
-use Rattle.kahn_wanted.specs.inner.Passing.{Passed}
+use Rattle.kahn_wanted.proofs.Common.{AreComments, Bool, Gap, IsBlank, IsComment, IsLexemeAt, Lexed, Lexeme, List, Passed, Span, [], ap, append-nil, append_assoc, arith, at_the_end, behind_a_blank, behind_a_comment, behind_a_lexeme, comment_dark, comment_grows, drop, drop_more, false, get_or, inl, inr, length, no_gap, refl, same_comment, span_of, subst, sym, then_blank, then_comment, true, ℕ, ◌++◌, ◌+◌, ◌<◌, ◌∙◌, ◌∷◌, ◌≡◌, ◌≤◌, ◌⊎◌}
 
 pub gap_le : (text : List ℕ) (a b : ℕ) → Gap text a b → a ≤ b
 gap_le text a b no_gap = omega arith
@@ -72,7 +65,7 @@ after_comment text at to end gap some light is =
     let rest : Gap text end to = subst (λ m. Gap text m to) (same_comment text at h.0 end h.1 is) h.2 in
     (rest, gap_le text end to rest, comment_grows text at end is)
 
-pub no_both : (b : Bool) → b ≡ true → b ≡ false → ⊥
+no_both : (b : Bool) → b ≡ true → b ≡ false → ⊥
 no_both b h k = cc
 
 pub light_of : (b : Bool) (B : Type 0) → (B → b ≡ true) → b ≡ false → B → ⊥

@@ -1,11 +1,6 @@
 -- Which terminals a part of the grammar begins with, by the classes of lexemes.
-use Rattle.std.proofs.Common.{◌≡◌, ◌&&◌, ◌||◌, not, false, codes, bytes_eq, refl}
-use Rattle.kahn_syntax.specs.declared.lexeme.Keyword.{Keyword}
-use Rattle.kahn_syntax.specs.declared.lexeme.Sign.{Sign}
+use Rattle.kahn_wanted.proofs.Common.{Keyword, Sign, Terminal, a_name, a_number, a_sign, a_word, accepts, bytes_eq, bytes_of_sign, codes, either, false, letters_of, not, refl, sign_terminal, word, ◌&&◌, ◌||◌, ◌≡◌}
 use Rattle.kahn_syntax.specs.declared.lexeme.Sign.TheVariants as mark
-use Rattle.kahn_syntax.specs.Grammar.{Terminal, word}
-use Rattle.kahn_syntax.specs.Texts.{bytes_of_sign, letters_of, sign_terminal}
-use Rattle.kahn_syntax.specs.inner.Machine.{a_name, a_number, a_sign, a_word, accepts, either}
 
 pub word_or_sign : (w : Keyword) (s : Sign) → (bytes_eq (bytes_of_sign mark.Not) (bytes_of_sign s) && bytes_eq (letters_of w) (codes "not")) ≡ accepts (a_word w) (sign_terminal s)
 word_or_sign w mark.Not = refl

@@ -1,9 +1,7 @@
-mod Alike
-mod Beside
+mod Common
 mod Classes
 mod Front
 mod Gaps
 pub mod Leading
 mod Opened
-pub mod Suspects
 mod Walking

@@ -1,12 +1,7 @@
 -- One lexeme more, and which blocks are open then.
-use Rattle.std.proofs.Common.{◌≡◌, ◌≤◌, ◌<◌, ◌-◌, ◌+◌, ◌∙◌, ℕ, zero, suc, List, [], ◌∷◌, ◌++◌, append-nil, append_assoc, ap, arith, drop, get_or, length, length-append, length-take, refl, sym, take}
-use Rattle.std.proofs.lemmas.List.{at_drop_all, at_drop_more, take_all}
-use Rattle.kahn_syntax.specs.declared.lexeme.Class.{Class}
+use Rattle.kahn_wanted.proofs.Common.{Class, Lexeme, List, [], ap, append-nil, append_assoc, arith, at_drop_all, at_drop_more, block_of, blocks_after, closed_from, closed_in, drop, get_or, length, length-append, length-take, open_blocks, open_on, refl, suc, sym, take, take_all, zero, ℕ, ◌++◌, ◌+◌, ◌-◌, ◌<◌, ◌∙◌, ◌∷◌, ◌≡◌, ◌≤◌}
 use Rattle.kahn_syntax.specs.declared.lexeme.Class.TheVariants as class
 use Rattle.kahn_syntax.specs.declared.lexeme.Keyword.TheVariants as word
-use Rattle.kahn_syntax.specs.declared.lexeme.Lexeme.{Lexeme}
-use Rattle.kahn_wanted.specs.Blocks.{block_of, closed_from, closed_in, open_blocks}
-use Rattle.kahn_wanted.specs.inner.Open.{blocks_after, open_on}
 
 -- the front of a longer list, and of a shorter one
 of_longer : (bs more : List Lexeme) (n : ℕ) → n ≤ length bs → take n (bs ++ more) ≡ take n bs

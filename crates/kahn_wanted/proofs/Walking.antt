@@ -1,17 +1,7 @@
 -- What is open behind terminals tells whether one more may stand there.
-use Rattle.std.proofs.Common.{◌≡◌, ◌∙◌, ℕ, ◌+◌, ◌≤◌, List, [], ◌∷◌, ◌++◌, Bool, true, false, Option, Some, None, append-nil, append_assoc, arith, cond, length, max, refl, subst, sym, ap, ⊎_elim}
-use Rattle.std.specs.Prelude.{is_some}
+use Rattle.kahn_wanted.proofs.Common.{AllMayCome, Awaited, Begins, Bool, Class, Fits, Lexeme, List, May, MayPass, None, OneMayCome, Option, Part, ProgramPart, Some, Span, Spells, StandsFirst, Terminal, Whole, [], ap, append-nil, append_assoc, arith, at_drop_more, awaited_part, awaited_parts, cond, drop, enters, false, fate, fits_some, further, get_or, go, go_far, go_none, is_some, le_or, left_open, length, levels, max, may_end, nesting, opened_by, pos, program, refl, rules_of, sign, slice_range, step, subst, sym, terminal, terminal_with, terminals, true, walked, whole_far, whole_program, whole_refuses, ℕ, ℤ, ⊎_elim, ◌++◌, ◌+◌, ◌<◌, ◌∙◌, ◌∷◌, ◌≡◌, ◌≤◌}
+use Rattle.kahn_syntax.specs.declared.lexeme.Class.TheVariants as class
 use Rattle.kahn_syntax.specs.declared.lexeme.Sign.TheVariants as mark
-use Rattle.kahn_syntax.specs.Grammar.{Terminal, Spells, May, StandsFirst, nesting, program, sign}
-use Rattle.kahn_syntax.specs.Texts.{Begins}
-use Rattle.kahn_syntax.specs.inner.Machine.{Part, ProgramPart, Whole, enters, fate, levels, may_end, opened_by, rules_of, step}
-use Rattle.kahn_syntax.proofs.Reached.{go_far, go_none, le_or, whole_far, whole_refuses}
-use Rattle.kahn_syntax.proofs.Steps.{go}
-use Rattle.kahn_syntax.proofs.Viable.{Fits, fits_some, further}
-use Rattle.kahn_syntax.proofs.WholePrograms.{whole_program}
-use Rattle.kahn_wanted.specs.declared.awaited.Awaited.{Awaited}
-use Rattle.kahn_wanted.specs.inner.Asked.{AnswersBegin}
-use Rattle.kahn_wanted.specs.inner.Walk.{left_open, awaited_part, awaited_parts, walked}
 
 -- ---- a stack that is written from its bottom
 
@@ -99,9 +89,30 @@ pub stands : (ks : List Terminal) (k : Terminal) → Begins (ks ++ k ∷ []) →
 stands ks k (t, after, h) =
     goes_on (nesting t) ks after k (ProgramPart ∷ []) (whole_program (nesting t) t (ks ++ k ∷ after) (omega arith) (subst (Spells t) (append_assoc ks (k ∷ []) after) h))
 
-pub answers : (ks : List Terminal) (k : Terminal) (s : List Part) (may : Bool) → walked (ProgramPart ∷ []) ks ≡ s → is_some (step s k) ≡ may → AnswersBegin (ks ++ k ∷ []) may
-answers ks k s true e f = begins ks k (ap (λ l. is_some (step l k)) e ∙ f)
-answers ks k s false e f = λ h. true_false (is_some (step s k)) (ap (λ l. is_some (step l k)) (sym e) ∙ stands ks k h) f
-  where
-    true_false : (b : Bool) → b ≡ true → b ≡ false → ⊥
-    true_false b h i = cc
+true_false : (b : Bool) → b ≡ true → b ≡ false → ⊥
+true_false b h i = cc
+
+-- so does a class of lexemes, by what is open
+module _ (ks : List Terminal) (s : List Awaited) (c : Class) (may : Bool) (e : walked (ProgramPart ∷ []) ks ≡ awaited_parts s) (f : MayPass s c may) where
+  steps : (n : List ℕ) (z : ℤ) → is_some (step (walked (ProgramPart ∷ []) ks) (terminal_with n z c)) ≡ may
+  steps n z = ap (λ l. is_some (step l (terminal_with n z c))) e ∙ f n z
+
+  pub may_come : may ≡ true → AllMayCome ks c
+  may_come is n z = begins ks (terminal_with n z c) (steps n z ∙ is)
+
+  pub none_comes : may ≡ false → OneMayCome ks c → ⊥
+  none_comes is (n, z, h) = true_false _ (stands ks (terminal_with n z c) h) (steps n z ∙ is)
+
+-- what is open behind a lexeme
+at_lexeme : (text : List ℕ) (c : Class) (at : Span) (s t : List Part) → ((n : List ℕ) (z : ℤ) → left_open (step s (terminal_with n z c)) ≡ t) → left_open (step s (terminal text c at)) ≡ t
+at_lexeme text (class.Word w) at s t h = h [] (pos 0)
+at_lexeme text (class.Sign x) at s t h = h [] (pos 0)
+at_lexeme text class.Name at s t h = h (slice_range text at.from at.to) (pos 0)
+at_lexeme text (class.Number z) at s t h = h [] z
+
+pub one_on : (text : List ℕ) (xs : List Lexeme) (i : ℕ) (d : Lexeme) (old new all : List Part) → i < length xs
+    → ((n : List ℕ) (z : ℤ) → left_open (step old (terminal_with n z (get_or xs i d).what)) ≡ new) → walked old (terminals text (drop i xs)) ≡ all
+    → walked new (terminals text (drop (i + 1) xs)) ≡ all
+one_on text xs i d old new all below goes so_far =
+    let x = get_or xs i d in
+    ap (λ s. walked s (terminals text (drop (i + 1) xs))) (sym (at_lexeme text x.what x.span old new goes)) ∙ sym (at_drop_more (λ l. walked old (terminals text l)) xs i d below) ∙ so_far

@@ -1,9 +1,8 @@
 -- Believed. Which blocks are open behind lexemes.
 use Rattle.std.specs.Prelude.{◌-◌, ℕ, zero, suc, ◌&&◌, List, [], ◌∷◌, ◌++◌, if◌then◌else◌, length, nat_le, slice_range}
-use Rattle.kahn_syntax.specs.declared.lexeme.Class.{Class}
+use Rattle.kahn_syntax.specs.declared.lexeme.{Class.Class, Lexeme.Lexeme}
 use Rattle.kahn_syntax.specs.declared.lexeme.Class.TheVariants as class
 use Rattle.kahn_syntax.specs.declared.lexeme.Keyword.TheVariants as word
-use Rattle.kahn_syntax.specs.declared.lexeme.Lexeme.{Lexeme}
 
 -- how many of the blocks that are open before lexemes are closed in these: an `end` closes the last one that is open
 abbrev pub closed_from : Class → ℕ → ℕ

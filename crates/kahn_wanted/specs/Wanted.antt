@@ -1,22 +1,16 @@
 -- Believed. Which lexemes may stand at a place of a text.
 use Rattle.std.specs.Prelude.{◌≡◌, ◌↔◌, ℕ, List, [], ◌∷◌, ◌++◌, pos, Some, None, Contains, flat_map, length, slice_get}
 use Rattle.kahn_streams.specs.declared.span.Span.{Span}
-use Rattle.kahn_syntax.specs.declared.lexeme.Class.{Class}
-use Rattle.kahn_syntax.specs.declared.lexeme.Class.TheVariants as class
-use Rattle.kahn_syntax.specs.declared.lexeme.Keyword.{Keyword}
-use Rattle.kahn_syntax.specs.declared.lexeme.Keyword.TheVariants as word
-use Rattle.kahn_syntax.specs.declared.lexeme.Sign.{Sign}
-use Rattle.kahn_syntax.specs.declared.lexeme.Sign.TheVariants as sign
-use Rattle.kahn_syntax.specs.declared.lexeme.Lexeme.{Lexeme}
-use Rattle.kahn_syntax.specs.declared.fault.What.{What}
+use Rattle.kahn_syntax.specs.declared.{lexeme.Class.Class, lexeme.Keyword.Keyword, lexeme.Sign.Sign, lexeme.Lexeme.Lexeme, fault.What.What}
 use Rattle.kahn_syntax.specs.declared.fault.What.TheVariants.{More}
+use Rattle.kahn_syntax.specs.declared.lexeme.Class.TheVariants as class
+use Rattle.kahn_syntax.specs.declared.lexeme.Keyword.TheVariants as word
+use Rattle.kahn_syntax.specs.declared.lexeme.Sign.TheVariants as sign
 use Rattle.kahn_syntax.specs.Grammar as grammar
 use Rattle.kahn_syntax.specs.Grammar.{Terminal}
 use Rattle.kahn_syntax.specs.Texts.{terminal, terminals, AreLexemes, Begins}
-use Rattle.kahn_wanted.specs.declared.groups.LexemeGroup.{LexemeGroup}
+use Rattle.kahn_wanted.specs.declared.{groups.LexemeGroup.LexemeGroup, groups.Wanted.Wanted, found.Unexpected.Unexpected}
 use Rattle.kahn_wanted.specs.declared.groups.LexemeGroup.TheVariants as group
-use Rattle.kahn_wanted.specs.declared.groups.Wanted.{Wanted}
-use Rattle.kahn_wanted.specs.declared.found.Unexpected.{Unexpected}
 
 -- with this one behind them the terminals begin a program
 abbrev pub MayFollow : List Terminal → Terminal → Type 0

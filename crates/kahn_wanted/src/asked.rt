@@ -1,6 +1,7 @@
 //! Which classes of lexemes may stand behind lexemes: these are read once, and each class is tried on what is open then.
 
-ghost use Rattle.std.specs.Prelude.{◌≡◌, List, ℕ, IfOk};
+ghost use Rattle.std.specs.Prelude.{List, ℕ, IfOk};
+ghost use Rattle.kahn_syntax.specs.Texts.{terminals};
 ghost use Rattle.kahn_wanted.specs.inner.Asked.{AreOf};
 
 use crate::walk::{awaited_behind, may_pass};
@@ -61,7 +62,7 @@ pub(crate) fn coming(
     before: &[Lexeme],
     some: &[Class],
 ) -> Result<Vec<Class>, AllocError>
-    ensures { IfOk result (λ ws. (text : List ℕ) → AreOf text before.now some.now ws.items) }
+    ensures { IfOk result (λ ws. (text : List ℕ) → AreOf (terminals text before.now) some.now ws.items) }
 {
     let stack = awaited_behind(alloc, before)?;
     let mut wanted = Vec::new(alloc);

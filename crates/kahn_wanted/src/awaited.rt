@@ -52,25 +52,7 @@ pub(crate) enum Awaited {
     /// The end of a level of nesting: nothing.
     Level,
     /// A single lexeme.
-    Just(Single),
-}
-
-/// A lexeme that has to stand there.
-#[derive(Clone, Copy)]
-pub(crate) enum Single {
-    Name,
-    Number,
-    Open,
-    Close,
-    Semicolon,
-    Becomes,
-    Begin,
-    End,
-    Channel,
-    On,
-    Then,
-    Do,
-    Else,
+    Just(Lead),
 }
 
 /// What a part begins with.
@@ -88,3 +70,6 @@ pub(crate) enum Lead {
 
 /// A lexeme with which a part begins, and what is open behind it, the first part last.
 pub(crate) type LeadRule = (Lead, &'static [Awaited]);
+
+/// What a part begins with: by rules, or a single lexeme.
+pub(crate) type Leads = Result<&'static [LeadRule], Lead>;

@@ -1,8 +1,8 @@
 //! The grammar, as tables: what a part of a program begins with, and which parts are open behind that.
 
-ghost use Rattle.std.specs.Prelude.{◌≡◌, [], ◌∷◌};
+ghost use Rattle.std.specs.Prelude.{◌≡◌};
 ghost use Rattle.kahn_syntax.specs.inner.Machine.{rules_of};
-ghost use Rattle.kahn_wanted.specs.inner.Walk.{awaited_part, rules_as, single_token};
+ghost use Rattle.kahn_wanted.specs.inner.Walk.{awaited_part, rules_by};
 
 use crate::awaited::Awaited::{
     Ands, Argument, Arguments, Comparison, Conjunction, Declarations, Denial, Direction,
@@ -11,8 +11,7 @@ use crate::awaited::Awaited::{
     Simple, Statement, Sum, Term, Variables,
 };
 use crate::awaited::Lead::{Either, Word};
-use crate::awaited::Single::{Becomes, Begin, Channel, Do, Else, End, Number, On, Semicolon, Then};
-use crate::awaited::{Awaited, Lead, LeadRule, Single};
+use crate::awaited::{Awaited, Lead, LeadRule, Leads};
 use kahn_syntax::{Keyword, Operator, Sign};
 
 /// What several parts begin with.
@@ -27,40 +26,53 @@ const MINUS: Lead = Lead::Sign(Sign::Minus);
 const LEFT: Lead = Lead::Sign(Sign::Open);
 
 /// Single lexemes.
-const NAME: Awaited = Just(Single::Name);
+const NAME: Awaited = Just(Lead::Name);
 
-const OPEN: Awaited = Just(Single::Open);
+const NUMBER: Awaited = Just(Lead::Number);
 
-const CLOSE: Awaited = Just(Single::Close);
+const OPEN: Awaited = Just(Lead::Sign(Sign::Open));
+
+const CLOSE: Awaited = Just(Lead::Sign(Sign::Close));
+
+const SEMICOLON: Awaited = Just(Lead::Sign(Sign::Semicolon));
+
+const BECOMES: Awaited = Just(Lead::Sign(Sign::Becomes));
+
+const BEGIN: Awaited = Just(Word(Keyword::Begin));
+
+const END: Awaited = Just(Word(Keyword::End));
+
+const CHANNEL: Awaited = Just(Word(Keyword::Channel));
+
+const ON: Awaited = Just(Word(Keyword::On));
+
+const THEN: Awaited = Just(Word(Keyword::Then));
+
+const DO: Awaited = Just(Word(Keyword::Do));
+
+const ELSE: Awaited = Just(Word(Keyword::Else));
 
 static PROGRAM: [LeadRule; 1] = [(
     Word(Keyword::Begin),
-    &[Last, Just(End), Last, MoreInstances, Instance, Declarations],
+    &[Last, END, Last, MoreInstances, Instance, Declarations],
 )];
 
 static DECLARATIONS: [LeadRule; 2] = [
     (
         KIND,
-        &[
-            Declarations,
-            Just(Semicolon),
-            MoreNames,
-            NAME,
-            Just(Channel),
-            Role,
-        ],
+        &[Declarations, SEMICOLON, MoreNames, NAME, CHANNEL, Role],
     ),
     (
         Word(Keyword::Process),
         &[
             Declarations,
-            Just(Semicolon),
-            Just(End),
+            SEMICOLON,
+            END,
             MoreStatements,
             Statement,
             Variables,
-            Just(Begin),
-            Just(Semicolon),
+            BEGIN,
+            SEMICOLON,
             CLOSE,
             Groups,
             OPEN,
@@ -77,38 +89,28 @@ static GROUP: [LeadRule; 1] = [(KIND, &[MoreNames, NAME, Direction])];
 
 static DIRECTION: [LeadRule; 1] = [(Either(Keyword::In, Keyword::Out), &[])];
 
-static VARIABLES: [LeadRule; 1] = [(KIND, &[Variables, Just(Semicolon), MoreNames, NAME])];
+static VARIABLES: [LeadRule; 1] = [(KIND, &[Variables, SEMICOLON, MoreNames, NAME])];
 
 static STATEMENT: [LeadRule; 7] = [
     (
         Word(Keyword::If),
-        &[Level, Otherwise, Simple, Just(Then), Expression],
+        &[Level, Otherwise, Simple, THEN, Expression],
     ),
-    (
-        Word(Keyword::While),
-        &[Level, Statement, Just(Do), Expression],
-    ),
+    (Word(Keyword::While), &[Level, Statement, DO, Expression]),
     (Word(Keyword::Repeat), &[Level, Statement]),
-    (Lead::Name, &[Expression, Just(Becomes)]),
-    (Word(Keyword::Send), &[NAME, Just(On), Expression]),
+    (Lead::Name, &[Expression, BECOMES]),
+    (Word(Keyword::Send), &[NAME, ON, Expression]),
     (Word(Keyword::Print), &[Expression]),
     (
         Word(Keyword::Begin),
-        &[Level, Just(End), MoreStatements, Statement],
+        &[Level, END, MoreStatements, Statement],
     ),
 ];
 
 static EXPRESSION: [LeadRule; 8] = [
     (
         Word(Keyword::If),
-        &[
-            Level,
-            Expression,
-            Just(Else),
-            Expression,
-            Just(Then),
-            Expression,
-        ],
+        &[Level, Expression, ELSE, Expression, THEN, Expression],
     ),
     (Word(Keyword::Not), &[Ors, Ands, Level, Denial]),
     (Lead::Number, &[Ors, Ands, Comparison, Signs, Products]),
@@ -203,14 +205,14 @@ static ARGUMENTS: [LeadRule; 5] = [
     (Lead::Name, &[CLOSE, MoreArguments]),
     (Lead::Number, &[CLOSE, MoreArguments]),
     (TRUTH, &[CLOSE, MoreArguments]),
-    (MINUS, &[CLOSE, MoreArguments, Just(Number)]),
+    (MINUS, &[CLOSE, MoreArguments, NUMBER]),
 ];
 
 static ARGUMENT: [LeadRule; 4] = [
     (Lead::Name, &[]),
     (Lead::Number, &[]),
     (TRUTH, &[]),
-    (MINUS, &[Just(Number)]),
+    (MINUS, &[NUMBER]),
 ];
 
 static MORE_NAMES: [LeadRule; 1] = [(Lead::Sign(Sign::Comma), &[MoreNames, NAME])];
@@ -232,97 +234,43 @@ static LAST: [LeadRule; 1] = [(Lead::Sign(Sign::Semicolon), &[])];
 
 static LEVEL: [LeadRule; 0] = [];
 
-/// Single lexemes, in their order.
-static SINGLES: [LeadRule; 13] = [
-    (Lead::Name, &[]),
-    (Lead::Number, &[]),
-    (Lead::Sign(Sign::Open), &[]),
-    (Lead::Sign(Sign::Close), &[]),
-    (Lead::Sign(Sign::Semicolon), &[]),
-    (Lead::Sign(Sign::Becomes), &[]),
-    (Word(Keyword::Begin), &[]),
-    (Word(Keyword::End), &[]),
-    (Word(Keyword::Channel), &[]),
-    (Word(Keyword::On), &[]),
-    (Word(Keyword::Then), &[]),
-    (Word(Keyword::Do), &[]),
-    (Word(Keyword::Else), &[]),
-];
-
-/// What a single lexeme begins with: itself.
-fn single_rules(single: Single) -> &'static [LeadRule]
-    ensures { rules_as result.now ≡ (single_token single, []) ∷ [] }
-{
-    match single {
-        Single::Name => &SINGLES[..1],
-        Single::Number => &SINGLES[1..2],
-        Single::Open => &SINGLES[2..3],
-        Single::Close => &SINGLES[3..4],
-        Single::Semicolon => &SINGLES[4..5],
-        Single::Becomes => &SINGLES[5..6],
-        Single::Begin => &SINGLES[6..7],
-        Single::End => &SINGLES[7..8],
-        Single::Channel => &SINGLES[8..9],
-        Single::On => &SINGLES[9..10],
-        Single::Then => &SINGLES[10..11],
-        Single::Do => &SINGLES[11..12],
-        Single::Else => &SINGLES[12..13],
-    }
-}
-
-/// What a part begins with.
-pub(crate) fn rules(part: Awaited) -> &'static [LeadRule]
-    ensures { rules_as result.now ≡ (rules_of (awaited_part part)).1 }
+/// Whether a part may be left out, and what it begins with.
+pub(crate) fn rules(part: Awaited) -> (bool, Leads)
+    ensures optional { result.0 ≡ (rules_of (awaited_part part)).0 }
+    ensures leads { rules_by result.1 ≡ (rules_of (awaited_part part)).1 }
 {
     match part {
-        Awaited::Program => &PROGRAM,
-        Awaited::Declarations => &DECLARATIONS,
-        Awaited::Role => &ROLE,
-        Awaited::Groups => &GROUPS,
-        Awaited::Group => &GROUP,
-        Awaited::Direction => &DIRECTION,
-        Awaited::Variables => &VARIABLES,
-        Awaited::Statement => &STATEMENT,
-        Awaited::Simple => &STATEMENT[3..],
-        Awaited::Expression => &EXPRESSION,
-        Awaited::Conjunction => &CONJUNCTION,
-        Awaited::Denial => &DENIAL,
-        Awaited::Sum => &SUM,
-        Awaited::Term => &TERM,
-        Awaited::Factor => &FACTOR,
-        Awaited::Ors => &ORS,
-        Awaited::Ands => &ANDS,
-        Awaited::Comparison => &COMPARISON,
-        Awaited::Signs => &SIGNS,
-        Awaited::Products => &PRODUCTS,
-        Awaited::Instance => &INSTANCE,
-        Awaited::Arguments => &ARGUMENTS,
-        Awaited::Argument => &ARGUMENT,
-        Awaited::MoreNames => &MORE_NAMES,
-        Awaited::MoreStatements => &MORE_STATEMENTS,
-        Awaited::MoreGroups => &MORE_GROUPS,
-        Awaited::MoreArguments => &MORE_ARGUMENTS,
-        Awaited::MoreInstances => &MORE_INSTANCES,
-        Awaited::Otherwise => &OTHERWISE,
-        Awaited::Last => &LAST,
-        Awaited::Level => &LEVEL,
-        Awaited::Just(single) => single_rules(single),
-    }
-}
-
-/// Whether a part may be left out.
-pub(crate) fn is_optional(part: Awaited) -> bool
-    ensures { result ≡ (rules_of (awaited_part part)).0 }
-{
-    match part {
-        Awaited::Declarations | Awaited::Role | Awaited::Groups | Awaited::Direction => true,
-        Awaited::Variables | Awaited::Statement | Awaited::Simple | Awaited::Level => true,
-        Awaited::Ors | Awaited::Ands | Awaited::Comparison | Awaited::Signs => true,
-        Awaited::Products | Awaited::MoreNames | Awaited::MoreStatements => true,
-        Awaited::MoreGroups | Awaited::MoreArguments | Awaited::MoreInstances => true,
-        Awaited::Otherwise | Awaited::Last => true,
-        Awaited::Program | Awaited::Group | Awaited::Expression | Awaited::Conjunction => false,
-        Awaited::Denial | Awaited::Sum | Awaited::Term | Awaited::Factor => false,
-        Awaited::Instance | Awaited::Arguments | Awaited::Argument | Awaited::Just(_) => false,
+        Awaited::Program => (false, Ok(&PROGRAM)),
+        Awaited::Declarations => (true, Ok(&DECLARATIONS)),
+        Awaited::Role => (true, Ok(&ROLE)),
+        Awaited::Groups => (true, Ok(&GROUPS)),
+        Awaited::Group => (false, Ok(&GROUP)),
+        Awaited::Direction => (true, Ok(&DIRECTION)),
+        Awaited::Variables => (true, Ok(&VARIABLES)),
+        Awaited::Statement => (true, Ok(&STATEMENT)),
+        Awaited::Simple => (true, Ok(&STATEMENT[3..])),
+        Awaited::Expression => (false, Ok(&EXPRESSION)),
+        Awaited::Conjunction => (false, Ok(&CONJUNCTION)),
+        Awaited::Denial => (false, Ok(&DENIAL)),
+        Awaited::Sum => (false, Ok(&SUM)),
+        Awaited::Term => (false, Ok(&TERM)),
+        Awaited::Factor => (false, Ok(&FACTOR)),
+        Awaited::Ors => (true, Ok(&ORS)),
+        Awaited::Ands => (true, Ok(&ANDS)),
+        Awaited::Comparison => (true, Ok(&COMPARISON)),
+        Awaited::Signs => (true, Ok(&SIGNS)),
+        Awaited::Products => (true, Ok(&PRODUCTS)),
+        Awaited::Instance => (false, Ok(&INSTANCE)),
+        Awaited::Arguments => (false, Ok(&ARGUMENTS)),
+        Awaited::Argument => (false, Ok(&ARGUMENT)),
+        Awaited::MoreNames => (true, Ok(&MORE_NAMES)),
+        Awaited::MoreStatements => (true, Ok(&MORE_STATEMENTS)),
+        Awaited::MoreGroups => (true, Ok(&MORE_GROUPS)),
+        Awaited::MoreArguments => (true, Ok(&MORE_ARGUMENTS)),
+        Awaited::MoreInstances => (true, Ok(&MORE_INSTANCES)),
+        Awaited::Otherwise => (true, Ok(&OTHERWISE)),
+        Awaited::Last => (true, Ok(&LAST)),
+        Awaited::Level => (true, Ok(&LEVEL)),
+        Awaited::Just(lead) => (false, Err(lead)),
     }
 }

@@ -1,14 +1,13 @@
 //! Which lexemes a part of the grammar begins with.
 
-ghost use Rattle.std.specs.Prelude.{◌≡◌, List, ℕ, option_map};
+ghost use Rattle.std.specs.Prelude.{◌≡◌, List, ℕ, ℤ, option_map};
 ghost use Rattle.std.proofs.Common.{bytes_eq};
-ghost use Rattle.kahn_streams.specs.declared.span.Span.{Span};
 ghost use Rattle.kahn_syntax.specs.Grammar.{rank, word as word_terminal};
-ghost use Rattle.kahn_syntax.specs.Texts.{bytes_of_sign, letters_of, sign_terminal, terminal};
+ghost use Rattle.kahn_syntax.specs.Texts.{bytes_of_sign, letters_of, sign_terminal};
 ghost use Rattle.kahn_syntax.specs.inner.Machine.{a_name, a_number, a_sign, a_word, accepts, an_operator, enters, operator_of, rank_or};
-ghost use Rattle.kahn_wanted.specs.inner.Walk.{lead_of, awaited_parts, rules_as};
+ghost use Rattle.kahn_wanted.specs.inner.Walk.{lead_of, awaited_parts, rules_as, rules_by, terminal_with};
 
-use crate::awaited::{Awaited, Lead, LeadRule};
+use crate::awaited::{Awaited, Lead, LeadRule, Leads};
 use kahn_syntax::{Class, Keyword, Operator, Sign};
 
 /// Whether two keywords are the same.
@@ -51,7 +50,7 @@ fn same_sign(first: Sign, second: Sign) -> bool
 /// Whether a lexeme is this keyword.
 #[tactic(auto, using(crate::proofs::Leading::word_or_sign))]
 fn is_word(word: Keyword, class: Class) -> bool
-    ensures { (text : List ℕ) (at : Span) → result ≡ accepts (a_word word) (terminal text class at) }
+    ensures { (n : List ℕ) (z : ℤ) → result ≡ accepts (a_word word) (terminal_with n z class) }
 {
     match class {
         Class::Word(found) => same_word(word, found),
@@ -63,7 +62,7 @@ fn is_word(word: Keyword, class: Class) -> bool
 /// Whether it is this sign.
 #[tactic(auto, using(crate::proofs::Leading::sign_or_word))]
 fn is_sign(sign: Sign, class: Class) -> bool
-    ensures { (text : List ℕ) (at : Span) → result ≡ accepts (a_sign sign) (terminal text class at) }
+    ensures { (n : List ℕ) (z : ℤ) → result ≡ accepts (a_sign sign) (terminal_with n z class) }
 {
     match class {
         Class::Word(_) => false,
@@ -75,7 +74,7 @@ fn is_sign(sign: Sign, class: Class) -> bool
 /// Whether it is a number.
 #[tactic(auto, using(crate::proofs::Leading::no_number))]
 fn is_number(class: Class) -> bool
-    ensures { (text : List ℕ) (at : Span) → result ≡ accepts a_number (terminal text class at) }
+    ensures { (n : List ℕ) (z : ℤ) → result ≡ accepts a_number (terminal_with n z class) }
 {
     match class {
         Class::Word(_) => false,
@@ -88,7 +87,7 @@ fn is_number(class: Class) -> bool
 /// Whether it is a name.
 #[tactic(auto, using(crate::proofs::Leading::no_name))]
 fn is_name(class: Class) -> bool
-    ensures { (text : List ℕ) (at : Span) → result ≡ accepts a_name (terminal text class at) }
+    ensures { (n : List ℕ) (z : ℤ) → result ≡ accepts a_name (terminal_with n z class) }
 {
     match class {
         Class::Word(_) => false,
@@ -143,7 +142,7 @@ fn sign_rank(sign: Sign) -> u8
 
 /// That of a lexeme, and 0 where it is no operator.
 fn rank_of(class: Class) -> u8
-    ensures { (text : List ℕ) (at : Span) → result ≡ rank_or (operator_of (terminal text class at)) }
+    ensures { (n : List ℕ) (z : ℤ) → result ≡ rank_or (operator_of (terminal_with n z class)) }
 {
     match class {
         Class::Word(word) => word_rank(word),
@@ -154,7 +153,7 @@ fn rank_of(class: Class) -> u8
 
 /// Whether it is an operator of the level of this one.
 fn is_operator(operator: Operator, class: Class) -> bool
-    ensures { (text : List ℕ) (at : Span) → result ≡ accepts (an_operator operator) (terminal text class at) }
+    ensures { (n : List ℕ) (z : ℤ) → result ≡ accepts (an_operator operator) (terminal_with n z class) }
 {
     rank_of(class) == rank(operator)
 }
@@ -162,7 +161,7 @@ fn is_operator(operator: Operator, class: Class) -> bool
 /// Whether a lexeme is one with which a part begins.
 #[tactic(auto, using(crate::proofs::Leading::one_of_two))]
 fn accepts(lead: Lead, class: Class) -> bool
-    ensures { (text : List ℕ) (at : Span) → result ≡ accepts (lead_of lead) (terminal text class at) }
+    ensures { (n : List ℕ) (z : ℤ) → result ≡ accepts (lead_of lead) (terminal_with n z class) }
 {
     match lead {
         Lead::Word(word) => is_word(word, class),
@@ -175,8 +174,8 @@ fn accepts(lead: Lead, class: Class) -> bool
 }
 
 /// What is open behind a lexeme, by the first rule that has it.
-pub(crate) fn entered(rules: &'static [LeadRule], class: Class) -> Option<&'static [Awaited]>
-    ensures { (text : List ℕ) (at : Span) → option_map (λ ps. awaited_parts ps.now) result ≡ enters (rules_as rules.now) (terminal text class at) }
+fn by_rules(rules: &'static [LeadRule], class: Class) -> Option<&'static [Awaited]>
+    ensures { (n : List ℕ) (z : ℤ) → option_map (λ ps. awaited_parts ps.now) result ≡ enters (rules_as rules.now) (terminal_with n z class) }
 {
     for rule in rules {
         if accepts(rule.0, class) {
@@ -184,4 +183,15 @@ pub(crate) fn entered(rules: &'static [LeadRule], class: Class) -> Option<&'stat
         }
     }
     None
+}
+
+/// What is open behind a lexeme, where a part begins with it.
+pub(crate) fn entered(leads: Leads, class: Class) -> Option<&'static [Awaited]>
+    ensures { (n : List ℕ) (z : ℤ) → option_map (λ ps. awaited_parts ps.now) result ≡ enters (rules_by leads.entry) (terminal_with n z class) }
+{
+    match leads {
+        Ok(rules) => by_rules(rules, class),
+        Err(lead) if accepts(lead, class) => Some(&[]),
+        Err(_) => None,
+    }
 }

@@ -2,7 +2,7 @@
 
 use crate::asked::CLASSES;
 use crate::awaited::Awaited;
-use crate::grammar::is_optional;
+use crate::grammar::rules;
 use crate::walk::{awaited_behind, pass};
 use kahn_syntax::{Class, Lexeme};
 use std::alloc::{AllocError, Global};
@@ -45,7 +45,7 @@ fn going(stack: &mut Vec<Awaited>, lexemes: &[Lexeme]) -> Result<(usize, bool), 
             return Ok((number, false));
         }
     }
-    let whole = stack.iter().all(|part| is_optional(*part));
+    let whole = stack.iter().all(|part| rules(*part).0);
     Ok((lexemes.len(), whole))
 }
 

@@ -6,7 +6,7 @@ ghost use Rattle.kahn_syntax.specs.inner.Machine.{ProgramPart};
 ghost use Rattle.kahn_wanted.specs.inner.Walk.{MayPass, Passes, awaited_parts, walked};
 
 use crate::awaited::Awaited;
-use crate::grammar::{is_optional, rules};
+use crate::grammar::rules;
 use crate::leads::entered;
 use kahn_syntax::{Class, Lexeme};
 use std::alloc::{AllocError, Global};
@@ -17,11 +17,12 @@ pub(crate) fn pass(stack: &mut Vec<Awaited>, class: Class) -> Result<bool, Alloc
     ensures { IfOk result (Passes stack.old.items class stack.new.items) }
 {
     'parts: while let Some(part) = stack.pop() {
-        if let Some(parts) = entered(rules(part), class) {
+        let (optional, leads) = rules(part);
+        if let Some(parts) = entered(leads, class) {
             stack.extend_from_slice(parts)?;
             return Ok(true);
         }
-        if !is_optional(part) {
+        if !optional {
             stack.clear();
             return Ok(false);
         }

@@ -1,17 +1,5 @@
 -- The operands of a level and the statements of a block, one after another, with what the constants tell.
-use Rattle.std.proofs.Common.{◌≡◌, ◌++◌, List, [], ◌∷◌, Option, refl, ap, flat_map}
-use Rattle.kahn_streams.specs.Syntax.{Expr}
-use Rattle.kahn_streams.specs.View.{Scope, expr_of, expression_of, level_of}
-use Rattle.kahn_streams.specs.declared.tree.Form.{Row_of-Operand, end_of-Operand, more_of-Operand}
-use Rattle.kahn_streams.specs.declared.tree.Operand.{Operand}
-use Rattle.kahn_streams.specs.declared.tree.Action.{Row_of-Statement, end_of-Statement, more_of-Statement}
-use Rattle.kahn_streams.specs.declared.tree.Statement.{Statement}
-use Rattle.kahn_streams.specs.declared.value.Value.{Value}
-use Rattle.kahn_streams.specs.declared.tree.Form.TheBlock.{items-the_row-Operand}
-use Rattle.kahn_streams.specs.declared.tree.Action.TheBlock.{items-the_row-Statement}
-use Rattle.kahn_warnings.specs.Constants.{combined, constant_of}
-use Rattle.kahn_warnings.specs.Sites.{action_sites, form_sites, level_sites, row_sites, site_at}
-use Rattle.kahn_warnings.specs.declared.sites.ConstantSite.{ConstantSite}
+use Rattle.kahn_warnings.proofs.Common.{ConstantSite, Expr, List, Operand, Option, Row_of-Operand, Row_of-Statement, Scope, Statement, Value, [], action_sites, ap, combined, constant_of, end_of-Operand, end_of-Statement, expr_of, expression_of, flat_map, form_sites, items-the_row-Operand, items-the_row-Statement, level_of, level_sites, more_of-Operand, more_of-Statement, refl, row_sites, site_at, ◌++◌, ◌∷◌, ◌≡◌}
 use Rattle.kahn_warnings.specs.declared.sites.SiteKind.TheVariants.{Binary}
 
 abbrev pub level_constant : Scope → Option Value → List Operand → Option Value

@@ -1,24 +1,10 @@
 -- What a set of names got, one part of a body after another.
-use Rattle.std.proofs.Common.{◌≡◌, ◌∙◌, ◌||◌, ◌++◌, ℕ, Bool, true, false, cond, if◌then◌else◌, is_some, nat_eq, List, [], ◌∷◌, Option, None, Some, arith, bytes_eq, flat_map, refl, ap, sym}
-use Rattle.std.proofs.lemmas.Grind.{common_steps}
-use Rattle.std.specs.Cmp.Lexicographic.{nat_list_eq_equiv}
-use Rattle.std.specs.Map.{lookup}
-use Rattle.std.specs.Option.{option_or}
-use Rattle.kahn_check.proofs.Alike.{alike_kept, lookup_append}
-use Rattle.kahn_check.specs.inner.Firsts.{kept_first}
-use Rattle.kahn_streams.specs.Syntax.{Stmt}
-use Rattle.kahn_streams.specs.View.{Scope}
-use Rattle.kahn_streams.specs.declared.tree.Statement.{Statement}
-use Rattle.kahn_warnings.specs.inner.Collecting.{contains}
-use Rattle.kahn_warnings.proofs.Lists.{any_in}
+use Rattle.kahn_warnings.proofs.Common.{Bool, List, None, Option, Scope, Some, Statement, Stmt, [], alike_kept, ap, arith, bytes_eq, common_steps, cond, contains, false, flat_map, if◌then◌else◌, is_some, kept_first, lookup, lookup_append, nat_eq, nat_list_eq_equiv, option_or, refl, statement_of, sym, true, ℕ, ◌++◌, ◌||◌, ◌∙◌, ◌∷◌, ◌≡◌}
+use Rattle.kahn_warnings.proofs.Lists.{any_in, or_false}
 
 or_true : (b : Bool) → b || true ≡ true
 or_true true = refl
 or_true false = refl
-
-pub or_false : (b : Bool) → b || false ≡ b
-or_false true = refl
-or_false false = refl
 
 -- one name more
 pub kept_one : (names : List (List ℕ × Unit {0})) (n x : List ℕ) → contains (kept_first names n tt) x ≡ nat_eq 0 (if bytes_eq n x then 0 else 1) || contains names x
@@ -44,6 +30,14 @@ got_begun f names ss items whole had same is = ap (λ l. any_in f names l || had
 pub got_first : (all first rest had has : Bool) → all ≡ first || rest → has ≡ first || had → rest || has ≡ all || had
 got_first all true rest had has whole got = ap (λ b. rest || b) got ∙ or_true rest ∙ sym (ap (λ b. b || had) whole)
 got_first all false rest had has whole got = ap (λ b. rest || b) got ∙ sym (ap (λ b. b || had) whole)
+
+-- of a list of statements
+module _ (f : Stmt → Bool) (names : Scope) (l : List Statement) (had all : Bool) (so_far : any_in f names l || had ≡ all) where
+  pub got_next : (s : Statement) (rest : List Statement) (has : Bool) → l ≡ s ∷ rest → has ≡ f (statement_of names s) || had → any_in f names rest || has ≡ all
+  got_next s rest has next got = got_first (any_in f names l) (f (statement_of names s)) (any_in f names rest) had has (ap (any_in f names) next) got ∙ so_far
+
+  pub got_done : l ≡ [] → had ≡ all
+  got_done none = sym (ap (λ k. any_in f names k || had) none) ∙ so_far
 
 -- and where none were there
 pub got_all : (names old : List (List ℕ × Unit {0})) (x : List ℕ) (test : Bool) → contains names x ≡ test || contains old x → old ≡ [] → contains names x ≡ test

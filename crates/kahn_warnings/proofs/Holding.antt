@@ -1,20 +1,5 @@
 -- Expressions with a value by their constants have it.
-use mathlib.Core.Path.{fun_ext}
-use Rattle.std.proofs.Common.{◌≡◌, ◌∙◌, ℕ, zero, suc, ◌&&◌, Bool, true, false, Option, Some, None, Result, Ok, Err, neg_ℤ, not, ap, sym, refl, if◌then◌else◌}
-use Rattle.std.proofs.lemmas.Option.{none-some, same_Some}
-use Rattle.std.specs.Prelude.{int_div, int_rem}
-use Rattle.std.specs.Result.{result_err, result_ok}
-use Rattle.kahn_streams.specs.Syntax.{Expr, Literal, Variable, Wait, Negate, Not, Binary, Conditional, Stmt, If, While}
-use Rattle.kahn_streams.specs.declared.tree.Operator.{Operator}
-use Rattle.kahn_streams.specs.declared.value.Value.{Value}
-use Rattle.kahn_streams.specs.declared.value.Failure.{Failure}
-use Rattle.kahn_streams.specs.declared.tree.Operator.TheVariants.{Divide, Remainder}
-use Rattle.kahn_streams.specs.declared.value.Value.TheVariants.{Logical}
-use Rattle.kahn_streams.specs.declared.value.Failure.TheVariants.{Division}
-use Rattle.kahn_streams.specs.Arithmetic.{apply, is_zero, number, ranged, truth}
-use Rattle.kahn_streams.specs.Meaning.{Store, constant, exec, script_of, settle, turns_of, value_of}
-use Rattle.kahn_streams.specs.Script.{Fail, Give, Script, Tapes, Turns, play}
-use Rattle.kahn_warnings.specs.Constants.{ConstantsHold, chosen, constant_of, divides, combined, inverted, negate_fault, negated, sure_fault}
+use Rattle.kahn_warnings.proofs.Common.{Binary, Bool, Conditional, ConstantsHold, Divide, Division, Err, Expr, Fail, Failure, Give, If, Literal, Logical, Negate, None, Not, Ok, Operator, Option, Remainder, Result, Script, Some, Stmt, Store, Tapes, Turns, Value, Variable, Wait, While, ap, apply, chosen, combined, constant, constant_of, divides, exec, false, fun_ext, if◌then◌else◌, int_div, int_rem, inverted, is_zero, neg_ℤ, negate_fault, negated, none-some, not, number, play, ranged, refl, result_err, result_ok, same_Some, script_of, settle, suc, sure_fault, sym, true, truth, turns_of, value_of, zero, ℕ, ◌&&◌, ◌∙◌, ◌≡◌}
 
 good_ok : (r : Result Value Failure) (v : Value) → result_ok r ≡ Some v → r ≡ Ok v
 good_ok (Ok w) v e = ap Ok (same_Some w v e)
@@ -24,48 +9,44 @@ bad_err : (r : Result Value Failure) (k : Failure) → result_err r ≡ Some k �
 bad_err (Ok w) k e = absurd (none-some k e)
 bad_err (Err j) k e = ap Err (same_Some j k e)
 
+negated_of : (x : Option Value) (v : Value) → negated x ≡ Some v → (w : Value) × (x ≡ Some w) × (ranged (neg_ℤ (number w)) ≡ Ok v)
+negated_of None v h = absurd (none-some v h)
+negated_of (Some w) v h = (w, refl, good_ok (ranged (neg_ℤ (number w))) v h)
+
+inverted_of : (x : Option Value) (v : Value) → inverted x ≡ Some v → (w : Value) × (x ≡ Some w) × (Logical (not (truth w)) ≡ v)
+inverted_of None v h = absurd (none-some v h)
+inverted_of (Some w) v h = (w, refl, same_Some (Logical (not (truth w))) v h)
+
+combined_of : (o : Operator) (x y : Option Value) (v : Value) → combined o x y ≡ Some v → (p q : Value) × (x ≡ Some p) × (y ≡ Some q) × (apply o p q ≡ Ok v)
+combined_of o None y v h = absurd (none-some v h)
+combined_of o (Some p) None v h = absurd (none-some v h)
+combined_of o (Some p) (Some q) v h = (p, q, refl, refl, good_ok (apply o p q) v h)
+
+chosen_of : (x a b : Option Value) (v : Value) → chosen x a b ≡ Some v → (w : Value) × (x ≡ Some w) × ((if truth w then a else b) ≡ Some v)
+chosen_of None a b v h = absurd (none-some v h)
+chosen_of (Some w) a b v h = (w, refl, h)
+
 pub holds : {A : Type 0} (e : Expr) (v : Value) (s : Store) (next : Value → Script A) → constant_of e ≡ Some v → value_of e s next ≡ next v
 holds (Literal c) v s next h = ap next (same_Some (constant c) v h)
 holds (Variable x) v s next h = absurd (none-some v h)
 holds (Wait q) v s next h = absurd (none-some v h)
-holds (Negate e) v s next h = by (constant_of e) refl (λ w is. holds e w s (λ x. settle (ranged (neg_ℤ (number x))) next) is) h
-  where
-    by : (x : Option Value) → constant_of e ≡ x
-        → ((w : Value) → constant_of e ≡ Some w → value_of (Negate e) s next ≡ settle (ranged (neg_ℤ (number w))) next) → negated x ≡ Some v
-        → value_of (Negate e) s next ≡ next v
-    by None is inner g = absurd (none-some v g)
-    by (Some w) is inner g = inner w is ∙ ap (λ r. settle r next) (good_ok (ranged (neg_ℤ (number w))) v g)
-holds (Not e) v s next h = by (constant_of e) refl (λ w is. holds e w s (λ x. next (Logical (not (truth x)))) is) h
-  where
-    by : (x : Option Value) → constant_of e ≡ x → ((w : Value) → constant_of e ≡ Some w → value_of (Not e) s next ≡ next (Logical (not (truth w))))
-        → inverted x ≡ Some v → value_of (Not e) s next ≡ next v
-    by None is inner g = absurd (none-some v g)
-    by (Some w) is inner g = inner w is ∙ ap next (same_Some (Logical (not (truth w))) v g)
+holds (Negate e) v s next h =
+    let (w, is, gives) = negated_of (constant_of e) v h in
+    holds e w s _ is ∙ ap (λ r. settle r next) gives
+holds (Not e) v s next h =
+    let (w, is, gives) = inverted_of (constant_of e) v h in
+    holds e w s _ is ∙ ap next gives
 holds (Binary o a b) v s next h =
-    by (constant_of a) (constant_of b) refl refl (λ x y is his.
-    holds a x s (λ p. value_of b s (λ q. settle (apply o p q) next)) is ∙ holds b y s (λ q. settle (apply o x q) next) his) h
-  where
-    by : (x y : Option Value) → constant_of a ≡ x → constant_of b ≡ y
-        → ((x y : Value) → constant_of a ≡ Some x → constant_of b ≡ Some y → value_of (Binary o a b) s next ≡ settle (apply o x y) next)
-        → combined o x y ≡ Some v → value_of (Binary o a b) s next ≡ next v
-    by None y is his inner g = absurd (none-some v g)
-    by (Some x) None is his inner g = absurd (none-some v g)
-    by (Some x) (Some y) is his inner g = inner x y is his ∙ ap (λ r. settle r next) (good_ok (apply o x y) v g)
+    let (p, q, is, his, gives) = combined_of o (constant_of a) (constant_of b) v h in
+    holds a p s _ is ∙ (holds b q s _ his ∙ ap (λ r. settle r next) gives)
 holds (Conditional t a b) v s next h =
-    by (constant_of t) refl (λ w is. holds t w s (λ x. elim (truth x) [ true ↦ value_of a s next | false ↦ value_of b s next ]) is)
-    (holds a v s next) (holds b v s next) h
+    let (w, is, gives) = chosen_of (constant_of t) (constant_of a) (constant_of b) v h in
+    holds t w s _ is ∙ taken (truth w) (holds a v s next) (holds b v s next) gives
   where
     taken : (c : Bool) → (constant_of a ≡ Some v → value_of a s next ≡ next v) → (constant_of b ≡ Some v → value_of b s next ≡ next v)
         → (if c then constant_of a else constant_of b) ≡ Some v → (elim c [ true ↦ value_of a s next | false ↦ value_of b s next ]) ≡ next v
     taken true first second g = first g
     taken false first second g = second g
-
-    by : (x : Option Value) → constant_of t ≡ x
-        → ((w : Value) → constant_of t ≡ Some w → value_of (Conditional t a b) s next ≡ (elim (truth w) [ true ↦ value_of a s next | false ↦ value_of b s next ]))
-        → (constant_of a ≡ Some v → value_of a s next ≡ next v) → (constant_of b ≡ Some v → value_of b s next ≡ next v)
-        → chosen x (constant_of a) (constant_of b) ≡ Some v → value_of (Conditional t a b) s next ≡ next v
-    by None is test first second g = absurd (none-some v g)
-    by (Some w) is test first second g = test w is ∙ taken (truth w) first second g
 
 pub sign_fails : {A : Type 0} (e : Expr) (k : Failure) (s : Store) (next : Value → Script A) → negate_fault (constant_of e) ≡ Some k → value_of (Negate e) s next ≡ Fail k
 sign_fails e k s next h = by (constant_of e) refl h
@@ -74,17 +55,13 @@ sign_fails e k s next h = by (constant_of e) refl h
     by None is g = absurd (none-some k g)
     by (Some w) is g = holds e w s (λ x. settle (ranged (neg_ℤ (number x))) next) is ∙ ap (λ r. settle r next) (bad_err (ranged (neg_ℤ (number w))) k g)
 
+zero_fails : (c : Bool) (r : Result Value Failure) (k : Failure) → (if c then Some Division else None) ≡ Some k → (if c then Err Division else r) ≡ Err k
+zero_fails true r k g = ap Err (same_Some Division k g)
+zero_fails false r k g = absurd (none-some k g)
+
 by_zero : (o : Operator) (x y : Value) (k : Failure) → (if divides o && is_zero (number y) then Some Division else None) ≡ Some k → apply o x y ≡ Err k
-by_zero Divide x y k h = by (is_zero (number y)) (ranged (int_div (number x) (number y))) h
-  where
-    by : (c : Bool) (r : Result Value Failure) → (if true && c then Some Division else None) ≡ Some k → (if c then Err Division else r) ≡ Err k
-    by true r g = ap Err (same_Some Division k g)
-    by false r g = absurd (none-some k g)
-by_zero Remainder x y k h = by (is_zero (number y)) (ranged (int_rem (number x) (number y))) h
-  where
-    by : (c : Bool) (r : Result Value Failure) → (if true && c then Some Division else None) ≡ Some k → (if c then Err Division else r) ≡ Err k
-    by true r g = ap Err (same_Some Division k g)
-    by false r g = absurd (none-some k g)
+by_zero Divide x y k h = zero_fails (is_zero (number y)) (ranged (int_div (number x) (number y))) k h
+by_zero Remainder x y k h = zero_fails (is_zero (number y)) (ranged (int_rem (number x) (number y))) k h
 by_zero o x y k h = absurd (none-some k h)
 
 pub operator_fails : {A : Type 0} (o : Operator) (a b : Expr) (k : Failure) (s : Store) (next : Value → Script A) →

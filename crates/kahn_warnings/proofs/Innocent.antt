@@ -1,20 +1,6 @@
 -- Operators that aren't told have no such fault.
-use Rattle.std.proofs.Common.{arith, ◌≡◌, ◌∙◌, ℕ, zero, suc, ℤ, pos, negsuc, neg_ℤ, ◌+ℤ◌, ◌-ℤ◌, ◌*ℤ◌, ◌<◌, ◌≤◌, ◌^◌, ◌/◌, ◌&&◌, Bool, true, false, Option, Some, None, Result, Ok, Err, refl, sym, ap, subst, nat_lt, int_div, int_rem, if◌then◌else◌}
-use Rattle.std.proofs.lemmas.Int.{ints, rem_below}
+use Rattle.kahn_warnings.proofs.Common.{Add, Bool, Divide, Division, Err, Failure, Integer, IsOf64Bits, IsOperand, Logical, Multiply, None, Ok, Operator, Option, Overflow, Remainder, Result, Some, Subtract, Value, ap, apply, arith, arithmetic, can_divide, can_fail, cond, div-le_self, div-lt_self, divides, false, fits_64, if◌then◌else◌, int_div, int_lt, int_rem, ints, is_eq, is_failure, is_zero, nat_lt, neg_ℤ, negsuc, number, operator_can, pos, ranged, refl, rem_below, result_err, sign_can, subst, suc, sym, true, unsigned_abs, zero, ℕ, ℤ, ◌&&◌, ◌*ℤ◌, ◌+ℤ◌, ◌-ℤ◌, ◌/◌, ◌<◌, ◌^◌, ◌∙◌, ◌≡◌, ◌≤◌}
 use Rattle.std.proofs.Common.{Less as Before, Equal as Same, Greater as Behind}
-use Rattle.std.specs.Ordering.{is_eq}
-use Rattle.std.specs.Result.{result_err}
-use Rattle.std.proofs.Math.Nat.{div-le_self, div-lt_self}
-use Rattle.std.specs.Prelude.{cond, int_lt, unsigned_abs}
-use Rattle.kahn_streams.specs.declared.tree.Operator.{Operator}
-use Rattle.kahn_streams.specs.declared.value.Value.{Value}
-use Rattle.kahn_streams.specs.declared.value.Failure.{Failure}
-use Rattle.kahn_streams.specs.declared.tree.Operator.TheVariants.{Or, And, Equal, Unequal, Less, AtMost, Greater, AtLeast, Add, Subtract, Multiply, Divide, Remainder}
-use Rattle.kahn_streams.specs.declared.value.Value.TheVariants.{Integer, Logical}
-use Rattle.kahn_streams.specs.declared.value.Failure.TheVariants.{Overflow, Division}
-use Rattle.kahn_streams.specs.Arithmetic.{apply, arithmetic, fits_64, is_zero, number, ranged}
-use Rattle.kahn_warnings.specs.Constants.{divides}
-use Rattle.kahn_warnings.specs.Faults.{IsOperand, IsOf64Bits, can_divide, can_fail, is_failure, operator_can, sign_can}
 
 true_not : (b : Bool) → b ≡ true → b ≡ false → ⊥
 true_not true e f = cc
@@ -95,19 +81,12 @@ truth_short b u e =
     subst IsOf64Bits is refl
 
 pub apply_short : (o : Operator) (v w u : Value) → apply o v w ≡ Ok u → IsOf64Bits u
-apply_short Or v w u e = truth_short _ u e
-apply_short And v w u e = truth_short _ u e
-apply_short Equal v w u e = truth_short _ u e
-apply_short Unequal v w u e = truth_short _ u e
-apply_short Less v w u e = truth_short _ u e
-apply_short AtMost v w u e = truth_short _ u e
-apply_short Greater v w u e = truth_short _ u e
-apply_short AtLeast v w u e = truth_short _ u e
 apply_short Add v w u e = ranged_short (number v +ℤ number w) u e
 apply_short Subtract v w u e = ranged_short (number v -ℤ number w) u e
 apply_short Multiply v w u e = ranged_short (number v *ℤ number w) u e
 apply_short Divide v w u e = divided_short (is_zero (number w)) (int_div (number v) (number w)) u e
 apply_short Remainder v w u e = divided_short (is_zero (number w)) (int_rem (number v) (number w)) u e
+apply_short o v w u e = truth_short _ u e
 
 -- ---- operators
 

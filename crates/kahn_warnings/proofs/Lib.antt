@@ -1,3 +1,4 @@
+mod Common
 mod Lists
 mod Getting
 mod Folding
@@ -6,4 +7,3 @@ mod Unchanged
 mod Unseen
 mod Innocent
 mod Nowhere
-mod Reading

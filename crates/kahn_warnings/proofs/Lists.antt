@@ -1,19 +1,9 @@
 -- The operands of a level and the statements of a block and of a body, one after another.
-use Rattle.std.proofs.Common.{◌≡◌, ◌||◌, ◌++◌, ◌∙◌, Bool, true, false, List, [], ◌∷◌, Option, None, Some, refl, ap, flat_map, if◌then◌else◌}
-use Rattle.std.specs.Option.{option_or}
-use Rattle.kahn_streams.specs.declared.span.Span.{Span}
-use Rattle.kahn_streams.specs.Syntax.{Expr, Stmt}
-use Rattle.kahn_streams.specs.View.{Scope, body_of, expr_of, expression_of, level_of, row_of, statement_of, stmt_of}
-use Rattle.kahn_streams.specs.declared.tree.Form.{Row_of-Operand, end_of-Operand, more_of-Operand}
-use Rattle.kahn_streams.specs.declared.tree.Operand.{Operand}
-use Rattle.kahn_streams.specs.declared.tree.Action.{Action, Row_of-Statement, end_of-Statement, more_of-Statement}
-use Rattle.kahn_streams.specs.declared.tree.Statement.{Statement}
-use Rattle.kahn_streams.specs.declared.tree.Form.TheBlock.{items-the_row-Operand}
-use Rattle.kahn_streams.specs.declared.tree.Action.TheBlock.{items-the_row-Statement}
-use Rattle.kahn_warnings.specs.Loops.{is_seen, never_ends}
-use Rattle.kahn_warnings.specs.Uses.{any_varies_by, is_assigned_in, is_named, is_used_in, varies_by, waits_in}
-use Rattle.kahn_warnings.specs.Warnings.{block_items, first_standing, first_unreached, list_warnings, row_warnings, statement_warnings}
-use Rattle.kahn_warnings.specs.declared.warning.Warning.{Warning}
+use Rattle.kahn_warnings.proofs.Common.{Action, Bool, Expr, List, None, Operand, Option, Row_of-Operand, Row_of-Statement, Scope, Some, Span, Statement, Stmt, Unreached, Warning, [], any_varies_by, ap, append_assoc, at_drop_all, block_items, body_of, drop, end_of-Operand, end_of-Statement, expr_of, expression_of, false, first_standing, first_unreached, flat_map, if◌then◌else◌, is_assigned_in, is_named, is_seen, is_used_in, items-the_row-Operand, items-the_row-Statement, length, level_of, list_warnings, more_of-Operand, more_of-Statement, never_ends, option_or, refl, row_of, row_warnings, statement_of, statement_warnings, stmt_of, sym, take, take_all, true, varies_by, waits_in, warned, ℕ, ◌++◌, ◌||◌, ◌∙◌, ◌∷◌, ◌≡◌, ◌≤◌}
+
+pub or_false : (b : Bool) → b || false ≡ b
+or_false true = refl
+or_false false = refl
 
 pub or_assoc : (a b c : Bool) → ((a || b) || c) ≡ (a || (b || c))
 or_assoc true b c = refl
@@ -27,11 +17,7 @@ operands_named names (o ∷ rest) = is_named 0 (expression_of names o.expression
 
 pub level_named : {m : _} (names : Scope) (first : Expr) (row : Row_of-Operand m) →
     is_named 0 (level_of names first row) ≡ is_named 0 first || operands_named names (items-the_row-Operand m row)
-level_named names first end_of-Operand = or_false (is_named 0 first)
-  where
-    or_false : (a : Bool) → a ≡ a || false
-    or_false true = refl
-    or_false false = refl
+level_named names first end_of-Operand = sym (or_false (is_named 0 first))
 level_named names first (more_of-Operand o at e rest) = level_named names _ rest ∙ or_assoc (is_named 0 first) (is_named 0 (expr_of names e)) _
 
 abbrev pub operands_wait : Scope → List Operand → Bool
@@ -40,11 +26,7 @@ operands_wait names (o ∷ rest) = waits_in (expression_of names o.expression) |
 
 pub level_waits : {m : _} (names : Scope) (first : Expr) (row : Row_of-Operand m) →
     waits_in (level_of names first row) ≡ waits_in first || operands_wait names (items-the_row-Operand m row)
-level_waits names first end_of-Operand = or_false (waits_in first)
-  where
-    or_false : (a : Bool) → a ≡ a || false
-    or_false true = refl
-    or_false false = refl
+level_waits names first end_of-Operand = sym (or_false (waits_in first))
 level_waits names first (more_of-Operand o at e rest) = level_waits names _ rest ∙ or_assoc (waits_in first) (waits_in (expr_of names e)) _
 
 abbrev pub any_vary : Action → List Operand → Bool
@@ -60,6 +42,16 @@ row_varies a (more_of-Operand o at e rest) = ap (λ b. varies_by a e || b) (row_
 abbrev pub any_in : (Stmt → Bool) → Scope → List Statement → Bool
 any_in f names [] = false
 any_in f names (s ∷ rest) = f (statement_of names s) || any_in f names rest
+
+-- one statement more, and no more, where they are tried from the left
+module _ (f : Stmt → Bool) (names : Scope) (l : List Statement) (all : Bool) where
+  pub any_next : (s : Statement) (rest : List Statement) (had one : Bool) → l ≡ s ∷ rest → one ≡ f (statement_of names s) → had || any_in f names l ≡ all
+      → (had || one) || any_in f names rest ≡ all
+  any_next s rest had one next is so_far =
+      or_assoc had one (any_in f names rest) ∙ ap (λ b. had || (b || any_in f names rest)) is ∙ ap (λ k. had || any_in f names k) (sym next) ∙ so_far
+
+  pub any_done : (had : Bool) → l ≡ [] → had || any_in f names l ≡ all → had ≡ all
+  any_done had none so_far = sym (or_false had) ∙ ap (λ k. had || any_in f names k) (sym none) ∙ so_far
 
 pub block_is_used_in : {m : _} (names : Scope) (row : Row_of-Statement m) → is_used_in 0 (row_of names row) ≡ any_in (is_used_in 0) names (items-the_row-Statement m row)
 block_is_used_in names end_of-Statement = refl
@@ -92,12 +84,15 @@ block_is_seen names (more_of-Statement at a rest) = ap (λ b. is_seen (stmt_of n
 abbrev pub left_unreached : Bool → Option Span → List Statement → Option Span
 left_unreached ends place rest = option_or place (if ends then first_standing rest else first_unreached rest)
 
-pub one_on : (ends n : Bool) (place : Option Span) (s : Statement) (rest : List Statement) → n ≡ never_ends (statement_of [] s) →
-    left_unreached (ends || n) (option_or place (if ends then s.span else None)) rest ≡ left_unreached ends place (s ∷ rest)
-one_on true n None s rest e = refl
-one_on true n (Some p) s rest e = refl
-one_on false n None s rest e = ap (λ b. if b then first_standing rest else first_unreached rest) e
-one_on false n (Some p) s rest e = refl
+pub one_on : (ends n : Bool) (place next : Option Span) (s : Statement) (l rest : List Statement) → l ≡ s ∷ rest → next ≡ option_or place (if ends then s.span else None)
+    → n ≡ never_ends (statement_of [] s) → left_unreached (ends || n) next rest ≡ left_unreached ends place l
+one_on ends n place next s l rest more is e = ap (λ p. left_unreached (ends || n) p rest) is ∙ by ends place ∙ ap (left_unreached ends place) (sym more)
+  where
+    by : (b : Bool) (p : Option Span) → left_unreached (b || n) (option_or p (if b then s.span else None)) rest ≡ left_unreached b p (s ∷ rest)
+    by true None = refl
+    by true (Some q) = refl
+    by false None = ap (λ b. if b then first_standing rest else first_unreached rest) e
+    by false (Some q) = refl
 
 pub none_left : (ends : Bool) (place : Option Span) → left_unreached ends place [] ≡ place
 none_left true None = refl
@@ -106,6 +101,15 @@ none_left ends (Some p) = refl
 
 abbrev pub each : Statement → List Warning
 each s = statement_warnings s.span s.action
+
+-- the whole list was gone through
+pub all_told : (old so_far new : List Warning) (ends : Bool) (place : Option Span) (i : ℕ) (ss : List Statement) → length ss ≤ i → so_far ≡ old ++ flat_map each (take i ss)
+    → left_unreached ends place (drop i ss) ≡ first_unreached ss → new ≡ so_far ++ warned (Some Unreached) place → new ≡ old ++ (flat_map each ss ++ list_warnings ss)
+all_told old so_far new ends place i ss past told left added =
+    let at : place ≡ first_unreached ss = sym (none_left ends place) ∙ sym (at_drop_all (left_unreached ends place) ss i past) ∙ left in
+    added ∙ ap (λ p. so_far ++ warned (Some Unreached) p) at
+    ∙ ap (λ l. l ++ list_warnings ss) (told ∙ ap (λ l. old ++ flat_map each l) (take_all i ss past))
+    ∙ append_assoc old (flat_map each ss) (list_warnings ss)
 
 pub block_warned : {m : _} (row : Row_of-Statement m) → row_warnings row ≡ flat_map each (items-the_row-Statement m row)
 block_warned end_of-Statement = refl

@@ -1,18 +1,6 @@
 -- A loop that gives no value to a name of its test, which doesn't wait, never ends once that came true; and a name that gets no value keeps
 -- the one that it has.
-use mathlib.Core.Path.{fun_ext}
-use Rattle.std.proofs.Common.{arith, ◌≡◌, ◌∙◌, ℕ, zero, suc, ◌||◌, Bool, true, false, true≢false, Option, Some, None, Result, Ok, Err, neg_ℤ, pos, not, ap, sym, refl, nat_eq, slice_set, subst}
-use Rattle.std.proofs.lemmas.List.{get_or-set_other}
-use Rattle.std.proofs.lemmas.Option.{none-some, same_Some}
-use Rattle.kahn_streams.specs.Syntax.{Constant, Expr, Literal, Variable, Wait, Negate, Not, Binary, Conditional, Stmt, Skip, Assign, Send, Print, Seq, If, While, Repeat}
-use Rattle.kahn_streams.specs.declared.value.Value.{Value}
-use Rattle.kahn_streams.specs.declared.value.Failure.{Failure}
-use Rattle.kahn_streams.specs.declared.value.Value.TheVariants.{Integer, Logical}
-use Rattle.kahn_streams.specs.Arithmetic.{apply, number, ranged, truth}
-use Rattle.kahn_streams.specs.Meaning.{Store, constant, eval, exec, read, script_of, settle, turns_of, value_of}
-use Rattle.kahn_streams.specs.Script.{Cut, Dry, Fault, Give, Got, ScriptOutcome, Parameter, Printer, Script, Sends, Tapes, Turns, at_once, play}
-use Rattle.kahn_warnings.specs.Loops.{IsUnchanged}
-use Rattle.kahn_warnings.specs.Uses.{is_assigned_in, is_named, waits_in}
+use Rattle.kahn_warnings.proofs.Common.{Assign, Binary, Bool, Conditional, Constant, Cut, Dry, Err, Expr, Failure, Fault, Give, Got, If, Integer, IsUnchanged, Literal, Logical, Negate, None, Not, Ok, Option, Parameter, Print, Printer, Repeat, Result, Script, ScriptOutcome, Send, Sends, Seq, Skip, Some, Stmt, Store, Tapes, Turns, Value, Variable, Wait, While, ap, apply, arith, at_once, constant, eval, exec, false, fun_ext, get_or-set_other, is_assigned_in, is_named, nat_eq, neg_ℤ, none-some, not, number, play, pos, ranged, read, refl, same_Some, script_of, settle, slice_set, subst, suc, sym, true, true≢false, truth, turns_of, value_of, waits_in, zero, ℕ, ◌||◌, ◌∙◌, ◌≡◌}
 
 left : (x y : Bool) → x ≡ true → (x || y) ≡ true
 left true y h = refl
@@ -56,27 +44,36 @@ settle_then : {A : Type 0} (r : Result Value Failure) (f : Value → Result Valu
 settle_then (Ok v) f next = refl
 settle_then (Err k) f next = refl
 
-comes_to : {A : Type 0} (e : Expr) (s : Store) (next : Value → Script A) → waits_in e ≡ false → value_of e s next ≡ settle (result_of e s) next
-comes_to (Literal c) s next h = refl
-comes_to (Variable x) s next h = refl
-comes_to (Wait q) s next h = absurd cc
-comes_to (Negate e) s next h =
-    comes_to e s (λ v. settle (ranged (neg_ℤ (number v))) next) h ∙ settle_then (result_of e s) (λ v. ranged (neg_ℤ (number v))) next
-comes_to (Not e) s next h = comes_to e s (λ v. next (Logical (not (truth v)))) h ∙ settle_then (result_of e s) (λ v. Ok (Logical (not (truth v)))) next
-comes_to (Binary o a b) s next h =
-    let is = neither (waits_in a) (waits_in b) h in
-    comes_to a s (λ v. value_of b s (λ w. settle (apply o v w) next)) is.0
-    ∙ (ap (settle (result_of a s)) (fun_ext (λ v. comes_to b s (λ w. settle (apply o v w) next) is.1 ∙ settle_then (result_of b s) (λ w. apply o v w) next))
+-- these values agree on the names of an expression
+abbrev Agree : Expr → Store → Store → Type 0
+Agree t s r = (x : ℕ) → is_named x t ≡ true → read r x ≡ read s x
+
+comes_to : {A : Type 0} (t : Expr) (s r : Store) (next : Value → Script A) → waits_in t ≡ false → Agree t s r → value_of t r next ≡ settle (result_of t s) next
+comes_to (Literal c) s r next h is = refl
+comes_to (Variable x) s r next h is = ap next (is x (itself x))
+comes_to (Wait q) s r next h is = absurd cc
+comes_to (Negate e) s r next h is =
+    comes_to e s r (λ v. settle (ranged (neg_ℤ (number v))) next) h is ∙ settle_then (result_of e s) (λ v. ranged (neg_ℤ (number v))) next
+comes_to (Not e) s r next h is =
+    comes_to e s r (λ v. next (Logical (not (truth v)))) h is ∙ settle_then (result_of e s) (λ v. Ok (Logical (not (truth v)))) next
+comes_to (Binary o a b) s r next h is =
+    let clear = neither (waits_in a) (waits_in b) h in
+    comes_to a s r (λ v. value_of b r (λ w. settle (apply o v w) next)) clear.0 (λ x n. is x (left (is_named x a) (is_named x b) n))
+    ∙ (ap (settle (result_of a s)) (fun_ext (λ v. comes_to b s r (λ w. settle (apply o v w) next) clear.1 (λ x n. is x (right (is_named x a) (is_named x b) n))
+    ∙ settle_then (result_of b s) (λ w. apply o v w) next))
     ∙ settle_then (result_of a s) (λ v. then (result_of b s) (λ w. apply o v w)) next)
-comes_to {A = A} (Conditional t a b) s next h =
-    let is = neither (waits_in t || waits_in a) (waits_in b) h in
-    let are = neither (waits_in t) (waits_in a) is.0 in
-    comes_to t s (λ v. elim (truth v) [ true ↦ value_of a s next | false ↦ value_of b s next ]) are.0
-    ∙ (ap (settle (result_of t s)) (fun_ext (λ v. branch (truth v) (comes_to a s next are.1) (comes_to b s next is.1)))
+comes_to {A = A} (Conditional t a b) s r next h is =
+    let clear = neither (waits_in t || waits_in a) (waits_in b) h in
+    let nor = neither (waits_in t) (waits_in a) clear.0 in
+    let first = comes_to a s r next nor.1 (λ x n. is x (left (is_named x t || is_named x a) (is_named x b) (right (is_named x t) (is_named x a) n))) in
+    let second = comes_to b s r next clear.1 (λ x n. is x (right (is_named x t || is_named x a) (is_named x b) n)) in
+    comes_to t s r (λ v. elim (truth v) [ true ↦ value_of a r next | false ↦ value_of b r next ]) nor.0
+    (λ x n. is x (left (is_named x t || is_named x a) (is_named x b) (left (is_named x t) (is_named x a) n)))
+    ∙ (ap (settle (result_of t s)) (fun_ext (λ v. branch (truth v) first second))
     ∙ settle_then (result_of t s) (λ v. elim (truth v) [ true ↦ result_of a s | false ↦ result_of b s ]) next)
   where
-    branch : (c : Bool) → value_of a s next ≡ settle (result_of a s) next → value_of b s next ≡ settle (result_of b s) next →
-        ◌≡◌ {A = Script A} (elim c [ true ↦ value_of a s next | false ↦ value_of b s next ]) (settle (elim c [ true ↦ result_of a s | false ↦ result_of b s ]) next)
+    branch : (c : Bool) → value_of a r next ≡ settle (result_of a s) next → value_of b r next ≡ settle (result_of b s) next →
+        ◌≡◌ {A = Script A} (elim c [ true ↦ value_of a r next | false ↦ value_of b r next ]) (settle (elim c [ true ↦ result_of a s | false ↦ result_of b s ]) next)
     branch true p q = p
     branch false p q = q
 
@@ -89,32 +86,6 @@ got_of Cut = None
 is_ok : (r : Result Value Failure) (n : ℕ) (T : Tapes) (v : Value) → play n (settle r Give) T ≡ at_once (Got v) T → r ≡ Ok v
 is_ok (Ok w) n T v h = ap Ok (same_Some w v (ap (λ r. got_of r.outcome) h))
 is_ok (Err k) n T v h = absurd (none-some v (ap (λ r. got_of r.outcome) h))
-
--- ---- by the values of its names
-
--- these values agree on the names of an expression
-abbrev Agree : Expr → Store → Store → Type 0
-Agree t s r = (x : ℕ) → is_named x t ≡ true → read r x ≡ read s x
-
-same_result : (t : Expr) (s r : Store) → waits_in t ≡ false → Agree t s r → result_of t r ≡ result_of t s
-same_result (Literal c) s r h is = refl
-same_result (Variable x) s r h is = ap Ok (is x (itself x))
-same_result (Wait q) s r h is = absurd cc
-same_result (Negate e) s r h is = ap (λ x. then x (λ v. ranged (neg_ℤ (number v)))) (same_result e s r h is)
-same_result (Not e) s r h is = ap (λ x. then x (λ v. Ok (Logical (not (truth v))))) (same_result e s r h is)
-same_result (Binary o a b) s r h is =
-    let clear = neither (waits_in a) (waits_in b) h in
-    ap (λ x. then x (λ v. then (result_of b r) (λ w. apply o v w))) (same_result a s r clear.0 (λ x n. is x (left (is_named x a) (is_named x b) n)))
-    ∙ ap (λ y. then (result_of a s) (λ v. then y (λ w. apply o v w))) (same_result b s r clear.1 (λ x n. is x (right (is_named x a) (is_named x b) n)))
-same_result (Conditional t a b) s r h is =
-    let clear = neither (waits_in t || waits_in a) (waits_in b) h in
-    let nor = neither (waits_in t) (waits_in a) clear.0 in
-    ap (λ x. then x (λ v. elim (truth v) [ true ↦ result_of a r | false ↦ result_of b r ]))
-    (same_result t s r nor.0 (λ x n. is x (left (is_named x t || is_named x a) (is_named x b) (left (is_named x t) (is_named x a) n))))
-    ∙ (ap (λ y. then (result_of t s) (λ v. elim (truth v) [ true ↦ y | false ↦ result_of b r ]))
-    (same_result a s r nor.1 (λ x n. is x (left (is_named x t || is_named x a) (is_named x b) (right (is_named x t) (is_named x a) n))))
-    ∙ ap (λ y. then (result_of t s) (λ v. elim (truth v) [ true ↦ result_of a s | false ↦ y ]))
-    (same_result b s r clear.1 (λ x n. is x (right (is_named x t || is_named x a) (is_named x b) n))))
 
 -- ---- a statement that gives these names no value goes on alike where what is behind it does for all values that agree
 
@@ -174,13 +145,13 @@ module _ (t : Expr) (s : Store) where
       entered : (e : Store → Script A) → value_of t r (λ w. elim (truth w) [ true ↦ script_of k a r (λ q. turns_of j (λ q go. value_of t q go) (λ q go. script_of k a q go) q e) | false ↦ e r ]) ≡ script_of k a r (λ q. turns_of j (λ q go. value_of t q go) (λ q go. script_of k a q go) q e)
       entered e =
           let next : Value → Script A = λ w. elim (truth w) [ true ↦ script_of k a r (λ q. turns_of j (λ q go. value_of t q go) (λ q go. script_of k a q go) q e) | false ↦ e r ] in
-          comes_to t r next quiet ∙ (ap (λ x. settle x next) (same_result t s r quiet its ∙ came) ∙ taken (truth v) (script_of k a r (λ q. turns_of j (λ q go. value_of t q go) (λ q go. script_of k a q go) q e)) (e r) is)
+          comes_to t s r next quiet its ∙ (ap (λ x. settle x next) came ∙ taken (truth v) (script_of k a r (λ q. turns_of j (λ q go. value_of t q go) (λ q go. script_of k a q go) q e)) (e r) is)
 
 pub never_left : (t : Expr) (a b : Stmt) → IsUnchanged t a → (n : ℕ) (s : Store) (T : Tapes) (v : Value) → eval n t s T ≡ at_once (Got v) T → truth v ≡ true →
     exec n (Seq (While t a) b) s T ≡ exec n (While t a) s T
 never_left t a b is n s T v came true' =
     ap (λ c. play n c T)
-    (endless t s a is.0 is.1 v (is_ok (result_of t s) n T v (ap (λ c. play n c T) (sym (comes_to t s Give is.0)) ∙ came)) true' n n s
+    (endless t s a is.0 is.1 v (is_ok (result_of t s) n T v (ap (λ c. play n c T) (sym (comes_to t s s Give is.0 (λ x named. refl))) ∙ came)) true' n n s
     (λ r. script_of n b r Give) Give (λ x named. refl))
 
 one_name : (y x : ℕ) → nat_eq y x ≡ true → x ≡ y

@@ -1,18 +1,7 @@
 -- What a statement does that never ends, and what one does that isn't seen.
-use mathlib.Core.Path.{fun_ext}
-use Rattle.std.proofs.Common.{◌≡◌, ◌∙◌, ℕ, zero, suc, Option, Some, None, sym, ◌&&◌, ◌||◌, Bool, true, false, [], Result, Ok, Err, neg_ℤ, not, ap, refl, slice_set}
-use Rattle.kahn_streams.specs.Syntax.{Expr, Literal, Variable, Wait, Negate, Not, Binary, Conditional, Stmt, Skip, Assign, Send, Print, Seq, If, While, Repeat}
-use Rattle.kahn_streams.specs.declared.value.Value.{Value}
-use Rattle.kahn_streams.specs.declared.value.Failure.{Failure}
-use Rattle.kahn_streams.specs.declared.value.Value.TheVariants.{Logical}
-use Rattle.kahn_streams.specs.Arithmetic.{apply, number, ranged, truth}
-use Rattle.kahn_streams.specs.Meaning.{Store, script_of, settle, turns_of, value_of}
-use Rattle.kahn_streams.specs.Script.{Fail, Give, Rest, Script, Sends, Tapes, Turns, Waits, play}
-use Rattle.kahn_warnings.specs.Constants.{constant_of, is_true}
+use Rattle.kahn_warnings.proofs.Common.{Assign, Binary, Bool, Conditional, Err, Expr, Fail, Failure, Give, If, Literal, Logical, LoopsHold, Negate, None, Not, Ok, Option, Print, Repeat, Rest, Result, Script, Send, Sends, Seq, Skip, Some, Stmt, Store, Tapes, Turns, Value, Variable, Wait, Waits, While, [], ap, apply, constant_of, false, fun_ext, is_seen, is_true, neg_ℤ, never_ends, not, number, play, ranged, refl, script_of, settle, slice_set, suc, sym, true, truth, turns_of, value_of, waits_in, zero, ℕ, ◌&&◌, ◌||◌, ◌∙◌, ◌≡◌}
 use Rattle.kahn_warnings.proofs.Holding.{holds}
 use Rattle.kahn_warnings.proofs.Unchanged.{kept_value, neither, never_left, same_branch}
-use Rattle.kahn_warnings.specs.Loops.{LoopsHold, is_seen, never_ends}
-use Rattle.kahn_warnings.specs.Uses.{waits_in}
 
 either : {P : Type 0} (x y : Bool) → (x || y) ≡ true → (x ≡ true → P) → (y ≡ true → P) → P
 either true y h p q = p refl

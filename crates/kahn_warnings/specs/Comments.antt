@@ -1,22 +1,14 @@
 -- Believed. Comments that go on over a line's end, and have the beginning of a statement behind that.
-use Rattle.std.specs.Prelude.{ℕ, false, List, [], ◌∷◌, ◌++◌}
+use Rattle.std.specs.Prelude.{◌≡◌, ℕ, All, Contains, List}
 use Rattle.kahn_streams.specs.declared.span.Span.{Span}
-use Rattle.kahn_wanted.specs.Comments.{AreComments}
-use Rattle.kahn_wanted.specs.Swallowing.{Swallows}
+use Rattle.kahn_wanted.specs.Comments.{AreComments, EndsLine}
 use Rattle.kahn_warnings.specs.declared.warning.Warning.{Warning}
 use Rattle.kahn_warnings.specs.declared.warning.WarningKind.TheVariants.{LongComment}
 
-abbrev pub comment_warning : Span → Warning
-comment_warning c = record { kind = LongComment; span = c }
+-- of one of these comments, in which a line ends
+abbrev pub IsCommentWarning : List ℕ → List Span → Warning → Type 0
+IsCommentWarning text cs w = (w.kind ≡ LongComment) × Contains cs w.span × EndsLine text w.span.from w.span.to
 
--- these are the warnings of comments of a text, in order
-pub data CommentWarnings (text : List ℕ) : List Span → List Warning → Type 0 where
-  no_comment : CommentWarnings text [] []
-  passed_over : {cs : List Span} {ws : List Warning} {c : Span} → CommentWarnings text cs ws → ¬ (Swallows false text c.from c.to) →
-      CommentWarnings text (cs ++ c ∷ []) ws
-  warned_of : {cs : List Span} {ws : List Warning} {c : Span} → CommentWarnings text cs ws → Swallows false text c.from c.to →
-      CommentWarnings text (cs ++ c ∷ []) (ws ++ comment_warning c ∷ [])
-
--- of all its comments
+-- warnings of comments of a text
 abbrev pub AreCommentWarnings : List ℕ → List Warning → Type 0
-AreCommentWarnings text ws = (cs : List Span) × AreComments text 0 cs × CommentWarnings text cs ws
+AreCommentWarnings text ws = (cs : List Span) × AreComments text 0 cs × All (IsCommentWarning text cs) ws

@@ -1,9 +1,7 @@
 -- Believed. What is warned of constants: operators that fail wherever they are reached, and tests that come out one way.
 use Rattle.std.specs.Result.{result_err, result_ok}
 use Rattle.std.specs.Prelude.{◌≡◌, ℕ, Bool, true, false, not, ◌&&◌, neg_ℤ, Option, Some, None, if◌then◌else◌}
-use Rattle.kahn_streams.specs.declared.tree.Operator.{Operator}
-use Rattle.kahn_streams.specs.declared.value.Value.{Value}
-use Rattle.kahn_streams.specs.declared.value.Failure.{Failure}
+use Rattle.kahn_streams.specs.declared.{tree.Operator.Operator, value.Value.Value, value.Failure.Failure}
 use Rattle.kahn_streams.specs.declared.tree.Operator.TheVariants.{Divide, Remainder}
 use Rattle.kahn_streams.specs.Syntax as S
 use Rattle.kahn_streams.specs.declared.value.Value.TheVariants as value
@@ -11,9 +9,8 @@ use Rattle.kahn_streams.specs.declared.value.Failure.TheVariants.{Overflow, Divi
 use Rattle.kahn_streams.specs.Arithmetic.{apply, is_zero, number, ranged, truth}
 use Rattle.kahn_streams.specs.Meaning.{Store, constant, eval, exec, value_of}
 use Rattle.kahn_streams.specs.Script.{Fail, Fault, Give, Got, Tapes, Turns, at_once, play}
-use Rattle.kahn_warnings.specs.declared.sites.SiteKind.{SiteKind}
+use Rattle.kahn_warnings.specs.declared.{sites.SiteKind.SiteKind, warning.WarningKind.WarningKind}
 use Rattle.kahn_warnings.specs.declared.sites.SiteKind.TheVariants.{Sign, Binary, Test, Turn}
-use Rattle.kahn_warnings.specs.declared.warning.WarningKind.{WarningKind}
 use Rattle.kahn_warnings.specs.declared.warning.WarningKind.TheVariants.{Divides, Overflows, AlwaysTrue, AlwaysFalse, Unchanged, BareDo}
 
 -- ---- the value that an expression has wherever it is reached, where that is told

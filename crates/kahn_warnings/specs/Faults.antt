@@ -3,11 +3,7 @@ use Rattle.std.specs.Prelude.{◌≡◌, ℕ, ℤ, negsuc, Bool, true, false, �
 use Rattle.std.specs.List.{AllByRecursion}
 use Rattle.std.specs.Result.{result_err}
 use Rattle.std.proofs.Common.{int_eq}
-use Rattle.kahn_streams.specs.declared.span.Span.{Span}
-use Rattle.kahn_streams.specs.declared.tree.Operator.{Operator}
-use Rattle.kahn_streams.specs.declared.tree.Statement.{Statement}
-use Rattle.kahn_streams.specs.declared.value.Value.{Value}
-use Rattle.kahn_streams.specs.declared.value.Failure.{Failure}
+use Rattle.kahn_streams.specs.declared.{span.Span.Span, tree.Operator.Operator, tree.Statement.Statement, value.Value.Value, value.Failure.Failure}
 use Rattle.kahn_streams.specs.declared.tree.Operator.TheVariants.{Add, Subtract, Multiply, Divide, Remainder}
 use Rattle.kahn_streams.specs.Syntax as S
 use Rattle.kahn_streams.specs.View.{Scope, body_of}
@@ -19,8 +15,7 @@ use Rattle.kahn_streams.specs.Script.{Fault, Tapes}
 use Rattle.kahn_streams.specs.Solution.{Faulted, HasEnd, Inputs, opening}
 use Rattle.kahn_warnings.specs.Constants.{divides, negate_fault}
 use Rattle.kahn_warnings.specs.Sites.{body_sites}
-use Rattle.kahn_warnings.specs.declared.sites.ConstantSite.{ConstantSite}
-use Rattle.kahn_warnings.specs.declared.sites.SiteKind.{SiteKind}
+use Rattle.kahn_warnings.specs.declared.sites.{ConstantSite.ConstantSite, SiteKind.SiteKind}
 use Rattle.kahn_warnings.specs.declared.sites.SiteKind.TheVariants.{Sign, Binary, Test, Turn}
 
 -- ---- which operators can have a fault

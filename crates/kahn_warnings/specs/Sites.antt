@@ -1,15 +1,12 @@
 -- Believed. The operators and the tests in the body of a process, with what the constants tell of their operands.
 use Rattle.std.specs.Prelude.{List, [], ◌∷◌, ◌++◌, Option, flat_map}
-use Rattle.kahn_streams.specs.declared.span.Span.{Span}
+use Rattle.kahn_streams.specs.declared.{span.Span.Span, tree.Statement.Statement, value.Value.Value}
 use Rattle.kahn_streams.specs.declared.tree.Form.{Form, Number, Logical, Variable, Wait, Negate', Not', Bracket', Level', Conditional', Row_of-Operand, end_of-Operand, more_of-Operand}
 use Rattle.kahn_streams.specs.declared.tree.Action.{Action, Empty, Assign, Send, Print, Block', If', While', Repeat', Row_of-Statement, end_of-Statement, more_of-Statement, Held-Action-If-2, None', Some'}
-use Rattle.kahn_streams.specs.declared.tree.Statement.{Statement}
-use Rattle.kahn_streams.specs.declared.value.Value.{Value}
 use Rattle.kahn_streams.specs.View.{expr_of, expression_of}
 use Rattle.kahn_warnings.specs.Constants.{combined, constant_of}
 use Rattle.kahn_warnings.specs.Uses.{is_empty, varies_by}
-use Rattle.kahn_warnings.specs.declared.sites.ConstantSite.{ConstantSite}
-use Rattle.kahn_warnings.specs.declared.sites.SiteKind.{SiteKind}
+use Rattle.kahn_warnings.specs.declared.sites.{ConstantSite.ConstantSite, SiteKind.SiteKind}
 use Rattle.kahn_warnings.specs.declared.sites.SiteKind.TheVariants.{Sign, Binary, Test, Turn}
 
 abbrev pub site_at : SiteKind → Span → ConstantSite

@@ -1,9 +1,7 @@
 -- Believed. How warnings are told.
 use Rattle.std.specs.Prelude.{◌≡◌, ℕ, List, map}
-use Rattle.kahn_streams.specs.declared.span.Span.{Span}
-use Rattle.kahn_streams.specs.declared.tree.Program.{Program}
-use Rattle.kahn_marks.specs.declared.rendering.Note.{Note}
-use Rattle.kahn_marks.specs.declared.rendering.Sort.{Sort}
+use Rattle.kahn_streams.specs.declared.{span.Span.Span, tree.Program.Program}
+use Rattle.kahn_marks.specs.declared.rendering.{Note.Note, Sort.Sort}
 use Rattle.kahn_marks.specs.declared.rendering.Sort.TheVariants as sort
 use Rattle.kahn_warnings.specs.Warnings.{AreWarnings}
 use Rattle.kahn_warnings.specs.declared.warning.Warning.{Warning}

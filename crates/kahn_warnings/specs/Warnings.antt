@@ -5,18 +5,9 @@ use Rattle.std.specs.List.{list_any}
 use Rattle.std.specs.Option.{option_or}
 use Rattle.std.proofs.Common.{bytes_eq}
 use Rattle.kahn_streams.specs.View.{bytes_of, expression_of, stmt_of, statement_of}
-use Rattle.kahn_streams.specs.declared.span.Span.{Span}
-use Rattle.kahn_streams.specs.declared.tree.Kind.{Kind}
-use Rattle.kahn_streams.specs.declared.tree.Kind.TheVariants.{Integer, Logical}
-use Rattle.kahn_streams.specs.declared.tree.Name.{Name}
+use Rattle.kahn_streams.specs.declared.{span.Span.Span, tree.Kind.Kind, tree.Name.Name, tree.Statement.Statement, tree.Parameter.Parameter, tree.Process.Process, tree.Instance.Instance, tree.Declaration.Declaration, tree.Program.Program, tree.Variable.Variable}
 use Rattle.kahn_streams.specs.declared.tree.Action.{Action, Empty, Assign, Send, Print, Block', If', While', Repeat', Row_of-Statement, end_of-Statement, more_of-Statement, Held-Action-If-2, None', Some'}
-use Rattle.kahn_streams.specs.declared.tree.Statement.{Statement}
-use Rattle.kahn_streams.specs.declared.tree.Parameter.{Parameter}
-use Rattle.kahn_streams.specs.declared.tree.Process.{Process}
-use Rattle.kahn_streams.specs.declared.tree.Variable.{Variable}
-use Rattle.kahn_streams.specs.declared.tree.Instance.{Instance}
-use Rattle.kahn_streams.specs.declared.tree.Declaration.{Declaration}
-use Rattle.kahn_streams.specs.declared.tree.Program.{Program}
+use Rattle.kahn_streams.specs.declared.tree.Kind.TheVariants.{Integer, Logical}
 use Rattle.kahn_streams.specs.declared.tree.Declaration.TheVariants as D
 use Rattle.kahn_warnings.specs.Comments.{AreCommentWarnings}
 use Rattle.kahn_warnings.specs.Constants.{constant_of, is_true, site_kind}
@@ -24,9 +15,7 @@ use Rattle.kahn_warnings.specs.Loops.{is_seen, never_ends}
 use Rattle.kahn_warnings.specs.Sites.{body_sites}
 use Rattle.kahn_warnings.specs.Uses.{assigns, is_empty, uses_name}
 use Rattle.kahn_warnings.specs.Warned.{warned}
-use Rattle.kahn_warnings.specs.declared.sites.ConstantSite.{ConstantSite}
-use Rattle.kahn_warnings.specs.declared.warning.Warning.{Warning}
-use Rattle.kahn_warnings.specs.declared.warning.WarningKind.{WarningKind}
+use Rattle.kahn_warnings.specs.declared.{sites.ConstantSite.ConstantSite, warning.Warning.Warning, warning.WarningKind.WarningKind}
 use Rattle.kahn_warnings.specs.declared.warning.WarningKind.TheVariants.{NoInstance, Unused, Unread, StaysZero, StaysFalse, Idle, Unreached, BareThen, Beside}
 
 -- ---- a process without an instance

@@ -1,36 +1,23 @@
 //! Comments that go on over a line's end, and have the beginning of a statement behind that.
 
-ghost use Rattle.std.specs.Prelude.{◌≤◌, ◌++◌, ◌∷◌, [], IfOk, length};
-ghost use Rattle.kahn_wanted.specs.inner.Passing.{EndWithin};
-ghost use Rattle.kahn_warnings.specs.Comments.{AreCommentWarnings, CommentWarnings};
+ghost use Rattle.std.specs.Prelude.{All, IfOk};
+ghost use Rattle.kahn_warnings.specs.Comments.{AreCommentWarnings, IsCommentWarning};
 
 use crate::warning::{Warning, WarningKind};
 use kahn_streams::{NoMemory, Span};
 use kahn_wanted::{comments_of, swallows};
 use std::alloc::{AllocError, Global};
 
-/// Adds the warning of a comment, where there is one.
-fn add_comment(warnings: &mut Vec<Warning>, text: &[u8], comment: Span) -> Result<(), AllocError>
-    requires { comment.to ≤ length text.now }
-    ensures { IfOk result (λ _. (cs : _) → CommentWarnings text.now cs warnings.old.items → CommentWarnings text.now (cs ++ comment ∷ []) warnings.new.items) }
-{
-    if swallows(text, comment.from, comment.to, false) {
-        warnings.push(Warning {
-            kind: WarningKind::LongComment,
-            span: comment,
-        })?;
-    }
-    Ok(())
-}
-
 /// The warnings of comments of a text.
 fn warnings_of(alloc: Global, text: &[u8], comments: &[Span]) -> Result<Vec<Warning>, AllocError>
-    requires { EndWithin text.now comments.now }
-    ensures { IfOk result (λ ws. CommentWarnings text.now comments.now ws.items) }
+    ensures { IfOk result (λ ws. All (IsCommentWarning text.now comments.now) ws.items) }
 {
     let mut warnings = Vec::new(alloc);
     for comment in comments {
-        add_comment(&mut warnings, text, *comment)?;
+        if swallows(text, comment.from, comment.to, false) {
+            let (kind, span) = (WarningKind::LongComment, *comment);
+            warnings.push(Warning { kind, span })?;
+        }
     }
     Ok(warnings)
 }

@@ -1,12 +1,10 @@
 //! All that is warned of in a program.
 
-ghost use Rattle.std.specs.Prelude.{◌≡◌, ◌++◌, ◌&&◌, ◌||◌, IfOk, None, Some, flat_map, if◌then◌else◌};
+ghost use Rattle.std.specs.Prelude.{◌≡◌, ◌++◌, ◌&&◌, ◌||◌, IfOk, None, flat_map, if◌then◌else◌};
 ghost use Rattle.std.specs.Option.{option_or};
 ghost use Rattle.kahn_streams.specs.View.{Scope, statement_of};
 ghost use Rattle.kahn_warnings.specs.Loops.{is_seen, never_ends};
-ghost use Rattle.kahn_warnings.specs.Warned.{warned};
 ghost use Rattle.kahn_warnings.specs.Warnings.{AreWarnings, bare_kind, body_warnings, by_layout, declaration_warnings, loop_kind, statement_warnings};
-ghost use Rattle.kahn_warnings.specs.declared.warning.WarningKind.TheVariants.{Unreached};
 
 use crate::comments::comment_warnings;
 use crate::constants::{constant_of, is_true};
@@ -49,21 +47,6 @@ fn place_on(ends: bool, place: Option<Span>, next: Option<Span>) -> Option<Span>
     }
 }
 
-/// Adds the warning of the first statement that isn't reached. Answers whether its list never ends, and whether it is seen.
-fn add_unreached(
-    warnings: &mut Vec<Warning>,
-    place: Option<Span>,
-    ends: bool,
-    seen: bool,
-) -> Result<(bool, bool), AllocError>
-    ensures warnings { IfOk result (λ _. warnings.new.items ≡ warnings.old.items ++ warned (Some Unreached) place) }
-    ensures ends { IfOk result (λ course. course.0 ≡ ends) }
-    ensures seen { IfOk result (λ course. course.1 ≡ seen) }
-{
-    add_warning(warnings, Some(WarningKind::Unreached), place)?;
-    Ok((ends, seen))
-}
-
 /// Whether an `if` never ends, by both branches, and whether it is seen, by its test too.
 fn branched(waits: bool, yes: (bool, bool), no: (bool, bool)) -> (bool, bool)
     ensures ends { result.0 ≡ yes.0 && no.0 }
@@ -96,7 +79,8 @@ fn add_statement(
                 ends = ends | course.0;
                 seen = seen | course.1;
             }
-            add_unreached(warnings, place, ends, seen)
+            add_warning(warnings, Some(WarningKind::Unreached), place)?;
+            Ok((ends, seen))
         }
         Action::If(test, yes, no) => {
             let first = add_statement(warnings, yes)?;
@@ -132,7 +116,8 @@ fn add_body(warnings: &mut Vec<Warning>, statements: &[Statement]) -> Result<(),
         let course = add_statement(warnings, statement)?;
         ends = ends | course.0;
     }
-    add_warning(warnings, Some(WarningKind::Unreached), place)
+    add_warning(warnings, Some(WarningKind::Unreached), place)?;
+    Ok(())
 }
 
 /// Adds those of a declaration.

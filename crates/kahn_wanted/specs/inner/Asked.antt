@@ -1,27 +1,24 @@
 -- Inner. Which lexemes may stand behind others.
-use Rattle.std.specs.Prelude.{◌≡◌, ◌↔◌, List, [], ◌∷◌, ◌++◌, Bool, true, false, ℕ, Contains}
+use Rattle.std.specs.Prelude.{◌≡◌, List, [], ◌∷◌, ◌++◌, ℕ, ℤ, All, Contains}
 use Rattle.kahn_streams.specs.declared.span.Span.{Span}
-use Rattle.kahn_syntax.specs.declared.lexeme.Class.{Class}
-use Rattle.kahn_syntax.specs.declared.lexeme.Lexeme.{Lexeme}
+use Rattle.kahn_syntax.specs.declared.lexeme.{Class.Class, Lexeme.Lexeme}
 use Rattle.kahn_syntax.specs.Grammar.{Terminal}
-use Rattle.kahn_syntax.specs.Texts.{terminal, terminals, Begins, BeginsWithin}
+use Rattle.kahn_syntax.specs.Texts.{terminals, Begins, BeginsWithin}
+use Rattle.kahn_wanted.specs.inner.Walk.{terminal_with}
 
--- whether they begin a program
-abbrev pub AnswersBegin : List Terminal → Bool → Type 0
-AnswersBegin ks true = Begins ks
-AnswersBegin ks false = ¬ (Begins ks)
+-- behind these terminals each terminal of this class may stand, and one of it may
+abbrev pub AllMayCome : List Terminal → Class → Type 0
+AllMayCome ks c = (n : List ℕ) (z : ℤ) → Begins (ks ++ terminal_with n z c ∷ [])
 
--- no bytes, at the beginning of a text
-abbrev pub nowhere : Span
-nowhere = record { from = 0; to = 0 }
+abbrev pub OneMayCome : List Terminal → Class → Type 0
+OneMayCome ks c = (n : List ℕ) × (z : ℤ) × Begins (ks ++ terminal_with n z c ∷ [])
 
--- behind these lexemes one of this class may stand
-abbrev pub MayCome : List ℕ → List Lexeme → Class → Type 0
-MayCome text before c = Begins (terminals text before ++ terminal text c nowhere ∷ [])
+abbrev pub IsToldIfItComes : List Terminal → List Class → Class → Type 0
+IsToldIfItComes ks ws c = OneMayCome ks c → Contains ws c
 
 -- of some classes just those are told that may come
-abbrev pub AreOf : List ℕ → List Lexeme → List Class → List Class → Type 0
-AreOf text before some ws = (c : Class) → Contains some c → Contains ws c ↔ MayCome text before c
+abbrev pub AreOf : List Terminal → List Class → List Class → Type 0
+AreOf ks some ws = All (AllMayCome ks) ws × All (IsToldIfItComes ks ws) some
 
 -- the lexeme with this span stands behind others that begin a program within the limit
 abbrev pub StandsBehind : List ℕ → List Lexeme → Span → Type 0

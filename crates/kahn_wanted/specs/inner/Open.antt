@@ -1,9 +1,8 @@
 -- Inner. The blocks that are open while lexemes are gone through.
 use Rattle.std.specs.Prelude.{◌-◌, List, ◌∷◌, ◌++◌, [], length, take}
-use Rattle.kahn_syntax.specs.declared.lexeme.Class.{Class}
+use Rattle.kahn_syntax.specs.declared.lexeme.{Class.Class, Lexeme.Lexeme}
 use Rattle.kahn_syntax.specs.declared.lexeme.Class.TheVariants as class
 use Rattle.kahn_syntax.specs.declared.lexeme.Keyword.TheVariants as word
-use Rattle.kahn_syntax.specs.declared.lexeme.Lexeme.{Lexeme}
 use Rattle.kahn_wanted.specs.Blocks.{closed_in, open_blocks}
 
 -- what a lexeme makes of the blocks that are open before it: `begin` opens one, and `end` closes the last one

@@ -1,18 +1,13 @@
 -- Inner. What is open behind lexemes: what the code calls the parts of the grammar, and what terminals do to them, one after another.
-use Rattle.std.specs.Prelude.{◌≡◌, ℕ, Bool, List, [], ◌∷◌, ◌++◌, Option, Some, None, is_some, map}
+use Rattle.std.specs.Prelude.{◌≡◌, ℕ, ℤ, Bool, List, [], ◌∷◌, ◌++◌, Option, Some, None, Result, Ok, Err, is_some, map}
 use Rattle.std.specs.Borrow.{Bor}
-use Rattle.kahn_streams.specs.declared.span.Span.{Span}
 use Rattle.kahn_syntax.specs.declared.lexeme.Class.{Class}
-use Rattle.kahn_syntax.specs.declared.lexeme.Keyword.TheVariants as keyword
-use Rattle.kahn_syntax.specs.declared.lexeme.Sign.TheVariants as mark
-use Rattle.kahn_syntax.specs.Grammar.{Terminal}
-use Rattle.kahn_syntax.specs.Texts.{terminal}
+use Rattle.kahn_syntax.specs.declared.lexeme.Class.TheVariants as class
+use Rattle.kahn_syntax.specs.Grammar.{Terminal, word, numeral, name}
+use Rattle.kahn_syntax.specs.Texts.{sign_terminal}
 use Rattle.kahn_syntax.specs.inner.Machine.{RuleToken, a_word, either, a_sign, a_number, a_name, an_operator, Rule, step, whole, ors, ands, denials, relations, sums, terms, factors, Part, ProgramPart, DeclarationsPart, RolePart, GroupsPart, GroupPart, TakingPart, VariablesPart, StatementPart, SimplePart, InstancePart, ArgumentsPart, ArgumentPart, ExpressionPart, OperatorsPart, NamesTail, StatementsTail, GroupsTail, ArgumentsTail, InstancesTail, ElseTail, LastTail, TokenPart, LevelPart}
-use Rattle.kahn_wanted.specs.declared.awaited.Awaited.{Awaited}
+use Rattle.kahn_wanted.specs.declared.awaited.{Awaited.Awaited, Lead.Lead}
 use Rattle.kahn_wanted.specs.declared.awaited.Awaited.TheVariants as awaited
-use Rattle.kahn_wanted.specs.declared.awaited.Single.{Single}
-use Rattle.kahn_wanted.specs.declared.awaited.Single.TheVariants as single
-use Rattle.kahn_wanted.specs.declared.awaited.Lead.{Lead}
 use Rattle.kahn_wanted.specs.declared.awaited.Lead.TheVariants as lead
 
 abbrev pub lead_of : Lead → RuleToken
@@ -22,21 +17,6 @@ lead_of (lead.Sign s) = a_sign s
 lead_of lead.Number = a_number
 lead_of lead.Name = a_name
 lead_of (lead.Operator o) = an_operator o
-
-abbrev pub single_token : Single → RuleToken
-single_token single.Name = a_name
-single_token single.Number = a_number
-single_token single.Open = a_sign mark.Open
-single_token single.Close = a_sign mark.Close
-single_token single.Semicolon = a_sign mark.Semicolon
-single_token single.Becomes = a_sign mark.Becomes
-single_token single.Begin = a_word keyword.Begin
-single_token single.End = a_word keyword.End
-single_token single.Channel = a_word keyword.Channel
-single_token single.On = a_word keyword.On
-single_token single.Then = a_word keyword.Then
-single_token single.Do = a_word keyword.Do
-single_token single.Else = a_word keyword.Else
 
 abbrev pub awaited_part : Awaited → Part
 awaited_part awaited.Program = ProgramPart
@@ -70,7 +50,7 @@ awaited_part awaited.MoreInstances = InstancesTail
 awaited_part awaited.Otherwise = ElseTail
 awaited_part awaited.Last = LastTail
 awaited_part awaited.Level = LevelPart
-awaited_part (awaited.Just s) = TokenPart (single_token s)
+awaited_part (awaited.Just s) = TokenPart (lead_of s)
 
 -- the first part stands last
 abbrev pub awaited_parts : List Awaited → List Part
@@ -83,6 +63,10 @@ rule_of r = (lead_of r.0, awaited_parts r.1.now)
 abbrev pub rules_as : List (Lead × Bor (List Awaited)) → List Rule
 rules_as rs = map rule_of rs
 
+abbrev pub rules_by : Result (Bor (List (Lead × Bor (List Awaited)))) Lead → List Rule
+rules_by (Ok rs) = rules_as rs.now
+rules_by (Err l) = (lead_of l, []) ∷ []
+
 -- what is open behind a terminal: nothing where it can't stand
 abbrev pub left_open : Option (List Part) → List Part
 left_open None = []
@@ -93,9 +77,16 @@ abbrev pub walked : List Part → List Terminal → List Part
 walked s [] = s
 walked s (k ∷ ks) = walked (left_open (step s k)) ks
 
+-- a terminal of this class, with these bytes or that value
+abbrev pub terminal_with : List ℕ → ℤ → Class → Terminal
+terminal_with n z (class.Word w) = word w
+terminal_with n z (class.Sign s) = sign_terminal s
+terminal_with n z class.Name = name n
+terminal_with n z (class.Number y) = numeral z
+
 -- whether a lexeme of this class may stand where this is open, and what is open behind it then
 abbrev pub MayPass : List Awaited → Class → Bool → Type 0
-MayPass s c may = (text : List ℕ) (at : Span) → is_some (step (awaited_parts s) (terminal text c at)) ≡ may
+MayPass s c may = (n : List ℕ) (z : ℤ) → is_some (step (awaited_parts s) (terminal_with n z c)) ≡ may
 
 abbrev pub Passes : List Awaited → Class → List Awaited → Bool → Type 0
-Passes old c new may = MayPass old c may × ((text : List ℕ) (at : Span) → left_open (step (awaited_parts old) (terminal text c at)) ≡ awaited_parts new)
+Passes old c new may = MayPass old c may × ((n : List ℕ) (z : ℤ) → left_open (step (awaited_parts old) (terminal_with n z c)) ≡ awaited_parts new)

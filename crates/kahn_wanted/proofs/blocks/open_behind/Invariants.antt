@@ -1,7 +1,5 @@
 -- What the rest of the lexemes leaves of the blocks so far.
-use Rattle.std.proofs.Common.{◌≡◌, drop}
-use Rattle.kahn_wanted.specs.Blocks.{open_blocks}
-use Rattle.kahn_wanted.specs.inner.Open.{open_on}
+use Rattle.kahn_wanted.proofs.Common.{drop, open_blocks, open_on, ◌≡◌}
 use Rattle.kahn_wanted.proofs.blocks.open_behind.Given as goal
 
 abbrev pub invariant-loop-lexeme : goal.invariant-loop-lexeme

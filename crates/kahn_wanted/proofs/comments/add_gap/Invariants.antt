@@ -1,7 +1,5 @@
 -- What is left is a gap, and the comments before it are passed.
-use Rattle.std.proofs.Common.{ℕ, ◌≤◌, ◌-◌}
-use Rattle.kahn_syntax.specs.Texts.{Gap}
-use Rattle.kahn_wanted.specs.inner.Passing.{Passed}
+use Rattle.kahn_wanted.proofs.Common.{Gap, Passed, ℕ, ◌-◌, ◌≤◌}
 use Rattle.kahn_wanted.proofs.comments.add_gap.Given as goal
 
 abbrev pub invariant-gap : goal.invariant-gap

@@ -1,7 +1,5 @@
 -- The lexemes so far are passed, with what stands before them.
-use Rattle.std.proofs.Common.{drop, length}
-use Rattle.kahn_syntax.specs.Texts.{Lexed}
-use Rattle.kahn_wanted.specs.inner.Passing.{Passed}
+use Rattle.kahn_wanted.proofs.Common.{Lexed, Passed, drop, length}
 use Rattle.kahn_wanted.proofs.comments.comments_of.Given as goal
 
 abbrev pub invariant-loop-lexeme : goal.invariant-loop-lexeme

@@ -1,6 +1,5 @@
 -- No lexeme so far has the span.
-use Rattle.std.proofs.Common.{◌≡◌, ℕ, ◌<◌, get_or}
-use Rattle.kahn_syntax.specs.declared.lexeme.Lexeme.{Lexeme}
+use Rattle.kahn_wanted.proofs.Common.{Lexeme, get_or, ℕ, ◌<◌, ◌≡◌}
 use Rattle.kahn_wanted.proofs.found.count_before.Given as goal
 
 abbrev pub invariant-loop-number : goal.invariant-loop-number

@@ -1,6 +1,4 @@
-use Rattle.std.proofs.Common.{sym, subst}
-use Rattle.kahn_syntax.specs.declared.fault.SyntaxFault.TheVariants.{Expected}
-use Rattle.kahn_syntax.specs.Texts.{IsFault, AreLexemes}
+use Rattle.kahn_wanted.proofs.Common.{AreLexemes, Expected, IsFault, subst, sym}
 use Rattle.kahn_wanted.proofs.Front.{at_place, of_lexemes}
 use Rattle.kahn_wanted.proofs.found.place_at.Goals as goal
 

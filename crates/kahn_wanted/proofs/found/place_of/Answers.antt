@@ -1,8 +1,4 @@
-use Rattle.std.proofs.Common.{arith, length, subst, sym}
-use Rattle.std.proofs.lemmas.List.{take_all}
-use Rattle.kahn_syntax.specs.declared.fault.SyntaxFault.TheVariants.{Expected}
-use Rattle.kahn_syntax.specs.Texts.{BeginsWithin, IsFault, terminals}
-use Rattle.kahn_wanted.specs.Wanted.{IsPlace}
+use Rattle.kahn_wanted.proofs.Common.{BeginsWithin, Expected, IsFault, IsPlace, arith, length, subst, sym, take_all, terminals}
 use Rattle.kahn_wanted.proofs.Front.{at_end, at_nothing, at_other, found_there, within_first}
 use Rattle.kahn_wanted.proofs.found.place_of.Goals as goal
 

@@ -1,8 +1,4 @@
-use Rattle.std.proofs.Common.{◌↔◌, Contains, List, ℕ, subst}
-use Rattle.std.proofs.lemmas.Result.{IfOk-weaker}
-use Rattle.kahn_syntax.specs.declared.lexeme.Class.{Class}
-use Rattle.kahn_syntax.specs.Texts.{terminals}
-use Rattle.kahn_wanted.specs.Wanted.{AreWanted, told_classes}
+use Rattle.kahn_wanted.proofs.Common.{AreWanted, Class, Contains, IfOk-weaker, List, subst, terminals, told_classes, ℕ, ◌↔◌}
 use Rattle.kahn_wanted.proofs.Classes.{wanted_of}
 use Rattle.kahn_wanted.proofs.found.wanted_behind.Goals as goal
 
@@ -10,5 +6,5 @@ pub returns : goal.returns
 returns c =
     IfOk-weaker c.grouped.result (λ w. (x : Class) → Contains (told_classes w) x ↔ Contains c.deref.result.now x)
     (λ w. (text : List ℕ) → AreWanted (terminals text c.args.before.now) w)
-    (λ w h text. wanted_of text c.args.before.now c.in_ok-classes.classes.items w (c.in_ok-classes.ensures text)
+    (λ w h text. wanted_of (terminals text c.args.before.now) c.in_ok-classes.classes.items w (c.in_ok-classes.ensures text)
     (subst (λ l. (x : Class) → Contains (told_classes w) x ↔ Contains l x) c.deref.ensures.value h)) c.grouped.ensures

@@ -1,6 +1,5 @@
 -- The members of the groups so far were told, and are all there.
-use Rattle.std.proofs.Common.{◌≡◌, All, Contains, flat_map}
-use Rattle.kahn_wanted.specs.Wanted.{members}
+use Rattle.kahn_wanted.proofs.Common.{All, Contains, flat_map, members, ◌≡◌}
 use Rattle.kahn_wanted.proofs.groups.find_groups.Given as goal
 
 abbrev pub invariant-loop-group : goal.invariant-loop-group

@@ -1,8 +1,5 @@
-use Rattle.std.proofs.Common.{◌<◌, ◌≤◌, ◌++◌, length, subst, arith, All, Contains}
-use Rattle.std.proofs.lemmas.List.{take_all}
-use Rattle.kahn_syntax.specs.declared.lexeme.Class.TheVariants as class
-use Rattle.kahn_syntax.specs.declared.lexeme.Keyword.TheVariants as keyword
-use Rattle.kahn_wanted.proofs.Classes.{other_less, other_more}
+use Rattle.kahn_wanted.proofs.Common.{And, Contains, Contains-append_left, Contains-append_right, Contains-get_or, Contains-push, Word, [], arith, get_or, length, ◌++◌, ◌<◌, ◌∷◌}
+use Rattle.kahn_wanted.proofs.Classes.{IsAmong, all_grown, one_less, one_more, still_among}
 use Rattle.kahn_wanted.proofs.groups.find_others.Goals as goal
 use Rattle.kahn_wanted.proofs.groups.find_others.Goals.{then-not-has+in_ok-push, else-not-has}
 
@@ -11,17 +8,20 @@ loop-class-preserved c =
     let classes = c.args.classes.now in
     let said = c.args.told.now in
     let i = c.loop-class.class-index in
-    let d = class.Word keyword.And in
+    let x = get_or classes i (Word And) in
+    let old = c.loop-class.others.items in
+    let new = c.if-not-has.others.items in
     let below : i < length classes = omega arith in
     elim c.if-not-has.branch [
       | then-not-has+in_ok-push w ↦
-          other_more classes said i d c.loop-class.others.items c.if-not-has.others.items below (cc (w.others-is, w.in_ok-push.ensures.items)) c.loop-class.invariant
-      | else-not-has w ↦ other_less classes said i d c.loop-class.others.items c.if-not-has.others.items below (cc (w.others-is)) w.if-not-has.ensures c.loop-class.invariant
+          one_more (Contains classes) (IsAmong said) classes i (Word And) old new (still_among said old) below (cc (w.others-is, w.in_ok-push.ensures.items))
+          (Contains-get_or classes i (Word And) below) (Contains-append_right said (old ++ x ∷ []) x (Contains-push old x)) c.loop-class.invariant
+      | else-not-has w ↦
+          one_less (Contains classes) (IsAmong said) classes i (Word And) old new below (cc (w.others-is)) (Contains-append_left said old x w.if-not-has.ensures)
+          c.loop-class.invariant
     ]
 
 pub returns : goal.returns
 returns c =
-    let past : length c.args.classes.now ≤ c.loop-class.class-index = omega arith in (
-      c.loop-class.invariant.0,
-      subst (All (Contains (c.args.told.now ++ c.loop-class.others.items))) (take_all c.loop-class.class-index c.args.classes.now past) c.loop-class.invariant.1,
-    )
+    let classes = c.args.classes.now in
+    all_grown (Contains classes) (IsAmong c.args.told.now) classes c.loop-class.class-index c.loop-class.others.items (omega arith) c.loop-class.invariant

@@ -1,8 +1,5 @@
 -- The lexemes that are left lead from here to where all lead.
-use Rattle.std.proofs.Common.{◌≡◌, [], ◌∷◌, List, ℕ, drop}
-use Rattle.kahn_syntax.specs.Texts.{terminals}
-use Rattle.kahn_syntax.specs.inner.Machine.{ProgramPart}
-use Rattle.kahn_wanted.specs.inner.Walk.{awaited_parts, walked}
+use Rattle.kahn_wanted.proofs.Common.{List, ProgramPart, [], awaited_parts, drop, terminals, walked, ℕ, ◌∷◌, ◌≡◌}
 use Rattle.kahn_wanted.proofs.walk.awaited_behind.Given as goal
 
 abbrev pub invariant-loop-lexeme : goal.invariant-loop-lexeme

@@ -1,8 +1,5 @@
 -- The names of the statements that are left, with those so far, are all.
-use Rattle.std.proofs.Common.{◌≡◌, ◌||◌, [], ◌∷◌, List, ℕ, drop}
-use Rattle.kahn_warnings.specs.inner.Collecting.{contains}
-use Rattle.kahn_streams.specs.View.{statement_of}
-use Rattle.kahn_warnings.specs.Uses.{is_assigned_in, is_used_in}
+use Rattle.kahn_warnings.proofs.Common.{List, [], contains, drop, is_assigned_in, is_used_in, statement_of, ℕ, ◌||◌, ◌∷◌, ◌≡◌}
 use Rattle.kahn_warnings.proofs.Lists.{any_in}
 use Rattle.kahn_warnings.proofs.collected.+add_both.Given as goal
 

@@ -1,9 +1,6 @@
-use Rattle.std.proofs.Common.{rules, arith, ◌≡◌, ◌∙◌, ◌||◌, ◌+◌, [], ◌∷◌, ap, sym, drop}
-use Rattle.std.proofs.lemmas.Grind.{common_steps}
-use Rattle.kahn_warnings.specs.inner.Collecting.{contains}
-use Rattle.kahn_streams.specs.View.{expression_of}
+use Rattle.kahn_warnings.proofs.Common.{[], ap, arith, common_steps, contains, drop, expression_of, is_named, sym, ◌+◌, ◌||◌, ◌∙◌, ◌∷◌, ◌≡◌}
+use Rattle.std.proofs.Common.{rules}
 use Rattle.kahn_streams.specs.declared.tree.Form.TheViews.{the_lemmas}
-use Rattle.kahn_warnings.specs.Uses.{is_named}
 use Rattle.kahn_warnings.proofs.Getting.{got_first}
 use Rattle.kahn_warnings.proofs.Lists.{level_named, operands_named}
 use Rattle.kahn_warnings.proofs.collected.+add_named.Goals as goal

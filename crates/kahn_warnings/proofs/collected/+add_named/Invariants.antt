@@ -1,8 +1,5 @@
 -- The names of the operands that are left, with those so far, are all.
-use Rattle.std.proofs.Common.{◌≡◌, ◌||◌, [], ◌∷◌, List, ℕ, drop}
-use Rattle.kahn_warnings.specs.inner.Collecting.{contains}
-use Rattle.kahn_streams.specs.View.{expression_of}
-use Rattle.kahn_warnings.specs.Uses.{is_named}
+use Rattle.kahn_warnings.proofs.Common.{List, [], contains, drop, expression_of, is_named, ℕ, ◌||◌, ◌∷◌, ◌≡◌}
 use Rattle.kahn_warnings.proofs.Lists.{operands_named}
 use Rattle.kahn_warnings.proofs.collected.+add_named.Given as goal
 

@@ -1,5 +1,4 @@
-use Rattle.std.proofs.Common.{◌∙◌, ap, string_bytes}
-use Rattle.kahn_warnings.specs.inner.Collecting.{contains}
+use Rattle.kahn_warnings.proofs.Common.{ap, contains, string_bytes, ◌∙◌}
 use Rattle.kahn_warnings.proofs.Getting.{kept_one}
 use Rattle.kahn_warnings.proofs.collected.add.Goals as goal
 

@@ -1,7 +1,5 @@
 -- The names of the statements that are left, with those so far, are all.
-use Rattle.std.proofs.Common.{◌≡◌, ◌||◌, [], ◌∷◌, List, ℕ, drop}
-use Rattle.kahn_warnings.specs.inner.Collecting.{contains}
-use Rattle.kahn_warnings.specs.Uses.{assigns, is_assigned_in, is_used_in, uses_name}
+use Rattle.kahn_warnings.proofs.Common.{List, [], assigns, contains, drop, is_assigned_in, is_used_in, uses_name, ℕ, ◌||◌, ◌∷◌, ◌≡◌}
 use Rattle.kahn_warnings.proofs.Lists.{any_in}
 use Rattle.kahn_warnings.proofs.collected.add_all.Given as goal
 

@@ -1,8 +1,5 @@
-use Rattle.std.proofs.Common.{◌||◌, ◌∙◌, [], ◌∷◌, ap}
-use Rattle.kahn_streams.specs.View.{statement_of}
-use Rattle.kahn_warnings.specs.Uses.{is_assigned_in}
-use Rattle.kahn_warnings.specs.inner.Collecting.{contains}
-use Rattle.kahn_warnings.proofs.Getting.{or_false}
+use Rattle.kahn_warnings.proofs.Common.{[], ap, contains, is_assigned_in, statement_of, ◌||◌, ◌∙◌, ◌∷◌}
+use Rattle.kahn_warnings.proofs.Lists.{or_false}
 use Rattle.kahn_warnings.proofs.collected.assigned_in.Goals as goal
 
 pub returns : goal.returns

@@ -1,6 +1,4 @@
-use Rattle.kahn_warnings.proofs.Reading.{all_within}
 use Rattle.kahn_warnings.proofs.comments.comment_warnings.Goals as goal
 
-pub warnings_of-requires : goal.warnings_of-requires
-warnings_of-requires c =
-    all_within c.as_bytes.result.now c.args.text.now c.deref.result.now c.in_ok-comments.comments.items c.as_bytes.ensures.value c.deref.ensures.value c.in_ok-comments.ensures
+pub returns : goal.returns
+returns c = (c.in_ok-comments.comments.items, c.in_ok-comments.ensures, rw (c.as_bytes.ensures.value, c.deref.ensures.value) at c.in_ok-warnings_of.ensures)

@@ -1,24 +1,23 @@
-use Rattle.std.proofs.Common.{arith, subst, sym, take}
-use Rattle.std.proofs.lemmas.List.{take_all, take_more}
-use Rattle.std.proofs.lemmas.Option.{slice_get-get_or}
-use Rattle.kahn_warnings.specs.Comments.{CommentWarnings, no_comment}
+use Rattle.kahn_warnings.proofs.Common.{All, All-push, Contains-get_or, EndsLine, IsCommentWarning, List, LongComment, Span, Warning, [], arith, get_or, length, refl, subst, sym, ℕ, ◌++◌, ◌<◌, ◌∷◌, ◌≡◌}
 use Rattle.kahn_warnings.proofs.comments.warnings_of.Goals as goal
+use Rattle.kahn_warnings.proofs.comments.warnings_of.Goals.{then-swallows+in_ok-push, else-swallows}
 
-pub add_comment-requires : goal.add_comment-requires
-add_comment-requires c =
-    let i = c.loop-comment.comment-index in
-    c.requires i _ (slice_get-get_or c.args.comments.now i _ (omega (arith, c.loop-comment-test.true, c.loop-comment.auto.comment-index-end)))
-
-pub loop-comment-init : goal.loop-comment-init
-loop-comment-init c = subst (CommentWarnings c.args.text.now _) (sym c.new-warnings.ensures.items) no_comment
+one_more : (text : List ℕ) (cs : List Span) (i : ℕ) (d : Span) (old new : List Warning) → i < length cs → EndsLine text (get_or cs i d).from (get_or cs i d).to
+    → new ≡ old ++ record { kind = LongComment; span = get_or cs i d } ∷ [] → All (IsCommentWarning text cs) old → All (IsCommentWarning text cs) new
+one_more text cs i d old new below ends added h =
+    subst (All (IsCommentWarning text cs)) (sym added) (All-push (IsCommentWarning text cs) old _ h (refl, Contains-get_or cs i d below, ends))
 
 pub loop-comment-preserved : goal.loop-comment-preserved
 loop-comment-preserved c =
-    let l = c.loop-comment in
-    let more = take_more c.args.comments.now l.comment-index _ (omega (arith, c.loop-comment-test.true, l.auto.comment-index-end)) in
-    subst (λ cs. CommentWarnings c.args.text.now cs c.add_comment.new.warnings.items) (sym more) (c.in_ok-add_comment.ensures (take l.comment-index c.args.comments.now) l.invariant)
-
-pub returns : goal.returns
-returns c =
-    let l = c.loop-comment in
-    subst (λ cs. CommentWarnings c.args.text.now cs l.warnings.items) (take_all l.comment-index c.args.comments.now (omega (arith, c.loop-comment-test.false))) l.invariant
+    let text = c.args.text.now in
+    let cs = c.args.comments.now in
+    let old = c.loop-comment.warnings.items in
+    let new = c.if-swallows.warnings.items in
+    elim c.if-swallows.branch [
+      | then-swallows+in_ok-push w ↦
+          one_more text cs c.loop-comment.comment-index _ old new (omega arith) (c.swallows.ensures w.if-swallows.true)
+          (cc (w.warnings-is, w.in_ok-push.ensures.items)) c.loop-comment.invariant
+      | else-swallows w ↦
+          let same : new ≡ old = cc (w.warnings-is) in
+          subst (All (IsCommentWarning text cs)) (sym same) c.loop-comment.invariant
+    ]

@@ -1,7 +1,6 @@
--- The warnings of the comments so far.
-use Rattle.std.proofs.Common.{take}
-use Rattle.kahn_warnings.specs.Comments.{CommentWarnings}
+-- The warnings so far are of the comments.
+use Rattle.kahn_warnings.proofs.Common.{All, IsCommentWarning}
 use Rattle.kahn_warnings.proofs.comments.warnings_of.Given as goal
 
 abbrev pub invariant-loop-comment : goal.invariant-loop-comment
-invariant-loop-comment l = CommentWarnings l.text (take l.comment-index l.comments) l.warnings.items
+invariant-loop-comment l = All (IsCommentWarning l.text l.comments) l.warnings.items

@@ -1,5 +1,5 @@
-use Rattle.std.proofs.Common.{arith, rules}
-use Rattle.std.proofs.lemmas.Grind.{common_steps}
+use Rattle.kahn_warnings.proofs.Common.{arith, common_steps}
+use Rattle.std.proofs.Common.{rules}
 use Rattle.kahn_streams.specs.declared.tree.Form.TheViews.{the_lemmas}
 use Rattle.kahn_warnings.proofs.Folding.{level_folds}
 use Rattle.kahn_warnings.proofs.constants.+constant_of.Goals as goal

@@ -1,7 +1,5 @@
 -- The value of the operands so far.
-use Rattle.std.proofs.Common.{◌≡◌, drop}
-use Rattle.kahn_streams.specs.View.{Scope, expression_of}
-use Rattle.kahn_warnings.specs.Constants.{constant_of}
+use Rattle.kahn_warnings.proofs.Common.{Scope, constant_of, drop, expression_of, ◌≡◌}
 use Rattle.kahn_warnings.proofs.Folding.{level_constant}
 use Rattle.kahn_warnings.proofs.constants.+constant_of.Given as goal
 

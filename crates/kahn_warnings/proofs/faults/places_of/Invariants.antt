@@ -1,6 +1,5 @@
 -- Those of the places so far.
-use Rattle.std.proofs.Common.{◌≡◌, flat_map, take}
-use Rattle.kahn_warnings.specs.Faults.{site_places}
+use Rattle.kahn_warnings.proofs.Common.{flat_map, site_places, take, ◌≡◌}
 use Rattle.kahn_warnings.proofs.faults.places_of.Given as goal
 
 abbrev pub invariant-loop-site : goal.invariant-loop-site

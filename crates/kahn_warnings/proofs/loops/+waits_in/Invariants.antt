@@ -1,7 +1,5 @@
 -- None of the operands so far waits.
-use Rattle.std.proofs.Common.{◌≡◌, drop}
-use Rattle.kahn_streams.specs.View.{Scope, expression_of}
-use Rattle.kahn_warnings.specs.Uses.{waits_in}
+use Rattle.kahn_warnings.proofs.Common.{Scope, drop, expression_of, waits_in, ◌≡◌}
 use Rattle.kahn_warnings.proofs.Lists.{operands_wait}
 use Rattle.kahn_warnings.proofs.loops.+waits_in.Given as goal
 

@@ -1,7 +1,5 @@
-use Rattle.std.proofs.Common.{◌≡◌, ◌+◌, ◌++◌, ◌∙◌, None, Some, [], ◌∷◌, ap, append-nil, arith, flat_map, sym, take}
-use Rattle.std.proofs.lemmas.Grind.{common_steps}
+use Rattle.kahn_warnings.proofs.Common.{None, Some, [], ap, append-nil, arith, common_steps, flat_map, name_warnings, parameter_warnings, sym, take, variable_warnings, ◌++◌, ◌+◌, ◌∙◌, ◌∷◌, ◌≡◌}
 use Rattle.kahn_warnings.proofs.Getting.{got_all, told_next}
-use Rattle.kahn_warnings.specs.Warnings.{name_warnings, parameter_warnings, variable_warnings}
 use Rattle.kahn_warnings.proofs.names.add_names.Goals as goal
 
 pub loop-parameter-preserved : goal.loop-parameter-preserved

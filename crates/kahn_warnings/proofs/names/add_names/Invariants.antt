@@ -1,6 +1,5 @@
 -- The warnings of the names so far were added.
-use Rattle.std.proofs.Common.{◌≡◌, ◌++◌, flat_map, take}
-use Rattle.kahn_warnings.specs.Warnings.{parameter_warnings, variable_warnings}
+use Rattle.kahn_warnings.proofs.Common.{flat_map, parameter_warnings, take, variable_warnings, ◌++◌, ◌≡◌}
 use Rattle.kahn_warnings.proofs.names.add_names.Given as goal
 
 abbrev pub invariant-loop-parameter : goal.invariant-loop-parameter

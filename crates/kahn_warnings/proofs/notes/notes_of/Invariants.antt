@@ -1,6 +1,5 @@
 -- The notes on the warnings so far.
-use Rattle.std.proofs.Common.{take}
-use Rattle.kahn_warnings.specs.Telling.{AreNotesOf}
+use Rattle.kahn_warnings.proofs.Common.{AreNotesOf, take}
 use Rattle.kahn_warnings.proofs.notes.notes_of.Given as goal
 
 abbrev pub invariant-loop-warning : goal.invariant-loop-warning

@@ -1,8 +1,5 @@
 -- The warnings of the statements so far, where the first stands that isn't reached, and whether one never ends or is seen.
-use Rattle.std.proofs.Common.{◌≡◌, ◌++◌, ◌||◌, drop, flat_map, take}
-use Rattle.kahn_streams.specs.View.{Scope}
-use Rattle.kahn_warnings.specs.Loops.{is_seen, never_ends}
-use Rattle.kahn_warnings.specs.Warnings.{first_unreached}
+use Rattle.kahn_warnings.proofs.Common.{Scope, drop, first_unreached, flat_map, is_seen, never_ends, take, ◌++◌, ◌||◌, ◌≡◌}
 use Rattle.kahn_warnings.proofs.Lists.{any_in, each, left_unreached}
 use Rattle.kahn_warnings.proofs.program.+add_statement.Given as goal
 

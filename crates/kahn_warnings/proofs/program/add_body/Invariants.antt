@@ -1,6 +1,5 @@
 -- The warnings of the statements so far, and where the first stands that isn't reached.
-use Rattle.std.proofs.Common.{◌≡◌, ◌++◌, drop, flat_map, take}
-use Rattle.kahn_warnings.specs.Warnings.{first_unreached}
+use Rattle.kahn_warnings.proofs.Common.{drop, first_unreached, flat_map, take, ◌++◌, ◌≡◌}
 use Rattle.kahn_warnings.proofs.Lists.{each, left_unreached}
 use Rattle.kahn_warnings.proofs.program.add_body.Given as goal
 

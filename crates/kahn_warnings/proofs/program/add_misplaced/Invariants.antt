@@ -1,6 +1,5 @@
 -- The warnings of the parts so far.
-use Rattle.std.proofs.Common.{◌≡◌, ◌++◌, flat_map, take}
-use Rattle.kahn_warnings.specs.Warnings.{by_layout}
+use Rattle.kahn_warnings.proofs.Common.{by_layout, flat_map, take, ◌++◌, ◌≡◌}
 use Rattle.kahn_warnings.proofs.program.add_misplaced.Given as goal
 
 abbrev pub invariant-loop-span : goal.invariant-loop-span

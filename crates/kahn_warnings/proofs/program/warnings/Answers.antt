@@ -1,5 +1,4 @@
-use Rattle.std.proofs.Common.{arith, append-nil, sym}
-use Rattle.std.proofs.lemmas.Grind.{common_steps}
+use Rattle.kahn_warnings.proofs.Common.{append-nil, arith, common_steps, sym}
 use Rattle.kahn_warnings.proofs.program.warnings.Goals as goal
 
 pub loop-declaration-init : goal.loop-declaration-init

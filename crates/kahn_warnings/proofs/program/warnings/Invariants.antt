@@ -1,8 +1,5 @@
 -- The warnings of the comments, and those of the declarations so far.
-use Rattle.std.proofs.Common.{◌≡◌, ◌++◌, List, flat_map, take}
-use Rattle.kahn_warnings.specs.Comments.{AreCommentWarnings}
-use Rattle.kahn_warnings.specs.Warnings.{declaration_warnings}
-use Rattle.kahn_warnings.specs.declared.warning.Warning.{Warning}
+use Rattle.kahn_warnings.proofs.Common.{AreCommentWarnings, List, Warning, declaration_warnings, flat_map, take, ◌++◌, ◌≡◌}
 use Rattle.kahn_warnings.proofs.program.warnings.Given as goal
 
 abbrev pub invariant-loop-declaration : goal.invariant-loop-declaration

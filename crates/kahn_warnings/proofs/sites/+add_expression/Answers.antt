@@ -1,10 +1,6 @@
-use Rattle.std.proofs.Common.{rules, arith, ◌≡◌, ◌++◌, ◌∙◌, [], Option, ap, sym, append-nil, append_assoc, drop}
-use Rattle.std.proofs.lemmas.Grind.{common_steps}
-use Rattle.kahn_streams.specs.View.{Scope, expression_of}
+use Rattle.kahn_warnings.proofs.Common.{Option, Scope, Value, [], ap, append-nil, append_assoc, arith, common_steps, constant_of, drop, expression_of, form_sites, sym, ◌++◌, ◌∙◌, ◌≡◌}
+use Rattle.std.proofs.Common.{rules}
 use Rattle.kahn_streams.specs.declared.tree.Form.TheViews.{the_lemmas}
-use Rattle.kahn_streams.specs.declared.value.Value.{Value}
-use Rattle.kahn_warnings.specs.Constants.{constant_of}
-use Rattle.kahn_warnings.specs.Sites.{form_sites}
 use Rattle.kahn_warnings.proofs.Folding.{level_constant, level_folds, level_sited, operands_sites}
 use Rattle.kahn_warnings.proofs.sites.+add_expression.Goals as goal
 

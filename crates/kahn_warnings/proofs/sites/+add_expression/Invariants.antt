@@ -1,8 +1,5 @@
 -- The places in the operands that are left come behind those so far; and the value of the operands so far.
-use Rattle.std.proofs.Common.{◌≡◌, ◌++◌, drop}
-use Rattle.kahn_streams.specs.View.{Scope, expression_of}
-use Rattle.kahn_warnings.specs.Constants.{constant_of}
-use Rattle.kahn_warnings.specs.Sites.{form_sites}
+use Rattle.kahn_warnings.proofs.Common.{Scope, constant_of, drop, expression_of, form_sites, ◌++◌, ◌≡◌}
 use Rattle.kahn_warnings.proofs.Folding.{level_constant, operands_sites}
 use Rattle.kahn_warnings.proofs.sites.+add_expression.Given as goal
 

@@ -1,5 +1,4 @@
-use Rattle.std.proofs.Common.{arith}
-use Rattle.std.proofs.lemmas.Grind.{common_steps}
+use Rattle.kahn_warnings.proofs.Common.{arith, common_steps}
 use Rattle.kahn_warnings.proofs.sites.sites_in.Goals as goal
 
 pub loop-statement-preserved : goal.loop-statement-preserved

@@ -1,5 +1,4 @@
-use Rattle.std.proofs.Common.{arith}
-use Rattle.std.proofs.lemmas.Grind.{common_steps}
+use Rattle.kahn_warnings.proofs.Common.{arith, common_steps}
 use Rattle.kahn_warnings.proofs.surely.add_sites.Goals as goal
 
 pub loop-site-preserved : goal.loop-site-preserved

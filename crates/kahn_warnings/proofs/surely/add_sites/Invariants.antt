@@ -1,6 +1,5 @@
 -- The warnings of the places so far.
-use Rattle.std.proofs.Common.{◌≡◌, ◌++◌, flat_map, take}
-use Rattle.kahn_warnings.specs.Warnings.{site_warnings}
+use Rattle.kahn_warnings.proofs.Common.{flat_map, site_warnings, take, ◌++◌, ◌≡◌}
 use Rattle.kahn_warnings.proofs.surely.add_sites.Given as goal
 
 abbrev pub invariant-loop-site : goal.invariant-loop-site

@@ -1,6 +1,5 @@
 -- None of the operands so far varies.
-use Rattle.std.proofs.Common.{◌≡◌, drop}
-use Rattle.kahn_warnings.specs.Uses.{varies_by}
+use Rattle.kahn_warnings.proofs.Common.{drop, varies_by, ◌≡◌}
 use Rattle.kahn_warnings.proofs.Lists.{any_vary}
 use Rattle.kahn_warnings.proofs.uses.+varies.Given as goal
 
