@@ -5,15 +5,11 @@
 /// for `wait`, `S` one for `send`, `P` one that starts, `E` to `G` expressions, `N` names alone, `L` names with commas between, and `T` what
 /// stands there to the end of the line; `|` without blanks stands between words of which there is one.
 pub(crate) const PATTERNS: &str = "\
-A := wait(B) | A : = < - B | V A from B
-B := wait(A) | V ( A , B )
-wait(A) | V [ A ] | V on|for|from A
-A := wait(B) | let A = V B | A < - V B
-wait(A) | V A | A . V ( )
-B := wait(A) | A ? B
-send E on O | S ( E , O ) | S ( O , E ) | S E D O | S E - > O | S O , E | S O : = E | S O < - E
+A := wait(B) | A : = < - B | V A from B | let A = V B | A < - V B
+B := wait(A) | V ( A , B ) | A ? B
+wait(A) | V [ A ] | V on|for|from A | V A | A . V ( )
+send E on O | S ( E , O ) | S ( O , E ) | S E D O | S E - > O | S O , E | S O : = E | S O < - E | S O E | O . S ( E ) | O ! E | O < - E
 send E on A | on A S E
-send E on O | S O E | O . S ( E ) | O ! E | O < - E
 A := B + E | A < - B + E
 A := wait(B) | A < - B
 A := E | A < - E
@@ -23,7 +19,7 @@ A := if F then E else G | A : = E if F else G
 S | A : S
 send if E then F else G on | send E ? F : G on
 A := if E then F else G | A : = E ? F : G
-A := A + 1 | inc ( A )
+A := A + 1 | inc ( A ) | + + A | A + +
 A := A - 1 | dec ( A ) | A - -
 mod | ` mod ` | rem
 div | ` div `
@@ -38,7 +34,7 @@ or | or else | orelse
 <> | not =
 (E) mod (F) | mod ( E , F )
 (E) div (F) | div ( E , F )
-= | is
+= | is | = = = | = =
 * | x | times
 + | plus
 - | minus
@@ -47,51 +43,38 @@ A := E | let mut A = E | let A : = E | let|set A = E
 A := A + E | A + = E | add E to A
 A := A - E | A - = E
 A := B + 1 | A : = B + +
-A := A + 1 | + + A | A + +
 := | : =
-= | = = = | = =
 A := E | A = = E
 repeat | repeat - > | repeat forever
 <= | = < | < =
 >= | = > | > =
 ; K out A | , A chan < - K
 ; K in A | , A < - chan K
-K out A | A chan < - K
-K in A | A < - chan K
+K out A | A chan < - K | K output channel A | output K A
+K in A | A < - chan K | K input channel A | input K A
 K D L | D L : K | L : K D
 ); | ) - > | ) is|do|=
-); begin | ) =
-K A | let A : K = 0 | A : : K
+); begin | ) = | ) {
+K A | let A : K = 0 | A : : K | var A K | K : A | K A = 0|false | K A : = 0
 K A) | K A : = E ) | K A = E )
 K D A | D A K | D K A | K A D | A D K | A K D | K D channel A
-K R channel A | channel A : K R
+K R channel A | channel A : K R | R A : K | R K channel A | channel K A R | A = R ( K )
 K channel L | channel L : K
 K D L | L : D K
 (K in L | ( L : K
 ; K out L) | ; L : K )
 ; K out A) | , A : K )
 K L | var L : K
-K A | var A K
-K R channel A | R A : K
-K A | K : A
 K L | L : K
-K in A | K input channel A | input K A
-K out A | K output channel A | output K A
 integer D A | D channel A
 ; integer D A | , D A
 ; K D A) | ) - > K D A
-K A | K A = 0|false | K A : = 0
 K A, B; | K A ; B ;
-K R channel A | R K channel A
 R channel A | channel R A
 integer R channel A | R channel A
-K channel A | A : = make ( chan K )
+K channel A | A : = make ( chan K ) | channel|chan of K A | channel < K > A | chan|channel K A | A = channel ( K )
 K channel A, B; | K channel A ; B ;
-K channel A | channel|chan of K A | channel < K > A | chan|channel K A
-K R channel A | channel K A R
 integer channel A | channel A | var A = channel ( ) | A = channel ( )
-K channel A | A = channel ( K )
-K R channel A | A = R ( K )
 A(T | process A ( T
 process A( | process A [
 A(E) | A [ E ]
@@ -107,11 +90,9 @@ A( | P A (
 integer D A | D A
 (B | ( A = B | ( A : B
 , B | , A = B | , A : B
-begin | A main ( ) {
-); begin | ) {
+begin | A main ( ) { | begin {
 if E then begin | if E {
 while E do begin | while E {
-begin | begin {
 repeat begin | for|loop {
  | package|program A ; | import|program|module A | # define T
 then | then :
@@ -120,7 +101,6 @@ do | do :
 end | end program
 ; comment T; | ; % T
 end comment T; | end % T
-comment T; | / / T
+comment T; | / / T | comment T | / * T * / | ( * T * ) | - - T | # T
 comment N; | { N }
-comment T; | comment T | / * T * / | ( * T * ) | - - T | # T
 div | / /";
