@@ -9,7 +9,7 @@ use crate::fitting::{
 };
 use crate::meant::meant_lines;
 use crate::seeking::{FoundLine, LineKind, find_line, first_named};
-use crate::strange::{NO_COMMENTS, is_number, no_comment_words, numeral_words, strange_words};
+use crate::strange::{NO_COMMENTS, is_number, no_comment_words, strange_words, word_words};
 use kahn_hints::{add_inputs, add_unknown_input};
 use kahn_marks::{Note, Other, Sort, add};
 use kahn_streams::{InputFault, Kind, Network, NoMemory, Span, channel_named};
@@ -39,6 +39,15 @@ fn entry_words(fault: InputFault) -> &'static str {
         InputFault::TooMany(_) => "too many values; at most 1048576",
         InputFault::NoMemory => "no memory",
     }
+}
+
+/// What is said of a line that stands in the text before.
+const SAME_LINE: &str = "given twice; the same line stands there before: leave one of them out";
+
+/// Whether a line stands in a text before the byte at which it begins.
+fn stands_before(text: &str, found: FoundLine<'_>) -> bool {
+    let before = text.get(..found.from).unwrap_or("");
+    before.lines().any(|line| line.as_bytes() == found.line)
 }
 
 /// What is said of a value of another kind than that of its channel.
@@ -81,6 +90,9 @@ fn lack_more(line: &[u8], lack: Lack, part: &[u8]) -> &'static str {
     let name = line_name(line);
     if name.eq_ignore_ascii_case(b"integer") || name.eq_ignore_ascii_case(b"logical") {
         return "; no kind stands before the name";
+    }
+    if matches!(name, b"end" | b"finished" | b"limit") {
+        return "; a report is no input";
     }
     if matches!(lack, Lack::Name) && is_number(part) {
         return "; all values of a channel stand on one line, behind its name";
@@ -144,7 +156,7 @@ fn value_note(
     let more = if line_name(found.line).eq_ignore_ascii_case(b"comment") {
         NO_COMMENTS
     } else {
-        numeral_words(part)
+        word_words(found.line, part)
     };
     part_note(
         alloc,
@@ -236,7 +248,12 @@ fn entry_note(
 {
     let name = line_name(found.line);
     let kind = kind_for(network, name);
-    let words = entry_text(alloc, network, name, kind, fault)?;
+    let words = match fault {
+        InputFault::GivenTwice(_) if stands_before(text, found) => {
+            String::from_str(alloc, SAME_LINE)?
+        }
+        _ => entry_text(alloc, network, name, kind, fault)?,
+    };
     let span = entry_span(found.line, kind, fault);
     let others = given_first(alloc, text, name, fault)?;
     let mut note = part_note(alloc, network, text, found, span, &[words.as_str()])?;

@@ -3,6 +3,7 @@
 ghost use Rattle.std.specs.Prelude.{◌≡◌, IfOk, string_bytes};
 ghost use Rattle.kahn_inputs.specs.Meant.{AreMeantLines, joined_lines};
 
+use crate::strange::{has_blanks_between, is_in_number, plain_sign};
 use itoa::Buffer;
 use kahn_marks::{add, is_within};
 use kahn_streams::{Kind, Network, NoMemory, Role};
@@ -34,9 +35,12 @@ fn is_one_of(words: &str, word: &str) -> bool {
         .any(|one| one.eq_ignore_ascii_case(word))
 }
 
-/// The number that a word spells: also behind a `+`, or before a fraction of zeros.
+/// The number that a word spells: also behind a `+`, before a fraction of zeros, or in hexadecimal.
 fn whole_number(word: &str) -> Option<i64> {
     let bare = word.strip_prefix("+").unwrap_or(word);
+    if let Some(digits) = bare.strip_prefix("0x") {
+        return i64::from_str_radix(digits, 16).ok();
+    }
     let (digits, fraction) = bare.split_once(".").unwrap_or((bare, ""));
     let is_plain = digits == "0" || digits.strip_prefix("0").is_none();
     match fraction {
@@ -199,7 +203,24 @@ impl<'n> Reading<'n> {
     }
 }
 
-/// The entries that were perhaps meant, where each word of a text is understood.
+/// A line with signs of ASCII for those that look like them, and numbers without what stands before three digits of them; a `,` within a
+/// number is a point where blanks stand between values.
+fn plain_line(alloc: Global, line: &str) -> Result<String, AllocError> {
+    let mut plain = String::new(alloc);
+    let bytes = line.as_bytes();
+    let is_apart = has_blanks_between(bytes);
+    for (at, character) in line.char_indices() {
+        match character {
+            ',' if is_apart && is_in_number(bytes, at, true) => {}
+            '_' | '\'' if is_in_number(bytes, at, true) => {}
+            ',' if is_apart && is_in_number(bytes, at, false) => plain.push_str(".")?,
+            _ => plain.push(plain_sign(character))?,
+        }
+    }
+    Ok(plain)
+}
+
+/// The entries that were perhaps meant, where each word of a text is understood, and no line with a name is read twice.
 fn meant_entries(
     alloc: Global,
     network: &Network,
@@ -217,10 +238,15 @@ fn meant_entries(
         is_range: false,
     };
     reading.begin()?;
+    let mut seen: Vec<&str> = Vec::new(alloc);
     for line in text.lines() {
+        let is_again = line.find(":").is_some() && seen.contains(&line);
+        seen.push(line)?;
+        let line = if is_again { "" } else { line };
         let (line, _) = line.split_once("#").unwrap_or((line, ""));
         let (line, _) = line.split_once("//").unwrap_or((line, ""));
-        if !reading.line(line.trim())? {
+        let plain = plain_line(alloc, line)?;
+        if !reading.line(plain.as_str().trim())? {
             return Ok(None);
         }
     }

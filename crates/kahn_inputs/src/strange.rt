@@ -1,11 +1,12 @@
 //! What is said of a part of an input text that is no name and no value, by the characters that stand in it.
 
 use crate::fitting::behind;
+use kahn_marks::is_within;
 
 /// What is said of what begins as a comment of the language or of others does.
 pub(crate) const NO_COMMENTS: &str = "; an input has no comments";
 
-/// Characters that look like blanks and are none, and the mark of byte order.
+/// Characters that look like blanks and other signs and are none, and the mark of byte order.
 const STRANGE: &str = "
 \u{FEFF} | ; in it stands a byte order mark (EF BB BF)
 \u{00A0} | ; in it stands a no-break space (U+00A0)
@@ -14,13 +15,35 @@ const STRANGE: &str = "
 \u{200B} | ; in it stands a zero width space (U+200B)
 \u{3000} | ; in it stands an ideographic space (U+3000)
 \r | ; in it stands a carriage return (U+000D)
+\u{2212} | ; in it stands a minus sign (U+2212), which is no `-`
+\u{2010} \u{2011} | ; in it stands a hyphen (U+2010), which is no `-`
+\u{2013} | ; in it stands an en dash (U+2013), which is no `-`
+\u{2014} | ; in it stands an em dash (U+2014), which is no `-`
+\u{FF0D} | ; in it stands a full-width hyphen (U+FF0D), which is no `-`
+\u{FF1A} | ; in it stands a full-width colon (U+FF1A), which is no `:`
+\u{FF0C} | ; in it stands a full-width comma (U+FF0C): blanks stand between values
 ";
+
+/// The sign of ASCII for one that looks like it.
+pub(crate) fn plain_sign(character: char) -> char {
+    match character {
+        '\u{2212}' | '\u{2010}' | '\u{2011}' | '\u{2013}' | '\u{2014}' | '\u{FF0D}' => '-',
+        '\u{FF1A}' => ':',
+        '\u{FF0C}' => ',',
+        '\u{00A0}' | '\u{202F}' | '\u{2009}' | '\u{3000}' => ' ',
+        '\u{2018}' | '\u{2019}' | '\u{201C}' | '\u{201D}' | '\u{201E}' => '"',
+        _ => character,
+    }
+}
 
 /// What stands at the front of words that are no values.
 const FRONTS: &str = "
 # // | ; an input has no comments
 [ ( { \" ' | ; values stand without brackets and quotation marks
 ";
+
+/// Units that stand before numbers.
+const UNITS: &str = "$ \u{20AC} \u{00A3} | ; a number has no unit";
 
 /// What stands in others.
 const WITHIN: &str = "
@@ -77,6 +100,53 @@ pub(crate) fn no_comment_words(part: &[u8]) -> &'static str {
     ""
 }
 
+/// How many digits stand from a byte on.
+fn digits_from(bytes: &[u8], at: usize) -> usize {
+    let rest = bytes.get(at..).unwrap_or(&[]);
+    rest.iter()
+        .position(|byte| !byte.is_ascii_digit())
+        .unwrap_or(rest.len())
+}
+
+/// Whether two numbers stand in a line with blanks alone between them.
+pub(crate) fn has_blanks_between(line: &[u8]) -> bool {
+    let mut is_behind = false;
+    for (at, byte) in line.iter().enumerate() {
+        if *byte == b' ' && is_behind {
+            let is_before = digits_from(line, at.saturating_add(1)) > 0;
+            if is_before {
+                return true;
+            }
+        }
+        is_behind = byte.is_ascii_digit();
+    }
+    false
+}
+
+/// Whether a digit stands before a byte of a line, and digits behind it: three where they are asked for, and no more.
+pub(crate) fn is_in_number(line: &[u8], at: usize, are_three: bool) -> bool {
+    let before = at.checked_sub(1).unwrap_or(at);
+    let digits = digits_from(line, at.saturating_add(1));
+    digits_from(line, before) == 1 && digits > 0 && (digits == 3 || !are_three)
+}
+
+/// Whether a comma stands in a number of a line.
+fn has_comma_within(line: &[u8], part: &[u8]) -> bool {
+    has_blanks_between(line)
+        && (0..part.len()).any(|at| part.get(at) == Some(&b',') && is_in_number(part, at, false))
+}
+
+/// Whether letters stand where no truth value is meant.
+fn is_text(part: &[u8]) -> bool {
+    let is_near = is_within(part, b"true", 2) || is_within(part, b"false", 2);
+    part.len() > 3 && !is_near && part.iter().all(|byte| byte.is_ascii_alphabetic())
+}
+
+/// Whether a part ends a line.
+fn ends_line(line: &[u8], part: &[u8]) -> bool {
+    line.trim_ascii_end().ends_with(part)
+}
+
 /// What is said of a word that is no value.
 pub(crate) fn numeral_words(part: &[u8]) -> &'static str {
     let words = words_or(words_of(FRONTS, part, false), words_of(WITHIN, part, true));
@@ -84,6 +154,27 @@ pub(crate) fn numeral_words(part: &[u8]) -> &'static str {
         _ if !words.is_empty() => words,
         b"-" => "; a `-` stands right before its digits",
         _ if is_number(part) => "; it is past 64 bits",
+        _ => "",
+    }
+}
+
+/// What is said of a word of a line that is no value.
+pub(crate) fn word_words(line: &[u8], part: &[u8]) -> &'static str {
+    if has_comma_within(line, part) {
+        return "; a number is whole, and has no `,`";
+    }
+    if part.ends_with(b";") && ends_line(line, part) {
+        return "; a line has no `;` at its end";
+    }
+    let words = words_or(numeral_words(part), words_of(UNITS, part, false));
+    let digits = part.strip_prefix(b"-").unwrap_or(part);
+    match part {
+        _ if !words.is_empty() => words,
+        b"NaN" | b"nan" | b"null" | b"NULL" | b"None" | b"NA" | b"N/A" =>
+            "; a missing value is left out",
+        _ if is_text(part) => "; an input has no texts: a number stands for each character",
+        _ if digits_from(digits, 0) > 0 && words_of(STRANGE, part, true).is_empty() =>
+            "; a number is digits alone, without a unit or an exponent",
         _ => "",
     }
 }
