@@ -1,5 +1,5 @@
 -- An answer put together from cells at rest is right.
-use Rattle.kahn_sequential.proofs.Common.{fun_ext, arith, ◌≡◌, ◌⊎◌, inl, inr, ℕ, ◌<◌, ◌≤◌, List, [], length, map, refl, sym, ap, ◌∙◌, subst, true, Option, Some, None, slice_get, pos, sum_by, ◌+◌, ◌∷◌, zero, suc, false, true≢false, Bool, same_Some, Line, Channel, Print, Number, Dry, Cut, Got, Fault, Store, Network, idle, Reads, Writes, Hands, instance_at, actual_at, Source, Given, Written, Nobody, Histories, Inputs, tapes_of, exec_at, out, values_at, goes_to, source, fed, input_list, iterate, IsPrefix, Stands, IsWhole, HasEnd, Ending, ending, IsQuiet, IsSettled, begins_nil, prefix_refl, settled, AllStand, View, AreKeptTokens, is_streamed, token_value, Answer, Stream, Token, Verdict, Finished, Bound, Memory, Ended, Faulted, More, AreRight, IsRight, IsOutcome, IsWaiting, IsDryOn, IsEnd, HasStream, values_of, no_view, view_at, IsFrom, IsGiven, IsOutcomeOf, stand_in, StoodBy, cases_lt, there, none-some, get_or_past, Tapes, sent_on, sent_stands, exec_on, Stays, sum_by-cons, end_events, view_events, stream_lines, AreStreams, IsConcluded, IsVerdict, HasEndIn, RunState, End, Outcome, Waits, and_more, tape_of, length-append}
+use Rattle.kahn_sequential.proofs.Common.{⊎_elim, fun_ext, arith, ◌≡◌, ◌⊎◌, inl, inr, ℕ, ◌<◌, ◌≤◌, List, [], length, map, refl, sym, ap, ◌∙◌, subst, true, Option, Some, None, slice_get, pos, sum_by, ◌+◌, ◌∷◌, zero, suc, false, true≢false, Bool, same_Some, Line, Channel, Print, Number, Dry, Cut, Got, Fault, Store, Network, idle, Reads, Writes, Hands, instance_at, actual_at, Source, Given, Written, Nobody, Histories, Inputs, tapes_of, exec_at, out, values_at, goes_to, source, fed, input_list, iterate, IsPrefix, Stands, IsWhole, HasEnd, Ending, ending, IsQuiet, IsSettled, begins_nil, prefix_refl, settled, AllStand, View, AreKeptTokens, is_streamed, token_value, Answer, Stream, Token, Verdict, Finished, Bound, Memory, Ended, Faulted, More, AreRight, IsRight, IsOutcome, IsWaiting, IsDryOn, IsEnd, HasStream, values_of, no_view, view_at, IsFrom, IsGiven, IsOutcomeOf, stand_in, StoodBy, cases_lt, there, none-some, get_or_past, Tapes, sent_on, sent_stands, exec_on, Stays, sum_by-cons, end_events, view_events, stream_lines, AreStreams, IsConcluded, IsVerdict, HasEndIn, RunState, End, Outcome, Waits, and_more, tape_of, length-append}
 use Rattle.kahn_sequential.proofs.{Lists.prefix_stands, Lists.both_stand, Lists.reads_or, Lists.nothing_more, Lists.same_writer, Events.more, Events.same_left, Events.same_sends, Events.same_outcome, Events.next_event, Benched.get_map}
 use Rattle.kahn_streams.specs.Script as script
 use Rattle.kahn_streams.specs.Solution as net
@@ -50,11 +50,7 @@ module _ {state : RunState} {bound left : ℕ} {halted : Bool} {said : Verdict} 
       no_print k t h = let f : slice_get [] k ≡ Some t = subst (λ w. slice_get w.printed k ≡ Some t) v h in cc
 
   past : (p : ℕ) → slice_get ends p ≡ None → length N.instances ≤ p
-  past p h = by (cases_lt p (length ends))
-    where
-      by : (p < length ends) ⊎ (length ends ≤ p) → length N.instances ≤ p
-      by (inl l) = let x = there ends p l in absurd (none-some x.0 (sym h ∙ x.1))
-      by (inr l) = let n = g.last.size in omega (arith, l, n)
+  past p h = ⊎_elim (λ l. let x = there ends p l in absurd (none-some x.0 (sym h ∙ x.1))) (λ l. let n = g.last.size in omega (arith, l, n)) (cases_lt p (length ends))
 
   rests_by : (p : ℕ) (r : Option End) → slice_get ends p ≡ r → Rests p
   rests_by p (Some x) h = (x, (g.last.ends p x h).0)
@@ -128,11 +124,7 @@ module _ {state : RunState} {bound left : ℕ} {halted : Bool} {said : Verdict} 
   tapes p = tapes_of (instance_at N p) A
 
   extended : (p q : ℕ) → IsPrefix (T p q) (tapes p q)
-  extended p q = by (reads_or (actual_at (instance_at N p) q))
-    where
-      by : ((c : ℕ) × (actual_at (instance_at N p) q ≡ Reads c)) ⊎ ((c : ℕ) → actual_at (instance_at N p) q ≡ Reads c → ⊥) → IsPrefix (T p q) (tapes p q)
-      by (inl (c, r)) = rw r (took_within p q c r)
-      by (inr n) = subst (λ l. IsPrefix l (tapes p q)) (sym ((stood p).none q n)) (begins_nil (tapes p q))
+  extended p q = ⊎_elim (λ (c, r). rw r (took_within p q c r)) (λ n. subst (λ l. IsPrefix l (tapes p q)) (sym ((stood p).none q n)) (begins_nil (tapes p q))) (reads_or (actual_at (instance_at N p) q))
 
   same : (p : ℕ) → ((exec_at N (e p) p A).events ≡ (exec_on N (e p) p (T p)).events) × ((exec_at N (e p) p A).sent ≡ (exec_on N (e p) p (T p)).sent)
   same p = same_sends N p (e p) (T p) (tapes p) (extended p) (stood p).does

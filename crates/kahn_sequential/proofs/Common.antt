@@ -52,6 +52,7 @@ pub use Rattle.kahn_streams.specs.inner.Sources.{IsFed}
 pub use Rattle.std.proofs.Math.Nat.{le-max_left, le-max_right}
 pub use Rattle.std.proofs.Math.Seq.{map-set_same, take-suc}
 pub use Rattle.std.proofs.lemmas.Bool.{cases_eq, cases_lt}
+pub use Rattle.std.proofs.lemmas.Bool.Decides.{nat_tests}
 pub use Rattle.std.proofs.lemmas.List.Folds.{fold-map}
 pub use Rattle.std.proofs.lemmas.List.Sums.{get_or-le-sum_by, sum_by-cons, sum_by-set}
 pub use Rattle.std.proofs.lemmas.List.{get_or-map, get_or-set_other, get_or_past, length-map, map-append, map-set, replicate-append-replicate, take_all, take_at, drop_all, length-append, length-set}
@@ -61,6 +62,6 @@ pub use Rattle.std.specs.Option.{SomeIff}
 pub use Rattle.kahn_sequential.specs.inner.Noted.{AreAtRest, AreNoted, AreNotedBut, AreSpent, AreSpentBut, HasWoken, IsAtRest, IsOnlyReader, IsReaderOf, IsReadyBehind, IsReadyBy, IsReadyByFirst, IsTakenFrom, IsWoken}
 pub use Rattle.kahn_sequential.specs.inner.Numbers.{HasNumber, HoldNumbers, HoldNumbersTo, IsNumberOf, is_in}
 pub use Rattle.kahn_sequential.specs.inner.Recording.{AreCountsOf, AreOpenChannels, AreRecorded, AreRecordedOf, AreTokensOf, AreTurnShort, AreTurnShortOf, HasGiven, HasOthers, IsCountOf, IsCountedAlone, IsReadByOthers, IsRecorded, IsRecordedAlone, IsSentOn, IsTurnShort, IsWrittenByOthers, StoodIn, TakesTurns}
-pub use Rattle.std.proofs.Common.{Bool, List, None, Option, Some, [], add-one, ap, append-nil, append_assoc, arith, bytes_eq, cond, drop, drop-cons, eq-eqb, eqb-true, false, if◌then◌else◌, inl, inr, le_of_suc-le-suc, le_refl, le_trans, length, map, max, min, not-suc-le-zero, pos, refl, replicate, rules, slice_get, slice_index_or, slice_set, subst, suc, suc-le-suc, sum_by, sym, take, true, true≢false, vec_capacity, zero, ℕ, ◌++◌, ◌+◌, ◌-◌, ◌<◌, ◌==◌, ◌^◌, ◌||◌, ◌↔◌, ◌∙◌, ◌∷◌, ◌≡◌, ◌≢◌, ◌≤◌, ◌⊎◌}
+pub use Rattle.std.proofs.Common.{⊎_elim, Bool, List, None, Option, Some, [], add-one, ap, append-nil, append_assoc, arith, bytes_eq, cond, drop, drop-cons, eq-eqb, eqb-true, false, if◌then◌else◌, inl, inr, le_of_suc-le-suc, le_refl, le_trans, length, map, max, min, not-suc-le-zero, pos, refl, replicate, rules, slice_get, slice_index_or, slice_set, subst, suc, suc-le-suc, sum_by, sym, take, true, true≢false, vec_capacity, zero, ℕ, ◌++◌, ◌+◌, ◌-◌, ◌<◌, ◌==◌, ◌^◌, ◌||◌, ◌↔◌, ◌∙◌, ◌∷◌, ◌≡◌, ◌≢◌, ◌≤◌, ◌⊎◌}
 pub use mathlib.Core.Path.{fun_ext}
 pub use Rattle.std.specs.declared.{alloc.Global.Global, vec.Vec.Vec}

@@ -1,5 +1,5 @@
 -- Cells that let go of all that they kept, and how all stand.
-use Rattle.kahn_sequential.proofs.Common.{arith, ◌≡◌, ◌⊎◌, inl, inr, ℕ, zero, suc, ◌+◌, ◌<◌, ◌≤◌, true, Option, List, [], ◌∷◌, ◌++◌, length, map, refl, sym, ap, ◌∙◌, subst, Some, None, slice_get, slice_index_or, slice_set, length-set, HasForgotten, cases_eq, set_each, set_here, slice_get_read, length-map, Program, Input, network_of, instance_at, role_at, Lists, inputs_of, Token, StoodBy, AreQueued, taken_of, waiting_of, tokens, CellView, told_view, Gone, nothing_gone, Tapped, Seen, same_Some, seen_at, seen_of, unseen, AllStandBy, HasEmptied, IsLaid, IsSeated, StandsAsTold, Table, gone_in, table_of, told_in, HaveChanged, mapped_at, cases_lt, Lines as Queues, Woken, AreSpent, AreSpentBut, IsTakenFrom, IsWoken, HasSpent, IsSameTap, IsSpent, IsSpentBy, IsSpentTap}
+use Rattle.kahn_sequential.proofs.Common.{⊎_elim, arith, ◌≡◌, ◌⊎◌, inl, inr, ℕ, zero, suc, ◌+◌, ◌<◌, ◌≤◌, true, Option, List, [], ◌∷◌, ◌++◌, length, map, refl, sym, ap, ◌∙◌, subst, Some, None, slice_get, slice_index_or, slice_set, length-set, HasForgotten, cases_eq, set_each, set_here, slice_get_read, length-map, Program, Input, network_of, instance_at, role_at, Lists, inputs_of, Token, StoodBy, AreQueued, taken_of, waiting_of, tokens, CellView, told_view, Gone, nothing_gone, Tapped, Seen, same_Some, seen_at, seen_of, unseen, AllStandBy, HasEmptied, IsLaid, IsSeated, StandsAsTold, Table, gone_in, table_of, told_in, HaveChanged, mapped_at, cases_lt, Lines as Queues, Woken, AreSpent, AreSpentBut, IsTakenFrom, IsWoken, HasSpent, IsSameTap, IsSpent, IsSpentBy, IsSpentTap}
 use Rattle.kahn_sequential.proofs.{Benched.got, Benched.mapped, Benched.get_map, Tapping.found, Tapping.tap_at, Lists.old_item, Lists.map_changed, Lists.map_map}
 use Rattle.kahn_streams.proofs.Given_values.{no_channel}
 
@@ -21,11 +21,7 @@ spent_at (y ∷ taps) (suc p) x e h = spent_at taps p x e h
 -- of a bench of these taps they are spent but those of instances that had turns
 pub spent_taps : {t : Program} {lists : Lists} {watch : Option ℕ} {code : Program} (taps : List Tapped) {q : Queues} {b : Table} → table_of t lists watch code taps q ≡ b →
     (w : Woken) → AreSpent b w → w.known ≡ true → AreSpentBut w taps
-spent_taps {t} {lists} {watch} {code} taps {q} is w h known p x at = by (subst (λ (y : Table). IsWoken w p ⊎ IsSpent y p) (sym is) (h known p))
-  where
-    by : IsWoken w p ⊎ IsSpent (table_of t lists watch code taps q) p → IsWoken w p ⊎ IsSpentTap x
-    by (inl k) = inl k
-    by (inr k) = inr (spent_at taps p x at k)
+spent_taps {t} {lists} {watch} {code} taps {q} is w h known p x at = ⊎_elim (λ k. inl k) (λ k. inr (spent_at taps p x at k)) (subst (λ (y : Table). IsWoken w p ⊎ IsSpent y p) (sym is) (h known p))
 
 module _ {t : Program} {lists : Lists} {watch : Option ℕ} {code : Program} (xs ys : List Tapped) {q : Queues} (h : HaveChanged HasSpent xs ys)
     (laid : IsLaid (table_of t lists watch code xs q)) where
@@ -77,11 +73,9 @@ module _ (xs : List Tapped) (n : ℕ) (x y : Tapped) (here : n < length xs) (val
   one_spent z e = subst IsSpentTap (same_Some y z (sym (set_here xs n y here) ∙ e)) (subst IsSpentTap (sym h) (λ q. refl, refl))
 
 pub others_stay : (xs : List Tapped) (n : ℕ) (y : Tapped) (p : ℕ) → (p ≡ n → ⊥) → slice_get (slice_set xs n y) p ≡ slice_get xs p
-others_stay [] n y p apart = refl
 others_stay (x ∷ xs) zero y zero apart = absurd (apart refl)
-others_stay (x ∷ xs) zero y (suc p) apart = refl
-others_stay (x ∷ xs) (suc n) y zero apart = refl
 others_stay (x ∷ xs) (suc n) y (suc p) apart = others_stay xs n y p (λ e. apart (ap suc e))
+others_stay _ _ y _ apart = refl
 
 pub none_changed : (xs : List Tapped) → HaveChanged IsSameTap xs xs
 none_changed xs = record { count = refl; each = λ p x y a b. subst (IsSameTap x) (same_Some x y (sym a ∙ b)) refl }

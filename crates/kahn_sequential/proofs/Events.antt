@@ -1,5 +1,5 @@
 -- What longer tapes and one more event bring.
-use Rattle.kahn_sequential.proofs.Common.{fun_ext, arith, ◌≡◌, ◌⊎◌, inl, inr, ℕ, suc, ◌+◌, List, [], ◌∷◌, ◌++◌, length, refl, sym, ap, ◌∙◌, subst, append-nil, le_refl, ◌<◌, Option, Channel, Inputs, StoodBy, View, Writes, actual_at, goes_to, sent_on, values_at, Value, Tapes, Script, Give, Fail, Sends, Turns, Rest, Got, Dry, Fault, Cut, Reached, wait_at, play, Step, empty, values_taken, since, and_then, halted, RanBy, Store, Network, instance_at, opening, and_more, play_on, play_taken, ran, cut_is_full, script_at, exec_alike, unrolled, IsPrefix, Stays, exec_on, widened, frame_play, dry_play, ScriptOutcome, sends_of, length-append}
+use Rattle.kahn_sequential.proofs.Common.{⊎_elim, fun_ext, arith, ◌≡◌, ◌⊎◌, inl, inr, ℕ, suc, ◌+◌, List, [], ◌∷◌, ◌++◌, length, refl, sym, ap, ◌∙◌, subst, append-nil, le_refl, ◌<◌, Option, Channel, Inputs, StoodBy, View, Writes, actual_at, goes_to, sent_on, values_at, Value, Tapes, Script, Give, Fail, Sends, Turns, Rest, Got, Dry, Fault, Cut, Reached, wait_at, play, Step, empty, values_taken, since, and_then, halted, RanBy, Store, Network, instance_at, opening, and_more, play_on, play_taken, ran, cut_is_full, script_at, exec_alike, unrolled, IsPrefix, Stays, exec_on, widened, frame_play, dry_play, ScriptOutcome, sends_of, length-append}
 use Rattle.kahn_streams.specs.Script.{Waits}
 
 -- ---- the same events and sends on longer tapes
@@ -49,16 +49,12 @@ module _ (N : Network) (p e : ℕ) (T U : Tapes) (x : (q : ℕ) → IsPrefix (T 
 -- ---- one more event
 
 no_events : {A : Type 0} (s : Script A) (U : Tapes) → (play 0 s U).events ≡ 0
-no_events (Give a) U = refl
-no_events (Fail k) U = refl
 no_events (Waits q go) U = by (U q)
   where
     by : (vs : List Value) → (wait_at 0 q U vs (λ m v T. play m (go v) T)).events ≡ 0
     by [] = refl
     by (v ∷ vs) = refl
-no_events (Sends p v s) U = refl
-no_events (Turns s) U = refl
-no_events Rest U = refl
+no_events _ _ = refl
 
 -- a script that isn't at an end does an event, or is cut
 cut_moves : {A : Type 0} (s : Script A) (U : Tapes) → halted s ≡ Cut → ((play 1 s U).events ≡ 1) ⊎ ((play 1 s U).outcome ≡ Cut)
@@ -165,11 +161,7 @@ module _ (N : Network) (p e : ℕ) (T U : Tapes) (x : (q : ℕ) → IsPrefix (T 
 
   -- one that was cut, or was dry where there is a value now, does an event more
   pub next_event : ((exec_on N e p T).outcome ≡ Cut) ⊎ ((q : ℕ) × ((exec_on N e p T).outcome ≡ Dry q) × (length (T q) < length (U q))) → (exec_on N (suc e) p U).events ≡ suc e
-  next_event (inl c) = by (cut_moves ran_at.to V (halts ∙ c))
-    where
-      by : ((play 1 ran_at.to V).events ≡ 1) ⊎ ((play 1 ran_at.to V).outcome ≡ Cut) → (exec_on N (suc e) p U).events ≡ suc e
-      by (inl h) = counted h
-      by (inr h) = cut_is_full (exec_alike N (suc e) (suc e) p (le_refl (suc e))) U (ap (λ r. r.outcome) one_more ∙ h)
+  next_event (inl c) = ⊎_elim (λ h. counted h) (λ h. cut_is_full (exec_alike N (suc e) (suc e) p (le_refl (suc e))) U (ap (λ r. r.outcome) one_more ∙ h)) (cut_moves ran_at.to V (halts ∙ c))
   next_event (inr (q, d, l)) = by (V q) refl
     where
       by : (zs : List Value) → V q ≡ zs → (exec_on N (suc e) p U).events ≡ suc e

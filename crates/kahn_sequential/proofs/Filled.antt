@@ -7,11 +7,9 @@ use Rattle.kahn_sequential.proofs.{Lists.map_changed, Lists.ChangedTo, Lists.nex
 -- a list of lists of which one is set, at another place
 elsewhere : {X : Type 0} (ks : List (List (List X))) (p q r s : ℕ) (x : List X) → (p ≡ r → q ≡ s → ⊥) →
     slice_index_or (slice_index_or (slice_set ks p (slice_set (slice_index_or ks p []) q x)) r []) s [] ≡ slice_index_or (slice_index_or ks r []) s []
-elsewhere [] p q r s x n = refl
 elsewhere (k ∷ ks) zero q zero s x n = get_or-set_other k q s x [] (λ e. n refl (sym e))
-elsewhere (k ∷ ks) zero q (suc r) s x n = refl
-elsewhere (k ∷ ks) (suc p) q zero s x n = refl
 elsewhere (k ∷ ks) (suc p) q (suc r) s x n = elsewhere ks p q r s x (λ e. n (ap suc e))
+elsewhere _ _ q _ s x n = refl
 
 module _ {A : Type 0} {N : Network} {ls : List (Kept A)} (are : AreLists N ls) {p : ℕ} (within : p < length N.instances) {l : Kept A} (at : l ≡ slice_index_or ls p l) (l' : Kept A) where
   here : p < length ls

@@ -1,5 +1,5 @@
 -- Streams of input channels, which get the whole list of the input.
-use Rattle.kahn_sequential.proofs.Common.{arith, ◌≡◌, ◌⊎◌, inl, inr, ℕ, suc, ◌-◌, ◌<◌, Bool, true, false, if◌then◌else◌, List, [], ◌∷◌, ◌++◌, length, map, Some, None, refl, sym, ap, ◌∙◌, subst, slice_get, append_assoc, same_Some, length-map, map-append, Role, Value, Inner, Input, Output, Channel, Token, Inputs, source, IsPrefix, Network, Instance, Source, Given, Written, Nobody, any_written, first_writer, source_by, channel_source, role_at, IsOwn, token_value, Stream, IsBegun, IsOpenStream, OpensWith, at_last}
+use Rattle.kahn_sequential.proofs.Common.{⊎_elim, arith, ◌≡◌, ◌⊎◌, inl, inr, ℕ, suc, ◌-◌, ◌<◌, Bool, true, false, if◌then◌else◌, List, [], ◌∷◌, ◌++◌, length, map, Some, None, refl, sym, ap, ◌∙◌, subst, slice_get, append_assoc, same_Some, length-map, map-append, Role, Value, Inner, Input, Output, Channel, Token, Inputs, source, IsPrefix, Network, Instance, Source, Given, Written, Nobody, any_written, first_writer, source_by, channel_source, role_at, IsOwn, token_value, Stream, IsBegun, IsOpenStream, OpensWith, at_last}
 
 -- ---- the list of a channel, token by token
 
@@ -72,8 +72,4 @@ channel_opens N I c ts us none b f g = by (source N (Channel c)) refl
 -- one stream more
 pub opens_more : (N : Network) (I : Inputs) (streams : List Stream) (x : Stream) → ((j : ℕ) (y : Stream) → slice_get streams j ≡ Some y → IsOpenStream N I y) →
     IsOpenStream N I x → (j : ℕ) (y : Stream) → slice_get (streams ++ x ∷ []) j ≡ Some y → IsOpenStream N I y
-opens_more N I streams x h mine j y e = by (at_last streams x j y e)
-  where
-    by : (slice_get streams j ≡ Some y) ⊎ ((j ≡ length streams) × (x ≡ y)) → IsOpenStream N I y
-    by (inl f) = h j y f
-    by (inr (f, same)) = subst (IsOpenStream N I) same mine
+opens_more N I streams x h mine j y e = ⊎_elim (λ f. h j y f) (λ (f, same). subst (IsOpenStream N I) same mine) (at_last streams x j y e)

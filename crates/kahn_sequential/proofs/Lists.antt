@@ -1,6 +1,6 @@
 -- Lists whose values stand.
 use Rattle.std.proofs.Common.{length-append}
-use Rattle.kahn_sequential.proofs.Common.{arith, ◌≡◌, ◌⊎◌, inl, inr, subst, slice_set, slice_index_or, sum_by, ℕ, zero, suc, ◌+◌, ◌<◌, ◌≤◌, List, [], ◌∷◌, ◌++◌, length, map, refl, sym, ap, ◌∙◌, Some, slice_get, append-nil, le_of_suc-le-suc, not-suc-le-zero, le_refl, at_last, set_each, cases_lt, get_or_past, fold-map, get_or-le-sum_by, same_Some, slice_get_read, slice_get_within, there, HaveChanged, Value, Line, Network, Inputs, iterate, IsPrefix, prefix_get, one_value, AllStand, Actual, Reads, Writes, Hands, Written, cases_eq, get_or_from_slice_get, length-set}
+use Rattle.kahn_sequential.proofs.Common.{⊎_elim, arith, ◌≡◌, ◌⊎◌, inl, inr, subst, slice_set, slice_index_or, sum_by, ℕ, zero, suc, ◌+◌, ◌<◌, ◌≤◌, List, [], ◌∷◌, ◌++◌, length, map, refl, sym, ap, ◌∙◌, Some, slice_get, append-nil, le_of_suc-le-suc, not-suc-le-zero, le_refl, at_last, set_each, cases_lt, get_or_past, fold-map, get_or-le-sum_by, same_Some, slice_get_read, slice_get_within, there, HaveChanged, Value, Line, Network, Inputs, iterate, IsPrefix, prefix_get, one_value, AllStand, Actual, Reads, Writes, Hands, Written, cases_eq, get_or_from_slice_get, length-set}
 
 -- a list that agrees with a longer one begins it
 pub agree : (xs ys : List Value) → length xs ≤ length ys →
@@ -113,17 +113,9 @@ pub sum_over : {X Y : Type 0} (f : Y → ℕ) (g : X → Y) (xs : List X) → su
 sum_over f g xs = fold-map (λ s y. s + f y) g 0 xs
 
 pub one_of_sum : {X : Type 0} (f : X → ℕ) (xs : List X) (p : ℕ) (d : X) → f d ≡ 0 → f (slice_index_or xs p d) ≤ sum_by f xs
-one_of_sum f xs p d none = by (cases_lt p (length xs))
-  where
-    by : (p < length xs) ⊎ (length xs ≤ p) → f (slice_index_or xs p d) ≤ sum_by f xs
-    by (inl l) = get_or-le-sum_by f xs p d l
-    by (inr l) = let e = ap f (get_or_past xs p d l) ∙ none in omega (arith, e)
+one_of_sum f xs p d none = ⊎_elim (λ l. get_or-le-sum_by f xs p d l) (λ l. let e = ap f (get_or_past xs p d l) ∙ none in omega (arith, e)) (cases_lt p (length xs))
 
 -- what is so of each before n, and of that one, is so of each up to it
 pub each_more : {X : Type 0} (P : X → Type 0) (xs : List X) (n : ℕ) (y : X) → ((p : ℕ) → p < n → (x : X) → slice_get xs p ≡ Some x → P x) → y ≡ slice_index_or xs n y → P y →
     (p : ℕ) → p < n + 1 → (x : X) → slice_get xs p ≡ Some x → P x
-each_more P xs n y h is here p lt x at = by (cases_eq p n)
-  where
-    by : (p ≡ n) ⊎ (p ≡ n → ⊥) → P x
-    by (inl e) = subst P (is ∙ get_or_from_slice_get xs n x y (ap (slice_get xs) (sym e) ∙ at)) here
-    by (inr other) = h p (omega (arith, lt, other)) x at
+each_more P xs n y h is here p lt x at = ⊎_elim (λ e. subst P (is ∙ get_or_from_slice_get xs n x y (ap (slice_get xs) (sym e) ∙ at)) here) (λ other. h p (omega (arith, lt, other)) x at) (cases_eq p n)

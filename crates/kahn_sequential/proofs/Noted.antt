@@ -1,5 +1,5 @@
 -- Ends that were noted, and the instances that were woken since.
-use Rattle.kahn_sequential.proofs.Common.{arith, ◌≡◌, ◌⊎◌, inl, inr, ℕ, zero, suc, ◌+◌, ◌==◌, ◌<◌, ◌≤◌, Bool, true, false, List, [], ◌∷◌, ◌++◌, length, append-nil, map, refl, sym, ap, ◌∙◌, subst, Option, Some, None, slice_get, slice_index_or, slice_set, eqb-true, if◌then◌else◌, AllStand, AreQueued, AreInputsExtended, Channel, Given, HasEndIn, HasTakenIn, HasVisited, Inputs, IsGiven, IsLaid, IsOutcomeOf, IsPoured, IsVerdict, IsWellWired, Line, Lists, More, Network, Nobody, Program, Reads, Round, RunState, Source, Store, StoodBy, Table, TookAll, Value, View, Writes, Written, actual_at, at_last, cases_eq, cases_lt, exec_on, get_or-set_other, handed_within, inputs_grow, inputs_of, instance_at, kept_grown, network_of, no_view, poured_grown, prefix_get, reads_listed, route_of, same_Some, set_each, sight_of, source, view_at, waiting_of, Gone, Seen, CellView, nothing_gone, seen_at, seen_of, tokens, told_view, length-set, IsOnly, IsReader, End, Outcome, Ended, Faulted, Waits, Finished, Side, PartEnd, Woken, IsPartEnd, AreAtRest, AreNoted, AreNotedBut, HasWoken, IsAtRest, IsOnlyReader, IsReaderOf, IsReadyBehind, IsReadyBy, IsReadyByFirst, IsTakenFrom, IsWoken, AreSpent, IsSpent, IsSpentBy}
+use Rattle.kahn_sequential.proofs.Common.{⊎_elim, nat_tests, arith, ◌≡◌, ◌⊎◌, inl, inr, ℕ, zero, suc, ◌+◌, ◌==◌, ◌<◌, ◌≤◌, Bool, true, false, List, [], ◌∷◌, ◌++◌, length, append-nil, map, refl, sym, ap, ◌∙◌, subst, Option, Some, None, slice_get, slice_index_or, slice_set, eqb-true, if◌then◌else◌, AllStand, AreQueued, AreInputsExtended, Channel, Given, HasEndIn, HasTakenIn, HasVisited, Inputs, IsGiven, IsLaid, IsOutcomeOf, IsPoured, IsVerdict, IsWellWired, Line, Lists, More, Network, Nobody, Program, Reads, Round, RunState, Source, Store, StoodBy, Table, TookAll, Value, View, Writes, Written, actual_at, at_last, cases_eq, cases_lt, exec_on, get_or-set_other, handed_within, inputs_grow, inputs_of, instance_at, kept_grown, network_of, no_view, poured_grown, prefix_get, reads_listed, route_of, same_Some, set_each, sight_of, source, view_at, waiting_of, Gone, Seen, CellView, nothing_gone, seen_at, seen_of, tokens, told_view, length-set, IsOnly, IsReader, End, Outcome, Ended, Faulted, Waits, Finished, Side, PartEnd, Woken, IsPartEnd, AreAtRest, AreNoted, AreNotedBut, HasWoken, IsAtRest, IsOnlyReader, IsReaderOf, IsReadyBehind, IsReadyBy, IsReadyByFirst, IsTakenFrom, IsWoken, AreSpent, IsSpent, IsSpentBy}
 use Rattle.kahn_streams.specs.Script as script
 use Rattle.kahn_sequential.proofs.Benched.{took_all}
 
@@ -22,11 +22,7 @@ added old new r known items f = (sym known ∙ f, by)
     by p (inr e) = (length old.instances.items, ap (λ l. slice_get l (length old.instances.items)) items ∙ at_end old.instances.items r ∙ ap Some (sym e))
 
 pub popped : (xs ys : List ℕ) (r : ℕ) → xs ≡ ys ++ r ∷ [] → (p : ℕ) → ((k : ℕ) × (slice_get xs k ≡ Some p)) → (p ≡ r) ⊎ ((k : ℕ) × (slice_get ys k ≡ Some p))
-popped xs ys r e p w = by (at_last ys r w.0 p (subst (λ l. slice_get l w.0 ≡ Some p) e w.1))
-  where
-    by : (slice_get ys w.0 ≡ Some p) ⊎ ((w.0 ≡ length ys) × (r ≡ p)) → (p ≡ r) ⊎ ((k : ℕ) × (slice_get ys k ≡ Some p))
-    by (inl f) = inr (w.0, f)
-    by (inr f) = inl (sym f.1)
+popped xs ys r e p w = ⊎_elim (λ f. inr (w.0, f)) (λ f. inl (sym f.1)) (at_last ys r w.0 p (subst (λ l. slice_get l w.0 ≡ Some p) e w.1))
 
 pub nobody_woken : (P : ℕ → Type 0) (w : Woken) → ((p : ℕ) → P p → ⊥) → HasWoken P w w
 nobody_woken P w none known = (known, by)
@@ -81,11 +77,7 @@ module _ (b : Table) (r q channel : ℕ) (route : route_of (actual_at (instance_
   own_reader s one e p (c, w, (other, some, reads)) = other (one p (subst (λ k. IsReaderOf (sight_of b).network k p) (sym (same c w)) reads) ∙ e)
 
 pub ready_next : (b : Table) (r k p : ℕ) → IsReadyByFirst b r (k + 1) p → IsReadyByFirst b r k p ⊎ IsReadyBy b r k p
-ready_next b r k p (q, l, ready) = by (cases_lt q k)
-  where
-    by : (q < k) ⊎ (k ≤ q) → IsReadyByFirst b r k p ⊎ IsReadyBy b r k p
-    by (inl lt) = inl (q, lt, ready)
-    by (inr le) = let e : q ≡ k = omega (arith, le, l) in inr (subst (λ n. IsReadyBy b r n p) e ready)
+ready_next b r k p (q, l, ready) = ⊎_elim (λ lt. inl (q, lt, ready)) (λ le. let e : q ≡ k = omega (arith, le, l) in inr (subst (λ n. IsReadyBy b r n p) e ready)) (cases_lt q k)
 
 -- ---- ends that stay
 
@@ -113,11 +105,9 @@ module _ (N : Network) (I : Inputs) (cells later : List View) (i : ℕ) (others 
   given_on : (c : ℕ) (k : Source) (n : ℕ) → IsGiven N I cells c k n → IsGiven N I later c k n ⊎ ((q : ℕ) × (actual_at (instance_at N i) q ≡ Writes c))
   given_on c Given n h = inl h
   given_on c Nobody n h = absurd h
-  given_on c (Written w) n h = by (cases_eq w i)
-    where
-      by : (w ≡ i) ⊎ (w ≡ i → ⊥) → IsGiven N I later c (Written w) n ⊎ ((q : ℕ) × (actual_at (instance_at N i) q ≡ Writes c))
-      by (inl e) = inr (h.0, subst (λ k. actual_at (instance_at N k) h.0 ≡ Writes c) e h.1)
-      by (inr n) = inl (h.0, h.1, ap (λ (v : View). v.sent h.0) (others w n) ∙ h.2)
+  given_on c (Written w) n h =
+      ⊎_elim (λ e. inr (h.0, subst (λ k. actual_at (instance_at N k) h.0 ≡ Writes c) e h.1))
+      (λ n. inl (h.0, h.1, ap (λ (v : View). v.sent h.0) (others w n) ∙ h.2)) (cases_eq w i)
 
   took_on : (o q c : ℕ) → (o ≡ i → ⊥) → TookAll N I cells o q c → TookAll N I later o q c ⊎ ((r : ℕ) × (actual_at (instance_at N i) r ≡ Writes c))
   took_on o q c n h =
@@ -343,8 +333,4 @@ noted_poured b d c values input poured h w w' ends noted woken =
     is = λ i. record { network = network_of (sym h.rest i).network; input = inputs_of (sym h.rest i).input; watch = (sym h.rest i).watch; cells = sym h.views i }
 
     others : (k : ℕ) → (k ≡ c → ⊥) → inputs_of input k ≡ inputs_of b.input k
-    others k n = by (c == k) refl
-      where
-        by : (x : Bool) → (c == k) ≡ x → inputs_of input k ≡ inputs_of b.input k
-        by true e = absurd (n (sym (eqb-true c k e)))
-        by false e = subst (λ x. inputs_of input k ≡ inputs_of b.input k ++ (if x then values else [])) e (poured k) ∙ append-nil (inputs_of b.input k)
+    others k n = grind (arith, nat_tests, n, poured k, append-nil (inputs_of b.input k))

@@ -1,5 +1,5 @@
 -- The numbers of the streams that each instance writes.
-use Rattle.kahn_sequential.proofs.Common.{arith, ◌≡◌, ◌⊎◌, inl, inr, ℕ, zero, suc, ◌+◌, ◌<◌, ◌≤◌, List, [], ◌∷◌, ◌++◌, length, refl, sym, ap, ◌∙◌, subst, Some, slice_get, slice_index_or, slice_set, Global, Vec, Line, Network, Written, cases_eq, same_Some, slice_get_read, slice_get_within, source, HoldNumbers, HoldNumbersTo, HasNumber, IsNumberOf}
+use Rattle.kahn_sequential.proofs.Common.{⊎_elim, arith, ◌≡◌, ◌⊎◌, inl, inr, ℕ, zero, suc, ◌+◌, ◌<◌, ◌≤◌, List, [], ◌∷◌, ◌++◌, length, refl, sym, ap, ◌∙◌, subst, Some, slice_get, slice_index_or, slice_set, Global, Vec, Line, Network, Written, cases_eq, same_Some, slice_get_read, slice_get_within, source, HoldNumbers, HoldNumbersTo, HasNumber, IsNumberOf}
 use Rattle.kahn_sequential.proofs.Noted.{at_end, keep}
 
 -- the numbers of one instance more aren't less
@@ -7,11 +7,9 @@ pub each_least : (lists : List (Vec ℕ Global)) (instances : List ℕ) (n r fro
     ((k : ℕ) → k < n → (p : ℕ) → slice_get instances k ≡ Some p → (j : ℕ) → IsNumberOf lists p j → from ≤ j → least ≤ j) → next ≤ least → slice_get instances n ≡ Some r →
     ((j : ℕ) → IsNumberOf lists r j → from ≤ j → next ≤ j) →
     (k : ℕ) → k < n + 1 → (p : ℕ) → slice_get instances k ≡ Some p → (j : ℕ) → IsNumberOf lists p j → from ≤ j → next ≤ j
-each_least lists instances n r from least next before few here one k lt p at j is le = by (cases_eq k n)
-  where
-    by : (k ≡ n) ⊎ (k ≡ n → ⊥) → next ≤ j
-    by (inl e) = one j (subst (λ q. IsNumberOf lists q j) (same_Some p r (sym at ∙ ap (slice_get instances) e ∙ here)) is) le
-    by (inr other) = let m = before k (omega (arith, lt, other)) p at j is le in omega (arith, m, few)
+each_least lists instances n r from least next before few here one k lt p at j is le =
+    ⊎_elim (λ e. one j (subst (λ q. IsNumberOf lists q j) (same_Some p r (sym at ∙ ap (slice_get instances) e ∙ here)) is) le)
+    (λ other. let m = before k (omega (arith, lt, other)) p at j is le in omega (arith, m, few)) (cases_eq k n)
 
 -- ---- one number more
 

@@ -1,5 +1,5 @@
 -- A flow that is given more input.
-use Rattle.kahn_sequential.proofs.Common.{drop, arith, ◌≡◌, ℕ, zero, suc, ◌+◌, ◌≤◌, ◌==◌, Bool, true, false, if◌then◌else◌, eqb-true, eq-eqb, true≢false, List, [], ◌∷◌, ◌++◌, length, map, refl, sym, ap, ◌∙◌, subst, append-nil, append_assoc, Option, Some, None, slice_get, slice_index_or, Source, Given, Written, Nobody, network_of, role_at, Token, Value, Line, Channel, Print, Entry, channel_of, most_values, Lists, inputs_of, IsMeant, source, is_watched, stream_lines, token_value, AreQueued, IsPoured, waiting_of, Waiting, Verdict, HasPouredIn, AreLent, Plan, flow_of, let_go_by, let_go_of, HasTakenIn, IsLaid, Table}
+use Rattle.kahn_sequential.proofs.Common.{nat_tests, drop, arith, ◌≡◌, ℕ, zero, suc, ◌+◌, ◌≤◌, ◌==◌, Bool, true, false, if◌then◌else◌, eqb-true, eq-eqb, true≢false, List, [], ◌∷◌, ◌++◌, length, map, refl, sym, ap, ◌∙◌, subst, append-nil, append_assoc, Option, Some, None, slice_get, slice_index_or, Source, Given, Written, Nobody, network_of, role_at, Token, Value, Line, Channel, Print, Entry, channel_of, most_values, Lists, inputs_of, IsMeant, source, is_watched, stream_lines, token_value, AreQueued, IsPoured, waiting_of, Waiting, Verdict, HasPouredIn, AreLent, Plan, flow_of, let_go_by, let_go_of, HasTakenIn, IsLaid, Table}
 use Rattle.kahn_sequential.proofs.{Flowed.front_of, Flowed.map_on, Flowed.poured_goes_on, Giving.input_role, Named.HasLine, Named.has_line, Once_written.input_watched}
 
 -- ---- the longer input
@@ -60,11 +60,7 @@ same_waits (x ∷ xs) (y ∷ ys) n h = let a = h 0 in let r = same_waits xs ys (
 
 module _ (b d : Table) (c : ℕ) (h : HasTakenIn c 0 b.input b d) where
   nothing_more : (k : ℕ) → waiting_of (slice_get d.queues.queues k) ≡ waiting_of (slice_get b.queues.queues k)
-  nothing_more k = by (c == k) (h.waiting k)
-    where
-      by : (x : Bool) → waiting_of (slice_get d.queues.queues k) ≡ waiting_of (slice_get b.queues.queues k) + (if x then 0 else 0) → waiting_of (slice_get d.queues.queues k) ≡ waiting_of (slice_get b.queues.queues k)
-      by true e = omega (arith, e)
-      by false e = omega (arith, e)
+  nothing_more k = grind (arith, nat_tests, h.waiting k)
 
   pub refused_same : IsLaid b → IsLaid d → AreQueued b.queues → AreQueued d.queues → (plan : Plan) (said : Option Verdict) (ts us : List Token) → us ≡ ts →
       flow_of d plan said (length us) ≡ flow_of b plan said (length ts)

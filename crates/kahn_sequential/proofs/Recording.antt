@@ -1,5 +1,5 @@
 -- What is kept of the channels after a turn, and in the end.
-use Rattle.kahn_sequential.proofs.Common.{arith, ◌≡◌, ◌⊎◌, inl, inr, ℕ, suc, ◌+◌, ◌-◌, ◌<◌, ◌≤◌, ◌==◌, Bool, true, false, cond, min, List, [], ◌∷◌, ◌++◌, length, refl, sym, ap, ◌∙◌, subst, Option, Some, None, slice_get, AllStandBy, AreKeptTokens, AreStreams, Answer, Channel, Finished, Given, HasRunCell, HasWorked, HaveChanged, Inner, Input, Inputs, IsConcluded, IsGiven, IsLaid, IsOpenStream, IsRight, IsWhole, Lists, Network, OpensWith, Output, Pause, Program, Reads, Role, Round, RunState, Side, Source, Stream, Table, View, Waiting, Writes, Written, actual_at, all_events, cases_eq, channel_source, events_at, get_or-set_other, given_of, inputs_of, instance_at, is_output, joins_within, length-map, network_of, no_view, one_first, prefix_refl, role_at, sight_of, slice_get_within, source, stream_lines, taken_of, told_view, token_value, turn_of, values_of, view_at, view_events, AllStand, StoodBy, mapped_at, Lines as Queues, Holds, IsServed, IsWriter, inputs, writes, AreCountsOf, AreOpenChannels, AreRecorded, AreTurnShort, HasGiven, IsCountOf, HasOthers, IsRecorded, AreTokensOf, IsSentOn, IsTurnShort, IsWrittenByOthers, StoodIn, TakesTurns, AreRecordedOf, AreTurnShortOf}
+use Rattle.kahn_sequential.proofs.Common.{nat_tests, ⊎_elim, arith, ◌≡◌, ◌⊎◌, inl, inr, ℕ, suc, ◌+◌, ◌-◌, ◌<◌, ◌≤◌, ◌==◌, Bool, true, false, cond, min, List, [], ◌∷◌, ◌++◌, length, refl, sym, ap, ◌∙◌, subst, Option, Some, None, slice_get, AllStandBy, AreKeptTokens, AreStreams, Answer, Channel, Finished, Given, HasRunCell, HasWorked, HaveChanged, Inner, Input, Inputs, IsConcluded, IsGiven, IsLaid, IsOpenStream, IsRight, IsWhole, Lists, Network, OpensWith, Output, Pause, Program, Reads, Role, Round, RunState, Side, Source, Stream, Table, View, Waiting, Writes, Written, actual_at, all_events, cases_eq, channel_source, events_at, get_or-set_other, given_of, inputs_of, instance_at, is_output, joins_within, length-map, network_of, no_view, one_first, prefix_refl, role_at, sight_of, slice_get_within, source, stream_lines, taken_of, told_view, token_value, turn_of, values_of, view_at, view_events, AllStand, StoodBy, mapped_at, Lines as Queues, Holds, IsServed, IsWriter, inputs, writes, AreCountsOf, AreOpenChannels, AreRecorded, AreTurnShort, HasGiven, IsCountOf, HasOthers, IsRecorded, AreTokensOf, IsSentOn, IsTurnShort, IsWrittenByOthers, StoodIn, TakesTurns, AreRecordedOf, AreTurnShortOf}
 use Rattle.kahn_streams.proofs.{Finding.found, Sided.channel_served, Token_lists.token_stands}
 use Rattle.kahn_sequential.specs.{Recordings.AreCountsIn, Recordings.AreHistoriesIn, Recordings.IsHistoryIn, declared.counted.Count.Count}
 use Rattle.kahn_sequential.proofs.{Assembling.assembled, Assembling.assembled_long, Assembling.assembled_taken, Assembling.assembled_whole, Benched.seated_at, Benched.sent_there, Benched.taken_there, Benched.viewed, Events.none_sent, Growing.one_event, Growing.sent_grows, Lists.all_of_it, Lists.both_stand, Lists.old_item, Lists.one_of_sum, Lists.prefix_stands}
@@ -338,11 +338,7 @@ module _ (b : Table) (laid : IsLaid b) {bound left : ℕ} {halted : Bool} (a : A
 -- ---- turns
 
 pub turns_of : (N : Network) (r : Round) → TakesTurns N r.quantum → TakesTurns N (turn_of r)
-turns_of N r (inl l) = inl (by r.memory)
-  where
-    by : (m : Bool) → cond m 0 (min r.quantum r.left) ≤ 1
-    by true = omega arith
-    by false = omega (arith, l)
+turns_of N r (inl l) = inl (grind (arith, nat_tests, l))
 turns_of N r (inr h) = inr h
 
 -- ---- one channel after another
@@ -372,11 +368,7 @@ stays_so t q p c x h n = record { is = h.is; all = λ r. h.others r (n r) }
 
 -- one channel more that its writer doesn't read
 pub others_more : (N : Network) (n : ℕ) → ((d : ℕ) → d < n → HasOthers N d) → HasOthers N n → (d : ℕ) → d < n + 1 → HasOthers N d
-others_more N n h k d l = by (cases_eq d n)
-  where
-    by : (d ≡ n) ⊎ (d ≡ n → ⊥) → HasOthers N d
-    by (inl e) = subst (HasOthers N) (sym e) k
-    by (inr m) = h d (omega (arith, l, m))
+others_more N n h k d l = ⊎_elim (λ e. subst (HasOthers N) (sym e) k) (λ m. h d (omega (arith, l, m))) (cases_eq d n)
 
 pub same_number : (n : ℕ) → (n == n) ≡ true
 same_number n = grind arith

@@ -1,6 +1,6 @@
 -- Rounds over cells.
 use Rattle.std.proofs.Common.{length-append}
-use Rattle.kahn_sequential.proofs.Common.{arith, ◌≡◌, ◌⊎◌, inl, inr, ℕ, suc, ◌+◌, ◌^◌, ◌<◌, ◌≤◌, [], ◌∷◌, ◌++◌, length, sum_by, refl, sym, ap, ◌∙◌, subst, Some, slice_get, slice_set, Bool, true, false, cond, min, vec_capacity, Store, at_last, Pause, More, Reads, actual_at, instance_at, view_at, IsOutcomeOf, TookAll, Round, RunState, IsPaused, HasEndIn, events_at, view_events, all_events, weight, AreEnds, HasAdvanced, HasTakenTurn, HasRunCell, IsInRound, LacksMemory, Marked, MayRun, PausedAt, no_view, Table, sight_of, sum_by-set, HasWorked, turn_of, length-set, End, Outcome, Waits}
+use Rattle.kahn_sequential.proofs.Common.{⊎_elim, arith, ◌≡◌, ◌⊎◌, inl, inr, ℕ, suc, ◌+◌, ◌^◌, ◌<◌, ◌≤◌, [], ◌∷◌, ◌++◌, length, sum_by, refl, sym, ap, ◌∙◌, subst, Some, slice_get, slice_set, Bool, true, false, cond, min, vec_capacity, Store, at_last, Pause, More, Reads, actual_at, instance_at, view_at, IsOutcomeOf, TookAll, Round, RunState, IsPaused, HasEndIn, events_at, view_events, all_events, weight, AreEnds, HasAdvanced, HasTakenTurn, HasRunCell, IsInRound, LacksMemory, Marked, MayRun, PausedAt, no_view, Table, sight_of, sum_by-set, HasWorked, turn_of, length-set, End, Outcome, Waits}
 use Rattle.kahn_sequential.proofs.{Tapping.worked_on, Lists.one_of_sum}
 use Rattle.kahn_streams.specs.Script as script
 use Rattle.kahn_code.specs.declared.progress.Pause.TheVariants as pause
@@ -159,11 +159,7 @@ module _ {b d : Table} {r r' : Round} {p : ℕ} {z : Pause} (may : MayRun (sight
         out_of (inr a) = inr (m ∙ a)
 
         one : x.outcome ≡ More → (r'.left ≡ 0) ⊎ (r'.memory ≡ true)
-        one f = by (more f)
-          where
-            by : (z ≡ pause.Spent) ⊎ (z ≡ pause.NoMemory) → (r'.left ≡ 0) ⊎ (r'.memory ≡ true)
-            by (inl a) = out_of (turn_none r may.some (let u = v.ran.spent a in let c = v.counts in omega (arith, u, c, d)))
-            by (inr a) = absurd (never a)
+        one f = ⊎_elim (λ a. out_of (turn_none r may.some (let u = v.ran.spent a in let c = v.counts in omega (arith, u, c, d)))) (λ a. absurd (never a)) (more f)
 
         by : (slice_get r.ends.items k ≡ Some y) ⊎ ((k ≡ length r.ends.items) × (x ≡ y)) → HasEndIn s' k y × (y.outcome ≡ More → (r'.left ≡ 0) ⊎ (r'.memory ≡ true))
         by (inl e) = let old = go.still f k y e in (subst (λ u. HasEndIn u k y) (sym (still_on d)) old.0, λ o. out_of (old.1 o))

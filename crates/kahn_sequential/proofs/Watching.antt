@@ -25,6 +25,5 @@ nowhere_in false x y ys i rest l (suc k) f = rest (omega (arith, l)) k f
 
 -- one that has none stands nowhere
 pub named_nowhere : (names : Scope) (x : List ℕ) → length names ≤ place_of names x → (k : ℕ) → slice_get names k ≡ Some x → ⊥
-named_nowhere [] x h zero e = cc
-named_nowhere [] x h (suc k) e = cc
 named_nowhere (y ∷ ys) x h k e = nowhere_in (bytes_eq x y) x y ys refl (named_nowhere ys x) h k e
+named_nowhere _ x h _ e = cc

@@ -15,6 +15,7 @@ pub use Rattle.kahn_streams.specs.declared.tree.Form.TheBlock.{hidden-the_row-Op
 pub use Rattle.kahn_streams.specs.declared.tree.Variable.{Variable}
 pub use Rattle.std.proofs.Common.{Bool, Err, Global, IfNone, List, None, Ok, Option, Result, Some, Vec, [], add-one, ap, append_assoc, arith, bytes_eq, cond, drop, false, find, get_or, inl, inr, length, length-append, length-drop, length-take, lit<, lit≤, map, max, neg_ℤ, pos, refl, rules, subst, suc, sym, take, true, true≢false, vec_len, w64, zero, ℕ, ℤ, ⊎_elim, ◌*◌, ◌++◌, ◌+◌, ◌-◌, ◌<◌, ◌==◌, ◌∙◌, ◌∷◌, ◌≡◌, ◌≢◌, ◌≤◌, ◌⊎◌}
 pub use Rattle.std.proofs.Math.Seq.{drop-cons}
+pub use Rattle.std.proofs.lemmas.Bool.{cases_lt}
 pub use Rattle.std.proofs.lemmas.Bool.Decides.{nat_tests}
 pub use Rattle.std.proofs.lemmas.Grind.{common_steps}
 pub use Rattle.std.proofs.lemmas.Int.{to_z-of_z}

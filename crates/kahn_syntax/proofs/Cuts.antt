@@ -1,5 +1,5 @@
 -- Where a text may be cut: behind blanks, comments and lexemes.
-use Rattle.kahn_syntax.proofs.Common.{◌≡◌, ℕ, suc, ◌+◌, ◌-◌, ◌≤◌, ◌<◌, ◌⊎◌, ◌++◌, List, [], ◌∷◌, length, get_or, drop, refl, sym, ap, subst, ◌∙◌, arith, inl, inr, add-one, IsUtf8, IsCharBoundary, All, drop-cons, get_or_past, IsUtf8-drop, IsCharBoundary-after_ascii, IsCharBoundary-past_char, nat_tests, All-nil, All-cons, Lexeme, Class, Sign, Becomes, Unequal, AtMost, AtLeast, Not, IsBlank, IsLetter, IsWordByte, IsWord, IsRun, IsSign, IsOfClass, IsSlice, IsLexemeAt, Gap, no_gap, then_blank, then_comment, Lexed, Number, SignClass}
+use Rattle.kahn_syntax.proofs.Common.{cases_lt, ⊎_elim, ◌≡◌, ℕ, suc, ◌+◌, ◌-◌, ◌≤◌, ◌<◌, ◌⊎◌, ◌++◌, List, [], ◌∷◌, length, get_or, drop, refl, sym, ap, subst, ◌∙◌, arith, inl, inr, add-one, IsUtf8, IsCharBoundary, All, drop-cons, get_or_past, IsUtf8-drop, IsCharBoundary-after_ascii, IsCharBoundary-past_char, nat_tests, All-nil, All-cons, Lexeme, Class, Sign, Becomes, Unequal, AtMost, AtLeast, Not, IsBlank, IsLetter, IsWordByte, IsWord, IsRun, IsSign, IsOfClass, IsSlice, IsLexemeAt, Gap, no_gap, then_blank, then_comment, Lexed, Number, SignClass}
 use Rattle.std.proofs.Math.Utf8.{encode}
 use Rattle.kahn_syntax.proofs.OneList.{form_grows}
 
@@ -28,11 +28,9 @@ one_or_more a b h = grind (arith, nat_tests)
 
 -- behind a word
 pub word_cut : (text : List ℕ) (a b : ℕ) → IsUtf8 text → b ≤ length text → IsWord text a b → IsCharBoundary text b
-word_cut text a b utf8 inside word = go (one_or_more a b word.0)
-  where
-    go : (a + 1 ≡ b) ⊎ (a < b - 1) → IsCharBoundary text b
-    go (inl e) = cut_after text a b utf8 e (omega arith) (letter_ascii _ word.1)
-    go (inr more) = cut_after text (b - 1) b utf8 (omega arith) (omega arith) (word_byte_ascii _ (word.2 (b - 1) more (omega arith)))
+word_cut text a b utf8 inside word =
+    ⊎_elim (λ e. cut_after text a b utf8 e (omega arith) (letter_ascii _ word.1))
+    (λ more. cut_after text (b - 1) b utf8 (omega arith) (omega arith) (word_byte_ascii _ (word.2 (b - 1) more (omega arith)))) (one_or_more a b word.0)
 
 -- behind U+00AC
 not_cut : (text : List ℕ) (a : ℕ) → IsUtf8 text → IsCharBoundary text a → a + 1 < length text → get_or text a 0 ≡ 0xC2 → get_or text (a + 1) 0 ≡ 0xAC →
@@ -74,15 +72,8 @@ blank_ascii b (inr (inl e)) = (omega arith, omega arith)
 blank_ascii b (inr (inr (inl e))) = (omega arith, omega arith)
 blank_ascii b (inr (inr (inr e))) = (omega arith, omega arith)
 
-order : (a b : ℕ) → (a < b) ⊎ (b ≤ a)
-order a b = grind (arith, nat_tests)
-
 read_inside : (text : List ℕ) (i : ℕ) → 0 < get_or text i 0 → i < length text
-read_inside text i some = go (order i (length text))
-  where
-    go : (i < length text) ⊎ (length text ≤ i) → i < length text
-    go (inl h) = h
-    go (inr h) = let e : get_or text i 0 ≡ 0 = get_or_past text i 0 h in absurd (omega arith)
+read_inside text i some = ⊎_elim (λ h. h) (λ h. let e : get_or text i 0 ≡ 0 = get_or_past text i 0 h in absurd (omega arith)) (cases_lt i (length text))
 
 -- behind blanks and comments
 gap_cut : (text : List ℕ) (a b : ℕ) → IsUtf8 text → IsCharBoundary text a → Gap text a b → IsCharBoundary text b

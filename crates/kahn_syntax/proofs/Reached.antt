@@ -1,12 +1,9 @@
 -- How far a list is read.
 use Rattle.kahn_syntax.proofs.Common.{◌≡◌, ℕ, ◌+◌, ◌≤◌, ◌<◌, List, [], ◌∷◌, ◌++◌, length, Bool, true, false, cond, Option, Some, None, refl, sym, ap, ◌∙◌, arith, ⊎_elim, ◌⊎◌, length-append, nat_le, nat_tests, Terminal, Part, levels, may_end, step, Whole, Refuses, TooFar, onward, fate}
-use Rattle.kahn_syntax.proofs.{Steps.go, Viable.Fits, Viable.fits_some, Viable.fits_nothing, Viable.further}
+use Rattle.kahn_syntax.proofs.{Unique.le_or, Steps.go, Viable.Fits, Viable.fits_some, Viable.fits_nothing, Viable.further}
 
 le_test_false : (a b : ℕ) → b < a → nat_le a b ≡ false
 le_test_false a b h = grind (arith, nat_tests)
-
-pub le_or : (a b : ℕ) → (a ≤ b) ⊎ (b < a)
-le_or a b = grind (arith, nat_tests)
 
 pub go_none : (m : ℕ) (s : List Part) (k : Terminal) (ks : List Terminal) → step s k ≡ None → fate m s (k ∷ ks) ≡ Refuses (may_end s) (length ks + 1)
 go_none m s k ks e = ap (onward m (may_end s) (length ks + 1) (λ (u : List Part). fate m u ks)) e

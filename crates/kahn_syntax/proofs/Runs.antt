@@ -1,5 +1,5 @@
 -- The value of a run of digits.
-use Rattle.kahn_syntax.proofs.Common.{◌≡◌, ℕ, ◌+◌, ◌-◌, ◌≤◌, ◌<◌, ◌⊎◌, List, length, get_or, drop, arith, ⊎_elim, Ok, Err, ℤ, pos, length-drop, length-take, w64, slice_range, IsInRange, digits_value, ParsesSigned, get_or-take, get_or-drop, parse_signed_digits, numerals_by_value, tells_by_index, IsNumeralModel, nat_tests, IsRun, largest_number}
+use Rattle.kahn_syntax.proofs.Common.{cases_lt, ◌≡◌, ℕ, ◌+◌, ◌-◌, ◌≤◌, ◌<◌, ◌⊎◌, List, length, get_or, drop, arith, ⊎_elim, Ok, Err, ℤ, pos, length-drop, length-take, w64, slice_range, IsInRange, digits_value, ParsesSigned, get_or-take, get_or-drop, parse_signed_digits, numerals_by_value, tells_by_index, IsNumeralModel, nat_tests, IsRun, largest_number}
 
 abbrev pub AreDigits : List ℕ → Type 0
 AreDigits ds = (i : ℕ) → i < length ds → IsInRange 48 57 (get_or ds i 0)
@@ -16,9 +16,6 @@ run_digits text a b inside run i below =
     let h : i < b - a = omega arith in
     let d : IsInRange 48 57 (get_or text (a + i) 0) = run.1 (a + i) (omega arith) (omega arith) in
     rw (get_or-take (b - a) (drop a text) i 0 h, get_or-drop a text i 0) d
-
-le_or : (a b : ℕ) → (a < b) ⊎ (b ≤ a)
-le_or a b = grind (arith, nat_tests)
 
 -- a run that is read as a number is small enough
 pub run_value : (E : Type 0) (text : List ℕ) (a b : ℕ) (n : ℤ) → b ≤ length text → IsRun text a b → ParsesSigned {E = E} w64 10 (slice_range text a b) (Ok n) →
@@ -37,4 +34,4 @@ run_large {E = E} text a b e inside run parsed =
     let l : length ds ≡ b - a = length_slice text a b (omega (arith, run.0)) inside in
     let some : 0 < length ds = omega (arith, run.0) in
     let no = parse_signed_digits decimal w64 ds (Err e) parsed (run_digits text a b inside run) in
-    ⊎_elim (λ small. absurd (no (some, small))) (λ large. omega arith) (le_or (digits_value 10 ds) 9223372036854775808)
+    ⊎_elim (λ small. absurd (no (some, small))) (λ large. omega arith) (cases_lt (digits_value 10 ds) 9223372036854775808)

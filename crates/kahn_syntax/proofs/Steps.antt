@@ -32,20 +32,12 @@ none_of rs k h = by (enters rs k) h
 -- one rule alone
 pub starts_one : (t : RuleToken) (ps : List Part) (r : List Terminal) (b : Bool) → leads t r ≡ b → starts ((t, ps) ∷ []) r ≡ b
 starts_one t ps [] b h = h
-starts_one t ps (k ∷ r) b h = by (accepts t k) ∙ h
-  where
-    by : (c : Bool) → is_some (cond c (Some ps) None) ≡ c
-    by true = refl
-    by false = refl
+starts_one t ps (k ∷ r) b h = grind (arith, nat_tests, h)
 
 pub starts_followed : (rs : List Rule) (after : List Part) (r : List Terminal) → starts (followed after rs) r ≡ starts rs r
 starts_followed rs after [] = refl
 starts_followed [] after (k ∷ r) = refl
-starts_followed ((t, ps) ∷ rest) after (k ∷ r) = by (accepts t k) (starts_followed rest after (k ∷ r))
-  where
-    by : (b : Bool) → is_some (enters (followed after rest) k) ≡ is_some (enters rest k) → is_some (cond b (Some (ps ++ after)) (enters (followed after rest) k)) ≡ is_some (cond b (Some ps) (enters rest k))
-    by true again = refl
-    by false again = again
+starts_followed ((t, ps) ∷ rest) after (k ∷ r) = grind (arith, nat_tests, starts_followed rest after (k ∷ r))
 
 -- the fate where a part with these rules is open above others, of which nothing may be there or not
 abbrev pub runs : ℕ → Bool → List Rule → List Part → List Terminal → Fate
@@ -75,11 +67,7 @@ passes front rs m n s (k ∷ r) h =
   where
     later : (f : List Rule) → is_some (enters f k) ≡ false → enters (f ++ rs) k ≡ enters rs k
     later [] e = refl
-    later ((t, ps) ∷ f) e = by (accepts t k) e (λ g. later f g)
-      where
-        by : (b : Bool) → is_some (cond b (Some ps) (enters f k)) ≡ false → (is_some (enters f k) ≡ false → enters (f ++ rs) k ≡ enters rs k) → cond b (Some ps) (enters (f ++ rs) k) ≡ enters rs k
-        by true g again = absurd (true≢false g)
-        by false g again = again g
+    later ((t, ps) ∷ f) e = grind (arith, nat_tests, e, later f)
 
 pub passes_one : (t : RuleToken) (ps : List Part) (rs : List Rule) (m : ℕ) (s : List Part) (r : List Terminal) → leads t r ≡ false → runs m false ((t, ps) ∷ rs) s r ≡ runs m false rs s r
 passes_one t ps rs m s r h = passes ((t, ps) ∷ []) rs m false s r (starts_one t ps r false h)
@@ -87,12 +75,7 @@ passes_one t ps rs m s r h = passes ((t, ps) ∷ []) rs m false s r (starts_one 
 -- rules that are followed by parts do what they do above these
 followed_opens : (rs : List Rule) (after s : List Part) (k : Terminal) (o : Option (List Part)) → opened_by s o (enters (followed after rs) k) ≡ opened_by (after ++ s) o (enters rs k)
 followed_opens [] after s k o = refl
-followed_opens ((t, ps) ∷ rest) after s k o = by (accepts t k) (followed_opens rest after s k o)
-  where
-    by : (b : Bool) → opened_by s o (enters (followed after rest) k) ≡ opened_by (after ++ s) o (enters rest k) →
-        opened_by s o (cond b (Some (ps ++ after)) (enters (followed after rest) k)) ≡ opened_by (after ++ s) o (cond b (Some ps) (enters rest k))
-    by true again = ap Some (append_assoc ps after s)
-    by false again = again
+followed_opens ((t, ps) ∷ rest) after s k o = grind (arith, nat_tests, followed_opens rest after s k o, append_assoc ps after s)
 
 pub follows : (rs : List Rule) (after : List Part) (m : ℕ) (s : List Part) (r : List Terminal) → runs m false (followed after rs) s r ≡ runs m false rs (after ++ s) r
 follows rs after m s [] = refl
