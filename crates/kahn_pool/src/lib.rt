@@ -12,8 +12,8 @@ mod workers;
 
 pub use held::Held;
 pub use kahn_sequential::{
-    Count, HeldFault, Recorded, calls_go_on, finished_exactly, finished_is_one, goes_on_same,
-    goes_on_then, run_one, run_recorded, stopped_begins, verdict_is_one,
+    HeldFault, calls_go_on, finished_exactly, finished_is_one, goes_on_same, goes_on_then, run_one,
+    stopped_begins, verdict_is_one,
 };
 pub use kahn_streams::{
     Answer, Config, End, Gate, MOST_BOUND, MOST_QUANTUM, MOST_WORKERS, Open, Outcome, RunFault,
