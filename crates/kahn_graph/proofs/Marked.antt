@@ -1,5 +1,5 @@
 -- Standings, and the marks of rings over them.
-use Rattle.kahn_graph.proofs.Common.{AreRings, Bool, Ended, Faulted, IsRingMark, IsWaitAt, IsWaitMark, LeadsOn, List, More, Network, None, Some, Standing, Waits, [], ap, arith, cases_lt, eq-eqb, eqb-true, false, get_or, is_wait, length, refl, same_Some, slice_get, slice_get-get_or, slice_get_within, subst, sym, true, ℕ, ⊎_elim, ◌+◌, ◌<◌, ◌∙◌, ◌≡◌, ◌≤◌}
+use Rattle.kahn_graph.proofs.Common.{AreRings, Bool, Ended, Faulted, IsRingMark, IsWaitAt, IsWaitMark, LeadsOn, List, More, Network, Some, Standing, Waits, [], ap, arith, cases_lt, eq-eqb, eqb-true, false, get_or, is_wait, length, refl, same_Some, slice_get, slice_get-get_or, slice_get_within, subst, sym, true, ℕ, ⊎_elim, ◌+◌, ◌<◌, ◌∙◌, ◌≡◌, ◌≤◌}
 
 -- nobody stands, so nobody is on a ring
 pub no_rings : (N : Network) (ss : List Standing) (marks : List Bool) → ss ≡ [] → marks ≡ [] → AreRings N ss marks
