@@ -17,7 +17,7 @@ use Rattle.kahn_streams.specs.declared.tree.Argument.TheVariants as A
 use Rattle.kahn_streams.specs.View.{bytes_of}
 use Rattle.kahn_streams.specs.Wiring.{Global, IsChannel, IsProcess, Handover, Locals, locals_of, scope_of, entries, declared_channels, global, handed, handed_by, ends, writers, readers, side_at, is_closed, takes, gives}
 use Rattle.kahn_streams.specs.declared.fault.CheckFault.TheVariants as checked
-use Rattle.kahn_streams.specs.Faults.{find, wrong, same_kind, misread, misused, kind_in, kind_of, wrong_first, wrong_second, spanning, faults_in, level_faults, faults_as, faults_of, row_faults, else_faults, body_faults, too_many, repeated, twice, process_faults, channel_faults, declaration_faults, overtaken, misplaced, argument_faults, arguments_faults, miscounted, made_faults, instance_faults, missing, side_faults, sides_faults, faults, most_channels, most_instances, verdict}
+use Rattle.kahn_streams.specs.Faults.{find, wrong, same_kind, misread, misused, kind_in, kind_of, wrong_first, wrong_second, spanning, faults_in, level_faults, faults_as, faults_of, row_faults, else_faults, body_faults, repeated, twice, process_faults, channel_faults, declaration_faults, overtaken, misplaced, argument_faults, arguments_faults, made_faults, instance_faults, missing, side_faults, sides_faults, faults, most_channels, most_instances, verdict}
 use Rattle.kahn_syntax.specs.declared.{lexeme.Lexeme.Lexeme, fault.SyntaxFault.SyntaxFault}
 use Rattle.kahn_syntax.specs.declared.lexeme.Keyword.TheVariants as keyword
 use Rattle.kahn_syntax.specs.declared.lexeme.Sign.TheVariants as mark

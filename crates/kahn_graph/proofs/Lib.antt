@@ -1,3 +1,4 @@
+mod Common
 mod Marked
 mod Named
 mod Printed

@@ -1,13 +1,5 @@
 -- Standings, and the marks of rings over them.
-use Rattle.std.proofs.Common.{◌≡◌, ◌∙◌, ℕ, ◌+◌, ◌<◌, ◌≤◌, ⊎_elim, true, false, Bool, List, [], None, Some, ap, arith, get_or, length, refl, slice_get, subst, sym}
-use Rattle.std.proofs.lemmas.Bool.{cases_lt, eq-eqb, eqb-true}
-use Rattle.std.proofs.lemmas.Option.{slice_get-get_or, same_Some, slice_get_within}
-use Rattle.kahn_streams.specs.Network.{Network}
-use Rattle.kahn_chain.specs.Chain.{AreRings, IsRingMark, LeadsOn}
-use Rattle.kahn_chain.specs.declared.standing.Standing.{Standing}
-use Rattle.kahn_chain.specs.declared.standing.Standing.TheVariants.{Ended, Waits, Faulted, More}
-use Rattle.kahn_graph.specs.Ran.{IsWaitMark}
-use Rattle.kahn_graph.specs.inner.Adding.{IsWaitAt, is_wait}
+use Rattle.kahn_graph.proofs.Common.{AreRings, Bool, Ended, Faulted, IsRingMark, IsWaitAt, IsWaitMark, LeadsOn, List, More, Network, Some, Standing, Waits, [], ap, arith, cases_lt, eq-eqb, eqb-true, false, get_or, is_wait, length, refl, same_Some, slice_get, slice_get-get_or, slice_get_within, subst, sym, true, ℕ, ⊎_elim, ◌+◌, ◌<◌, ◌∙◌, ◌≡◌, ◌≤◌}
 
 -- nobody stands, so nobody is on a ring
 pub no_rings : (N : Network) (ss : List Standing) (marks : List Bool) → ss ≡ [] → marks ≡ [] → AreRings N ss marks

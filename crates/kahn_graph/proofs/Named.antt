@@ -1,25 +1,5 @@
 -- Values and ends of edges by the names of parameters.
-use Rattle.std.proofs.Common.{◌≡◌, ◌∙◌, ℕ, ◌+◌, ◌<◌, ◌≤◌, Bool, ◌⊎◌, inl, inr, ⊎_elim, IfSome, List, [], ◌∷◌, ◌++◌, Option, None, Some, ap, ap₂, arith, codes, drop, drop_of_length-le, length, map, min, not, ◌==◌, count_by, refl, slice_get, subst, sym, take, take_all}
-use Rattle.std.proofs.lemmas.Bool.{cases_lt}
-use Rattle.std.proofs.lemmas.List.{length-map}
-use Rattle.std.specs.List.{suffix_len}
-use Rattle.std.specs.List.{concat}
-use Rattle.kahn_streams.specs.declared.tree.Argument.{Argument}
-use Rattle.kahn_streams.specs.declared.tree.Kind.{Kind}
-use Rattle.kahn_streams.specs.declared.tree.Parameter.{Parameter}
-use Rattle.kahn_streams.specs.declared.tree.Process.{Process}
-use Rattle.kahn_streams.specs.declared.tree.Program.{Program}
-use Rattle.kahn_streams.specs.declared.tree.Role.{Role}
-use Rattle.kahn_streams.specs.declared.sides.Side.{Side}
-use Rattle.kahn_streams.specs.Place.{column_of, line_of}
-use Rattle.kahn_streams.specs.View.{Scope, bytes_of}
-use Rattle.kahn_streams.specs.Network.{Network, network_of, actuals_of, instance_at, instance_from, kind_at, process_of, role_at, IsOnly, IsReader, IsWithin, IsWriter, channel_names}
-use Rattle.kahn_graph.specs.Graph.{IsEdge, IsPortText, awaited_text, edge_text, mark_text, values_text}
-use Rattle.kahn_graph.specs.Ran.{IsWaitMark}
-use Rattle.kahn_chain.specs.Chain.{stands}
-use Rattle.kahn_chain.specs.declared.standing.Standing.{Standing}
-use Rattle.kahn_streams.specs.declared.answer.End.{End}
-use Rattle.kahn_streams.specs.declared.answer.Stream.{Stream}
+use Rattle.kahn_graph.proofs.Common.{Argument, Bool, End, IfSome, IsEdge, IsOnly, IsPortText, IsReader, IsWaitMark, IsWithin, IsWriter, Kind, List, Network, None, Option, Parameter, Process, Program, Role, Scope, Side, Some, Standing, Stream, [], actuals_of, ap, ap₂, arith, awaited_text, bytes_of, cases_lt, channel_names, codes, column_of, concat, count_by, drop, drop_of_length-le, edge_text, inl, inr, instance_at, instance_from, kind_at, length, length-map, line_of, map, mark_text, min, network_of, not, process_of, refl, role_at, slice_get, stands, subst, suffix_len, sym, take, take_all, values_text, ℕ, ⊎_elim, ◌++◌, ◌+◌, ◌<◌, ◌==◌, ◌∙◌, ◌∷◌, ◌≡◌, ◌≤◌, ◌⊎◌}
 use Rattle.kahn_graph.proofs.Front.{front}
 
 -- ---- values

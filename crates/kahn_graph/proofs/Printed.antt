@@ -1,10 +1,6 @@
 -- What was asked of a declaration holds of the process that it declares.
-use Rattle.std.proofs.Common.{◌≡◌, ℕ, zero, suc, List, [], ◌∷◌, map, Some, slice_get}
-use Rattle.kahn_streams.specs.declared.tree.Declaration.{Declaration}
+use Rattle.kahn_graph.proofs.Common.{Declaration, List, Process, Some, [], declaration_prints, map, process_at, process_prints, slice_get, suc, zero, ℕ, ◌∷◌, ◌≡◌}
 use Rattle.kahn_streams.specs.declared.tree.Declaration.TheVariants as D
-use Rattle.kahn_streams.specs.declared.tree.Process.{Process}
-use Rattle.kahn_streams.specs.Prints.{declaration_prints, process_prints}
-use Rattle.kahn_streams.specs.Wires.{process_at}
 
 pub printed_at : (ds : List Declaration) (k : ℕ) (p : Process) → process_at ds k ≡ Some p → slice_get (map declaration_prints ds) k ≡ Some (process_prints p)
 printed_at [] zero p h = cc

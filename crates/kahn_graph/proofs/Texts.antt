@@ -1,7 +1,5 @@
 -- Texts that grow by the texts of items, one after another.
-use Rattle.std.proofs.Common.{◌≡◌, ℕ, ◌+◌, List, [], ◌∷◌, ◌++◌, length, refl, sym, ap, ◌∙◌, subst, append_assoc, append-nil, arith, length-append}
-use Rattle.std.specs.List.{concat}
-use Rattle.kahn_graph.specs.Graph.{AreTexts, IsAll}
+use Rattle.kahn_graph.proofs.Common.{AreTexts, IsAll, List, [], ap, append-nil, append_assoc, arith, concat, length, length-append, refl, subst, sym, ℕ, ◌++◌, ◌+◌, ◌∙◌, ◌∷◌, ◌≡◌}
 
 are_more : (P : ℕ → List ℕ → Type 0) (i n : ℕ) (texts : List (List ℕ)) (x : List ℕ) → i + length texts ≡ n → AreTexts P i texts → P n x → AreTexts P i (texts ++ (x ∷ []))
 are_more P i n [] x e h p = (subst (λ k. P k x) (sym (omega (arith, e))) p, tt)

@@ -3,17 +3,7 @@
 use Rattle.std.specs.Prelude.{◌≡◌, ℕ, ◌+◌, List, [], ◌∷◌, ◌++◌, length, codes, decimal, map, Bool, true, false, Option, None, Some, option_map, slice_get}
 use Rattle.std.specs.Fmt.{signed_decimal}
 use Rattle.std.specs.List.{concat}
-use Rattle.kahn_streams.specs.declared.answer.End.{End}
-use Rattle.kahn_streams.specs.declared.answer.Stream.{Stream}
-use Rattle.kahn_streams.specs.declared.tree.Kind.{Kind}
-use Rattle.kahn_streams.specs.declared.tree.Role.{Role}
-use Rattle.kahn_streams.specs.declared.tree.Argument.{Argument}
-use Rattle.kahn_streams.specs.declared.tree.Instance.{Instance}
-use Rattle.kahn_streams.specs.declared.tree.Name.{Name}
-use Rattle.kahn_streams.specs.declared.tree.Parameter.{Parameter}
-use Rattle.kahn_streams.specs.declared.tree.Process.{Process}
-use Rattle.kahn_streams.specs.declared.tree.Program.{Program}
-use Rattle.kahn_streams.specs.declared.sides.Side.{Side}
+use Rattle.kahn_streams.specs.declared.{answer.End.End, answer.Stream.Stream, tree.Kind.Kind, tree.Role.Role, tree.Argument.Argument, tree.Instance.Instance, tree.Name.Name, tree.Parameter.Parameter, tree.Process.Process, tree.Program.Program, sides.Side.Side}
 use Rattle.kahn_streams.specs.declared.tree.Kind.TheVariants as K
 use Rattle.kahn_streams.specs.declared.tree.Role.TheVariants.{Inner, Input, Output}
 use Rattle.kahn_streams.specs.declared.tree.Argument.TheVariants as A

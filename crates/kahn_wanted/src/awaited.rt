@@ -72,4 +72,4 @@ pub(crate) enum Lead {
 pub(crate) type LeadRule = (Lead, &'static [Awaited]);
 
 /// What a part begins with: by rules, or a single lexeme.
-pub(crate) type Leads = Result<&'static [LeadRule], Lead>;
+pub(crate) type PartLeads = Result<&'static [LeadRule], Lead>;

@@ -11,7 +11,7 @@ use crate::awaited::Awaited::{
     Simple, Statement, Sum, Term, Variables,
 };
 use crate::awaited::Lead::{Either, Word};
-use crate::awaited::{Awaited, Lead, LeadRule, Leads};
+use crate::awaited::{Awaited, Lead, LeadRule, PartLeads};
 use kahn_syntax::{Keyword, Operator, Sign};
 
 /// What several parts begin with.
@@ -235,7 +235,7 @@ static LAST: [LeadRule; 1] = [(Lead::Sign(Sign::Semicolon), &[])];
 static LEVEL: [LeadRule; 0] = [];
 
 /// Whether a part may be left out, and what it begins with.
-pub(crate) fn rules(part: Awaited) -> (bool, Leads)
+pub(crate) fn rules(part: Awaited) -> (bool, PartLeads)
     ensures optional { result.0 ≡ (rules_of (awaited_part part)).0 }
     ensures leads { rules_by result.1 ≡ (rules_of (awaited_part part)).1 }
 {

@@ -7,7 +7,7 @@ ghost use Rattle.kahn_syntax.specs.Texts.{bytes_of_sign, letters_of, sign_termin
 ghost use Rattle.kahn_syntax.specs.inner.Machine.{a_name, a_number, a_sign, a_word, accepts, an_operator, enters, operator_of, rank_or};
 ghost use Rattle.kahn_wanted.specs.inner.Walk.{lead_of, awaited_parts, rules_as, rules_by, terminal_with};
 
-use crate::awaited::{Awaited, Lead, LeadRule, Leads};
+use crate::awaited::{Awaited, Lead, LeadRule, PartLeads};
 use kahn_syntax::{Class, Keyword, Operator, Sign};
 
 /// Whether two keywords are the same.
@@ -186,7 +186,7 @@ fn by_rules(rules: &'static [LeadRule], class: Class) -> Option<&'static [Awaite
 }
 
 /// What is open behind a lexeme, where a part begins with it.
-pub(crate) fn entered(leads: Leads, class: Class) -> Option<&'static [Awaited]>
+pub(crate) fn entered(leads: PartLeads, class: Class) -> Option<&'static [Awaited]>
     ensures { (n : List ℕ) (z : ℤ) → option_map (λ ps. awaited_parts ps.now) result ≡ enters (rules_by leads.entry) (terminal_with n z class) }
 {
     match leads {

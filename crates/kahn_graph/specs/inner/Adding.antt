@@ -1,9 +1,6 @@
 -- Inner. Texts that grow by the texts of items.
 use Rattle.std.specs.Prelude.{◌≡◌, ℕ, Bool, true, false, ◌==◌, List, ◌∷◌, ◌++◌, Some, slice_get}
-use Rattle.kahn_streams.specs.declared.tree.Argument.{Argument}
-use Rattle.kahn_streams.specs.declared.tree.Instance.{Instance}
-use Rattle.kahn_streams.specs.declared.tree.Parameter.{Parameter}
-use Rattle.kahn_streams.specs.declared.tree.Program.{Program}
+use Rattle.kahn_streams.specs.declared.tree.{Argument.Argument, Instance.Instance, Parameter.Parameter, Program.Program}
 use Rattle.kahn_streams.specs.Network.{Network}
 use Rattle.kahn_chain.specs.declared.standing.Standing.{Standing}
 use Rattle.kahn_chain.specs.declared.standing.Standing.TheVariants.{Ended, Waits, Faulted, More}

@@ -1,5 +1,4 @@
-use Rattle.std.proofs.Common.{◌++◌}
-use Rattle.kahn_graph.specs.Graph.{IsEdge}
+use Rattle.kahn_graph.proofs.Common.{IsEdge, ◌++◌}
 use Rattle.kahn_graph.proofs.Texts.{one_more, grown}
 use Rattle.kahn_graph.proofs.edges.add_edges.Goals as goal
 

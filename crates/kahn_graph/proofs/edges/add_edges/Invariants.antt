@@ -1,6 +1,5 @@
 -- The edges so far were added.
-use Rattle.std.proofs.Common.{◌≡◌, ℕ, List, ◌++◌, string_bytes}
-use Rattle.kahn_graph.specs.Graph.{IsAll, IsEdge}
+use Rattle.kahn_graph.proofs.Common.{IsAll, IsEdge, List, string_bytes, ℕ, ◌++◌, ◌≡◌}
 use Rattle.kahn_graph.proofs.edges.add_edges.Given as goal
 
 abbrev pub invariant-loop-channel : goal.invariant-loop-channel

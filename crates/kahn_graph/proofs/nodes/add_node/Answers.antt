@@ -1,7 +1,4 @@
-use Rattle.std.proofs.Common.{◌++◌, ap₂, codes, subst}
-use Rattle.kahn_streams.specs.Network.{network_of}
-use Rattle.kahn_chain.specs.Chain.{IsRingMark}
-use Rattle.kahn_graph.specs.Graph.{node_text}
+use Rattle.kahn_graph.proofs.Common.{IsRingMark, ap₂, codes, network_of, node_text, subst, ◌++◌}
 use Rattle.kahn_graph.proofs.Texts.{grown}
 use Rattle.kahn_graph.proofs.nodes.add_node.Goals as goal
 

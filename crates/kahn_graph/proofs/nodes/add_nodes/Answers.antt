@@ -1,5 +1,4 @@
-use Rattle.std.proofs.Common.{◌++◌}
-use Rattle.kahn_graph.specs.Graph.{IsNode}
+use Rattle.kahn_graph.proofs.Common.{IsNode, ◌++◌}
 use Rattle.kahn_graph.proofs.Texts.{one_more, grown}
 use Rattle.kahn_graph.proofs.nodes.add_nodes.Goals as goal
 

@@ -1,6 +1,5 @@
 -- The nodes so far were added.
-use Rattle.std.proofs.Common.{◌≡◌, ℕ, List, ◌++◌, string_bytes}
-use Rattle.kahn_graph.specs.Graph.{IsAll, IsNode}
+use Rattle.kahn_graph.proofs.Common.{IsAll, IsNode, List, string_bytes, ℕ, ◌++◌, ◌≡◌}
 use Rattle.kahn_graph.proofs.nodes.add_nodes.Given as goal
 
 abbrev pub invariant-loop-instance : goal.invariant-loop-instance

@@ -1,5 +1,4 @@
-use Rattle.std.proofs.Common.{◌∙◌, ◌+◌, ◌++◌, ap, append-nil, arith, drop, rules, string_bytes, sym}
-use Rattle.kahn_streams.proofs.By_number.{at_index}
+use Rattle.kahn_graph.proofs.Common.{ap, append-nil, arith, at_index, drop, rules, string_bytes, sym, ◌++◌, ◌+◌, ◌∙◌}
 use Rattle.kahn_graph.proofs.Named.{next_value, values_end}
 use Rattle.kahn_graph.proofs.nodes.add_values.Goals as goal
 

@@ -1,8 +1,5 @@
 -- The values that are left come after the text so far.
-use Rattle.std.proofs.Common.{◌≡◌, ◌++◌, codes, drop, string_bytes}
-use denote.Text.{Utf8}
-use denote.Shadow.{shadow}
-use Rattle.kahn_graph.specs.Graph.{values_text}
+use Rattle.kahn_graph.proofs.Common.{Utf8, codes, drop, shadow, string_bytes, values_text, ◌++◌, ◌≡◌}
 use Rattle.kahn_graph.proofs.nodes.add_values.Given as goal
 
 abbrev pub invariant-loop-index : goal.invariant-loop-index

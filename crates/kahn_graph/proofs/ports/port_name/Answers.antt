@@ -1,6 +1,4 @@
-use Rattle.std.proofs.Common.{rules}
-use Rattle.kahn_streams.specs.Network.{network_of, channel_names}
-use Rattle.kahn_streams.proofs.By_number.{at_index}
+use Rattle.kahn_graph.proofs.Common.{at_index, channel_names, network_of, rules}
 use Rattle.kahn_graph.proofs.Named.{port_within}
 use Rattle.kahn_graph.proofs.ports.port_name.Goals as goal
 

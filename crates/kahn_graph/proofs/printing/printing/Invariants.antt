@@ -1,6 +1,5 @@
 -- What is asked of the declarations that are left comes after what was asked so far.
-use Rattle.std.proofs.Common.{◌≡◌, ◌++◌, drop, map}
-use Rattle.kahn_streams.specs.Prints.{declaration_prints}
+use Rattle.kahn_graph.proofs.Common.{declaration_prints, drop, map, ◌++◌, ◌≡◌}
 use Rattle.kahn_graph.proofs.printing.printing.Given as goal
 
 abbrev pub invariant-loop-declaration : goal.invariant-loop-declaration

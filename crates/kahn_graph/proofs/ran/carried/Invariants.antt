@@ -1,6 +1,5 @@
 -- No stream so far is that of the channel.
-use Rattle.std.proofs.Common.{◌≡◌, length}
-use Rattle.kahn_graph.specs.Ran.{carried}
+use Rattle.kahn_graph.proofs.Common.{carried, length, ◌≡◌}
 use Rattle.kahn_graph.proofs.ran.carried.Given as goal
 
 abbrev pub invariant-streams : goal.invariant-streams

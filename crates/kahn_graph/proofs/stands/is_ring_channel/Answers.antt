@@ -1,6 +1,4 @@
-use Rattle.std.proofs.Common.{subst}
-use Rattle.kahn_streams.specs.Network.{network_of}
-use Rattle.kahn_graph.specs.inner.Adding.{IsWaitAt}
+use Rattle.kahn_graph.proofs.Common.{IsWaitAt, network_of, subst}
 use Rattle.kahn_graph.proofs.Marked.{no_wait_more, some_wait}
 use Rattle.kahn_graph.proofs.stands.is_ring_channel.Goals as goal
 

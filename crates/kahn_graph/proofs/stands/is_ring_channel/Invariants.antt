@@ -1,7 +1,5 @@
 -- No instance so far is on a ring and waits on the channel.
-use Rattle.std.proofs.Common.{ℕ, ◌<◌, false}
-use Rattle.kahn_streams.specs.Network.{network_of}
-use Rattle.kahn_graph.specs.inner.Adding.{IsWaitAt}
+use Rattle.kahn_graph.proofs.Common.{IsWaitAt, false, network_of, ℕ, ◌<◌}
 use Rattle.kahn_graph.proofs.stands.is_ring_channel.Given as goal
 
 abbrev pub invariant-loop-instance : goal.invariant-loop-instance

@@ -1,6 +1,4 @@
-use Rattle.std.proofs.Common.{false, sym}
-use Rattle.kahn_streams.specs.Network.{network_of}
-use Rattle.kahn_chain.specs.declared.standing.Standing.TheVariants.{Ended}
+use Rattle.kahn_graph.proofs.Common.{Ended, false, network_of, sym}
 use Rattle.kahn_graph.proofs.Marked.{off_ring, on_ring}
 use Rattle.kahn_graph.proofs.stands.is_wait_at.Goals as goal
 

@@ -1,5 +1,4 @@
-use Rattle.std.proofs.Common.{rules}
-use Rattle.kahn_streams.proofs.By_number.{at_index}
+use Rattle.kahn_graph.proofs.Common.{at_index, rules}
 use Rattle.kahn_graph.proofs.Named.{as_many_trees}
 use Rattle.kahn_graph.proofs.tips.add_tip.Goals as goal
 

@@ -1,4 +1,4 @@
-use Rattle.kahn_wanted.proofs.Common.{All, All-more, And, Contains, Word, arith, length, subst, take_all, ◌<◌, ◌≤◌}
+use Rattle.kahn_wanted.proofs.Common.{All, All-more, And, Contains, Word, arith, subst, take_all}
 use Rattle.kahn_wanted.proofs.groups.are_within.Goals as goal
 
 pub loop-class-preserved : goal.loop-class-preserved

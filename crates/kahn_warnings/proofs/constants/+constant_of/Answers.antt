@@ -1,4 +1,3 @@
-use Rattle.kahn_warnings.proofs.Common.{arith, common_steps}
 use Rattle.std.proofs.Common.{rules}
 use Rattle.kahn_streams.specs.declared.tree.Form.TheViews.{the_lemmas}
 use Rattle.kahn_warnings.proofs.Folding.{level_folds}
@@ -6,6 +5,3 @@ use Rattle.kahn_warnings.proofs.constants.+constant_of.Goals as goal
 
 pub loop-operand-init : goal.loop-operand-init
 loop-operand-init t c names = search (rules, the_lemmas, level_folds)
-
-pub loop-operand-preserved : goal.loop-operand-preserved
-loop-operand-preserved t c names = grind (arith, common_steps, c.loop-operand.invariant names, c.combined-left.ensures, c.constant_of-in-loop-operand.ensures names)

@@ -34,6 +34,3 @@ loop-variable-preserved c =
     let i = c.loop-variable.variable-index in
     let more : take (i + 1) vs ≡ take i vs ++ v ∷ [] = grind (arith, common_steps) in
     told_next (variable_warnings p) _ _ _ _ so_far _ more c.loop-variable.invariant told
-
-pub returns : goal.returns
-returns c = grind (arith, common_steps, c.loop-variable.invariant)

@@ -30,17 +30,3 @@ returns-after-loop-operand-clause-sites t c =
     let ss = c.deref-operand-items.result.now in
     let none : drop c.loop-operand.operand-index ss ≡ [] = grind (arith, common_steps) in
     sym (append-nil sites) ∙ ap (λ rest. sites ++ operands_sites c.loop-operand.left rest) (sym none) ∙ c.loop-operand.invariant.sites
-
-pub loop-operand-preserved : goal.loop-operand-preserved
-loop-operand-preserved t c = record {
-  sites = grind (
-    arith,
-    common_steps,
-    c.loop-operand.invariant.sites,
-    c.in_ok-right-in-Level.ensures.sites,
-    c.in_ok-add_site-in-Level.ensures,
-    c.combined-left.ensures,
-    c.in_ok-right-in-Level.ensures.value [],
-  );
-  value = λ names. grind (arith, common_steps, c.loop-operand.invariant.value names, c.combined-left.ensures, c.in_ok-right-in-Level.ensures.value names);
-}

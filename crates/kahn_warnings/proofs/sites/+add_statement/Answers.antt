@@ -12,6 +12,3 @@ returns-after-loop-inner t c =
     let whole : action_sites c.args.statement.now.action ≡ flat_map sites_of xs = search (rules, the_lemmas, row_sited) in
     let all : take c.loop-inner.inner-index ss ≡ ss = grind (arith, common_steps) in
     c.loop-inner.invariant ∙ ap (λ l. old ++ flat_map sites_of l) (all ∙ c.deref-inner-items.ensures.value) ∙ ap (λ sites. old ++ sites) (sym whole)
-
-pub loop-inner-preserved : goal.loop-inner-preserved
-loop-inner-preserved t c = grind (arith, common_steps, c.loop-inner.invariant, c.in_ok-add_statement-in-Block.ensures)
