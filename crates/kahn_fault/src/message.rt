@@ -19,7 +19,7 @@ use std::sync::ledger::{Blank, Ledger};
 
 /// What a line says.
 #[derive(Clone, Copy)]
-enum Said<'a> {
+enum Says<'a> {
     /// Words alone.
     Words(&'a str),
     /// Words and a path, or a path and words.
@@ -162,16 +162,16 @@ fn put_placed<W: Write, L: Ledger>(
 fn put_said<W: Write, L: Ledger>(
     writer: &mut W,
     program: &str,
-    said: Said<'_>,
+    said: Says<'_>,
     writes: &mut Steps<L>,
 ) -> Result<(), WriteFault>
     ensures { WritesCounted (W.contents writer.old) (W.contents writer.new) result writes.old writes.new (said_line program.now said.entry) }
 {
     match said {
-        Said::Words(words) => put_words(writer, words, writes),
-        Said::Two(first, second) => put_two(writer, first, second, writes),
-        Said::Numbered(before, number, after) => put_number(writer, before, number, after, writes),
-        Said::Placed(place, words) => put_placed(writer, program, place, words, writes),
+        Says::Words(words) => put_words(writer, words, writes),
+        Says::Two(first, second) => put_two(writer, first, second, writes),
+        Says::Numbered(before, number, after) => put_number(writer, before, number, after, writes),
+        Says::Placed(place, words) => put_placed(writer, program, place, words, writes),
     }
 }
 
@@ -260,67 +260,67 @@ pub fn check_words(fault: CheckFault) -> &'static str
 }
 
 /// Returns what is said of an entry of the input text.
-fn entry_said(fault: InputFault) -> Said<'static>
+fn entry_said(fault: InputFault) -> Says<'static>
     ensures { (program : List ℕ) → said_line program result ≡ entry_line fault }
 {
     match fault {
-        InputFault::UnknownName(at) => Said::Numbered("input entry ", at, ": no such channel"),
-        InputFault::NotAnInput(at) => Said::Numbered("input entry ", at, ": not an input channel"),
-        InputFault::GivenTwice(at) => Said::Numbered("input entry ", at, ": given twice"),
-        InputFault::WrongKind(at) => Said::Numbered("input entry ", at, ": kind does not agree"),
-        InputFault::TooMany(at) => Said::Numbered("input entry ", at, ": too many values"),
-        InputFault::NoMemory => Said::Words("no memory"),
+        InputFault::UnknownName(at) => Says::Numbered("input entry ", at, ": no such channel"),
+        InputFault::NotAnInput(at) => Says::Numbered("input entry ", at, ": not an input channel"),
+        InputFault::GivenTwice(at) => Says::Numbered("input entry ", at, ": given twice"),
+        InputFault::WrongKind(at) => Says::Numbered("input entry ", at, ": kind does not agree"),
+        InputFault::TooMany(at) => Says::Numbered("input entry ", at, ": too many values"),
+        InputFault::NoMemory => Says::Words("no memory"),
     }
 }
 
 /// Returns what is said of an input text that is refused.
-fn text_said(fault: TextFault) -> Said<'static>
+fn text_said(fault: TextFault) -> Says<'static>
     ensures { (program : List ℕ) → said_line program result ≡ text_line fault }
 {
     match fault {
-        TextFault::BadLine(line) => Said::Numbered("input line ", line, ": not a name and a colon"),
-        TextFault::BadValue(line) => Said::Numbered("input line ", line, ": not a value"),
+        TextFault::BadLine(line) => Says::Numbered("input line ", line, ": not a name and a colon"),
+        TextFault::BadValue(line) => Says::Numbered("input line ", line, ": not a value"),
         TextFault::Input(fault) => entry_said(fault),
-        TextFault::TooLong => Said::Words("input text is too long"),
-        TextFault::NoMemory => Said::Words("no memory"),
+        TextFault::TooLong => Says::Words("input text is too long"),
+        TextFault::NoMemory => Says::Words("no memory"),
     }
 }
 
 /// Returns what is said of a run that has no answer.
-fn run_said(fault: RunFault) -> Said<'static>
+fn run_said(fault: RunFault) -> Says<'static>
     ensures { (program : List ℕ) → said_line program result ≡ run_line fault }
 {
     match fault {
-        RunFault::BadConfig => Said::Words("configuration is out of range"),
-        RunFault::UnknownWatch => Said::Words("watched channel is not declared"),
-        RunFault::NoMemory => Said::Words("no memory"),
-        RunFault::NoThread => Said::Words("no thread"),
-        RunFault::Stalled => Said::Words("workers stalled"),
+        RunFault::BadConfig => Says::Words("configuration is out of range"),
+        RunFault::UnknownWatch => Says::Words("watched channel is not declared"),
+        RunFault::NoMemory => Says::Words("no memory"),
+        RunFault::NoThread => Says::Words("no thread"),
+        RunFault::Stalled => Says::Words("workers stalled"),
     }
 }
 
 /// Returns what is said of a run without a report.
-fn work_said(fault: WorkFault) -> Said<'static>
+fn work_said(fault: WorkFault) -> Says<'static>
     ensures { (program : List ℕ) → said_line program result ≡ work_line program fault }
 {
     match fault {
-        WorkFault::Syntax(fault) => Said::Placed(syntax_span(fault), syntax_words(fault)),
-        WorkFault::Check(fault) => Said::Placed(check_span(fault), check_words(fault)),
+        WorkFault::Syntax(fault) => Says::Placed(syntax_span(fault), syntax_words(fault)),
+        WorkFault::Check(fault) => Says::Placed(check_span(fault), check_words(fault)),
         WorkFault::Text(fault) => text_said(fault),
         WorkFault::Run(fault) => run_said(fault),
-        WorkFault::Write(_) => Said::Words("report could not be written"),
+        WorkFault::Write(_) => Says::Words("report could not be written"),
     }
 }
 
 /// Returns what is said of a text that wasn't read, by its path and what is said if it is too long.
-fn read_said<'a>(path: &'a str, long: &'a str, fault: ReadFault) -> Said<'a>
+fn read_said<'a>(path: &'a str, long: &'a str, fault: ReadFault) -> Says<'a>
     ensures { (program : List ℕ) → said_line program result ≡ read_line path.now long.now fault }
 {
     match fault {
-        ReadFault::Failed => Said::Two("cannot read ", path),
-        ReadFault::TooLong => Said::Words(long),
-        ReadFault::NotUtf8 => Said::Two(path, " is not UTF-8"),
-        ReadFault::NoMemory => Said::Words("no memory"),
+        ReadFault::Failed => Says::Two("cannot read ", path),
+        ReadFault::TooLong => Says::Words(long),
+        ReadFault::NotUtf8 => Says::Two(path, " is not UTF-8"),
+        ReadFault::NoMemory => Says::Words("no memory"),
     }
 }
 
@@ -335,11 +335,11 @@ pub(crate) fn path_words(path: &Option<String>) -> &str
 }
 
 /// Returns what is said of a fault.
-fn fault_said(fault: &Fault) -> Said<'_>
+fn fault_said(fault: &Fault) -> Says<'_>
     ensures { (program : List ℕ) → said_line program result ≡ fault_text program fault.now }
 {
     match fault {
-        Fault::Open(path) => Said::Two("cannot read ", path.as_str()),
+        Fault::Open(path) => Says::Two("cannot read ", path.as_str()),
         Fault::Program(path, fault) => {
             read_said(path_words(path), "program text is too long", *fault)
         }
