@@ -1,16 +1,18 @@
 //! Which change of one word was perhaps meant: each is tried, and the one that leaves the fewest faults is told.
 
 use crate::declaring::{begin_in, forms_in, undeclared};
+use crate::lost::longer_of;
 use crate::names::names_asked;
 use crate::near::nearest;
-use crate::others::{first_passed, idle_place};
+use crate::others::{first_passed, idle_at};
 use crate::place::{
     NetworkPlace, class_of, instance_at, is_called, is_in, seen_in, text_of, word_at,
 };
-use crate::sides::hands;
+use crate::rows::head_in;
+use crate::sides::{hands, parameter_for, process_called};
 use crate::trial::{Edit, EditKind, Trial};
 use kahn_marks::{add, part_of};
-use kahn_streams::{Argument, CheckFault, Direction, Name, NoMemory, Span};
+use kahn_streams::{Argument, CheckFault, Declaration, Direction, Name, NoMemory, Span};
 use kahn_syntax::{Class, Keyword, Lexeme, Sign};
 use std::alloc::{AllocError, Global};
 
@@ -25,11 +27,16 @@ impl<'p> Trial<'p> {
         }
     }
 
-    /// The name at the place and the one behind its `on` interchanged.
+    /// The name at the place and the one behind its `on` interchanged, where a bracket may stand between.
     fn with_target(&mut self) -> Result<(), NoMemory> {
         let place = self.place;
-        let on = class_of(place.lexemes, place.number.checked_add(1));
-        match (on, place.lexemes.get(place.number.saturating_add(2))) {
+        let behind = place.number.saturating_add(1);
+        let behind = match class_of(place.lexemes, Some(behind)) {
+            Some(Class::Sign(Sign::Close)) => behind.saturating_add(1),
+            _ => behind,
+        };
+        let on = class_of(place.lexemes, Some(behind));
+        match (on, place.lexemes.get(behind.saturating_add(1))) {
             (Some(Class::Word(Keyword::On)), Some(target)) => {
                 self.with_swap(EditKind::Swap, place.at, target.span)
             }
@@ -37,25 +44,28 @@ impl<'p> Trial<'p> {
         }
     }
 
-    /// A role in the declaration of the channel at the place.
-    fn with_role(&mut self, role: &str, direction: Direction) -> Result<(), NoMemory> {
+    /// An instance of a process that has none and could have the side; or else a role in the declaration of the channel at the place, and one
+    /// instance more of any process.
+    fn with_role(
+        &mut self,
+        role: &str,
+        head: &'static str,
+        direction: Direction,
+    ) -> Result<(), NoMemory> {
         let place = self.place;
-        if idle_place(place, direction).is_some() {
-            return Ok(());
+        if let Some(process) = idle_at(place, direction) {
+            return self.with_instance(process);
         }
-        let mut kind: Option<Span> = None;
-        for lexeme in place.lexemes.get(..place.number).unwrap_or(&[]) {
-            if matches!(
-                lexeme.what,
-                Class::Word(Keyword::Integer | Keyword::Logical)
-            ) {
-                kind = Some(lexeme.span);
+        if let Some((kind, _)) = head_in(place.lexemes.get(..place.number).unwrap_or(&[])) {
+            self.put(EditKind::Role, (kind, kind), &[role])?;
+        }
+        self.with_head(place.at, false, Some(head))?;
+        for declaration in &place.program.declarations {
+            if let Declaration::Process(process) = declaration {
+                self.with_instance(process)?;
             }
         }
-        match kind {
-            Some(kind) => self.put(EditKind::Role, (kind, kind), &[role]),
-            None => Ok(()),
-        }
+        Ok(())
     }
 
     /// Other directions, kinds and roles, in a part and of the channels that are arguments.
@@ -101,7 +111,11 @@ impl<'p> Trial<'p> {
     /// Those for a name that isn't declared: a near one; or one that nothing uses, there or declared so.
     fn with_unknown(&mut self) -> Result<(), NoMemory> {
         let place = self.place;
+        if longer_of(place).is_some() {
+            return Ok(());
+        }
         let names = names_asked(self.alloc, place)?;
+        self.with_handed(&names)?;
         let near = self.with_near(&names)?;
         for name in &names {
             let is_meant = near.is_none() || near == Some(name.span);
@@ -118,6 +132,22 @@ impl<'p> Trial<'p> {
             return self.with_names(None);
         }
         Ok(())
+    }
+
+    /// The parameter for which an instance hands over the channel at the place, unless that is the nearest of some names.
+    fn with_handed(&mut self, names: &[&'p Name]) -> Result<(), NoMemory> {
+        let place = self.place;
+        let Some(process) = place.process else {
+            return Ok(());
+        };
+        match (
+            parameter_for(place.program, process, place.word()),
+            nearest(place.word(), names),
+        ) {
+            (Some(name), Some(near)) if name.span == near.span => Ok(()),
+            (Some(name), _) => self.put_one(EditKind::Handed, place.at, name.text.as_str()),
+            (None, _) => Ok(()),
+        }
     }
 
     /// A declaration of the name at the place: of a channel; or of a variable that is assigned, with all others like it.
@@ -198,11 +228,49 @@ impl<'p> Trial<'p> {
                 self.with_swaps(&instance.arguments)?;
             }
         }
+        if let (None, Some(process)) = (place.process, process_called(place.program, called)) {
+            if let Some(instance) = instance_at(instances, place.at.from) {
+                self.with_groups(instance, process)?;
+                self.with_spares(instance, process)?;
+            }
+        }
         self.with_flips(place, flips_in(place, called), arguments)?;
+        self.with_heads(fault)?;
         if is_of_names(place, fault) {
             self.with_names(first)?;
         }
         self.with_moves(arguments)
+    }
+
+    /// All those for a fault.
+    fn with_fault(&mut self, fault: CheckFault) -> Result<(), NoMemory> {
+        match fault {
+            CheckFault::Unknown(_) => self.with_unknown(),
+            CheckFault::WrongDirection(_) => {
+                let names = names_asked(self.alloc, self.place)?;
+                self.with_near(&names)?;
+                self.with_target()?;
+                self.with_others(fault)
+            }
+            CheckFault::ChannelExpected(_) => {
+                self.with_bare()?;
+                self.with_others(fault)
+            }
+            CheckFault::DeclaredTwice(_) => self.with_undeclared(),
+            CheckFault::WrongCount(_) => self.with_counts(),
+            CheckFault::WrongKind(_)
+            | CheckFault::ValueExpected(_)
+            | CheckFault::TwoWriters(_)
+            | CheckFault::TwoReaders(_) => {
+                self.with_literal()?;
+                self.with_target()?;
+                self.with_targets()?;
+                self.with_others(fault)
+            }
+            CheckFault::NoWriter(_) => self.with_role("input", "input channel", Direction::Out),
+            CheckFault::NoReader(_) => self.with_role("output", "output channel", Direction::In),
+            _ => Ok(()),
+        }
     }
 }
 
@@ -314,50 +382,31 @@ pub(crate) fn change_for(
         tries: *tries,
         best: None,
     };
-    match fault {
-        CheckFault::Unknown(_) => trial.with_unknown()?,
-        CheckFault::WrongDirection(_) => {
-            let names = names_asked(alloc, place)?;
-            trial.with_near(&names)?;
-            trial.with_others(fault)?;
-        }
-        CheckFault::ChannelExpected(_) => {
-            trial.with_bare()?;
-            trial.with_others(fault)?;
-        }
-        CheckFault::DeclaredTwice(_) => trial.with_undeclared()?,
-        CheckFault::WrongKind(_)
-        | CheckFault::ValueExpected(_)
-        | CheckFault::TwoWriters(_)
-        | CheckFault::TwoReaders(_) => {
-            trial.with_literal()?;
-            trial.with_target()?;
-            trial.with_others(fault)?;
-        }
-        CheckFault::NoWriter(_) => trial.with_role("input", Direction::Out)?,
-        CheckFault::NoReader(_) => trial.with_role("output", Direction::In)?,
-        _ => {}
-    }
+    trial.with_fault(fault)?;
     *tries = trial.tries;
     match trial.best {
         Some(change) if change.is_one_of => Ok(None),
-        Some(change) if is_unsure(place, &change) => Ok(None),
+        Some(change) if is_unsure(place, fault, &change) => Ok(None),
         found => Ok(found),
     }
 }
 
-/// Whether a change declares a channel and leaves a fault: as long as there is one, nothing is known of its sides.
-fn is_unsure(place: NetworkPlace, change: &Edit) -> bool {
-    matches!(change.way, EditKind::Declared | EditKind::Role)
-        && place.process.is_none()
-        && change.left > 0
+/// Whether a change declares a channel, or mends a side, and leaves a fault: as long as there is one, nothing is known of sides.
+fn is_unsure(place: NetworkPlace, fault: CheckFault, change: &Edit) -> bool {
+    let is_declared = matches!(change.way, EditKind::Declared) || is_of_sides(fault);
+    is_declared && place.process.is_none() && change.left > 0
+}
+
+/// Whether a channel has no writer, or no reader.
+pub(crate) fn is_of_sides(fault: CheckFault) -> bool {
+    matches!(fault, CheckFault::NoWriter(_) | CheckFault::NoReader(_))
 }
 
 /// Whether a change is told apart from the words of a fault at a place: it is made elsewhere.
 pub(crate) fn is_elsewhere(change: &Edit, at: Span) -> bool {
     match change.way {
         EditKind::Flip | EditKind::Renamed | EditKind::Declared | EditKind::Bare => true,
-        EditKind::Moved | EditKind::Role => true,
+        EditKind::Moved | EditKind::Role | EditKind::Handed => true,
         EditKind::Unused | EditKind::Used => change.fix.span.from != at.from,
         EditKind::Near | EditKind::Swap => false,
     }
@@ -377,6 +426,22 @@ pub(crate) fn add_change(
             words,
             &["; are `", first, "` and `", last, "` interchanged?"],
         ),
+        EditKind::Handed => {
+            let process = match place.process {
+                Some(process) => process.name.text.as_str(),
+                None => "",
+            };
+            add(
+                words,
+                &[
+                    "; `",
+                    process,
+                    "` has it as `",
+                    change.fix.put.as_str(),
+                    "`",
+                ],
+            )
+        }
         _ if is_elsewhere(change, place.at) => Ok(()),
         _ => add(words, &["; did you mean `", change.fix.put.as_str(), "`?"]),
     }

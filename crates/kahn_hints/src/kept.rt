@@ -3,7 +3,7 @@
 ghost use Rattle.std.specs.Prelude.{◌≡◌, All, Contains, IfOk, List, []};
 ghost use Rattle.kahn_streams.specs.declared.fault.CheckFault.{CheckFault};
 
-use crate::mending::is_same_fault;
+use crate::mending::{is_same_fault, letters_at};
 use crate::place::{instance_at, text_of};
 use kahn_fault::check_span;
 use kahn_streams::{CheckFault, Program, Span};
@@ -43,12 +43,22 @@ fn is_told(
     if span.from >= limit_of(faults) {
         return true;
     }
-    let follows = is_side(fault) && faults.iter().any(|other| !is_side(*other));
+    let is_late = is_side(fault) && faults.iter().any(|other| !is_side(*other));
+    let follows = is_late || is_of_twice(text, faults, fault);
     let body = text_of(tree, instance.process.text.as_bytes());
     let is_again = told
         .iter()
         .any(|other| is_same_fault(text, *other, text, fault));
     !follows && !has_fault(faults, body) && !is_again
+}
+
+/// Whether a fault is that a name isn't declared which another fault has as declared twice.
+fn is_of_twice(text: &str, faults: &[CheckFault], fault: CheckFault) -> bool {
+    matches!(fault, CheckFault::Unknown(_))
+        && faults.iter().any(|other| {
+            matches!(*other, CheckFault::DeclaredTwice(_))
+                && letters_at(text, *other) == letters_at(text, fault)
+        })
 }
 
 /// Where the first fault of a limit stands.

@@ -14,7 +14,7 @@ use kahn_syntax::{SyntaxFault, parse};
 use std::alloc::Global;
 
 /// The letters at a fault.
-fn letters_at(text: &str, fault: CheckFault) -> &[u8]
+pub(crate) fn letters_at(text: &str, fault: CheckFault) -> &[u8]
     ensures { result.now ≡ letters_at text.now fault }
 {
     match check_span(fault) {

@@ -4,13 +4,13 @@ ghost use Rattle.std.specs.Prelude.{◌≡◌, ◌∷◌, ◌<◌, [], All, Cont
 ghost use Rattle.kahn_fault.specs.Message.{check_span};
 ghost use Rattle.kahn_hints.specs.Hints.{HasOneMore, LessensFaults, TellsFault, TellsOne};
 
-use crate::changes::{add_change, change_for, is_elsewhere};
+use crate::changes::{add_change, change_for, is_elsewhere, is_of_sides};
 use crate::kept::kept;
 use crate::mending::{found_kind, left_by};
 use crate::others::others_of;
 use crate::place::{NetworkPlace, place_of};
 use crate::said::{add_advice, add_found};
-use crate::trial::{Edit, EditKind, tries_of};
+use crate::trial::{Edit, tries_of};
 use kahn_fault::{check_span, check_words};
 use kahn_marks::{Fix, MOST_NOTES, Note, Sort, first_ones};
 use kahn_streams::{CheckFault, NoMemory, Program, Span};
@@ -56,9 +56,9 @@ fn words_of(
         _ => None,
     };
     let mut words = String::from_str(alloc, check_words(fault))?;
-    add_found(&mut words, place, fault, kind)?;
+    add_found(&mut words, alloc, place, fault, kind)?;
     match change {
-        Some(change) if !matches!(change.way, EditKind::Role) => {
+        Some(change) if !is_of_sides(fault) => {
             add_change(&mut words, place, change)?;
         }
         _ => add_advice(&mut words, alloc, place, fault, kind)?,

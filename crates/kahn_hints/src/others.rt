@@ -49,7 +49,7 @@ pub(crate) fn argument_span(argument: &Argument) -> Span {
 }
 
 /// The name of the parameter that takes what stands at a place.
-fn parameter_of(program: &Program, at: Span) -> Option<&Name> {
+pub(crate) fn parameter_of(program: &Program, at: Span) -> Option<&Name> {
     let instance = instance_at(&program.instances, at.from)?;
     let process = process_called(program, instance.process.text.as_bytes())?;
     for (number, argument) in instance.arguments.iter().enumerate() {
@@ -92,10 +92,15 @@ fn taken_before(
     }
 }
 
-/// Where the first process without an instance is declared that takes the channel at a place in a direction.
-pub(crate) fn idle_place(place: NetworkPlace, direction: Direction) -> Second {
+/// The first process without an instance that takes the channel at a place in a direction.
+pub(crate) fn idle_at<'p>(place: NetworkPlace<'p>, direction: Direction) -> Option<&'p Process> {
     let (kind, _) = channel_called(place.program, place.word())?;
-    let process = idle_process(place.program, direction, kind)?;
+    idle_process(place.program, direction, kind)
+}
+
+/// Where it is declared.
+fn idle_place(place: NetworkPlace, direction: Direction) -> Second {
+    let process = idle_at(place, direction)?;
     Some((process.name.span, "this process has no instance"))
 }
 

@@ -1,8 +1,9 @@
 //! The words behind those of a fault: what is wanted, what is found, and what to do.
 
+use crate::lost::{longer_of, lost_in};
 use crate::names::{NameKind, names_asked, names_seen};
 use crate::near::nearest;
-use crate::others::argument_span;
+use crate::others::{argument_span, idle_at};
 use crate::place::{
     NetworkPlace, asked_kind, called_first, class_of, instance_at, is_called, word_at,
 };
@@ -10,9 +11,12 @@ use crate::sides::{channel_called, passed, process_called};
 use crate::sight::{add_meant, add_names, first_once};
 use itoa::Buffer;
 use kahn_marks::{add, add_spot, part_of};
-use kahn_streams::{CheckFault, Direction, Instance, Kind, Role};
-use kahn_syntax::Class;
+use kahn_streams::{CheckFault, Direction, Instance, Kind, Process, Role};
+use kahn_syntax::{Class, Keyword};
 use std::alloc::{AllocError, Global};
+
+/// How many bytes of an expression stand in a sentence at most.
+const MOST_SHOWN: usize = 40;
 
 /// The kind that is wanted and the one that is found.
 fn kind_words(found: Option<Kind>) -> &'static str {
@@ -23,17 +27,29 @@ fn kind_words(found: Option<Kind>) -> &'static str {
     }
 }
 
-/// How a value of the wanted kind is made of an expression in a body, and what an instance hands over for one.
-fn made_words(place: NetworkPlace, found: Option<Kind>) -> &'static str {
+/// Adds how a value of the wanted kind is made of an expression in a body, and what an instance hands over for one.
+fn add_made(
+    words: &mut String,
+    place: NetworkPlace,
+    found: Option<Kind>,
+) -> Result<(), AllocError> {
     let class = class_of(place.lexemes, Some(place.number));
-    match (found, place.process.is_some(), class) {
-        (Some(Kind::Integer), true, _) => "; `X <> 0` is a truth value of `X`",
-        (Some(Kind::Logical), true, _) => "; `if T then 1 else 0` is a number of `T`",
-        (_, false, Some(Class::Name)) => "",
-        (Some(Kind::Integer), false, _) => "; hand over `true` or `false` there",
-        (Some(Kind::Logical), false, _) => "; hand over a number there",
-        (None, _, _) => "",
-    }
+    let whole = part_of(place.text, place.at);
+    let part = match class {
+        Some(Class::Word(Keyword::If)) => "E",
+        _ if whole.len() > MOST_SHOWN || whole.find("\n").is_some() => "E",
+        _ => whole,
+    };
+    let (front, behind) = match (found, place.process.is_some(), class) {
+        (Some(Kind::Integer), true, _) => ("; `", " <> 0` is a truth value of `"),
+        (Some(Kind::Logical), true, _) => ("; `if ", " then 1 else 0` is a number of `"),
+        (_, false, Some(Class::Name)) | (None, _, _) => return Ok(()),
+        (Some(Kind::Integer), false, _) => {
+            return words.push_str("; hand over `true` or `false` there");
+        }
+        (Some(Kind::Logical), false, _) => return words.push_str("; hand over a number there"),
+    };
+    add(words, &[front, part, behind, part, "`"])
 }
 
 /// The direction that is wanted and the one that is found.
@@ -73,30 +89,60 @@ fn other_words(place: NetworkPlace) -> &'static str {
     }
 }
 
-/// Adds how many arguments are wanted and found at an instance.
-fn add_counts(words: &mut String, place: NetworkPlace) -> Result<(), AllocError> {
+/// Adds how many parameters a process has and how many arguments an instance, each behind some words.
+fn add_numbers(
+    words: &mut String,
+    before: &str,
+    process: &Process,
+    between: &str,
+    instance: &Instance,
+) -> Result<(), AllocError> {
+    let (mut first, mut second) = (Buffer::new(), Buffer::new());
+    let wanted = first.format(process.parameters.len());
+    add(words, &[before, wanted])?;
+    add(words, &[between, second.format(instance.arguments.len())])
+}
+
+/// Adds how many arguments are wanted and found at an instance, and which of two parameters at most has none.
+fn add_counts(words: &mut String, alloc: Global, place: NetworkPlace) -> Result<(), AllocError> {
     let process = process_called(place.program, place.word());
     let instance = instance_at(&place.program.instances, place.at.from);
     let (Some(process), Some(instance)) = (process, instance) else {
         return Ok(());
     };
-    let mut first = Buffer::new();
-    let mut second = Buffer::new();
-    let wanted = first.format(process.parameters.len());
-    let found = second.format(instance.arguments.len());
-    add(words, &[": wanted ", wanted, ", found ", found])
+    add_numbers(words, ": wanted ", process, ", found ", instance)?;
+    let lost = lost_in(alloc, place.program, instance, process)?;
+    let Some((first, spare)) = lost.first() else {
+        return Ok(());
+    };
+    let Some((last, other)) = lost.last() else {
+        return Ok(());
+    };
+    match (spare, other, process.parameters.get(*first)) {
+        (Some(one), Some(other), _) if one.span == other.span => {
+            add(words, &["; is `", one.text.as_str(), "` missing?"])
+        }
+        (_, _, Some(parameter)) if first == last => {
+            add(
+                words,
+                &["; `", parameter.name.text.as_str(), "` is missing"],
+            )
+        }
+        _ => Ok(()),
+    }
 }
 
 /// Adds what is wanted and what is found; of a fault of kinds this one.
 pub(crate) fn add_found(
     words: &mut String,
+    alloc: Global,
     place: NetworkPlace,
     fault: CheckFault,
     kind: Option<Kind>,
 ) -> Result<(), AllocError> {
     let found = match fault {
         CheckFault::Unknown(_) => other_words(place),
-        CheckFault::WrongCount(_) => return add_counts(words, place),
+        CheckFault::WrongCount(_) => return add_counts(words, alloc, place),
         CheckFault::WrongKind(_) => kind_words(kind),
         CheckFault::WrongDirection(_) => direction_words(place),
         CheckFault::ChannelExpected(_) => channel_words(place),
@@ -138,6 +184,11 @@ fn add_taken(words: &mut String, place: NetworkPlace) -> Result<bool, AllocError
 /// else how it can be one of them, or the first five of them, each once.
 fn add_unknown(words: &mut String, alloc: Global, place: NetworkPlace) -> Result<(), AllocError> {
     let names = names_asked(alloc, place)?;
+    if let Some((process, instance)) = longer_of(place) {
+        add(words, &["; `", process.name.text.as_str()])?;
+        let before = "` has fewer parameters than an instance has arguments: ";
+        return add_numbers(words, before, process, " and ", instance);
+    }
     match nearest(place.word(), &names) {
         Some(name) if is_called(place.word(), name) => Ok(()),
         Some(name) => add_meant(words, name),
@@ -170,14 +221,25 @@ fn add_used(words: &mut String, alloc: Global, place: NetworkPlace) -> Result<()
     Ok(())
 }
 
-/// What to do about a channel without a writer, or without a reader.
-fn sideless_words(place: NetworkPlace, direction: Direction) -> &'static str {
+/// Adds what to do about a channel without a writer, or without a reader: which process has no instance that could have the side.
+fn add_sideless(
+    words: &mut String,
+    place: NetworkPlace,
+    direction: Direction,
+) -> Result<(), AllocError> {
+    if let Some(process) = idle_at(place, direction) {
+        let behind = match direction {
+            Direction::Out => "` has no instance, and could write it",
+            Direction::In => "` has no instance, and could read it",
+        };
+        return add(words, &["; `", process.name.text.as_str(), behind]);
+    }
     let is_read = passed(place.program, Direction::In, place.word()).is_some();
     let is_inner = matches!(
         channel_called(place.program, place.word()),
         Some((_, Role::Inner))
     );
-    match (direction, is_inner) {
+    words.push_str(match (direction, is_inner) {
         (Direction::Out, true) if !is_read =>
             "; it is handed to no process: leave its declaration out",
         (Direction::Out, true) =>
@@ -186,7 +248,7 @@ fn sideless_words(place: NetworkPlace, direction: Direction) -> &'static str {
         (Direction::In, true) =>
             "; hand it to an `in` parameter, or declare it `output` where its values are to be reported",
         (Direction::In, false) => "; hand it to an `in` parameter",
-    }
+    })
 }
 
 /// Whether two instances are spelled alike.
@@ -227,7 +289,7 @@ pub(crate) fn add_advice(
 ) -> Result<(), AllocError> {
     match fault {
         CheckFault::Unknown(_) | CheckFault::WrongDirection(_) => add_unknown(words, alloc, place),
-        CheckFault::WrongKind(_) => words.push_str(made_words(place, kind)),
+        CheckFault::WrongKind(_) => add_made(words, place, kind),
         CheckFault::ValueExpected(_) => add_used(words, alloc, place),
         CheckFault::TwoWriters(_) => add_twice(
             words,
@@ -239,8 +301,8 @@ pub(crate) fn add_advice(
             place,
             "; let a process take from it and send each value on a channel for each reader",
         ),
-        CheckFault::NoWriter(_) => { words.push_str(sideless_words(place, Direction::Out)) },
-        CheckFault::NoReader(_) => { words.push_str(sideless_words(place, Direction::In)) },
+        CheckFault::NoWriter(_) => add_sideless(words, place, Direction::Out),
+        CheckFault::NoReader(_) => add_sideless(words, place, Direction::In),
         _ => Ok(()),
     }
 }

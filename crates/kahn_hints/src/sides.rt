@@ -40,9 +40,14 @@ fn kind_taken(direction: Direction, parameter: &Parameter) -> Option<Kind> {
     }
 }
 
-/// Whether none of the instances names a process.
-fn has_none(instances: &[Instance], process: &Process) -> bool {
-    !instances.iter().any(|instance| is_called(instance.process.text.as_bytes(), &process.name))
+/// The first instance of a process.
+pub(crate) fn instance_of<'p>(program: &'p Program, process: &Process) -> Option<&'p Instance> {
+    for instance in &program.instances {
+        if is_called(instance.process.text.as_bytes(), &process.name) {
+            return Some(instance);
+        }
+    }
+    None
 }
 
 /// The first process without an instance that takes a channel of this kind in this direction.
@@ -57,7 +62,7 @@ pub(crate) fn idle_process(
                 .parameters
                 .iter()
                 .any(|parameter| kind_taken(direction, parameter) == Some(kind));
-            if takes && has_none(&program.instances, process) {
+            if takes && instance_of(program, process).is_none() {
                 return Some(process);
             }
         }
@@ -105,6 +110,30 @@ pub(crate) fn passed<'p>(
                 let name = passed_in(direction, word, &process.parameters, &instance.arguments);
                 if name.is_some() {
                     return name;
+                }
+            }
+        }
+    }
+    None
+}
+
+/// Whether two parameters take channels of one kind in one direction, or both take values.
+pub(crate) fn takes_like(one: &Parameter, other: &Parameter) -> bool {
+    kind_taken(Direction::In, one) == kind_taken(Direction::In, other)
+        && kind_taken(Direction::Out, one) == kind_taken(Direction::Out, other)
+}
+
+/// The first parameter of a process for which an instance of it hands over the channel of these letters.
+pub(crate) fn parameter_for<'p>(
+    program: &Program,
+    process: &'p Process,
+    word: &[u8],
+) -> Option<&'p Name> {
+    for instance in &program.instances {
+        if is_called(instance.process.text.as_bytes(), &process.name) {
+            for (number, argument) in instance.arguments.iter().enumerate() {
+                if hands(word, argument) {
+                    return Some(&process.parameters.get(number)?.name);
                 }
             }
         }

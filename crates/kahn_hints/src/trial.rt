@@ -25,7 +25,7 @@ pub(crate) enum EditKind {
     Swap,
     /// One argument stands elsewhere among the others, or two neighbouring directions are interchanged.
     Moved,
-    /// A direction or a kind is another one.
+    /// A direction, a kind or a head is another one, or several arguments are.
     Flip,
     /// A name in sight that nothing uses.
     Unused,
@@ -39,6 +39,8 @@ pub(crate) enum EditKind {
     Role,
     /// A name stands without its `wait`.
     Bare,
+    /// The parameter for which the channel of the name is handed over.
+    Handed,
 }
 
 /// A change that leaves fewer faults.
